@@ -1,1 +1,2 @@
 pub mod MergeLemmas
+pub mod WorkedRows

@@ -1,5 +1,5 @@
 -- The conversions between the settings and what a caller hands in or is answered.
-use Rattle.std.specs.Prelude.{◌≡◌, Bool, true, false, Option, None, Some, option_map, []}
+use Rattle.std.specs.Prelude.{◌≡◌, Bool, true, false, None, Some, option_map, []}
 use Rattle.icu_options.specs.Settings.{Settings, initial_settings, named_or}
 use Rattle.icu_options.specs.declared.settings.Strength.TheVariants.{Primary}
 use Rattle.icu_options.specs.declared.settings.MaxVariable.TheVariants.{Space}
@@ -28,14 +28,14 @@ abbrev pub numeric_of : Bool → CollationNumericOrdering
 numeric_of false = False
 numeric_of true = True
 
--- the settings that options name; the rest as they stand before
+-- the settings that options name, and the rest as before any source names one
 abbrev pub settings_of : CollatorOptions → Settings
 settings_of options =
     record initial_settings {
       strength = named_or options.strength Primary;
       max_variable = named_or options.max_variable Space;
       alternate_handling = named_or options.alternate_handling NonIgnorable;
-      case_level = named_or (option_map is_on options.case_level) false
+      case_level = named_or (option_map is_on options.case_level) false;
     }
 
 -- the six settings that a caller is answered
@@ -47,8 +47,13 @@ resolved_of s =
       case_first = s.case_first.value;
       max_variable = s.max_variable.value;
       case_level = case_level_of s.case_level.value;
-      numeric = numeric_of s.numeric.value
+      numeric = numeric_of s.numeric.value;
     }
+
+-- the options that name nothing
+abbrev pub no_options : CollatorOptions
+no_options =
+    record { strength = None; alternate_handling = None; max_variable = None; case_level = None }
 
 -- the options that name what was resolved
 abbrev pub options_of : ResolvedCollatorOptions → CollatorOptions
@@ -57,7 +62,7 @@ options_of r =
       strength = Some r.strength;
       alternate_handling = Some r.alternate_handling;
       max_variable = Some r.max_variable;
-      case_level = Some r.case_level
+      case_level = Some r.case_level;
     }
 
 -- the preferences name what was resolved, and no language

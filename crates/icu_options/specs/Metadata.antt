@@ -1,4 +1,5 @@
--- What the metadata of a collation says of the settings. Its number has more bits, which say which tables there are.
+-- What the metadata of a collation, a number, says of the settings. Its other bits say which tables
+-- there are.
 use Rattle.std.specs.Prelude.{ℕ, ◌/◌, ◌%◌, ◌^◌, ◌==◌, Bool, if◌then◌else◌}
 use Rattle.icu_options.specs.declared.settings.MaxVariable.{MaxVariable}
 use Rattle.icu_options.specs.declared.settings.MaxVariable.TheVariants.{Space, Punctuation, Symbol, Currency}
@@ -38,5 +39,5 @@ metadata_settings bits =
       max_variable = max_variable_of bits;
       alternate_handling = alternate_handling_of bits;
       case_first = case_first_of bits;
-      backward_second_level = is_backward bits
+      backward_second_level = is_backward bits;
     }

@@ -1,5 +1,5 @@
--- The settings of a collator as contracts see them: seven, each with a value and a flag that says whether
--- a source named it (UTS #35 part 5, "Setting Options").
+-- The settings of a collator as contracts see them: seven, each with a value and a flag that says
+-- whether a source named it (UTS #35 part 5, "Setting Options").
 use Rattle.std.specs.Prelude.{Bool, true, false, Option, None, Some, ℕ, ◌+◌, if◌then◌else◌, ◌&&◌, not}
 use Rattle.icu_options.specs.declared.setting.Setting.{Setting}
 use Rattle.icu_options.specs.declared.settings.Strength.{Strength}
@@ -44,7 +44,7 @@ initial_settings =
       case_level = unnamed false;
       case_first = unnamed False;
       backward_second_level = unnamed false;
-      numeric = unnamed false
+      numeric = unnamed false;
     }
 
 -- a setting, if a source named it, and else another's value and flag
@@ -61,7 +61,7 @@ with_defaults own others =
       case_level = or_default own.case_level others.case_level;
       case_first = or_default own.case_first others.case_first;
       backward_second_level = or_default own.backward_second_level others.backward_second_level;
-      numeric = or_default own.numeric others.numeric
+      numeric = or_default own.numeric others.numeric;
     }
 
 -- whether texts are compared on the tertiary level (UTS #10, "Multi-Level Comparison")

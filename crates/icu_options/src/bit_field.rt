@@ -1,17 +1,18 @@
 //! The settings of a collator, with a flag for each that says whether a source named it.
 ghost use Rattle.std.specs.Prelude.{◌≡◌, false, option_map};
-ghost use Rattle.icu_options.specs.Settings.{named_or, initial_settings, with_defaults, is_upper_first, tertiary_mask};
+ghost use Rattle.icu_options.specs.Settings.{named_or, initial_settings, with_defaults};
+ghost use Rattle.icu_options.specs.Settings.{is_upper_first, tertiary_mask};
 ghost use Rattle.icu_options.specs.Conversions.{is_on, is_numeric, settings_of, resolved_of};
 ghost use Rattle.icu_options.specs.Merge.{settings_of_metadata};
-
-use std::marker::Model;
 
 use crate::metadata::MetadataSettings;
 use crate::options::{CollatorOptions, ResolvedCollatorOptions};
 use crate::setting::Setting;
 use crate::settings::{
-    AlternateHandling, CaseLevel, CollationCaseFirst, CollationNumericOrdering, MaxVariable, Strength,
+    AlternateHandling, CaseLevel, CollationCaseFirst, CollationNumericOrdering, MaxVariable,
+    Strength,
 };
+use std::marker::Model;
 
 /// The bits of an element's lower half that hold its tertiary weight.
 const TERTIARY_BITS: u16 = 0x3F3F;
@@ -21,8 +22,8 @@ const CASE_BITS: u16 = 0xC000;
 
 /// Seven settings, each a value and a flag that says whether a source named it.
 ///
-/// A setter with `Some` puts the value and sets the flag. One with `None` puts the setting's first value and clears
-/// the flag.
+/// A setter with `Some` puts the value and sets the flag: the setting is named. One with `None`
+/// puts the setting's first value and clears the flag. No call fails or takes memory.
 #[derive(Debug, Clone, Copy)]
 pub struct CollatorOptionsBitField {
     strength: Setting<Strength>,
@@ -40,22 +41,24 @@ impl Model for CollatorOptionsBitField {
     ghost Value = { Settings };
 
     ghost view = { λ f. record {
-        strength = f.strength;
-        max_variable = f.max_variable;
-        alternate_handling = f.alternate_handling;
-        case_level = f.case_level;
-        case_first = f.case_first;
-        backward_second_level = f.backward_second_level;
-        numeric = f.numeric } };
+      strength = f.strength;
+      max_variable = f.max_variable;
+      alternate_handling = f.alternate_handling;
+      case_level = f.case_level;
+      case_first = f.case_first;
+      backward_second_level = f.backward_second_level;
+      numeric = f.numeric;
+    } };
 
     ghost inverse = { λ s. record {
-        strength = s.strength;
-        max_variable = s.max_variable;
-        alternate_handling = s.alternate_handling;
-        case_level = s.case_level;
-        case_first = s.case_first;
-        backward_second_level = s.backward_second_level;
-        numeric = s.numeric } };
+      strength = s.strength;
+      max_variable = s.max_variable;
+      alternate_handling = s.alternate_handling;
+      case_level = s.case_level;
+      case_first = s.case_first;
+      backward_second_level = s.backward_second_level;
+      numeric = s.numeric;
+    } };
 }
 
 impl Default for CollatorOptionsBitField {
@@ -129,17 +132,17 @@ impl CollatorOptionsBitField {
     pub fn upper_first(self) -> bool
         ensures { result ≡ is_upper_first self.case_first.value }
     {
-        self.case_first.value == CollationCaseFirst::Upper
+        self.case_first() == CollationCaseFirst::Upper
     }
 
-    /// The part of an element's lower half that the tertiary level compares: FF3F with case, where case first is set
-    /// and the case level off, and else 3F3F. `None` below strength `Tertiary`.
+    /// The part of an element's lower half that the tertiary level compares: FF3F, with case, where
+    /// case first is set and the case level off, and else 3F3F. `None` below strength `Tertiary`.
     pub fn tertiary_mask(self) -> Option<u16>
         ensures { result ≡ tertiary_mask self }
     {
-        if self.strength.value < Strength::Tertiary {
+        if self.strength() < Strength::Tertiary {
             None
-        } else if self.case_first.value == CollationCaseFirst::False || self.case_level.value {
+        } else if self.case_first() == CollationCaseFirst::False || self.case_level() {
             Some(TERTIARY_BITS)
         } else {
             Some(CASE_BITS | TERTIARY_BITS)
@@ -155,7 +158,9 @@ impl CollatorOptionsBitField {
 
     /// Names the last variable group, or with `None` puts `Space`, unnamed.
     pub fn set_max_variable(&mut self, max_variable: Option<MaxVariable>)
-        ensures { self.new ≡ record self.old { max_variable = named_or max_variable MaxVariable.Space } }
+        ensures { self.new ≡ record self.old {
+          max_variable = named_or max_variable MaxVariable.Space;
+        } }
     {
         self.max_variable = Setting::named_or(max_variable, MaxVariable::Space);
     }
@@ -163,9 +168,13 @@ impl CollatorOptionsBitField {
     /// Names the alternate handling, or with `None` puts `NonIgnorable`, unnamed.
     pub fn set_alternate_handling(&mut self, alternate_handling: Option<AlternateHandling>)
         ensures { self.new ≡ record self.old {
-            alternate_handling = named_or alternate_handling AlternateHandling.NonIgnorable } }
+          alternate_handling = named_or alternate_handling AlternateHandling.NonIgnorable;
+        } }
     {
-        self.alternate_handling = Setting::named_or(alternate_handling, AlternateHandling::NonIgnorable);
+        self.alternate_handling = Setting::named_or(
+            alternate_handling,
+            AlternateHandling::NonIgnorable,
+        );
     }
 
     /// Names the case level, or with `None` puts it off, unnamed.
@@ -177,21 +186,27 @@ impl CollatorOptionsBitField {
 
     /// Names the case level as `set_case_level` does, by the option's value.
     pub fn set_case_level_from_enum(&mut self, case_level: Option<CaseLevel>)
-        ensures { self.new ≡ record self.old { case_level = named_or (option_map is_on case_level) false } }
+        ensures { self.new ≡ record self.old {
+          case_level = named_or (option_map is_on case_level) false;
+        } }
     {
         self.set_case_level(case_level.map(|level| level == CaseLevel::On));
     }
 
     /// Names which case is less, or with `None` puts `False`, unnamed.
     pub fn set_case_first(&mut self, case_first: Option<CollationCaseFirst>)
-        ensures { self.new ≡ record self.old { case_first = named_or case_first CollationCaseFirst.False } }
+        ensures { self.new ≡ record self.old {
+          case_first = named_or case_first CollationCaseFirst.False;
+        } }
     {
         self.case_first = Setting::named_or(case_first, CollationCaseFirst::False);
     }
 
     /// Names the direction of the secondary level, or with `None` puts it forward, unnamed.
     pub fn set_backward_second_level(&mut self, backward_second_level: Option<bool>)
-        ensures { self.new ≡ record self.old { backward_second_level = named_or backward_second_level false } }
+        ensures { self.new ≡ record self.old {
+          backward_second_level = named_or backward_second_level false;
+        } }
     {
         self.backward_second_level = Setting::named_or(backward_second_level, false);
     }
@@ -205,7 +220,9 @@ impl CollatorOptionsBitField {
 
     /// Names the numeric order as `set_numeric` does, by the preference's value.
     pub fn set_numeric_from_enum(&mut self, numeric: Option<CollationNumericOrdering>)
-        ensures { self.new ≡ record self.old { numeric = named_or (option_map is_numeric numeric) false } }
+        ensures { self.new ≡ record self.old {
+          numeric = named_or (option_map is_numeric numeric) false;
+        } }
     {
         self.set_numeric(numeric.map(|order| order == CollationNumericOrdering::True));
     }
@@ -219,7 +236,9 @@ impl CollatorOptionsBitField {
         self.alternate_handling = self.alternate_handling.or_default(other.alternate_handling);
         self.case_level = self.case_level.or_default(other.case_level);
         self.case_first = self.case_first.or_default(other.case_first);
-        self.backward_second_level = self.backward_second_level.or_default(other.backward_second_level);
+        self.backward_second_level = self
+            .backward_second_level
+            .or_default(other.backward_second_level);
         self.numeric = self.numeric.or_default(other.numeric);
     }
 }
@@ -227,7 +246,8 @@ impl CollatorOptionsBitField {
 impl From<CollatorOptions> for CollatorOptionsBitField {
     ghost from_gives = { λ o s. s ≡ settings_of o };
 
-    /// The settings that the options name. A strength that they don't name is `Primary`, as `set_strength` puts it.
+    /// The settings that the options name. A strength that they do not name stands at `Primary`, as
+    /// `set_strength` puts it, until `set_defaults` takes another.
     fn from(options: CollatorOptions) -> Self {
         let mut settings = Self::default();
         settings.set_strength(options.strength);
@@ -241,7 +261,7 @@ impl From<CollatorOptions> for CollatorOptionsBitField {
 impl From<MetadataSettings> for CollatorOptionsBitField {
     ghost from_gives = { λ m s. s ≡ settings_of_metadata m };
 
-    /// The four settings that metadata names, and the rest as they are in the default.
+    /// The four settings that metadata names, and the rest as in the default.
     fn from(metadata: MetadataSettings) -> Self {
         let mut settings = Self::default();
         settings.set_max_variable(Some(metadata.max_variable));

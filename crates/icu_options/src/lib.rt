@@ -1,4 +1,5 @@
-//! The settings of a collator: what each can be, which sources name them, and how the sources are merged.
+//! The settings of a collator: what each can be, which sources name them, and how the sources
+//! are merged.
 #![tactic(auto)]
 
 pub mod bit_field;
@@ -13,5 +14,6 @@ pub use merge::merged_options;
 pub use metadata::MetadataSettings;
 pub use options::{CollatorOptions, CollatorPreferences, ResolvedCollatorOptions};
 pub use settings::{
-    AlternateHandling, CaseLevel, CollationCaseFirst, CollationNumericOrdering, MaxVariable, Strength,
+    AlternateHandling, CaseLevel, CollationCaseFirst, CollationNumericOrdering, MaxVariable,
+    Strength,
 };

@@ -10,9 +10,10 @@ use crate::options::{CollatorOptions, CollatorPreferences};
 
 /// The settings of a collator, each by the first source that names it.
 ///
-/// Strength and case level are the caller's `options`, else `Tertiary` and off. Alternate handling and the last
-/// variable group are those of `options`, else of `metadata`. Case first is that of `preferences`, else of
-/// `metadata`. Numeric order is that of `preferences`, else off. The backward second level is that of `metadata`.
+/// Strength and case level are those of `options`, else `Tertiary` and off. Alternate handling and
+/// the last variable group are those of `options`, else of `metadata`. Case first is that of
+/// `preferences`, else of `metadata`. Numeric order is that of `preferences`, else off. The
+/// backward second level is that of `metadata` alone (UTS #35 part 5, "Setting Options").
 pub fn merged_options(
     options: CollatorOptions,
     preferences: CollatorPreferences<'_>,

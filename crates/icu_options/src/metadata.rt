@@ -1,6 +1,7 @@
 //! What the metadata of a collation says of the settings.
 ghost use Rattle.std.specs.Prelude.{◌≡◌, ◌<◌};
-ghost use Rattle.icu_options.specs.Metadata.{has_bit, max_variable_of, alternate_handling_of, case_first_of};
+ghost use Rattle.icu_options.specs.Metadata.{has_bit, max_variable_of};
+ghost use Rattle.icu_options.specs.Metadata.{alternate_handling_of, case_first_of};
 
 use crate::settings::{AlternateHandling, CollationCaseFirst, MaxVariable};
 
@@ -20,9 +21,10 @@ pub struct MetadataSettings {
 impl MetadataSettings {
     ghost use Rattle.icu_options.specs.Metadata.{metadata_settings};
 
-    /// The settings of a metadata number: bits 0 and 1 are the last variable group, from `Space` as 0 to `Currency` as 3,
-    /// bit 7 the backward second level, bit 8 `Shifted`, bit 9 that case first is set, and bit 10, which is read only
-    /// with bit 9, that upper case is less. No other bit counts.
+    /// The settings of a metadata number. Bits 0 and 1 are the last variable group, from `Space` as
+    /// 0 to `Currency` as 3, bit 7 is the backward second level, and bit 8 `Shifted`. Bit 9 says that
+    /// case first is set, and bit 10, which is read only with bit 9, that upper case is less. No
+    /// other bit counts.
     pub fn from_bits(bits: u32) -> Self
         ensures { result ≡ metadata_settings bits }
     {

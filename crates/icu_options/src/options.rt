@@ -1,9 +1,10 @@
 //! The settings that a caller hands in and those that a collator answers.
-ghost use Rattle.std.specs.Prelude.{◌≡◌, None, []};
-ghost use Rattle.icu_options.specs.Conversions.{options_of, ArePreferencesOf};
+ghost use Rattle.std.specs.Prelude.{◌≡◌};
+ghost use Rattle.icu_options.specs.Conversions.{no_options, options_of, ArePreferencesOf};
 
 use crate::settings::{
-    AlternateHandling, CaseLevel, CollationCaseFirst, CollationNumericOrdering, MaxVariable, Strength,
+    AlternateHandling, CaseLevel, CollationCaseFirst, CollationNumericOrdering, MaxVariable,
+    Strength,
 };
 
 /// The settings that a caller chooses in code. `None` leaves one to the other sources.
@@ -16,8 +17,7 @@ pub struct CollatorOptions {
 }
 
 impl Default for CollatorOptions {
-    ghost is_default =
-        { λ o. o ≡ record { strength = None; alternate_handling = None; max_variable = None; case_level = None } };
+    ghost is_default = { λ o. o ≡ no_options };
 
     /// Options that name nothing.
     fn default() -> Self {
@@ -44,8 +44,8 @@ impl From<ResolvedCollatorOptions> for CollatorOptions {
     }
 }
 
-/// What a user prefers: a language, and the settings that go with a language. `None` leaves one to the other
-/// sources.
+/// What a user prefers: a language, and the settings that go with a language. `None` leaves a
+/// setting to the other sources.
 #[derive(Debug, Clone, Copy)]
 pub struct CollatorPreferences<'a> {
     /// The locale, as the provider of the tables names it; "" for the root.
@@ -86,7 +86,8 @@ impl<'a> From<ResolvedCollatorOptions> for CollatorPreferences<'a> {
     }
 }
 
-/// The settings that a collator works by. The backward second level is not among them: it is the tables' alone.
+/// The settings that a collator works by. The backward second level is not among them: it is the
+/// metadata's alone.
 #[derive(Debug, Clone, Copy)]
 pub struct ResolvedCollatorOptions {
     pub strength: Strength,
