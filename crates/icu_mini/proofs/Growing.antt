@@ -4,7 +4,8 @@ use Rattle.std.proofs.Math.ListN.{get_or-append}
 use Rattle.std.proofs.lemmas.List.Elements.{All-from_get_or}
 use Rattle.std.proofs.Math.Seq.{get_or-append_seam}
 use Rattle.icu_mini.specs.EntryRange.{Row, entry_among}
-use Rattle.icu_mini.specs.CharacterTable.{Blocks, IsWhole, BeginsBlank, HoldsBlock, entries_from}
+use Rattle.icu_provider.specs.CodePointTables.{IsCodePointTable}
+use Rattle.icu_mini.specs.CharacterTable.{BeginsBlank, HoldsBlock, entries_from}
 use Rattle.icu_mini.proofs.Blocks.{length-entries_from, get_or-entries_from}
 
 -- the first `count` places of a table are built
@@ -63,12 +64,11 @@ IsBuilt-more rows others blocks values new count block built holds =
           (λ i less. ap (λ n. get_or new (64 * n + i) 0) number_here ∙ holds.entries i less);
     }
 
--- a table whose places are all built is whole
-pub IsWhole-built : (rows : List Row) (others : ℕ) (table : Blocks) (count : ℕ)
-    → IsBuilt rows others table.blocks table.values count → count ≡ 17408 → IsWhole table
-IsWhole-built rows others table count built all = record {
-  block_count = built.block_count ∙ all;
-  whole_blocks = built.whole;
-  in_values = All-from_get_or (λ b. 64 * b + 64 ≤ length table.values) table.blocks 0
+-- a table whose places are all built has a block for each
+pub IsCodePointTable-built : (rows : List Row) (others : ℕ) (blocks values : List ℕ) (count : ℕ)
+    → IsBuilt rows others blocks values count → count ≡ 17408 → IsCodePointTable blocks values
+IsCodePointTable-built rows others blocks values count built all = record {
+  whole_blocks = record { count = built.block_count ∙ all; whole = built.whole };
+  inside = All-from_get_or (λ b. 64 * b + 64 ≤ length values) blocks 0
       (λ i h. built.inside i (let n = built.block_count in omega arith));
 }

@@ -1,3 +1,4 @@
 pub mod Blocks
 pub mod Growing
 pub mod RunLemmas
+mod MiniRows

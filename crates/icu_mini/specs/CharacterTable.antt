@@ -1,6 +1,7 @@
 -- A table of the entries of all characters, in blocks that characters share.
-use Rattle.std.specs.Prelude.{◌≡◌, ℕ, ◌+◌, ◌*◌, ◌/◌, ◌%◌, ◌<◌, ◌≤◌, List, length, slice_index, All, map}
+use Rattle.std.specs.Prelude.{◌≡◌, ℕ, ◌+◌, ◌*◌, ◌%◌, ◌<◌, ◌≤◌, List, length, slice_index, map}
 use Rattle.std.specs.List.{range_with_len}
+use Rattle.icu_provider.specs.CodePointTables.{stored_value}
 use Rattle.icu_mini.specs.EntryRange.{Row, entry_among}
 
 -- the blocks of a table, one for each 64 characters, and the values that they point into
@@ -8,19 +9,9 @@ pub record Blocks : Type 0 where
   pub blocks : List ℕ
   pub values : List ℕ
 
--- there is a block for each 64 characters, and each is inside the values
-pub record IsWhole (table : Blocks) : Type 0 where
-  pub block_count : length table.blocks ≡ 17408
-  pub whole_blocks : length table.values % 64 ≡ 0
-  pub in_values : All (λ b. 64 * b + 64 ≤ length table.values) table.blocks
-
--- the entry of a character
-abbrev pub value_at : Blocks → ℕ → ℕ
-value_at table c = slice_index table.values (64 * slice_index table.blocks (c / 64) + c % 64)
-
 -- the table gives each character what the ranges say, and the entry for all others where they are silent
 abbrev pub IsTableOf : List Row → ℕ → Blocks → Type 0
-IsTableOf ranges others table = (c : ℕ) → c < 0x110000 → value_at table c ≡ entry_among ranges others c
+IsTableOf ranges others table = (c : ℕ) → c < 0x110000 → stored_value table.blocks table.values c ≡ entry_among ranges others c
 
 -- the entries of so many characters, from one on
 unfoldable pub entries_from : List Row → ℕ → ℕ → ℕ → List ℕ

@@ -2,8 +2,9 @@
 -- digits and the letters a to z have weights of their own, and every other character has an implicit weight.
 use Rattle.std.specs.Prelude.{◌≡◌, ℕ, ◌+◌, ◌*◌, List, [], ◌∷◌, ◌++◌, map}
 use Rattle.std.specs.List.{range_with_len}
+use Rattle.icu_provider.specs.CodePointTables.{IsCodePointTable}
 use Rattle.icu_mini.specs.EntryRange.{Row}
-use Rattle.icu_mini.specs.CharacterTable.{Blocks, IsTableOf, IsWhole}
+use Rattle.icu_mini.specs.CharacterTable.{Blocks, IsTableOf}
 
 -- the root tables of a collator: entries of characters, lists of elements and of entries, secondary weights of
 -- diacritics, entries of jamo
@@ -47,7 +48,7 @@ run first step count = map (λ i. first + step * i) (range_with_len 0 count)
 
 -- Mini's tables, where these characters have entries of their own and these entries stand after those of the digits
 pub record IsMiniWith (rows : List Row) (more : List ℕ) (tables : RootTables) : Type 0 where
-  pub whole : IsWhole tables.characters
+  pub fits : IsCodePointTable tables.characters.blocks tables.characters.values
   pub characters : IsTableOf rows implicit_entry tables.characters
   pub elements : tables.elements ≡ []
   pub entries : tables.entries ≡ run 0x14100505 0x40000 10 ++ more

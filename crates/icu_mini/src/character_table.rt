@@ -1,5 +1,6 @@
 ghost use Rattle.std.specs.Prelude.{◌≡◌, ℕ, ◌+◌, ◌*◌, ◌%◌, ◌<◌, ◌≤◌, ◌++◌, IfOk, OnOk, length, false};
-ghost use Rattle.icu_mini.specs.CharacterTable.{Blocks, IsWhole, IsTableOf, BeginsBlank, HoldsBlock, entries_from};
+ghost use Rattle.icu_provider.specs.CodePointTables.{IsCodePointTable};
+ghost use Rattle.icu_mini.specs.CharacterTable.{Blocks, IsTableOf, BeginsBlank, HoldsBlock, entries_from};
 ghost use Rattle.icu_mini.specs.EntryRange.{entry_among};
 
 use crate::entry_range::{EntryRange, entry_among_ranges};
@@ -15,7 +16,7 @@ const BLOCK_COUNT: u32 = 17408;
 /// The entries of all characters: a block number for each 64 characters, and the values of the blocks. Character `c`
 /// reads `values[64 * blocks[c / 64] + c % 64]`.
 #[derive(Debug, Drop)]
-pub struct CharacterTable {
+pub(crate) struct CharacterTable {
     blocks: Vec<u16>,
     values: Vec<u32>,
 }
@@ -31,12 +32,12 @@ impl CharacterTable {
     /// Blocks that no range meets are one block.
     ///
     /// Surrogate positions, which are no characters, have entries like all others.
-    pub fn new(
+    pub(crate) fn new(
         alloc: Global,
         ranges: &[EntryRange],
         others: u32,
     ) -> Result<CharacterTable, AllocError>
-        ensures whole { IfOk result IsWhole }
+        ensures fits { IfOk result (λ t. IsCodePointTable t.blocks t.values) }
         ensures entries { IfOk result (IsTableOf ranges.now others) }
     {
         let mut values = Vec::new(alloc);
@@ -50,14 +51,14 @@ impl CharacterTable {
     }
 
     /// The block of each 64 characters.
-    pub fn blocks(&self) -> &[u16]
+    pub(crate) fn blocks(&self) -> &[u16]
         ensures { result.now ≡ self.now.blocks }
     {
         self.blocks.as_slice()
     }
 
     /// The entries of the blocks.
-    pub fn values(&self) -> &[u32]
+    pub(crate) fn values(&self) -> &[u32]
         ensures { result.now ≡ self.now.values }
     {
         self.values.as_slice()

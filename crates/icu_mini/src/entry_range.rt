@@ -6,7 +6,7 @@ use std::marker::Model;
 /// A range of characters with their entries: the first character has the given entry, and each next one the given step
 /// more. A single character is a range with itself as both ends.
 #[derive(Clone, Copy, Debug)]
-pub struct EntryRange {
+pub(crate) struct EntryRange {
     first: u32,
     last: u32,
     entry: u32,
@@ -28,7 +28,7 @@ impl EntryRange {
     ///
     /// That the last entry fits 32 bits is the caller's condition. A range whose last character is below its first has
     /// none.
-    pub fn new(first: char, last: char, entry: u32, step: u32) -> EntryRange
+    pub(crate) fn new(first: char, last: char, entry: u32, step: u32) -> EntryRange
         requires { entry + step * (last - first) < 2 ^ 32 }
         ensures { result ≡ record { first = first; last = last; entry = entry; step = step } }
     {
@@ -41,7 +41,7 @@ impl EntryRange {
     }
 
     /// One character with its entry.
-    pub fn of_character(character: char, entry: u32) -> EntryRange
+    pub(crate) fn of_character(character: char, entry: u32) -> EntryRange
         ensures { result ≡ record { first = character; last = character; entry = entry; step = 0 } }
     {
         EntryRange {
@@ -53,7 +53,7 @@ impl EntryRange {
     }
 
     /// The entry of the character with this number, if the range has it.
-    pub fn get(&self, code: u32) -> Option<u32>
+    pub(crate) fn get(&self, code: u32) -> Option<u32>
         ensures { result ≡ (if covers self.now code then Some (entry_at self.now code) else None) }
     {
         if self.first <= code && code <= self.last {
@@ -64,7 +64,7 @@ impl EntryRange {
     }
 
     /// Whether the range has one of the characters from `first` to `last`, both included.
-    pub fn meets(&self, first: u32, last: u32) -> bool
+    pub(crate) fn meets(&self, first: u32, last: u32) -> bool
         ensures { IsTrue result ↔ (self.now.first ≤ last × first ≤ self.now.last) }
     {
         self.first <= last && first <= self.last
@@ -72,7 +72,7 @@ impl EntryRange {
 }
 
 /// The entry of the character with this number: that of the first range that has it, or `others`.
-pub fn entry_among_ranges(ranges: &[EntryRange], others: u32, code: u32) -> u32
+pub(crate) fn entry_among_ranges(ranges: &[EntryRange], others: u32, code: u32) -> u32
     ensures { result ≡ entry_among ranges.now others code }
 {
     for range in ranges {
