@@ -63,6 +63,19 @@ pub record AllMeet (condition : EntryCondition) (root : Data) (jamo : List ℕ) 
   pub from_chars : (c : ℕ) → IsScalar c → IsTrue (all_live_meet condition root (root.value c))
   pub from_jamo : All (λ e. IsTrue (all_live_meet condition root e)) jamo
 
+-- each entry that is live from this one meets every condition
+pub record IsGoodLive (home : Data) (e : ℕ) : Type 0 where
+  pub inside : IsTrue (all_live_meet conditions.Index home e)
+  pub digits : IsTrue (all_live_meet conditions.Digit home e)
+  pub chains : IsTrue (all_live_meet conditions.Chain home e)
+  pub known : IsTrue (all_live_meet conditions.Tag home e)
+
+-- a final entry that meets every condition
+pub record IsGoodFinal (home : Data) (e : ℕ) : Type 0 where
+  pub final : IsTrue (is_final (kind_of e))
+  pub inside : IsTrue (names_inside home e)
+  pub known : IsTrue (is_known home e)
+
 -- 256 conjoining jamo, and 79 diacritics from U+0300 on
 pub record HasLengths (jamo diacritics : List ℕ) : Type 0 where
   pub jamo_count : length jamo ≡ 256

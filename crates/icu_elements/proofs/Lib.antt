@@ -1,0 +1,3 @@
+pub mod IterLemmas
+pub mod PlainLemmas
+pub mod RootLemmas
