@@ -2,4 +2,10 @@
 #![tactic(auto)]
 
 #[cfg(test)]
+mod comparison;
+#[cfg(test)]
+mod elements;
+#[cfg(test)]
 mod options;
+#[cfg(test)]
+mod refusals;
