@@ -12,18 +12,22 @@ use Rattle.icu_options.specs.declared.options.CollatorOptions.{CollatorOptions}
 use Rattle.icu_options.specs.declared.options.CollatorPreferences.{CollatorPreferences}
 use Rattle.icu_options.specs.declared.options.ResolvedCollatorOptions.{ResolvedCollatorOptions}
 
+-- the case level as the settings hold it
 abbrev pub is_on : CaseLevel → Bool
 is_on Off = false
 is_on On = true
 
+-- the case level as a caller is answered
 abbrev pub case_level_of : Bool → CaseLevel
 case_level_of false = Off
 case_level_of true = On
 
+-- the numeric order as the settings hold it
 abbrev pub is_numeric : CollationNumericOrdering → Bool
 is_numeric False = false
 is_numeric True = true
 
+-- the numeric order as a caller is answered
 abbrev pub numeric_of : Bool → CollationNumericOrdering
 numeric_of false = False
 numeric_of true = True

@@ -10,9 +10,13 @@ use crate::settings::{
 /// The settings that a caller chooses in code. `None` leaves one to the other sources.
 #[derive(Debug, Clone, Copy)]
 pub struct CollatorOptions {
+    /// How many levels are compared.
     pub strength: Option<Strength>,
+    /// What becomes of variable elements.
     pub alternate_handling: Option<AlternateHandling>,
+    /// The last variable group.
     pub max_variable: Option<MaxVariable>,
+    /// Whether case is compared on a level of its own.
     pub case_level: Option<CaseLevel>,
 }
 
@@ -52,7 +56,9 @@ pub struct CollatorPreferences<'a> {
     pub locale: &'a str,
     /// The type of the collation in that locale, such as "trad".
     pub collation_type: Option<&'a str>,
+    /// Which case is less.
     pub case_first: Option<CollationCaseFirst>,
+    /// Whether runs of decimal digits are compared by value.
     pub numeric_ordering: Option<CollationNumericOrdering>,
 }
 
@@ -90,10 +96,16 @@ impl<'a> From<ResolvedCollatorOptions> for CollatorPreferences<'a> {
 /// metadata's alone.
 #[derive(Debug, Clone, Copy)]
 pub struct ResolvedCollatorOptions {
+    /// How many levels are compared.
     pub strength: Strength,
+    /// What becomes of variable elements.
     pub alternate_handling: AlternateHandling,
+    /// Which case is less.
     pub case_first: CollationCaseFirst,
+    /// The last variable group.
     pub max_variable: MaxVariable,
+    /// Whether case is compared on a level of its own.
     pub case_level: CaseLevel,
+    /// Whether runs of decimal digits are compared by value.
     pub numeric: CollationNumericOrdering,
 }

@@ -29,16 +29,22 @@ pub enum AlternateHandling {
 /// The last group of characters that are variable; the groups before it are so too.
 #[derive(Debug, Clone, Copy, PartialEq, Eq)]
 pub enum MaxVariable {
+    /// Spaces.
     Space,
+    /// Spaces and punctuation.
     Punctuation,
+    /// Spaces, punctuation and symbols, but for currency signs.
     Symbol,
+    /// Spaces, punctuation, symbols and currency signs.
     Currency,
 }
 
 /// Whether case is compared on a level of its own, between the secondary and the tertiary one.
 #[derive(Debug, Clone, Copy, PartialEq, Eq)]
 pub enum CaseLevel {
+    /// Case is compared on the tertiary level.
     Off,
+    /// Case is compared on a level of its own.
     On,
 }
 
@@ -56,6 +62,8 @@ pub enum CollationCaseFirst {
 /// Whether a run of decimal digits is compared by its value.
 #[derive(Debug, Clone, Copy, PartialEq, Eq)]
 pub enum CollationNumericOrdering {
+    /// Each digit counts by itself.
     False,
+    /// "2" is less than "10".
     True,
 }
