@@ -1,0 +1,10 @@
+pub mod ListOrder
+pub mod WeightBytes
+pub mod Runs
+pub mod Rows
+pub mod Primaries
+pub mod Secondaries
+pub mod Tertiaries
+pub mod Cases
+pub mod Quaternaries
+pub mod Identical
