@@ -4,3 +4,14 @@ pub mod LevelOrder
 pub mod WeightOrder
 pub mod StepwiseOrder
 pub mod WorkedLevels
+pub mod PrecedesLemmas
+pub mod DifferenceOrder
+pub mod IdenticalOrder
+pub mod Orderings
+pub mod MovedWeights
+pub mod SecondaryOrder
+pub mod TertiaryOrder
+pub mod OrNothing
+pub mod NibbleOrder
+pub mod CaseOrder
+pub mod QuaternaryOrder

@@ -8,3 +8,4 @@ pub mod Tertiaries
 pub mod Cases
 pub mod Quaternaries
 pub mod Identical
+pub mod Premises

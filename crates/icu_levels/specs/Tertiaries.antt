@@ -16,12 +16,20 @@ tertiary_row plain = plain_tertiary_row
 tertiary_row lower_first = lower_first_tertiary_row
 tertiary_row upper_first = upper_first_tertiary_row
 
--- The weight whose bytes are written for a tertiary that is not common, so that no byte is one of a run: above the
--- common one leads go up by C0 or 40, and with upper case first those below it go down by 40
+-- how far the lead goes up above the common weight, and down below it
+abbrev pub raised_above : TertiaryForm → ℕ
+raised_above plain = 0xC000
+raised_above lower_first = 0x4000
+raised_above upper_first = 0
+
+abbrev pub lowered_below : TertiaryForm → ℕ
+lowered_below plain = 0
+lowered_below lower_first = 0
+lowered_below upper_first = 0x4000
+
+-- The weight whose bytes are written for a tertiary that is not common, so that none begins as a run does
 abbrev pub moved_tertiary : TertiaryForm → ℕ → ℕ
-moved_tertiary plain w = if nat_lt 0x500 w then w + 0xC000 else w
-moved_tertiary lower_first w = if nat_lt 0x500 w then w + 0x4000 else w
-moved_tertiary upper_first w = if nat_lt 0xC500 w then w else w - 0x4000
+moved_tertiary form w = if nat_lt (tertiary_row form).common w then w + raised_above form else w - lowered_below form
 
 abbrev pub tertiary_bytes : TertiaryForm → ℕ → List ℕ
 tertiary_bytes form w = weight_bytes 2 (moved_tertiary form w)
