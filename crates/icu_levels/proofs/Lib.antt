@@ -15,3 +15,6 @@ pub mod OrNothing
 pub mod NibbleOrder
 pub mod CaseOrder
 pub mod QuaternaryOrder
+pub mod CompressionOrder
+pub mod PieceLemmas
+pub mod PrimaryOrder
