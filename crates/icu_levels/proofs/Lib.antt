@@ -18,3 +18,4 @@ pub mod QuaternaryOrder
 pub mod CompressionOrder
 pub mod PieceLemmas
 pub mod PrimaryOrder
+pub mod KeyOrder

@@ -9,3 +9,5 @@ pub mod Cases
 pub mod Quaternaries
 pub mod Identical
 pub mod Premises
+pub mod Keys
+pub mod KeyPremises
