@@ -19,3 +19,6 @@ pub mod CompressionOrder
 pub mod PieceLemmas
 pub mod PrimaryOrder
 pub mod KeyOrder
+pub mod KeepLemmas
+pub mod MaximalRuns
+pub mod SameKeys

@@ -11,3 +11,5 @@ pub mod Identical
 pub mod Premises
 pub mod Keys
 pub mod KeyPremises
+pub mod LevelLaws
+pub mod KeyLaws

@@ -9,3 +9,5 @@
 #![tactic(auto)]
 
 pub mod rows;
+pub mod levels;
+pub mod keys;

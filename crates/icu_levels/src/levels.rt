@@ -1,0 +1,59 @@
+//! The theorems on single levels, each as a function that makes no call.
+
+ghost use Rattle.icu_levels.specs.LevelLaws.{RunsAreMaximal, RunsKeepOrder, PrimariesKeepOrder, SecondariesKeepOrder, SegmentsKeepOrder, LowerFirstCasesKeepOrder, UpperFirstCasesKeepOrder, TertiariesKeepOrder, QuaternariesKeepOrder, UnshiftedQuaternariesKeepOrder, CharactersKeepOrder};
+
+/// Common weights before another weight, or at the end, are written as one run, however many they are.
+pub fn runs_are_maximal()
+    ensures { RunsAreMaximal }
+{}
+
+/// Levels that count runs of their common weight keep the order of their lists, for each row whose two kinds of run
+/// meet in the middle byte alone and each spelling that stays clear of the runs and is prefix free.
+pub fn runs_keep_order()
+    ensures { RunsKeepOrder }
+{}
+
+/// Compressed primary bytes keep the order of the reordered primaries, numbers among them.
+pub fn primaries_keep_order()
+    ensures { PrimariesKeepOrder }
+{}
+
+/// Secondary bytes keep the order of the secondaries.
+pub fn secondaries_keep_order()
+    ensures { SecondariesKeepOrder }
+{}
+
+/// Backward secondary bytes keep the order of the segments, where both texts have as many.
+pub fn segments_keep_order()
+    ensures { SegmentsKeepOrder }
+{}
+
+/// Case bytes with lower case first keep the order of the cases, where both texts have as many.
+pub fn lower_first_cases_keep_order()
+    ensures { LowerFirstCasesKeepOrder }
+{}
+
+/// Case bytes with upper case first keep the order of the cases.
+pub fn upper_first_cases_keep_order()
+    ensures { UpperFirstCasesKeepOrder }
+{}
+
+/// Tertiary bytes keep the order of the tertiaries: without case bits, with lower and with upper case first.
+pub fn tertiaries_keep_order()
+    ensures { TertiariesKeepOrder }
+{}
+
+/// Quaternary bytes keep the order of the quaternaries, shifted primaries among them.
+pub fn quaternaries_keep_order()
+    ensures { QuaternariesKeepOrder }
+{}
+
+/// Quaternary bytes where no element is shifted keep the order, where both texts have as many quaternaries.
+pub fn unshifted_quaternaries_keep_order()
+    ensures { UnshiftedQuaternariesKeepOrder }
+{}
+
+/// The bytes of the identical level keep the order of the characters, U+FFFE lowest, and determine them.
+pub fn characters_keep_order()
+    ensures { CharactersKeepOrder }
+{}
