@@ -22,6 +22,9 @@ run_less r n w l = rw (lt-ltb w r.common l) refl
 pub run_more : (r : Row) (n w : ℕ) → r.common < w → run_before r n w ≡ run_before_more r n
 run_more r n w l = rw (le-ltb w r.common (omega arith)) refl
 
+pub not_less : (r : Row) (n w : ℕ) → r.common ≤ w → run_before r n w ≡ run_before_more r n
+not_less r n w l = rw (le-ltb w r.common l) refl
+
 pub over_append : (n : ℕ) (s t : List ℕ) → IsOver n s → IsOver n (s ++ t)
 over_append n [] t u = absurd u
 over_append n (x ∷ s) t u = u

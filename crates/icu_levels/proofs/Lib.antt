@@ -22,3 +22,5 @@ pub mod KeyOrder
 pub mod KeepLemmas
 pub mod MaximalRuns
 pub mod SameKeys
+pub mod RunLengths
+pub mod WorkedNumbers

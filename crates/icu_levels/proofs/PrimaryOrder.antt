@@ -7,7 +7,7 @@ use Rattle.icu_levels.specs.WeightBytes.{weight_bytes}
 use Rattle.icu_levels.specs.Primaries.{Compression, lead, below_lead, second_byte, primary_bytes, dropped_after, primary_level}
 use Rattle.icu_levels.specs.Premises.{IsFirstPiece, IsFurtherPiece, IsNumberWeight, MayStand, goes_on, IsPrimaryList, number_lead, ArePrimaries}
 use Rattle.icu_levels.proofs.Order.{same_lists_order}
-use Rattle.icu_levels.proofs.WeightOrder.{big_endian_less, trimmed_less}
+use Rattle.icu_levels.proofs.WeightOrder.{digits_less, trimmed_less}
 use Rattle.icu_levels.proofs.PrecedesLemmas.{nonzero_first}
 use Rattle.icu_levels.proofs.StepwiseOrder.{stepwise_bytes, StandAlong, IsRising, stepwise_order}
 use Rattle.icu_levels.proofs.CompressionOrder.{FitsAfter, next_leads, next_rises}
@@ -27,8 +27,8 @@ same_weights k v w f g e = by (cases_order v w)
 
     by : (v ≡ w) ⊎ ((v < w) ⊎ (w < v)) → v ≡ w
     by (inl h) = h
-    by (inr (inl l)) = absurd (no (weight_bytes k v) (weight_bytes k w) e (trimmed_less k v w (big_endian_less k v w g l)))
-    by (inr (inr l)) = absurd (no (weight_bytes k w) (weight_bytes k v) (sym e) (trimmed_less k w v (big_endian_less k w v f l)))
+    by (inr (inl l)) = absurd (no (weight_bytes k v) (weight_bytes k w) e (trimmed_less k v w (digits_less 256 k v w (lit< tt) g l)))
+    by (inr (inr l)) = absurd (no (weight_bytes k w) (weight_bytes k v) (sym e) (trimmed_less k w v (digits_less 256 k w v (lit< tt) f l)))
 
 -- weights of four bytes of which one begins the other have one lead
 begins_lead : (v w : ℕ) → 0 < lead v → 0 < lead w → IsBeginning (weight_bytes 4 v) (weight_bytes 4 w) → (lead v ≡ lead w) × IsBeginning (weight_bytes 3 (below_lead v)) (weight_bytes 3 (below_lead w))

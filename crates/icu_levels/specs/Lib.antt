@@ -12,4 +12,6 @@ pub mod Premises
 pub mod Keys
 pub mod KeyPremises
 pub mod LevelLaws
+pub mod RunLaws
+pub mod Numbers
 pub mod KeyLaws

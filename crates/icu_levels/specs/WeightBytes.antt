@@ -2,10 +2,10 @@
 -- (UTS #10, section 9.2, on weights of several bytes)
 use Rattle.std.specs.Prelude.{ℕ, zero, suc, ◌/◌, ◌%◌, ◌^◌, List, [], ◌∷◌}
 
--- the k bytes of w, the highest first
-abbrev pub big_endian : ℕ → ℕ → List ℕ
-big_endian zero w = []
-big_endian (suc k) w = w / 256 ^ k ∷ big_endian k (w % 256 ^ k)
+-- the k digits of w to a base, the highest first
+abbrev pub digits : ℕ → ℕ → ℕ → List ℕ
+digits base zero w = []
+digits base (suc k) w = w / base ^ k ∷ digits base k (w % base ^ k)
 
 -- x in front of xs, unless that is a lone zero
 abbrev pub before_nonzero : ℕ → List ℕ → List ℕ
@@ -20,4 +20,4 @@ without_last_zeros (x ∷ xs) = before_nonzero x (without_last_zeros xs)
 
 -- a weight of k bytes as it is written
 abbrev pub weight_bytes : ℕ → ℕ → List ℕ
-weight_bytes k w = without_last_zeros (big_endian k w)
+weight_bytes k w = without_last_zeros (digits 256 k w)

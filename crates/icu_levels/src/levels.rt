@@ -1,10 +1,20 @@
 //! The theorems on single levels, each as a function that makes no call.
 
+ghost use Rattle.icu_levels.specs.Rows.{secondary_row, plain_tertiary_row, quaternary_row};
+ghost use Rattle.icu_levels.specs.RunLaws.{RunsAreShort};
 ghost use Rattle.icu_levels.specs.LevelLaws.{RunsAreMaximal, RunsKeepOrder, PrimariesKeepOrder, SecondariesKeepOrder, SegmentsKeepOrder, LowerFirstCasesKeepOrder, UpperFirstCasesKeepOrder, TertiariesKeepOrder, QuaternariesKeepOrder, UnshiftedQuaternariesKeepOrder, CharactersKeepOrder};
 
 /// Common weights before another weight, or at the end, are written as one run, however many they are.
 pub fn runs_are_maximal()
     ensures { RunsAreMaximal }
+{}
+
+/// A run of n common weights takes at most 1 + n / 33 bytes at the secondary level, 1 + n / 97 at the tertiary level
+/// without case bits, and 1 + n / 113 at the quaternary level.
+pub fn runs_are_short()
+    ensures secondary { RunsAreShort secondary_row 33 }
+    ensures tertiary { RunsAreShort plain_tertiary_row 97 }
+    ensures quaternary { RunsAreShort quaternary_row 113 }
 {}
 
 /// Levels that count runs of their common weight keep the order of their lists, for each row whose two kinds of run
