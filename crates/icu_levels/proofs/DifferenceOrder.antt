@@ -50,7 +50,7 @@ far_above_rises : Rises far_above (253 ^ 3 + 192786) (253 ^ 3 + 1200000)
 far_above_rises x y a l b = precedes_more 255 255 (first_tail x ∷ middle_tail x ∷ last_tail x ∷ []) (first_tail y ∷ middle_tail y ∷ last_tail y ∷ []) (omega arith) (λ e. three_rise (first_tail x) (middle_tail x) (last_tail x) (first_tail y) (middle_tail y) (last_tail y) (omega arith) (λ f. omega arith) (λ f g. omega arith))
 
 -- two forms that rise, where the last of one precedes the first of the other
-glue : (f g : ℕ → List ℕ) (a n b : ℕ) → a < n → n < b → Rises f a n → Rises g n b → Precedes (f (n - 1)) (g n) → Rises (split_at n f g) a b
+pub glue : (f g : ℕ → List ℕ) (a n b : ℕ) → a < n → n < b → Rises f a n → Rises g n b → Precedes (f (n - 1)) (g n) → Rises (split_at n f g) a b
 glue f g a n b an nb rf rg join x y ax xy yb = by (cases_lt x n) (cases_lt y n)
   where
     upto : x < n → Precedes (f x) (g n)

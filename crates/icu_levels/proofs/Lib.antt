@@ -24,3 +24,4 @@ pub mod MaximalRuns
 pub mod SameKeys
 pub mod RunLengths
 pub mod WorkedNumbers
+pub mod NumberOrder
