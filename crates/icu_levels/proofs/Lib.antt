@@ -25,3 +25,5 @@ pub mod SameKeys
 pub mod RunLengths
 pub mod WorkedNumbers
 pub mod NumberOrder
+pub mod NumberBytes
+pub mod NumberWeightOrder
