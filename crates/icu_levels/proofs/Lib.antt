@@ -27,3 +27,5 @@ pub mod WorkedNumbers
 pub mod NumberOrder
 pub mod NumberBytes
 pub mod NumberWeightOrder
+pub mod NumberStands
+pub mod DigitRuns
