@@ -69,7 +69,7 @@ run_rest [] numeric ds e = refl
 run_rest (f ∷ fs) numeric [] e = refl
 run_rest (f ∷ fs) numeric (d ∷ ds) e = cc
 
-one_number : (numeric : ℕ) (ds : List ℕ) → 0 < length ds → length (without_first_zeros ds) ≤ longest_number → run_weights numeric ds ≡ number_weights numeric (value_of ds)
+pub one_number : (numeric : ℕ) (ds : List ℕ) → 0 < length ds → length (without_first_zeros ds) ≤ longest_number → run_weights numeric ds ≡ number_weights numeric (value_of ds)
 one_number numeric [] some l = absurd (omega arith)
 one_number numeric (d ∷ ds) some l =
     both (run_weights_by ds numeric (drop longest_number (without_first_zeros (d ∷ ds)))) (value_of (take longest_number (without_first_zeros (d ∷ ds)))) (value_of (d ∷ ds))
@@ -79,16 +79,16 @@ one_number numeric (d ∷ ds) some l =
     both : (left : List ℕ) (v w : ℕ) → left ≡ [] → v ≡ w → number_weights numeric v ++ left ≡ number_weights numeric w
     both left v w e f = ap (λ z. number_weights numeric v ++ z) e ∙ (append-nil (number_weights numeric v) ∙ ap (number_weights numeric) f)
 
+pub run_bound : (ds : List ℕ) → AllByRecursion (λ d. d < 10) ds → length (without_first_zeros ds) ≤ longest_number → value_of ds < 100 ^ 127
+run_bound ds a l = subst (λ v. v < 100 ^ 127) (value_without_zeros ds) (chunk_value (without_first_zeros ds) (no_zeros_digits ds a) l)
+
 -- two runs of at most 254 digits after first zeros order by value
 pub runs_by_value : (numeric : ℕ) (ds es : List ℕ) → AllByRecursion (λ d. d < 10) ds → AllByRecursion (λ d. d < 10) es → 0 < length ds → 0 < length es
     → length (without_first_zeros ds) ≤ longest_number → length (without_first_zeros es) ≤ longest_number
     → list_order (run_weights numeric ds) (run_weights numeric es) ≡ nat_cmp (value_of ds) (value_of es)
 runs_by_value numeric ds es a b s t l m =
     rw (one_number numeric ds s l, one_number numeric es t m)
-    (numbers_by_value numeric (value_of ds) (value_of es) (bound ds a l) (bound es b m))
-  where
-    bound : (ds : List ℕ) → AllByRecursion (λ d. d < 10) ds → length (without_first_zeros ds) ≤ longest_number → value_of ds < 100 ^ 127
-    bound ds a l = subst (λ v. v < 100 ^ 127) (value_without_zeros ds) (chunk_value (without_first_zeros ds) (no_zeros_digits ds a) l)
+    (numbers_by_value numeric (value_of ds) (value_of es) (run_bound ds a l) (run_bound es b m))
 
 -- ---- runs of any length may stand among primaries
 module _ (numeric : ℕ) (n : numeric < 256) (IsLive : ℕ → Type 0) (rest : List ℕ) (after : IsPrimaryList numeric IsLive false rest) where

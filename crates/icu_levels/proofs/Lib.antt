@@ -29,3 +29,4 @@ pub mod NumberBytes
 pub mod NumberWeightOrder
 pub mod NumberStands
 pub mod DigitRuns
+pub mod ReorderedNumbers

@@ -14,4 +14,5 @@ pub mod KeyPremises
 pub mod LevelLaws
 pub mod RunLaws
 pub mod Numbers
+pub mod NumberLaws
 pub mod KeyLaws

@@ -11,3 +11,4 @@
 pub mod rows;
 pub mod levels;
 pub mod keys;
+pub mod numbers;

@@ -1,0 +1,12 @@
+use Rattle.std.proofs.Common.{◌≡◌, true}
+use Rattle.icu_levels.proofs.NumberStands.{number_stands}
+use Rattle.icu_levels.proofs.DigitRuns.{run_stands}
+use Rattle.icu_levels.proofs.ReorderedNumbers.{live_stands}
+use Rattle.icu_levels.proofs.numbers.primaries_and_numbers_may_stand.Goals as goal
+
+pub returns : goal.returns
+returns g = record {
+  live = λ c numeric live good w ws p rest. live_stands c numeric (λ w. live w ≡ true) good w ws p rest;
+  numbers = λ numeric live n v ws l rest. number_stands numeric n (λ w. live w ≡ true) ws rest v l;
+  runs = λ numeric live n ds ws digits rest. run_stands numeric n (λ w. live w ≡ true) ws rest ds digits;
+}
