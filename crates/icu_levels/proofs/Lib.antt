@@ -30,3 +30,4 @@ pub mod NumberWeightOrder
 pub mod NumberStands
 pub mod DigitRuns
 pub mod ReorderedNumbers
+pub mod WorkedKeys
