@@ -72,10 +72,10 @@ levels_tell ps qs o parts h rest =
 
 -- ---- the six levels
 secondary_tells : (f : SecondaryForm) (IsLive : ℕ → Type 0) (t u : LevelLists) → SecondaryWeights f IsLive → SecondaryMembers f IsLive t → SecondaryMembers f IsLive u
-    → (f ≡ backward → length t.segments ≡ length u.segments) → PartTells (secondary_part f t) (secondary_part f u) (secondaries_order f t u)
-secondary_tells no_secondary IsLive t u good p q e = refl
-secondary_tells forward IsLive t u good p q e = λ x y k l. secondary_order IsLive good t.secondaries u.secondaries x y p q k l
-secondary_tells backward IsLive t u good p q e = λ x y k l. backward_order IsLive good t.segments u.segments x y (e refl) p q k l
+    → PartTells (secondary_part f t) (secondary_part f u) (secondaries_order f t u)
+secondary_tells no_secondary IsLive t u good p q = refl
+secondary_tells forward IsLive t u good p q = λ x y k l. secondary_order IsLive good t.secondaries u.secondaries x y p q k l
+secondary_tells backward IsLive t u good p q = λ x y k l. backward_order IsLive good t.segments u.segments x y p.0 q.0 p.1 q.1 k l
 
 case_tells : (f : CaseForm) (t u : LevelLists) → AllByRecursion (λ r. r < 3) t.cases → AllByRecursion (λ r. r < 3) u.cases
     → (f ≡ lower_case_first → length t.cases ≡ length u.cases) → PartTells (case_part f t) (case_part f u) (cases_order f t u)
@@ -113,7 +113,7 @@ keys_order c f live t u good p q both =
       ∷ two (quaternary_part f.quaternary t) (quaternary_part f.quaternary u) (quaternaries_order f.quaternary t u)
       ∷ two (identical_part f.identical t) (identical_part f.identical u) (characters_order f.identical t u) ∷ [])
       (λ x y k l. primary_order c live.numeric (λ w. live.primary w ≡ true) good.primaries t.primaries u.primaries x y p.primaries q.primaries k l)
-      (λ e0. (secondary_tells f.secondary (λ w. live.secondary w ≡ true) t u good.secondaries p.secondaries q.secondaries (λ h. both.segments h e0),
+      (λ e0. (secondary_tells f.secondary (λ w. live.secondary w ≡ true) t u good.secondaries p.secondaries q.secondaries,
       (λ e1. (case_tells f.cases t u p.cases q.cases (λ h. both.cases h e0 e1),
       (λ e2. (tertiary_tells f.tertiary (λ w. live.tertiary w ≡ true) t u good.tertiaries p.tertiaries q.tertiaries,
       (λ e3. (quaternary_tells f.quaternary (λ w. live.shifted_primary w ≡ true) t u good.quaternaries p.quaternaries q.quaternaries (λ h. both.quaternaries h e0 e1 e2 e3),

@@ -8,7 +8,8 @@ use Rattle.icu_levels.specs.Rows.{secondary_row}
 use Rattle.icu_levels.specs.WeightBytes.{weight_bytes}
 use Rattle.icu_levels.specs.Secondaries.{secondary_level, further_segments, backward_level}
 use Rattle.icu_levels.specs.Premises.{AreSecondaries, forward_least, backward_least}
-use Rattle.icu_levels.proofs.LevelOrder.{level_order, under_more}
+use Rattle.icu_levels.proofs.Order.{turned}
+use Rattle.icu_levels.proofs.LevelOrder.{level_order, under_more, under_over}
 use Rattle.icu_levels.proofs.MovedWeights.{IsMove, moved_spelling}
 use Rattle.icu_levels.proofs.Orderings.{then_assoc}
 
@@ -48,25 +49,25 @@ module _ (IsLive : ℕ → Type 0) (good : AreSecondaries backward_least IsLive)
   ends [] s u = under_more 2 3 s (lit≤ tt) u
   ends (vs ∷ vss) s u = lit< tt
 
-  further_order : (vss wss : List (List ℕ)) (s t : List ℕ) → length vss ≡ length wss → AllByRecursion (AllByRecursion IsLive) vss → AllByRecursion (AllByRecursion IsLive) wss → IsUnder 2 s → IsUnder 2 t
+  -- further segments, as many as there are on either side
+  further_order : (vss wss : List (List ℕ)) (s t : List ℕ) → AllByRecursion (AllByRecursion IsLive) vss → AllByRecursion (AllByRecursion IsLive) wss → IsUnder 2 s → IsUnder 2 t
       → list_order (further_segments vss ++ s) (further_segments wss ++ t) ≡ ordering_then (segments_order vss wss) (list_order s t)
-  further_order [] [] s t e p q u v = refl
-  further_order [] (ws ∷ wss) s t e p q u v = absurd (omega arith)
-  further_order (vs ∷ vss) [] s t e p q u v = absurd (omega arith)
-  further_order (vs ∷ vss) (ws ∷ wss) s t e p q u v =
+  further_order [] [] s t p q u v = refl
+  further_order [] (ws ∷ wss) s t p q u v = under_over 1 s (further_segments (ws ∷ wss) ++ t) u (lit< tt)
+  further_order (vs ∷ vss) [] s t p q u v = turned (further_segments (vs ∷ vss) ++ s) t (under_over 1 t (further_segments (vs ∷ vss) ++ s) v (lit< tt))
+  further_order (vs ∷ vss) (ws ∷ wss) s t p q u v =
       rw (append_assoc (secondary_level vs) (further_segments vss) s, append_assoc (secondary_level ws) (further_segments wss) t)
       (segment_order vs ws (further_segments vss ++ s) (further_segments wss ++ t) p.0 q.0 (ends vss s u) (ends wss t v)
-      ∙ ap (ordering_then (list_order vs ws)) (further_order vss wss s t (omega arith) p.1 q.1 u v)
+      ∙ ap (ordering_then (list_order vs ws)) (further_order vss wss s t p.1 q.1 u v)
       ∙ then_assoc (list_order vs ws) (segments_order vss wss) (list_order s t))
 
-  -- backward: as many segments on either side
-  pub backward_order : (vss wss : List (List ℕ)) (s t : List ℕ) → length vss ≡ length wss → AllByRecursion (AllByRecursion IsLive) vss → AllByRecursion (AllByRecursion IsLive) wss → IsUnder 2 s → IsUnder 2 t
+  -- backward: a segment at least on either side
+  pub backward_order : (vss wss : List (List ℕ)) (s t : List ℕ) → 0 < length vss → 0 < length wss → AllByRecursion (AllByRecursion IsLive) vss → AllByRecursion (AllByRecursion IsLive) wss → IsUnder 2 s → IsUnder 2 t
       → list_order (backward_level vss ++ s) (backward_level wss ++ t) ≡ ordering_then (segments_order vss wss) (list_order s t)
-  backward_order [] [] s t e p q u v = refl
-  backward_order [] (ws ∷ wss) s t e p q u v = absurd (omega arith)
-  backward_order (vs ∷ vss) [] s t e p q u v = absurd (omega arith)
-  backward_order (vs ∷ vss) (ws ∷ wss) s t e p q u v =
+  backward_order [] wss s t l m p q u v = absurd (omega arith)
+  backward_order (vs ∷ vss) [] s t l m p q u v = absurd (omega arith)
+  backward_order (vs ∷ vss) (ws ∷ wss) s t l m p q u v =
       rw (append_assoc (secondary_level vs) (further_segments vss) s, append_assoc (secondary_level ws) (further_segments wss) t)
       (segment_order vs ws (further_segments vss ++ s) (further_segments wss ++ t) p.0 q.0 (ends vss s u) (ends wss t v)
-      ∙ ap (ordering_then (list_order vs ws)) (further_order vss wss s t (omega arith) p.1 q.1 u v)
+      ∙ ap (ordering_then (list_order vs ws)) (further_order vss wss s t p.1 q.1 u v)
       ∙ then_assoc (list_order vs ws) (segments_order vss wss) (list_order s t))

@@ -1,6 +1,6 @@
 -- The tertiary level's bytes order as its lists, in each form
 use Rattle.std.proofs.Common.{◌≡◌, ◌≢◌, ℕ, ◌+◌, ◌-◌, ◌/◌, ◌%◌, ◌^◌, ◌<◌, ◌≤◌, List, [], ◌∷◌, ◌++◌, refl, sym, ap, ◌∙◌, arith, lit<, lit≤, inl, inr, ◌⊎◌, ltb}
-use Rattle.std.proofs.lemmas.Bool.{cases_lt, lt-ltb, le-ltb, cond-true, cond-false}
+use Rattle.std.proofs.lemmas.Bool.{cases_order, lt-ltb, le-ltb, cond-true, cond-false}
 use Rattle.std.specs.List.{AllByRecursion}
 use Rattle.std.specs.Ordering.{ordering_then}
 use Rattle.icu_levels.specs.ListOrder.{list_order, IsUnder}
@@ -15,22 +15,34 @@ tertiary_row_fits plain = record { some = lit< tt; to_middle = refl; to_high = r
 tertiary_row_fits lower_first = record { some = lit< tt; to_middle = refl; to_high = refl }
 tertiary_row_fits upper_first = record { some = lit< tt; to_middle = refl; to_high = refl }
 
-moved_low : (form : TertiaryForm) (w : ℕ) → w ≤ (tertiary_row form).common → moved_tertiary form w ≡ w - lowered_below form
-moved_low form w l = cond-false (ltb (tertiary_row form).common w) _ _ (le-ltb (tertiary_row form).common w l)
+-- the lead of the common weight
+abbrev common_lead : TertiaryForm → ℕ
+common_lead form = (tertiary_row form).common / 256
 
-moved_high : (form : TertiaryForm) (w : ℕ) → (tertiary_row form).common < w → moved_tertiary form w ≡ w + raised_above form
-moved_high form w l = cond-true (ltb (tertiary_row form).common w) _ _ (lt-ltb (tertiary_row form).common w l)
+moved_high : (form : TertiaryForm) (w : ℕ) → common_lead form < w / 256 → moved_tertiary form w ≡ w + raised_above form
+moved_high form w l = cond-true (ltb (common_lead form) (w / 256)) _ _ (lt-ltb (common_lead form) (w / 256) l)
+
+moved_low : (form : TertiaryForm) (w : ℕ) → w / 256 < common_lead form → moved_tertiary form w ≡ w - lowered_below form
+moved_low form w l =
+    cond-false (ltb (common_lead form) (w / 256)) _ _ (le-ltb (common_lead form) (w / 256) (omega arith)) ∙ cond-true (ltb (w / 256) (common_lead form)) _ _ (lt-ltb (w / 256) (common_lead form) l)
+
+unmoved : (form : TertiaryForm) (w : ℕ) → w / 256 ≡ common_lead form → moved_tertiary form w ≡ w
+unmoved form w e =
+    cond-false (ltb (common_lead form) (w / 256)) _ _ (le-ltb (common_lead form) (w / 256) (omega arith)) ∙ cond-false (ltb (w / 256) (common_lead form)) _ _ (le-ltb (w / 256) (common_lead form) (omega arith))
 
 -- where a moved weight stands, by the side of the common weight on which it was
 abbrev IsMoved : TertiaryForm → ℕ → Type 0
-IsMoved form w = ((w ≤ (tertiary_row form).common) × (moved_tertiary form w ≡ w - lowered_below form)) ⊎ (((tertiary_row form).common < w) × (moved_tertiary form w ≡ w + raised_above form))
+IsMoved form w =
+    ((w / 256 < common_lead form) × (moved_tertiary form w ≡ w - lowered_below form))
+    ⊎ (((w / 256 ≡ common_lead form) × (moved_tertiary form w ≡ w)) ⊎ ((common_lead form < w / 256) × (moved_tertiary form w ≡ w + raised_above form)))
 
 is_moved : (form : TertiaryForm) (w : ℕ) → IsMoved form w
-is_moved form w = by (cases_lt (tertiary_row form).common w)
+is_moved form w = by (cases_order (w / 256) (common_lead form))
   where
-    by : ((tertiary_row form).common < w) ⊎ (w ≤ (tertiary_row form).common) → IsMoved form w
-    by (inl l) = inr (l, moved_high form w l)
-    by (inr l) = inl (l, moved_low form w l)
+    by : (w / 256 ≡ common_lead form) ⊎ ((w / 256 < common_lead form) ⊎ (common_lead form < w / 256)) → IsMoved form w
+    by (inl e) = inr (inl (e, unmoved form w e))
+    by (inr (inl l)) = inl (l, moved_low form w l)
+    by (inr (inr l)) = inr (inr (l, moved_high form w l))
 
 module _ (IsLive : ℕ → Type 0) where
   moves : (form : TertiaryForm) → AreTertiaries form IsLive → IsMove (tertiary_row form) 1 (moved_tertiary form) IsLive

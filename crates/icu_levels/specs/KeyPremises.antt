@@ -40,7 +40,7 @@ pub record AreWeights (c : Compression) (f : KeyForm) (live : LiveWeights) : Typ
 abbrev pub SecondaryMembers : SecondaryForm → (ℕ → Type 0) → LevelLists → Type 0
 SecondaryMembers no_secondary IsLive t = Unit {0}
 SecondaryMembers forward IsLive t = AllByRecursion IsLive t.secondaries
-SecondaryMembers backward IsLive t = AllByRecursion (AllByRecursion IsLive) t.segments
+SecondaryMembers backward IsLive t = (0 < length t.segments) × AllByRecursion (AllByRecursion IsLive) t.segments
 
 abbrev pub TertiaryMembers : Option TertiaryForm → (ℕ → Type 0) → LevelLists → Type 0
 TertiaryMembers None IsLive t = Unit {0}
@@ -51,7 +51,7 @@ QuaternaryMembers no_quaternary IsLive t = Unit {0}
 QuaternaryMembers shifted IsLive t = AllByRecursion (IsQuaternary IsLive) t.quaternaries
 QuaternaryMembers unshifted IsLive t = AllByRecursion IsUnshifted t.quaternaries
 
--- the lists of a text have only weights that may occur
+-- the lists of a text have only weights that may occur, and a backward level has a segment at least
 pub record AreLists (f : KeyForm) (live : LiveWeights) (t : LevelLists) : Type 0 where
   pub primaries : IsPrimaryList live.numeric (λ w. live.primary w ≡ true) false t.primaries
   pub secondaries : SecondaryMembers f.secondary (λ w. live.secondary w ≡ true) t
@@ -60,10 +60,9 @@ pub record AreLists (f : KeyForm) (live : LiveWeights) (t : LevelLists) : Type 0
   pub quaternaries : QuaternaryMembers f.quaternary (λ w. live.shifted_primary w ≡ true) t
   pub characters : AllByRecursion (λ c. c < 0x110000) t.characters
 
--- What equal earlier lists give of two texts: backward as many segments, lower case first as many cases, and where no
--- element is shifted as many quaternaries
+-- What equal earlier lists give of two texts: lower case first as many cases, and where no element is shifted as many
+-- quaternaries
 pub record AreParallel (c : Compression) (f : KeyForm) (t u : LevelLists) : Type 0 where
-  pub segments : f.secondary ≡ backward → primaries_order c t u ≡ Equal → length t.segments ≡ length u.segments
   pub cases : f.cases ≡ lower_case_first → primaries_order c t u ≡ Equal → secondaries_order f.secondary t u ≡ Equal → length t.cases ≡ length u.cases
   pub quaternaries : f.quaternary ≡ unshifted → primaries_order c t u ≡ Equal → secondaries_order f.secondary t u ≡ Equal → cases_order f.cases t u ≡ Equal
       → tertiaries_order f.tertiary t u ≡ Equal → length t.quaternaries ≡ length u.quaternaries

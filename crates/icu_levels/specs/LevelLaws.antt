@@ -47,12 +47,12 @@ SecondariesKeepOrder =
     → (vs ws : List ℕ) → AllByRecursion (λ w. live w ≡ true) vs → AllByRecursion (λ w. live w ≡ true) ws
     → KeepOrder (secondary_level vs) (secondary_level ws) vs ws
 
--- backward, as many segments on either side
+-- backward, a segment at least on either side
 abbrev pub SegmentsKeepOrder : Type 0
 SegmentsKeepOrder =
     (live : ℕ → Bool) → AreSecondaries backward_least (λ w. live w ≡ true)
     → (vss wss : List (List ℕ)) → AllByRecursion (AllByRecursion (λ w. live w ≡ true)) vss → AllByRecursion (AllByRecursion (λ w. live w ≡ true)) wss
-    → length vss ≡ length wss
+    → 0 < length vss → 0 < length wss
     → Tells (backward_level vss) (backward_level wss) (segments_order vss wss) × (backward_level vss ≡ backward_level wss → vss ≡ wss)
 
 -- lower case first, as many cases on either side

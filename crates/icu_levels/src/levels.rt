@@ -33,7 +33,7 @@ pub fn secondaries_keep_order()
     ensures { SecondariesKeepOrder }
 {}
 
-/// Backward secondary bytes keep the order of the segments, where both texts have as many.
+/// Backward secondary bytes keep the order of the segments, of which each text has at least one.
 pub fn segments_keep_order()
     ensures { SegmentsKeepOrder }
 {}
