@@ -31,3 +31,4 @@ pub mod NumberStands
 pub mod DigitRuns
 pub mod ReorderedNumbers
 pub mod WorkedKeys
+pub mod NeededPremises

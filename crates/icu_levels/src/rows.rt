@@ -1,5 +1,8 @@
 //! How a level writes the runs of its common weight: one record for code and definitions.
 
+ghost use Rattle.std.specs.Prelude.{◌≡◌};
+ghost use Rattle.icu_levels.specs.Rows.{secondary_row, plain_tertiary_row, lower_first_tertiary_row, upper_first_tertiary_row, quaternary_row, lower_first_case_row, upper_first_case_row};
+
 /// The constants by which a level writes its runs of the common weight (UTS #10, section 9.2).
 ///
 /// A run is written as a middle byte for each full `count`, and one last byte: from `low` upward before a lesser
@@ -16,4 +19,55 @@ pub struct Row {
     pub high: u8,
     /// How many common weights a middle byte stands for.
     pub count: u8,
+}
+
+impl Row {
+    /// The row of secondaries.
+    pub fn secondary() -> Row
+        ensures { result ≡ secondary_row }
+    {
+        Row { common: 0x0500, low: 0x05, middle: 0x25, high: 0x45, count: 33 }
+    }
+
+    /// The row of tertiaries without case bits.
+    pub fn plain_tertiary() -> Row
+        ensures { result ≡ plain_tertiary_row }
+    {
+        Row { common: 0x0500, low: 0x05, middle: 0x65, high: 0xC5, count: 97 }
+    }
+
+    /// The row of tertiaries with case bits, lower case first.
+    pub fn lower_first_tertiary() -> Row
+        ensures { result ≡ lower_first_tertiary_row }
+    {
+        Row { common: 0x0500, low: 0x05, middle: 0x25, high: 0x45, count: 33 }
+    }
+
+    /// The row of tertiaries with case bits, upper case first.
+    pub fn upper_first_tertiary() -> Row
+        ensures { result ≡ upper_first_tertiary_row }
+    {
+        Row { common: 0xC500, low: 0x85, middle: 0xA5, high: 0xC5, count: 33 }
+    }
+
+    /// The row of quaternaries, whose common weight is above each primary.
+    pub fn quaternary() -> Row
+        ensures { result ≡ quaternary_row }
+    {
+        Row { common: 1 << 32, low: 0x1C, middle: 0x8C, high: 0xFC, count: 113 }
+    }
+
+    /// The row of case nibbles, lower case first.
+    pub fn lower_first_case() -> Row
+        ensures { result ≡ lower_first_case_row }
+    {
+        Row { common: 0, low: 1, middle: 7, high: 13, count: 7 }
+    }
+
+    /// The row of case nibbles, upper case first. Its high nibble is never written.
+    pub fn upper_first_case() -> Row
+        ensures { result ≡ upper_first_case_row }
+    {
+        Row { common: 2, low: 3, middle: 15, high: 27, count: 13 }
+    }
 }
