@@ -32,3 +32,4 @@ pub mod DigitRuns
 pub mod ReorderedNumbers
 pub mod WorkedKeys
 pub mod NeededPremises
+pub mod CasedTertiaries

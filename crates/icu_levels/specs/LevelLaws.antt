@@ -7,11 +7,11 @@ use Rattle.icu_levels.specs.ListOrder.{list_order, segments_order, IsUnder}
 use Rattle.icu_levels.specs.Runs.{IsRow, IsSpelling, run_before_less, run_before, level_bytes}
 use Rattle.icu_levels.specs.Primaries.{Compression, primary_level}
 use Rattle.icu_levels.specs.Secondaries.{secondary_level, backward_level}
-use Rattle.icu_levels.specs.Tertiaries.{TertiaryForm, tertiary_level}
+use Rattle.icu_levels.specs.Tertiaries.{TertiaryForm, plain, tertiary_level}
 use Rattle.icu_levels.specs.Cases.{lower_first_case_level, upper_first_case_level}
 use Rattle.icu_levels.specs.Quaternaries.{quaternary_level, unshifted_quaternary_level}
 use Rattle.icu_levels.specs.Identical.{identical_level, identical_rank}
-use Rattle.icu_levels.specs.Premises.{AreSecondaries, forward_least, backward_least, AreTertiaries, AreShifted, IsQuaternary, IsUnshifted, IsRank, ArePrimaries, IsPrimaryList}
+use Rattle.icu_levels.specs.Premises.{AreSecondaries, forward_least, backward_least, AreTertiaries, cased_tertiary, AreShifted, IsQuaternary, IsUnshifted, IsRank, ArePrimaries, IsPrimaryList}
 use Rattle.icu_levels.specs.Keys.{Tells}
 
 -- The bytes ps and qs order as the lists xs and ys, and are the same only for the same list
@@ -66,6 +66,11 @@ abbrev pub UpperFirstCasesKeepOrder : Type 0
 UpperFirstCasesKeepOrder =
     (vs ws : List ℕ) → AllByRecursion IsRank vs → AllByRecursion IsRank ws
     → KeepOrder (upper_first_case_level vs) (upper_first_case_level ws) vs ws
+
+-- tertiaries with case bits are as their level asks, if those without are
+abbrev pub CaseKeepsTertiaries : Type 0
+CaseKeepsTertiaries =
+    (form : TertiaryForm) (live : ℕ → Bool) → AreTertiaries plain (λ w. live w ≡ true) → AreTertiaries form (λ w. cased_tertiary form live w ≡ true)
 
 abbrev pub TertiariesKeepOrder : Type 0
 TertiariesKeepOrder =

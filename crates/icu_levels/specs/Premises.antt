@@ -1,5 +1,5 @@
 -- What the levels ask of the weights that may occur. Crates that know tables prove it of them
-use Rattle.std.specs.Prelude.{Bool, true, false, ◌&&◌, ◌||◌, ◌≡◌, ◌≢◌, ◌⊎◌, ℕ, ◌+◌, ◌*◌, ◌/◌, ◌%◌, ◌^◌, ◌<◌, ◌≤◌, ◌==◌, nat_le, List, [], ◌∷◌}
+use Rattle.std.specs.Prelude.{Bool, true, false, ◌&&◌, ◌||◌, ◌≡◌, ◌≢◌, ◌⊎◌, ℕ, ◌+◌, ◌*◌, ◌/◌, ◌%◌, ◌^◌, ◌<◌, ◌≤◌, ◌==◌, nat_le, nat_lt, List, [], ◌∷◌}
 use Rattle.icu_levels.specs.ListOrder.{IsBeginning}
 use Rattle.icu_levels.specs.WeightBytes.{weight_bytes}
 use Rattle.icu_levels.specs.Rows.{secondary_row}
@@ -7,7 +7,7 @@ use Rattle.icu_levels.specs.Primaries.{Compression, lead, below_lead, second_byt
 use Rattle.icu_levels.specs.Tertiaries.{TertiaryForm, plain, lower_first, upper_first, tertiary_row}
 
 -- No weight is written as a beginning of another: weights are prefix free, as the standard asks of the weights of
--- one level (UTS #10, section 9.2 on weights of several bytes)
+-- one level (UTS #10, "Large Weight Values")
 abbrev pub IsPrefixFree : (ℕ → List ℕ) → (ℕ → Type 0) → Type 0
 IsPrefixFree spell IsLive = (v w : ℕ) → IsLive v → IsLive w → v ≢ w → IsBeginning (spell v) (spell w) → ⊥
 
@@ -42,16 +42,24 @@ pub record AreTertiaries (form : TertiaryForm) (IsLive : ℕ → Type 0) : Type 
   pub leads : (w : ℕ) → IsLive w → w ≢ (tertiary_row form).common → w / 256 ≢ (tertiary_row form).common / 256
   pub prefix_free : IsPrefixFree (weight_bytes 2) IsLive
 
--- Shifted primaries, after reordering, lead with 03 at least
+-- Tertiaries as a form has them, where `live` tests those without case bits: the two high bits are the case, lower 0,
+-- mixed 1 and upper 2; with upper case first lower is 3, mixed 2 and upper 1, and what has no secondary is 3
+abbrev pub cased_tertiary : TertiaryForm → (ℕ → Bool) → ℕ → Bool
+cased_tertiary plain live w = live w
+cased_tertiary lower_first live w = live (w % 0x4000) && nat_lt (w / 0x4000) 3
+cased_tertiary upper_first live w = live (w % 0x4000) && (nat_lt 0 (w / 0x4000) && nat_lt (w / 0x4000) 4)
+
+-- Shifted primaries, after reordering, lead with 02 at least
 pub record AreShifted (IsLive : ℕ → Type 0) : Type 0 where
   pub fits : (w : ℕ) → IsLive w → w < 256 ^ 4
-  pub leads : (w : ℕ) → IsLive w → 3 ≤ lead w
+  pub leads : (w : ℕ) → IsLive w → 2 ≤ lead w
   pub prefix_free : IsPrefixFree (weight_bytes 4) IsLive
 
 -- ---- primaries, and weights of numbers among them
 
--- The bytes after the numeric lead in the first weight of a number (04 to 83 stand for whole numbers, and from 84 on
--- they count the pairs of digits): where such a count stands and the last byte is odd, more of the number follows
+-- The bytes after the numeric lead in the first weight of a number. From 84 on the first of them counts
+-- pairs of digits: then more of the number follows an odd last byte, and an even one ends it. Below 84 it is the whole
+-- number
 abbrev pub IsFirstPiece : List ℕ → Type 0
 IsFirstPiece [] = ⊥
 IsFirstPiece (b ∷ []) = b ≤ 75

@@ -2,7 +2,7 @@
 
 ghost use Rattle.icu_levels.specs.Rows.{secondary_row, plain_tertiary_row, quaternary_row};
 ghost use Rattle.icu_levels.specs.RunLaws.{RunsAreShort};
-ghost use Rattle.icu_levels.specs.LevelLaws.{RunsAreMaximal, RunsKeepOrder, PrimariesKeepOrder, SecondariesKeepOrder, SegmentsKeepOrder, LowerFirstCasesKeepOrder, UpperFirstCasesKeepOrder, TertiariesKeepOrder, QuaternariesKeepOrder, UnshiftedQuaternariesKeepOrder, CharactersKeepOrder};
+ghost use Rattle.icu_levels.specs.LevelLaws.{RunsAreMaximal, RunsKeepOrder, PrimariesKeepOrder, SecondariesKeepOrder, SegmentsKeepOrder, LowerFirstCasesKeepOrder, UpperFirstCasesKeepOrder, CaseKeepsTertiaries, TertiariesKeepOrder, QuaternariesKeepOrder, UnshiftedQuaternariesKeepOrder, CharactersKeepOrder};
 
 /// Common weights before another weight, or at the end, are written as one run, however many they are.
 pub fn runs_are_maximal()
@@ -51,6 +51,11 @@ pub fn upper_first_cases_keep_order()
 /// Tertiary bytes keep the order of the tertiaries: without case bits, with lower and with upper case first.
 pub fn tertiaries_keep_order()
     ensures { TertiariesKeepOrder }
+{}
+
+/// Tertiaries with case bits are as their level asks, if those without case bits are.
+pub fn case_keeps_tertiaries()
+    ensures { CaseKeepsTertiaries }
 {}
 
 /// Quaternary bytes keep the order of the quaternaries, shifted primaries among them.
