@@ -1,5 +1,5 @@
 -- The case level's bytes order as its lists, lower and upper case first
-use Rattle.std.proofs.Common.{◌≡◌, ℕ, zero, suc, ◌+◌, ◌-◌, ◌/◌, ◌%◌, ◌<◌, ◌≤◌, List, [], ◌∷◌, ◌++◌, length, replicate, refl, sym, ap, ◌∙◌, subst, arith, lit<, lit≤, inl, inr, ◌⊎◌, Less}
+use Rattle.std.proofs.Common.{◌≡◌, ℕ, zero, suc, ◌+◌, ◌-◌, ◌/◌, ◌%◌, ◌<◌, List, [], ◌∷◌, ◌++◌, length, replicate, refl, sym, ap, ◌∙◌, subst, arith, lit<, inl, inr, ◌⊎◌, Less}
 use Rattle.std.proofs.lemmas.Bool.{cases_order}
 use Rattle.std.proofs.lemmas.Nat.{mod_below}
 use Rattle.std.specs.List.{AllByRecursion}
@@ -8,7 +8,7 @@ use Rattle.icu_levels.specs.declared.rows.Row.{Row}
 use Rattle.icu_levels.specs.ListOrder.{list_order, IsUnder}
 use Rattle.icu_levels.specs.Runs.{IsRow, IsSpelling, run_before_less, run_before_more, level_bytes}
 use Rattle.icu_levels.specs.Rows.{lower_first_case_row, upper_first_case_row}
-use Rattle.icu_levels.specs.Cases.{packed, lower_first_nibbles, upper_first_nibbles, lower_first_case_level, upper_first_case_level}
+use Rattle.icu_levels.specs.Cases.{packed, lower_first_nibbles, lower_first_case_level, upper_first_case_level}
 use Rattle.icu_levels.specs.Premises.{IsRank}
 use Rattle.icu_levels.proofs.Order.{less_head, keeps_order}
 use Rattle.icu_levels.proofs.LevelOrder.{level_common, level_other, run_less, run_more}
@@ -67,7 +67,7 @@ lower_first_small (w ∷ ws) n p = by (cases_order w 0) (λ k. lower_first_small
     by (inr (inr l)) ih = subst (AllByRecursion (λ n. n < 16))
         (sym (level_other lower_first_case_row (λ rank. (13 + rank) ∷ []) n w ws (omega arith) ∙ ap (λ run. run ++ ((13 + w) ∷ level_bytes lower_first_case_row (λ rank. (13 + rank) ∷ []) 0 ws)) (run_more lower_first_case_row n w l)))
         (all_append (run_before_more lower_first_case_row n) ((13 + w) ∷ level_bytes lower_first_case_row (λ rank. (13 + rank) ∷ []) 0 ws)
-          (high_run_small lower_first_case_row lower_first_row_fits (lit< tt) (lit< tt) n) (omega (arith, p.0), ih 0))
+        (high_run_small lower_first_case_row lower_first_row_fits (lit< tt) (lit< tt) n) (omega (arith, p.0), ih 0))
 
 upper_first_small : (ws : List ℕ) (n : ℕ) → AllByRecursion IsRank ws → AllByRecursion (λ n. n < 16) (level_bytes upper_first_case_row (λ rank. (1 + rank) ∷ []) n ws)
 upper_first_small [] n p = run_small upper_first_case_row upper_first_row_fits (lit< tt) n
@@ -79,7 +79,7 @@ upper_first_small (w ∷ ws) n p = by (cases_order w 2) (λ k. upper_first_small
     by (inr (inl l)) ih = subst (AllByRecursion (λ n. n < 16))
         (sym (level_other upper_first_case_row (λ rank. (1 + rank) ∷ []) n w ws (omega arith) ∙ ap (λ run. run ++ ((1 + w) ∷ level_bytes upper_first_case_row (λ rank. (1 + rank) ∷ []) 0 ws)) (run_less upper_first_case_row n w l)))
         (all_append (run_before_less upper_first_case_row n) ((1 + w) ∷ level_bytes upper_first_case_row (λ rank. (1 + rank) ∷ []) 0 ws)
-          (run_small upper_first_case_row upper_first_row_fits (lit< tt) n) (omega (arith, p.0), ih 0))
+        (run_small upper_first_case_row upper_first_row_fits (lit< tt) n) (omega (arith, p.0), ih 0))
     by (inr (inr l)) ih = absurd (omega (arith, p.0))
 
 -- ---- the two orders

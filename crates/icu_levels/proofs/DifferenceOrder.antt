@@ -1,8 +1,8 @@
 -- A greater difference of characters has greater bytes
-use Rattle.std.proofs.Common.{◌≡◌, ℕ, ◌+◌, ◌-◌, ◌/◌, ◌^◌, ◌<◌, ◌≤◌, List, [], ◌∷◌, ◌++◌, refl, ◌∙◌, ◌⊎◌, ⊎_elim, inl, inr, arith, lit<, Less, ltb}
+use Rattle.std.proofs.Common.{◌≡◌, ℕ, ◌+◌, ◌-◌, ◌/◌, ◌^◌, ◌<◌, ◌≤◌, List, [], ◌∷◌, ◌++◌, refl, ◌∙◌, ◌⊎◌, ⊎_elim, inl, inr, arith, lit<, ltb}
 use Rattle.std.proofs.lemmas.Bool.{cases_order, cases_lt, lt-ltb, le-ltb, ltb-true, ltb-false, cond_both}
 use Rattle.std.proofs.lemmas.Cmp.{nat_list_cmp_total}
-use Rattle.icu_levels.specs.ListOrder.{list_order, IsOver, Precedes}
+use Rattle.icu_levels.specs.ListOrder.{IsOver, Precedes}
 use Rattle.icu_levels.specs.Identical.{difference_bytes, split_at, far_below, well_below, below, near, above, well_above, far_above, first_tail, middle_tail, last_tail}
 use Rattle.icu_levels.proofs.Order.{less_head, alike_head}
 
@@ -96,4 +96,3 @@ difference_leads =
     (over_split (253 ^ 3 + 81) (253 ^ 3 - 80) near _ (λ x l k. omega arith)
     (over_split (253 ^ 3 + 10668) (253 ^ 3 + 81) above _ (λ x l k. omega arith)
     (over_split (253 ^ 3 + 192786) (253 ^ 3 + 10668) well_above far_above (λ x l k. omega arith) (λ x l k. lit< tt))))))
-

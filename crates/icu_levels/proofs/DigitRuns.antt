@@ -1,5 +1,5 @@
 -- Runs of digits as numbers
-use Rattle.std.proofs.Common.{◌≡◌, false, ℕ, zero, suc, ◌+◌, ◌-◌, ◌*◌, ◌^◌, ◌<◌, ◌≤◌, List, [], ◌∷◌, ◌++◌, length, take, drop, refl, sym, ap, ◌∙◌, subst, inl, inr, ◌⊎◌, arith, lit<, lit≤, append-nil, append_assoc, length-take, length-drop, min}
+use Rattle.std.proofs.Common.{◌≡◌, false, ℕ, zero, suc, ◌+◌, ◌*◌, ◌^◌, ◌<◌, ◌≤◌, List, [], ◌∷◌, ◌++◌, length, take, drop, refl, sym, ap, ◌∙◌, subst, arith, lit<, lit≤, append-nil, append_assoc, length-take}
 use Rattle.std.specs.Ordering.{nat_cmp}
 use Rattle.std.specs.List.{AllByRecursion}
 use Rattle.std.proofs.Math.Nat.{pow-suc, pow-zero, pow-le-pow_right, mul-le-mul_right, mul_assoc, mul_comm}
@@ -73,8 +73,8 @@ pub one_number : (numeric : ℕ) (ds : List ℕ) → 0 < length ds → length (w
 one_number numeric [] some l = absurd (omega arith)
 one_number numeric (d ∷ ds) some l =
     both (run_weights_by ds numeric (drop longest_number (without_first_zeros (d ∷ ds)))) (value_of (take longest_number (without_first_zeros (d ∷ ds)))) (value_of (d ∷ ds))
-      (run_rest ds numeric (drop longest_number (without_first_zeros (d ∷ ds))) (no_more longest_number (without_first_zeros (d ∷ ds)) l))
-      (ap value_of (take_all longest_number (without_first_zeros (d ∷ ds)) l) ∙ value_without_zeros (d ∷ ds))
+    (run_rest ds numeric (drop longest_number (without_first_zeros (d ∷ ds))) (no_more longest_number (without_first_zeros (d ∷ ds)) l))
+    (ap value_of (take_all longest_number (without_first_zeros (d ∷ ds)) l) ∙ value_without_zeros (d ∷ ds))
   where
     both : (left : List ℕ) (v w : ℕ) → left ≡ [] → v ≡ w → number_weights numeric v ++ left ≡ number_weights numeric w
     both left v w e f = ap (λ z. number_weights numeric v ++ z) e ∙ (append-nil (number_weights numeric v) ∙ ap (number_weights numeric) f)
@@ -101,7 +101,7 @@ module _ (numeric : ℕ) (n : numeric < 256) (IsLive : ℕ → Type 0) (rest : L
       let left = run_weights_by fs numeric (drop longest_number (without_first_zeros (d ∷ ds))) in
       subst (IsPrimaryList numeric IsLive false) (sym (append_assoc (number_weights numeric v) left rest))
       (number_stands numeric n IsLive (left ++ rest) (by_stands fs (drop longest_number (without_first_zeros (d ∷ ds))) (drop_digits longest_number (without_first_zeros (d ∷ ds)) digits)) v
-        (chunk_value (take longest_number (without_first_zeros (d ∷ ds))) (take_digits longest_number (without_first_zeros (d ∷ ds)) digits) (few (without_first_zeros (d ∷ ds)))))
+      (chunk_value (take longest_number (without_first_zeros (d ∷ ds))) (take_digits longest_number (without_first_zeros (d ∷ ds)) digits) (few (without_first_zeros (d ∷ ds)))))
     where
       few : (ds : List ℕ) → length (take longest_number ds) ≤ longest_number
       few ds = omega (arith, length-take longest_number ds)

@@ -1,12 +1,11 @@
 -- The identical level's bytes order as its characters
-use Rattle.std.proofs.Common.{◌≡◌, ◌≢◌, ℕ, ◌+◌, ◌-◌, ◌/◌, ◌^◌, ◌<◌, ◌≤◌, if◌then◌else◌, ◌==◌, List, [], ◌∷◌, ◌++◌, refl, sym, ap, ◌∙◌, inl, inr, ◌⊎◌, arith, lit<, lit≤, eq-eqb, ne_eqb, map}
+use Rattle.std.proofs.Common.{◌≡◌, ◌≢◌, ℕ, ◌+◌, ◌-◌, ◌^◌, ◌<◌, ◌≤◌, if◌then◌else◌, ◌==◌, List, [], ◌∷◌, ◌++◌, refl, ap, inl, inr, ◌⊎◌, arith, lit<, lit≤, eq-eqb, ne_eqb, map}
 use Rattle.std.proofs.lemmas.Bool.{cases_eq}
 use Rattle.std.proofs.lemmas.Bool.Decides.{nat_tests}
 use Rattle.std.specs.List.{AllByRecursion}
 use Rattle.std.specs.Ordering.{ordering_then}
 use Rattle.icu_levels.specs.ListOrder.{list_order, IsUnder, IsOver, Precedes}
 use Rattle.icu_levels.specs.Identical.{identical_bytes, identical_level, identical_rank, base_after, first_base, merge_character, difference_bytes}
-use Rattle.icu_levels.proofs.Order.{same_lists_order, tied_lists}
 use Rattle.icu_levels.proofs.LevelOrder.{over_less}
 use Rattle.icu_levels.proofs.StepwiseOrder.{stepwise_bytes, StandAlong, IsRising, stepwise_order}
 use Rattle.icu_levels.proofs.PrecedesLemmas.{precedes_over}

@@ -1,12 +1,11 @@
 -- Keys order as the level lists in turn
-use Rattle.std.proofs.Common.{◌≡◌, ℕ, ◌<◌, Bool, true, false, List, [], ◌∷◌, ◌++◌, map, length, refl, sym, ap, ◌∙◌, arith, lit<, inl, inr, ◌⊎◌, append_assoc, append-nil, Ordering, Less, Equal, Greater, Option, Some, None}
+use Rattle.std.proofs.Common.{◌≡◌, ℕ, ◌<◌, Bool, true, false, List, [], ◌∷◌, ◌++◌, map, length, refl, sym, ap, ◌∙◌, lit<, append_assoc, append-nil, Ordering, Equal, Option, Some, None}
 use Rattle.std.specs.Ordering.{ordering_then}
 use Rattle.std.specs.List.{AllByRecursion}
 use Rattle.icu_levels.specs.ListOrder.{list_order, IsUnder}
 use Rattle.icu_levels.specs.Primaries.{Compression, primary_level}
-use Rattle.icu_levels.specs.Premises.{AreSecondaries, AreTertiaries, AreShifted}
-use Rattle.icu_levels.specs.Tertiaries.{TertiaryForm, tertiary_level}
-use Rattle.icu_levels.specs.Keys.{LevelPart, absent, opened, closed, part_bytes, parts_bytes, in_turn, Tells, TwoParts, PartTells, TellInTurn, SecondaryForm, no_secondary, forward, backward, CaseForm, no_case, lower_case_first, upper_case_first, QuaternaryForm, no_quaternary, shifted, unshifted, KeyForm, LevelLists, secondary_part, case_part, tertiary_part, quaternary_part, identical_part, later_parts, key_bytes, primaries_order, secondaries_order, cases_order, tertiaries_order, quaternaries_order, characters_order, levels_order}
+use Rattle.icu_levels.specs.Tertiaries.{TertiaryForm}
+use Rattle.icu_levels.specs.Keys.{LevelPart, absent, opened, closed, part_bytes, parts_bytes, in_turn, Tells, TwoParts, PartTells, TellInTurn, SecondaryForm, no_secondary, forward, backward, CaseForm, no_case, lower_case_first, upper_case_first, QuaternaryForm, no_quaternary, shifted, unshifted, KeyForm, LevelLists, secondary_part, case_part, tertiary_part, quaternary_part, identical_part, key_bytes, primaries_order, secondaries_order, cases_order, tertiaries_order, quaternaries_order, characters_order, levels_order}
 use Rattle.icu_levels.specs.KeyPremises.{LiveWeights, SecondaryWeights, TertiaryWeights, QuaternaryWeights, SecondaryMembers, TertiaryMembers, QuaternaryMembers, AreWeights, AreLists, AreParallel}
 use Rattle.icu_levels.proofs.Order.{same_head}
 use Rattle.icu_levels.proofs.Orderings.{then_assoc, then_equal, then_when}
@@ -67,7 +66,7 @@ levels_tell ps qs o parts h rest =
     sym (ap (λ l. list_order l (qs ++ parts_bytes (map (λ p. p.right) parts))) (append-nil (ps ++ parts_bytes (map (λ p. p.left) parts))))
     ∙ (sym (ap (λ l. list_order ((ps ++ parts_bytes (map (λ p. p.left) parts)) ++ []) l) (append-nil (qs ++ parts_bytes (map (λ p. p.right) parts))))
     ∙ (followed ps qs (parts_bytes (map (λ p. p.left) parts)) (parts_bytes (map (λ p. p.right) parts)) o (in_turn (map (λ p. p.answer) parts)) h
-        (parts_low (map (λ p. p.left) parts)) (parts_low (map (λ p. p.right) parts)) (λ e. parts_tell parts (rest e)) [] [] tt tt
+    (parts_low (map (λ p. p.left) parts)) (parts_low (map (λ p. p.right) parts)) (λ e. parts_tell parts (rest e)) [] [] tt tt
     ∙ then_equal (ordering_then o (in_turn (map (λ p. p.answer) parts)))))
 
 -- ---- the six levels
@@ -107,14 +106,22 @@ pub keys_order : (c : Compression) (f : KeyForm) (live : LiveWeights) (t u : Lev
     → list_order (key_bytes c f t) (key_bytes c f u) ≡ levels_order c f t u
 keys_order c f live t u good p q both =
     levels_tell (primary_level c 0 t.primaries) (primary_level c 0 u.primaries) (primaries_order c t u)
-      (two (secondary_part f.secondary t) (secondary_part f.secondary u) (secondaries_order f.secondary t u)
-      ∷ two (case_part f.cases t) (case_part f.cases u) (cases_order f.cases t u)
-      ∷ two (tertiary_part f.tertiary t) (tertiary_part f.tertiary u) (tertiaries_order f.tertiary t u)
-      ∷ two (quaternary_part f.quaternary t) (quaternary_part f.quaternary u) (quaternaries_order f.quaternary t u)
-      ∷ two (identical_part f.identical t) (identical_part f.identical u) (characters_order f.identical t u) ∷ [])
-      (λ x y k l. primary_order c live.numeric (λ w. live.primary w ≡ true) good.primaries t.primaries u.primaries x y p.primaries q.primaries k l)
-      (λ e0. (secondary_tells f.secondary (λ w. live.secondary w ≡ true) t u good.secondaries p.secondaries q.secondaries,
-      (λ e1. (case_tells f.cases t u p.cases q.cases (λ h. both.cases h e0 e1),
-      (λ e2. (tertiary_tells f.tertiary (λ w. live.tertiary w ≡ true) t u good.tertiaries p.tertiaries q.tertiaries,
-      (λ e3. (quaternary_tells f.quaternary (λ w. live.shifted_primary w ≡ true) t u good.quaternaries p.quaternaries q.quaternaries (λ h. both.quaternaries h e0 e1 e2 e3),
-      (λ e4. (identical_tells f.identical t u p.characters q.characters, λ e5. tt))))))))))
+    (two (secondary_part f.secondary t) (secondary_part f.secondary u) (secondaries_order f.secondary t u)
+    ∷ two (case_part f.cases t) (case_part f.cases u) (cases_order f.cases t u)
+    ∷ two (tertiary_part f.tertiary t) (tertiary_part f.tertiary u) (tertiaries_order f.tertiary t u)
+    ∷ two (quaternary_part f.quaternary t) (quaternary_part f.quaternary u) (quaternaries_order f.quaternary t u)
+    ∷ two (identical_part f.identical t) (identical_part f.identical u) (characters_order f.identical t u) ∷ [])
+    (λ x y k l. primary_order c live.numeric (λ w. live.primary w ≡ true) good.primaries t.primaries u.primaries x y p.primaries q.primaries k l)
+    (λ e0. (
+      secondary_tells f.secondary (λ w. live.secondary w ≡ true) t u good.secondaries p.secondaries q.secondaries,
+      (λ e1. (
+        case_tells f.cases t u p.cases q.cases (λ h. both.cases h e0 e1),
+        (λ e2. (
+          tertiary_tells f.tertiary (λ w. live.tertiary w ≡ true) t u good.tertiaries p.tertiaries q.tertiaries,
+          (λ e3. (
+            quaternary_tells f.quaternary (λ w. live.shifted_primary w ≡ true) t u good.quaternaries p.quaternaries q.quaternaries (λ h. both.quaternaries h e0 e1 e2 e3),
+            (λ e4. (identical_tells f.identical t u p.characters q.characters, λ e5. tt)),
+          )),
+        )),
+      )),
+    ))

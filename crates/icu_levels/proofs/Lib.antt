@@ -30,6 +30,8 @@ pub mod NumberWeightOrder
 pub mod NumberStands
 pub mod DigitRuns
 pub mod ReorderedNumbers
+pub mod WorkedForms
 pub mod WorkedKeys
+pub mod WorkedOrders
 pub mod NeededPremises
 pub mod CasedTertiaries

@@ -1,5 +1,5 @@
 -- Common weights are written as one run, however many they are
-use Rattle.std.proofs.Common.{◌≡◌, ◌≢◌, ℕ, zero, suc, ◌+◌, List, [], ◌∷◌, ◌++◌, refl, sym, ap, ◌∙◌, replicate, arith}
+use Rattle.std.proofs.Common.{◌≡◌, ◌≢◌, ℕ, zero, suc, ◌+◌, List, ◌∷◌, ◌++◌, refl, ap, ◌∙◌, replicate, arith}
 use Rattle.icu_levels.specs.declared.rows.Row.{Row}
 use Rattle.icu_levels.specs.Runs.{run_before_less, run_before, level_bytes}
 use Rattle.icu_levels.proofs.LevelOrder.{level_common, level_other}

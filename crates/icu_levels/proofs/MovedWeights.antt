@@ -1,7 +1,7 @@
 -- Weights of two bytes whose leads are moved out of the way of runs
-use Rattle.std.proofs.Common.{◌≡◌, ◌≢◌, ℕ, ◌+◌, ◌-◌, ◌/◌, ◌%◌, ◌^◌, ◌<◌, ◌≤◌, List, [], ◌∷◌, refl, sym, ap, ◌∙◌, subst, arith, lit<, inl, inr, ◌⊎◌}
+use Rattle.std.proofs.Common.{◌≡◌, ◌≢◌, ℕ, ◌/◌, ◌%◌, ◌^◌, ◌<◌, ◌∷◌, sym, subst, arith}
 use Rattle.icu_levels.specs.declared.rows.Row.{Row}
-use Rattle.icu_levels.specs.ListOrder.{IsBeginning, IsUnder, IsOver, Precedes}
+use Rattle.icu_levels.specs.ListOrder.{IsBeginning}
 use Rattle.icu_levels.specs.WeightBytes.{weight_bytes}
 use Rattle.icu_levels.specs.Runs.{IsSpelling}
 use Rattle.icu_levels.specs.Premises.{IsPrefixFree}

@@ -1,5 +1,5 @@
 -- Each premise is needed: lists and bytes that part where one of them fails
-use Rattle.std.proofs.Common.{◌≡◌, ◌≢◌, ℕ, ◌+◌, ◌^◌, Bool, ◌||◌, ◌==◌, if◌then◌else◌, List, [], ◌∷◌, ◌++◌, map, refl, Less, Equal, Greater}
+use Rattle.std.proofs.Common.{◌≡◌, ℕ, ◌^◌, Bool, ◌==◌, if◌then◌else◌, [], ◌∷◌, ◌++◌, map, refl, Less, Greater}
 use Rattle.icu_levels.specs.ListOrder.{list_order, segments_order}
 use Rattle.icu_levels.specs.Primaries.{Compression, primary_level}
 use Rattle.icu_levels.specs.Secondaries.{secondary_level, backward_level}

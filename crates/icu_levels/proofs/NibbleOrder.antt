@@ -72,4 +72,3 @@ module _ (r : Row) (ok : IsRow r) (spell : ℕ → List ℕ) (IsLive : ℕ → T
       ∙ (ap (λ l. list_order l (unpacked (packed ms ++ t))) (unpacked_packed ns s (small vs p))
       ∙ (ap (λ l. list_order (ns ++ (padding ns ++ unpacked s)) l) (unpacked_packed ms t (small ws q))
       ∙ level_less r ok spell 0 IsLive fits vs ws 0 (padding ns ++ unpacked s) (padding ms ++ unpacked t) p q (pad_under ns s u) h))
-

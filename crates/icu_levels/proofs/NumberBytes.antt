@@ -1,12 +1,12 @@
 -- The bytes of numbers are bytes, and end as the pieces of numbers do
-use Rattle.std.proofs.Common.{◌≡◌, ◌≢◌, ℕ, zero, suc, ◌+◌, ◌-◌, ◌*◌, ◌/◌, ◌%◌, ◌^◌, ◌<◌, ◌≤◌, Bool, true, false, if◌then◌else◌, List, [], ◌∷◌, ◌++◌, length, refl, sym, ap, ◌∙◌, subst, inl, inr, ◌⊎◌, arith, lit<, lit≤, ltb, nat_lt}
+use Rattle.std.proofs.Common.{◌≡◌, ℕ, zero, suc, ◌+◌, ◌-◌, ◌*◌, ◌/◌, ◌%◌, ◌^◌, ◌<◌, ◌≤◌, true, false, List, [], ◌∷◌, refl, sym, subst, inl, inr, ◌⊎◌, arith, lit<, lit≤}
 use Rattle.std.proofs.lemmas.Bool.{cases_lt, cases_Bool, cond-true, cond-false, lt-ltb, le-ltb}
 use Rattle.std.proofs.lemmas.Nat.{mod_below, div_below}
 use Rattle.std.proofs.Math.Nat.{one-le-pow, pow-suc, pow-le-pow_right}
 use Rattle.std.specs.List.{AllByRecursion}
 use Rattle.icu_levels.specs.WeightBytes.{digits}
 use Rattle.icu_levels.specs.Cases.{is_only}
-use Rattle.icu_levels.specs.Numbers.{pair_count, pair_bytes, smallest_bytes, small_bytes, middling_bytes, great_bytes, number_bytes}
+use Rattle.icu_levels.specs.Numbers.{pair_count, pair_bytes, great_bytes, number_bytes}
 use Rattle.icu_levels.proofs.NumberOrder.{count_most, count_fits}
 
 -- a byte other than 0
@@ -60,7 +60,7 @@ great_form most v few l g =
     let four = four_pairs most v l g in
     let m = count_most most v in
     great (128 + pair_count most v) (pair_bytes (digits 100 (pair_count most v) v)) refl (omega arith, omega arith)
-      (pairs_of_digits (pair_count most v) v (omega arith) (count_fits most v l))
+    (pairs_of_digits (pair_count most v) v (omega arith) (count_fits most v l))
 
 -- the bytes of a number below 10^254
 pub number_form : (v : ℕ) → v < 100 ^ 127 → Form (number_bytes v)

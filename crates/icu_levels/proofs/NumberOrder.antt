@@ -1,14 +1,12 @@
 -- The bytes of numbers rise with their value
-use Rattle.std.proofs.Common.{◌≡◌, ◌≢◌, ℕ, zero, suc, ◌+◌, ◌-◌, ◌*◌, ◌/◌, ◌%◌, ◌^◌, ◌<◌, ◌≤◌, Bool, true, false, ◌&&◌, if◌then◌else◌, List, [], ◌∷◌, ◌++◌, length, refl, sym, ap, ◌∙◌, subst, inl, inr, ◌⊎◌, arith, lit<, lit≤, Less, eqb, eq-eqb, ne_eqb}
+use Rattle.std.proofs.Common.{◌≡◌, ◌≢◌, ℕ, zero, suc, ◌+◌, ◌-◌, ◌*◌, ◌/◌, ◌%◌, ◌^◌, ◌<◌, ◌≤◌, true, false, List, [], ◌∷◌, length, refl, sym, ◌∙◌, inl, inr, ◌⊎◌, arith, lit<, lit≤, Less, eqb, eq-eqb, ne_eqb}
 use Rattle.std.proofs.lemmas.Bool.{cases_order, cases_eq, cases_Bool, cond-true, cond-false, and_parts, eqb-true}
-use Rattle.std.proofs.lemmas.Nat.{mod_below}
-use Rattle.std.proofs.Math.Nat.{one-le-pow, pow-zero, pow-suc}
+use Rattle.std.proofs.Math.Nat.{one-le-pow, pow-suc}
 use Rattle.icu_levels.specs.ListOrder.{list_order, Precedes}
 use Rattle.icu_levels.specs.WeightBytes.{digits}
 use Rattle.icu_levels.specs.Cases.{is_only}
-use Rattle.icu_levels.specs.Identical.{split_at}
 use Rattle.icu_levels.specs.Numbers.{pair_count, pair_bytes, smallest_bytes, small_bytes, middling_bytes, great_bytes, number_bytes}
-use Rattle.icu_levels.proofs.Order.{less_head, less_cases}
+use Rattle.icu_levels.proofs.Order.{less_cases}
 use Rattle.icu_levels.proofs.WeightOrder.{digits_less}
 use Rattle.icu_levels.proofs.DifferenceOrder.{Rises, glue, precedes_head, precedes_more}
 
@@ -116,7 +114,7 @@ great_rises most bound fits x y a l b = by (cases_order (pair_count most x) (pai
     by : (pair_count most x ≡ pair_count most y) ⊎ ((pair_count most x < pair_count most y) ⊎ (pair_count most y < pair_count most x)) → Precedes (great_bytes (pair_count most x) x) (great_bytes (pair_count most y) y)
     by (inl e) = rw e (precedes_more (128 + pair_count most y) (128 + pair_count most y) (pair_bytes (digits 100 (pair_count most y) x)) (pair_bytes (digits 100 (pair_count most y) y)) (omega arith)
         (λ f. pairs_precede (digits 100 (pair_count most y) x) (digits 100 (pair_count most y) y) (length_digits 100 (pair_count most y) x ∙ sym (length_digits 100 (pair_count most y) y))
-          (digits_less 100 (pair_count most y) x y (lit< tt) (count_fits most y (omega arith)) l)))
+        (digits_less 100 (pair_count most y) x y (lit< tt) (count_fits most y (omega arith)) l)))
     by (inr (inl m)) = precedes_head (128 + pair_count most x) (128 + pair_count most y) (pair_bytes (digits 100 (pair_count most x) x)) (pair_bytes (digits 100 (pair_count most y) y)) (omega arith)
     by (inr (inr m)) = absurd (omega (arith, count_grows most x y (omega arith)))
 

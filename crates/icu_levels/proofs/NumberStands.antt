@@ -1,12 +1,12 @@
 -- The weights of whole numbers may stand among primaries
-use Rattle.std.proofs.Common.{◌≡◌, ◌≢◌, ℕ, zero, suc, ◌+◌, ◌*◌, ◌/◌, ◌%◌, ◌^◌, ◌<◌, ◌≤◌, Bool, true, false, ◌&&◌, ◌||◌, nat_le, ◌==◌, List, [], ◌∷◌, ◌++◌, refl, sym, ap, ◌∙◌, subst, inl, inr, ◌⊎◌, arith, lit<, lit≤, eq-eqb, ne_eqb, leb, eqb}
+use Rattle.std.proofs.Common.{◌≡◌, ℕ, ◌/◌, ◌%◌, ◌^◌, ◌<◌, ◌≤◌, Bool, true, false, ◌&&◌, ◌||◌, nat_le, ◌==◌, List, [], ◌∷◌, ◌++◌, refl, sym, ap, ◌∙◌, subst, inl, inr, arith, lit<, eq-eqb, ne_eqb}
 use Rattle.std.proofs.lemmas.Bool.Decides.{nat_tests}
-use Rattle.icu_levels.specs.WeightBytes.{weight_bytes, digits, without_last_zeros, before_nonzero}
+use Rattle.icu_levels.specs.WeightBytes.{digits, without_last_zeros, before_nonzero}
 use Rattle.icu_levels.specs.Primaries.{lead, below_lead, second_byte}
 use Rattle.icu_levels.specs.Premises.{IsFirstPiece, IsFurtherPiece, IsNumberWeight, goes_on, IsPrimaryList}
 use Rattle.icu_levels.specs.Numbers.{number_weight, in_threes, number_bytes, number_weights}
 use Rattle.icu_levels.proofs.PrecedesLemmas.{nonzero_first}
-use Rattle.icu_levels.proofs.NumberBytes.{IsByte, OddThenEven, Form, smallest, small, middling, great, number_form}
+use Rattle.icu_levels.proofs.NumberBytes.{OddThenEven, Form, smallest, small, middling, great, number_form}
 
 -- ---- one weight
 module _ (numeric a b c : ℕ) (n : numeric < 256) (fa : a < 256) (fb : b < 256) (fc : c < 256) where
@@ -77,41 +77,51 @@ module _ (numeric : ℕ) (n : numeric < 256) (IsLive : ℕ → Type 0) (rest : L
 
   inner_stands : (bs : List ℕ) → OddThenEven bs → IsPrimaryList numeric IsLive true (in_threes numeric bs ++ rest)
   inner_stands [] o = absurd o
-  inner_stands (a ∷ []) o =
-      (weight_piece numeric a 0 0 n o.0.1 (lit< tt) (lit< tt) (a ∷ []) IsFurtherPiece (one_byte a o.0.0) o.1,
-      ended true (number_weight numeric a 0 0) (ends numeric a 0 0 n o.0.1 (lit< tt) (lit< tt) true refl))
-  inner_stands (a ∷ (b ∷ [])) o =
-      (weight_piece numeric a b 0 n o.0.1 o.2.0.1 (lit< tt) (a ∷ b ∷ []) IsFurtherPiece (two_bytes a b o.2.0.0) (o.1, o.2.1),
-      ended true (number_weight numeric a b 0) (ends numeric a b 0 n o.0.1 o.2.0.1 (lit< tt) true refl))
-  inner_stands (a ∷ (b ∷ (c ∷ []))) o =
-      (weight_piece numeric a b c n o.0.1 o.2.0.1 o.2.2.0.1 (a ∷ b ∷ c ∷ []) IsFurtherPiece (three_bytes a b c o.2.2.0.0) (o.1, o.2.1),
-      ended true (number_weight numeric a b c) (ends numeric a b c n o.0.1 o.2.0.1 o.2.2.0.1 true o.2.2.1))
-  inner_stands (a ∷ (b ∷ (c ∷ (d ∷ bs)))) o =
-      (weight_piece numeric a b c n o.0.1 o.2.0.1 o.2.2.0.1 (a ∷ b ∷ c ∷ []) IsFurtherPiece (three_bytes a b c o.2.2.0.0) (o.1, o.2.1),
-      going true (number_weight numeric a b c) (in_threes numeric (d ∷ bs) ++ rest) (continues numeric a b c n o.0.1 o.2.0.1 o.2.2.0.1 o.2.2.1) (inner_stands (d ∷ bs) o.2.2.2))
+  inner_stands (a ∷ []) o = (
+    weight_piece numeric a 0 0 n o.0.1 (lit< tt) (lit< tt) (a ∷ []) IsFurtherPiece (one_byte a o.0.0) o.1,
+    ended true (number_weight numeric a 0 0) (ends numeric a 0 0 n o.0.1 (lit< tt) (lit< tt) true refl),
+  )
+  inner_stands (a ∷ (b ∷ [])) o = (
+    weight_piece numeric a b 0 n o.0.1 o.2.0.1 (lit< tt) (a ∷ b ∷ []) IsFurtherPiece (two_bytes a b o.2.0.0) (o.1, o.2.1),
+    ended true (number_weight numeric a b 0) (ends numeric a b 0 n o.0.1 o.2.0.1 (lit< tt) true refl),
+  )
+  inner_stands (a ∷ (b ∷ (c ∷ []))) o = (
+    weight_piece numeric a b c n o.0.1 o.2.0.1 o.2.2.0.1 (a ∷ b ∷ c ∷ []) IsFurtherPiece (three_bytes a b c o.2.2.0.0) (o.1, o.2.1),
+    ended true (number_weight numeric a b c) (ends numeric a b c n o.0.1 o.2.0.1 o.2.2.0.1 true o.2.2.1),
+  )
+  inner_stands (a ∷ (b ∷ (c ∷ (d ∷ bs)))) o = (
+    weight_piece numeric a b c n o.0.1 o.2.0.1 o.2.2.0.1 (a ∷ b ∷ c ∷ []) IsFurtherPiece (three_bytes a b c o.2.2.0.0) (o.1, o.2.1),
+    going true (number_weight numeric a b c) (in_threes numeric (d ∷ bs) ++ rest) (continues numeric a b c n o.0.1 o.2.0.1 o.2.2.0.1 o.2.2.1) (inner_stands (d ∷ bs) o.2.2.2),
+  )
 
   great_stands : (a : ℕ) (bs : List ℕ) → 132 ≤ a → a < 256 → OddThenEven bs → IsPrimaryList numeric IsLive false (in_threes numeric (a ∷ bs) ++ rest)
   great_stands a [] l f o = absurd o
-  great_stands a (b ∷ []) l f o =
-      (inr (weight_piece numeric a b 0 n f o.0.1 (lit< tt) (a ∷ b ∷ []) IsFirstPiece (two_bytes a b o.0.0) (inr (l, o.1))),
-      ended false (number_weight numeric a b 0) (ends numeric a b 0 n f o.0.1 (lit< tt) false refl))
-  great_stands a (b ∷ (c ∷ [])) l f o =
-      (inr (weight_piece numeric a b c n f o.0.1 o.2.0.1 (a ∷ b ∷ c ∷ []) IsFirstPiece (three_bytes a b c o.2.0.0) (inr (l, o.1))),
-      ended false (number_weight numeric a b c) (ends numeric a b c n f o.0.1 o.2.0.1 false o.2.1))
-  great_stands a (b ∷ (c ∷ (d ∷ bs))) l f o =
-      (inr (weight_piece numeric a b c n f o.0.1 o.2.0.1 (a ∷ b ∷ c ∷ []) IsFirstPiece (three_bytes a b c o.2.0.0) (inr (l, o.1))),
-      going false (number_weight numeric a b c) (in_threes numeric (d ∷ bs) ++ rest) (begins numeric a b c n f o.0.1 o.2.0.1 o.2.1 l) (inner_stands (d ∷ bs) o.2.2))
+  great_stands a (b ∷ []) l f o = (
+    inr (weight_piece numeric a b 0 n f o.0.1 (lit< tt) (a ∷ b ∷ []) IsFirstPiece (two_bytes a b o.0.0) (inr (l, o.1))),
+    ended false (number_weight numeric a b 0) (ends numeric a b 0 n f o.0.1 (lit< tt) false refl),
+  )
+  great_stands a (b ∷ (c ∷ [])) l f o = (
+    inr (weight_piece numeric a b c n f o.0.1 o.2.0.1 (a ∷ b ∷ c ∷ []) IsFirstPiece (three_bytes a b c o.2.0.0) (inr (l, o.1))),
+    ended false (number_weight numeric a b c) (ends numeric a b c n f o.0.1 o.2.0.1 false o.2.1),
+  )
+  great_stands a (b ∷ (c ∷ (d ∷ bs))) l f o = (
+    inr (weight_piece numeric a b c n f o.0.1 o.2.0.1 (a ∷ b ∷ c ∷ []) IsFirstPiece (three_bytes a b c o.2.0.0) (inr (l, o.1))),
+    going false (number_weight numeric a b c) (in_threes numeric (d ∷ bs) ++ rest) (begins numeric a b c n f o.0.1 o.2.0.1 o.2.1 l) (inner_stands (d ∷ bs) o.2.2),
+  )
 
   form_stands : (bs : List ℕ) → Form bs → IsPrimaryList numeric IsLive false (in_threes numeric bs ++ rest)
-  form_stands bs (smallest a e l) = subst (λ z. IsPrimaryList numeric IsLive false (in_threes numeric z ++ rest)) (sym e)
-      (inr (weight_piece numeric a 0 0 n (omega (arith, l.1)) (lit< tt) (lit< tt) (a ∷ []) IsFirstPiece (one_byte a (omega (arith, l.0))) l.1),
-      ended false (number_weight numeric a 0 0) (ends numeric a 0 0 n (omega (arith, l.1)) (lit< tt) (lit< tt) false refl))
-  form_stands bs (small a b e l m) = subst (λ z. IsPrimaryList numeric IsLive false (in_threes numeric z ++ rest)) (sym e)
-      (inr (weight_piece numeric a b 0 n (omega (arith, l.1)) (omega (arith, m.1)) (lit< tt) (a ∷ b ∷ []) IsFirstPiece (two_bytes a b (omega (arith, m.0))) (inl l)),
-      ended false (number_weight numeric a b 0) (ends numeric a b 0 n (omega (arith, l.1)) (omega (arith, m.1)) (lit< tt) false refl))
-  form_stands bs (middling a b c e l m k) = subst (λ z. IsPrimaryList numeric IsLive false (in_threes numeric z ++ rest)) (sym e)
-      (inr (weight_piece numeric a b c n (omega (arith, l.1)) (omega (arith, m.1)) (omega (arith, k.1)) (a ∷ b ∷ c ∷ []) IsFirstPiece (three_bytes a b c (omega (arith, k.0))) (inl l)),
-      ended false (number_weight numeric a b c) (ends_small numeric a b c n (omega (arith, l.1)) (omega (arith, m.1)) (omega (arith, k.1)) (omega (arith, l.1))))
+  form_stands bs (smallest a e l) = subst (λ z. IsPrimaryList numeric IsLive false (in_threes numeric z ++ rest)) (sym e) (
+    inr (weight_piece numeric a 0 0 n (omega (arith, l.1)) (lit< tt) (lit< tt) (a ∷ []) IsFirstPiece (one_byte a (omega (arith, l.0))) l.1),
+    ended false (number_weight numeric a 0 0) (ends numeric a 0 0 n (omega (arith, l.1)) (lit< tt) (lit< tt) false refl),
+  )
+  form_stands bs (small a b e l m) = subst (λ z. IsPrimaryList numeric IsLive false (in_threes numeric z ++ rest)) (sym e) (
+    inr (weight_piece numeric a b 0 n (omega (arith, l.1)) (omega (arith, m.1)) (lit< tt) (a ∷ b ∷ []) IsFirstPiece (two_bytes a b (omega (arith, m.0))) (inl l)),
+    ended false (number_weight numeric a b 0) (ends numeric a b 0 n (omega (arith, l.1)) (omega (arith, m.1)) (lit< tt) false refl),
+  )
+  form_stands bs (middling a b c e l m k) = subst (λ z. IsPrimaryList numeric IsLive false (in_threes numeric z ++ rest)) (sym e) (
+    inr (weight_piece numeric a b c n (omega (arith, l.1)) (omega (arith, m.1)) (omega (arith, k.1)) (a ∷ b ∷ c ∷ []) IsFirstPiece (three_bytes a b c (omega (arith, k.0))) (inl l)),
+    ended false (number_weight numeric a b c) (ends_small numeric a b c n (omega (arith, l.1)) (omega (arith, m.1)) (omega (arith, k.1)) (omega (arith, l.1))),
+  )
   form_stands bs (great a cs e l o) = subst (λ z. IsPrimaryList numeric IsLive false (in_threes numeric z ++ rest)) (sym e)
       (great_stands a cs l.0 (omega (arith, l.1)) o)
 

@@ -1,5 +1,5 @@
 -- Numbers order by value through their weights
-use Rattle.std.proofs.Common.{◌≡◌, ℕ, zero, suc, ◌+◌, ◌*◌, ◌/◌, ◌%◌, ◌^◌, ◌<◌, ◌≤◌, List, [], ◌∷◌, ◌++◌, refl, sym, ap, ap₂, ◌∙◌, subst, inl, inr, ◌⊎◌, arith, lit≤, Less, Equal, append-nil, length}
+use Rattle.std.proofs.Common.{◌≡◌, ℕ, zero, suc, ◌^◌, ◌<◌, ◌≤◌, List, [], ◌∷◌, ◌++◌, refl, sym, ap, ◌∙◌, subst, inl, inr, ◌⊎◌, arith, Less, append-nil, length}
 use Rattle.std.specs.Ordering.{nat_cmp}
 use Rattle.std.proofs.lemmas.Bool.{cases_order}
 use Rattle.std.specs.List.{AllByRecursion}
@@ -90,7 +90,7 @@ threes_less (suc most) numeric (b ∷ bs) (c ∷ cs) l a d h =
     subst (λ l. list_order l (in_threes numeric (c ∷ cs)) ≡ Less) (sym (one_weight numeric b bs))
     (subst (λ l. list_order (first_weight numeric (b ∷ bs) ∷ in_threes numeric (rest (rest bs))) l ≡ Less) (sym (one_weight numeric c cs))
     (threes_step numeric b c bs cs a.1 d.1 h
-      (λ k. threes_less most numeric (rest (rest bs)) (rest (rest cs)) (omega (arith, rest_length bs, rest_length (rest bs))) (rest_bytes (rest bs) (rest_bytes bs a.1)) (rest_bytes (rest cs) (rest_bytes cs d.1)) k)))
+    (λ k. threes_less most numeric (rest (rest bs)) (rest (rest cs)) (omega (arith, rest_length bs, rest_length (rest bs))) (rest_bytes (rest bs) (rest_bytes bs a.1)) (rest_bytes (rest cs) (rest_bytes cs d.1)) k)))
 
 numbers_less : (numeric v w : ℕ) → w < 100 ^ 127 → v < w → list_order (number_weights numeric v) (number_weights numeric w) ≡ Less
 numbers_less numeric v w f l =

@@ -1,5 +1,5 @@
 -- Pieces of numbers: outside a number and inside one, none begins another
-use Rattle.std.proofs.Common.{◌≡◌, ℕ, ◌≤◌, ◌%◌, List, [], ◌∷◌, ap, ap₂, ◌⊎◌, inl, inr, arith}
+use Rattle.std.proofs.Common.{◌≡◌, ℕ, ◌%◌, List, [], ◌∷◌, ap, ap₂, inl, inr, arith}
 use Rattle.icu_levels.specs.ListOrder.{IsBeginning}
 use Rattle.icu_levels.specs.Premises.{IsFirstPiece, IsFurtherPiece}
 
@@ -48,4 +48,3 @@ further_pieces_apart (v ∷ c ∷ d ∷ []) (w ∷ x ∷ []) f g b = absurd b.1.
 further_pieces_apart (v ∷ c ∷ d ∷ []) (w ∷ x ∷ y ∷ []) f g b = ap₂ (λ (s : ℕ) (t : List ℕ). s ∷ t) b.0 (ap₂ (λ (s t : ℕ). s ∷ t ∷ []) b.1.0 b.1.1.0)
 further_pieces_apart (v ∷ c ∷ d ∷ []) (w ∷ x ∷ y ∷ z ∷ q) f g b = absurd g
 further_pieces_apart (v ∷ c ∷ d ∷ e ∷ p) q f g b = absurd f
-

@@ -1,11 +1,11 @@
 -- The primary level's bytes order as its reordered lists, numbers among them
-use Rattle.std.proofs.Common.{◌≡◌, ◌≢◌, ℕ, zero, suc, ◌*◌, ◌/◌, ◌%◌, ◌^◌, ◌<◌, ◌≤◌, Bool, true, false, ◌&&◌, ◌||◌, if◌then◌else◌, nat_le, ◌==◌, List, [], ◌∷◌, ◌++◌, map, refl, sym, ap, ap₂, ◌∙◌, subst, inl, inr, ◌⊎◌, arith, lit<, lit≤, eqb, Less, ne_eqb}
+use Rattle.std.proofs.Common.{◌≡◌, ◌≢◌, ℕ, ◌^◌, ◌<◌, ◌≤◌, Bool, true, false, if◌then◌else◌, List, [], ◌∷◌, ◌++◌, map, refl, sym, ap, ap₂, ◌∙◌, subst, inl, inr, ◌⊎◌, arith, lit<, Less, ne_eqb}
 use Rattle.std.proofs.lemmas.Bool.{cases_order, cases_eq, cases_Bool, cond-true, cond-false}
 use Rattle.std.specs.Ordering.{ordering_then}
-use Rattle.icu_levels.specs.ListOrder.{list_order, IsUnder, IsOver, IsBeginning, Precedes}
+use Rattle.icu_levels.specs.ListOrder.{list_order, IsUnder, IsBeginning}
 use Rattle.icu_levels.specs.WeightBytes.{weight_bytes}
 use Rattle.icu_levels.specs.Primaries.{Compression, lead, below_lead, second_byte, primary_bytes, dropped_after, primary_level}
-use Rattle.icu_levels.specs.Premises.{IsFirstPiece, IsFurtherPiece, IsNumberWeight, MayStand, goes_on, IsPrimaryList, number_lead, ArePrimaries}
+use Rattle.icu_levels.specs.Premises.{MayStand, goes_on, IsPrimaryList, ArePrimaries}
 use Rattle.icu_levels.proofs.Order.{same_lists_order}
 use Rattle.icu_levels.proofs.WeightOrder.{digits_less, trimmed_less}
 use Rattle.icu_levels.proofs.PrecedesLemmas.{nonzero_first}

@@ -1,9 +1,8 @@
 -- The quaternary level's bytes order as its lists
-use Rattle.std.proofs.Common.{◌≡◌, ◌≢◌, ℕ, ◌+◌, ◌-◌, ◌/◌, ◌%◌, ◌^◌, ◌<◌, ◌≤◌, List, [], ◌∷◌, ◌++◌, length, refl, sym, ap, ◌∙◌, subst, arith, lit<, lit≤, inl, inr, ◌⊎◌, ltb, Less}
+use Rattle.std.proofs.Common.{◌≡◌, ◌≢◌, ℕ, ◌+◌, ◌-◌, ◌%◌, ◌^◌, ◌<◌, ◌≤◌, List, [], ◌∷◌, ◌++◌, length, refl, arith, lit<, inl, inr, ◌⊎◌, ltb, Less}
 use Rattle.std.proofs.lemmas.Bool.{cases_lt, lt-ltb, le-ltb, cond-true, cond-false}
 use Rattle.std.specs.List.{AllByRecursion}
 use Rattle.std.specs.Ordering.{ordering_then}
-use Rattle.icu_levels.specs.declared.rows.Row.{Row}
 use Rattle.icu_levels.specs.ListOrder.{list_order, IsUnder, IsOver, Precedes}
 use Rattle.icu_levels.specs.WeightBytes.{weight_bytes}
 use Rattle.icu_levels.specs.Runs.{IsRow, IsSpelling}

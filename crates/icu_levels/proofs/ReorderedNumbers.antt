@@ -1,6 +1,5 @@
 -- Reordering gives the weights of a number one other lead
-use Rattle.std.proofs.Common.{◌≡◌, ◌≢◌, false, ℕ, ◌*◌, ◌+◌, ◌/◌, ◌%◌, ◌^◌, ◌<◌, ◌≤◌, List, [], ◌∷◌, ◌++◌, map, length, take, drop, refl, sym, subst, ap, ap₂, ◌∙◌, arith, lit<, inl, inr, ◌⊎◌, ne_eqb, append_assoc}
-use Rattle.std.proofs.lemmas.List.{map-append}
+use Rattle.std.proofs.Common.{◌≡◌, false, ℕ, ◌^◌, ◌<◌, List, [], ◌∷◌, map, refl, sym, subst, ap, ap₂, arith, lit<, inl, ne_eqb}
 use Rattle.std.specs.List.{AllByRecursion}
 use Rattle.std.specs.Ordering.{nat_cmp}
 use Rattle.icu_levels.specs.ListOrder.{list_order}

@@ -1,11 +1,9 @@
 -- Two texts have one key exactly if they have the same lists
-use Rattle.std.proofs.Common.{◌≡◌, ℕ, Bool, true, false, List, [], ◌∷◌, map, refl, sym, ap, ◌∙◌, Ordering, Equal, Option, Some, None}
-use Rattle.std.specs.Ordering.{ordering_then}
-use Rattle.icu_levels.specs.ListOrder.{list_order}
+use Rattle.std.proofs.Common.{◌≡◌, Bool, true, false, [], ◌∷◌, map, refl, sym, ap, ◌∙◌, Ordering, Equal, Option, Some, None}
 use Rattle.icu_levels.specs.Identical.{identical_rank}
 use Rattle.icu_levels.specs.Primaries.{Compression}
 use Rattle.icu_levels.specs.Tertiaries.{TertiaryForm}
-use Rattle.icu_levels.specs.Keys.{in_turn, SecondaryForm, no_secondary, forward, backward, CaseForm, no_case, lower_case_first, upper_case_first, QuaternaryForm, no_quaternary, shifted, unshifted, KeyForm, LevelLists, key_bytes, primaries_order, secondaries_order, cases_order, tertiaries_order, quaternaries_order, characters_order, levels_order}
+use Rattle.icu_levels.specs.Keys.{in_turn, SecondaryForm, no_secondary, forward, backward, CaseForm, no_case, lower_case_first, upper_case_first, QuaternaryForm, no_quaternary, shifted, unshifted, KeyForm, LevelLists, key_bytes, primaries_order, secondaries_order, cases_order, tertiaries_order, quaternaries_order, characters_order}
 use Rattle.icu_levels.specs.KeyPremises.{LiveWeights, AreWeights, AreLists, AreParallel}
 use Rattle.icu_levels.specs.KeyLaws.{SameSecondaries, SameCases, SameTertiaries, SameQuaternaries, SameCharacters, HaveSameLists}
 use Rattle.icu_levels.proofs.Order.{same_lists_order, tied_lists}

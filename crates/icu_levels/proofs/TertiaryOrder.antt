@@ -1,12 +1,12 @@
 -- The tertiary level's bytes order as its lists, in each form
-use Rattle.std.proofs.Common.{◌≡◌, ◌≢◌, ℕ, ◌+◌, ◌-◌, ◌/◌, ◌%◌, ◌^◌, ◌<◌, ◌≤◌, List, [], ◌∷◌, ◌++◌, refl, sym, ap, ◌∙◌, arith, lit<, lit≤, inl, inr, ◌⊎◌, ltb}
+use Rattle.std.proofs.Common.{◌≡◌, ℕ, ◌+◌, ◌-◌, ◌/◌, ◌<◌, List, ◌++◌, refl, ◌∙◌, arith, lit<, inl, inr, ◌⊎◌, ltb}
 use Rattle.std.proofs.lemmas.Bool.{cases_order, lt-ltb, le-ltb, cond-true, cond-false}
 use Rattle.std.specs.List.{AllByRecursion}
 use Rattle.std.specs.Ordering.{ordering_then}
 use Rattle.icu_levels.specs.ListOrder.{list_order, IsUnder}
 use Rattle.icu_levels.specs.Runs.{IsRow, IsSpelling}
 use Rattle.icu_levels.specs.Tertiaries.{TertiaryForm, plain, lower_first, upper_first, tertiary_row, raised_above, lowered_below, moved_tertiary, tertiary_bytes, tertiary_level}
-use Rattle.icu_levels.specs.Premises.{AreTertiaries, least_tertiary_lead, greatest_tertiary_lead}
+use Rattle.icu_levels.specs.Premises.{AreTertiaries}
 use Rattle.icu_levels.proofs.LevelOrder.{level_order}
 use Rattle.icu_levels.proofs.MovedWeights.{IsMove, moved_spelling}
 

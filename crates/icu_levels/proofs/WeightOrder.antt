@@ -61,4 +61,3 @@ pub under_first : (n x : ℕ) (xs : List ℕ) → x < n → IsUnder n (before_no
 under_first n zero [] l = tt
 under_first n (suc x) [] l = l
 under_first n x (y ∷ ys) l = l
-

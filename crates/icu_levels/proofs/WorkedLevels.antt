@@ -1,7 +1,7 @@
 -- Worked bytes of single levels: secondaries, tertiaries, cases, quaternaries, primaries, characters
-use Rattle.std.proofs.Common.{◌≡◌, ℕ, Bool, true, ◌+◌, ◌^◌, List, [], ◌∷◌, ◌++◌, refl, replicate, cond, eqb, ◌||◌, nat_le}
+use Rattle.std.proofs.Common.{◌≡◌, ◌+◌, ◌^◌, [], ◌∷◌, ◌++◌, refl, replicate}
 use Rattle.icu_levels.specs.Secondaries.{secondary_level, backward_level}
-use Rattle.icu_levels.specs.Tertiaries.{tertiary_level, plain, lower_first, upper_first}
+use Rattle.icu_levels.specs.Tertiaries.{tertiary_level, plain, upper_first}
 use Rattle.icu_levels.specs.Cases.{lower_first_case_level, upper_first_case_level}
 use Rattle.icu_levels.specs.Quaternaries.{quaternary_level, unshifted_quaternary_level}
 use Rattle.icu_levels.specs.Identical.{identical_level}

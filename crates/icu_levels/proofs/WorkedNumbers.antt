@@ -1,5 +1,5 @@
 -- Worked primaries of numbers, with 0F as numeric lead
-use Rattle.std.proofs.Common.{◌≡◌, ℕ, List, [], ◌∷◌, ◌++◌, refl, replicate}
+use Rattle.std.proofs.Common.{◌≡◌, [], ◌∷◌, refl, replicate}
 use Rattle.icu_levels.specs.Numbers.{number_weights, run_weights, pair_count}
 
 zeros : run_weights 0x0F (0 ∷ 0 ∷ 0 ∷ []) ≡ 0x0F020000 ∷ []

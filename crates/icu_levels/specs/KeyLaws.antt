@@ -1,5 +1,5 @@
 -- The theorems on whole keys, as contracts name them
-use Rattle.std.specs.Prelude.{Bool, true, false, ◌≡◌, ◌↔◌, ℕ, List, [], ◌∷◌, ◌++◌, map, Option, Some, None}
+use Rattle.std.specs.Prelude.{Bool, true, false, ◌≡◌, ◌↔◌, ℕ, List, ◌∷◌, ◌++◌, map, Option, Some, None}
 use Rattle.std.specs.declared.cmp.Ordering.{Ordering}
 use Rattle.std.specs.declared.cmp.Ordering.TheVariants.{Equal}
 use Rattle.icu_levels.specs.ListOrder.{list_order}

@@ -1,11 +1,11 @@
 -- What the order of whole keys asks of two texts
-use Rattle.std.specs.Prelude.{Bool, true, false, ◌≡◌, ℕ, ◌<◌, List, [], ◌∷◌, map, length, Option, Some, None}
+use Rattle.std.specs.Prelude.{Bool, true, false, ◌≡◌, ℕ, ◌<◌, length, Option, Some, None}
 use Rattle.std.specs.List.{AllByRecursion}
 use Rattle.std.specs.declared.cmp.Ordering.TheVariants.{Equal}
 use Rattle.icu_levels.specs.Primaries.{Compression}
 use Rattle.icu_levels.specs.Tertiaries.{TertiaryForm}
 use Rattle.icu_levels.specs.Premises.{AreSecondaries, forward_least, backward_least, AreTertiaries, AreShifted, IsUnshifted, IsQuaternary, IsRank, IsPrimaryList, ArePrimaries}
-use Rattle.icu_levels.specs.Keys.{SecondaryForm, no_secondary, forward, backward, CaseForm, lower_case_first, QuaternaryForm, no_quaternary, shifted, unshifted, KeyForm, LevelLists, primaries_order, secondaries_order, cases_order, tertiaries_order}
+use Rattle.icu_levels.specs.Keys.{SecondaryForm, no_secondary, forward, backward, lower_case_first, QuaternaryForm, no_quaternary, shifted, unshifted, KeyForm, LevelLists, primaries_order, secondaries_order, cases_order, tertiaries_order}
 
 -- Which weights may occur, as tests, and the lead of the weights of numbers. Primaries are as they are before
 -- reordering, shifted ones as they are after it, tertiaries as the form of the key has them

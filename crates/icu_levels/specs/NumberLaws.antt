@@ -1,5 +1,5 @@
 -- The theorems on numbers, as contracts name them
-use Rattle.std.specs.Prelude.{Bool, true, false, ◌≡◌, ℕ, ◌^◌, ◌<◌, ◌≤◌, List, [], ◌∷◌, ◌++◌, map, length}
+use Rattle.std.specs.Prelude.{Bool, true, false, ◌≡◌, ℕ, ◌^◌, ◌<◌, ◌≤◌, List, ◌∷◌, ◌++◌, map, length}
 use Rattle.std.specs.List.{AllByRecursion}
 use Rattle.std.specs.Ordering.{nat_cmp}
 use Rattle.icu_levels.specs.ListOrder.{list_order}

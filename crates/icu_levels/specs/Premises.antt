@@ -2,7 +2,6 @@
 use Rattle.std.specs.Prelude.{Bool, true, false, ◌&&◌, ◌||◌, ◌≡◌, ◌≢◌, ◌⊎◌, ℕ, ◌+◌, ◌*◌, ◌/◌, ◌%◌, ◌^◌, ◌<◌, ◌≤◌, ◌==◌, nat_le, nat_lt, List, [], ◌∷◌}
 use Rattle.icu_levels.specs.ListOrder.{IsBeginning}
 use Rattle.icu_levels.specs.WeightBytes.{weight_bytes}
-use Rattle.icu_levels.specs.Rows.{secondary_row}
 use Rattle.icu_levels.specs.Primaries.{Compression, lead, below_lead, second_byte}
 use Rattle.icu_levels.specs.Tertiaries.{TertiaryForm, plain, lower_first, upper_first, tertiary_row}
 

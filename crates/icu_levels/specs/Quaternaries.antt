@@ -1,5 +1,5 @@
 -- The bytes of the quaternary level (UTS #10, section 4 on variable weighting; UTS #35 part 5 on quaternaries)
-use Rattle.std.specs.Prelude.{ℕ, ◌+◌, ◌-◌, ◌^◌, nat_lt, if◌then◌else◌, List, [], ◌∷◌, ◌++◌}
+use Rattle.std.specs.Prelude.{ℕ, ◌+◌, ◌-◌, ◌^◌, nat_lt, if◌then◌else◌, List, [], ◌∷◌}
 use Rattle.icu_levels.specs.Runs.{level_bytes}
 use Rattle.icu_levels.specs.Rows.{quaternary_row}
 use Rattle.icu_levels.specs.WeightBytes.{weight_bytes}

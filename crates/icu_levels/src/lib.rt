@@ -8,7 +8,7 @@
 //! Each theorem is the contract of a function with an empty body, which a caller cites by calling it.
 #![tactic(auto)]
 
-pub mod rows;
-pub mod levels;
 pub mod keys;
+pub mod levels;
 pub mod numbers;
+pub mod rows;

@@ -26,14 +26,26 @@ impl Row {
     pub fn secondary() -> Row
         ensures { result ≡ secondary_row }
     {
-        Row { common: 0x0500, low: 0x05, middle: 0x25, high: 0x45, count: 33 }
+        Row {
+            common: 0x0500,
+            low: 0x05,
+            middle: 0x25,
+            high: 0x45,
+            count: 33,
+        }
     }
 
     /// The row of tertiaries without case bits.
     pub fn plain_tertiary() -> Row
         ensures { result ≡ plain_tertiary_row }
     {
-        Row { common: 0x0500, low: 0x05, middle: 0x65, high: 0xC5, count: 97 }
+        Row {
+            common: 0x0500,
+            low: 0x05,
+            middle: 0x65,
+            high: 0xC5,
+            count: 97,
+        }
     }
 
     /// The row of tertiaries with case bits, lower case first: that of secondaries.
@@ -47,28 +59,52 @@ impl Row {
     pub fn upper_first_tertiary() -> Row
         ensures { result ≡ upper_first_tertiary_row }
     {
-        Row { common: 0xC500, low: 0x85, middle: 0xA5, high: 0xC5, count: 33 }
+        Row {
+            common: 0xC500,
+            low: 0x85,
+            middle: 0xA5,
+            high: 0xC5,
+            count: 33,
+        }
     }
 
     /// The row of quaternaries, whose common weight is above each primary.
     pub fn quaternary() -> Row
         ensures { result ≡ quaternary_row }
     {
-        Row { common: 1 << 32, low: 0x1C, middle: 0x8C, high: 0xFC, count: 113 }
+        Row {
+            common: 1 << 32,
+            low: 0x1C,
+            middle: 0x8C,
+            high: 0xFC,
+            count: 113,
+        }
     }
 
     /// The row of case nibbles, lower case first.
     pub fn lower_first_case() -> Row
         ensures { result ≡ lower_first_case_row }
     {
-        Row { common: 0, low: 1, middle: 7, high: 13, count: 7 }
+        Row {
+            common: 0,
+            low: 1,
+            middle: 7,
+            high: 13,
+            count: 7,
+        }
     }
 
     /// The row of case nibbles, upper case first. Its high nibble is never written.
     pub fn upper_first_case() -> Row
         ensures { result ≡ upper_first_case_row }
     {
-        Row { common: 2, low: 3, middle: 15, high: 27, count: 13 }
+        Row {
+            common: 2,
+            low: 3,
+            middle: 15,
+            high: 27,
+            count: 13,
+        }
     }
 }
 
@@ -79,16 +115,48 @@ mod tests {
     #[test]
     fn rows_are_those_of_the_key_format(rt: HostRuntime) {
         let rows = [
-            ("secondary", Row::secondary(), (0x0500, 0x05, 0x25, 0x45, 33)),
-            ("tertiary without case bits", Row::plain_tertiary(), (0x0500, 0x05, 0x65, 0xC5, 97)),
-            ("tertiary, lower first", Row::lower_first_tertiary(), (0x0500, 0x05, 0x25, 0x45, 33)),
-            ("tertiary, upper first", Row::upper_first_tertiary(), (0xC500, 0x85, 0xA5, 0xC5, 33)),
-            ("quaternary", Row::quaternary(), (0x1_0000_0000, 0x1C, 0x8C, 0xFC, 113)),
-            ("case, lower first", Row::lower_first_case(), (0, 1, 7, 13, 7)),
-            ("case, upper first", Row::upper_first_case(), (2, 3, 15, 27, 13)),
+            (
+                "secondary",
+                Row::secondary(),
+                (0x0500, 0x05, 0x25, 0x45, 33),
+            ),
+            (
+                "tertiary without case bits",
+                Row::plain_tertiary(),
+                (0x0500, 0x05, 0x65, 0xC5, 97),
+            ),
+            (
+                "tertiary, lower first",
+                Row::lower_first_tertiary(),
+                (0x0500, 0x05, 0x25, 0x45, 33),
+            ),
+            (
+                "tertiary, upper first",
+                Row::upper_first_tertiary(),
+                (0xC500, 0x85, 0xA5, 0xC5, 33),
+            ),
+            (
+                "quaternary",
+                Row::quaternary(),
+                (0x1_0000_0000, 0x1C, 0x8C, 0xFC, 113),
+            ),
+            (
+                "case, lower first",
+                Row::lower_first_case(),
+                (0, 1, 7, 13, 7),
+            ),
+            (
+                "case, upper first",
+                Row::upper_first_case(),
+                (2, 3, 15, 27, 13),
+            ),
         ];
         for (name, row, want) in rows {
-            assert_eq!(rt; (row.common, row.low, row.middle, row.high, row.count), want, "{name}");
+            assert_eq!(rt;
+                (row.common, row.low, row.middle, row.high, row.count),
+                want,
+                "{name}"
+            );
         }
     }
 }
