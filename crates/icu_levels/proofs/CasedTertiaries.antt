@@ -4,10 +4,10 @@ use Rattle.std.proofs.lemmas.Bool.{cases_eq, and_parts, ltb-true}
 use Rattle.icu_levels.specs.ListOrder.{IsBeginning}
 use Rattle.icu_levels.specs.WeightBytes.{weight_bytes}
 use Rattle.icu_levels.specs.Tertiaries.{TertiaryForm, plain, lower_first, upper_first}
-use Rattle.icu_levels.specs.Premises.{AreTertiaries, cased_tertiary}
+use Rattle.icu_levels.specs.Premises.{Passes, AreTertiaries, cased_tertiary}
 use Rattle.icu_levels.proofs.MovedWeights.{moved_begins, begins_lead}
 
-module _ (live : ℕ → Bool) (good : AreTertiaries plain (λ w. live w ≡ true)) where
+module _ (live : ℕ → Bool) (good : AreTertiaries plain (Passes live)) where
   -- of two weights with case bits none begins the other
   apart : (v w : ℕ) → live (v % 0x4000) ≡ true → live (w % 0x4000) ≡ true → v ≢ w → IsBeginning (weight_bytes 2 v) (weight_bytes 2 w) → ⊥
   apart v w p q n b = by (cases_eq (v % 0x4000) (w % 0x4000))
@@ -24,7 +24,8 @@ module _ (live : ℕ → Bool) (good : AreTertiaries plain (λ w. live w ≡ tru
       by : (v % 0x4000 ≡ w % 0x4000) ⊎ (v % 0x4000 ≡ w % 0x4000 → ⊥) → ⊥
       by (inl e) = n (omega (arith, one_lead))
       by (inr m) = good.prefix_free (v % 0x4000) (w % 0x4000) p q m
-          (moved_begins (v % 0x4000) (w % 0x4000) v w (omega (arith, low_v)) (omega (arith, low_w)) (omega (arith, low_v)) (omega (arith, low_w)) (omega arith) (omega arith) (λ e. omega arith) b)
+          (moved_begins (v % 0x4000) (w % 0x4000) v w (omega (arith, low_v)) (omega (arith, low_w)) (omega (arith, low_v))
+          (omega (arith, low_w)) (omega arith) (omega arith) (λ e. omega arith) b)
 
   lower_parts : (w : ℕ) → cased_tertiary lower_first live w ≡ true → (live (w % 0x4000) ≡ true) × (w / 0x4000 < 3)
   lower_parts w h = let p = and_parts (live (w % 0x4000)) (ltb (w / 0x4000) 3) h in (p.0, ltb-true (w / 0x4000) 3 p.1)
@@ -53,7 +54,8 @@ module _ (live : ℕ → Bool) (good : AreTertiaries plain (λ w. live w ≡ tru
     prefix_free = λ v w h k n b. apart v w (upper_parts v h).0 (upper_parts w k).0 n b;
   }
 
-pub cased_tertiaries : (form : TertiaryForm) (live : ℕ → Bool) → AreTertiaries plain (λ w. live w ≡ true) → AreTertiaries form (λ w. cased_tertiary form live w ≡ true)
+pub cased_tertiaries : (form : TertiaryForm) (live : ℕ → Bool) → AreTertiaries plain (Passes live)
+    → AreTertiaries form (Passes (cased_tertiary form live))
 cased_tertiaries plain live good = good
 cased_tertiaries lower_first live good = lower_cased live good
 cased_tertiaries upper_first live good = upper_cased live good

@@ -43,7 +43,8 @@ climbs_change d l z m o = change d l z m ∙ cond-false (ltb l d) _ _ (le-ltb l 
 module _ (d : ℕ) (IsNext : ℕ → Type 0) (good : FitsAfter d IsNext) where
   -- what a weight writes where d is dropped
   data Kind (w : ℕ) : Type 0 where
-    drops : lead w ≡ d → IsOver 3 (primary_bytes d w) → IsUnder 0xFF (primary_bytes d w) → primary_bytes d w ≡ weight_bytes 3 (below_lead w) → Kind w
+    drops : lead w ≡ d → IsOver 3 (primary_bytes d w) → IsUnder 0xFF (primary_bytes d w) → primary_bytes d w
+        ≡ weight_bytes 3 (below_lead w) → Kind w
     starts : d ≡ 0 → primary_bytes d w ≡ weight_bytes 4 w → Kind w
     merges : 3 ≤ d → lead w ≡ 2 → primary_bytes d w ≡ weight_bytes 4 w → Kind w
     falls : 2 < lead w → lead w < d → primary_bytes d w ≡ 3 ∷ weight_bytes 4 w → Kind w
@@ -63,10 +64,14 @@ module _ (d : ℕ) (IsNext : ℕ → Type 0) (good : FitsAfter d IsNext) where
       by (inr t) (inl e) m =
           let k = good.seconds w live e in
           let h = same_lead d w e in
-          drops e (rw h (over_first 3 (second_byte w) (weight_bytes 2 (w % 256 ^ 3 % 256 ^ 2)) k.0)) (rw h (under_first 0xFF (second_byte w) (weight_bytes 2 (w % 256 ^ 3 % 256 ^ 2)) (omega arith))) h
+          drops e (rw h (over_first 3 (second_byte w) (weight_bytes 2 (w % 256 ^ 3 % 256 ^ 2)) k.0))
+          (rw h (under_first 0xFF (second_byte w) (weight_bytes 2 (w % 256 ^ 3 % 256 ^ 2)) (omega arith))) h
       by (inr t) (inr o) (inl m) = merges t m (full w (omega arith) (no_change d (lead w) (inr m)))
-      by (inr t) (inr (inl o)) (inr m) = falls (omega arith) o (other_lead d w (omega arith) ∙ ap (λ l. l ++ weight_bytes 4 w) (falls_change d (lead w) (omega arith) m o))
-      by (inr t) (inr (inr o)) (inr m) = climbs t o (other_lead d w (omega arith) ∙ ap (λ l. l ++ weight_bytes 4 w) (climbs_change d (lead w) (omega arith) m (omega arith)))
+      by (inr t) (inr (inl o)) (inr m) =
+          falls (omega arith) o (other_lead d w (omega arith) ∙ ap (λ l. l ++ weight_bytes 4 w) (falls_change d (lead w) (omega arith) m o))
+      by (inr t) (inr (inr o)) (inr m) =
+          climbs t o (other_lead d w (omega arith)
+          ∙ ap (λ l. l ++ weight_bytes 4 w) (climbs_change d (lead w) (omega arith) m (omega arith)))
 
   -- weights in full
   full_leads : (w : ℕ) → IsNext w → IsOver 1 (weight_bytes 4 w)
@@ -78,11 +83,14 @@ module _ (d : ℕ) (IsNext : ℕ → Type 0) (good : FitsAfter d IsNext) where
   merge_is : (w : ℕ) → IsNext w → lead w ≡ 2 → weight_bytes 4 w ≡ 2 ∷ []
   merge_is w live m = ap (weight_bytes 4) (good.separator w live m)
 
-  tails_rise : (v w : ℕ) → IsNext v → IsNext w → lead v ≡ lead w → v < w → Precedes (weight_bytes 3 (below_lead v)) (weight_bytes 3 (below_lead w))
+  tails_rise : (v w : ℕ) → IsNext v → IsNext w → lead v ≡ lead w → v < w
+      → Precedes (weight_bytes 3 (below_lead v)) (weight_bytes 3 (below_lead w))
   tails_rise v w p q e l =
       let a = nonzero_first (lead v) (weight_bytes 3 (below_lead v)) (omega (arith, good.leads v p)) in
       let b = nonzero_first (lead w) (weight_bytes 3 (below_lead w)) (omega (arith, good.leads w q)) in
-      precedes_rest (lead v) (lead w) (weight_bytes 3 (below_lead v)) (weight_bytes 3 (below_lead w)) e (subst (λ ps. Precedes ps (lead w ∷ weight_bytes 3 (below_lead w))) a (subst (λ qs. Precedes (weight_bytes 4 v) qs) b (full_rises v w p q l)))
+      precedes_rest (lead v) (lead w) (weight_bytes 3 (below_lead v)) (weight_bytes 3 (below_lead w)) e
+      (subst (λ ps. Precedes ps (lead w ∷ weight_bytes 3 (below_lead w))) a
+      (subst (λ qs. Precedes (weight_bytes 4 v) qs) b (full_rises v w p q l)))
 
   kind_leads : (w : ℕ) → IsNext w → Kind w → IsOver 1 (primary_bytes d w)
   kind_leads w p (drops e o u h) = over_less 1 3 (primary_bytes d w) (lit≤ tt) o
@@ -91,32 +99,39 @@ module _ (d : ℕ) (IsNext : ℕ → Type 0) (good : FitsAfter d IsNext) where
   kind_leads w p (falls m o h) = rw h (lit< tt)
   kind_leads w p (climbs t o h) = rw h (lit< tt)
 
-  kind_rises : (v w : ℕ) → IsNext v → IsNext w → v < w → lead v ≤ lead w → Kind v → Kind w → Precedes (primary_bytes d v) (primary_bytes d w)
+  kind_rises : (v w : ℕ) → IsNext v → IsNext w → v < w → lead v ≤ lead w → Kind v → Kind w
+      → Precedes (primary_bytes d v) (primary_bytes d w)
   kind_rises v w p q l le (drops e o u h) (drops f i x g) = rw (h, g) (tails_rise v w p q (e ∙ sym f) l)
   kind_rises v w p q l le (drops e o u h) (starts z g) = absurd (omega (arith, good.leads v p))
   kind_rises v w p q l le (drops e o u h) (merges t m g) = absurd (omega arith)
   kind_rises v w p q l le (drops e o u h) (falls m n g) = absurd (omega arith)
-  kind_rises v w p q l le (drops e o u h) (climbs t n g) = rw g (precedes_over 0xFE (primary_bytes d v) (0xFF ∷ weight_bytes 4 w) (over_less 0 3 (primary_bytes d v) (lit≤ tt) o) u (lit< tt))
+  kind_rises v w p q l le (drops e o u h) (climbs t n g) =
+      rw g (precedes_over 0xFE (primary_bytes d v) (0xFF ∷ weight_bytes 4 w) (over_less 0 3 (primary_bytes d v) (lit≤ tt) o) u (lit< tt))
   kind_rises v w p q l le (starts z h) (drops f i x g) = absurd (omega (arith, good.leads w q))
   kind_rises v w p q l le (starts z h) (starts y g) = rw (h, g) (full_rises v w p q l)
   kind_rises v w p q l le (starts z h) (merges t m g) = absurd (omega arith)
   kind_rises v w p q l le (starts z h) (falls m n g) = absurd (omega arith)
   kind_rises v w p q l le (starts z h) (climbs t n g) = absurd (omega arith)
-  kind_rises v w p q l le (merges t m h) (drops f i x g) = rw (h, merge_is v p m) (precedes_over 2 (2 ∷ []) (primary_bytes d w) (lit< tt) (lit< tt) (over_less 2 3 (primary_bytes d w) (lit≤ tt) i))
+  kind_rises v w p q l le (merges t m h) (drops f i x g) =
+      rw (h, merge_is v p m)
+      (precedes_over 2 (2 ∷ []) (primary_bytes d w) (lit< tt) (lit< tt) (over_less 2 3 (primary_bytes d w) (lit≤ tt) i))
   kind_rises v w p q l le (merges t m h) (starts z g) = absurd (omega arith)
   kind_rises v w p q l le (merges t m h) (merges o r g) = rw (h, g) (full_rises v w p q l)
   kind_rises v w p q l le (merges t m h) (falls o r g) = rw (h, g, merge_is v p m) (λ s t. refl)
   kind_rises v w p q l le (merges t m h) (climbs o r g) = rw (h, g, merge_is v p m) (λ s t. refl)
-  kind_rises v w p q l le (falls m n h) (drops f i x g) = rw h (precedes_over 3 (3 ∷ weight_bytes 4 v) (primary_bytes d w) (lit< tt) (lit< tt) i)
+  kind_rises v w p q l le (falls m n h) (drops f i x g) =
+      rw h (precedes_over 3 (3 ∷ weight_bytes 4 v) (primary_bytes d w) (lit< tt) (lit< tt) i)
   kind_rises v w p q l le (falls m n h) (starts z g) = absurd (omega arith)
   kind_rises v w p q l le (falls m n h) (merges o r g) = absurd (omega arith)
-  kind_rises v w p q l le (falls m n h) (falls o r g) = rw (h, g) (precedes_front (3 ∷ []) (weight_bytes 4 v) (weight_bytes 4 w) (full_rises v w p q l))
+  kind_rises v w p q l le (falls m n h) (falls o r g) =
+      rw (h, g) (precedes_front (3 ∷ []) (weight_bytes 4 v) (weight_bytes 4 w) (full_rises v w p q l))
   kind_rises v w p q l le (falls m n h) (climbs o r g) = rw (h, g) (λ s t. refl)
   kind_rises v w p q l le (climbs m n h) (drops f i x g) = absurd (omega arith)
   kind_rises v w p q l le (climbs m n h) (starts z g) = absurd (omega arith)
   kind_rises v w p q l le (climbs m n h) (merges o r g) = absurd (omega arith)
   kind_rises v w p q l le (climbs m n h) (falls o r g) = absurd (omega arith)
-  kind_rises v w p q l le (climbs m n h) (climbs o r g) = rw (h, g) (precedes_front (0xFF ∷ []) (weight_bytes 4 v) (weight_bytes 4 w) (full_rises v w p q l))
+  kind_rises v w p q l le (climbs m n h) (climbs o r g) =
+      rw (h, g) (precedes_front (0xFF ∷ []) (weight_bytes 4 v) (weight_bytes 4 w) (full_rises v w p q l))
 
   -- what may stand begins above 01, and the lesser precedes
   pub next_leads : (w : ℕ) → IsNext w → IsOver 1 (primary_bytes d w)

@@ -29,35 +29,51 @@ abbrev pub Rises : (ℕ → List ℕ) → ℕ → ℕ → Type 0
 Rises f a b = (x y : ℕ) → a ≤ x → x < y → y < b → Precedes (f x) (f y)
 
 far_below_rises : Rises far_below (253 ^ 3 - 1200000) (253 ^ 3 - 192786)
-far_below_rises x y a l b = precedes_more 3 3 (first_tail x ∷ middle_tail x ∷ last_tail x ∷ []) (first_tail y ∷ middle_tail y ∷ last_tail y ∷ []) (omega arith) (λ e. three_rise (first_tail x) (middle_tail x) (last_tail x) (first_tail y) (middle_tail y) (last_tail y) (omega arith) (λ f. omega arith) (λ f g. omega arith))
+far_below_rises x y a l b = precedes_more 3 3 (first_tail x ∷ middle_tail x ∷ last_tail x ∷ [])
+    (first_tail y ∷ middle_tail y ∷ last_tail y ∷ []) (omega arith)
+    (λ e. three_rise (first_tail x) (middle_tail x) (last_tail x) (first_tail y) (middle_tail y) (last_tail y) (omega arith)
+    (λ f. omega arith) (λ f g. omega arith))
 
 well_below_rises : Rises well_below (253 ^ 3 - 192786) (253 ^ 3 - 10668)
-well_below_rises x y a l b = three_rise (7 + x / 253 / 253 - 253) (middle_tail x) (last_tail x) (7 + y / 253 / 253 - 253) (middle_tail y) (last_tail y) (omega arith) (λ f. omega arith) (λ f g. omega arith)
+well_below_rises x y a l b =
+    three_rise (7 + x / 253 / 253 - 253) (middle_tail x) (last_tail x) (7 + y / 253 / 253 - 253) (middle_tail y) (last_tail y)
+    (omega arith) (λ f. omega arith) (λ f g. omega arith)
 
 below_rises : Rises below (253 ^ 3 - 10668) (253 ^ 3 - 80)
-below_rises x y a l b = precedes_more (49 + x / 253 - 253 ^ 2) (49 + y / 253 - 253 ^ 2) (last_tail x ∷ []) (last_tail y ∷ []) (omega arith) (λ e. precedes_head (last_tail x) (last_tail y) [] [] (omega arith))
+below_rises x y a l b = precedes_more (49 + x / 253 - 253 ^ 2) (49 + y / 253 - 253 ^ 2) (last_tail x ∷ []) (last_tail y ∷ []) (omega arith)
+    (λ e. precedes_head (last_tail x) (last_tail y) [] [] (omega arith))
 
 near_rises : Rises near (253 ^ 3 - 80) (253 ^ 3 + 81)
 near_rises x y a l b = precedes_head (129 + x - 253 ^ 3) (129 + y - 253 ^ 3) [] [] (omega arith)
 
 above_rises : Rises above (253 ^ 3 + 81) (253 ^ 3 + 10668)
-above_rises x y a l b = precedes_more (210 + x / 253 - 253 ^ 2) (210 + y / 253 - 253 ^ 2) (last_tail x ∷ []) (last_tail y ∷ []) (omega arith) (λ e. precedes_head (last_tail x) (last_tail y) [] [] (omega arith))
+above_rises x y a l b = precedes_more (210 + x / 253 - 253 ^ 2) (210 + y / 253 - 253 ^ 2) (last_tail x ∷ []) (last_tail y ∷ [])
+    (omega arith) (λ e. precedes_head (last_tail x) (last_tail y) [] [] (omega arith))
 
 well_above_rises : Rises well_above (253 ^ 3 + 10668) (253 ^ 3 + 192786)
-well_above_rises x y a l b = three_rise (252 + x / 253 / 253 - 253) (middle_tail x) (last_tail x) (252 + y / 253 / 253 - 253) (middle_tail y) (last_tail y) (omega arith) (λ f. omega arith) (λ f g. omega arith)
+well_above_rises x y a l b = three_rise (252 + x / 253 / 253 - 253) (middle_tail x) (last_tail x) (252 + y / 253 / 253 - 253)
+    (middle_tail y) (last_tail y) (omega arith) (λ f. omega arith) (λ f g. omega arith)
 
 far_above_rises : Rises far_above (253 ^ 3 + 192786) (253 ^ 3 + 1200000)
-far_above_rises x y a l b = precedes_more 255 255 (first_tail x ∷ middle_tail x ∷ last_tail x ∷ []) (first_tail y ∷ middle_tail y ∷ last_tail y ∷ []) (omega arith) (λ e. three_rise (first_tail x) (middle_tail x) (last_tail x) (first_tail y) (middle_tail y) (last_tail y) (omega arith) (λ f. omega arith) (λ f g. omega arith))
+far_above_rises x y a l b = precedes_more 255 255 (first_tail x ∷ middle_tail x ∷ last_tail x ∷ [])
+    (first_tail y ∷ middle_tail y ∷ last_tail y ∷ []) (omega arith)
+    (λ e. three_rise (first_tail x) (middle_tail x) (last_tail x) (first_tail y) (middle_tail y) (last_tail y) (omega arith)
+    (λ f. omega arith) (λ f g. omega arith))
 
 -- two forms that rise, where the last of one precedes the first of the other
-pub glue : (f g : ℕ → List ℕ) (a n b : ℕ) → a < n → n < b → Rises f a n → Rises g n b → Precedes (f (n - 1)) (g n) → Rises (split_at n f g) a b
+pub glue : (f g : ℕ → List ℕ) (a n b : ℕ) → a < n → n < b → Rises f a n → Rises g n b → Precedes (f (n - 1)) (g n)
+    → Rises (split_at n f g) a b
 glue f g a n b an nb rf rg join x y ax xy yb = by (cases_lt x n) (cases_lt y n)
   where
     upto : x < n → Precedes (f x) (g n)
-    upto l = ⊎_elim (λ e. rw e join) (⊎_elim (λ m. precedes_trans (f x) (f (n - 1)) (g n) (rf x (n - 1) ax m (omega arith)) join) (λ m. absurd (omega arith))) (cases_order x (n - 1))
+    upto l =
+        ⊎_elim (λ e. rw e join) (⊎_elim (λ m. precedes_trans (f x) (f (n - 1)) (g n) (rf x (n - 1) ax m (omega arith)) join)
+        (λ m. absurd (omega arith))) (cases_order x (n - 1))
 
     from : x < n → n ≤ y → Precedes (f x) (g y)
-    from l m = ⊎_elim (λ e. rw (← e) (upto l)) (⊎_elim (λ k. precedes_trans (f x) (g n) (g y) (upto l) (rg n y (omega arith) k yb)) (λ k. absurd (omega arith))) (cases_order n y)
+    from l m =
+        ⊎_elim (λ e. rw (← e) (upto l)) (⊎_elim (λ k. precedes_trans (f x) (g n) (g y) (upto l) (rg n y (omega arith) k yb))
+        (λ k. absurd (omega arith))) (cases_order n y)
 
     by : (x < n) ⊎ (n ≤ x) → (y < n) ⊎ (n ≤ y) → Precedes (split_at n f g x) (split_at n f g y)
     by (inl l) (inl m) = rw (lt-ltb x n l, lt-ltb y n m) (rf x y ax xy m)

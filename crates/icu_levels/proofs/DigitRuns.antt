@@ -27,7 +27,8 @@ ten_times v d p l =
 value_bound : (ds : List ℕ) (v : ℕ) → AllByRecursion (λ d. d < 10) ds → value_after v ds < (v + 1) * 10 ^ length ds
 value_bound [] v a = rw (pow-zero 10) (omega arith)
 value_bound (d ∷ ds) v a =
-    let more : (10 * v + d + 1) * 10 ^ length ds ≤ (v + 1) * 10 ^ suc (length ds) = rw (pow-suc 10 (length ds)) (ten_times v d (10 ^ length ds) a.0) in
+    let more : (10 * v + d + 1) * 10 ^ length ds ≤ (v + 1) * 10 ^ suc (length ds) =
+    rw (pow-suc 10 (length ds)) (ten_times v d (10 ^ length ds) a.0) in
     omega (arith, value_bound ds (10 * v + d) a.1)
 
 no_zeros_digits : (ds : List ℕ) → AllByRecursion (λ d. d < 10) ds → AllByRecursion (λ d. d < 10) (without_first_zeros ds)
@@ -69,10 +70,12 @@ run_rest [] numeric ds e = refl
 run_rest (f ∷ fs) numeric [] e = refl
 run_rest (f ∷ fs) numeric (d ∷ ds) e = cc
 
-pub one_number : (numeric : ℕ) (ds : List ℕ) → 0 < length ds → length (without_first_zeros ds) ≤ longest_number → run_weights numeric ds ≡ number_weights numeric (value_of ds)
+pub one_number : (numeric : ℕ) (ds : List ℕ) → 0 < length ds → length (without_first_zeros ds) ≤ longest_number → run_weights numeric ds
+    ≡ number_weights numeric (value_of ds)
 one_number numeric [] some l = absurd (omega arith)
 one_number numeric (d ∷ ds) some l =
-    both (run_weights_by ds numeric (drop longest_number (without_first_zeros (d ∷ ds)))) (value_of (take longest_number (without_first_zeros (d ∷ ds)))) (value_of (d ∷ ds))
+    both (run_weights_by ds numeric (drop longest_number (without_first_zeros (d ∷ ds))))
+    (value_of (take longest_number (without_first_zeros (d ∷ ds)))) (value_of (d ∷ ds))
     (run_rest ds numeric (drop longest_number (without_first_zeros (d ∷ ds))) (no_more longest_number (without_first_zeros (d ∷ ds)) l))
     (ap value_of (take_all longest_number (without_first_zeros (d ∷ ds)) l) ∙ value_without_zeros (d ∷ ds))
   where
@@ -83,7 +86,8 @@ pub run_bound : (ds : List ℕ) → AllByRecursion (λ d. d < 10) ds → length 
 run_bound ds a l = subst (λ v. v < 100 ^ 127) (value_without_zeros ds) (chunk_value (without_first_zeros ds) (no_zeros_digits ds a) l)
 
 -- two runs of at most 254 digits after first zeros order by value
-pub runs_by_value : (numeric : ℕ) (ds es : List ℕ) → AllByRecursion (λ d. d < 10) ds → AllByRecursion (λ d. d < 10) es → 0 < length ds → 0 < length es
+pub runs_by_value : (numeric : ℕ) (ds es : List ℕ) → AllByRecursion (λ d. d < 10) ds → AllByRecursion (λ d. d < 10) es → 0 < length ds
+    → 0 < length es
     → length (without_first_zeros ds) ≤ longest_number → length (without_first_zeros es) ≤ longest_number
     → list_order (run_weights numeric ds) (run_weights numeric es) ≡ nat_cmp (value_of ds) (value_of es)
 runs_by_value numeric ds es a b s t l m =
@@ -100,8 +104,11 @@ module _ (numeric : ℕ) (n : numeric < 256) (IsLive : ℕ → Type 0) (rest : L
       let v = value_of (take longest_number (without_first_zeros (d ∷ ds))) in
       let left = run_weights_by fs numeric (drop longest_number (without_first_zeros (d ∷ ds))) in
       subst (IsPrimaryList numeric IsLive false) (sym (append_assoc (number_weights numeric v) left rest))
-      (number_stands numeric n IsLive (left ++ rest) (by_stands fs (drop longest_number (without_first_zeros (d ∷ ds))) (drop_digits longest_number (without_first_zeros (d ∷ ds)) digits)) v
-      (chunk_value (take longest_number (without_first_zeros (d ∷ ds))) (take_digits longest_number (without_first_zeros (d ∷ ds)) digits) (few (without_first_zeros (d ∷ ds)))))
+      (number_stands numeric n IsLive (left ++ rest)
+      (by_stands fs (drop longest_number (without_first_zeros (d ∷ ds)))
+      (drop_digits longest_number (without_first_zeros (d ∷ ds)) digits)) v
+      (chunk_value (take longest_number (without_first_zeros (d ∷ ds))) (take_digits longest_number (without_first_zeros (d ∷ ds)) digits)
+      (few (without_first_zeros (d ∷ ds)))))
     where
       few : (ds : List ℕ) → length (take longest_number ds) ≤ longest_number
       few ds = omega (arith, length-take longest_number ds)

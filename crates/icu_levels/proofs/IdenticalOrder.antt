@@ -26,10 +26,12 @@ as_steps : (cs : List ℕ) (base : ℕ) → identical_bytes base cs ≡ stepwise
 as_steps [] base = refl
 as_steps (c ∷ cs) base = by (cases_eq c merge_character) (λ b. as_steps cs b)
   where
-    by : (c ≡ merge_character) ⊎ (c ≡ merge_character → ⊥) → ((b : ℕ) → identical_bytes b cs ≡ stepwise_bytes character_bytes next_base b cs)
+    by : (c ≡ merge_character) ⊎ (c ≡ merge_character → ⊥)
+        → ((b : ℕ) → identical_bytes b cs ≡ stepwise_bytes character_bytes next_base b cs)
         → identical_bytes base (c ∷ cs) ≡ stepwise_bytes character_bytes next_base base (c ∷ cs)
     by (inl e) ih = rw (eq-eqb c merge_character e, identical_bytes) (ap (λ l. 2 ∷ l) (ih first_base))
-    by (inr n) ih = rw (ne_eqb c merge_character n, identical_bytes) (ap (λ l. difference_bytes (c + 253 ^ 3 - base) ++ l) (ih (base_after c)))
+    by (inr n) ih =
+        rw (ne_eqb c merge_character n, identical_bytes) (ap (λ l. difference_bytes (c + 253 ^ 3 - base) ++ l) (ih (base_after c)))
 
 mark_bytes : (b c : ℕ) → c ≡ merge_character → character_bytes b c ≡ 2 ∷ []
 mark_bytes b c e = rw (eq-eqb c merge_character e) refl
@@ -63,23 +65,30 @@ characters_rise = record {
     leads b c p (inl e) = rw (mark_bytes b c e) (lit< tt)
     leads b c p (inr n) = rw (other_bytes b c n) (over_less 1 2 (difference_bytes (c + 253 ^ 3 - b)) (lit≤ tt) (other_leads b c p))
 
-    rises : (b c d : ℕ) → IsPlaced b c → IsPlaced b d → identical_rank c < identical_rank d → (c ≡ merge_character) ⊎ (c ≡ merge_character → ⊥) → (d ≡ merge_character) ⊎ (d ≡ merge_character → ⊥)
+    rises : (b c d : ℕ) → IsPlaced b c → IsPlaced b d → identical_rank c < identical_rank d → (c ≡ merge_character)
+        ⊎ (c ≡ merge_character → ⊥) → (d ≡ merge_character) ⊎ (d ≡ merge_character → ⊥)
         → Precedes (character_bytes b c) (character_bytes b d)
     rises b c d p q l (inl e) (inl f) = absurd (omega (arith, rank_mark c e, rank_mark d f))
-    rises b c d p q l (inl e) (inr n) = rw (mark_bytes b c e, other_bytes b d n) (precedes_over 2 (2 ∷ []) (difference_bytes (d + 253 ^ 3 - b)) (lit< tt) (lit< tt) (other_leads b d q))
+    rises b c d p q l (inl e) (inr n) =
+        rw (mark_bytes b c e, other_bytes b d n) (precedes_over 2 (2 ∷ []) (difference_bytes (d + 253 ^ 3 - b)) (lit< tt) (lit< tt)
+        (other_leads b d q))
     rises b c d p q l (inr n) (inl f) = absurd (omega (arith, rank_mark d f))
     rises b c d p q l (inr n) (inr m) = rw (other_bytes b c n, other_bytes b d m)
-        (differences_rise (c + 253 ^ 3 - b) (d + 253 ^ 3 - b) (omega (arith, p.0)) (omega (arith, rank_other c n, rank_other d m, p.0)) (omega (arith, q.0, q.1)))
+        (differences_rise (c + 253 ^ 3 - b) (d + 253 ^ 3 - b) (omega (arith, p.0)) (omega (arith, rank_other c n, rank_other d m, p.0))
+        (omega (arith, q.0, q.1)))
 
 all_placed : (cs : List ℕ) (b : ℕ) → b ≤ 1114191 → AllByRecursion (λ c. c < 1114112) cs → StandAlong next_base IsPlaced b cs
 all_placed [] b l p = tt
 all_placed (c ∷ cs) b l p = ((l, p.0), all_placed cs (next_base b c) (base_bound b c p.0) p.1)
 
 -- The identical level: its bytes order as its characters, U+FFFE lowest, and then as what follows
-pub identical_order : (cs ds s t : List ℕ) → AllByRecursion (λ c. c < 1114112) cs → AllByRecursion (λ c. c < 1114112) ds → IsUnder 2 s → IsUnder 2 t
-    → list_order (identical_level cs ++ s) (identical_level ds ++ t) ≡ ordering_then (list_order (map identical_rank cs) (map identical_rank ds)) (list_order s t)
+pub identical_order : (cs ds s t : List ℕ) → AllByRecursion (λ c. c < 1114112) cs → AllByRecursion (λ c. c < 1114112) ds → IsUnder 2 s
+    → IsUnder 2 t
+    → list_order (identical_level cs ++ s) (identical_level ds ++ t)
+    ≡ ordering_then (list_order (map identical_rank cs) (map identical_rank ds)) (list_order s t)
 identical_order cs ds s t p q u v = rw (as_steps cs first_base, as_steps ds first_base)
-    (stepwise_order identical_rank character_bytes next_base IsPlaced characters_rise cs ds first_base s t (all_placed cs first_base (lit≤ tt) p) (all_placed ds first_base (lit≤ tt) q) u v)
+    (stepwise_order identical_rank character_bytes next_base IsPlaced characters_rise cs ds first_base s t
+    (all_placed cs first_base (lit≤ tt) p) (all_placed ds first_base (lit≤ tt) q) u v)
 
 pub same_from_ranks : (cs ds : List ℕ) → map identical_rank cs ≡ map identical_rank ds → cs ≡ ds
 same_from_ranks [] [] e = refl

@@ -8,9 +8,12 @@ module _ (r : Row) (spell : ℕ → List ℕ) where
   -- n common weights after k of them are n + k of them
   counted : (n k : ℕ) (ws : List ℕ) → level_bytes r spell k (replicate n r.common ++ ws) ≡ level_bytes r spell (n + k) ws
   counted zero k ws = ap (λ z. level_bytes r spell z ws) (omega arith)
-  counted (suc n) k ws = level_common r spell k r.common (replicate n r.common ++ ws) refl ∙ (counted n (suc k) ws ∙ ap (λ z. level_bytes r spell z ws) (omega arith))
+  counted (suc n) k ws =
+      level_common r spell k r.common (replicate n r.common ++ ws) refl
+      ∙ (counted n (suc k) ws ∙ ap (λ z. level_bytes r spell z ws) (omega arith))
 
-  pub maximal_run : (n w : ℕ) (ws : List ℕ) → w ≢ r.common → level_bytes r spell 0 (replicate n r.common ++ w ∷ ws) ≡ run_before r n w ++ (spell w ++ level_bytes r spell 0 ws)
+  pub maximal_run : (n w : ℕ) (ws : List ℕ) → w ≢ r.common → level_bytes r spell 0 (replicate n r.common ++ w ∷ ws)
+      ≡ run_before r n w ++ (spell w ++ level_bytes r spell 0 ws)
   maximal_run n w ws e = counted n 0 (w ∷ ws) ∙ (ap (λ z. level_bytes r spell z (w ∷ ws)) (omega arith) ∙ level_other r spell n w ws e)
 
   pub last_run : (n : ℕ) → level_bytes r spell 0 (replicate n r.common) ≡ run_before_less r n

@@ -27,7 +27,8 @@ keeping compressible = record { reorder = λ p. p; is_compressible = compressibl
 -- primaries: 10800500 begins 10800501, and the level that follows opens with 01 05
 prefix_free_primaries :
     (list_order (0x10800501 ∷ []) (0x10800500 ∷ []) ≡ Greater)
-    × (list_order (primary_level (keeping (λ l. l == 0x61)) 0 (0x10800501 ∷ []) ++ 1 ∷ 5 ∷ 1 ∷ []) (primary_level (keeping (λ l. l == 0x61)) 0 (0x10800500 ∷ []) ++ 1 ∷ 5 ∷ 1 ∷ []) ≡ Less)
+    × (list_order (primary_level (keeping (λ l. l == 0x61)) 0 (0x10800501 ∷ []) ++ 1 ∷ 5 ∷ 1 ∷ [])
+    (primary_level (keeping (λ l. l == 0x61)) 0 (0x10800500 ∷ []) ++ 1 ∷ 5 ∷ 1 ∷ []) ≡ Less)
 prefix_free_primaries = (refl, refl)
 
 -- ---- leads
@@ -53,13 +54,15 @@ backward_leads = (refl, refl)
 -- a second byte below 04, beside the merge separator
 low_second_byte :
     (list_order (0x6301FE00 ∷ 0x6301FE00 ∷ []) (0x6301FE00 ∷ 0x02000000 ∷ []) ≡ Greater)
-    × (list_order (primary_level (keeping (λ l. l == 0x63)) 0 (0x6301FE00 ∷ 0x6301FE00 ∷ [])) (primary_level (keeping (λ l. l == 0x63)) 0 (0x6301FE00 ∷ 0x02000000 ∷ [])) ≡ Less)
+    × (list_order (primary_level (keeping (λ l. l == 0x63)) 0 (0x6301FE00 ∷ 0x6301FE00 ∷ []))
+    (primary_level (keeping (λ l. l == 0x63)) 0 (0x6301FE00 ∷ 0x02000000 ∷ [])) ≡ Less)
 low_second_byte = (refl, refl)
 
 -- the second byte FF, beside a greater lead
 high_second_byte :
     (list_order (0x63FFFE00 ∷ 0x63FFFE00 ∷ []) (0x63FFFE00 ∷ 0x64100000 ∷ []) ≡ Less)
-    × (list_order (primary_level (keeping (λ l. l == 0x63)) 0 (0x63FFFE00 ∷ 0x63FFFE00 ∷ [])) (primary_level (keeping (λ l. l == 0x63)) 0 (0x63FFFE00 ∷ 0x64100000 ∷ [])) ≡ Greater)
+    × (list_order (primary_level (keeping (λ l. l == 0x63)) 0 (0x63FFFE00 ∷ 0x63FFFE00 ∷ []))
+    (primary_level (keeping (λ l. l == 0x63)) 0 (0x63FFFE00 ∷ 0x64100000 ∷ [])) ≡ Greater)
 high_second_byte = (refl, refl)
 
 -- the merge separator's own lead: two of them are written as one
@@ -81,13 +84,15 @@ mixed_lead = (refl, refl)
 -- a live primary with the numeric lead
 numeric_primary :
     (list_order (0x1C020000 ∷ []) (0x1C000000 ∷ 0x1C000000 ∷ []) ≡ Greater)
-    × (list_order (primary_level (keeping (λ l. l == 0x61)) 0 (0x1C020000 ∷ [])) (primary_level (keeping (λ l. l == 0x61)) 0 (0x1C000000 ∷ 0x1C000000 ∷ [])) ≡ Less)
+    × (list_order (primary_level (keeping (λ l. l == 0x61)) 0 (0x1C020000 ∷ []))
+    (primary_level (keeping (λ l. l == 0x61)) 0 (0x1C000000 ∷ 0x1C000000 ∷ [])) ≡ Less)
 numeric_primary = (refl, refl)
 
 -- a compressible numeric lead
 compressible_numeric :
     (list_order (0xFC020000 ∷ 0x62FE3F00 ∷ []) (0xFC020000 ∷ 0xFC020000 ∷ []) ≡ Less)
-    × (list_order (primary_level (keeping (λ l. l == 0xFC)) 0 (0xFC020000 ∷ 0x62FE3F00 ∷ [])) (primary_level (keeping (λ l. l == 0xFC)) 0 (0xFC020000 ∷ 0xFC020000 ∷ [])) ≡ Greater)
+    × (list_order (primary_level (keeping (λ l. l == 0xFC)) 0 (0xFC020000 ∷ 0x62FE3F00 ∷ []))
+    (primary_level (keeping (λ l. l == 0xFC)) 0 (0xFC020000 ∷ 0xFC020000 ∷ [])) ≡ Greater)
 compressible_numeric = (refl, refl)
 
 -- ---- lists as long

@@ -27,12 +27,16 @@ unpacked_less (x ∷ xs) [] h = cc
 unpacked_less (x ∷ xs) (y ∷ ys) h = by (less_cases x y xs ys h) (cases_order (x / 16) (y / 16)) (λ l. unpacked_less xs ys l)
   where
     by : (x < y) ⊎ ((x ≡ y) × (list_order xs ys ≡ Less)) → (x / 16 ≡ y / 16) ⊎ ((x / 16 < y / 16) ⊎ (y / 16 < x / 16))
-        → (list_order xs ys ≡ Less → list_order (unpacked xs) (unpacked ys) ≡ Less) → list_order (unpacked (x ∷ xs)) (unpacked (y ∷ ys)) ≡ Less
-    by (inl l) (inl e) ih = alike_head (x / 16) (y / 16) (x % 16 ∷ unpacked xs) (y % 16 ∷ unpacked ys) e ∙ less_head (x % 16) (y % 16) (unpacked xs) (unpacked ys) (omega arith)
+        → (list_order xs ys ≡ Less → list_order (unpacked xs) (unpacked ys) ≡ Less) → list_order (unpacked (x ∷ xs)) (unpacked (y ∷ ys))
+        ≡ Less
+    by (inl l) (inl e) ih =
+        alike_head (x / 16) (y / 16) (x % 16 ∷ unpacked xs) (y % 16 ∷ unpacked ys) e
+        ∙ less_head (x % 16) (y % 16) (unpacked xs) (unpacked ys) (omega arith)
     by (inl l) (inr (inl m)) ih = less_head (x / 16) (y / 16) (x % 16 ∷ unpacked xs) (y % 16 ∷ unpacked ys) m
     by (inl l) (inr (inr m)) ih = absurd (omega arith)
     by (inr e) k ih = let same = e.0 in
-        alike_head (x / 16) (y / 16) (x % 16 ∷ unpacked xs) (y % 16 ∷ unpacked ys) (ap (λ z. z / 16) same) ∙ (alike_head (x % 16) (y % 16) (unpacked xs) (unpacked ys) (ap (λ z. z % 16) same) ∙ ih e.1)
+        alike_head (x / 16) (y / 16) (x % 16 ∷ unpacked xs) (y % 16 ∷ unpacked ys) (ap (λ z. z / 16) same)
+        ∙ (alike_head (x % 16) (y % 16) (unpacked xs) (unpacked ys) (ap (λ z. z % 16) same) ∙ ih e.1)
 
 -- the order of bytes is that of their nibbles
 pub unpacked_order : (xs ys : List ℕ) → list_order xs ys ≡ list_order (unpacked xs) (unpacked ys)
@@ -49,7 +53,8 @@ unpacked_packed (x ∷ []) s p = pair (x * 16 / 16) (x * 16 % 16) x 0 (unpacked 
     pair : (a b c d : ℕ) (l : List ℕ) → a ≡ c → b ≡ d → a ∷ b ∷ l ≡ c ∷ d ∷ l
     pair a b c d l e f = cc
 unpacked_packed (x ∷ (y ∷ ns)) s p =
-    pair ((x * 16 + y) / 16) ((x * 16 + y) % 16) x y (unpacked (packed ns ++ s)) (ns ++ (padding ns ++ unpacked s)) (omega (arith, p.1.0)) (omega (arith, p.1.0)) (unpacked_packed ns s p.1.1)
+    pair ((x * 16 + y) / 16) ((x * 16 + y) % 16) x y (unpacked (packed ns ++ s)) (ns ++ (padding ns ++ unpacked s)) (omega (arith, p.1.0))
+    (omega (arith, p.1.0)) (unpacked_packed ns s p.1.1)
   where
     pair : (a b c d : ℕ) (l m : List ℕ) → a ≡ c → b ≡ d → l ≡ m → a ∷ b ∷ l ≡ c ∷ d ∷ m
     pair a b c d l m e f g = cc

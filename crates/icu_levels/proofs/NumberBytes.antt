@@ -28,8 +28,11 @@ pub data Form (bs : List ℕ) : Type 0 where
 
 digits_below : (k v : ℕ) → v < 100 ^ k → AllByRecursion (λ d. d < 100) (digits 100 k v)
 digits_below zero v l = tt
-digits_below (suc k) v l =
-    (div_below v (100 ^ k) 100 (one-le-pow k 100 (lit≤ tt)) (omega (arith, pow-suc 100 k)), digits_below k (v % 100 ^ k) (mod_below v (100 ^ k) (one-le-pow k 100 (lit≤ tt))))
+digits_below (suc k) v l = (
+  div_below v (100 ^ k) 100 (one-le-pow k 100 (lit≤ tt)) (omega (arith, pow-suc 100 k)),
+  digits_below k (v % 100 ^ k)
+      (mod_below v (100 ^ k) (one-le-pow k 100 (lit≤ tt))),
+)
 
 pairs_end : (p : ℕ) (ps : List ℕ) → AllByRecursion (λ d. d < 100) (p ∷ ps) → OddThenEven (pair_bytes (p ∷ ps))
 pairs_end p [] a = ((omega arith, omega (arith, a.0)), omega arith)
@@ -39,9 +42,14 @@ pairs_end p (q ∷ qs) a = by (cases_Bool (is_only 0 (q ∷ qs))) (pairs_end q q
     more [] h = absurd h
     more (b ∷ bs) h = ((omega arith, omega (arith, a.0)), omega arith, h)
 
-    by : (is_only 0 (q ∷ qs) ≡ true) ⊎ (is_only 0 (q ∷ qs) ≡ false) → OddThenEven (pair_bytes (q ∷ qs)) → OddThenEven (pair_bytes (p ∷ (q ∷ qs)))
-    by (inl e) ih = subst OddThenEven (sym (cond-true (is_only 0 (q ∷ qs)) ((10 + 2 * p) ∷ []) ((11 + 2 * p) ∷ pair_bytes (q ∷ qs)) e)) ((omega arith, omega (arith, a.0)), omega arith)
-    by (inr e) ih = subst OddThenEven (sym (cond-false (is_only 0 (q ∷ qs)) ((10 + 2 * p) ∷ []) ((11 + 2 * p) ∷ pair_bytes (q ∷ qs)) e)) (more (pair_bytes (q ∷ qs)) ih)
+    by : (is_only 0 (q ∷ qs) ≡ true) ⊎ (is_only 0 (q ∷ qs) ≡ false) → OddThenEven (pair_bytes (q ∷ qs))
+        → OddThenEven (pair_bytes (p ∷ (q ∷ qs)))
+    by (inl e) ih =
+        subst OddThenEven (sym (cond-true (is_only 0 (q ∷ qs)) ((10 + 2 * p) ∷ []) ((11 + 2 * p) ∷ pair_bytes (q ∷ qs)) e))
+        ((omega arith, omega (arith, a.0)), omega arith)
+    by (inr e) ih =
+        subst OddThenEven (sym (cond-false (is_only 0 (q ∷ qs)) ((10 + 2 * p) ∷ []) ((11 + 2 * p) ∷ pair_bytes (q ∷ qs)) e))
+        (more (pair_bytes (q ∷ qs)) ih)
 
 pairs_of_digits : (n v : ℕ) → 0 < n → v < 100 ^ n → OddThenEven (pair_bytes (digits 100 n v))
 pairs_of_digits zero v some l = absurd (omega arith)
@@ -52,7 +60,9 @@ four_pairs : (most v : ℕ) → v < 100 ^ most → 1042490 ≤ v → 4 ≤ pair_
 four_pairs most v l g = by (cases_lt (pair_count most v) 4)
   where
     by : (pair_count most v < 4) ⊎ (4 ≤ pair_count most v) → 4 ≤ pair_count most v
-    by (inl few) = let least : pair_count most v ≤ 3 = omega arith in let p : 100 ^ pair_count most v ≤ 100 ^ 3 = pow-le-pow_right (lit< tt) least in absurd (omega (arith, count_fits most v l))
+    by (inl few) =
+        let least : pair_count most v ≤ 3 = omega arith in let p : 100 ^ pair_count most v ≤ 100 ^ 3 = pow-le-pow_right
+        (lit< tt) least in absurd (omega (arith, count_fits most v l))
     by (inr h) = h
 
 great_form : (most v : ℕ) → most ≤ 127 → v < 100 ^ most → 1042490 ≤ v → Form (great_bytes (pair_count most v) v)
@@ -68,9 +78,12 @@ number_form v l = by (cases_lt v 74) (cases_lt v 10234) (cases_lt v 1042490)
   where
     by : (v < 74) ⊎ (74 ≤ v) → (v < 10234) ⊎ (10234 ≤ v) → (v < 1042490) ⊎ (1042490 ≤ v) → Form (number_bytes v)
     by (inl a) b c = rw (lt-ltb v 74 a) (smallest (2 + v) refl (omega arith, omega arith))
-    by (inr a) (inl b) c = rw (le-ltb v 74 a, lt-ltb v 10234 b) (small (76 + (v - 74) / 254) (2 + (v - 74) % 254) refl (omega arith, omega arith) (omega arith, omega arith))
+    by (inr a) (inl b) c =
+        rw (le-ltb v 74 a, lt-ltb v 10234 b) (small (76 + (v - 74) / 254) (2 + (v - 74) % 254) refl (omega arith, omega arith)
+        (omega arith, omega arith))
     by (inr a) (inr b) (inl c) = rw (le-ltb v 74 a, le-ltb v 10234 b, lt-ltb v 1042490 c)
-        (middling (116 + (v - 10234) / 254 / 254) (2 + (v - 10234) / 254 % 254) (2 + (v - 10234) % 254) refl (omega arith, omega arith) (omega arith, omega arith) (omega arith, omega arith))
+        (middling (116 + (v - 10234) / 254 / 254) (2 + (v - 10234) / 254 % 254) (2 + (v - 10234) % 254) refl (omega arith, omega arith)
+        (omega arith, omega arith) (omega arith, omega arith))
     by (inr a) (inr b) (inr c) = rw (le-ltb v 74 a, le-ltb v 10234 b, le-ltb v 1042490 c) (great_form 127 v (lit≤ tt) l c)
 
 all_bytes : (bs : List ℕ) → OddThenEven bs → AllByRecursion IsByte bs
@@ -80,6 +93,9 @@ all_bytes (b ∷ (c ∷ bs)) h = (h.0, all_bytes (c ∷ bs) h.2)
 
 pub form_bytes : (bs : List ℕ) → Form bs → AllByRecursion IsByte bs
 form_bytes bs (smallest b e l) = subst (AllByRecursion IsByte) (sym e) ((omega (arith, l.0), omega (arith, l.1)), tt)
-form_bytes bs (small b c e l m) = subst (AllByRecursion IsByte) (sym e) ((omega (arith, l.0), omega (arith, l.1)), ((omega (arith, m.0), omega (arith, m.1)), tt))
-form_bytes bs (middling b c d e l m n) = subst (AllByRecursion IsByte) (sym e) ((omega (arith, l.0), omega (arith, l.1)), ((omega (arith, m.0), omega (arith, m.1)), ((omega (arith, n.0), omega (arith, n.1)), tt)))
+form_bytes bs (small b c e l m) =
+    subst (AllByRecursion IsByte) (sym e) ((omega (arith, l.0), omega (arith, l.1)), ((omega (arith, m.0), omega (arith, m.1)), tt))
+form_bytes bs (middling b c d e l m n) =
+    subst (AllByRecursion IsByte) (sym e)
+    ((omega (arith, l.0), omega (arith, l.1)), ((omega (arith, m.0), omega (arith, m.1)), ((omega (arith, n.0), omega (arith, n.1)), tt)))
 form_bytes bs (great b cs e l o) = subst (AllByRecursion IsByte) (sym e) ((omega (arith, l.0), omega (arith, l.1)), all_bytes cs o)

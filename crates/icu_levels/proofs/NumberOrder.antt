@@ -65,7 +65,8 @@ not_only : (ps qs : List ℕ) → length ps ≡ length qs → list_order ps qs �
 not_only [] [] e h k = cc
 not_only [] (q ∷ qs) e h k = omega arith
 not_only (p ∷ ps) [] e h k = omega arith
-not_only (p ∷ ps) (q ∷ qs) e h k = by (less_cases p q ps qs h) (λ l. not_only ps qs (omega arith) l (and_parts (eqb q 0) (is_only 0 qs) k).1)
+not_only (p ∷ ps) (q ∷ qs) e h k =
+    by (less_cases p q ps qs h) (λ l. not_only ps qs (omega arith) l (and_parts (eqb q 0) (is_only 0 qs) k).1)
   where
     zero_first : q ≡ 0
     zero_first = eqb-true q 0 (and_parts (eqb q 0) (is_only 0 qs) k).0
@@ -78,17 +79,25 @@ pairs_precede : (ps qs : List ℕ) → length ps ≡ length qs → list_order ps
 pairs_precede [] [] e h = absurd (cc)
 pairs_precede [] (q ∷ qs) e h = absurd (omega arith)
 pairs_precede (p ∷ ps) [] e h = absurd (omega arith)
-pairs_precede (p ∷ ps) (q ∷ qs) e h = by (less_cases p q ps qs h) (cases_Bool (is_only 0 ps)) (cases_Bool (is_only 0 qs)) (λ l. pairs_precede ps qs (omega arith) l)
+pairs_precede (p ∷ ps) (q ∷ qs) e h =
+    by (less_cases p q ps qs h) (cases_Bool (is_only 0 ps)) (cases_Bool (is_only 0 qs)) (λ l. pairs_precede ps qs (omega arith) l)
   where
-    by : (p < q) ⊎ ((p ≡ q) × (list_order ps qs ≡ Less)) → (is_only 0 ps ≡ true) ⊎ (is_only 0 ps ≡ false) → (is_only 0 qs ≡ true) ⊎ (is_only 0 qs ≡ false)
+    by : (p < q) ⊎ ((p ≡ q) × (list_order ps qs ≡ Less)) → (is_only 0 ps ≡ true) ⊎ (is_only 0 ps ≡ false) → (is_only 0 qs ≡ true)
+        ⊎ (is_only 0 qs ≡ false)
         → (list_order ps qs ≡ Less → Precedes (pair_bytes ps) (pair_bytes qs)) → Precedes (pair_bytes (p ∷ ps)) (pair_bytes (q ∷ qs))
     by (inl l) (inl a) (inl b) ih = rw (last_pair p ps a, last_pair q qs b) (precedes_head (10 + 2 * p) (10 + 2 * q) [] [] (omega arith))
-    by (inl l) (inl a) (inr b) ih = rw (last_pair p ps a, inner_pair q qs b) (precedes_head (10 + 2 * p) (11 + 2 * q) [] (pair_bytes qs) (omega arith))
-    by (inl l) (inr a) (inl b) ih = rw (inner_pair p ps a, last_pair q qs b) (precedes_head (11 + 2 * p) (10 + 2 * q) (pair_bytes ps) [] (omega arith))
-    by (inl l) (inr a) (inr b) ih = rw (inner_pair p ps a, inner_pair q qs b) (precedes_head (11 + 2 * p) (11 + 2 * q) (pair_bytes ps) (pair_bytes qs) (omega arith))
+    by (inl l) (inl a) (inr b) ih =
+        rw (last_pair p ps a, inner_pair q qs b) (precedes_head (10 + 2 * p) (11 + 2 * q) [] (pair_bytes qs) (omega arith))
+    by (inl l) (inr a) (inl b) ih =
+        rw (inner_pair p ps a, last_pair q qs b) (precedes_head (11 + 2 * p) (10 + 2 * q) (pair_bytes ps) [] (omega arith))
+    by (inl l) (inr a) (inr b) ih =
+        rw (inner_pair p ps a, inner_pair q qs b) (precedes_head (11 + 2 * p) (11 + 2 * q) (pair_bytes ps) (pair_bytes qs) (omega arith))
     by (inr r) a (inl b) ih = absurd (not_only ps qs (omega arith) r.1 b)
-    by (inr r) (inl a) (inr b) ih = rw (last_pair p ps a, inner_pair q qs b) (precedes_head (10 + 2 * p) (11 + 2 * q) [] (pair_bytes qs) (omega (arith, r.0)))
-    by (inr r) (inr a) (inr b) ih = rw (inner_pair p ps a, inner_pair q qs b) (precedes_more (11 + 2 * p) (11 + 2 * q) (pair_bytes ps) (pair_bytes qs) (omega (arith, r.0)) (λ s. ih r.1))
+    by (inr r) (inl a) (inr b) ih =
+        rw (last_pair p ps a, inner_pair q qs b) (precedes_head (10 + 2 * p) (11 + 2 * q) [] (pair_bytes qs) (omega (arith, r.0)))
+    by (inr r) (inr a) (inr b) ih =
+        rw (inner_pair p ps a, inner_pair q qs b) (precedes_more (11 + 2 * p) (11 + 2 * q) (pair_bytes ps) (pair_bytes qs)
+        (omega (arith, r.0)) (λ s. ih r.1))
 
 length_digits : (base k v : ℕ) → length (digits base k v) ≡ k
 length_digits base zero v = refl
@@ -99,23 +108,32 @@ smallest_rises : Rises smallest_bytes 0 74
 smallest_rises x y a l b = precedes_head (2 + x) (2 + y) [] [] (omega arith)
 
 small_rises : Rises small_bytes 74 10234
-small_rises x y a l b = precedes_more (76 + (x - 74) / 254) (76 + (y - 74) / 254) ((2 + (x - 74) % 254) ∷ []) ((2 + (y - 74) % 254) ∷ []) (omega arith)
+small_rises x y a l b =
+    precedes_more (76 + (x - 74) / 254) (76 + (y - 74) / 254) ((2 + (x - 74) % 254) ∷ []) ((2 + (y - 74) % 254) ∷ []) (omega arith)
     (λ e. precedes_head (2 + (x - 74) % 254) (2 + (y - 74) % 254) [] [] (omega arith))
 
 middling_rises : Rises middling_bytes 10234 1042490
 middling_rises x y a l b =
-    precedes_more (116 + (x - 10234) / 254 / 254) (116 + (y - 10234) / 254 / 254) ((2 + (x - 10234) / 254 % 254) ∷ (2 + (x - 10234) % 254) ∷ []) ((2 + (y - 10234) / 254 % 254) ∷ (2 + (y - 10234) % 254) ∷ []) (omega arith)
-    (λ e. precedes_more (2 + (x - 10234) / 254 % 254) (2 + (y - 10234) / 254 % 254) ((2 + (x - 10234) % 254) ∷ []) ((2 + (y - 10234) % 254) ∷ []) (omega arith)
+    precedes_more (116 + (x - 10234) / 254 / 254) (116 + (y - 10234) / 254 / 254)
+    ((2 + (x - 10234) / 254 % 254) ∷ (2 + (x - 10234) % 254) ∷ []) ((2 + (y - 10234) / 254 % 254) ∷ (2 + (y - 10234) % 254) ∷ [])
+    (omega arith)
+    (λ e. precedes_more (2 + (x - 10234) / 254 % 254) (2 + (y - 10234) / 254 % 254) ((2 + (x - 10234) % 254) ∷ [])
+    ((2 + (y - 10234) % 254) ∷ []) (omega arith)
     (λ f. precedes_head (2 + (x - 10234) % 254) (2 + (y - 10234) % 254) [] [] (omega arith)))
 
 great_rises : (most bound : ℕ) → bound ≤ 100 ^ most → Rises (λ v. great_bytes (pair_count most v) v) 1042490 bound
 great_rises most bound fits x y a l b = by (cases_order (pair_count most x) (pair_count most y))
   where
-    by : (pair_count most x ≡ pair_count most y) ⊎ ((pair_count most x < pair_count most y) ⊎ (pair_count most y < pair_count most x)) → Precedes (great_bytes (pair_count most x) x) (great_bytes (pair_count most y) y)
-    by (inl e) = rw e (precedes_more (128 + pair_count most y) (128 + pair_count most y) (pair_bytes (digits 100 (pair_count most y) x)) (pair_bytes (digits 100 (pair_count most y) y)) (omega arith)
-        (λ f. pairs_precede (digits 100 (pair_count most y) x) (digits 100 (pair_count most y) y) (length_digits 100 (pair_count most y) x ∙ sym (length_digits 100 (pair_count most y) y))
+    by : (pair_count most x ≡ pair_count most y) ⊎ ((pair_count most x < pair_count most y) ⊎ (pair_count most y < pair_count most x))
+        → Precedes (great_bytes (pair_count most x) x) (great_bytes (pair_count most y) y)
+    by (inl e) = rw e (precedes_more (128 + pair_count most y) (128 + pair_count most y) (pair_bytes (digits 100 (pair_count most y) x))
+        (pair_bytes (digits 100 (pair_count most y) y)) (omega arith)
+        (λ f. pairs_precede (digits 100 (pair_count most y) x) (digits 100 (pair_count most y) y) (length_digits 100 (pair_count most y) x
+        ∙ sym (length_digits 100 (pair_count most y) y))
         (digits_less 100 (pair_count most y) x y (lit< tt) (count_fits most y (omega arith)) l)))
-    by (inr (inl m)) = precedes_head (128 + pair_count most x) (128 + pair_count most y) (pair_bytes (digits 100 (pair_count most x) x)) (pair_bytes (digits 100 (pair_count most y) y)) (omega arith)
+    by (inr (inl m)) =
+        precedes_head (128 + pair_count most x) (128 + pair_count most y) (pair_bytes (digits 100 (pair_count most x) x))
+        (pair_bytes (digits 100 (pair_count most y) y)) (omega arith)
     by (inr (inr m)) = absurd (omega (arith, count_grows most x y (omega arith)))
 
 last_before_great : Precedes (middling_bytes (1042490 - 1)) (great_bytes (pair_count 127 1042490) 1042490)
@@ -127,7 +145,8 @@ pub number_bytes_rise : Rises number_bytes 0 (100 ^ 127)
 number_bytes_rise =
     glue smallest_bytes _ 0 74 (100 ^ 127) (lit< tt) (lit< tt) smallest_rises
     (glue small_bytes _ 74 10234 (100 ^ 127) (lit< tt) (lit< tt) small_rises
-    (glue middling_bytes (λ v. great_bytes (pair_count 127 v) v) 10234 1042490 (100 ^ 127) (lit< tt) (lit< tt) middling_rises (great_rises 127 (100 ^ 127) (lit≤ tt))
+    (glue middling_bytes (λ v. great_bytes (pair_count 127 v) v) 10234 1042490 (100 ^ 127) (lit< tt) (lit< tt) middling_rises
+    (great_rises 127 (100 ^ 127) (lit≤ tt))
     last_before_great)
     (λ s t. refl))
     (λ s t. refl)

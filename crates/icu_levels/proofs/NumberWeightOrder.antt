@@ -47,8 +47,10 @@ one_weight numeric b (c ∷ (d ∷ bs)) = refl
 
 -- the first weights decide, or are the same and then the bytes after them decide
 threes_step : (numeric b c : ℕ) (bs cs : List ℕ) → AllByRecursion IsByte bs → AllByRecursion IsByte cs → list_order (b ∷ bs) (c ∷ cs) ≡ Less
-    → (list_order (rest (rest bs)) (rest (rest cs)) ≡ Less → list_order (in_threes numeric (rest (rest bs))) (in_threes numeric (rest (rest cs))) ≡ Less)
-    → list_order (first_weight numeric (b ∷ bs) ∷ in_threes numeric (rest (rest bs))) (first_weight numeric (c ∷ cs) ∷ in_threes numeric (rest (rest cs))) ≡ Less
+    → (list_order (rest (rest bs)) (rest (rest cs)) ≡ Less
+    → list_order (in_threes numeric (rest (rest bs))) (in_threes numeric (rest (rest cs))) ≡ Less)
+    → list_order (first_weight numeric (b ∷ bs) ∷ in_threes numeric (rest (rest bs)))
+    (first_weight numeric (c ∷ cs) ∷ in_threes numeric (rest (rest cs))) ≡ Less
 threes_step numeric b c bs cs a d h ih = by (less_cases b c bs cs h)
   where
     b1 : first_or_zero bs < 256
@@ -57,21 +59,30 @@ threes_step numeric b c bs cs a d h ih = by (less_cases b c bs cs h)
     b2 : first_or_zero (rest bs) < 256
     b2 = first_byte (rest bs) (rest_bytes bs a)
 
-    finish : (first_weight numeric (b ∷ bs) < first_weight numeric (c ∷ cs)) ⊎ ((first_weight numeric (b ∷ bs) ≡ first_weight numeric (c ∷ cs)) × (list_order (rest (rest bs)) (rest (rest cs)) ≡ Less))
-        → list_order (first_weight numeric (b ∷ bs) ∷ in_threes numeric (rest (rest bs))) (first_weight numeric (c ∷ cs) ∷ in_threes numeric (rest (rest cs))) ≡ Less
-    finish (inl l) = less_head (first_weight numeric (b ∷ bs)) (first_weight numeric (c ∷ cs)) (in_threes numeric (rest (rest bs))) (in_threes numeric (rest (rest cs))) l
-    finish (inr e) = alike_head (first_weight numeric (b ∷ bs)) (first_weight numeric (c ∷ cs)) (in_threes numeric (rest (rest bs))) (in_threes numeric (rest (rest cs))) e.0 ∙ ih e.1
+    finish : (first_weight numeric (b ∷ bs) < first_weight numeric (c ∷ cs))
+        ⊎ ((first_weight numeric (b ∷ bs) ≡ first_weight numeric (c ∷ cs)) × (list_order (rest (rest bs)) (rest (rest cs)) ≡ Less))
+        → list_order (first_weight numeric (b ∷ bs) ∷ in_threes numeric (rest (rest bs)))
+        (first_weight numeric (c ∷ cs) ∷ in_threes numeric (rest (rest cs))) ≡ Less
+    finish (inl l) =
+        less_head (first_weight numeric (b ∷ bs)) (first_weight numeric (c ∷ cs)) (in_threes numeric (rest (rest bs)))
+        (in_threes numeric (rest (rest cs))) l
+    finish (inr e) =
+        alike_head (first_weight numeric (b ∷ bs)) (first_weight numeric (c ∷ cs)) (in_threes numeric (rest (rest bs)))
+        (in_threes numeric (rest (rest cs))) e.0 ∙ ih e.1
 
     third : b ≡ c → first_or_zero bs ≡ first_or_zero cs → LessFrom (rest bs) (rest cs)
-        → list_order (first_weight numeric (b ∷ bs) ∷ in_threes numeric (rest (rest bs))) (first_weight numeric (c ∷ cs) ∷ in_threes numeric (rest (rest cs))) ≡ Less
+        → list_order (first_weight numeric (b ∷ bs) ∷ in_threes numeric (rest (rest bs)))
+        (first_weight numeric (c ∷ cs) ∷ in_threes numeric (rest (rest cs))) ≡ Less
     third e f (inl l) = finish (inl (omega (arith, b1, b2)))
     third e f (inr g) = finish (inr (omega (arith, g.0), g.1))
 
-    second : b ≡ c → LessFrom bs cs → list_order (first_weight numeric (b ∷ bs) ∷ in_threes numeric (rest (rest bs))) (first_weight numeric (c ∷ cs) ∷ in_threes numeric (rest (rest cs))) ≡ Less
+    second : b ≡ c → LessFrom bs cs → list_order (first_weight numeric (b ∷ bs) ∷ in_threes numeric (rest (rest bs)))
+        (first_weight numeric (c ∷ cs) ∷ in_threes numeric (rest (rest cs))) ≡ Less
     second e (inl l) = finish (inl (omega (arith, b1, b2)))
     second e (inr g) = third e g.0 (less_from (rest bs) (rest cs) (rest_bytes cs d) g.1)
 
-    by : (b < c) ⊎ ((b ≡ c) × (list_order bs cs ≡ Less)) → list_order (first_weight numeric (b ∷ bs) ∷ in_threes numeric (rest (rest bs))) (first_weight numeric (c ∷ cs) ∷ in_threes numeric (rest (rest cs))) ≡ Less
+    by : (b < c) ⊎ ((b ≡ c) × (list_order bs cs ≡ Less)) → list_order (first_weight numeric (b ∷ bs) ∷ in_threes numeric (rest (rest bs)))
+        (first_weight numeric (c ∷ cs) ∷ in_threes numeric (rest (rest cs))) ≡ Less
     by (inl l) = finish (inl (omega (arith, b1, b2)))
     by (inr e) = second e.0 (less_from bs cs d e.1)
 
@@ -80,7 +91,8 @@ rest_length [] = omega arith
 rest_length (b ∷ bs) = omega arith
 
 -- the weights of lesser bytes are less
-threes_less : (most numeric : ℕ) (bs cs : List ℕ) → length bs ≤ most → AllByRecursion IsByte bs → AllByRecursion IsByte cs → list_order bs cs ≡ Less
+threes_less : (most numeric : ℕ) (bs cs : List ℕ) → length bs ≤ most → AllByRecursion IsByte bs → AllByRecursion IsByte cs
+    → list_order bs cs ≡ Less
     → list_order (in_threes numeric bs) (in_threes numeric cs) ≡ Less
 threes_less most numeric [] [] l a d h = cc
 threes_less most numeric [] (c ∷ cs) l a d h = subst (λ l. list_order [] l ≡ Less) (sym (one_weight numeric c cs)) refl
@@ -90,21 +102,28 @@ threes_less (suc most) numeric (b ∷ bs) (c ∷ cs) l a d h =
     subst (λ l. list_order l (in_threes numeric (c ∷ cs)) ≡ Less) (sym (one_weight numeric b bs))
     (subst (λ l. list_order (first_weight numeric (b ∷ bs) ∷ in_threes numeric (rest (rest bs))) l ≡ Less) (sym (one_weight numeric c cs))
     (threes_step numeric b c bs cs a.1 d.1 h
-    (λ k. threes_less most numeric (rest (rest bs)) (rest (rest cs)) (omega (arith, rest_length bs, rest_length (rest bs))) (rest_bytes (rest bs) (rest_bytes bs a.1)) (rest_bytes (rest cs) (rest_bytes cs d.1)) k)))
+    (λ k. threes_less most numeric (rest (rest bs)) (rest (rest cs)) (omega (arith, rest_length bs, rest_length (rest bs)))
+    (rest_bytes (rest bs) (rest_bytes bs a.1)) (rest_bytes (rest cs) (rest_bytes cs d.1)) k)))
 
 numbers_less : (numeric v w : ℕ) → w < 100 ^ 127 → v < w → list_order (number_weights numeric v) (number_weights numeric w) ≡ Less
 numbers_less numeric v w f l =
-    threes_less (length (number_bytes v)) numeric (number_bytes v) (number_bytes w) (omega arith) (form_bytes (number_bytes v) (number_form v (below_both v w l f))) (form_bytes (number_bytes w) (number_form w f))
-    (sym (ap (λ z. list_order z (number_bytes w)) (append-nil (number_bytes v))) ∙ (sym (ap (λ z. list_order (number_bytes v ++ []) z) (append-nil (number_bytes w))) ∙ number_bytes_rise v w (omega arith) l f [] []))
+    threes_less (length (number_bytes v)) numeric (number_bytes v) (number_bytes w) (omega arith)
+    (form_bytes (number_bytes v) (number_form v (below_both v w l f))) (form_bytes (number_bytes w) (number_form w f))
+    (sym (ap (λ z. list_order z (number_bytes w)) (append-nil (number_bytes v)))
+    ∙ (sym (ap (λ z. list_order (number_bytes v ++ []) z) (append-nil (number_bytes w)))
+    ∙ number_bytes_rise v w (omega arith) l f [] []))
   where
     below_both : (v w : ℕ) {b : ℕ} → v < w → w < b → v < b
     below_both v w {b = b} l f = omega arith
 
 -- numbers below 10^254 order by value through their weights, whatever the lead
-pub numbers_by_value : (numeric v w : ℕ) → v < 100 ^ 127 → w < 100 ^ 127 → list_order (number_weights numeric v) (number_weights numeric w) ≡ nat_cmp v w
+pub numbers_by_value : (numeric v w : ℕ) → v < 100 ^ 127 → w < 100 ^ 127 → list_order (number_weights numeric v) (number_weights numeric w)
+    ≡ nat_cmp v w
 numbers_by_value numeric v w f g = by (cases_order v w)
   where
     by : (v ≡ w) ⊎ ((v < w) ⊎ (w < v)) → list_order (number_weights numeric v) (number_weights numeric w) ≡ nat_cmp v w
-    by (inl e) = same_lists_order (number_weights numeric v) (number_weights numeric w) (ap (number_weights numeric) e) ∙ sym (ap (λ z. nat_cmp z w) e ∙ same_number w)
+    by (inl e) =
+        same_lists_order (number_weights numeric v) (number_weights numeric w) (ap (number_weights numeric) e)
+        ∙ sym (ap (λ z. nat_cmp z w) e ∙ same_number w)
     by (inr (inl l)) = numbers_less numeric v w g l ∙ sym (less_number v w l)
     by (inr (inr l)) = turned (number_weights numeric v) (number_weights numeric w) (numbers_less numeric w v f l) ∙ sym (more_number v w l)

@@ -18,7 +18,8 @@ only_at n (x ∷ xs) h (y ∷ ys) e k =
     let c = only_at n xs p.1 ys (omega arith) q.1 in cc
 
 -- a list of the least number alone is less than another as long
-only_less : (n : ℕ) (xs ys : List ℕ) → is_only n xs ≡ true → length xs ≡ length ys → AllByRecursion (λ y. n ≤ y) ys → is_only n ys ≡ false → list_order xs ys ≡ Less
+only_less : (n : ℕ) (xs ys : List ℕ) → is_only n xs ≡ true → length xs ≡ length ys → AllByRecursion (λ y. n ≤ y) ys → is_only n ys ≡ false
+    → list_order xs ys ≡ Less
 only_less n [] [] h e p k = cc
 only_less n [] (y ∷ ys) h e p k = absurd (omega arith)
 only_less n (x ∷ xs) [] h e p k = absurd (omega arith)
@@ -38,7 +39,8 @@ only_less n (x ∷ xs) (y ∷ ys) h e p k = by (cases_order x y) (λ l. only_les
 
 -- Of such a level it is enough to know that it keeps the order of lesser lists, and writes nothing for no weight
 module _ (n : ℕ) (IsLive : ℕ → Type 0) (least : (w : ℕ) → IsLive w → n ≤ w) (written : List ℕ → List ℕ) (nothing : written [] ≡ [])
-    (less : (vs ws s t : List ℕ) → AllByRecursion IsLive vs → AllByRecursion IsLive ws → IsUnder 2 s → list_order vs ws ≡ Less → list_order (written vs ++ s) (written ws ++ t) ≡ Less) where
+    (less : (vs ws s t : List ℕ) → AllByRecursion IsLive vs → AllByRecursion IsLive ws → IsUnder 2 s → list_order vs ws ≡ Less
+    → list_order (written vs ++ s) (written ws ++ t) ≡ Less) where
   abbrev or_nothing : List ℕ → List ℕ
   or_nothing ws = if is_only n ws then [] else written ws
 
@@ -56,24 +58,32 @@ module _ (n : ℕ) (IsLive : ℕ → Type 0) (least : (w : ℕ) → IsLive w →
       → list_order (or_nothing vs ++ s) (or_nothing ws ++ t) ≡ Less
   alone_less vs [] s t q u h k = cc
   alone_less vs (w ∷ ws) s t q u h k =
-      ap (λ l. list_order (l ++ s) (or_nothing (w ∷ ws) ++ t)) (is_unwritten vs h) ∙ (ap (λ l. list_order s (l ++ t)) (is_written (w ∷ ws) k)
+      ap (λ l. list_order (l ++ s) (or_nothing (w ∷ ws) ++ t)) (is_unwritten vs h)
+      ∙ (ap (λ l. list_order s (l ++ t)) (is_written (w ∷ ws) k)
       ∙ (ap (λ l. list_order (l ++ s) (written (w ∷ ws) ++ t)) (sym nothing) ∙ less [] (w ∷ ws) s t tt q u refl))
 
   both_written : (vs ws s t : List ℕ) → AllByRecursion IsLive vs → AllByRecursion IsLive ws → IsUnder 2 s → IsUnder 2 t
       → list_order (written vs ++ s) (written ws ++ t) ≡ ordering_then (list_order vs ws) (list_order s t)
-  both_written vs ws s t p q u v = keeps_order vs ws (written vs) (written ws) s t (less vs ws s t p q u) (less ws vs t s q p v) (λ e. ap written e)
+  both_written vs ws s t p q u v =
+      keeps_order vs ws (written vs) (written ws) s t (less vs ws s t p q u) (less ws vs t s q p v) (λ e. ap written e)
 
   -- the order of lists as long
-  pub or_nothing_order : (vs ws s t : List ℕ) → AllByRecursion IsLive vs → AllByRecursion IsLive ws → IsUnder 2 s → IsUnder 2 t → length vs ≡ length ws
-      → list_order ((if is_only n vs then [] else written vs) ++ s) ((if is_only n ws then [] else written ws) ++ t) ≡ ordering_then (list_order vs ws) (list_order s t)
+  pub or_nothing_order : (vs ws s t : List ℕ) → AllByRecursion IsLive vs → AllByRecursion IsLive ws → IsUnder 2 s → IsUnder 2 t → length vs
+      ≡ length ws
+      → list_order ((if is_only n vs then [] else written vs) ++ s) ((if is_only n ws then [] else written ws) ++ t)
+      ≡ ordering_then (list_order vs ws) (list_order s t)
   or_nothing_order vs ws s t p q u v e = by (cases_Bool (is_only n vs)) (cases_Bool (is_only n ws))
     where
       by : (is_only n vs ≡ true) ⊎ (is_only n vs ≡ false) → (is_only n ws ≡ true) ⊎ (is_only n ws ≡ false)
           → list_order (or_nothing vs ++ s) (or_nothing ws ++ t) ≡ ordering_then (list_order vs ws) (list_order s t)
-      by (inl h) (inl k) = ap (λ l. list_order (l ++ s) (or_nothing ws ++ t)) (is_unwritten vs h) ∙ (ap (λ l. list_order s (l ++ t)) (is_unwritten ws k)
+      by (inl h) (inl k) =
+          ap (λ l. list_order (l ++ s) (or_nothing ws ++ t)) (is_unwritten vs h) ∙ (ap (λ l. list_order s (l ++ t)) (is_unwritten ws k)
           ∙ ap (λ o. ordering_then o (list_order s t)) (sym (same_lists_order vs ws (only_at n vs h ws e k))))
-      by (inl h) (inr k) = alone_less vs ws s t q u h k ∙ ap (λ o. ordering_then o (list_order s t)) (sym (only_less n vs ws h e (all_least ws q) k))
+      by (inl h) (inr k) =
+          alone_less vs ws s t q u h k ∙ ap (λ o. ordering_then o (list_order s t)) (sym (only_less n vs ws h e (all_least ws q) k))
       by (inr h) (inl k) = turned (or_nothing vs ++ s) (or_nothing ws ++ t) (alone_less ws vs t s p v k h)
           ∙ ap (λ o. ordering_then o (list_order s t)) (sym (turned vs ws (only_less n ws vs k (sym e) (all_least vs p) h)))
-      by (inr h) (inr k) = ap (λ l. list_order (l ++ s) (or_nothing ws ++ t)) (is_written vs h) ∙ (ap (λ l. list_order (written vs ++ s) (l ++ t)) (is_written ws k)
+      by (inr h) (inr k) =
+          ap (λ l. list_order (l ++ s) (or_nothing ws ++ t)) (is_written vs h)
+          ∙ (ap (λ l. list_order (written vs ++ s) (l ++ t)) (is_written ws k)
           ∙ both_written vs ws s t p q u v)

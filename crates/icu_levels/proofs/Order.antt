@@ -43,7 +43,8 @@ three_ways [] [] = inr (inl refl)
 three_ways [] (y ∷ ys) = inl refl
 three_ways (x ∷ xs) [] = inr (inr refl)
 three_ways (x ∷ xs) (y ∷ ys) =
-    ⊎_elim (λ e. ⊎_elim (λ l. inl (alike_head x y xs ys e ∙ l)) (λ m. inr (⊎_elim (λ t. inl (cc)) (λ l. inr (alike_head y x ys xs (sym e) ∙ l)) m)) (three_ways xs ys))
+    ⊎_elim (λ e. ⊎_elim (λ l. inl (alike_head x y xs ys e ∙ l))
+    (λ m. inr (⊎_elim (λ t. inl (cc)) (λ l. inr (alike_head y x ys xs (sym e) ∙ l)) m)) (three_ways xs ys))
     (⊎_elim (λ l. inl (less_head x y xs ys l)) (λ l. inr (inr (less_head y x ys xs l))))
     (cases_order x y)
 
@@ -59,8 +60,11 @@ pub tied_lists : (xs ys : List ℕ) → list_order xs ys ≡ Equal → xs ≡ ys
 tied_lists xs ys h = ⊎_elim (λ l. cc) (⊎_elim (λ e. e) (λ l. let g = turned xs ys l in cc)) (three_ways xs ys)
 
 -- two keys whose first parts keep the order, and are followed by parts that do
-pub keeps_order : (xs ys ps qs us vs : List ℕ) → (list_order xs ys ≡ Less → list_order (ps ++ us) (qs ++ vs) ≡ Less) → (list_order ys xs ≡ Less → list_order (qs ++ vs) (ps ++ us) ≡ Less) → (xs ≡ ys → ps ≡ qs) → list_order (ps ++ us) (qs ++ vs) ≡ ordering_then (list_order xs ys) (list_order us vs)
+pub keeps_order : (xs ys ps qs us vs : List ℕ) → (list_order xs ys ≡ Less → list_order (ps ++ us) (qs ++ vs) ≡ Less)
+    → (list_order ys xs ≡ Less → list_order (qs ++ vs) (ps ++ us) ≡ Less) → (xs ≡ ys → ps ≡ qs) → list_order (ps ++ us) (qs ++ vs)
+    ≡ ordering_then (list_order xs ys) (list_order us vs)
 keeps_order xs ys ps qs us vs below above same =
     ⊎_elim (λ l. below l ∙ rw l)
-    (⊎_elim (λ e. rw (same_lists_order xs ys e, same e) (same_front qs us vs)) (λ g. turned (ps ++ us) (qs ++ vs) (above g) ∙ rw (turned xs ys g)))
+    (⊎_elim (λ e. rw (same_lists_order xs ys e, same e) (same_front qs us vs)) (λ g. turned (ps ++ us) (qs ++ vs) (above g)
+    ∙ rw (turned xs ys g)))
     (three_ways xs ys)

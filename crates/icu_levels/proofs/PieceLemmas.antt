@@ -26,7 +26,8 @@ first_pieces_apart (v ∷ c ∷ []) (w ∷ x ∷ y ∷ z ∷ q) f g b = absurd g
 first_pieces_apart (v ∷ c ∷ d ∷ []) [] f g b = absurd g
 first_pieces_apart (v ∷ c ∷ d ∷ []) (w ∷ []) f g b = absurd b.1
 first_pieces_apart (v ∷ c ∷ d ∷ []) (w ∷ x ∷ []) f g b = absurd b.1.1
-first_pieces_apart (v ∷ c ∷ d ∷ []) (w ∷ x ∷ y ∷ []) f g b = ap₂ (λ (s : ℕ) (t : List ℕ). s ∷ t) b.0 (ap₂ (λ (s t : ℕ). s ∷ t ∷ []) b.1.0 b.1.1.0)
+first_pieces_apart (v ∷ c ∷ d ∷ []) (w ∷ x ∷ y ∷ []) f g b =
+    ap₂ (λ (s : ℕ) (t : List ℕ). s ∷ t) b.0 (ap₂ (λ (s t : ℕ). s ∷ t ∷ []) b.1.0 b.1.1.0)
 first_pieces_apart (v ∷ c ∷ d ∷ []) (w ∷ x ∷ y ∷ z ∷ q) f g b = absurd g
 first_pieces_apart (v ∷ c ∷ d ∷ e ∷ p) q f g b = absurd f
 
@@ -45,6 +46,7 @@ further_pieces_apart (v ∷ c ∷ []) (w ∷ x ∷ y ∷ z ∷ q) f g b = absurd
 further_pieces_apart (v ∷ c ∷ d ∷ []) [] f g b = absurd g
 further_pieces_apart (v ∷ c ∷ d ∷ []) (w ∷ []) f g b = absurd b.1
 further_pieces_apart (v ∷ c ∷ d ∷ []) (w ∷ x ∷ []) f g b = absurd b.1.1
-further_pieces_apart (v ∷ c ∷ d ∷ []) (w ∷ x ∷ y ∷ []) f g b = ap₂ (λ (s : ℕ) (t : List ℕ). s ∷ t) b.0 (ap₂ (λ (s t : ℕ). s ∷ t ∷ []) b.1.0 b.1.1.0)
+further_pieces_apart (v ∷ c ∷ d ∷ []) (w ∷ x ∷ y ∷ []) f g b =
+    ap₂ (λ (s : ℕ) (t : List ℕ). s ∷ t) b.0 (ap₂ (λ (s t : ℕ). s ∷ t ∷ []) b.1.0 b.1.1.0)
 further_pieces_apart (v ∷ c ∷ d ∷ []) (w ∷ x ∷ y ∷ z ∷ q) f g b = absurd g
 further_pieces_apart (v ∷ c ∷ d ∷ e ∷ p) q f g b = absurd f

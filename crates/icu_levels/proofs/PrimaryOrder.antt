@@ -31,7 +31,8 @@ same_weights k v w f g e = by (cases_order v w)
     by (inr (inr l)) = absurd (no (weight_bytes k w) (weight_bytes k v) (sym e) (trimmed_less k w v (digits_less 256 k w v (lit< tt) f l)))
 
 -- weights of four bytes of which one begins the other have one lead
-begins_lead : (v w : ℕ) → 0 < lead v → 0 < lead w → IsBeginning (weight_bytes 4 v) (weight_bytes 4 w) → (lead v ≡ lead w) × IsBeginning (weight_bytes 3 (below_lead v)) (weight_bytes 3 (below_lead w))
+begins_lead : (v w : ℕ) → 0 < lead v → 0 < lead w → IsBeginning (weight_bytes 4 v) (weight_bytes 4 w) → (lead v ≡ lead w)
+    × IsBeginning (weight_bytes 3 (below_lead v)) (weight_bytes 3 (below_lead w))
 begins_lead v w a b h =
     subst (λ l. IsBeginning (lead v ∷ weight_bytes 3 (below_lead v)) l) (nonzero_first (lead w) (weight_bytes 3 (below_lead w)) b)
     (subst (λ l. IsBeginning l (weight_bytes 4 w)) (nonzero_first (lead v) (weight_bytes 3 (below_lead v)) a) h)
@@ -75,7 +76,8 @@ module _ (c : Compression) (numeric : ℕ) (IsLive : ℕ → Type 0) (good : Are
 
   -- which pieces may stand
   pieces_apart : (i : Bool) (v w : ℕ) → MayStand numeric IsLive i v → MayStand numeric IsLive i w → lead v ≡ numeric → lead w ≡ numeric
-      → IsBeginning (weight_bytes 3 (below_lead v)) (weight_bytes 3 (below_lead w)) → weight_bytes 3 (below_lead v) ≡ weight_bytes 3 (below_lead w)
+      → IsBeginning (weight_bytes 3 (below_lead v)) (weight_bytes 3 (below_lead w)) → weight_bytes 3 (below_lead v)
+      ≡ weight_bytes 3 (below_lead w)
   pieces_apart false v w (inl p) q k l b = absurd (good.not_numeric v p k)
   pieces_apart false v w (inr p) (inl q) k l b = absurd (good.not_numeric w q l)
   pieces_apart false v w (inr p) (inr q) k l b = first_pieces_apart _ _ p.piece q.piece b
@@ -86,8 +88,11 @@ module _ (c : Compression) (numeric : ℕ) (IsLive : ℕ → Type 0) (good : Are
       → IsBeginning (weight_bytes 4 (c.reorder v)) (weight_bytes 4 (c.reorder w)) → ⊥
   stands_apart i v w p q n b = by (member i v p) (member i w q)
     where
-      h : (lead (c.reorder v) ≡ lead (c.reorder w)) × IsBeginning (weight_bytes 3 (below_lead (c.reorder v))) (weight_bytes 3 (below_lead (c.reorder w)))
-      h = begins_lead (c.reorder v) (c.reorder w) (omega (arith, member_leads i v (member i v p))) (omega (arith, member_leads i w (member i w q))) b
+      h : (lead (c.reorder v) ≡ lead (c.reorder w)) × IsBeginning (weight_bytes 3 (below_lead (c.reorder v)))
+          (weight_bytes 3 (below_lead (c.reorder w)))
+      h =
+          begins_lead (c.reorder v) (c.reorder w) (omega (arith, member_leads i v (member i v p)))
+          (omega (arith, member_leads i w (member i w q))) b
 
       same : (x y : ℕ) → lead x ≡ lead y → below_lead x ≡ below_lead y → x ≡ y
       same x y e f = omega arith
@@ -99,7 +104,8 @@ module _ (c : Compression) (numeric : ℕ) (IsLive : ℕ → Type 0) (good : Are
       by (numbered f l) (numbered g m) =
           let kv = good.lead_alone v f in
           let kw = good.lead_alone w g in
-          let tails = pieces_apart i v w p q l m (subst (λ z. IsBeginning (weight_bytes 3 (below_lead v)) (weight_bytes 3 z)) kw (subst (λ z. IsBeginning (weight_bytes 3 z) (weight_bytes 3 (below_lead (c.reorder w)))) kv h.1)) in
+          let tails = pieces_apart i v w p q l m (subst (λ z. IsBeginning (weight_bytes 3 (below_lead v)) (weight_bytes 3 z)) kw
+          (subst (λ z. IsBeginning (weight_bytes 3 z) (weight_bytes 3 (below_lead (c.reorder w)))) kv h.1)) in
           let e = same_weights 3 (below_lead v) (below_lead w) (omega arith) (omega arith) tails in
           n (same (c.reorder v) (c.reorder w) h.0 (kv ∙ e ∙ sym kw))
 
@@ -113,9 +119,12 @@ module _ (c : Compression) (numeric : ℕ) (IsLive : ℕ → Type 0) (good : Are
     fits = λ x (w, s, e). subst (λ z. z < 256 ^ 4) e (good.reordered_fits w (member_fits p.inside w (member p.inside w s.1)));
     leads = λ x (w, s, e). subst (λ z. 2 ≤ lead z) e (member_leads p.inside w (member p.inside w s.1));
     separator = λ x (w, s, e). subst (λ z. lead z ≡ 2 → z ≡ 0x02000000) e (member_separator p.inside w (member p.inside w s.1));
-    seconds = λ x (w, s, e). subst (λ z. lead z ≡ p.dropped → (4 ≤ second_byte z) × (second_byte z ≤ 0xFE)) e (seconds p.inside p.dropped w (member p.inside w s.1) s.0);
+    seconds =
+        λ x (w, s, e). subst (λ z. lead z ≡ p.dropped → (4 ≤ second_byte z) × (second_byte z ≤ 0xFE)) e
+        (seconds p.inside p.dropped w (member p.inside w s.1) s.0);
     prefix_free = λ x y (v, s, e) (w, t, f). subst (λ z. z ≢ y → IsBeginning (weight_bytes 4 z) (weight_bytes 4 y) → ⊥) e
-        (subst (λ z. c.reorder v ≢ z → IsBeginning (weight_bytes 4 (c.reorder v)) (weight_bytes 4 z) → ⊥) f (stands_apart p.inside v w s.1 t.1));
+        (subst (λ z. c.reorder v ≢ z → IsBeginning (weight_bytes 4 (c.reorder v)) (weight_bytes 4 z) → ⊥) f
+        (stands_apart p.inside v w s.1 t.1));
   }
     where
       drops : (d : ℕ) → IsDropped d → (d ≡ 0) ⊎ (3 ≤ d)
@@ -123,10 +132,13 @@ module _ (c : Compression) (numeric : ℕ) (IsLive : ℕ → Type 0) (good : Are
       drops d (after q l k e) = inr (by (cases_eq (lead (c.reorder q)) 2))
         where
           by : (lead (c.reorder q) ≡ 2) ⊎ (lead (c.reorder q) ≡ 2 → ⊥) → 3 ≤ d
-          by (inl two) = let s = good.separator q l two in let t = good.lead_alone q (good.fits q l) in let u = good.seconds q l k in absurd (omega arith)
+          by (inl two) =
+              let s = good.separator q l two in let t = good.lead_alone q (good.fits q l) in let u = good.seconds q l k in absurd
+              (omega arith)
           by (inr two) = let m = good.leads q l in omega arith
 
-      seconds : (i : Bool) (d w : ℕ) → Member i w → IsDropped d → lead (c.reorder w) ≡ d → (4 ≤ second_byte (c.reorder w)) × (second_byte (c.reorder w) ≤ 0xFE)
+      seconds : (i : Bool) (d w : ℕ) → Member i w → IsDropped d → lead (c.reorder w) ≡ d → (4 ≤ second_byte (c.reorder w))
+          × (second_byte (c.reorder w) ≤ 0xFE)
       seconds i d w m (none z) h = absurd (omega (arith, member_leads i w m))
       seconds i d w (alive a) (after q l k e) h =
           let s = good.seconds w a (good.alike w q a l (h ∙ sym e) ∙ k) in
@@ -143,7 +155,8 @@ module _ (c : Compression) (numeric : ℕ) (IsLive : ℕ → Type 0) (good : Are
   same_place : (p : Place) (v w : ℕ) → Stands p v → Stands p w → c.reorder v ≡ c.reorder w → place_after p v ≡ place_after p w
   same_place p v w s t e = by (member p.inside v s.1) (member p.inside w t.1)
     where
-      places : (d f : ℕ) (i j : Bool) → d ≡ f → i ≡ j → ◌≡◌ {A = Place} (record { dropped = d; inside = i }) (record { dropped = f; inside = j })
+      places : (d f : ℕ) (i j : Bool) → d ≡ f → i ≡ j
+          → ◌≡◌ {A = Place} (record { dropped = d; inside = i }) (record { dropped = f; inside = j })
       places d f i j h k = ap₂ (λ (x : ℕ) (y : Bool). let place : Place = record { dropped = x; inside = y } in place) h k
 
       by : Member p.inside v → Member p.inside w → place_after p v ≡ place_after p w
@@ -152,7 +165,8 @@ module _ (c : Compression) (numeric : ℕ) (IsLive : ℕ → Type 0) (good : Are
           (not_number p.inside v (good.not_numeric v a) ∙ sym (not_number p.inside w (good.not_numeric w b)))
       by (alive a) (numbered f l) = absurd (good.numbers_apart v a (ap lead e ∙ good.numbers_together w f l))
       by (numbered f l) (alive a) = absurd (good.numbers_apart w a (ap lead (sym e) ∙ good.numbers_together v f l))
-      by (numbered f l) (numbered g m) = ap (place_after p) (one (c.reorder v) (c.reorder w) e (good.lead_alone v f) (good.lead_alone w g) (l ∙ sym m))
+      by (numbered f l) (numbered g m) =
+          ap (place_after p) (one (c.reorder v) (c.reorder w) e (good.lead_alone v f) (good.lead_alone w g) (l ∙ sym m))
         where
           one : (x y : ℕ) → x ≡ y → below_lead x ≡ below_lead v → below_lead y ≡ below_lead w → lead v ≡ lead w → v ≡ w
           one x y h k j o = omega arith
@@ -177,7 +191,8 @@ module _ (c : Compression) (numeric : ℕ) (IsLive : ℕ → Type 0) (good : Are
       by (inr k) = none (cond-false (c.is_compressible (lead w)) _ _ k)
   dropped_next i w (numbered f l) = none (plain_drop w l)
 
-  all_stand : (ws : List ℕ) (p : Place) → IsDropped p.dropped → IsPrimaryList numeric IsLive p.inside ws → StandAlong place_after Stands p ws
+  all_stand : (ws : List ℕ) (p : Place) → IsDropped p.dropped → IsPrimaryList numeric IsLive p.inside ws
+      → StandAlong place_after Stands p ws
   all_stand [] p d a = tt
   all_stand (w ∷ ws) p d a = ((d, a.0), all_stand ws (place_after p w) (dropped_next p.inside w (member p.inside w a.0)) a.1)
 
@@ -185,7 +200,10 @@ module _ (c : Compression) (numeric : ℕ) (IsLive : ℕ → Type 0) (good : Are
   start = record { dropped = 0; inside = false }
 
   -- The primary level: its bytes order as the reordered primaries, and then as what follows
-  pub primary_order : (vs ws s t : List ℕ) → IsPrimaryList numeric IsLive false vs → IsPrimaryList numeric IsLive false ws → IsUnder 2 s → IsUnder 2 t
-      → list_order (primary_level c 0 vs ++ s) (primary_level c 0 ws ++ t) ≡ ordering_then (list_order (map c.reorder vs) (map c.reorder ws)) (list_order s t)
+  pub primary_order : (vs ws s t : List ℕ) → IsPrimaryList numeric IsLive false vs → IsPrimaryList numeric IsLive false ws → IsUnder 2 s
+      → IsUnder 2 t
+      → list_order (primary_level c 0 vs ++ s) (primary_level c 0 ws ++ t)
+      ≡ ordering_then (list_order (map c.reorder vs) (map c.reorder ws)) (list_order s t)
   primary_order vs ws s t p q u v = rw (as_steps vs start, as_steps ws start)
-      (stepwise_order c.reorder bytes_at place_after Stands primaries_rise vs ws start s t (all_stand vs start (none refl) p) (all_stand ws start (none refl) q) u v)
+      (stepwise_order c.reorder bytes_at place_after Stands primaries_rise vs ws start s t (all_stand vs start (none refl) p)
+      (all_stand ws start (none refl) q) u v)

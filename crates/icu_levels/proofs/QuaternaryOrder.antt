@@ -40,8 +40,11 @@ module _ (IsLive : ℕ → Type 0) (good : AreShifted IsLive) where
   shifted_between w p = by (cases_lt (lead w) 0x1B)
     where
       by : (lead w < 0x1B) ⊎ (0x1B ≤ lead w) → IsOver 1 (shifted_bytes w) × IsUnder 0x1C (shifted_bytes w)
-      by (inl l) = rw (low_lead w l)
-          (over_first 1 (lead w) (weight_bytes 3 (w % 256 ^ 3)) (omega (arith, good.leads w p)), under_first 0x1C (lead w) (weight_bytes 3 (w % 256 ^ 3)) (omega arith))
+      by (inl l) = rw (low_lead w l) (
+        over_first 1 (lead w) (weight_bytes 3 (w % 256 ^ 3)) (omega (arith, good.leads w p)),
+        under_first 0x1C (lead w)
+            (weight_bytes 3 (w % 256 ^ 3)) (omega arith),
+      )
       by (inr l) = rw (high_lead w l) (lit< tt, lit< tt)
 
   shifted_rise : (v w : ℕ) → IsLive v → IsLive w → v < w → Precedes (shifted_bytes v) (shifted_bytes w)
@@ -53,7 +56,9 @@ module _ (IsLive : ℕ → Type 0) (good : AreShifted IsLive) where
       by : (lead v < 0x1B) ⊎ (0x1B ≤ lead v) → (lead w < 0x1B) ⊎ (0x1B ≤ lead w) → Precedes (shifted_bytes v) (shifted_bytes w)
       by (inl a) (inl b) = rw (low_lead v a, low_lead w b) full
       by (inl a) (inr b) = rw (low_lead v a, high_lead w b)
-          (precedes_over 0x1A (weight_bytes 4 v) (0x1B ∷ weight_bytes 4 w) (over_first 0 (lead v) (weight_bytes 3 (v % 256 ^ 3)) (omega (arith, good.leads v p))) (under_first 0x1B (lead v) (weight_bytes 3 (v % 256 ^ 3)) a) (lit< tt))
+          (precedes_over 0x1A (weight_bytes 4 v) (0x1B ∷ weight_bytes 4 w)
+          (over_first 0 (lead v) (weight_bytes 3 (v % 256 ^ 3)) (omega (arith, good.leads v p)))
+          (under_first 0x1B (lead v) (weight_bytes 3 (v % 256 ^ 3)) a) (lit< tt))
       by (inr a) (inl b) = absurd (omega arith)
       by (inr a) (inr b) = rw (high_lead v a, high_lead w b) (precedes_front (0x1B ∷ []) (weight_bytes 4 v) (weight_bytes 4 w) full)
 
@@ -65,19 +70,25 @@ module _ (IsLive : ℕ → Type 0) (good : AreShifted IsLive) where
     apart = λ v w p q nv nw l. apart v w p q nv nw l (cases_lt v (2 ^ 32)) (cases_lt w (2 ^ 32));
   }
     where
-      apart : (v w : ℕ) → IsQuaternary IsLive v → IsQuaternary IsLive w → v ≢ 2 ^ 32 → w ≢ 2 ^ 32 → v < w → (v < 2 ^ 32) ⊎ (2 ^ 32 ≤ v) → (w < 2 ^ 32) ⊎ (2 ^ 32 ≤ w)
+      apart : (v w : ℕ) → IsQuaternary IsLive v → IsQuaternary IsLive w → v ≢ 2 ^ 32 → w ≢ 2 ^ 32 → v < w → (v < 2 ^ 32) ⊎ (2 ^ 32 ≤ v)
+          → (w < 2 ^ 32) ⊎ (2 ^ 32 ≤ w)
           → Precedes (quaternary_bytes v) (quaternary_bytes w)
-      apart v w p q nv nw l (inl a) (inl b) = rw (below_bytes v (omega arith), below_bytes w (omega arith)) (shifted_rise v w (is_shifted v p a) (is_shifted w q b) l)
+      apart v w p q nv nw l (inl a) (inl b) =
+          rw (below_bytes v (omega arith), below_bytes w (omega arith)) (shifted_rise v w (is_shifted v p a) (is_shifted w q b) l)
       apart v w p q nv nw l (inl a) (inr b) = let f = shifted_between v (is_shifted v p a) in
-          rw (below_bytes v (omega arith), above_bytes w (omega arith)) (precedes_over 0x1B (shifted_bytes v) ((0xFC + w - 2 ^ 32) ∷ []) (over_zero (shifted_bytes v) f.0) f.1 (omega arith))
+          rw (below_bytes v (omega arith), above_bytes w (omega arith))
+          (precedes_over 0x1B (shifted_bytes v) ((0xFC + w - 2 ^ 32) ∷ []) (over_zero (shifted_bytes v) f.0) f.1 (omega arith))
         where
           over_zero : (xs : List ℕ) → IsOver 1 xs → IsOver 0 xs
           over_zero [] u = absurd u
           over_zero (x ∷ xs) u = omega arith
       apart v w p q nv nw l (inr a) (inl b) = absurd (omega arith)
-      apart v w p q nv nw l (inr a) (inr b) = rw (above_bytes v (omega arith), above_bytes w (omega arith)) (λ s t. less_head (0xFC + v - 2 ^ 32) (0xFC + w - 2 ^ 32) s t (omega arith))
+      apart v w p q nv nw l (inr a) (inr b) =
+          rw (above_bytes v (omega arith), above_bytes w (omega arith))
+          (λ s t. less_head (0xFC + v - 2 ^ 32) (0xFC + w - 2 ^ 32) s t (omega arith))
 
-  pub quaternary_order : (vs ws s t : List ℕ) → AllByRecursion (IsQuaternary IsLive) vs → AllByRecursion (IsQuaternary IsLive) ws → IsUnder 2 s → IsUnder 2 t
+  pub quaternary_order : (vs ws s t : List ℕ) → AllByRecursion (IsQuaternary IsLive) vs → AllByRecursion (IsQuaternary IsLive) ws
+      → IsUnder 2 s → IsUnder 2 t
       → list_order (quaternary_level vs ++ s) (quaternary_level ws ++ t) ≡ ordering_then (list_order vs ws) (list_order s t)
   quaternary_order vs ws s t p q u v =
       level_order quaternary_row quaternary_row_fits quaternary_bytes 1 (IsQuaternary IsLive) quaternaries_fit vs ws s t p q u v
@@ -93,12 +104,16 @@ unshifted_all : (ws : List ℕ) → AllByRecursion IsUnshifted ws → AllByRecur
 unshifted_all [] p = tt
 unshifted_all (w ∷ ws) p = (inr p.0, unshifted_all ws p.1)
 
-unshifted_less : (vs ws s t : List ℕ) → AllByRecursion IsUnshifted vs → AllByRecursion IsUnshifted ws → IsUnder 2 s → list_order vs ws ≡ Less
+unshifted_less : (vs ws s t : List ℕ) → AllByRecursion IsUnshifted vs → AllByRecursion IsUnshifted ws → IsUnder 2 s → list_order vs ws
+    ≡ Less
     → list_order (quaternary_level vs ++ s) (quaternary_level ws ++ t) ≡ Less
 unshifted_less vs ws s t p q u h =
-    level_less quaternary_row quaternary_row_fits quaternary_bytes 1 (IsQuaternary None) (quaternaries_fit None none_shifted) vs ws 0 s t (unshifted_all vs p) (unshifted_all ws q) u h
+    level_less quaternary_row quaternary_row_fits quaternary_bytes 1 (IsQuaternary None) (quaternaries_fit None none_shifted) vs ws 0 s t
+    (unshifted_all vs p) (unshifted_all ws q) u h
 
 -- lists as long
-pub unshifted_order : (vs ws s t : List ℕ) → AllByRecursion IsUnshifted vs → AllByRecursion IsUnshifted ws → IsUnder 2 s → IsUnder 2 t → length vs ≡ length ws
-    → list_order (unshifted_quaternary_level vs ++ s) (unshifted_quaternary_level ws ++ t) ≡ ordering_then (list_order vs ws) (list_order s t)
+pub unshifted_order : (vs ws s t : List ℕ) → AllByRecursion IsUnshifted vs → AllByRecursion IsUnshifted ws → IsUnder 2 s → IsUnder 2 t
+    → length vs ≡ length ws
+    → list_order (unshifted_quaternary_level vs ++ s) (unshifted_quaternary_level ws ++ t)
+    ≡ ordering_then (list_order vs ws) (list_order s t)
 unshifted_order = or_nothing_order (2 ^ 32) IsUnshifted (λ w p. p.0) quaternary_level refl unshifted_less

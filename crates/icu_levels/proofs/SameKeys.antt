@@ -34,7 +34,8 @@ module _ (t u : LevelLists) where
 
   characters_from : (f : Bool) → characters_order f t u ≡ Equal → SameCharacters f t u
   characters_from false e = tt
-  characters_from true e = same_from_ranks t.characters u.characters (tied_lists (map identical_rank t.characters) (map identical_rank u.characters) e)
+  characters_from true e =
+      same_from_ranks t.characters u.characters (tied_lists (map identical_rank t.characters) (map identical_rank u.characters) e)
 
   -- ---- and the same list ties
   secondaries_to : (f : SecondaryForm) → SameSecondaries f t u → secondaries_order f t u ≡ Equal
@@ -60,17 +61,27 @@ module _ (t u : LevelLists) where
   characters_to false e = refl
   characters_to true e = same_lists_order (map identical_rank t.characters) (map identical_rank u.characters) (ap (map identical_rank) e)
 
-all_tie : (a b c d e f : Ordering) → a ≡ Equal → b ≡ Equal → c ≡ Equal → d ≡ Equal → e ≡ Equal → f ≡ Equal → in_turn (a ∷ b ∷ c ∷ d ∷ e ∷ f ∷ []) ≡ Equal
+all_tie : (a b c d e f : Ordering) → a ≡ Equal → b ≡ Equal → c ≡ Equal → d ≡ Equal → e ≡ Equal → f ≡ Equal
+    → in_turn (a ∷ b ∷ c ∷ d ∷ e ∷ f ∷ []) ≡ Equal
 all_tie a b c d e f g h i j k l = rw (g, h, i, j, k, l) refl
 
-module _ (c : Compression) (f : KeyForm) (live : LiveWeights) (t u : LevelLists) (good : AreWeights c f live) (p : AreLists f live t) (q : AreLists f live u) (both : AreParallel c f t u) where
+module _ (c : Compression) (f : KeyForm) (live : LiveWeights) (t u : LevelLists) (good : AreWeights c f live) (p : AreLists f live t)
+    (q : AreLists f live u) (both : AreParallel c f t u) where
   pub same_levels : key_bytes c f t ≡ key_bytes c f u → HaveSameLists c f t u
   same_levels e =
       let o = sym (keys_order c f live t u good p q both) ∙ same_lists_order (key_bytes c f t) (key_bytes c f u) e in
-      let o0 = both_tie (primaries_order c t u) (in_turn (secondaries_order f.secondary t u ∷ cases_order f.cases t u ∷ tertiaries_order f.tertiary t u ∷ quaternaries_order f.quaternary t u ∷ characters_order f.identical t u ∷ [])) o in
-      let o1 = both_tie (secondaries_order f.secondary t u) (in_turn (cases_order f.cases t u ∷ tertiaries_order f.tertiary t u ∷ quaternaries_order f.quaternary t u ∷ characters_order f.identical t u ∷ [])) o0.1 in
-      let o2 = both_tie (cases_order f.cases t u) (in_turn (tertiaries_order f.tertiary t u ∷ quaternaries_order f.quaternary t u ∷ characters_order f.identical t u ∷ [])) o1.1 in
-      let o3 = both_tie (tertiaries_order f.tertiary t u) (in_turn (quaternaries_order f.quaternary t u ∷ characters_order f.identical t u ∷ [])) o2.1 in
+      let o0 = both_tie (primaries_order c t u)
+      (in_turn (secondaries_order f.secondary t u ∷ cases_order f.cases t u ∷ tertiaries_order f.tertiary t u ∷ quaternaries_order
+      f.quaternary t u ∷ characters_order f.identical t u ∷ [])) o in
+      let o1 = both_tie (secondaries_order f.secondary t u)
+      (in_turn (cases_order f.cases t u ∷ tertiaries_order f.tertiary t u ∷ quaternaries_order f.quaternary t u ∷ characters_order
+      f.identical t u ∷ [])) o0.1 in
+      let o2 =
+      both_tie (cases_order f.cases t u)
+      (in_turn (tertiaries_order f.tertiary t u ∷ quaternaries_order f.quaternary t u ∷ characters_order f.identical t u ∷ [])) o1.1 in
+      let o3 =
+      both_tie (tertiaries_order f.tertiary t u)
+      (in_turn (quaternaries_order f.quaternary t u ∷ characters_order f.identical t u ∷ [])) o2.1 in
       let o4 = both_tie (quaternaries_order f.quaternary t u) (in_turn (characters_order f.identical t u ∷ [])) o3.1 in
       let o5 = both_tie (characters_order f.identical t u) Equal o4.1 in
       record {

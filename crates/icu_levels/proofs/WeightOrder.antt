@@ -24,13 +24,19 @@ pub digits_less : (base k v w : ℕ) → 0 < base → w < base ^ k → v < w →
 digits_less base zero v w some f l = absurd (omega (arith, pow-zero base))
 digits_less base (suc k) v w some f l =
     ⊎_elim (λ h. less_head (v / base ^ k) (w / base ^ k) (digits base k (v % base ^ k)) (digits base k (w % base ^ k)) h)
-    (λ h. alike_head (v / base ^ k) (w / base ^ k) (digits base k (v % base ^ k)) (digits base k (w % base ^ k)) h.0 ∙ digits_less base k (v % base ^ k) (w % base ^ k) some (mod_below w (base ^ k) (pow_some base k some)) h.1)
+    (λ h. alike_head (v / base ^ k) (w / base ^ k) (digits base k (v % base ^ k)) (digits base k (w % base ^ k)) h.0
+    ∙ digits_less base k (v % base ^ k) (w % base ^ k) some (mod_below w (base ^ k) (pow_some base k some)) h.1)
     (quotients v w (base ^ k) (pow_some base k some) l)
 
 -- lists of one length keep their order without the last zeros
-pub trimmed_less : (k v w : ℕ) → list_order (digits 256 k v) (digits 256 k w) ≡ Less → list_order (weight_bytes k v) (weight_bytes k w) ≡ Less
+pub trimmed_less : (k v w : ℕ) → list_order (digits 256 k v) (digits 256 k w) ≡ Less → list_order (weight_bytes k v) (weight_bytes k w)
+    ≡ Less
 trimmed_less zero v w h = h
-trimmed_less (suc k) v w h = ⊎_elim (λ l. first (v / 256 ^ k) (w / 256 ^ k) (weight_bytes k (v % 256 ^ k)) (weight_bytes k (w % 256 ^ k)) l) (λ e. then (v / 256 ^ k) (w / 256 ^ k) (weight_bytes k (v % 256 ^ k)) (weight_bytes k (w % 256 ^ k)) e.0 (trimmed_less k (v % 256 ^ k) (w % 256 ^ k) e.1)) (less_cases (v / 256 ^ k) (w / 256 ^ k) (digits 256 k (v % 256 ^ k)) (digits 256 k (w % 256 ^ k)) h)
+trimmed_less (suc k) v w h =
+    ⊎_elim (λ l. first (v / 256 ^ k) (w / 256 ^ k) (weight_bytes k (v % 256 ^ k)) (weight_bytes k (w % 256 ^ k)) l)
+    (λ e. then (v / 256 ^ k) (w / 256 ^ k) (weight_bytes k (v % 256 ^ k)) (weight_bytes k (w % 256 ^ k)) e.0
+    (trimmed_less k (v % 256 ^ k) (w % 256 ^ k) e.1))
+    (less_cases (v / 256 ^ k) (w / 256 ^ k) (digits 256 k (v % 256 ^ k)) (digits 256 k (w % 256 ^ k)) h)
   where
     first : (x y : ℕ) (xs ys : List ℕ) → x < y → list_order (before_nonzero x xs) (before_nonzero y ys) ≡ Less
     first x zero xs ys l = absurd (omega arith)
@@ -48,7 +54,8 @@ trimmed_less (suc k) v w h = ⊎_elim (λ l. first (v / 256 ^ k) (w / 256 ^ k) (
     then (suc x) y [] (z ∷ ys) e l = alike_head (suc x) y [] (z ∷ ys) e ∙ l
     then x y (u ∷ xs) (z ∷ ys) e l = alike_head x y (u ∷ xs) (z ∷ ys) e ∙ l
 
-pub weights_precede : (k v w : ℕ) → w < 256 ^ k → v < w → (IsBeginning (weight_bytes k v) (weight_bytes k w) → ⊥) → Precedes (weight_bytes k v) (weight_bytes k w)
+pub weights_precede : (k v w : ℕ) → w < 256 ^ k → v < w → (IsBeginning (weight_bytes k v) (weight_bytes k w) → ⊥)
+    → Precedes (weight_bytes k v) (weight_bytes k w)
 weights_precede k v w f l n = precedes _ _ (trimmed_less k v w (digits_less 256 k v w (lit< tt) f l)) n
 
 -- a first byte that isn't 0 stays first

@@ -29,17 +29,20 @@ above_primaries = 2 ^ 32
 
 -- primaries, secondaries, segments, cases, tertiaries, quaternaries, characters
 abbrev pub texts : List ℕ → List ℕ → List (List ℕ) → List ℕ → List ℕ → List ℕ → List ℕ → LevelLists
-texts ps ss gs ks ts qs cs = record { primaries = ps; secondaries = ss; segments = gs; cases = ks; tertiaries = ts; quaternaries = qs; characters = cs }
+texts ps ss gs ks ts qs cs =
+    record { primaries = ps; secondaries = ss; segments = gs; cases = ks; tertiaries = ts; quaternaries = qs; characters = cs }
 
 -- ---- forms of keys
 abbrev pub at_primary : KeyForm
 at_primary = record { secondary = no_secondary; cases = no_case; tertiary = None; quaternary = no_quaternary; identical = false }
 
 abbrev pub at_primary_with_case : KeyForm
-at_primary_with_case = record { secondary = no_secondary; cases = lower_case_first; tertiary = None; quaternary = no_quaternary; identical = false }
+at_primary_with_case =
+    record { secondary = no_secondary; cases = lower_case_first; tertiary = None; quaternary = no_quaternary; identical = false }
 
 abbrev pub at_primary_with_case_upper_first : KeyForm
-at_primary_with_case_upper_first = record { secondary = no_secondary; cases = upper_case_first; tertiary = None; quaternary = no_quaternary; identical = false }
+at_primary_with_case_upper_first =
+    record { secondary = no_secondary; cases = upper_case_first; tertiary = None; quaternary = no_quaternary; identical = false }
 
 abbrev pub at_secondary : KeyForm
 at_secondary = record { secondary = forward; cases = no_case; tertiary = None; quaternary = no_quaternary; identical = false }
@@ -51,10 +54,12 @@ abbrev pub at_tertiary : KeyForm
 at_tertiary = record { secondary = forward; cases = no_case; tertiary = Some plain; quaternary = no_quaternary; identical = false }
 
 abbrev pub at_tertiary_upper_first : KeyForm
-at_tertiary_upper_first = record { secondary = forward; cases = no_case; tertiary = Some upper_first; quaternary = no_quaternary; identical = false }
+at_tertiary_upper_first =
+    record { secondary = forward; cases = no_case; tertiary = Some upper_first; quaternary = no_quaternary; identical = false }
 
 abbrev pub at_tertiary_with_case_upper_first : KeyForm
-at_tertiary_with_case_upper_first = record { secondary = forward; cases = upper_case_first; tertiary = Some plain; quaternary = no_quaternary; identical = false }
+at_tertiary_with_case_upper_first =
+    record { secondary = forward; cases = upper_case_first; tertiary = Some plain; quaternary = no_quaternary; identical = false }
 
 abbrev pub at_quaternary : KeyForm
 at_quaternary = record { secondary = forward; cases = no_case; tertiary = Some plain; quaternary = unshifted; identical = false }

@@ -1,4 +1,4 @@
--- The bytes of the case level: a nibble for each case, two to a byte (UTS #35 part 5 on the case level)
+-- The bytes of the case level: a nibble for each case or run, two to a byte (UTS #35 part 5, "Case Parameters")
 use Rattle.std.specs.Prelude.{Bool, true, ◌&&◌, ℕ, ◌+◌, ◌*◌, ◌==◌, if◌then◌else◌, List, [], ◌∷◌}
 use Rattle.icu_levels.specs.Runs.{level_bytes}
 use Rattle.icu_levels.specs.Rows.{lower_first_case_row, upper_first_case_row}

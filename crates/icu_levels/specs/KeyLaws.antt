@@ -13,12 +13,14 @@ use Rattle.icu_levels.specs.KeyPremises.{LiveWeights, AreWeights, AreLists, AreP
 abbrev pub LevelsTellInTurn : Type 0
 LevelsTellInTurn =
     (ps qs : List ℕ) (o : Ordering) (parts : List TwoParts) → Tells ps qs o → (o ≡ Equal → TellInTurn parts)
-    → list_order (ps ++ parts_bytes (map (λ p. p.left) parts)) (qs ++ parts_bytes (map (λ p. p.right) parts)) ≡ in_turn (o ∷ map (λ p. p.answer) parts)
+    → list_order (ps ++ parts_bytes (map (λ p. p.left) parts)) (qs ++ parts_bytes (map (λ p. p.right) parts))
+    ≡ in_turn (o ∷ map (λ p. p.answer) parts)
 
 -- keys order as the level lists in turn
 abbrev pub KeysKeepOrder : Type 0
 KeysKeepOrder =
-    (c : Compression) (f : KeyForm) (live : LiveWeights) (t u : LevelLists) → AreWeights c f live → AreLists f live t → AreLists f live u → AreParallel c f t u
+    (c : Compression) (f : KeyForm) (live : LiveWeights) (t u : LevelLists)
+    → AreWeights c f live → AreLists f live t → AreLists f live u → AreParallel c f t u
     → list_order (key_bytes c f t) (key_bytes c f u) ≡ levels_order c f t u
 
 abbrev pub SameSecondaries : SecondaryForm → LevelLists → LevelLists → Type 0
@@ -56,5 +58,6 @@ pub record HaveSameLists (c : Compression) (f : KeyForm) (t u : LevelLists) : Ty
 -- two texts have one key exactly if each level that it has is the same
 abbrev pub KeysDetermineLevels : Type 0
 KeysDetermineLevels =
-    (c : Compression) (f : KeyForm) (live : LiveWeights) (t u : LevelLists) → AreWeights c f live → AreLists f live t → AreLists f live u → AreParallel c f t u
+    (c : Compression) (f : KeyForm) (live : LiveWeights) (t u : LevelLists)
+    → AreWeights c f live → AreLists f live t → AreLists f live u → AreParallel c f t u
     → (key_bytes c f t ≡ key_bytes c f u) ↔ HaveSameLists c f t u

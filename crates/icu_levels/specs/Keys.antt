@@ -1,5 +1,5 @@
--- A whole key: the primary level, and the others one after another (UTS #10, section 4.3 S3 and section 7.3;
--- UTS #35 part 5 on strength, the case level and backward secondaries)
+-- A whole key: the primary level, and the others one after another (UTS #10, "Form Sort Keys"; UTS #35 part 5, "Setting
+-- Options")
 use Rattle.std.specs.Prelude.{Bool, true, false, ◌≡◌, ℕ, List, [], ◌∷◌, ◌++◌, map, Option, Some, None}
 use Rattle.std.specs.Ordering.{ordering_then}
 use Rattle.std.specs.declared.cmp.Ordering.{Ordering}

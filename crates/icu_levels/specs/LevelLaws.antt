@@ -1,5 +1,5 @@
 -- The theorems on single levels, as contracts name them
-use Rattle.std.specs.Prelude.{Bool, true, false, ◌≡◌, ◌≢◌, ℕ, ◌<◌, suc, List, ◌∷◌, ◌++◌, map, length, replicate}
+use Rattle.std.specs.Prelude.{Bool, false, ◌≡◌, ◌≢◌, ℕ, ◌<◌, suc, List, ◌∷◌, ◌++◌, map, length, replicate}
 use Rattle.std.specs.List.{AllByRecursion}
 use Rattle.std.specs.Ordering.{ordering_then}
 use Rattle.icu_levels.specs.declared.rows.Row.{Row}
@@ -11,7 +11,7 @@ use Rattle.icu_levels.specs.Tertiaries.{TertiaryForm, plain, tertiary_level}
 use Rattle.icu_levels.specs.Cases.{lower_first_case_level, upper_first_case_level}
 use Rattle.icu_levels.specs.Quaternaries.{quaternary_level, unshifted_quaternary_level}
 use Rattle.icu_levels.specs.Identical.{identical_level, identical_rank}
-use Rattle.icu_levels.specs.Premises.{AreSecondaries, forward_least, backward_least, AreTertiaries, cased_tertiary, AreShifted, IsQuaternary, IsUnshifted, IsRank, ArePrimaries, IsPrimaryList}
+use Rattle.icu_levels.specs.Premises.{Passes, AreSecondaries, forward_least, backward_least, AreTertiaries, cased_tertiary, AreShifted, IsQuaternary, IsUnshifted, IsRank, ArePrimaries, IsPrimaryList}
 use Rattle.icu_levels.specs.Keys.{Tells}
 
 -- The bytes ps and qs order as the lists xs and ys, and are the same only for the same list
@@ -30,28 +30,29 @@ RunsAreMaximal =
 -- A level whose row and spelling are as asked, followed by nothing or by bytes up to its end byte
 abbrev pub RunsKeepOrder : Type 0
 RunsKeepOrder =
-    (r : Row) (end : ℕ) (spell : ℕ → List ℕ) (live : ℕ → Bool) → IsRow r → IsSpelling r end spell (λ w. live w ≡ true)
-    → (vs ws s t : List ℕ) → AllByRecursion (λ w. live w ≡ true) vs → AllByRecursion (λ w. live w ≡ true) ws → IsUnder (suc end) s → IsUnder (suc end) t
+    (r : Row) (end : ℕ) (spell : ℕ → List ℕ) (live : ℕ → Bool) → IsRow r → IsSpelling r end spell (Passes live)
+    → (vs ws s t : List ℕ) → AllByRecursion (Passes live) vs → AllByRecursion (Passes live) ws
+    → IsUnder (suc end) s → IsUnder (suc end) t
     → list_order (level_bytes r spell 0 vs ++ s) (level_bytes r spell 0 ws ++ t) ≡ ordering_then (list_order vs ws) (list_order s t)
 
 -- the primary level: compressed, reordered, with numbers
 abbrev pub PrimariesKeepOrder : Type 0
 PrimariesKeepOrder =
-    (c : Compression) (numeric : ℕ) (live : ℕ → Bool) → ArePrimaries c numeric (λ w. live w ≡ true)
-    → (vs ws : List ℕ) → IsPrimaryList numeric (λ w. live w ≡ true) false vs → IsPrimaryList numeric (λ w. live w ≡ true) false ws
+    (c : Compression) (numeric : ℕ) (live : ℕ → Bool) → ArePrimaries c numeric (Passes live)
+    → (vs ws : List ℕ) → IsPrimaryList numeric (Passes live) false vs → IsPrimaryList numeric (Passes live) false ws
     → KeepOrder (primary_level c 0 vs) (primary_level c 0 ws) (map c.reorder vs) (map c.reorder ws)
 
 abbrev pub SecondariesKeepOrder : Type 0
 SecondariesKeepOrder =
-    (live : ℕ → Bool) → AreSecondaries forward_least (λ w. live w ≡ true)
-    → (vs ws : List ℕ) → AllByRecursion (λ w. live w ≡ true) vs → AllByRecursion (λ w. live w ≡ true) ws
+    (live : ℕ → Bool) → AreSecondaries forward_least (Passes live)
+    → (vs ws : List ℕ) → AllByRecursion (Passes live) vs → AllByRecursion (Passes live) ws
     → KeepOrder (secondary_level vs) (secondary_level ws) vs ws
 
 -- backward, a segment at least on either side
 abbrev pub SegmentsKeepOrder : Type 0
 SegmentsKeepOrder =
-    (live : ℕ → Bool) → AreSecondaries backward_least (λ w. live w ≡ true)
-    → (vss wss : List (List ℕ)) → AllByRecursion (AllByRecursion (λ w. live w ≡ true)) vss → AllByRecursion (AllByRecursion (λ w. live w ≡ true)) wss
+    (live : ℕ → Bool) → AreSecondaries backward_least (Passes live)
+    → (vss wss : List (List ℕ)) → AllByRecursion (AllByRecursion (Passes live)) vss → AllByRecursion (AllByRecursion (Passes live)) wss
     → 0 < length vss → 0 < length wss
     → Tells (backward_level vss) (backward_level wss) (segments_order vss wss) × (backward_level vss ≡ backward_level wss → vss ≡ wss)
 
@@ -70,19 +71,20 @@ UpperFirstCasesKeepOrder =
 -- tertiaries with case bits are as their level asks, if those without are
 abbrev pub CaseKeepsTertiaries : Type 0
 CaseKeepsTertiaries =
-    (form : TertiaryForm) (live : ℕ → Bool) → AreTertiaries plain (λ w. live w ≡ true) → AreTertiaries form (λ w. cased_tertiary form live w ≡ true)
+    (form : TertiaryForm) (live : ℕ → Bool) → AreTertiaries plain (Passes live)
+    → AreTertiaries form (Passes (cased_tertiary form live))
 
 abbrev pub TertiariesKeepOrder : Type 0
 TertiariesKeepOrder =
-    (form : TertiaryForm) (live : ℕ → Bool) → AreTertiaries form (λ w. live w ≡ true)
-    → (vs ws : List ℕ) → AllByRecursion (λ w. live w ≡ true) vs → AllByRecursion (λ w. live w ≡ true) ws
+    (form : TertiaryForm) (live : ℕ → Bool) → AreTertiaries form (Passes live)
+    → (vs ws : List ℕ) → AllByRecursion (Passes live) vs → AllByRecursion (Passes live) ws
     → KeepOrder (tertiary_level form vs) (tertiary_level form ws) vs ws
 
 -- where variable elements are shifted, any lists
 abbrev pub QuaternariesKeepOrder : Type 0
 QuaternariesKeepOrder =
-    (live : ℕ → Bool) → AreShifted (λ w. live w ≡ true)
-    → (vs ws : List ℕ) → AllByRecursion (IsQuaternary (λ w. live w ≡ true)) vs → AllByRecursion (IsQuaternary (λ w. live w ≡ true)) ws
+    (live : ℕ → Bool) → AreShifted (Passes live)
+    → (vs ws : List ℕ) → AllByRecursion (IsQuaternary (Passes live)) vs → AllByRecursion (IsQuaternary (Passes live)) ws
     → KeepOrder (quaternary_level vs) (quaternary_level ws) vs ws
 
 -- where none is shifted, as many quaternaries on either side

@@ -6,7 +6,7 @@ use Rattle.std.specs.declared.cmp.Ordering.{Ordering}
 use Rattle.std.specs.declared.cmp.Ordering.TheVariants.{Less}
 
 -- Dictionary order: the first number that differs decides, and a proper beginning is less. Bytes of keys and
--- weights of a level are compared so (UTS #10, section 7.3 and section 4.4, S4.2)
+-- weights of a level are compared so (UTS #10, "Compare Sort Keys")
 abbrev pub list_order : List ℕ → List ℕ → Ordering
 list_order = slice_cmp nat_cmp
 

@@ -5,6 +5,10 @@ use Rattle.icu_levels.specs.WeightBytes.{weight_bytes}
 use Rattle.icu_levels.specs.Primaries.{Compression, lead, below_lead, second_byte}
 use Rattle.icu_levels.specs.Tertiaries.{TertiaryForm, plain, lower_first, upper_first, tertiary_row}
 
+-- what passes a test
+abbrev pub Passes : (ℕ → Bool) → ℕ → Type 0
+Passes test w = test w ≡ true
+
 -- No weight is written as a beginning of another: weights are prefix free, as the standard asks of the weights of
 -- one level (UTS #10, "Large Weight Values")
 abbrev pub IsPrefixFree : (ℕ → List ℕ) → (ℕ → Type 0) → Type 0
@@ -107,9 +111,11 @@ pub record ArePrimaries (c : Compression) (numeric : ℕ) (IsLive : ℕ → Type
   pub fits : (w : ℕ) → IsLive w → w < 256 ^ 4
   pub leads : (w : ℕ) → IsLive w → 2 ≤ lead (c.reorder w)
   pub separator : (w : ℕ) → IsLive w → lead (c.reorder w) ≡ 2 → c.reorder w ≡ 0x02000000
-  pub prefix_free : (v w : ℕ) → IsLive v → IsLive w → c.reorder v ≢ c.reorder w → IsBeginning (weight_bytes 4 (c.reorder v)) (weight_bytes 4 (c.reorder w)) → ⊥
+  pub prefix_free : (v w : ℕ) → IsLive v → IsLive w → c.reorder v ≢ c.reorder w
+      → IsBeginning (weight_bytes 4 (c.reorder v)) (weight_bytes 4 (c.reorder w)) → ⊥
   pub seconds : (w : ℕ) → IsLive w → c.is_compressible (lead w) ≡ true → (4 ≤ second_byte w) × (second_byte w ≤ 0xFE)
-  pub alike : (v w : ℕ) → IsLive v → IsLive w → lead (c.reorder v) ≡ lead (c.reorder w) → c.is_compressible (lead v) ≡ c.is_compressible (lead w)
+  pub alike : (v w : ℕ) → IsLive v → IsLive w → lead (c.reorder v) ≡ lead (c.reorder w)
+      → c.is_compressible (lead v) ≡ c.is_compressible (lead w)
   pub not_numeric : (w : ℕ) → IsLive w → lead w ≢ numeric
   pub numbers_together : (w : ℕ) → w < 256 ^ 4 → lead w ≡ numeric → lead (c.reorder w) ≡ number_lead c numeric
   pub numbers_apart : (w : ℕ) → IsLive w → lead (c.reorder w) ≢ number_lead c numeric

@@ -1,4 +1,4 @@
--- The bytes of the quaternary level (UTS #10, section 4 on variable weighting; UTS #35 part 5 on quaternaries)
+-- The bytes of the quaternary level (UTS #10, "Variable Weighting" and "Form Sort Keys")
 use Rattle.std.specs.Prelude.{ℕ, ◌+◌, ◌-◌, ◌^◌, nat_lt, if◌then◌else◌, List, [], ◌∷◌}
 use Rattle.icu_levels.specs.Runs.{level_bytes}
 use Rattle.icu_levels.specs.Rows.{quaternary_row}
@@ -15,7 +15,7 @@ shifted_bytes w = if nat_lt (lead w) 0x1B then weight_bytes 4 w else 0x1B ∷ we
 abbrev pub quaternary_bytes : ℕ → List ℕ
 quaternary_bytes w = if nat_lt (2 ^ 32) w then (0xFC + w - 2 ^ 32) ∷ [] else shifted_bytes w
 
--- where variable elements are shifted
+-- where variable elements are shifted, or blanked
 abbrev pub quaternary_level : List ℕ → List ℕ
 quaternary_level = level_bytes quaternary_row quaternary_bytes 0
 

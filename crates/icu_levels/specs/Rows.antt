@@ -1,4 +1,5 @@
--- The rows of the six levels that count runs of their common weight
+-- The rows of the levels that count runs of their common weight (UTS #10, "Run-length Compression"); the constants are
+-- those of ICU's keys
 use Rattle.std.specs.Prelude.{◌^◌}
 use Rattle.icu_levels.specs.declared.rows.Row.{Row}
 

@@ -1,5 +1,5 @@
--- The bytes of the secondary level, forward and backward (UTS #10, section 9.2; UTS #35 part 5 on backward
--- secondaries)
+-- The bytes of the secondary level, forward and backward (UTS #10, "Form Sort Keys"; UTS #35 part 5, "Setting Options"
+-- on backwards)
 use Rattle.std.specs.Prelude.{ℕ, List, [], ◌∷◌, ◌++◌}
 use Rattle.icu_levels.specs.Runs.{level_bytes}
 use Rattle.icu_levels.specs.Rows.{secondary_row}

@@ -1,4 +1,4 @@
--- The bytes of the tertiary level in its three forms (UTS #35 part 5 on case first; UTS #10, section 9.2)
+-- The bytes of the tertiary level in its three forms (UTS #10, "Form Sort Keys"; UTS #35 part 5, "Case Parameters")
 use Rattle.std.specs.Prelude.{ℕ, ◌+◌, ◌-◌, ◌/◌, nat_lt, if◌then◌else◌, List}
 use Rattle.icu_levels.specs.declared.rows.Row.{Row}
 use Rattle.icu_levels.specs.Runs.{level_bytes}

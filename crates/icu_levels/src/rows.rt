@@ -3,7 +3,7 @@
 ghost use Rattle.std.specs.Prelude.{◌≡◌};
 ghost use Rattle.icu_levels.specs.Rows.{secondary_row, plain_tertiary_row, lower_first_tertiary_row, upper_first_tertiary_row, quaternary_row, lower_first_case_row, upper_first_case_row};
 
-/// The constants by which a level writes its runs of the common weight (UTS #10, section 9.2).
+/// The constants by which a level writes its runs of the common weight (UTS #10, "Run-length Compression").
 ///
 /// A run is written as a middle byte for each full `count`, and one last byte: from `low` upward before a lesser
 /// weight or the end, from `high` downward before a greater weight.

@@ -1,4 +1,4 @@
-use Rattle.std.proofs.Common.{◌≡◌, true}
+use Rattle.icu_levels.specs.Premises.{Passes}
 use Rattle.icu_levels.proofs.DigitRuns.{runs_by_value}
 use Rattle.icu_levels.proofs.ReorderedNumbers.{moved_runs_by_value}
 use Rattle.icu_levels.proofs.numbers.digit_runs_order_by_value.Goals as goal
@@ -6,5 +6,5 @@ use Rattle.icu_levels.proofs.numbers.digit_runs_order_by_value.Goals as goal
 pub returns : goal.returns
 returns g = record {
   before = λ numeric ds es p q. runs_by_value numeric ds es p.digits q.digits p.some q.some p.short q.short;
-  reordered = λ c numeric live good n ds es p q. moved_runs_by_value c numeric (λ w. live w ≡ true) good n ds es p q;
+  reordered = λ c numeric live good n ds es p q. moved_runs_by_value c numeric (Passes live) good n ds es p q;
 }

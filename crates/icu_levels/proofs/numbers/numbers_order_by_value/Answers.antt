@@ -1,4 +1,4 @@
-use Rattle.std.proofs.Common.{◌≡◌, true}
+use Rattle.icu_levels.specs.Premises.{Passes}
 use Rattle.icu_levels.proofs.NumberWeightOrder.{numbers_by_value}
 use Rattle.icu_levels.proofs.ReorderedNumbers.{moved_by_value}
 use Rattle.icu_levels.proofs.numbers.numbers_order_by_value.Goals as goal
@@ -6,5 +6,5 @@ use Rattle.icu_levels.proofs.numbers.numbers_order_by_value.Goals as goal
 pub returns : goal.returns
 returns g = record {
   before = λ numeric v w f h. numbers_by_value numeric v w f h;
-  reordered = λ c numeric live good n v w f h. moved_by_value c numeric (λ w. live w ≡ true) good n v w f h;
+  reordered = λ c numeric live good n v w f h. moved_by_value c numeric (Passes live) good n v w f h;
 }
