@@ -35,3 +35,4 @@ pub mod WorkedKeys
 pub mod WorkedOrders
 pub mod NeededPremises
 pub mod CasedTertiaries
+pub mod MetPremises
