@@ -1,13 +1,12 @@
 -- The bytes of numbers are bytes, and end as the pieces of numbers do
-use Rattle.std.proofs.Common.{◌≡◌, ℕ, zero, suc, ◌+◌, ◌-◌, ◌*◌, ◌/◌, ◌%◌, ◌^◌, ◌<◌, ◌≤◌, true, false, List, [], ◌∷◌, refl, sym, subst, inl, inr, ◌⊎◌, arith, lit<, lit≤}
-use Rattle.std.proofs.lemmas.Bool.{cases_lt, cases_Bool, cond-true, cond-false, lt-ltb, le-ltb}
+use Rattle.std.proofs.Common.{◌≡◌, ℕ, zero, suc, ◌+◌, ◌-◌, ◌*◌, ◌/◌, ◌%◌, ◌^◌, ◌<◌, ◌≤◌, List, [], ◌∷◌, refl, sym, subst, inl, inr, ◌⊎◌, arith, lit<, lit≤}
+use Rattle.std.proofs.lemmas.Bool.{cases_lt, lt-ltb, le-ltb}
 use Rattle.std.proofs.lemmas.Nat.{mod_below, div_below}
 use Rattle.std.proofs.Math.Nat.{one-le-pow, pow-suc, pow-le-pow_right}
 use Rattle.std.specs.List.{AllByRecursion}
-use Rattle.icu_levels.specs.WeightBytes.{digits}
-use Rattle.icu_levels.specs.Cases.{is_only}
+use Rattle.icu_levels.specs.WeightBytes.{digits, before_nonzero, without_last_zeros}
 use Rattle.icu_levels.specs.Numbers.{pair_count, pair_bytes, great_bytes, number_bytes}
-use Rattle.icu_levels.proofs.NumberOrder.{count_most, count_fits}
+use Rattle.icu_levels.proofs.NumberOrder.{count_most, count_fits, not_zeros, some_left}
 
 -- a byte other than 0
 abbrev pub IsByte : ℕ → Type 0
@@ -34,26 +33,29 @@ digits_below (suc k) v l = (
       (mod_below v (100 ^ k) (one-le-pow k 100 (lit≤ tt))),
 )
 
+-- digits stay digits without the zeros that they end in
+left_digits : (ps : List ℕ) → AllByRecursion (λ d. d < 100) ps → AllByRecursion (λ d. d < 100) (without_last_zeros ps)
+left_digits [] a = tt
+left_digits (p ∷ ps) a = before p (without_last_zeros ps) a.0 (left_digits ps a.1)
+  where
+    before : (x : ℕ) (xs : List ℕ) → x < 100 → AllByRecursion (λ d. d < 100) xs → AllByRecursion (λ d. d < 100) (before_nonzero x xs)
+    before zero [] l h = tt
+    before (suc x) [] l h = (l, tt)
+    before x (y ∷ ys) l h = (l, h)
+
 pairs_end : (p : ℕ) (ps : List ℕ) → AllByRecursion (λ d. d < 100) (p ∷ ps) → OddThenEven (pair_bytes (p ∷ ps))
 pairs_end p [] a = ((omega arith, omega (arith, a.0)), omega arith)
-pairs_end p (q ∷ qs) a = by (cases_Bool (is_only 0 (q ∷ qs))) (pairs_end q qs a.1)
+pairs_end p (q ∷ qs) a = more (pair_bytes (q ∷ qs)) (pairs_end q qs a.1)
   where
     more : (bs : List ℕ) → OddThenEven bs → OddThenEven ((11 + 2 * p) ∷ bs)
     more [] h = absurd h
     more (b ∷ bs) h = ((omega arith, omega (arith, a.0)), omega arith, h)
 
-    by : (is_only 0 (q ∷ qs) ≡ true) ⊎ (is_only 0 (q ∷ qs) ≡ false) → OddThenEven (pair_bytes (q ∷ qs))
-        → OddThenEven (pair_bytes (p ∷ (q ∷ qs)))
-    by (inl e) ih =
-        subst OddThenEven (sym (cond-true (is_only 0 (q ∷ qs)) ((10 + 2 * p) ∷ []) ((11 + 2 * p) ∷ pair_bytes (q ∷ qs)) e))
-        ((omega arith, omega (arith, a.0)), omega arith)
-    by (inr e) ih =
-        subst OddThenEven (sym (cond-false (is_only 0 (q ∷ qs)) ((10 + 2 * p) ∷ []) ((11 + 2 * p) ∷ pair_bytes (q ∷ qs)) e))
-        (more (pair_bytes (q ∷ qs)) ih)
-
-pairs_of_digits : (n v : ℕ) → 0 < n → v < 100 ^ n → OddThenEven (pair_bytes (digits 100 n v))
-pairs_of_digits zero v some l = absurd (omega arith)
-pairs_of_digits (suc n) v some l = pairs_end (v / 100 ^ n) (digits 100 n (v % 100 ^ n)) (digits_below (suc n) v l)
+pairs_of_digits : (n v : ℕ) → 0 < v → v < 100 ^ n → OddThenEven (pair_bytes (without_last_zeros (digits 100 n v)))
+pairs_of_digits n v some l =
+    let r = some_left (digits 100 n v) (not_zeros n v some l) in
+    subst (λ z. OddThenEven (pair_bytes z)) (sym r.2)
+    (pairs_end r.0 r.1 (subst (AllByRecursion (λ d. d < 100)) r.2 (left_digits (digits 100 n v) (digits_below n v l))))
 
 -- a great number has more than three pairs
 four_pairs : (most v : ℕ) → v < 100 ^ most → 1042490 ≤ v → 4 ≤ pair_count most v
@@ -69,7 +71,7 @@ great_form : (most v : ℕ) → most ≤ 127 → v < 100 ^ most → 1042490 ≤ 
 great_form most v few l g =
     let four = four_pairs most v l g in
     let m = count_most most v in
-    great (128 + pair_count most v) (pair_bytes (digits 100 (pair_count most v) v)) refl (omega arith, omega arith)
+    great (128 + pair_count most v) (pair_bytes (without_last_zeros (digits 100 (pair_count most v) v))) refl (omega arith, omega arith)
     (pairs_of_digits (pair_count most v) v (omega arith) (count_fits most v l))
 
 -- the bytes of a number below 10^254

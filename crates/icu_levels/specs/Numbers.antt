@@ -1,8 +1,7 @@
 -- The primaries of numbers, which order by value (UTS #35 part 5, "Setting Options" on numeric; the weights are those of
 -- ICU's keys)
 use Rattle.std.specs.Prelude.{ℕ, zero, suc, ◌+◌, ◌-◌, ◌*◌, ◌/◌, ◌%◌, ◌^◌, ◌==◌, nat_lt, if◌then◌else◌, List, [], ◌∷◌, ◌++◌, take, drop}
-use Rattle.icu_levels.specs.WeightBytes.{digits}
-use Rattle.icu_levels.specs.Cases.{is_only}
+use Rattle.icu_levels.specs.WeightBytes.{digits, without_last_zeros}
 
 -- a primary of a number: the numeric lead and three bytes, 0 where there is none
 abbrev pub number_weight : ℕ → ℕ → ℕ → ℕ → ℕ
@@ -20,10 +19,11 @@ unfoldable pub pair_count : ℕ → ℕ → ℕ
 pair_count zero v = 0
 pair_count (suc most) v = if v == 0 then 0 else suc (pair_count most (v / 100))
 
--- A byte for each pair of digits, odd where a pair that isn't 00 follows; 00 at the end is left out
+-- a byte for each pair of digits: odd where more follow, even at the last
 abbrev pub pair_bytes : List ℕ → List ℕ
 pair_bytes [] = []
-pair_bytes (p ∷ ps) = if is_only 0 ps then (10 + 2 * p) ∷ [] else (11 + 2 * p) ∷ pair_bytes ps
+pair_bytes (p ∷ []) = (10 + 2 * p) ∷ []
+pair_bytes (p ∷ (q ∷ ps)) = (11 + 2 * p) ∷ pair_bytes (q ∷ ps)
 
 -- numbers below 74: one byte
 abbrev pub smallest_bytes : ℕ → List ℕ
@@ -37,9 +37,9 @@ small_bytes v = (76 + (v - 74) / 254) ∷ (2 + (v - 74) % 254) ∷ []
 abbrev pub middling_bytes : ℕ → List ℕ
 middling_bytes v = (116 + (v - 10234) / 254 / 254) ∷ (2 + (v - 10234) / 254 % 254) ∷ (2 + (v - 10234) % 254) ∷ []
 
--- greater numbers, of n pairs of digits: a byte for n, then the pairs
+-- greater numbers, of n pairs of digits: a byte for n, then the pairs without the 00 that they end in
 abbrev pub great_bytes : ℕ → ℕ → List ℕ
-great_bytes n v = (128 + n) ∷ pair_bytes (digits 100 n v)
+great_bytes n v = (128 + n) ∷ pair_bytes (without_last_zeros (digits 100 n v))
 
 -- the bytes of a number below 10^254, which has 127 pairs of digits at most
 abbrev pub number_bytes : ℕ → List ℕ
