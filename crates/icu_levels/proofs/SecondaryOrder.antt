@@ -1,0 +1,79 @@
+-- The secondary level's bytes order as its lists, forward and backward
+use Rattle.std.proofs.Common.{◌≡◌, ℕ, ◌-◌, ◌<◌, ◌≤◌, List, [], ◌∷◌, ◌++◌, length, refl, ap, ◌∙◌, arith, lit<, lit≤, append_assoc}
+use Rattle.std.specs.List.{AllByRecursion}
+use Rattle.std.specs.Ordering.{ordering_then}
+use Rattle.icu_levels.specs.ListOrder.{list_order, segments_order, IsUnder}
+use Rattle.icu_levels.specs.Runs.{IsRow, IsSpelling}
+use Rattle.icu_levels.specs.Rows.{secondary_row}
+use Rattle.icu_levels.specs.WeightBytes.{weight_bytes}
+use Rattle.icu_levels.specs.Secondaries.{secondary_level, further_segments, backward_level}
+use Rattle.icu_levels.specs.Premises.{AreSecondaries, forward_least, backward_least}
+use Rattle.icu_levels.proofs.Order.{turned}
+use Rattle.icu_levels.proofs.LevelOrder.{level_order, under_more, under_over}
+use Rattle.icu_levels.proofs.MovedWeights.{IsMove, moved_spelling}
+use Rattle.icu_levels.proofs.Orderings.{then_assoc}
+
+pub secondary_row_fits : IsRow secondary_row
+secondary_row_fits = record { some = lit< tt; to_middle = refl; to_high = refl }
+
+module _ (least : ℕ) (IsLive : ℕ → Type 0) (some : 2 ≤ least) (few : least ≤ 5) (good : AreSecondaries least IsLive) where
+  unmoved : IsMove secondary_row (least - 1) (λ w. w) IsLive
+  unmoved = record {
+    low = λ w p l. let d = good.leads w p in (omega arith, omega arith);
+    high = λ w p l. let d = good.leads w p in omega arith;
+    fits = λ w p. good.fits w p;
+    leads = λ w p. let d = good.leads w p in omega arith;
+    moved_leads = λ w p. let d = good.leads w p in omega arith;
+    rest = λ w p. refl;
+    rises = λ v w p q nv nw l. l;
+    one_lead = λ v w p q nv nw e. e;
+  }
+
+  pub secondaries_fit : IsSpelling secondary_row (least - 1) (weight_bytes 2) IsLive
+  secondaries_fit = moved_spelling secondary_row (least - 1) (λ w. w) IsLive (omega arith) unmoved good.prefix_free
+
+-- forward: one list, followed by nothing or by a byte below 02
+pub secondary_order : (IsLive : ℕ → Type 0) → AreSecondaries forward_least IsLive → (vs ws s t : List ℕ) → AllByRecursion IsLive vs
+    → AllByRecursion IsLive ws → IsUnder 2 s → IsUnder 2 t
+    → list_order (secondary_level vs ++ s) (secondary_level ws ++ t) ≡ ordering_then (list_order vs ws) (list_order s t)
+secondary_order IsLive good vs ws s t p q u v =
+    level_order secondary_row secondary_row_fits (weight_bytes 2) 1 IsLive
+    (secondaries_fit 2 IsLive (lit≤ tt) (lit≤ tt) good) vs ws s t p q u v
+
+module _ (IsLive : ℕ → Type 0) (good : AreSecondaries backward_least IsLive) where
+  segment_order : (vs ws s t : List ℕ) → AllByRecursion IsLive vs → AllByRecursion IsLive ws → IsUnder 3 s → IsUnder 3 t
+      → list_order (secondary_level vs ++ s) (secondary_level ws ++ t) ≡ ordering_then (list_order vs ws) (list_order s t)
+  segment_order vs ws s t p q u v =
+      level_order secondary_row secondary_row_fits (weight_bytes 2) 2 IsLive
+      (secondaries_fit 3 IsLive (lit≤ tt) (lit≤ tt) good) vs ws s t p q u v
+
+  -- what follows a segment begins with 02, or below
+  ends : (vss : List (List ℕ)) (s : List ℕ) → IsUnder 2 s → IsUnder 3 (further_segments vss ++ s)
+  ends [] s u = under_more 2 3 s (lit≤ tt) u
+  ends (vs ∷ vss) s u = lit< tt
+
+  -- further segments, as many as there are on either side
+  further_order : (vss wss : List (List ℕ)) (s t : List ℕ) → AllByRecursion (AllByRecursion IsLive) vss
+      → AllByRecursion (AllByRecursion IsLive) wss → IsUnder 2 s → IsUnder 2 t
+      → list_order (further_segments vss ++ s) (further_segments wss ++ t) ≡ ordering_then (segments_order vss wss) (list_order s t)
+  further_order [] [] s t p q u v = refl
+  further_order [] (ws ∷ wss) s t p q u v = under_over 1 s (further_segments (ws ∷ wss) ++ t) u (lit< tt)
+  further_order (vs ∷ vss) [] s t p q u v =
+      turned (further_segments (vs ∷ vss) ++ s) t (under_over 1 t (further_segments (vs ∷ vss) ++ s) v (lit< tt))
+  further_order (vs ∷ vss) (ws ∷ wss) s t p q u v =
+      rw (append_assoc (secondary_level vs) (further_segments vss) s, append_assoc (secondary_level ws) (further_segments wss) t)
+      (segment_order vs ws (further_segments vss ++ s) (further_segments wss ++ t) p.0 q.0 (ends vss s u) (ends wss t v)
+      ∙ ap (ordering_then (list_order vs ws)) (further_order vss wss s t p.1 q.1 u v)
+      ∙ then_assoc (list_order vs ws) (segments_order vss wss) (list_order s t))
+
+  -- backward: a segment at least on either side
+  pub backward_order : (vss wss : List (List ℕ)) (s t : List ℕ) → 0 < length vss → 0 < length wss
+      → AllByRecursion (AllByRecursion IsLive) vss → AllByRecursion (AllByRecursion IsLive) wss → IsUnder 2 s → IsUnder 2 t
+      → list_order (backward_level vss ++ s) (backward_level wss ++ t) ≡ ordering_then (segments_order vss wss) (list_order s t)
+  backward_order [] wss s t l m p q u v = absurd (omega arith)
+  backward_order (vs ∷ vss) [] s t l m p q u v = absurd (omega arith)
+  backward_order (vs ∷ vss) (ws ∷ wss) s t l m p q u v =
+      rw (append_assoc (secondary_level vs) (further_segments vss) s, append_assoc (secondary_level ws) (further_segments wss) t)
+      (segment_order vs ws (further_segments vss ++ s) (further_segments wss ++ t) p.0 q.0 (ends vss s u) (ends wss t v)
+      ∙ ap (ordering_then (list_order vs ws)) (further_order vss wss s t p.1 q.1 u v)
+      ∙ then_assoc (list_order vs ws) (segments_order vss wss) (list_order s t))

@@ -1,0 +1,143 @@
+-- The tertiary level's bytes order as its lists, in each form
+use Rattle.std.proofs.Common.{◌≡◌, ℕ, ◌+◌, ◌-◌, ◌/◌, ◌<◌, List, ◌++◌, refl, ◌∙◌, arith, lit<, inl, inr, ◌⊎◌, ltb}
+use Rattle.std.proofs.lemmas.Bool.{cases_order, lt-ltb, le-ltb, cond-true, cond-false}
+use Rattle.std.specs.List.{AllByRecursion}
+use Rattle.std.specs.Ordering.{ordering_then}
+use Rattle.icu_levels.specs.ListOrder.{list_order, IsUnder}
+use Rattle.icu_levels.specs.Runs.{IsRow, IsSpelling}
+use Rattle.icu_levels.specs.Tertiaries.{TertiaryForm, plain, lower_first, upper_first, tertiary_row, raised_above, lowered_below, moved_tertiary, tertiary_bytes, tertiary_level}
+use Rattle.icu_levels.specs.Premises.{AreTertiaries}
+use Rattle.icu_levels.proofs.LevelOrder.{level_order}
+use Rattle.icu_levels.proofs.MovedWeights.{IsMove, moved_spelling}
+
+pub tertiary_row_fits : (form : TertiaryForm) → IsRow (tertiary_row form)
+tertiary_row_fits plain = record { some = lit< tt; to_middle = refl; to_high = refl }
+tertiary_row_fits lower_first = record { some = lit< tt; to_middle = refl; to_high = refl }
+tertiary_row_fits upper_first = record { some = lit< tt; to_middle = refl; to_high = refl }
+
+-- the lead of the common weight
+abbrev common_lead : TertiaryForm → ℕ
+common_lead form = (tertiary_row form).common / 256
+
+moved_high : (form : TertiaryForm) (w : ℕ) → common_lead form < w / 256 → moved_tertiary form w ≡ w + raised_above form
+moved_high form w l = cond-true (ltb (common_lead form) (w / 256)) _ _ (lt-ltb (common_lead form) (w / 256) l)
+
+moved_low : (form : TertiaryForm) (w : ℕ) → w / 256 < common_lead form → moved_tertiary form w ≡ w - lowered_below form
+moved_low form w l =
+    cond-false (ltb (common_lead form) (w / 256)) _ _ (le-ltb (common_lead form) (w / 256) (omega arith))
+    ∙ cond-true (ltb (w / 256) (common_lead form)) _ _ (lt-ltb (w / 256) (common_lead form) l)
+
+unmoved : (form : TertiaryForm) (w : ℕ) → w / 256 ≡ common_lead form → moved_tertiary form w ≡ w
+unmoved form w e =
+    cond-false (ltb (common_lead form) (w / 256)) _ _ (le-ltb (common_lead form) (w / 256) (omega arith))
+    ∙ cond-false (ltb (w / 256) (common_lead form)) _ _ (le-ltb (w / 256) (common_lead form) (omega arith))
+
+-- where a moved weight stands, by the side of the common weight on which it was
+abbrev IsMoved : TertiaryForm → ℕ → Type 0
+IsMoved form w =
+    ((w / 256 < common_lead form) × (moved_tertiary form w ≡ w - lowered_below form))
+    ⊎ (((w / 256 ≡ common_lead form) × (moved_tertiary form w ≡ w))
+    ⊎ ((common_lead form < w / 256) × (moved_tertiary form w ≡ w + raised_above form)))
+
+is_moved : (form : TertiaryForm) (w : ℕ) → IsMoved form w
+is_moved form w = by (cases_order (w / 256) (common_lead form))
+  where
+    by : (w / 256 ≡ common_lead form) ⊎ ((w / 256 < common_lead form) ⊎ (common_lead form < w / 256)) → IsMoved form w
+    by (inl e) = inr (inl (e, unmoved form w e))
+    by (inr (inl l)) = inl (l, moved_low form w l)
+    by (inr (inr l)) = inr (inr (l, moved_high form w l))
+
+module _ (IsLive : ℕ → Type 0) where
+  moves : (form : TertiaryForm) → AreTertiaries form IsLive → IsMove (tertiary_row form) 1 (moved_tertiary form) IsLive
+  moves plain good = record {
+    low =
+        λ w p l. (
+          omega (arith, is_moved plain w, good.least w p, good.leads w p),
+          omega
+              (arith, is_moved plain w, good.least w p, good.leads w p),
+        );
+    high = λ w p l. omega (arith, is_moved plain w, good.least w p, good.leads w p);
+    fits = λ w p. omega (arith, is_moved plain w, good.greatest w p);
+    leads = λ w p. omega (arith, good.least w p);
+    moved_leads = λ w p. omega (arith, is_moved plain w, good.least w p);
+    rest = λ w p. omega (arith, is_moved plain w, good.least w p);
+    rises = λ v w p q nv nw l. omega (arith, is_moved plain v, is_moved plain w, good.least v p);
+    one_lead =
+        λ v w p q nv nw e. omega (
+          arith,
+          is_moved plain v,
+          is_moved plain w,
+          good.least v p,
+          good.least w q,
+          good.greatest v p,
+          good.greatest w q,
+          good.leads v p
+              nv,
+          good.leads w q nw,
+        );
+  }
+  moves lower_first good = record {
+    low =
+        λ w p l. (
+          omega (arith, is_moved lower_first w, good.least w p, good.leads w p),
+          omega
+              (arith, is_moved lower_first w, good.least w p, good.leads w p),
+        );
+    high = λ w p l. omega (arith, is_moved lower_first w, good.least w p, good.leads w p);
+    fits = λ w p. omega (arith, is_moved lower_first w, good.greatest w p);
+    leads = λ w p. omega (arith, good.least w p);
+    moved_leads = λ w p. omega (arith, is_moved lower_first w, good.least w p);
+    rest = λ w p. omega (arith, is_moved lower_first w, good.least w p);
+    rises = λ v w p q nv nw l. omega (arith, is_moved lower_first v, is_moved lower_first w, good.least v p);
+    one_lead = λ v w p q nv nw e. omega (
+      arith,
+      is_moved lower_first v,
+      is_moved lower_first w,
+      good.least v p,
+      good.least w q,
+      good.greatest v p,
+      good.greatest w q,
+      good.leads v p nv,
+      good.leads w q nw,
+    );
+  }
+  moves upper_first good = record {
+    low =
+        λ w p l. (
+          omega (arith, is_moved upper_first w, good.least w p, good.leads w p),
+          omega
+              (arith, is_moved upper_first w, good.least w p, good.leads w p),
+        );
+    high = λ w p l. omega (arith, is_moved upper_first w, good.least w p, good.leads w p);
+    fits = λ w p. omega (arith, is_moved upper_first w, good.greatest w p);
+    leads = λ w p. omega (arith, good.least w p);
+    moved_leads = λ w p. omega (arith, is_moved upper_first w, good.least w p);
+    rest = λ w p. omega (arith, is_moved upper_first w, good.least w p);
+    rises = λ v w p q nv nw l. omega (arith, is_moved upper_first v, is_moved upper_first w, good.least v p);
+    one_lead = λ v w p q nv nw e. omega (
+      arith,
+      is_moved upper_first v,
+      is_moved upper_first w,
+      good.least v p,
+      good.least w q,
+      good.greatest v p,
+      good.greatest w q,
+      good.leads v p nv,
+      good.leads w q nw,
+    );
+  }
+
+  end_below : (form : TertiaryForm) → 1 < (tertiary_row form).low
+  end_below plain = lit< tt
+  end_below lower_first = lit< tt
+  end_below upper_first = lit< tt
+
+  pub tertiaries_fit : (form : TertiaryForm) → AreTertiaries form IsLive → IsSpelling (tertiary_row form) 1 (tertiary_bytes form) IsLive
+  tertiaries_fit form good =
+      moved_spelling (tertiary_row form) 1 (moved_tertiary form) IsLive (end_below form) (moves form good) good.prefix_free
+
+  pub tertiary_order : (form : TertiaryForm) → AreTertiaries form IsLive → (vs ws s t : List ℕ) → AllByRecursion IsLive vs
+      → AllByRecursion IsLive ws → IsUnder 2 s → IsUnder 2 t
+      → list_order (tertiary_level form vs ++ s) (tertiary_level form ws ++ t) ≡ ordering_then (list_order vs ws) (list_order s t)
+  tertiary_order form good vs ws s t p q u v =
+      level_order (tertiary_row form) (tertiary_row_fits form) (tertiary_bytes form) 1 IsLive (tertiaries_fit form good) vs ws s t p q u v

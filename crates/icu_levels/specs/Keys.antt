@@ -1,0 +1,166 @@
+-- A whole key: the primary level, and the others one after another (UTS #10, "Form Sort Keys"; UTS #35 part 5, "Setting
+-- Options")
+use Rattle.std.specs.Prelude.{Bool, true, false, ◌≡◌, ℕ, List, [], ◌∷◌, ◌++◌, map, Option, Some, None}
+use Rattle.std.specs.Ordering.{ordering_then}
+use Rattle.std.specs.declared.cmp.Ordering.{Ordering}
+use Rattle.std.specs.declared.cmp.Ordering.TheVariants.{Equal}
+use Rattle.icu_levels.specs.ListOrder.{list_order, segments_order, IsUnder}
+use Rattle.icu_levels.specs.Primaries.{Compression, primary_level}
+use Rattle.icu_levels.specs.Secondaries.{secondary_level, backward_level}
+use Rattle.icu_levels.specs.Tertiaries.{TertiaryForm, tertiary_level}
+use Rattle.icu_levels.specs.Cases.{lower_first_case_level, upper_first_case_level}
+use Rattle.icu_levels.specs.Quaternaries.{quaternary_level, unshifted_quaternary_level}
+use Rattle.icu_levels.specs.Identical.{identical_level, identical_rank}
+
+-- ---- levels one after another
+
+-- a level after the primary one: absent, opened by 01, or opened and closed by 01
+pub data LevelPart : Type 0 where
+  absent : LevelPart
+  opened : List ℕ → LevelPart
+  closed : List ℕ → LevelPart
+
+abbrev pub part_bytes : LevelPart → List ℕ
+part_bytes absent = []
+part_bytes (opened bs) = 1 ∷ bs
+part_bytes (closed bs) = 1 ∷ (bs ++ 1 ∷ [])
+
+abbrev pub parts_bytes : List LevelPart → List ℕ
+parts_bytes [] = []
+parts_bytes (p ∷ ps) = part_bytes p ++ parts_bytes ps
+
+-- the first answer that isn't Equal
+abbrev pub in_turn : List Ordering → Ordering
+in_turn [] = Equal
+in_turn (o ∷ os) = ordering_then o (in_turn os)
+
+-- The bytes ps and qs tell the answer o, whatever follows, as long as what follows is nothing or begins below 02:
+-- their order is o, and then that of what follows
+abbrev pub Tells : List ℕ → List ℕ → Ordering → Type 0
+Tells ps qs o = (s t : List ℕ) → IsUnder 2 s → IsUnder 2 t → list_order (ps ++ s) (qs ++ t) ≡ ordering_then o (list_order s t)
+
+-- one level of two keys, and the answer that it is to tell
+pub record TwoParts : Type 0 where
+  pub left : LevelPart
+  pub right : LevelPart
+  pub answer : Ordering
+
+-- a level that is absent on both sides tells Equal, and one that is there on both sides tells what its bytes tell
+abbrev pub PartTells : LevelPart → LevelPart → Ordering → Type 0
+PartTells absent absent o = o ≡ Equal
+PartTells absent (opened qs) o = ⊥
+PartTells absent (closed qs) o = ⊥
+PartTells (opened ps) absent o = ⊥
+PartTells (opened ps) (opened qs) o = Tells ps qs o
+PartTells (opened ps) (closed qs) o = ⊥
+PartTells (closed ps) absent o = ⊥
+PartTells (closed ps) (opened qs) o = ⊥
+PartTells (closed ps) (closed qs) o = Tells ps qs o
+
+-- each level tells its answer where all earlier levels tie
+abbrev pub TellInTurn : List TwoParts → Type 0
+TellInTurn [] = Unit {0}
+TellInTurn (p ∷ ps) = PartTells p.left p.right p.answer × (p.answer ≡ Equal → TellInTurn ps)
+
+-- ---- the six levels
+
+pub data SecondaryForm : Type 0 where
+  no_secondary : SecondaryForm
+  forward : SecondaryForm
+  backward : SecondaryForm
+
+pub data CaseForm : Type 0 where
+  no_case : CaseForm
+  lower_case_first : CaseForm
+  upper_case_first : CaseForm
+
+-- whether variable elements may be shifted
+pub data QuaternaryForm : Type 0 where
+  no_quaternary : QuaternaryForm
+  shifted : QuaternaryForm
+  unshifted : QuaternaryForm
+
+-- which levels a key has after the primary one, and in which form
+pub record KeyForm : Type 0 where
+  pub secondary : SecondaryForm
+  pub cases : CaseForm
+  pub tertiary : Option TertiaryForm
+  pub quaternary : QuaternaryForm
+  pub identical : Bool
+
+-- The lists of a text: primaries before reordering, secondaries forward and in reversed segments, ranks of case,
+-- tertiaries as the form has them, quaternaries, decomposed characters. What the form does not name may be anything
+pub record LevelLists : Type 0 where
+  pub primaries : List ℕ
+  pub secondaries : List ℕ
+  pub segments : List (List ℕ)
+  pub cases : List ℕ
+  pub tertiaries : List ℕ
+  pub quaternaries : List ℕ
+  pub characters : List ℕ
+
+abbrev pub secondary_part : SecondaryForm → LevelLists → LevelPart
+secondary_part no_secondary t = absent
+secondary_part forward t = closed (secondary_level t.secondaries)
+secondary_part backward t = closed (backward_level t.segments)
+
+abbrev pub case_part : CaseForm → LevelLists → LevelPart
+case_part no_case t = absent
+case_part lower_case_first t = opened (lower_first_case_level t.cases)
+case_part upper_case_first t = opened (upper_first_case_level t.cases)
+
+abbrev pub tertiary_part : Option TertiaryForm → LevelLists → LevelPart
+tertiary_part None t = absent
+tertiary_part (Some form) t = closed (tertiary_level form t.tertiaries)
+
+abbrev pub quaternary_part : QuaternaryForm → LevelLists → LevelPart
+quaternary_part no_quaternary t = absent
+quaternary_part shifted t = closed (quaternary_level t.quaternaries)
+quaternary_part unshifted t = closed (unshifted_quaternary_level t.quaternaries)
+
+abbrev pub identical_part : Bool → LevelLists → LevelPart
+identical_part false t = absent
+identical_part true t = opened (identical_level t.characters)
+
+abbrev pub later_parts : KeyForm → LevelLists → List LevelPart
+later_parts f t =
+    secondary_part f.secondary t ∷ case_part f.cases t ∷ tertiary_part f.tertiary t ∷ quaternary_part f.quaternary t
+    ∷ identical_part f.identical t ∷ []
+
+-- the key of a text
+abbrev pub key_bytes : Compression → KeyForm → LevelLists → List ℕ
+key_bytes c f t = primary_level c 0 t.primaries ++ parts_bytes (later_parts f t)
+
+-- ---- the order that keys are to keep: the lists in turn
+
+abbrev pub primaries_order : Compression → LevelLists → LevelLists → Ordering
+primaries_order c t u = list_order (map c.reorder t.primaries) (map c.reorder u.primaries)
+
+abbrev pub secondaries_order : SecondaryForm → LevelLists → LevelLists → Ordering
+secondaries_order no_secondary t u = Equal
+secondaries_order forward t u = list_order t.secondaries u.secondaries
+secondaries_order backward t u = segments_order t.segments u.segments
+
+abbrev pub cases_order : CaseForm → LevelLists → LevelLists → Ordering
+cases_order no_case t u = Equal
+cases_order lower_case_first t u = list_order t.cases u.cases
+cases_order upper_case_first t u = list_order t.cases u.cases
+
+abbrev pub tertiaries_order : Option TertiaryForm → LevelLists → LevelLists → Ordering
+tertiaries_order None t u = Equal
+tertiaries_order (Some form) t u = list_order t.tertiaries u.tertiaries
+
+abbrev pub quaternaries_order : QuaternaryForm → LevelLists → LevelLists → Ordering
+quaternaries_order no_quaternary t u = Equal
+quaternaries_order shifted t u = list_order t.quaternaries u.quaternaries
+quaternaries_order unshifted t u = list_order t.quaternaries u.quaternaries
+
+abbrev pub characters_order : Bool → LevelLists → LevelLists → Ordering
+characters_order false t u = Equal
+characters_order true t u = list_order (map identical_rank t.characters) (map identical_rank u.characters)
+
+-- the order of two texts: the first level that differs decides
+abbrev pub levels_order : Compression → KeyForm → LevelLists → LevelLists → Ordering
+levels_order c f t u =
+    in_turn (primaries_order c t u ∷ secondaries_order f.secondary t u ∷ cases_order f.cases t u
+    ∷ tertiaries_order f.tertiary t u ∷ quaternaries_order f.quaternary t u ∷ characters_order f.identical t u ∷ [])
