@@ -1,3 +1,4 @@
+pub use Rattle.icu_levels.specs.Numbers
 pub use Rattle.icu_provider.specs.Elements
 pub use Rattle.icu_provider.specs.Entries
 pub use Rattle.icu_provider.specs.Weights
@@ -9,7 +10,6 @@ pub use Rattle.icu_provider.specs.CodePointTables
 pub use Rattle.icu_provider.specs.Roots
 pub use Rattle.icu_provider.specs.Stored
 pub mod Matches
-pub mod Numbers
 pub mod TextElements
 pub mod Plain
 pub mod Reading

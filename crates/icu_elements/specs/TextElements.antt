@@ -1,6 +1,7 @@
 -- The elements of a decomposed text (UTS #10, section 7.2; numbers and prefixes by UTS #35 part 5).
 use Rattle.std.specs.Prelude.{ℕ, Bool, true, false, not, ◌&&◌, ◌||◌, ◌==◌, List, [], ◌∷◌, ◌++◌, Option, Some, None, if◌then◌else◌, take, drop, length, map, reverse, is_some, take_while}
 use Rattle.unicode_normalization.specs.Order.{is_nonstarter}
+use Rattle.icu_levels.specs.Numbers.{run_weights}
 use Rattle.icu_provider.specs.Elements.{Element, of_primary, accent_element}
 use Rattle.icu_provider.specs.declared.entry.EntryKind.{EntryKind}
 use Rattle.icu_provider.specs.declared.entry.EntryKind.TheVariants.{Digit}
@@ -8,7 +9,6 @@ use Rattle.icu_provider.specs.Entries.{kind_of, digit_value}
 use Rattle.icu_provider.specs.Tables.{Data, Tables, homed, plain_of, entry_of, diacritic_of}
 use Rattle.icu_provider.specs.Final.{final_elements}
 use Rattle.icu_elements.specs.Matches.{Match, match_of}
-use Rattle.icu_elements.specs.Numbers.{numbers}
 
 -- How a text is read: the tables, the lead byte of numbers where digits are read as numbers, and whether U+0307 before an
 -- accent above is silent, as in Lithuanian.
@@ -48,7 +48,7 @@ digit_of tables c = digit_value (entry_of tables c).entry
 
 -- the elements of a run of digits
 abbrev pub number_elements : ℕ → List ℕ → List Element
-number_elements lead digits = map of_primary (numbers lead digits)
+number_elements lead digits = map of_primary (run_weights lead digits)
 
 -- A number: the digit with the run of digits after it, or the digit alone where its match took a suffix or a mark follows.
 unfoldable pub number_step : Tables → ℕ → Match → Step
