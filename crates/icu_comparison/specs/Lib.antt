@@ -1,3 +1,4 @@
+pub use Rattle.icu_levels.specs.ListOrder
 pub use Rattle.icu_provider.specs.Conditions
 pub use Rattle.icu_provider.specs.Roots
 pub use Rattle.icu_provider.specs.Stored

@@ -1,12 +1,12 @@
 -- The order of two texts (UTS #10, section 7.4).
 use Rattle.std.specs.Prelude.{ℕ, Bool, true, false, List, if◌then◌else◌}
-use Rattle.std.specs.Ordering.{nat_cmp, ordering_then}
-use Rattle.std.specs.Cmp.Lexicographic.{slice_cmp}
+use Rattle.std.specs.Ordering.{ordering_then}
 use Rattle.std.specs.declared.cmp.Ordering.{Ordering}
 use Rattle.std.specs.declared.cmp.Ordering.TheVariants.{Equal}
 use Rattle.unicode_normalization.specs.Forms.{nfd}
 use Rattle.icu_options.specs.declared.settings.Strength.{Strength}
 use Rattle.icu_options.specs.declared.settings.Strength.TheVariants.{Primary, Secondary, Quaternary, Identical}
+use Rattle.icu_levels.specs.ListOrder.{list_order}
 use Rattle.icu_provider.specs.Elements.{Element}
 use Rattle.icu_elements.specs.TextElements.{Reading, elements_of}
 use Rattle.icu_comparison.specs.Levels.{primaries, secondaries, tertiaries}
@@ -30,10 +30,6 @@ abbrev pub has_tertiaries : Strength → Bool
 has_tertiaries Primary = false
 has_tertiaries Secondary = false
 has_tertiaries _ = true
-
--- the order of two lists of weights, as of words in a dictionary: a beginning is less
-abbrev pub list_order : List ℕ → List ℕ → Ordering
-list_order = slice_cmp nat_cmp
 
 -- a level's order counts where the strength takes it in
 abbrev pub where_taken : Bool → Ordering → Ordering

@@ -1,6 +1,6 @@
 ghost use Rattle.std.specs.Prelude.{◌≡◌, IfOk};
 ghost use Rattle.icu_comparison.specs.Levels.{primaries, secondaries, tertiaries};
-ghost use Rattle.icu_comparison.specs.Order.{list_order};
+ghost use Rattle.icu_levels.specs.ListOrder.{list_order};
 
 use icu_provider::CollationElement;
 use std::alloc::{AllocError, Global};
