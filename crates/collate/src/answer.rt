@@ -9,10 +9,21 @@ use crate::command::Command;
 use icu_comparison::Collator;
 use icu_mini::mini::Mini;
 use icu_options::Strength;
+use icu_provider::DataErrorKind;
 use std::alloc::{AllocError, Global};
 use std::cmp::Ordering;
 
-// The collator by Mini's tables.
+// What a refusal says of tables that meet all conditions.
+fn want_of_memory(kind: DataErrorKind) -> AllocError
+    requires { kind ≡ DataErrorKind.NoMemory }
+{
+    match kind {
+        DataErrorKind::NoMemory => AllocError,
+        _ => unreachable!(),
+    }
+}
+
+// The collator by Mini's tables. They meet the conditions on tables, so it is refused for want of memory alone.
 fn mini_collator(alloc: Global, strength: Strength) -> Result<Collator, AllocError>
     requires { IsTrue (is_at_most_tertiary strength) }
     ensures { IfOk result (λ c. (tables : RootTables) × IsMini tables × (collator_comparison c ≡ plain_comparison strength (collator_tables tables))) }
@@ -30,7 +41,7 @@ fn mini_collator(alloc: Global, strength: Strength) -> Result<Collator, AllocErr
     );
     match made {
         Ok(collator) => Ok(collator),
-        Err(_) => Err(AllocError),
+        Err(kind) => Err(want_of_memory(kind)),
     }
 }
 
