@@ -71,3 +71,6 @@ pub fn report<E: Write>(fault: Fault, faults: &mut E) -> u8
     let _ = write_text(faults, fault.line().as_bytes());
     fault.status()
 }
+
+#[cfg(test)]
+mod tests;
