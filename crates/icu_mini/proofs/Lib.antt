@@ -2,3 +2,4 @@ pub mod Blocks
 pub mod Growing
 pub mod RunLemmas
 mod MiniRows
+pub mod Good

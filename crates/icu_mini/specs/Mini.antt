@@ -3,6 +3,8 @@
 use Rattle.std.specs.Prelude.{◌≡◌, ℕ, ◌+◌, ◌*◌, List, [], ◌∷◌, ◌++◌, map}
 use Rattle.std.specs.List.{range_with_len}
 use Rattle.icu_provider.specs.CodePointTables.{IsCodePointTable}
+use Rattle.icu_provider.specs.Tables.{Tables}
+use Rattle.icu_provider.specs.Roots.{stored_data, root_tables, IsGoodStoredRoot}
 use Rattle.icu_mini.specs.EntryRange.{Row}
 use Rattle.icu_mini.specs.CharacterTable.{Blocks, IsTableOf}
 
@@ -14,6 +16,15 @@ pub record RootTables : Type 0 where
   pub entries : List ℕ
   pub diacritics : List ℕ
   pub jamo : List ℕ
+
+-- what a collator reads in such tables
+abbrev pub collator_tables : RootTables → Tables
+collator_tables t =
+    root_tables (stored_data t.characters.blocks t.characters.values t.elements t.entries) t.jamo t.diacritics
+
+-- the tables meet the conditions of a root
+abbrev pub IsGood : RootTables → Type 0
+IsGood t = IsGoodStoredRoot t.characters.blocks t.characters.values t.elements t.entries t.jamo t.diacritics
 
 -- one character with its entry
 abbrev pub one : ℕ → ℕ → Row

@@ -1,5 +1,5 @@
 ghost use Rattle.std.specs.Prelude.{◌≡◌, ℕ, ◌+◌, ◌*◌, ◌^◌, ◌<◌, ◌++◌, [], ◌∷◌, IfOk, OnOk, List};
-ghost use Rattle.icu_mini.specs.Mini.{RootTables, IsMini, IsMiniWith, IsMiniWithSharpS, mini_rows, run, one};
+ghost use Rattle.icu_mini.specs.Mini.{RootTables, IsGood, IsMini, IsMiniWith, IsMiniWithSharpS, mini_rows, run, one};
 
 use crate::character_table::CharacterTable;
 use crate::entry_range::EntryRange;
@@ -33,18 +33,22 @@ impl Model for Mini {
 }
 
 impl Mini {
+    #[tactic(auto, using(crate::proofs::Good::mini_is_good))]
     /// Mini itself.
     pub fn new(alloc: Global) -> Result<Mini, AllocError>
-        ensures { IfOk result IsMini }
+        ensures tables { IfOk result IsMini }
+        ensures good { IfOk result IsGood }
     {
         let rows = mini_ranges();
         Mini::with(alloc, &rows, &[])
     }
 
+    #[tactic(auto, using(crate::proofs::Good::mini_with_sharp_s_is_good))]
     /// Mini with U+00DF, the sharp s, whose entry is the list of the entry of "s" and of one that is greater on the
     /// third level.
     pub fn with_sharp_s(alloc: Global) -> Result<Mini, AllocError>
-        ensures { IfOk result IsMiniWithSharpS }
+        ensures tables { IfOk result IsMiniWithSharpS }
+        ensures good { IfOk result IsGood }
     {
         let mut ranges = Vec::new(alloc);
         ranges.push(EntryRange::of_character('ß', 0x0001_42C5))?;

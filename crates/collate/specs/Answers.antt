@@ -1,0 +1,22 @@
+-- What the program answers.
+use Rattle.std.specs.Prelude.{◌≡◌, ℕ, List, [], ◌∷◌, ◌++◌, codes, chars}
+use Rattle.std.specs.declared.cmp.Ordering.{Ordering}
+use Rattle.std.specs.declared.cmp.Ordering.TheVariants.{Less, Equal, Greater}
+use Rattle.icu_comparison.specs.Order.{order_of}
+use Rattle.icu_comparison.specs.Collators.{plain_comparison}
+use Rattle.icu_mini.specs.Mini.{RootTables, IsMini, collator_tables}
+use Rattle.collate.specs.Commands.{Comparing}
+
+-- the sign of an order
+abbrev pub sign_of : Ordering → List ℕ
+sign_of Less = codes "<"
+sign_of Equal = codes "="
+sign_of Greater = codes ">"
+
+-- the order of the two texts by these tables
+abbrev pub order_asked : RootTables → Comparing → Ordering
+order_asked tables asked = order_of (plain_comparison asked.strength (collator_tables tables)) (chars asked.left) (chars asked.right)
+
+-- The line is the sign of the order of the two texts by Mini's tables, and a line feed.
+abbrev pub IsAnswer : Comparing → List ℕ → Type 0
+IsAnswer asked line = (tables : RootTables) × IsMini tables × (line ≡ sign_of (order_asked tables asked) ++ 10 ∷ [])

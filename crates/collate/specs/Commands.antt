@@ -1,0 +1,26 @@
+-- What the words of a command line ask for.
+use Rattle.std.specs.Prelude.{ℕ, List, [], ◌∷◌, Option, Some, None, if◌then◌else◌, codes, bytes_eq, option_map}
+use Rattle.icu_options.specs.declared.settings.Strength.{Strength}
+use Rattle.icu_options.specs.declared.settings.Strength.TheVariants.{Primary, Secondary, Tertiary}
+
+-- what is asked for: the order of two texts at a strength
+pub record Comparing : Type 0 where
+  pub strength : Strength
+  pub left : List ℕ
+  pub right : List ℕ
+
+-- the strength that a word names
+abbrev pub strength_named : List ℕ → Option Strength
+strength_named word =
+    if bytes_eq word (codes "1") then Some Primary
+    else (if bytes_eq word (codes "2") then Some Secondary
+    else (if bytes_eq word (codes "3") then Some Tertiary
+    else None))
+
+-- `compare STRENGTH A B`; all other words are wrong
+abbrev pub command_of : List (List ℕ) → Option Comparing
+command_of (name ∷ strength ∷ left ∷ right ∷ []) =
+    if bytes_eq name (codes "compare")
+    then option_map (λ s. record { strength = s; left = left; right = right }) (strength_named strength)
+    else None
+command_of _ = None

@@ -1,0 +1,14 @@
+-- What keeps the program from answering: the status that it ends with, and what it says.
+use Rattle.std.specs.Prelude.{ℕ, List, [], ◌∷◌, ◌++◌, codes}
+use Rattle.collate.specs.declared.fault.Fault.{Fault}
+use Rattle.collate.specs.declared.fault.Fault.TheVariants.{WrongWords, NoMemory, WriteFailed}
+
+abbrev pub status_of : Fault → ℕ
+status_of WrongWords = 2
+status_of NoMemory = 1
+status_of WriteFailed = 1
+
+abbrev pub line_of : Fault → List ℕ
+line_of WrongWords = codes "usage: collate compare STRENGTH A B | collate key STRENGTH TEXT | collate sort STRENGTH" ++ 10 ∷ []
+line_of NoMemory = codes "collate: no memory" ++ 10 ∷ []
+line_of WriteFailed = codes "collate: write failed" ++ 10 ∷ []

@@ -1,0 +1,6 @@
+pub mod Commands
+pub mod Asked
+pub mod Answers
+pub mod Faults
+pub mod Writing
+pub mod Runs

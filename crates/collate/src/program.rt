@@ -1,0 +1,76 @@
+ghost use Rattle.std.specs.Prelude.{◌≡◌, ◌≤◌, ◌↔◌, Err, None, IfSome, OnOk, map, string_bytes, ◌⊎◌};
+ghost use Rattle.std.specs.Io.KnownBytes.{Keeps};
+ghost use Rattle.collate.specs.Commands.{command_of};
+ghost use Rattle.collate.specs.Faults.{status_of};
+ghost use Rattle.collate.specs.Runs.{IsQuiet, Says, PrintsAnswer, PrintsBeginning, LacksMemory, FailsToWrite};
+
+use crate::answer::answer;
+use crate::command::Command;
+use crate::fault::Fault;
+use crate::writing::write_text;
+use std::alloc::Global;
+use std::io::{Read, Write};
+
+/// Makes one run of the program `collate` over the words after its name, and answers the status that it ends with.
+///
+/// - 0: the answer stands on `output`, and nothing on `faults`.
+/// - 1: memory was refused, and nothing stands on `output`; or a write failed, and a beginning of the answer stands
+///   there. `faults` says which.
+/// - 2: the words are no command. `faults` says what commands there are.
+///
+/// A failed write to `faults` changes no status. No command reads `input` yet.
+pub fn run<R: Read, W: Write, E: Write>(
+    alloc: Global,
+    words: &[String],
+    input: &mut R,
+    output: &mut W,
+    faults: &mut E,
+) -> u8
+    ensures statuses { result ≤ 2 }
+    ensures wrong_words { (result ≡ 2) ↔ (command_of (map string_bytes words.now) ≡ None) }
+    ensures usage { result ≡ 2 → Says Fault.WrongWords record { before = E.contents faults.old; after = E.contents faults.new } }
+    ensures nothing { result ≡ 2 → IsQuiet record { before = W.contents output.old; after = W.contents output.new } }
+    ensures answer { result ≡ 0 → IfSome (command_of (map string_bytes words.now)) (PrintsAnswer record { before = W.contents output.old; after = W.contents output.new }) }
+    ensures no_fault { result ≡ 0 → IsQuiet record { before = E.contents faults.old; after = E.contents faults.new } }
+    ensures refused { result ≡ 1 → IfSome (command_of (map string_bytes words.now)) (λ asked.
+        LacksMemory record { before = W.contents output.old; after = W.contents output.new } record { before = E.contents faults.old; after = E.contents faults.new }
+        ⊎ FailsToWrite record { before = W.contents output.old; after = W.contents output.new } record { before = E.contents faults.old; after = E.contents faults.new } asked) }
+{
+    match print_answer(alloc, words, output) {
+        Ok(()) => 0,
+        Err(fault) => report(fault, faults),
+    }
+}
+
+// Prints the answer, or says what keeps it from being printed.
+fn print_answer<W: Write>(alloc: Global, words: &[String], output: &mut W) -> Result<(), Fault>
+    ensures ok { OnOk result (IfSome (command_of (map string_bytes words.now)) (PrintsAnswer record { before = W.contents output.old; after = W.contents output.new })) }
+    ensures wrong_words { (result ≡ Err Fault.WrongWords) ↔ (command_of (map string_bytes words.now) ≡ None) }
+    ensures nothing { result ≡ Err Fault.WrongWords → IsQuiet record { before = W.contents output.old; after = W.contents output.new } }
+    ensures no_memory { result ≡ Err Fault.NoMemory → IsQuiet record { before = W.contents output.old; after = W.contents output.new } }
+    ensures write_failed { result ≡ Err Fault.WriteFailed → IfSome (command_of (map string_bytes words.now)) (PrintsBeginning record { before = W.contents output.old; after = W.contents output.new }) }
+{
+    let Some(command) = Command::parse(words) else {
+        return Err(Fault::WrongWords);
+    };
+    let Ok(line) = answer(alloc, command) else {
+        return Err(Fault::NoMemory);
+    };
+    match write_text(output, line.as_bytes()) {
+        Ok(()) => Ok(()),
+        Err(_) => Err(Fault::WriteFailed),
+    }
+}
+
+/// Says on standard error what kept the program from answering, and answers its status. That a write fails there
+/// changes nothing.
+pub fn report<E: Write>(fault: Fault, faults: &mut E) -> u8
+    ensures status { result ≡ status_of fault }
+    ensures said { Says fault record { before = E.contents faults.old; after = E.contents faults.new } }
+{
+    let _ = write_text(faults, fault.line().as_bytes());
+    fault.status()
+}
+
+#[cfg(test)]
+mod tests;

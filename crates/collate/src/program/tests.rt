@@ -1,0 +1,204 @@
+ghost use Rattle.std.specs.Prelude.{◌≤◌};
+
+use crate::program::run;
+use std::alloc::{AllocError, Global};
+use std::io;
+use std::io::{Error, ErrorKind, Write};
+use std::process::Abort;
+use std::test::Fail;
+
+const USAGE: &str =
+    "usage: collate compare STRENGTH A B | collate key STRENGTH TEXT | collate sort STRENGTH\n";
+
+// A writer with room for so many bytes, which takes no memory and at most so many bytes at a time. The first write is
+// interrupted. Where there is no room left, a write fails.
+#[derive(Drop)]
+struct Page {
+    bytes: [u8; 128],
+    len: usize,
+    room: usize,
+    step: usize,
+    fresh: bool,
+    ghost within: { len ≤ 128 },
+}
+
+impl Page {
+    fn new(room: usize, step: usize) -> Page {
+        Page {
+            bytes: [0; 128],
+            len: 0,
+            room,
+            step,
+            fresh: true,
+        }
+    }
+
+    fn text(&self) -> &[u8] {
+        &self.bytes[..self.len]
+    }
+}
+
+impl Write for Page {
+    fn write(&mut self, buf: &[u8]) -> io::Result<usize> {
+        if self.fresh {
+            self.fresh = false;
+            return Err(Error::from(ErrorKind::Interrupted));
+        }
+        let left = self.room.min(128).saturating_sub(self.len);
+        if left == 0 && !buf.is_empty() {
+            return Err(Error::from(ErrorKind::BrokenPipe));
+        }
+        let taken = buf.len().min(left).min(self.step);
+        let start = self.len;
+        self.bytes[start..start + taken].copy_from_slice(&buf[..taken]);
+        self.len += taken;
+        Ok(taken)
+    }
+
+    fn flush(&mut self) -> io::Result<()> {
+        Ok(())
+    }
+}
+
+fn strings(alloc: Global, words: &[&str]) -> Result<Vec<String>, AllocError> {
+    let mut all = Vec::new(alloc);
+    for word in words {
+        all.push(word.to_string(alloc)?)?;
+    }
+    Ok(all)
+}
+
+// Runs the program, and demands this status and these texts.
+fn expect_run(
+    rt: &(impl Abort + AllocGlobal),
+    words: &[&str],
+    status: u8,
+    printed: &str,
+    said: &str,
+) -> Result<(), AllocError> {
+    let alloc = rt.alloc();
+    let owned = strings(alloc, words)?;
+    let mut output = Page::new(128, 128);
+    let mut faults = Page::new(128, 7);
+    let ended = run(
+        alloc,
+        owned.as_slice(),
+        &mut io::empty(),
+        &mut output,
+        &mut faults,
+    );
+    assert_eq!(rt; ended, status, "{words:?}");
+    assert_eq!(rt; output.text(), printed.as_bytes(), "{words:?}");
+    assert_eq!(rt; faults.text(), said.as_bytes(), "{words:?}");
+    Ok(())
+}
+
+#[test]
+fn compares_texts(rt: HostRuntime) -> Result<(), Fail> {
+    for (strength, left, right, sign) in [
+        ("3", "ab", "aB", "<\n"),
+        ("3", "aB", "ab", ">\n"),
+        ("1", "as", "às", "=\n"),
+        ("1", "às", "at", "<\n"),
+        ("2", "Ao", "aò", "<\n"),
+        ("2", "A", "\u{24B6}", "=\n"),
+        ("3", "A", "\u{24B6}", "<\n"),
+        ("3", "", "", "=\n"),
+        ("1", "", "a", "<\n"),
+        ("3", "di Silva", "Di Silva", "<\n"),
+        ("3", "Di Silva", "diSilva", "<\n"),
+        ("3", "diSilva", "U.S.A.", "<\n"),
+        ("3", "U.S.A.", "USA", "<\n"),
+        ("3", "á", "a\u{301}", "=\n"),
+        ("3", "\u{AC01}", "\u{1100}\u{1161}\u{11A8}", "=\n"),
+        ("3", "á\u{F73}", "a\u{F71}\u{F72}\u{301}", "=\n"),
+    ] {
+        expect_run(&rt, &["compare", strength, left, right], 0, sign, "")?;
+    }
+    Ok(())
+}
+
+#[test]
+fn wrong_words_get_the_usage(rt: HostRuntime) -> Result<(), Fail> {
+    let wrong: [&[&str]; 11] = [
+        &[],
+        &["compare"],
+        &["compare", "3", "ab"],
+        &["compare", "3", "ab", "aB", "x"],
+        &["compare", "0", "ab", "aB"],
+        &["compare", "4", "ab", "aB"],
+        &["compare", "i", "ab", "aB"],
+        &["compare", "33", "ab", "aB"],
+        &["Compare", "3", "ab", "aB"],
+        &["key", "3", "ab"],
+        &["sort", "3"],
+    ];
+    for words in wrong {
+        expect_run(&rt, words, 2, "", USAGE)?;
+    }
+    Ok(())
+}
+
+#[test]
+fn a_failed_write_ends_the_run(rt: HostRuntime) -> Result<(), Fail> {
+    let right = strings(rt.alloc(), &["compare", "3", "ab", "aB"])?;
+    let wrong = strings(rt.alloc(), &["compare"])?;
+    for (room, want) in [(0, ""), (1, "<")] {
+        let mut output = Page::new(room, 128);
+        let mut faults = Page::new(128, 128);
+        let ended = run(
+            rt.alloc(),
+            right.as_slice(),
+            &mut io::empty(),
+            &mut output,
+            &mut faults,
+        );
+        assert_eq!(rt; ended, 1);
+        assert_eq!(rt; output.text(), want.as_bytes());
+        assert_eq!(rt; faults.text(), b"collate: write failed\n".as_slice());
+    }
+    for (words, output_room, want) in [(&right, 0, 1), (&wrong, 128, 2)] {
+        let mut output = Page::new(output_room, 128);
+        let mut faults = Page::new(3, 128);
+        let ended = run(
+            rt.alloc(),
+            words.as_slice(),
+            &mut io::empty(),
+            &mut output,
+            &mut faults,
+        );
+        assert_eq!(rt;
+            ended,
+            want,
+            "a failed write on standard error changes no status"
+        );
+        assert_eq!(rt; faults.text().len(), 3);
+    }
+    Ok(())
+}
+
+// With each memory request refused in turn, as `rt try --test --fail-alloc 1..` does, no answer comes in place of a
+// refusal.
+#[test]
+fn refused_memory_gives_no_answer(rt: HostRuntime) {
+    let Ok(words) = strings(rt.alloc(), &["compare", "3", "ab", "aB"]) else {
+        return;
+    };
+    let mut output = Page::new(128, 128);
+    let mut faults = Page::new(128, 128);
+    let ended = run(
+        rt.alloc(),
+        words.as_slice(),
+        &mut io::empty(),
+        &mut output,
+        &mut faults,
+    );
+    if ended == 0 {
+        assert_eq!(rt; output.text(), b"<\n".as_slice());
+        assert_eq!(rt; faults.text(), b"".as_slice());
+    } else {
+        assert_eq!(rt; ended, 1);
+        assert_eq!(rt; output.text(), b"".as_slice());
+        assert_eq!(rt; faults.text(), b"collate: no memory\n".as_slice());
+    }
+}
