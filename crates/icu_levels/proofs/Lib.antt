@@ -36,3 +36,4 @@ pub mod WorkedOrders
 pub mod NeededPremises
 pub mod CasedTertiaries
 pub mod MetPremises
+pub mod DigitsFromTheEnd

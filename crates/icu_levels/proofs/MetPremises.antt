@@ -29,13 +29,18 @@ of_either P a b p q w h = by (is_either a b w h)
     by (inr e) = subst P (sym e) q
 
 -- neither begins the other
-free : (k a b : ℕ) → (IsBeginning (weight_bytes k a) (weight_bytes k b) → ⊥) → (IsBeginning (weight_bytes k b) (weight_bytes k a) → ⊥) → IsPrefixFree (weight_bytes k) (Passes (either a b))
+free : (k a b : ℕ) → (IsBeginning (weight_bytes k a) (weight_bytes k b) → ⊥) → (IsBeginning (weight_bytes k b) (weight_bytes k a) → ⊥)
+    → IsPrefixFree (weight_bytes k) (Passes (either a b))
 free k a b f g v w p q n h = by (is_either a b v p) (is_either a b w q)
   where
     by : (v ≡ a) ⊎ (v ≡ b) → (w ≡ a) ⊎ (w ≡ b) → ⊥
     by (inl e) (inl i) = n (e ∙ sym i)
-    by (inl e) (inr i) = f (subst (λ z. IsBeginning (weight_bytes k z) (weight_bytes k b)) e (subst (λ z. IsBeginning (weight_bytes k v) (weight_bytes k z)) i h))
-    by (inr e) (inl i) = g (subst (λ z. IsBeginning (weight_bytes k z) (weight_bytes k a)) e (subst (λ z. IsBeginning (weight_bytes k v) (weight_bytes k z)) i h))
+    by (inl e) (inr i) =
+        f (subst (λ z. IsBeginning (weight_bytes k z) (weight_bytes k b)) e
+        (subst (λ z. IsBeginning (weight_bytes k v) (weight_bytes k z)) i h))
+    by (inr e) (inl i) =
+        g (subst (λ z. IsBeginning (weight_bytes k z) (weight_bytes k a)) e
+        (subst (λ z. IsBeginning (weight_bytes k v) (weight_bytes k z)) i h))
     by (inr e) (inr i) = n (e ∙ sym i)
 
 -- ---- primaries: a letter and the merge separator; 61 is compressible and 0F numeric
@@ -56,7 +61,9 @@ primaries_met = record {
   leads = of_either (λ w. 2 ≤ lead w) 0x61100000 0x02000000 (lit≤ tt) (lit≤ tt);
   separator = of_either (λ w. lead w ≡ 2 → w ≡ 0x02000000) 0x61100000 0x02000000 (λ e. absurd (omega arith)) (λ e. refl);
   prefix_free = free 4 0x61100000 0x02000000 (λ h. omega (arith, h.0)) (λ h. omega (arith, h.0));
-  seconds = of_either (λ w. (lead w == 0x61) ≡ true → (4 ≤ second_byte w) × (second_byte w ≤ 0xFE)) 0x61100000 0x02000000 (λ e. (lit≤ tt, lit≤ tt)) (λ e. absurd (cc));
+  seconds =
+      of_either (λ w. (lead w == 0x61) ≡ true → (4 ≤ second_byte w) × (second_byte w ≤ 0xFE)) 0x61100000 0x02000000
+      (λ e. (lit≤ tt, lit≤ tt)) (λ e. absurd (cc));
   alike = some_alike;
   not_numeric = of_either (λ w. lead w ≢ 0x0F) 0x61100000 0x02000000 (λ e. omega arith) (λ e. omega arith);
   numbers_together = λ w l e. e;
@@ -69,7 +76,8 @@ primaries_met = record {
 secondaries_met : AreSecondaries forward_least (Passes (either 0x0500 0x4600))
 secondaries_met = record {
   fits = of_either (λ w. w < 2 ^ 16) 0x0500 0x4600 (lit< tt) (lit< tt);
-  leads = of_either (λ w. (w ≡ 0x500) ⊎ (((2 ≤ w / 256) × (w / 256 ≤ 4)) ⊎ (0x46 ≤ w / 256))) 0x0500 0x4600 (inl refl) (inr (inr (lit≤ tt)));
+  leads =
+      of_either (λ w. (w ≡ 0x500) ⊎ (((2 ≤ w / 256) × (w / 256 ≤ 4)) ⊎ (0x46 ≤ w / 256))) 0x0500 0x4600 (inl refl) (inr (inr (lit≤ tt)));
   prefix_free = free 2 0x0500 0x4600 (λ h. omega (arith, h.0)) (λ h. omega (arith, h.0));
 }
 
@@ -92,7 +100,15 @@ shifted_met = record {
 
 -- ---- a key of all six levels
 abbrev some_weights : LiveWeights
-some_weights = record { primary = some_primaries; secondary = either 0x0500 0x4600; tertiary = either 0x0500 0x1C00; shifted_primary = either 0x03100000 0x04100000; numeric = 0x0F }
+some_weights =
+    record {
+      primary = some_primaries;
+      secondary = either 0x0500 0x4600;
+      tertiary = either 0x0500 0x1C00;
+      shifted_primary = either
+          0x03100000 0x04100000;
+      numeric = 0x0F;
+    }
 
 abbrev whole_form : KeyForm
 whole_form = record { secondary = forward; cases = lower_case_first; tertiary = Some plain; quaternary = shifted; identical = true }

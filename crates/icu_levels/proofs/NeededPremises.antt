@@ -44,6 +44,12 @@ tertiary_leads :
     × (list_order (tertiary_level plain (0x0501 ∷ 0x0500 ∷ [])) (tertiary_level plain (0x0500 ∷ 0x0501 ∷ [])) ≡ Less)
 tertiary_leads = (refl, refl)
 
+-- a primary that leads with 01, beside a text without a primary
+primary_leads :
+    (list_order (0x01100000 ∷ []) [] ≡ Greater)
+    × (list_order (primary_level (keeping (λ l. l == 0x61)) 0 (0x01100000 ∷ []) ++ 1 ∷ 5 ∷ 1 ∷ []) (1 ∷ 0x47 ∷ 1 ∷ []) ≡ Less)
+primary_leads = (refl, refl)
+
 -- backward, a secondary that leads with the byte that parts segments
 backward_leads :
     (segments_order ((0x0246 ∷ []) ∷ [] ∷ []) ([] ∷ (0x4700 ∷ []) ∷ []) ≡ Greater)
@@ -80,13 +86,23 @@ mixed_lead :
     × (list_order (primary_level joined 0 (0x61100000 ∷ 0x10010000 ∷ [])) (primary_level joined 0 (0x61100000 ∷ 0x02000000 ∷ [])) ≡ Less)
 mixed_lead = (refl, refl)
 
--- ---- numbers, with 1C and FC as numeric lead
+-- ---- numbers, with 1C, 30 and FC as numeric lead
 -- a live primary with the numeric lead
 numeric_primary :
     (list_order (0x1C020000 ∷ []) (0x1C000000 ∷ 0x1C000000 ∷ []) ≡ Greater)
     × (list_order (primary_level (keeping (λ l. l == 0x61)) 0 (0x1C020000 ∷ []))
     (primary_level (keeping (λ l. l == 0x61)) 0 (0x1C000000 ∷ 0x1C000000 ∷ [])) ≡ Less)
 numeric_primary = (refl, refl)
+
+-- a live primary that reordering gives the lead of numbers, beside 100000001
+abbrev onto_numbers : Compression
+onto_numbers = record { reorder = λ p. if p == 0x61850000 then 0x30850000 else p; is_compressible = λ l. l == 0x62 }
+
+moved_onto_numbers :
+    (list_order (map onto_numbers.reorder (0x61850000 ∷ 0x62100000 ∷ [])) (map onto_numbers.reorder (0x30850D0B ∷ 0x300B0B0C ∷ [])) ≡ Less)
+    × (list_order (primary_level onto_numbers 0 (0x61850000 ∷ 0x62100000 ∷ []))
+    (primary_level onto_numbers 0 (0x30850D0B ∷ 0x300B0B0C ∷ [])) ≡ Greater)
+moved_onto_numbers = (refl, refl)
 
 -- a compressible numeric lead
 compressible_numeric :

@@ -77,7 +77,8 @@ pub some_left : (ps : List ℕ) → is_only 0 ps ≡ false → (q : ℕ) × (qs 
 some_left [] e = absurd (cc)
 some_left (p ∷ ps) e = by (cases_Bool (is_only 0 ps)) (cases_eq p 0) (λ f. some_left ps f)
   where
-    by : (is_only 0 ps ≡ true) ⊎ (is_only 0 ps ≡ false) → (p ≡ 0) ⊎ (p ≡ 0 → ⊥) → (is_only 0 ps ≡ false → (q : ℕ) × (qs : List ℕ) × (without_last_zeros ps ≡ q ∷ qs))
+    by : (is_only 0 ps ≡ true) ⊎ (is_only 0 ps ≡ false) → (p ≡ 0) ⊎ (p ≡ 0 → ⊥)
+        → (is_only 0 ps ≡ false → (q : ℕ) × (qs : List ℕ) × (without_last_zeros ps ≡ q ∷ qs))
         → (q : ℕ) × (qs : List ℕ) × (before_nonzero p (without_last_zeros ps) ≡ q ∷ qs)
     by (inl f) (inl z) ih = absurd (not_both (eqb p 0) (is_only 0 ps) (eq-eqb p 0 z) f e)
     by (inl f) (inr n) ih = (p, [], ap (before_nonzero p) (only_zeros ps f) ∙ nonzero_first p [] (omega arith))
@@ -94,7 +95,8 @@ tested (p ∷ ps) e = by (cases_Bool (is_only 0 ps)) (cases_eq p 0) (λ f. teste
     by (inl f) (inr n) ih =
         ap pair_bytes (ap (before_nonzero p) (only_zeros ps f) ∙ nonzero_first p [] (omega arith)) ∙ sym (cond-true (is_only 0 ps) _ _ f)
     by (inr f) z ih = let r = some_left ps f in
-        ap (λ l. pair_bytes (before_nonzero p l)) r.2 ∙ (ap (λ l. (11 + 2 * p) ∷ l) (sym (ap pair_bytes r.2) ∙ ih f) ∙ sym (cond-false (is_only 0 ps) _ _ f))
+        ap (λ l. pair_bytes (before_nonzero p l)) r.2
+        ∙ (ap (λ l. (11 + 2 * p) ∷ l) (sym (ap pair_bytes r.2) ∙ ih f) ∙ sym (cond-false (is_only 0 ps) _ _ f))
 
 -- the digits of a number above 0 are not zeros alone
 zero_digits : (k v : ℕ) → v < 100 ^ k → is_only 0 (digits 100 k v) ≡ true → v ≡ 0
@@ -102,7 +104,8 @@ zero_digits zero v l e = omega (arith, pow-zero 100)
 zero_digits (suc k) v l e =
     let h = and_parts (eqb (v / 100 ^ k) 0) (is_only 0 (digits 100 k (v % 100 ^ k))) e in
     let some : 0 < 100 ^ k = one-le-pow k 100 (lit≤ tt) in
-    joined (v / 100 ^ k) (v % 100 ^ k) (100 ^ k) v (div-add-mod' v (100 ^ k)) (eqb-true (v / 100 ^ k) 0 h.0) (zero_digits k (v % 100 ^ k) (mod_below v (100 ^ k) some) h.1)
+    joined (v / 100 ^ k) (v % 100 ^ k) (100 ^ k) v (div-add-mod' v (100 ^ k)) (eqb-true (v / 100 ^ k) 0 h.0)
+    (zero_digits k (v % 100 ^ k) (mod_below v (100 ^ k) some) h.1)
   where
     joined : (q r b v : ℕ) → q * b + r ≡ v → q ≡ 0 → r ≡ 0 → v ≡ 0
     joined zero r b v e f g = omega arith
@@ -152,14 +155,16 @@ pairs_precede (p ∷ ps) (q ∷ qs) e h =
   where
     by : (p < q) ⊎ ((p ≡ q) × (list_order ps qs ≡ Less)) → (is_only 0 ps ≡ true) ⊎ (is_only 0 ps ≡ false) → (is_only 0 qs ≡ true)
         ⊎ (is_only 0 qs ≡ false)
-        → (list_order ps qs ≡ Less → Precedes (tested_bytes ps) (tested_bytes qs)) → Precedes (tested_bytes (p ∷ ps)) (tested_bytes (q ∷ qs))
+        → (list_order ps qs ≡ Less → Precedes (tested_bytes ps) (tested_bytes qs))
+        → Precedes (tested_bytes (p ∷ ps)) (tested_bytes (q ∷ qs))
     by (inl l) (inl a) (inl b) ih = rw (last_pair p ps a, last_pair q qs b) (precedes_head (10 + 2 * p) (10 + 2 * q) [] [] (omega arith))
     by (inl l) (inl a) (inr b) ih =
         rw (last_pair p ps a, inner_pair q qs b) (precedes_head (10 + 2 * p) (11 + 2 * q) [] (tested_bytes qs) (omega arith))
     by (inl l) (inr a) (inl b) ih =
         rw (inner_pair p ps a, last_pair q qs b) (precedes_head (11 + 2 * p) (10 + 2 * q) (tested_bytes ps) [] (omega arith))
     by (inl l) (inr a) (inr b) ih =
-        rw (inner_pair p ps a, inner_pair q qs b) (precedes_head (11 + 2 * p) (11 + 2 * q) (tested_bytes ps) (tested_bytes qs) (omega arith))
+        rw (inner_pair p ps a, inner_pair q qs b) (precedes_head (11 + 2 * p) (11 + 2 * q) (tested_bytes ps) (tested_bytes qs)
+        (omega arith))
     by (inr r) a (inl b) ih = absurd (not_only ps qs (omega arith) r.1 b)
     by (inr r) (inl a) (inr b) ih =
         rw (last_pair p ps a, inner_pair q qs b) (precedes_head (10 + 2 * p) (11 + 2 * q) [] (tested_bytes qs) (omega (arith, r.0)))
@@ -194,7 +199,8 @@ as_many_rise : (n x y : ℕ) → 0 < x → x < y → y < 100 ^ n
     → Precedes (pair_bytes (without_last_zeros (digits 100 n x))) (pair_bytes (without_last_zeros (digits 100 n y)))
 as_many_rise n x y some l f =
     rw (great_pairs n x some (omega arith), great_pairs n y (omega arith) f)
-    (pairs_precede (digits 100 n x) (digits 100 n y) (length_digits 100 n x ∙ sym (length_digits 100 n y)) (digits_less 100 n x y (lit< tt) f l))
+    (pairs_precede (digits 100 n x) (digits 100 n y) (length_digits 100 n x ∙ sym (length_digits 100 n y))
+    (digits_less 100 n x y (lit< tt) f l))
 
 great_rises : (most bound : ℕ) → bound ≤ 100 ^ most → Rises (λ v. great_bytes (pair_count most v) v) 1042490 bound
 great_rises most bound fits x y a l b = by (cases_order (pair_count most x) (pair_count most y))
@@ -202,11 +208,13 @@ great_rises most bound fits x y a l b = by (cases_order (pair_count most x) (pai
     by : (pair_count most x ≡ pair_count most y) ⊎ ((pair_count most x < pair_count most y) ⊎ (pair_count most y < pair_count most x))
         → Precedes (great_bytes (pair_count most x) x) (great_bytes (pair_count most y) y)
     by (inl e) =
-        rw e (precedes_more (128 + pair_count most y) (128 + pair_count most y) (pair_bytes (without_last_zeros (digits 100 (pair_count most y) x)))
+        rw e (precedes_more (128 + pair_count most y) (128 + pair_count most y)
+        (pair_bytes (without_last_zeros (digits 100 (pair_count most y) x)))
         (pair_bytes (without_last_zeros (digits 100 (pair_count most y) y))) (omega arith)
         (λ f. as_many_rise (pair_count most y) x y (omega arith) l (count_fits most y (omega arith))))
     by (inr (inl m)) =
-        precedes_head (128 + pair_count most x) (128 + pair_count most y) (pair_bytes (without_last_zeros (digits 100 (pair_count most x) x)))
+        precedes_head (128 + pair_count most x) (128 + pair_count most y)
+        (pair_bytes (without_last_zeros (digits 100 (pair_count most x) x)))
         (pair_bytes (without_last_zeros (digits 100 (pair_count most y) y))) (omega arith)
     by (inr (inr m)) = absurd (omega (arith, count_grows most x y (omega arith)))
 

@@ -60,9 +60,8 @@ pub record AreShifted (IsLive : ℕ → Type 0) : Type 0 where
 
 -- ---- primaries, and weights of numbers among them
 
--- The bytes after the numeric lead in the first weight of a number. From 84 on the first of them counts
--- pairs of digits: then more of the number follows an odd last byte, and an even one ends it. Below 84 it is the whole
--- number
+-- The bytes after the numeric lead in the first weight of a number. From 84 on the first of them counts pairs of digits:
+-- then more of the number follows an odd last byte, and an even one ends it. Below 84 the weight is the whole number
 abbrev pub IsFirstPiece : List ℕ → Type 0
 IsFirstPiece [] = ⊥
 IsFirstPiece (b ∷ []) = b ≤ 75
@@ -96,7 +95,8 @@ goes_on numeric inside w = lead w == numeric && (w % 2 == 1 && (inside || nat_le
 -- Primaries before reordering, each of which may stand where it is met: live ones, and weights of whole numbers
 abbrev pub IsPrimaryList : ℕ → (ℕ → Type 0) → Bool → List ℕ → Type 0
 IsPrimaryList numeric IsLive inside [] = Unit {0}
-IsPrimaryList numeric IsLive inside (w ∷ ws) = MayStand numeric IsLive inside w × IsPrimaryList numeric IsLive (goes_on numeric inside w) ws
+IsPrimaryList numeric IsLive inside (w ∷ ws) =
+    MayStand numeric IsLive inside w × IsPrimaryList numeric IsLive (goes_on numeric inside w) ws
 
 -- the lead that reordering gives the weights of numbers
 abbrev pub number_lead : Compression → ℕ → ℕ
