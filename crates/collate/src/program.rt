@@ -2,7 +2,7 @@ ghost use Rattle.std.specs.Prelude.{◌≡◌, ◌≤◌, ◌↔◌, Err, None, 
 ghost use Rattle.std.specs.Io.KnownBytes.{Keeps};
 ghost use Rattle.collate.specs.Commands.{command_of};
 ghost use Rattle.collate.specs.Faults.{status_of};
-ghost use Rattle.collate.specs.Runs.{IsQuiet, Says, PrintsAnswer, PrintsBeginning, LacksMemory, FailsToWrite};
+ghost use Rattle.collate.specs.Runs.{Says, PrintsAnswer, PrintsBeginning, LacksMemory, FailsToWrite};
 
 use crate::answer::answer;
 use crate::command::Command;
@@ -28,13 +28,13 @@ pub fn run<R: Read, W: Write, E: Write>(
 ) -> u8
     ensures statuses { result ≤ 2 }
     ensures wrong_words { (result ≡ 2) ↔ (command_of (map string_bytes words.now) ≡ None) }
-    ensures usage { result ≡ 2 → Says Fault.WrongWords record { before = E.contents faults.old; after = E.contents faults.new } }
-    ensures nothing { result ≡ 2 → IsQuiet record { before = W.contents output.old; after = W.contents output.new } }
-    ensures answer { result ≡ 0 → IfSome (command_of (map string_bytes words.now)) (PrintsAnswer record { before = W.contents output.old; after = W.contents output.new }) }
-    ensures no_fault { result ≡ 0 → IsQuiet record { before = E.contents faults.old; after = E.contents faults.new } }
+    ensures usage { result ≡ 2 → Says Fault.WrongWords (E.contents faults.old) (E.contents faults.new) }
+    ensures nothing { result ≡ 2 → Keeps (W.contents output.old) (W.contents output.new) }
+    ensures answer { result ≡ 0 → IfSome (command_of (map string_bytes words.now)) (PrintsAnswer (W.contents output.old) (W.contents output.new)) }
+    ensures no_fault { result ≡ 0 → Keeps (E.contents faults.old) (E.contents faults.new) }
     ensures refused { result ≡ 1 → IfSome (command_of (map string_bytes words.now)) (λ asked.
-        LacksMemory record { before = W.contents output.old; after = W.contents output.new } record { before = E.contents faults.old; after = E.contents faults.new }
-        ⊎ FailsToWrite record { before = W.contents output.old; after = W.contents output.new } record { before = E.contents faults.old; after = E.contents faults.new } asked) }
+        LacksMemory (W.contents output.old) (W.contents output.new) (E.contents faults.old) (E.contents faults.new)
+        ⊎ FailsToWrite asked (W.contents output.old) (W.contents output.new) (E.contents faults.old) (E.contents faults.new)) }
 {
     match print_answer(alloc, words, output) {
         Ok(()) => 0,
@@ -44,11 +44,11 @@ pub fn run<R: Read, W: Write, E: Write>(
 
 // Prints the answer, or says what keeps it from being printed.
 fn print_answer<W: Write>(alloc: Global, words: &[String], output: &mut W) -> Result<(), Fault>
-    ensures ok { OnOk result (IfSome (command_of (map string_bytes words.now)) (PrintsAnswer record { before = W.contents output.old; after = W.contents output.new })) }
+    ensures ok { OnOk result (IfSome (command_of (map string_bytes words.now)) (PrintsAnswer (W.contents output.old) (W.contents output.new))) }
     ensures wrong_words { (result ≡ Err Fault.WrongWords) ↔ (command_of (map string_bytes words.now) ≡ None) }
-    ensures nothing { result ≡ Err Fault.WrongWords → IsQuiet record { before = W.contents output.old; after = W.contents output.new } }
-    ensures no_memory { result ≡ Err Fault.NoMemory → IsQuiet record { before = W.contents output.old; after = W.contents output.new } }
-    ensures write_failed { result ≡ Err Fault.WriteFailed → IfSome (command_of (map string_bytes words.now)) (PrintsBeginning record { before = W.contents output.old; after = W.contents output.new }) }
+    ensures nothing { result ≡ Err Fault.WrongWords → Keeps (W.contents output.old) (W.contents output.new) }
+    ensures no_memory { result ≡ Err Fault.NoMemory → Keeps (W.contents output.old) (W.contents output.new) }
+    ensures write_failed { result ≡ Err Fault.WriteFailed → IfSome (command_of (map string_bytes words.now)) (PrintsBeginning (W.contents output.old) (W.contents output.new)) }
 {
     let Some(command) = Command::parse(words) else {
         return Err(Fault::WrongWords);
@@ -66,7 +66,7 @@ fn print_answer<W: Write>(alloc: Global, words: &[String], output: &mut W) -> Re
 /// changes nothing.
 pub fn report<E: Write>(fault: Fault, faults: &mut E) -> u8
     ensures status { result ≡ status_of fault }
-    ensures said { Says fault record { before = E.contents faults.old; after = E.contents faults.new } }
+    ensures said { Says fault (E.contents faults.old) (E.contents faults.new) }
 {
     let _ = write_text(faults, fault.line().as_bytes());
     fault.status()
