@@ -1,2 +1,4 @@
 pub mod ListLemmas
+pub mod ContextLemmas
+pub mod SpecialLemmas
 pub mod GoodLemmas

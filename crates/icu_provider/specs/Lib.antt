@@ -4,7 +4,15 @@ pub mod Weights
 pub mod Tables
 pub mod Final
 pub mod Live
+pub mod ElementConditions
+pub mod EntryConditions
 pub mod Conditions
 pub mod CodePointTables
+pub mod Contexts
+pub mod Accents
+pub mod Reorderings
+pub mod SpecialPrimaries
+pub mod Metadata
+pub mod Requests
 pub mod Roots
 pub mod Stored

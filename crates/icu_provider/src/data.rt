@@ -1,34 +1,39 @@
-ghost use Rattle.std.specs.Prelude.{◌≡◌, ◌+◌, ◌<◌, ◌≤◌, length, slice_index, take, drop, map, []};
+ghost use Rattle.std.specs.Prelude.{◌≡◌, ◌+◌, ◌<◌, ◌≤◌, length, slice_index, slice_index_or, take, drop, map, IsTrue};
 ghost use Rattle.icu_provider.specs.Elements.{element_of};
-ghost use Rattle.icu_provider.specs.Entries.{kind_of};
-ghost use Rattle.icu_provider.specs.Tables.{plain_of};
+ghost use Rattle.icu_provider.specs.Entries.{kind_of, has_index};
+ghost use Rattle.icu_provider.specs.Tables.{homed, no_context, context_of, plain_of};
 
 use crate::code_point_table::CodePointTable;
+use crate::context::{ContextTable, FoundContext};
 use crate::entry::{CollationElement32, EntryKind};
 
-/// A root: a table of entries by character, and the lists that entries name.
+/// A root or a tailoring: a table of entries by character, and the lists and contexts that entries name.
 #[derive(Debug, Clone, Copy, PartialEq)]
 pub struct CollationData<'d> {
     trie: CodePointTable<'d>,
     ces: &'d [u64],
     ce32s: &'d [u32],
+    contexts: ContextTable<'d>,
 }
 
 impl<'d> CollationData<'d> {
-    ghost use Rattle.icu_provider.specs.Stored.{data_of, table_value};
+    ghost use Rattle.icu_provider.specs.Stored.{data_of, data_by, found_context};
 
     #[tactic(auto, unfolding(crate::specs::Stored::data_of))]
     pub(crate) fn from_parts(
         trie: CodePointTable<'d>,
         ces: &'d [u64],
         ce32s: &'d [u32],
+        contexts: ContextTable<'d>,
     ) -> CollationData<'d>
-        ensures value { (data_of result).value ≡ table_value trie.entry }
-        ensures elements { (data_of result).elements ≡ map element_of ces.entry.now }
-        ensures entries { (data_of result).entries ≡ ce32s.entry.now }
-        ensures contexts { (data_of result).contexts ≡ [] }
+        ensures { data_of result ≡ data_by trie.entry ces.entry.now ce32s.entry.now contexts.entry }
     {
-        CollationData { trie, ces, ce32s }
+        CollationData {
+            trie,
+            ces,
+            ce32s,
+            contexts,
+        }
     }
 
     /// The entry of a character.
@@ -64,6 +69,40 @@ impl<'d> CollationData<'d> {
         ensures { map element_of result.now ≡ take len (drop index (data_of self.entry).elements) }
     {
         &self.ces[index..index + len]
+    }
+
+    /// The entry for all texts of the context at a place, but those of its rows.
+    #[tactic(auto, unfolding(crate::specs::Stored::data_of))]
+    pub fn get_default(self, index: usize) -> CollationElement32
+        requires { index < length (data_of self).contexts }
+        ensures { result ≡ (slice_index_or (data_of self.entry).contexts index no_context).default }
+    {
+        self.contexts.get(index).default()
+    }
+
+    /// The context at a place, its entry for all texts and its rows.
+    #[tactic(auto, unfolding(crate::specs::Stored::data_of))]
+    pub fn get_context(self, index: usize) -> FoundContext<'d>
+        requires { index < length (data_of self).contexts }
+        ensures { found_context result ≡ slice_index_or (data_of self.entry).contexts index no_context }
+    {
+        self.contexts.get(index)
+    }
+
+    /// The context that an entry names, or an empty one where there is none at that place.
+    #[tactic(auto, unfolding(crate::specs::Stored::data_of))]
+    pub(crate) fn context_of(self, entry: CollationElement32) -> FoundContext<'d>
+        requires { IsTrue (has_index (kind_of entry)) }
+        ensures { found_context result ≡ context_of (homed (data_of self.entry) entry) }
+    {
+        self.contexts.get_or_empty(entry.index())
+    }
+
+    #[tactic(auto, unfolding(crate::specs::Stored::data_of))]
+    pub(crate) fn context_count(self) -> usize
+        ensures { result ≡ length (data_of self.entry).contexts }
+    {
+        self.contexts.len()
     }
 
     #[tactic(auto, unfolding(crate::specs::Stored::data_of))]
