@@ -6,6 +6,9 @@ pub mod Final
 pub mod Live
 pub mod ElementConditions
 pub mod EntryConditions
+pub mod LiveConditions
+pub mod Walks
+pub mod Faults
 pub mod Conditions
 pub mod CodePointTables
 pub mod Contexts

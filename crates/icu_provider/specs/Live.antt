@@ -28,13 +28,10 @@ unfoldable pub live_from : Data → ℕ → List ℕ
 live_from home e =
     elim (kind_of e) [ Prefix ↦ e ∷ flat_map (live_contraction home) (named_entries home e) | _ ↦ live_contraction home e ]
 
--- the entry of a character, where there is one: a tailoring's fallback entry stands for the root's
-abbrev pub start_entries : Bool → ℕ → List ℕ
-start_entries falls_back e = if falls_back && e == 0xC0 then [] else e ∷ []
-
--- the entries that are live with a character of a code point table
+-- The entries that are live with a character of a code point table. A tailoring falls back: where its entry is fallback, the root's
+-- stands for it, and it has none.
 abbrev pub live_at : Bool → Data → ℕ → List ℕ
-live_at falls_back home c = flat_map (live_from home) (start_entries falls_back (home.value c))
+live_at falls_back home c = if falls_back && home.value c == 0xC0 then [] else live_from home (home.value c)
 
 -- what holds of each pair of a character and an entry that is live with it
 abbrev pub EachLive : (ℕ → ℕ → Type 0) → Bool → Data → Type 0

@@ -15,12 +15,16 @@ pub mod element_conditions;
 pub mod entry;
 mod entry_conditions;
 pub mod error;
+pub mod fault;
 pub mod jamo;
+pub mod live_condition;
 pub mod metadata;
 pub mod non_primary;
+mod offset;
 pub mod reordering;
 pub mod request;
 pub mod special_primaries;
+mod walk;
 
 pub use checked::CheckedTables;
 pub use code_point_table::CodePointTable;
