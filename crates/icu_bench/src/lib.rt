@@ -3,3 +3,5 @@
 
 #[cfg(test)]
 mod options;
+#[cfg(test)]
+mod tables;
