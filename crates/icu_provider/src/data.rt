@@ -116,7 +116,7 @@ impl<'d> CollationData<'d> {
         requires { index < length (data_of self).contexts }
         ensures { result ≡ (slice_index_or (data_of self.entry).contexts index no_context).default }
     {
-        self.contexts.get(index).default()
+        self.get_context(index).default()
     }
 
     /// The context at a place, its entry for all texts and its rows.
