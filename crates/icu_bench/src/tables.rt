@@ -489,27 +489,48 @@ fn reorderings_move_lead_bytes(rt: HostRuntime) -> Result<(), Fail> {
     let split_more = CollationReordering::new(0x6180_0000, split.as_slice(), &[0x6120_00FF, 0x6140_0001])?;
     let zeros = vec![in rt.alloc(); 0u8; 256]?;
     let wrapped = CollationReordering::new(u32::MAX, zeros.as_slice(), &[0xFFFF_FFA0])?;
-    for (reordering, primary, reordered) in [
-        (swap, 0x6110_0000, 0x6210_0000),
-        (swap, 0x6210_2030, 0x6110_2030),
-        (swap, 0x6310_0000, 0x6310_0000),
-        (split_a, 0x6110_0000, 0x9010_0000),
-        (split_a, 0x613F_FFFF, 0x903F_FFFF),
-        (split_a, 0x6140_0000, 0x6140_0000),
-        (split_a, 0x6174_0000, 0x6174_0000),
-        (split_a, 0x6210_0000, 0x6210_0000),
-        (split_more, 0x6110_0000, 0x6010_0000),
-        (split_more, 0x6120_0000, 0x6220_0000),
-        (split_more, 0x617F_FFFF, 0x617F_FFFF),
-        (split_more, 0x6180_0000, 0x6180_0000),
-        (wrapped, 0, 0),
-        (wrapped, 1, 1),
-        (wrapped, 2, 0xA000_0002),
-        (wrapped, 0x6110_0000, 0x0110_0000),
-    ] {
-        assert_eq!(rt; reordering.reorder(primary), reordered, "{primary:08X}");
-    }
+    let rows = [
+        (0x6110_0000, 0x6210_0000),
+        (0x6210_2030, 0x6110_2030),
+        (0x6310_0000, 0x6310_0000),
+    ];
+    assert_eq!(rt; first_moved_elsewhere(swap, &rows), None);
+    let rows = [
+        (0x6110_0000, 0x9010_0000),
+        (0x613F_FFFF, 0x903F_FFFF),
+        (0x6140_0000, 0x6140_0000),
+        (0x6174_0000, 0x6174_0000),
+        (0x6210_0000, 0x6210_0000),
+    ];
+    assert_eq!(rt; first_moved_elsewhere(split_a, &rows), None);
+    let rows = [
+        (0x6110_0000, 0x6010_0000),
+        (0x6120_0000, 0x6220_0000),
+        (0x617F_FFFF, 0x617F_FFFF),
+        (0x6180_0000, 0x6180_0000),
+    ];
+    assert_eq!(rt; first_moved_elsewhere(split_more, &rows), None);
+    let rows = [
+        (0, 0),
+        (1, 1),
+        (2, 0xA000_0002),
+        (0x6110_0000, 0x0110_0000),
+    ];
+    assert_eq!(rt; first_moved_elsewhere(wrapped, &rows), None);
     Ok(())
+}
+
+// The first of these primary weights that isn't reordered to the one beside it.
+fn first_moved_elsewhere(
+    reordering: CollationReordering<'_>,
+    rows: &[(u32, u32)],
+) -> Option<u32> {
+    for (primary, reordered) in rows {
+        if reordering.reorder(*primary) != *reordered {
+            return Some(*primary);
+        }
+    }
+    None
 }
 
 #[test]
@@ -558,27 +579,42 @@ fn lead_bytes_are_compressible(rt: HostRuntime) -> Result<(), Fail> {
     let mut more = vec![in rt.alloc(); 0x0400u16; 1]?;
     more.extend_from_slice(twenty.as_slice())?;
     let longer = CollationSpecialPrimaries::new(more.as_slice(), 0xFD)?;
-    for (special, lead, compressible) in [
-        (by_leads, 0x60, false),
-        (by_leads, 0x61, true),
-        (by_leads, 0x80, true),
-        (by_leads, 0x81, false),
-        (by_leads, 0xFD, false),
-        (by_leads, 0xFE, true),
-        (by_leads, 0xFF, false),
-        (by_bits, 0x0E, false),
-        (by_bits, 0x0F, true),
-        (by_bits, 0x10, true),
-        (by_bits, 0x11, false),
-        (by_bits, 0x61, false),
-        (by_bits, 0xFE, true),
-        (by_bits, 0xFF, false),
-        (longer, 0x0F, false),
-        (longer, 0x61, true),
-    ] {
-        assert_eq!(rt; special.is_compressible(lead), compressible, "{lead:02X}");
-    }
+    let rows = [
+        (0x60, false),
+        (0x61, true),
+        (0x80, true),
+        (0x81, false),
+        (0xFD, false),
+        (0xFE, true),
+        (0xFF, false),
+    ];
+    assert_eq!(rt; first_compressed_otherwise(by_leads, &rows), None);
+    let rows = [
+        (0x0E, false),
+        (0x0F, true),
+        (0x10, true),
+        (0x11, false),
+        (0x61, false),
+        (0xFE, true),
+        (0xFF, false),
+    ];
+    assert_eq!(rt; first_compressed_otherwise(by_bits, &rows), None);
+    let rows = [(0x0F, false), (0x61, true)];
+    assert_eq!(rt; first_compressed_otherwise(longer, &rows), None);
     Ok(())
+}
+
+// The first of these lead bytes that isn't compressible as the value beside it says.
+fn first_compressed_otherwise(
+    special: CollationSpecialPrimaries<'_>,
+    rows: &[(u8, bool)],
+) -> Option<u8> {
+    for (lead, compressible) in rows {
+        if special.is_compressible(*lead) != *compressible {
+            return Some(*lead);
+        }
+    }
+    None
 }
 
 #[test]

@@ -77,7 +77,7 @@ passes_meets : (home : Data) (c e : ℕ) → Passes home c e → (condition : Li
 unfolding first_failing
 passes_meets home c e h = listed_meets home c e (find_none (λ condition. not (meets condition home c e)) live_conditions h)
 
-meets_passes : (home : Data) (c e : ℕ) → ((condition : LiveCondition) → IsTrue (meets condition home c e)) → Passes home c e
+pub meets_passes : (home : Data) (c e : ℕ) → ((condition : LiveCondition) → IsTrue (meets condition home c e)) → Passes home c e
 unfolding first_failing
 meets_passes home c e all = none_found (λ condition. not (meets condition home c e)) (λ condition. negated (meets condition home c e) (all condition)) live_conditions
 

@@ -6,4 +6,6 @@ pub mod ContextLemmas
 pub mod SpecialLemmas
 pub mod WalkLemmas
 pub mod FaultLemmas
+pub mod ImplicitLemmas
 pub mod GoodLemmas
+mod WorkedTables
