@@ -9,3 +9,5 @@ mod elements;
 mod options;
 #[cfg(test)]
 mod refusals;
+#[cfg(test)]
+mod tables;
