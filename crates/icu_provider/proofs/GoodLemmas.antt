@@ -5,12 +5,13 @@ use Rattle.std.proofs.lemmas.Bool.Decides.{nat_tests}
 use Rattle.std.specs.Char.{IsScalar}
 use Rattle.std.specs.List.{list_all}
 use Rattle.icu_provider.specs.declared.conditions.EntryCondition.{EntryCondition}
-use Rattle.icu_provider.specs.Entries.{EntryKind, Simple, LongPrimary, LongSecondary, Expansion32, Expansion, Digit, Offset, Implicit, kind_of, entry_index}
+use Rattle.icu_provider.specs.Entries.{EntryKind, Simple, LongPrimary, LongSecondary, Expansion32, Expansion, Prefix, Contraction, Digit, Offset, Implicit, kind_of, entry_index}
 use Rattle.icu_provider.specs.Tables.{Data, is_jamo, entry_of, plain_of}
 use Rattle.icu_provider.specs.Final.{is_final}
 use Rattle.icu_provider.specs.Live.{live_digit}
 use Rattle.icu_provider.specs.Roots.{root_tables}
-use Rattle.icu_provider.specs.Conditions.{names_inside, leads_on, is_known, all_live_meet, AllMeet, IsGoodLive, IsGoodFinal, IsGoodRoot}
+use Rattle.icu_provider.specs.EntryConditions.{leads_on}
+use Rattle.icu_provider.specs.Conditions.{names_inside, is_known, all_live_meet, AllMeet, IsGoodLive, IsGoodFinal, IsGoodRoot}
 
 jamo_place : (c n : ℕ) → is_jamo c ≡ true → n ≡ 256 → c - 0x1100 < n
 jamo_place c n h e = grind (arith, nat_tests)
@@ -52,13 +53,13 @@ pub plain_live : (p : ℕ → Bool) (home : Data) (e : ℕ) → kind_of e ≡ Di
 unfolding live_digit
 plain_live p home e is h = second_of_kind p (kind_of e) e _ is h
 
-led_on : (k : EntryKind) (b : Bool) → k ≡ Digit → IsTrue (elim k as (λ _. Bool) [ Digit ↦ b | _ ↦ true ]) → IsTrue b
-led_on Digit b is h = h
-led_on _ b is h = cc
+led_on : (k : EntryKind) (a b d : Bool) → k ≡ Digit → IsTrue (elim k as (λ _. Bool) [ Prefix ↦ a | Contraction ↦ b | Digit ↦ d | _ ↦ true ]) → IsTrue d
+led_on Digit a b d is h = h
+led_on _ a b d is h = cc
 
 digit_leads : (home : Data) (e : ℕ) → kind_of e ≡ Digit → IsTrue (leads_on home e) → IsTrue (is_final (kind_of (plain_of home e)))
 unfolding leads_on
-digit_leads home e is h = led_on (kind_of e) _ is h
+digit_leads home e is h = led_on (kind_of e) _ _ _ is h
 
 known_final : (k : EntryKind) (b : Bool) → (k ≡ Digit → ⊥) → IsTrue (elim k as (λ _. Bool) [ Simple ↦ true | LongPrimary ↦ true | LongSecondary ↦ true | Expansion32 ↦ b | Expansion ↦ true | Digit ↦ true | Implicit ↦ true | _ ↦ false ]) → IsTrue (is_final k)
 known_final Simple b other h = refl

@@ -1,2 +1,9 @@
 pub mod ListLemmas
+pub mod CharLemmas
+pub mod EntryLemmas
+pub mod OffsetLemmas
+pub mod ContextLemmas
+pub mod SpecialLemmas
+pub mod WalkLemmas
+pub mod FaultLemmas
 pub mod GoodLemmas

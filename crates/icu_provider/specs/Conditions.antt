@@ -1,4 +1,4 @@
--- The conditions that tables meet, each in one word over an entry and its home.
+-- The conditions on the tables of a collator that has a root alone, whose entries name no context and no offset.
 use Rattle.std.specs.Prelude.{ℕ, ◌≡◌, ◌+◌, Bool, true, false, ◌&&◌, nat_le, nat_lt, List, length, All, IsTrue}
 use Rattle.std.specs.Char.{IsScalar}
 use Rattle.std.specs.List.{list_all}
@@ -7,13 +7,10 @@ use Rattle.icu_provider.specs.declared.conditions.EntryCondition.TheVariants as 
 use Rattle.icu_provider.specs.declared.error.DataErrorKind.{DataErrorKind}
 use Rattle.icu_provider.specs.declared.error.DataErrorKind.TheVariants as kinds
 use Rattle.icu_provider.specs.Entries.{Simple, LongPrimary, LongSecondary, Expansion32, Expansion, Digit, Offset, Implicit, kind_of, list_length, entry_index, digit_value, is_self_contained}
-use Rattle.icu_provider.specs.Tables.{Data, Tables, plain_of}
+use Rattle.icu_provider.specs.Tables.{Data, Tables}
 use Rattle.icu_provider.specs.Final.{listed, is_final}
+use Rattle.icu_provider.specs.EntryConditions.{is_listed, leads_on, has_digit}
 use Rattle.icu_provider.specs.Live.{live_digit}
-
--- the list that an entry names has a member, and lies inside one of this length
-abbrev pub is_listed : ℕ → ℕ → Bool
-is_listed e len = nat_lt 0 (list_length e) && nat_le (entry_index e + list_length e) len
 
 -- what the entry names is there
 unfoldable pub names_inside : Data → ℕ → Bool
@@ -25,14 +22,6 @@ names_inside home e =
       | Offset ↦ nat_lt (entry_index e) (length home.elements)
       | _ ↦ true
     ]
-
--- a digit entry's digit is one
-unfoldable pub has_digit : ℕ → Bool
-has_digit e = elim (kind_of e) [ Digit ↦ nat_le (digit_value e) 9 | _ ↦ true ]
-
--- a digit's plain entry is final
-unfoldable pub leads_on : Data → ℕ → Bool
-leads_on home e = elim (kind_of e) [ Digit ↦ is_final (kind_of (plain_of home e)) | _ ↦ true ]
 
 -- the low byte is known, and the members of a list of entries have one element each
 unfoldable pub is_known : Data → ℕ → Bool

@@ -1,20 +1,58 @@
 -- What the tables of this crate say, as they are stored.
-use Rattle.std.specs.Prelude.{ℕ, [], map}
+use Rattle.std.specs.Prelude.{ℕ, List, map}
 use Rattle.icu_provider.specs.declared.code_point_table.CodePointTable.{CodePointTable}
+use Rattle.icu_provider.specs.declared.context.ContextTable.{ContextTable}
+use Rattle.icu_provider.specs.declared.context.FoundContext.{FoundContext}
+use Rattle.icu_provider.specs.declared.context.FoundRow.{FoundRow}
 use Rattle.icu_provider.specs.declared.data.CollationData.{CollationData}
 use Rattle.icu_provider.specs.declared.checked.CheckedTables.{CheckedTables}
+use Rattle.icu_provider.specs.declared.diacritics.CollationDiacritics.{CollationDiacritics}
+use Rattle.icu_provider.specs.declared.jamo.CollationJamo.{CollationJamo}
+use Rattle.icu_provider.specs.declared.reordering.CollationReordering.{CollationReordering}
+use Rattle.icu_provider.specs.declared.special_primaries.CollationSpecialPrimaries.{CollationSpecialPrimaries}
 use Rattle.icu_provider.specs.Elements.{element_of}
 use Rattle.icu_provider.specs.CodePointTables.{stored_value}
-use Rattle.icu_provider.specs.Tables.{Data, Tables}
+use Rattle.icu_provider.specs.Tables.{Row, Context, Data, Tables}
+use Rattle.icu_provider.specs.Contexts.{rows_of, stored_contexts}
+use Rattle.icu_provider.specs.Reorderings.{Reordering}
+use Rattle.icu_provider.specs.SpecialPrimaries.{SpecialPrimaries}
 use Rattle.icu_provider.specs.Roots.{stored_data, root_tables}
 
 -- the function from characters to values that a code point table is
 abbrev pub table_value : CodePointTable → ℕ → ℕ
 table_value t = stored_value t.blocks.now t.values.now
 
+-- the contexts of a context table, one that was looked up, and a row of one
+abbrev pub contexts_of : ContextTable → List Context
+contexts_of t = stored_contexts t.contexts.now t.rows.now t.chars.now
+
+abbrev pub found_context : FoundContext → Context
+found_context f = record { default = f.default; rows = rows_of f.chars.now f.rows.now }
+
+abbrev pub found_row : FoundRow → Row
+found_row r = record { chars = r.chars.now; entry = r.entry }
+
+-- a root or a tailoring by its code point table, its lists of elements and of entries, and its contexts
+abbrev pub data_by : CodePointTable → List ℕ → List ℕ → ContextTable → Data
+data_by trie ces ce32s contexts =
+    record { value = table_value trie; elements = map element_of ces; entries = ce32s; contexts = contexts_of contexts }
+
 unfoldable pub data_of : CollationData → Data
-data_of d = record { value = table_value d.trie; elements = map element_of d.ces.now; entries = d.ce32s.now; contexts = [] }
+data_of d = data_by d.trie d.ces.now d.ce32s.now d.contexts
 
 -- the tables that a value of checked tables keeps
 unfoldable pub kept_tables : CheckedTables → Tables
 kept_tables t = root_tables (stored_data t.blocks.items t.values.items t.ces.items t.ce32s.items) t.jamo.items t.diacritics.items
+
+-- the secondary weights of diacritics, the entries of jamo, a reordering, the special primary weights
+abbrev pub accents_of : CollationDiacritics → List ℕ
+accents_of d = d.secondaries.now
+
+abbrev pub jamo_of : CollationJamo → List ℕ
+jamo_of j = j.ce32s.now
+
+abbrev pub reordering_of : CollationReordering → Reordering
+reordering_of r = record { limit = r.min_high_no_reorder; leads = r.reorder_table.now; ranges = r.reorder_ranges.now }
+
+abbrev pub special_of : CollationSpecialPrimaries → SpecialPrimaries
+special_of s = record { last = s.last_primaries.now; numeric = s.numeric_primary }

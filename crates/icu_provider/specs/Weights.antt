@@ -24,12 +24,19 @@ unfoldable pub place_of : Bool → ℕ → ℕ → ℕ → ℕ
 place_of compressible b1 b2 b3 =
     (b1 * second_bytes compressible + b2 - least_second_byte compressible) * 254 + b3 - 2
 
+-- the bytes of the weight at a place
+abbrev pub lead_at : Bool → ℕ → ℕ
+lead_at compressible place = place / 254 / second_bytes compressible
+
+abbrev pub second_at : Bool → ℕ → ℕ
+second_at compressible place = place / 254 % second_bytes compressible + least_second_byte compressible
+
+abbrev pub third_at : ℕ → ℕ
+third_at place = place % 254 + 2
+
 -- the weight of three bytes at a place
 unfoldable pub weight_at : Bool → ℕ → ℕ
-weight_at compressible place =
-    let leads = place / 254 / second_bytes compressible in
-    let seconds = place / 254 % second_bytes compressible in
-    weight leads (seconds + least_second_byte compressible) (place % 254 + 2) 0
+weight_at compressible place = weight (lead_at compressible place) (second_at compressible place) (third_at place) 0
 
 -- An offset entry's data are 64 bits: a primary weight, and under it a base character in bits 8 to 31, bit 7 for a
 -- compressible lead, and a step in bits 0 to 6. A character has the weight `step` places after the data's for each
@@ -37,13 +44,21 @@ weight_at compressible place =
 abbrev pub offset_data : Element → ℕ
 offset_data d = d.secondary * 0x10000 + d.lower
 
+abbrev pub offset_base : Element → ℕ
+offset_base d = offset_data d / 256
+
 abbrev pub offset_compressible : Element → Bool
 offset_compressible d = offset_data d / 128 % 2 == 1
 
+abbrev pub offset_step : Element → ℕ
+offset_step d = offset_data d % 128
+
+-- the place of a weight of three bytes, by its bytes
+abbrev pub place_of_weight : Bool → ℕ → ℕ
+place_of_weight compressible p = place_of compressible (p / 0x1000000) (p / 0x10000 % 256) (p / 0x100 % 256)
+
 unfoldable pub offset_place : Element → ℕ → ℕ
-offset_place d c =
-    place_of (offset_compressible d) (d.primary / 0x1000000) (d.primary / 0x10000 % 256) (d.primary / 0x100 % 256)
-    + (c - offset_data d / 256) * (offset_data d % 128)
+offset_place d c = place_of_weight (offset_compressible d) d.primary + (c - offset_base d) * offset_step d
 
 unfoldable pub offset_weight : Element → ℕ → ℕ
 offset_weight d c = weight_at (offset_compressible d) (offset_place d c)

@@ -3,6 +3,7 @@ ghost use Rattle.icu_provider.specs.Roots.{IsGoodStoredRoot, IsTrueRefusal, stor
 
 use crate::check_root::check_root;
 use crate::code_point_table::CodePointTable;
+use crate::context::ContextTable;
 use crate::data::CollationData;
 use crate::error::DataErrorKind;
 use std::alloc::Global;
@@ -53,7 +54,7 @@ impl CheckedTables {
     {
         let trie = CodePointTable::new(blocks, values)?;
         check_root(
-            CollationData::from_parts(trie, ces, ce32s),
+            CollationData::from_parts(trie, ces, ce32s, ContextTable::empty()),
             jamo,
             diacritics,
         )?;
@@ -80,7 +81,12 @@ impl CheckedTables {
         ensures good { IsGoodRoot (kept_tables self.now) }
     {
         let trie = CodePointTable::from_parts(self.blocks.as_slice(), self.values.as_slice());
-        CollationData::from_parts(trie, self.ces.as_slice(), self.ce32s.as_slice())
+        CollationData::from_parts(
+            trie,
+            self.ces.as_slice(),
+            self.ce32s.as_slice(),
+            ContextTable::empty(),
+        )
     }
 
     /// The entries of the conjoining jamo, from U+1100 on.

@@ -1,34 +1,78 @@
-ghost use Rattle.std.specs.Prelude.{◌≡◌, ◌+◌, ◌<◌, ◌≤◌, length, slice_index, take, drop, map, []};
-ghost use Rattle.icu_provider.specs.Elements.{element_of};
-ghost use Rattle.icu_provider.specs.Entries.{kind_of};
-ghost use Rattle.icu_provider.specs.Tables.{plain_of};
+ghost use Rattle.std.specs.Prelude.{◌≡◌, ◌+◌, ◌<◌, ◌≤◌, length, slice_index, slice_index_or, take, drop, map, IsTrue, IsOk, IfOk, IfErr, true, ◌↔◌, ◌∷◌, []};
+ghost use Rattle.icu_provider.specs.Elements.{element_of, end_element};
+ghost use Rattle.icu_provider.specs.Entries.{kind_of, has_index, entry_index};
+ghost use Rattle.icu_provider.specs.Weights.{place_of_weight, offset_compressible, offset_place};
+ghost use Rattle.icu_provider.specs.Final.{final_elements};
+ghost use Rattle.icu_provider.specs.EntryConditions.{is_inside, fits_offset};
+ghost use Rattle.icu_provider.specs.LiveConditions.{IsGoodData, FailsData};
+ghost use Rattle.icu_provider.specs.Tables.{homed, no_context, context_of, plain_of};
 
 use crate::code_point_table::CodePointTable;
+use crate::context::{ContextTable, FoundContext};
+use crate::element::CollationElement;
 use crate::entry::{CollationElement32, EntryKind};
+use crate::error::{DataErrorKind, DataTable};
+use crate::fault::first_fault;
 
-/// A root: a table of entries by character, and the lists that entries name.
+/// A root or a tailoring: a table of entries by character, and the lists and contexts that entries name.
 #[derive(Debug, Clone, Copy, PartialEq)]
 pub struct CollationData<'d> {
     trie: CodePointTable<'d>,
     ces: &'d [u64],
     ce32s: &'d [u32],
+    contexts: ContextTable<'d>,
 }
 
 impl<'d> CollationData<'d> {
-    ghost use Rattle.icu_provider.specs.Stored.{data_of, table_value};
+    ghost use Rattle.icu_provider.specs.Stored.{data_of, data_by, found_context};
 
     #[tactic(auto, unfolding(crate::specs::Stored::data_of))]
     pub(crate) fn from_parts(
         trie: CodePointTable<'d>,
         ces: &'d [u64],
         ce32s: &'d [u32],
+        contexts: ContextTable<'d>,
     ) -> CollationData<'d>
-        ensures value { (data_of result).value ≡ table_value trie.entry }
-        ensures elements { (data_of result).elements ≡ map element_of ces.entry.now }
-        ensures entries { (data_of result).entries ≡ ce32s.entry.now }
-        ensures contexts { (data_of result).contexts ≡ [] }
+        ensures { data_of result ≡ data_by trie.entry ces.entry.now ce32s.entry.now contexts.entry }
     {
-        CollationData { trie, ces, ce32s }
+        CollationData {
+            trie,
+            ces,
+            ce32s,
+            contexts,
+        }
+    }
+
+    /// Borrows a root or a tailoring, which may have fallback entries in its code point table. It is refused if an entry that a text
+    /// may come to fails a condition: with `Index` if what it names is not there, or a list has no member; `Context` if a row of a
+    /// prefix has not one character or two; `Chain` if it leads to an entry that it may not lead to; `Digit` if a digit is above 9;
+    /// `Tag` if its low byte, or that of a list's member, has no meaning where it stands; `Element` if a character has no weight by
+    /// its offset data, or an element is malformed, or a weight has a lead byte that it may not have. Secondary weights may lead
+    /// with 02.
+    pub fn new(
+        trie: CodePointTable<'d>,
+        ces: &'d [u64],
+        ce32s: &'d [u32],
+        contexts: ContextTable<'d>,
+    ) -> Result<CollationData<'d>, DataErrorKind>
+        ensures accepts { IsOk result ↔ IsGoodData true (data_by trie.entry ces.entry.now ce32s.entry.now contexts.entry) }
+        ensures kind { IfErr result (FailsData true (data_by trie.entry ces.entry.now ce32s.entry.now contexts.entry)) }
+        ensures keeps { IfOk result (λ d. data_of d ≡ data_by trie.entry ces.entry.now ce32s.entry.now contexts.entry) }
+    {
+        let data = CollationData::from_parts(trie, ces, ce32s, contexts);
+        data.check()?;
+        Ok(data)
+    }
+
+    /// Whether each entry that a text may come to meets each condition.
+    fn check(self) -> Result<(), DataErrorKind>
+        ensures accepts { IsOk result ↔ IsGoodData true (data_of self.entry) }
+        ensures kind { IfErr result (FailsData true (data_of self.entry)) }
+    {
+        match first_fault(DataTable::Root, self, true) {
+            None => Ok(()),
+            Some(fault) => Err(fault.condition.kind()),
+        }
     }
 
     /// The entry of a character.
@@ -64,6 +108,64 @@ impl<'d> CollationData<'d> {
         ensures { map element_of result.now ≡ take len (drop index (data_of self.entry).elements) }
     {
         &self.ces[index..index + len]
+    }
+
+    /// The entry for all texts of the context at a place, but those of its rows.
+    #[tactic(auto, unfolding(crate::specs::Stored::data_of))]
+    pub fn get_default(self, index: usize) -> CollationElement32
+        requires { index < length (data_of self).contexts }
+        ensures { result ≡ (slice_index_or (data_of self.entry).contexts index no_context).default }
+    {
+        self.contexts.get(index).default()
+    }
+
+    /// The context at a place, its entry for all texts and its rows.
+    #[tactic(auto, unfolding(crate::specs::Stored::data_of))]
+    pub fn get_context(self, index: usize) -> FoundContext<'d>
+        requires { index < length (data_of self).contexts }
+        ensures { found_context result ≡ slice_index_or (data_of self.entry).contexts index no_context }
+    {
+        self.contexts.get(index)
+    }
+
+    /// The context that an entry names, or an empty one where there is none at that place.
+    #[tactic(auto, unfolding(crate::specs::Stored::data_of))]
+    pub(crate) fn context_of(self, entry: CollationElement32) -> FoundContext<'d>
+        requires { IsTrue (has_index (kind_of entry)) }
+        ensures { found_context result ≡ context_of (homed (data_of self.entry) entry) }
+    {
+        self.contexts.get_or_empty(entry.index())
+    }
+
+    /// The data that an offset entry names.
+    #[tactic(auto, unfolding(crate::specs::Stored::data_of, crate::specs::EntryConditions::is_inside))]
+    pub(crate) fn offset_data(self, entry: CollationElement32) -> CollationElement
+        requires offset { kind_of entry ≡ EntryKind.Offset }
+        requires inside { IsTrue (is_inside (data_of self) entry) }
+        ensures taken { take 1 (drop (entry_index entry) (data_of self.entry).elements) ≡ result ∷ [] }
+        ensures value { result ≡ slice_index_or (data_of self.entry).elements (entry_index entry) end_element }
+    {
+        CollationElement::new(self.ces[entry.index()])
+    }
+
+    /// The element of a character by an offset entry. Its primary weight, of three bytes, stands as many places after that of the
+    /// entry's data as the step says for each character from the base on.
+    #[tactic(auto, unfolding(crate::specs::Final::final_elements, crate::specs::EntryConditions::fits_offset))]
+    pub fn ce_from_offset_ce32(self, c: char, entry: CollationElement32) -> CollationElement
+        requires offset { kind_of entry ≡ EntryKind.Offset }
+        requires inside { IsTrue (is_inside (data_of self) entry) }
+        requires fits { IsTrue (fits_offset (data_of self) c entry) }
+        ensures value { final_elements (homed (data_of self.entry) entry) c ≡ result ∷ [] }
+        ensures place { let d = slice_index_or (data_of self.entry).elements (entry_index entry) end_element in place_of_weight (offset_compressible d) result.primary ≡ offset_place d c }
+    {
+        self.offset_data(entry).offset_element(c)
+    }
+
+    #[tactic(auto, unfolding(crate::specs::Stored::data_of))]
+    pub(crate) fn context_count(self) -> usize
+        ensures { result ≡ length (data_of self.entry).contexts }
+    {
+        self.contexts.len()
     }
 
     #[tactic(auto, unfolding(crate::specs::Stored::data_of))]

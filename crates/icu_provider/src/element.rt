@@ -104,6 +104,13 @@ impl CollationElement {
         self.secondary
     }
 
+    /// Case, tertiary weight and quaternary bits, in their places.
+    pub(crate) fn lower(self) -> u16
+        ensures { result ≡ self.lower }
+    {
+        self.lower
+    }
+
     /// The quaternary bits, with all other bits of the lower 32 set.
     pub fn quaternary(self) -> u32
         ensures { result ≡ bit_or (non_primary_bits (non_primary self)) 0xFFFFFF3F }

@@ -1,4 +1,4 @@
-ghost use Rattle.std.specs.Prelude.{◌≡◌, ◌+◌, ◌*◌, ◌<◌, ◌^◌, [], ◌∷◌, ◌↔◌, IsTrue, slice_index};
+ghost use Rattle.std.specs.Prelude.{◌≡◌, ◌==◌, ◌+◌, ◌*◌, ◌<◌, ◌^◌, [], ◌∷◌, ◌↔◌, IsTrue, slice_index};
 ghost use Rattle.icu_provider.specs.Entries.{kind_of, tag_of, checked_tag, list_length, entry_index, digit_value, has_bit, is_self_contained, self_contained, simple_element, long_primary_element, long_secondary_element, simple_or_long_primary, self_contained_by_tag, names_list, has_index};
 
 use crate::element::CollationElement;
@@ -95,6 +95,13 @@ impl CollationElement32 {
             0xCF => EntryKind::Implicit,
             _ => EntryKind::Reserved,
         }
+    }
+
+    /// Whether it is the entry of a tailoring for which the root's stands.
+    pub(crate) fn is_fallback(self) -> bool
+        ensures { result ≡ (self == 0xC0) }
+    {
+        self.bits == 0xC0
     }
 
     /// The tag of an entry that isn't simple.

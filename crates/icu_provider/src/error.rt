@@ -1,3 +1,5 @@
+use thiserror::Error;
+
 /// Why a table is refused.
 #[derive(Debug, Clone, Copy, PartialEq, Eq)]
 pub enum DataErrorKind {
@@ -27,4 +29,24 @@ pub enum DataErrorKind {
     SpecialPrimary,
     /// A growth was refused.
     NoMemory,
+}
+
+/// The tables of a collator.
+#[derive(Debug, Clone, Copy, PartialEq, Eq)]
+pub enum DataTable {
+    Root,
+    Jamo,
+    SpecialPrimaries,
+    Metadata,
+    Tailoring,
+    Reordering,
+    Diacritics,
+}
+
+/// A table that is refused, and why.
+#[derive(Debug, Clone, Copy, PartialEq, Eq, Error)]
+#[error("collation table {table:?}: {kind:?}")]
+pub struct DataError {
+    pub table: DataTable,
+    pub kind: DataErrorKind,
 }

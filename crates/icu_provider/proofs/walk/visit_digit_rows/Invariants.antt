@@ -1,0 +1,13 @@
+use Rattle.std.proofs.Common.{◌≡◌, drop}
+use Rattle.icu_provider.specs.Live.{live_digit}
+use Rattle.icu_provider.specs.Contexts.{rows_of}
+use Rattle.icu_provider.specs.Stored.{data_of}
+use Rattle.icu_provider.specs.Walks.{after_rows}
+use Rattle.icu_provider.proofs.walk.visit_digit_rows.Given as goal
+
+-- what is after the rest of the rows is after all of them
+abbrev pub invariant-loop-row : goal.invariant-loop-row
+invariant-loop-row g l =
+    let home = data_of l.home in
+    let from = after_rows g.V.Visit.after (live_digit home) home l.c in
+    from (rows_of l.context.chars.now (drop l.row-index l.rows)) l.visitor ≡ from (rows_of l.context.chars.now l.rows) l.fn.visitor

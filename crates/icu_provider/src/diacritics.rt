@@ -1,0 +1,57 @@
+ghost use Rattle.std.specs.Prelude.{◌≡◌, ◌↔◌, true, IsOk, IfOk, IfErr};
+ghost use Rattle.icu_provider.specs.Accents.{is_replaced_place, is_accent, IsDiacritics, FailsDiacritics};
+
+use crate::element::CollationElement;
+use crate::error::DataErrorKind;
+
+/// The secondary weights of combining diacritics: of U+0300 and the characters after it, at most 79.
+#[derive(Debug, Clone, Copy, PartialEq)]
+pub struct CollationDiacritics<'d> {
+    secondaries: &'d [u16],
+    ghost is_diacritics: { IsDiacritics secondaries.now },
+}
+
+fn is_replaced_place(place: usize) -> bool
+    ensures { result ≡ is_replaced_place place }
+{
+    place == 0x40 || place == 0x41 || place == 0x43 || place == 0x44
+}
+
+#[tactic(auto, unfolding(crate::specs::Accents::is_accent))]
+fn is_accent(secondary: u16) -> bool
+    ensures { result ≡ is_accent true secondary }
+{
+    let element = CollationElement::new_from_secondary(secondary);
+    secondary != 0 && element.has_shape() && element.has_leads(true)
+}
+
+impl<'d> CollationDiacritics<'d> {
+    ghost use Rattle.icu_provider.specs.Stored.{accents_of};
+
+    /// Borrows the secondary weights. Refuses with `Length` if there are more than 79, and with `Element` if a weight is 0, has a
+    /// nonzero byte after a zero byte, or has a lead byte that secondary weights may not have (they may have 02 to 04, 46 to FF,
+    /// and 05 in 0500). The weights of U+0340, U+0341, U+0343 and U+0344 are free, since no canonical decomposition has these
+    /// characters.
+    pub fn new(secondaries: &'d [u16]) -> Result<CollationDiacritics<'d>, DataErrorKind>
+        ensures accepts { IsOk result ↔ IsDiacritics secondaries.entry.now }
+        ensures kind { IfErr result (FailsDiacritics secondaries.entry.now) }
+        ensures keeps { IfOk result (λ d. accents_of d ≡ secondaries.entry.now) }
+    {
+        if secondaries.len() > 79 {
+            return Err(DataErrorKind::Length);
+        }
+        for (place, secondary) in secondaries.iter().enumerate() {
+            if !is_replaced_place(place) && !is_accent(*secondary) {
+                return Err(DataErrorKind::Element);
+            }
+        }
+        Ok(CollationDiacritics { secondaries })
+    }
+
+    /// The secondary weights, from that of U+0300 on.
+    pub fn secondaries(self) -> &'d [u16]
+        ensures { result.now ≡ accents_of self.entry }
+    {
+        self.secondaries
+    }
+}

@@ -1,0 +1,42 @@
+ghost use Rattle.std.specs.Prelude.{◌≡◌, ◌↔◌, IsOk, IfOk, IfErr};
+ghost use Rattle.icu_provider.specs.Accents.{IsJamo, FailsJamo};
+
+use crate::entry::CollationElement32;
+use crate::error::DataErrorKind;
+
+/// The entries of the 256 characters from U+1100 on, the conjoining jamo. They name lists and contexts of the root.
+#[derive(Debug, Clone, Copy, PartialEq)]
+pub struct CollationJamo<'d> {
+    ce32s: &'d [u32],
+    ghost is_jamo: { IsJamo ce32s.now },
+}
+
+impl<'d> CollationJamo<'d> {
+    ghost use Rattle.icu_provider.specs.Stored.{jamo_of};
+
+    /// Borrows the entries. Refuses with `Length` if there are not 256, with `Digit` if a digit entry holds a digit above 9, and
+    /// with `Tag` if the low byte of an entry has no meaning, or is that of fallback.
+    pub fn new(ce32s: &'d [u32]) -> Result<CollationJamo<'d>, DataErrorKind>
+        ensures accepts { IsOk result ↔ IsJamo ce32s.entry.now }
+        ensures kind { IfErr result (FailsJamo ce32s.entry.now) }
+        ensures keeps { IfOk result (λ j. jamo_of j ≡ ce32s.entry.now) }
+    {
+        if ce32s.len() != 256 {
+            return Err(DataErrorKind::Length);
+        }
+        if !ce32s.iter().all(|entry| CollationElement32::new(*entry).has_digit()) {
+            return Err(DataErrorKind::Digit);
+        }
+        if !ce32s.iter().all(|entry| CollationElement32::new(*entry).has_known_byte()) {
+            return Err(DataErrorKind::Tag);
+        }
+        Ok(CollationJamo { ce32s })
+    }
+
+    /// The entries, from that of U+1100 on.
+    pub fn ce32s(self) -> &'d [u32]
+        ensures { result.now ≡ jamo_of self.entry }
+    {
+        self.ce32s
+    }
+}

@@ -1,0 +1,87 @@
+ghost use Rattle.std.specs.Prelude.{◌≡◌, ◌<◌, ◌%◌, ◌^◌, ◌↔◌, IsOk, IfOk, IfErr, length, find};
+ghost use Rattle.icu_provider.specs.Reorderings.{with_lead, lies_below, moved, reordered};
+
+use crate::error::DataErrorKind;
+
+/// A reordering of scripts: where the lead bytes of primary weights go (UTS #35 part 5, section 3.9 "Collation Reordering").
+#[derive(Debug, Clone, Copy, PartialEq)]
+pub struct CollationReordering<'d> {
+    min_high_no_reorder: u32,
+    reorder_table: &'d [u8],
+    reorder_ranges: &'d [u32],
+    ghost whole: { length reorder_table.now ≡ 256 },
+}
+
+/// The weight with another lead byte.
+fn with_lead(lead: u8, primary: u32) -> u32
+    ensures value { result ≡ with_lead lead primary }
+    ensures lead_alone { result % 2 ^ 24 ≡ primary % 2 ^ 24 }
+{
+    u32::from(lead) << 24 | primary & 0x00FF_FFFF
+}
+
+/// The first range that the weight lies below.
+fn range_above(ranges: &[u32], primary: u32) -> Option<u32>
+    ensures { result ≡ find (lies_below primary) ranges.now }
+{
+    ranges.iter().copied().find(|range| primary | 0xFFFF < *range)
+}
+
+/// The weight, moved by the first range that it lies below.
+#[tactic(auto, unfolding(crate::specs::Reorderings::moved))]
+fn moved(ranges: &[u32], primary: u32) -> u32
+    ensures value { result ≡ moved ranges.now primary }
+    ensures lead_alone { result % 2 ^ 24 ≡ primary % 2 ^ 24 }
+{
+    match range_above(ranges, primary) {
+        Some(range) => {
+            let lead = (primary >> 24) as u8;
+            with_lead(lead.wrapping_add((range & 0xff) as u8), primary)
+        }
+        None => primary,
+    }
+}
+
+impl<'d> CollationReordering<'d> {
+    ghost use Rattle.icu_provider.specs.Reorderings.{Reordering};
+    ghost use Rattle.icu_provider.specs.Stored.{reordering_of};
+
+    /// Borrows the new lead byte for each lead byte, and the ranges by which weights move whose lead byte has a zero there; of
+    /// those, weights from `min_high_no_reorder` on stay. Refuses with `Length` if there are not 256 lead bytes.
+    pub fn new(
+        min_high_no_reorder: u32,
+        reorder_table: &'d [u8],
+        reorder_ranges: &'d [u32],
+    ) -> Result<CollationReordering<'d>, DataErrorKind>
+        ensures accepts { IsOk result ↔ (length reorder_table.entry.now ≡ 256) }
+        ensures kind { IfErr result (λ k. k ≡ DataErrorKind.Length) }
+        ensures keeps { IfOk result (λ r. reordering_of r ≡ record { limit = min_high_no_reorder; leads = reorder_table.entry.now; ranges = reorder_ranges.entry.now }) }
+    {
+        if reorder_table.len() != 256 {
+            return Err(DataErrorKind::Length);
+        }
+        Ok(CollationReordering {
+            min_high_no_reorder,
+            reorder_table,
+            reorder_ranges,
+        })
+    }
+
+    /// The primary weight that stands for this one. A nonzero byte of the table replaces the lead byte. Where it is zero, weights 0
+    /// and 1 stay, weights from the limit on stay, and others add the low byte of the first range r with `primary | FFFF < r` to the
+    /// lead byte, modulo 256; where there is none they stay.
+    #[tactic(auto, unfolding(crate::specs::Reorderings::reordered))]
+    pub fn reorder(self, primary: u32) -> u32
+        ensures value { result ≡ reordered (reordering_of self.entry) primary }
+        ensures lead_alone { result % 2 ^ 24 ≡ primary % 2 ^ 24 }
+    {
+        let lead = self.reorder_table[(primary >> 24) as usize];
+        if lead != 0 {
+            with_lead(lead, primary)
+        } else if primary <= 1 || primary >= self.min_high_no_reorder {
+            primary
+        } else {
+            moved(self.reorder_ranges, primary)
+        }
+    }
+}

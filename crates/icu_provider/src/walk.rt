@@ -1,0 +1,125 @@
+//! A walk over the entries that are live with characters: one for all conditions.
+ghost use Rattle.std.specs.Prelude.{◌≡◌, ℕ, ◌<◌};
+ghost use Rattle.icu_provider.specs.Tables.{Data};
+ghost use Rattle.icu_provider.specs.Live.{live_digit, live_contraction, live_from, live_at};
+ghost use Rattle.icu_provider.specs.Stored.{data_of, found_context};
+ghost use Rattle.icu_provider.specs.Walks.{after_all, after_rows, after_chars, chars_below};
+
+use crate::context::FoundContext;
+use crate::data::CollationData;
+use crate::entry::{CollationElement32, EntryKind};
+
+/// What is told of each live entry.
+pub trait Visit {
+    /// What it is after an entry.
+    ghost after: { Self → Data → ℕ → ℕ → Self };
+
+    /// Tells of an entry that is live with a character, and of the entry's home.
+    fn visit(&mut self, home: CollationData<'_>, c: char, entry: CollationElement32)
+        ensures { self.new ≡ after self.old (data_of home.entry) c entry };
+}
+
+#[tactic(auto, unfolding(crate::specs::Live::live_digit))]
+fn visit_digit<V: Visit>(
+    visitor: &mut V,
+    home: CollationData<'_>,
+    c: char,
+    entry: CollationElement32,
+)
+    ensures { visitor.new ≡ after_all V.after visitor.old (data_of home.entry) c (live_digit (data_of home.entry) entry) }
+{
+    visitor.visit(home, c, entry);
+    if entry.kind() == EntryKind::Digit {
+        visitor.visit(home, c, home.plain_entry(entry));
+    }
+}
+
+fn visit_digit_rows<V: Visit>(
+    visitor: &mut V,
+    home: CollationData<'_>,
+    c: char,
+    context: FoundContext<'_>,
+)
+    ensures { visitor.new ≡ after_rows V.after (live_digit (data_of home.entry)) (data_of home.entry) c (found_context context.entry).rows visitor.old }
+{
+    let rows = context.rows;
+    for row in rows {
+        visit_digit(visitor, home, c, CollationElement32::new(row.entry));
+    }
+}
+
+#[tactic(auto, unfolding(crate::specs::Live::live_contraction))]
+fn visit_contraction<V: Visit>(
+    visitor: &mut V,
+    home: CollationData<'_>,
+    c: char,
+    entry: CollationElement32,
+)
+    ensures { visitor.new ≡ after_all V.after visitor.old (data_of home.entry) c (live_contraction (data_of home.entry) entry) }
+{
+    if entry.kind() == EntryKind::Contraction {
+        visitor.visit(home, c, entry);
+        let context = home.context_of(entry);
+        visit_digit(visitor, home, c, context.default());
+        visit_digit_rows(visitor, home, c, context);
+    } else {
+        visit_digit(visitor, home, c, entry);
+    }
+}
+
+fn visit_contraction_rows<V: Visit>(
+    visitor: &mut V,
+    home: CollationData<'_>,
+    c: char,
+    context: FoundContext<'_>,
+)
+    ensures { visitor.new ≡ after_rows V.after (live_contraction (data_of home.entry)) (data_of home.entry) c (found_context context.entry).rows visitor.old }
+{
+    let rows = context.rows;
+    for row in rows {
+        visit_contraction(visitor, home, c, CollationElement32::new(row.entry));
+    }
+}
+
+/// Tells a visitor of each entry that is live from this one.
+#[tactic(auto, unfolding(crate::specs::Live::live_from))]
+pub(crate) fn visit_from<V: Visit>(
+    visitor: &mut V,
+    home: CollationData<'_>,
+    c: char,
+    entry: CollationElement32,
+)
+    ensures { visitor.new ≡ after_all V.after visitor.old (data_of home.entry) c (live_from (data_of home.entry) entry) }
+{
+    if entry.kind() == EntryKind::Prefix {
+        visitor.visit(home, c, entry);
+        let context = home.context_of(entry);
+        visit_contraction(visitor, home, c, context.default());
+        visit_contraction_rows(visitor, home, c, context);
+    } else {
+        visit_contraction(visitor, home, c, entry);
+    }
+}
+
+/// Tells a visitor of each entry that is live with a character of the code point table. In a tailoring, which falls back, a
+/// fallback entry is none.
+fn visit_char<V: Visit>(visitor: &mut V, home: CollationData<'_>, c: char, falls_back: bool)
+    ensures { visitor.new ≡ after_all V.after visitor.old (data_of home.entry) c (live_at falls_back (data_of home.entry) c) }
+{
+    let entry = home.ce32_for_char(c);
+    if falls_back && entry.is_fallback() {
+        return;
+    }
+    visit_from(visitor, home, c, entry);
+}
+
+/// Tells a visitor of each entry that is live with each character.
+pub(crate) fn visit_chars<V: Visit>(visitor: &mut V, home: CollationData<'_>, falls_back: bool)
+    ensures { visitor.new ≡ after_chars V.after falls_back visitor.old (data_of home.entry) (chars_below 0x110000) }
+{
+    for code in 0..0x110000u32 {
+        if let Some(c) = char::from_u32(code) {
+            visit_char(visitor, home, c, falls_back);
+        }
+    }
+}
