@@ -14,3 +14,6 @@ pub mod TextElements
 pub mod Plain
 pub mod Reading
 pub mod CollationElements
+pub mod LiveTables
+pub mod TextParts
+pub mod TextLaws

@@ -3,6 +3,7 @@
 
 mod final_elements;
 pub mod iter;
+pub mod laws;
 mod plain;
 mod read;
 pub mod tables;

@@ -1,0 +1,216 @@
+-- The elements of a text are put together from those of live entries, diacritics and numbers.
+use Rattle.std.proofs.Common.{◌≡◌, ℕ, ◌<◌, Bool, true, false, List, [], ◌∷◌, ◌++◌, length, drop, Option, Some, None, if◌then◌else◌, map, refl, sym, subst, arith, IfSome, ◌&&◌, take_while, IsTrue, ◌==◌}
+use Rattle.std.specs.Char.{IsScalar}
+use Rattle.std.specs.List.{AllByRecursion, list_all}
+use Rattle.std.specs.Prelude.{nat_le}
+use Rattle.std.proofs.lemmas.List.Sums.{take_while-cons}
+use Rattle.std.proofs.lemmas.Bool.{and_parts, and_from}
+use Rattle.std.proofs.lemmas.Bool.Decides.{nat_tests}
+use Rattle.icu_provider.specs.declared.entry.EntryKind.{EntryKind}
+use Rattle.icu_provider.specs.declared.entry.EntryKind.TheVariants.{Prefix, Contraction, Digit}
+use Rattle.icu_provider.specs.Elements.{Element, accent_element}
+use Rattle.icu_provider.specs.Entries.{kind_of, digit_value}
+use Rattle.icu_provider.specs.EntryConditions.{has_digit}
+use Rattle.icu_provider.specs.Tables.{Data, Tables, HomedEntry, homed, plain_of, is_jamo, tailored_entry, entry_of, diacritic_of}
+use Rattle.icu_provider.specs.Final.{final_elements}
+use Rattle.icu_provider.specs.Live.{live_digit, live_contraction, live_from, EachLive}
+use Rattle.icu_provider.proofs.ListLemmas.{weaker}
+use Rattle.icu_elements.specs.Matches.{Match, match_of}
+use Rattle.icu_elements.specs.TextElements.{Reading, Step, is_silent_dot, goes_on, begins_with_mark, digit_of, number_elements, number_step, entry_step, diacritic_step, matched_step, step, taken, last_two, elements_along, elements_after, elements_of}
+use Rattle.icu_elements.specs.LiveTables.{jamo_entry, AllLive, HasDigits}
+use Rattle.icu_elements.specs.TextParts.{IsDecomposed, IsDecomposedText, AreDigits, HasGoodParts, EachPasses, PartsPass}
+use Rattle.icu_elements.proofs.LiveLemmas.{match_of-live, all_drop}
+
+-- ---- an entry is among those that are live from it
+
+digit_head : (P : ℕ → Type 0) (k : EntryKind) (e p : ℕ) → AllByRecursion P (elim k as (λ _. List ℕ) [ Digit ↦ e ∷ p ∷ [] | _ ↦ e ∷ [] ]) → P e
+digit_head P Digit e p h = h.0
+digit_head P _ e p h = h.0
+
+live_digit-head : (P : ℕ → Type 0) (home : Data) (e : ℕ) → AllByRecursion P (live_digit home e) → P e
+unfolding live_digit
+live_digit-head P home e h = digit_head P (kind_of e) e _ h
+
+contraction_head : (P : ℕ → Type 0) (k : EntryKind) (e : ℕ) (es fs : List ℕ) → (AllByRecursion P fs → P e) → AllByRecursion P (elim k as (λ _. List ℕ) [ Contraction ↦ e ∷ es | _ ↦ fs ]) → P e
+contraction_head P Contraction e es fs f h = h.0
+contraction_head P _ e es fs f h = f h
+
+prefix_head : (P : ℕ → Type 0) (k : EntryKind) (e : ℕ) (es fs : List ℕ) → (AllByRecursion P fs → P e) → AllByRecursion P (elim k as (λ _. List ℕ) [ Prefix ↦ e ∷ es | _ ↦ fs ]) → P e
+prefix_head P Prefix e es fs f h = h.0
+prefix_head P _ e es fs f h = f h
+
+live_from-head : (P : ℕ → Type 0) (home : Data) (e : ℕ) → AllByRecursion P (live_from home e) → P e
+unfolding live_from live_contraction
+live_from-head P home e h =
+    prefix_head P (kind_of e) e _ _ (λ g. contraction_head P (kind_of e) e _ _ (live_digit-head P home e) g) h
+
+-- ---- the entry of a character is live with it
+
+abbrev HoldsFrom : (Data → ℕ → ℕ → Type 0) → ℕ → HomedEntry → Type 0
+HoldsFrom P c h = AllByRecursion (P h.home c) (live_from h.home h.entry)
+
+home_if : (P : HomedEntry → Type 0) (b : Bool) (x y : HomedEntry) → (b ≡ true → P x) → (b ≡ false → P y) → P (if b then x else y)
+home_if P true x y p q = p refl
+home_if P false x y p q = q refl
+
+not_fallback : (P : ℕ → Type 0) (b : Bool) (es : List ℕ) → b ≡ false → AllByRecursion P (if b then [] else es) → AllByRecursion P es
+not_fallback P true es h all = cc
+not_fallback P false es h all = all
+
+by_home : (P : Data → ℕ → ℕ → Type 0) (root : Data) (o : Option Data) (c : ℕ) → IsScalar c → HoldsFrom P c (homed root (root.value c)) → IfSome o (λ (home : Data). EachLive (P home) true home) → HoldsFrom P c (elim o as (λ _. HomedEntry) [ None ↦ homed root (root.value c) | Some t ↦ tailored_entry root t c ])
+by_home P root None c scalar r t = r
+by_home P root (Some tailoring) c scalar r t =
+    home_if (HoldsFrom P c) (tailoring.value c == 0xC0) (homed root (root.value c)) (homed tailoring (tailoring.value c)) (λ _. r)
+    (λ h. not_fallback (P tailoring c) (tailoring.value c == 0xC0) (live_from tailoring (tailoring.value c)) h (t c scalar))
+
+entry_of-live : (P : Data → ℕ → ℕ → Type 0) (tables : Tables) → AllLive P tables → (c : ℕ) → IsScalar c → HoldsFrom P c (entry_of tables c)
+unfolding entry_of
+entry_of-live P tables live c scalar =
+    home_if (HoldsFrom P c) (is_jamo c) (homed tables.root (jamo_entry tables c)) _ (λ j. live.jamo c j)
+    (λ _. by_home P tables.root tables.tailoring c scalar (live.root c scalar) live.tailoring)
+
+-- ---- digits
+
+run_if : (f : ℕ → ℕ) (Q : ℕ → Type 0) (b : Bool) (x : ℕ) (xs : List ℕ) → (b ≡ true → Q (f x)) → AllByRecursion Q (map f xs) → AllByRecursion Q (map f (if b then x ∷ xs else []))
+run_if f Q true x xs p h = (p refl, h)
+run_if f Q false x xs p h = tt
+
+all_run : (p : ℕ → Bool) (f : ℕ → ℕ) (R Q : ℕ → Type 0) → ((x : ℕ) → p x ≡ true → R x → Q (f x)) → (xs : List ℕ) → AllByRecursion R xs → AllByRecursion Q (map f (take_while p xs))
+all_run p f R Q each [] h = tt
+all_run p f R Q each (x ∷ xs) h =
+    subst (λ l. AllByRecursion Q (map f l)) (sym (take_while-cons p x xs))
+    (run_if f Q (p x) x (take_while p xs) (λ t. each x t h.0) (all_run p f R Q each xs h.1))
+
+digit_from_run : (k : EntryKind) (a small : Bool) → (a && (elim k as (λ _. Bool) [ Digit ↦ true | _ ↦ false ])) ≡ true → IsTrue (elim k as (λ _. Bool) [ Digit ↦ small | _ ↦ true ]) → small ≡ true
+digit_from_run Digit a small h s = s
+digit_from_run _ true small h s = cc
+digit_from_run _ false small h s = cc
+
+decimal : (d : ℕ) → nat_le d 9 ≡ true → d < 10
+decimal d h = grind (arith, nat_tests)
+
+goes_on-decimal : (tables : Tables) → HasDigits tables → (x : ℕ) → goes_on tables x ≡ true → IsDecomposed x → digit_of tables x < 10
+unfolding has_digit
+goes_on-decimal tables live x on read =
+    let h = entry_of tables x in
+    let head : IsTrue (has_digit h.entry) = live_from-head (λ e. IsTrue (has_digit e)) h.home h.entry (entry_of-live (λ home c e. IsTrue (has_digit e)) tables live x read.scalar) in
+    decimal _ (digit_from_run (kind_of h.entry) _ _ on head)
+
+-- ---- steps
+
+-- what the step gives is good, and so is each character that it leaves
+record Gives (G : List Element → Type 0) (R : ℕ → Type 0) (s : Step) : Type 0 where
+  pub elements : G s.elements
+  pub rest : AllByRecursion R s.rest
+
+step_if : (C : Step → Type 0) (b : Bool) (x y : Step) → C x → C y → C (if b then x else y)
+step_if C true x y p q = p
+step_if C false x y p q = q
+
+step_maybe : {A : Type 0} (Q : A → Type 0) (C : Step → Type 0) (o : Option A) (f : A → Step) (y : Step) → IfSome o Q → ((x : A) → Q x → C (f x)) → C y → C (elim o as (λ _. Step) [ Some x ↦ f x | None ↦ y ])
+step_maybe Q C (Some x) f y h p q = p x h
+step_maybe Q C None f y h p q = q
+
+step_nil : (C : Step → Type 0) (l : List ℕ) (x y : Step) → C x → C y → C (elim l as (λ _. Step) [ [] ↦ x | _ ∷ _ ↦ y ])
+step_nil C [] x y p q = p
+step_nil C (_ ∷ _) x y p q = q
+
+at_digit : (P : ℕ → Type 0) (C : Step → Type 0) (k : EntryKind) (e p : ℕ) (small : Bool) (a b : Step) → (P p → small ≡ true → C a) → (P e → C b) → AllByRecursion P (elim k as (λ _. List ℕ) [ Digit ↦ e ∷ p ∷ [] | _ ↦ e ∷ [] ]) → IsTrue (elim k as (λ _. Bool) [ Digit ↦ small | _ ↦ true ]) → C (elim k as (λ _. Step) [ Digit ↦ a | _ ↦ b ])
+at_digit P C Digit e p small a b f g live s = f live.1.0 s
+at_digit P C _ e p small a b f g live s = g live.0
+
+module _ (G : List Element → Type 0) (reading : Reading) (parts : HasGoodParts G reading) where
+  number_step-gives : (lead : ℕ) (m : Match) → ((ds : List ℕ) → AreDigits ds → G (number_elements lead ds)) → digit_value m.entry < 10 → IsDecomposedText m.rest → Gives G IsDecomposed (number_step reading.tables lead m)
+  unfolding number_step
+  number_step-gives lead m good small rest =
+      let tables = reading.tables in
+      let run = take_while (goes_on tables) m.rest in
+      let alone : Step = record { elements = number_elements lead (digit_value m.entry ∷ []); suffix = m.suffix; rest = m.rest } in
+      let together : Step = record { elements = number_elements lead (digit_value m.entry ∷ map (digit_of tables) run); suffix = run; rest = drop (length run) m.rest } in
+      let by_itself : Gives G IsDecomposed alone = record { elements = good (digit_value m.entry ∷ []) (small, tt); rest = rest } in
+      let digits = all_run (goes_on tables) (digit_of tables) IsDecomposed (λ d. d < 10) (goes_on-decimal tables parts.digits) m.rest rest in
+      let with_run : Gives G IsDecomposed together = record { elements = good (digit_value m.entry ∷ map (digit_of tables) run) (small, digits); rest = all_drop IsDecomposed (length run) m.rest rest } in
+      step_nil (Gives G IsDecomposed) m.suffix _ alone (step_if (Gives G IsDecomposed) (begins_with_mark m.rest) alone together by_itself with_run) by_itself
+
+  entry_step-gives : (home : Data) (c : ℕ) (m : Match) → AllByRecursion (λ e. G (final_elements (homed home e) c)) (live_digit home m.entry) → IsTrue (has_digit m.entry) → IsDecomposedText m.rest → Gives G IsDecomposed (entry_step reading home c m)
+  unfolding entry_step live_digit has_digit
+  entry_step-gives home c m live small rest =
+      let P : ℕ → Type 0 = λ e. G (final_elements (homed home e) c) in
+      at_digit P (Gives G IsDecomposed) (kind_of m.entry) m.entry (plain_of home m.entry) (nat_le (digit_value m.entry) 9) _ _
+      (λ p s.
+      step_maybe (λ lead. (ds : List ℕ) → AreDigits ds → G (number_elements lead ds)) (Gives G IsDecomposed) reading.numeric _ _ parts.numbers
+      (λ lead good. number_step-gives lead m good (decimal _ s) rest) (record { elements = p; rest = rest }))
+      (λ p. record { elements = p; rest = rest }) live small
+
+  diacritic_step-gives : (secondary c : ℕ) (text : List ℕ) → G (accent_element secondary ∷ []) → IsDecomposedText text → Gives G IsDecomposed (diacritic_step reading secondary c text)
+  diacritic_step-gives secondary c text good all =
+      let silent : Step = record { elements = []; suffix = []; rest = text } in
+      let accent : Step = record { elements = accent_element secondary ∷ []; suffix = []; rest = text } in
+      step_if (Gives G IsDecomposed) (is_silent_dot reading.lithuanian c text) silent accent
+      (record { elements = parts.none; rest = all }) (record { elements = good; rest = all })
+
+  step-gives : (before : List ℕ) (c : ℕ) (text : List ℕ) → IsDecomposed c → IsDecomposedText text → Gives G IsDecomposed (step reading before c text)
+  unfolding matched_step
+  step-gives before c text read all =
+      let h = entry_of reading.tables c in
+      let m = match_of h before text in
+      let D : ℕ → Type 0 = λ e. IsTrue (has_digit e) in
+      let P : ℕ → Type 0 = λ e. G (final_elements (homed h.home e) c) in
+      let finals = match_of-live P IsDecomposed h before text (entry_of-live (λ home c e. G (final_elements (homed home e) c)) reading.tables parts.entries c read.scalar) all in
+      let smalls = match_of-live D IsDecomposed h before text (entry_of-live (λ home c e. IsTrue (has_digit e)) reading.tables parts.digits c read.scalar) all in
+      step_maybe (λ s. G (accent_element s ∷ [])) (Gives G IsDecomposed) (diacritic_of reading.tables c) _ (entry_step reading h.home c m) (parts.accents c read)
+      (λ s good. diacritic_step-gives s c text good all)
+      (entry_step-gives h.home c m finals.entry (live_digit-head D h.home m.entry smalls.entry) finals.rest)
+
+  elements_along-gives : (along before text : List ℕ) → IsDecomposedText text → G (elements_along along reading before text)
+  unfolding elements_along
+  elements_along-gives along before [] all = parts.none
+  elements_along-gives [] before (c ∷ text) all = parts.none
+  elements_along-gives (_ ∷ along) before (c ∷ text) all =
+      let s = step reading before c text in
+      let gives = step-gives before c text all.0 all.1 in
+      parts.append s.elements _ gives.elements (elements_along-gives along (last_two before (taken c s)) s.rest gives.rest)
+
+  -- the elements of each decomposed text
+  pub elements_of-good : (text : List ℕ) → IsDecomposedText text → G (elements_of reading text)
+  unfolding elements_after
+  elements_of-good text all = elements_along-gives text [] text all
+
+-- ---- a test on elements
+
+passes_append : (test : Element → Bool) (es fs : List Element) → EachPasses test es → EachPasses test fs → EachPasses test (es ++ fs)
+passes_append test [] fs h k = k
+passes_append test (e ∷ es) fs h k =
+    let parts = and_parts (test e) (list_all test es) h in and_from _ _ parts.0 (passes_append test es fs parts.1 k)
+
+accent_passes : (test : Element → Bool) (o : Option ℕ) → IfSome o (λ s. IsTrue (test (accent_element s))) → IfSome o (λ s. EachPasses test (accent_element s ∷ []))
+accent_passes test (Some s) h = and_from _ _ h refl
+accent_passes test None h = tt
+
+pub elements_of-pass : (test : Element → Bool) (reading : Reading) → PartsPass test reading → (text : List ℕ) → IsDecomposedText text → EachPasses test (elements_of reading text)
+elements_of-pass test reading pass =
+    elements_of-good (EachPasses test) reading
+    (record {
+      none = refl;
+      append = passes_append test;
+      digits = pass.digits;
+      entries = pass.entries;
+      accents = λ c read. accent_passes test (diacritic_of reading.tables c) (pass.accents c read);
+      numbers = pass.numbers;
+    })
+
+-- ---- a weaker fact of live entries
+
+some_weaker : {X : Type 0} (P Q : X → Type 0) → ((x : X) → P x → Q x) → (o : Option X) → IfSome o P → IfSome o Q
+some_weaker P Q f (Some x) h = f x h
+some_weaker P Q f None h = tt
+
+pub AllLive-weaker : (P Q : Data → ℕ → ℕ → Type 0) (tables : Tables) → ((home : Data) (c e : ℕ) → P home c e → Q home c e) → AllLive P tables → AllLive Q tables
+AllLive-weaker P Q tables f live =
+    record {
+      root = λ c s. weaker (P tables.root c) (Q tables.root c) (f tables.root c) _ (live.root c s);
+      jamo = λ c j. weaker (P tables.root c) (Q tables.root c) (f tables.root c) _ (live.jamo c j);
+      tailoring =
+          some_weaker (λ (home : Data). EachLive (P home) true home) (λ (home : Data). EachLive (Q home) true home)
+          (λ home h c s. weaker (P home c) (Q home c) (f home c) _ (h c s)) tables.tailoring live.tailoring;
+    }

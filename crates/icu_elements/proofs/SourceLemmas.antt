@@ -1,0 +1,61 @@
+-- Each element of a text is one of a live entry, a diacritic or a number.
+use Rattle.std.proofs.Common.{◌≡◌, ℕ, true, false, List, [], ◌∷◌, Option, Some, None, refl, IfSome, inl, inr, zero, suc, arith}
+use Rattle.std.specs.Char.{IsScalar}
+use Rattle.std.specs.List.{AllByRecursion, Contains}
+use Rattle.unicode_normalization.specs.Forms.{nfd}
+use Rattle.icu_provider.specs.Elements.{accent_element}
+use Rattle.icu_provider.specs.Tables.{Data, Tables, homed, diacritic_of}
+use Rattle.icu_provider.specs.Final.{final_elements}
+use Rattle.icu_provider.specs.Live.{live_from, live_at, EachLive}
+use Rattle.icu_provider.proofs.ListLemmas.{all_append}
+use Rattle.icu_elements.specs.TextElements.{Reading, number_elements, elements_of}
+use Rattle.icu_elements.specs.LiveTables.{jamo_entry, AllLive, HasDigits, IsLive}
+use Rattle.icu_elements.specs.TextParts.{IsDecomposed, GoodNumbers, IsTextElement}
+use Rattle.icu_elements.proofs.DecomposedLemmas.{IsDecomposedText-nfd}
+use Rattle.icu_elements.proofs.PartLemmas.{elements_of-good, AllLive-weaker}
+
+later : {X : Type 0} (x y : X) (xs : List X) → Contains xs y → Contains (x ∷ xs) y
+later x y xs c = (suc c.0, omega arith, c.2)
+
+-- what holds of whatever a list contains
+all_contained : {X : Type 0} (P : X → Type 0) (xs : List X) → ((x : X) → Contains xs x → P x) → AllByRecursion P xs
+all_contained P [] f = tt
+all_contained P (x ∷ xs) f = (f x (zero, omega arith, refl), all_contained P xs (λ y c. f y (later x y xs c)))
+
+in_tailoring : (tables : Tables) (o : Option Data) → tables.tailoring ≡ o → IfSome o (λ (home : Data). EachLive (IsLive tables home) true home)
+in_tailoring tables None is = tt
+in_tailoring tables (Some home) is = λ c s. all_contained (IsLive tables home c) (live_at true home c) (λ e h. inr (inr (is, s, h)))
+
+all_live : (tables : Tables) → AllLive (IsLive tables) tables
+all_live tables =
+    record {
+      root = λ c s. all_contained (IsLive tables tables.root c) (live_at false tables.root c) (λ e h. inl (refl, s, h));
+      jamo = λ c j. all_contained (IsLive tables tables.root c) (live_from tables.root (jamo_entry tables c)) (λ e h. inr (inl (refl, j, h)));
+      tailoring = in_tailoring tables tables.tailoring refl;
+    }
+
+of_diacritic : (reading : Reading) (c : ℕ) → IsDecomposed c → (o : Option ℕ) → diacritic_of reading.tables c ≡ o → IfSome o (λ s. AllByRecursion (IsTextElement reading) (accent_element s ∷ []))
+of_diacritic reading c read None is = tt
+of_diacritic reading c read (Some s) is =
+    (inr (inl (record { char = c; secondary = s; decomposed = read; in_table = is; element = refl })), tt)
+
+of_number : (reading : Reading) (o : Option ℕ) → reading.numeric ≡ o → GoodNumbers (AllByRecursion (IsTextElement reading)) o
+of_number reading None is = tt
+of_number reading (Some lead) is =
+    λ ds decimal. all_contained (IsTextElement reading) (number_elements lead ds) (λ x h. inr (inr (record { lead = lead; digits = ds; is_numeric = is; decimal = decimal; member = h })))
+
+pub elements_of-sources : (reading : Reading) → HasDigits reading.tables → (cs : List ℕ) → AllByRecursion IsScalar cs → AllByRecursion (IsTextElement reading) (elements_of reading (nfd cs))
+elements_of-sources reading digits cs scalars =
+    elements_of-good (AllByRecursion (IsTextElement reading)) reading
+    (record {
+      none = tt;
+      append = all_append (IsTextElement reading);
+      digits = digits;
+      entries =
+          AllLive-weaker (IsLive reading.tables) (λ home c e. AllByRecursion (IsTextElement reading) (final_elements (homed home e) c)) reading.tables
+          (λ home c e live. all_contained (IsTextElement reading) (final_elements (homed home e) c) (λ x h. inl (record { home = home; char = c; entry = e; live = live; member = h })))
+          (all_live reading.tables);
+      accents = λ c read. of_diacritic reading c read (diacritic_of reading.tables c) refl;
+      numbers = of_number reading reading.numeric refl;
+    })
+    (nfd cs) (IsDecomposedText-nfd cs scalars)

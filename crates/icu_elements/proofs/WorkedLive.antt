@@ -1,0 +1,31 @@
+-- Live entries of small tables, computed.
+use Rattle.std.proofs.Common.{◌≡◌, [], ◌∷◌, refl}
+use Rattle.icu_provider.specs.Entries.{kind_of}
+use Rattle.icu_provider.specs.Tables.{Data}
+use Rattle.icu_provider.specs.Live.{live_digit, live_contraction, live_from}
+
+-- The first context is a contraction's, with a row that comes to a digit. The second is a prefix's: its default is that contraction,
+-- and its row comes to a prefix.
+abbrev small : Data
+small = record {
+  value = λ c. 0;
+  elements = [];
+  entries = 0x14100505 ∷ 0x14140505 ∷ [];
+  contexts =
+      record { default = 0x61100505; rows = record { chars = 0x30A ∷ []; entry = 0x21CA } ∷ [] }
+      ∷ record { default = 0xC9; rows = record { chars = 97 ∷ []; entry = 0x20C8 } ∷ [] } ∷ [];
+}
+
+contraction : live_from small 0xC9 ≡ 0xC9 ∷ 0x61100505 ∷ 0x21CA ∷ 0x14140505 ∷ []
+unfolding live_from live_contraction live_digit kind_of
+contraction = refl
+
+-- a prefix that a prefix leads to is live, and opens nothing
+prefix : live_from small 0x20C8 ≡ 0x20C8 ∷ 0xC9 ∷ 0x61100505 ∷ 0x21CA ∷ 0x14140505 ∷ 0x20C8 ∷ []
+unfolding live_from live_contraction live_digit kind_of
+prefix = refl
+
+-- a context that isn't there reads as the empty one
+missing : live_from small 0xE0C9 ≡ 0xE0C9 ∷ 0 ∷ []
+unfolding live_from live_contraction live_digit kind_of
+missing = refl

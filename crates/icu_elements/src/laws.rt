@@ -1,0 +1,23 @@
+//! The theorems on the elements of all texts, each as a function that makes no call.
+
+ghost use Rattle.icu_elements.specs.TextLaws.{TextsDecompose, GoodPartsMakeGoodTexts, ElementsPass, ElementsHaveSources};
+
+/// Canonical decomposition of a text of scalar values gives scalar values, and none of U+0340, U+0341, U+0343 and
+/// U+0344 (UAX #15).
+pub fn texts_decompose()
+    ensures { TextsDecompose }
+{}
+
+/// What holds of each part of a text's elements, and of two lists one after the other where it holds of both, holds of the
+/// elements of each decomposed text. The parts are the elements of each live entry, of each diacritic, and of each number
+/// (UTS #10, section 7.2).
+pub fn good_parts_make_good_texts()
+    ensures lists { GoodPartsMakeGoodTexts }
+    ensures elements { ElementsPass }
+{}
+
+/// Where each live digit entry's digit is at most 9, each element of each text is one of a live entry, of a diacritic or
+/// of a number (UTS #10, section 7.2).
+pub fn elements_have_sources()
+    ensures { ElementsHaveSources }
+{}
