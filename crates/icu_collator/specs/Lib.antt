@@ -1,0 +1,12 @@
+pub use Rattle.icu_options.specs.Settings
+pub use Rattle.icu_options.specs.Merge
+pub use Rattle.icu_provider.specs.Tables
+pub use Rattle.icu_provider.specs.Conditions
+pub use Rattle.icu_provider.specs.Roots
+pub use Rattle.icu_provider.specs.Stored
+pub use Rattle.icu_elements.specs.TextElements
+pub use Rattle.icu_elements.specs.Reading
+pub use Rattle.icu_elements.specs.CollationElements
+pub use Rattle.icu_comparison.specs.Levels
+pub use Rattle.icu_comparison.specs.Order
+pub use Rattle.icu_comparison.specs.Collators

@@ -1,0 +1,9 @@
+pub use Rattle.icu_provider.specs.Conditions
+pub use Rattle.icu_provider.specs.Roots
+pub use Rattle.icu_provider.specs.Stored
+pub use Rattle.icu_provider.specs.Tables
+pub use Rattle.icu_elements.specs.TextElements
+pub use Rattle.icu_elements.specs.Reading
+pub mod Levels
+pub mod Order
+pub mod Collators

@@ -1,0 +1,8 @@
+//! The order of texts.
+#![tactic(auto)]
+
+pub mod collator;
+mod levels;
+mod order;
+
+pub use collator::{Collator, CollatorBorrowed};

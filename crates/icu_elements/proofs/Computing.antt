@@ -1,0 +1,13 @@
+use Rattle.unicode_normalization.proofs.Computing.{unicode_normalization}
+use Rattle.icu_provider.specs.Entries.{kind_of, self_contained}
+use Rattle.icu_provider.specs.Weights.{implicit_weight, place_of, weight_at, offset_place, offset_weight}
+use Rattle.icu_provider.specs.Tables.{entry_of, diacritic_of, row_entry, longest_from}
+use Rattle.icu_provider.specs.Final.{final_elements}
+use Rattle.icu_elements.specs.Numbers.{value_after, pairs_of, pair_count, trimmed, pair_bytes, in_threes, number_weights, significant, weights_along, numbers}
+use Rattle.icu_elements.specs.Matches.{after_prefix, is_blocked, with_marks, contracted, match_from}
+use Rattle.icu_elements.specs.TextElements.{number_step, entry_step, matched_step, elements_along, elements_after}
+
+-- `unfolding icu_elements` lets `refl` compute the elements of a short text
+unfoldable pub icu_elements : Unit {0}
+unfolding unicode_normalization kind_of self_contained implicit_weight place_of weight_at offset_place offset_weight entry_of diacritic_of row_entry longest_from final_elements value_after pairs_of pair_count trimmed pair_bytes in_threes number_weights significant weights_along numbers after_prefix is_blocked with_marks contracted match_from number_step entry_step matched_step elements_along elements_after
+icu_elements = tt

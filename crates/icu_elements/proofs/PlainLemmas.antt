@@ -1,0 +1,91 @@
+-- Where no entry names a context and digits are letters like others, a text's elements are those of its characters.
+use Rattle.std.proofs.Common.{◌≡◌, ℕ, ◌≤◌, Bool, true, false, List, [], ◌∷◌, ◌++◌, length, flat_map, Option, Some, None, refl, ap, ◌∙◌, arith, All}
+use Rattle.std.specs.Char.{IsScalar}
+use Rattle.std.specs.List.{AllByRecursion}
+use Rattle.std.proofs.lemmas.List.Elements.{recursion_from_All}
+use Rattle.icu_provider.specs.Elements.{Element, accent_element}
+use Rattle.icu_provider.specs.declared.entry.EntryKind.{EntryKind}
+use Rattle.icu_provider.specs.declared.entry.EntryKind.TheVariants.{Prefix, Contraction, Digit}
+use Rattle.icu_provider.specs.Entries.{kind_of}
+use Rattle.icu_provider.specs.Tables.{Data, Tables, HomedEntry, homed, entry_of, diacritic_of}
+use Rattle.icu_provider.specs.Final.{final_elements}
+use Rattle.icu_elements.specs.Matches.{Match, after_prefix, match_from, match_of}
+use Rattle.icu_elements.specs.TextElements.{Step, entry_step, matched_step, step, elements_along, elements_after, elements_of}
+use Rattle.icu_elements.specs.Plain.{plain_reading, plain_entry, elements_of_char}
+
+-- the kind names no context
+abbrev pub names_no_context : EntryKind → Bool
+names_no_context Prefix = false
+names_no_context Contraction = false
+names_no_context _ = true
+
+not_prefix : {A : Type 0} (k : EntryKind) (a b : A) → names_no_context k ≡ true → (elim k [ Prefix ↦ a | _ ↦ b ]) ≡ b
+not_prefix Prefix a b h = cc
+not_prefix _ a b h = refl
+
+not_contraction : {A : Type 0} (k : EntryKind) (a b : A) → names_no_context k ≡ true → (elim k [ Contraction ↦ a | _ ↦ b ]) ≡ b
+not_contraction Contraction a b h = cc
+not_contraction _ a b h = refl
+
+after_prefix-plain : (h : HomedEntry) (before : List ℕ) → names_no_context (kind_of h.entry) ≡ true → after_prefix h before ≡ h.entry
+unfolding after_prefix
+after_prefix-plain h before p = not_prefix (kind_of h.entry) _ _ p
+
+-- a match that takes its own character alone
+abbrev alone : ℕ → List ℕ → Match
+alone entry text = record { entry = entry; suffix = []; rest = text }
+
+match_of-plain : (h : HomedEntry) (before text : List ℕ) → names_no_context (kind_of h.entry) ≡ true → match_of h before text ≡ alone h.entry text
+unfolding match_from
+match_of-plain h before text p =
+    let same = after_prefix-plain h before p in
+    not_contraction (kind_of (after_prefix h before)) _ _ (ap (λ e. names_no_context (kind_of e)) same ∙ p) ∙ ap (λ e. alone e text) same
+
+-- a step that takes its own character alone
+abbrev single : List Element → List ℕ → Step
+single es text = record { elements = es; suffix = []; rest = text }
+
+at_digit : (k : EntryKind) (home : Data) (c e p : ℕ) (text : List ℕ) → (elim k as (λ _. Step) [ Digit ↦ single (final_elements (homed home p) c) text | _ ↦ single (final_elements (homed home e) c) text ]) ≡ single (final_elements (elim k as (λ _. HomedEntry) [ Digit ↦ homed home p | _ ↦ homed home e ]) c) text
+at_digit Digit home c e p text = refl
+at_digit _ home c e p text = refl
+
+entry_step-plain : (tables : Tables) (h : HomedEntry) (c : ℕ) (text : List ℕ) → entry_step (plain_reading tables) h.home c (alone h.entry text) ≡ single (final_elements (plain_entry h) c) text
+unfolding entry_step plain_entry
+entry_step-plain tables h c text = at_digit (kind_of h.entry) h.home c h.entry _ text
+
+at_accent : (o : Option ℕ) (text : List ℕ) (matched : Step) (es : List Element) → matched ≡ single es text → (elim o as (λ _. Step) [ Some s ↦ single (accent_element s ∷ []) text | None ↦ matched ]) ≡ single (elim o as (λ _. List Element) [ Some s ↦ accent_element s ∷ [] | None ↦ es ]) text
+at_accent (Some s) text matched es h = refl
+at_accent None text matched es h = h
+
+step-plain : (tables : Tables) (before : List ℕ) (c : ℕ) (text : List ℕ) → names_no_context (kind_of (entry_of tables c).entry) ≡ true → step (plain_reading tables) before c text ≡ single (elements_of_char tables c) text
+unfolding matched_step elements_of_char
+step-plain tables before c text p =
+    let h = entry_of tables c in
+    let matched = ap (entry_step (plain_reading tables) h.home c) (match_of-plain h before text p) ∙ entry_step-plain tables h c text in
+    at_accent (diacritic_of tables c) text _ _ matched
+
+-- each character's entry names no context
+pub record IsPlain (tables : Tables) : Type 0 where
+  pub at : (c : ℕ) → IsScalar c → names_no_context (kind_of (entry_of tables c).entry) ≡ true
+
+elements_along-plain : (tables : Tables) → IsPlain tables → (along before text : List ℕ) → length text ≤ length along → AllByRecursion IsScalar text → elements_along along (plain_reading tables) before text ≡ flat_map (elements_of_char tables) text
+unfolding elements_along
+elements_along-plain tables plain along before [] fits all = refl
+elements_along-plain tables plain [] before (c ∷ text) fits all = absurd (omega arith)
+elements_along-plain tables plain (_ ∷ along) before (c ∷ text) fits all =
+    let e = step-plain tables before c text (plain.at c all.0) in
+    rw e (ap (λ es. elements_of_char tables c ++ es) (elements_along-plain tables plain along _ text (omega arith) all.1))
+
+-- the elements of a text are those of its characters
+pub elements_of-plain : (tables : Tables) → IsPlain tables → (text : List ℕ) → All IsScalar text → elements_of (plain_reading tables) text ≡ flat_map (elements_of_char tables) text
+unfolding elements_after
+elements_of-plain tables plain text all =
+    elements_along-plain tables plain text [] text (omega arith) (recursion_from_All IsScalar text all)
+
+not_digit : {A : Type 0} (k : EntryKind) (a b : A) → (k ≡ Digit → ⊥) → (elim k [ Digit ↦ a | _ ↦ b ]) ≡ b
+not_digit Digit a b h = absurd (h refl)
+not_digit _ a b h = refl
+
+pub plain_entry-other : (h : HomedEntry) → (kind_of h.entry ≡ Digit → ⊥) → plain_entry h ≡ h
+unfolding plain_entry
+plain_entry-other h other = not_digit (kind_of h.entry) _ h other

@@ -1,0 +1,16 @@
+pub use Rattle.icu_provider.specs.Elements
+pub use Rattle.icu_provider.specs.Entries
+pub use Rattle.icu_provider.specs.Weights
+pub use Rattle.icu_provider.specs.Tables
+pub use Rattle.icu_provider.specs.Final
+pub use Rattle.icu_provider.specs.Live
+pub use Rattle.icu_provider.specs.Conditions
+pub use Rattle.icu_provider.specs.CodePointTables
+pub use Rattle.icu_provider.specs.Roots
+pub use Rattle.icu_provider.specs.Stored
+pub mod Matches
+pub mod Numbers
+pub mod TextElements
+pub mod Plain
+pub mod Reading
+pub mod CollationElements

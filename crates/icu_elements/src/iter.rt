@@ -1,0 +1,112 @@
+ghost use Rattle.std.specs.Prelude.{◌≡◌, ℕ, List, IsErr, IfOk, OnOk, OnErr, drop, None, false};
+ghost use Rattle.std.specs.Iterator.{IsFinite};
+ghost use Rattle.icu_provider.specs.Elements.{Element};
+ghost use Rattle.unicode_normalization.specs.Decompositions.{CanDecompose};
+ghost use Rattle.unicode_normalization.specs.Forms.{nfd};
+ghost use Rattle.unicode_normalization.specs.Iter.{Spells};
+
+use crate::plain::elements_of_text;
+use crate::read::whole_text;
+use crate::tables::ElementTables;
+use icu_provider::CollationElement;
+use std::alloc::AllocError;
+use unicode_normalization::Decompositions;
+
+/// How far the reading has come.
+#[derive(Debug, Clone, Copy, PartialEq, Eq)]
+enum Progress {
+    Unread,
+    Read,
+    Refused,
+}
+
+/// The collation elements of a text, one by one (UTS #10, section 7.2).
+#[derive(Drop)]
+pub struct CollationElements<'d, I> {
+    source: Decompositions<I>,
+    tables: ElementTables<'d>,
+    numeric_primary: Option<u8>,
+    lithuanian_dot_above: bool,
+    elements: Vec<CollationElement>,
+    next: usize,
+    progress: Progress,
+    ghost no_numbers: { numeric_primary ≡ None },
+    ghost no_silent_dot: { lithuanian_dot_above ≡ false },
+}
+
+impl<'d, I: Iterator<Item = char> + Drop> CollationElements<'d, I> {
+    ghost use Rattle.icu_elements.specs.TextElements.{elements_of};
+    ghost use Rattle.icu_elements.specs.Reading.{reading_of};
+    ghost use Rattle.icu_elements.specs.CollationElements.{StillGives, HasUnread, CanGive, IsRefused, first_of, rest_of};
+
+    /// Reads the text that `delegate` spells, by these tables. `numeric_primary` is the lead byte of numbers, where digits
+    /// are read as numbers. With `lithuanian_dot_above`, U+0307 before an accent above is silent. Takes no memory.
+    pub fn new(
+        delegate: I,
+        tables: ElementTables<'d>,
+        numeric_primary: Option<u8>,
+        lithuanian_dot_above: bool,
+    ) -> CollationElements<'d, I>
+        requires no_numbers { numeric_primary ≡ None }
+        requires no_silent_dot { lithuanian_dot_above ≡ false }
+        ensures text { (cs : List ℕ) → Spells I.next_gives delegate cs
+            → StillGives I.next_gives result (elements_of (reading_of tables.entry numeric_primary lithuanian_dot_above) (nfd cs)) }
+        ensures ready { I.can_next delegate → IsFinite (I.remaining delegate) → CanGive I.can_next I.remaining result }
+    {
+        CollationElements {
+            source: Decompositions::new_canonical(tables.allocator(), delegate),
+            tables,
+            numeric_primary,
+            lithuanian_dot_above,
+            elements: Vec::new(tables.allocator()),
+            next: 0,
+            progress: Progress::Unread,
+        }
+    }
+
+    /// The next element, and after the last one the end element for ever. Once a growth was refused, every call is refused.
+    pub fn next(&mut self) -> Result<CollationElement, AllocError>
+        requires { CanGive I.can_next I.remaining self.old }
+        ensures gives { (es : List Element) → StillGives I.next_gives self.old es → IfOk result (λ e. (e ≡ first_of es) × StillGives I.next_gives self.new (rest_of es)) }
+        ensures again { CanGive I.can_next I.remaining self.new }
+        ensures refused { OnErr result (IsRefused self.new) }
+        ensures stays_refused { IsRefused self.old → IsErr result }
+    {
+        match self.progress {
+            Progress::Refused => return Err(AllocError),
+            Progress::Unread => {
+                if let Err(error) = self.read() {
+                    self.progress = Progress::Refused;
+                    return Err(error);
+                }
+                self.progress = Progress::Read;
+            }
+            Progress::Read => {}
+        }
+        Ok(self.take())
+    }
+
+    fn read(&mut self) -> Result<(), AllocError>
+        requires { CanDecompose I.can_next I.remaining self.old.source }
+        ensures { (es : List Element) → HasUnread I.next_gives self.old es → OnOk result (drop self.new.next self.new.elements.items ≡ es) }
+    {
+        let alloc = self.tables.allocator();
+        let text = whole_text(alloc, &mut self.source)?;
+        self.elements = elements_of_text(alloc, self.tables, text.as_slice())?;
+        self.next = 0;
+        Ok(())
+    }
+
+    fn take(&mut self) -> CollationElement
+        ensures element { result ≡ first_of (drop self.old.next self.old.elements.items) }
+        ensures rest { drop self.new.next self.new.elements.items ≡ rest_of (drop self.old.next self.old.elements.items) }
+        ensures progress { self.new.progress ≡ self.old.progress }
+    {
+        if self.next < self.elements.len() {
+            let element = self.elements[self.next];
+            self.next += 1;
+            return element;
+        }
+        CollationElement::default()
+    }
+}

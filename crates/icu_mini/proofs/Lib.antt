@@ -1,0 +1,4 @@
+pub mod Blocks
+pub mod Growing
+pub mod RunLemmas
+mod MiniRows

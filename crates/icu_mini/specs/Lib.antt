@@ -1,0 +1,3 @@
+pub mod CharacterTable
+pub mod EntryRange
+pub mod Mini

@@ -1,0 +1,4 @@
+pub mod Settings
+pub mod Conversions
+pub mod Metadata
+pub mod Merge

@@ -1,0 +1,61 @@
+//! What each setting of a collator can be (UTS #35 part 5, "Setting Options").
+
+/// How many levels are compared (UTS #10, "Multi-Level Comparison").
+///
+/// The greater the strength, the more differences count. The numbers are those of ICU.
+#[derive(Debug, Clone, Copy, PartialEq, Eq, PartialOrd, Ord)]
+pub enum Strength {
+    /// Base letters alone: "a" and "á" are equal.
+    Primary = 0,
+    /// Accents too: "a" and "A" are equal.
+    Secondary = 1,
+    /// Case and variants too. This is the default.
+    Tertiary = 2,
+    /// What shifted characters, such as spaces, leave to tell apart, and Hiragana from Katakana.
+    Quaternary = 3,
+    /// Any two texts that differ in their canonical decompositions.
+    Identical = 7,
+}
+
+/// What becomes of variable elements, such as spaces (UTS #10, "Variable Weighting").
+#[derive(Debug, Clone, Copy, PartialEq, Eq, PartialOrd, Ord)]
+pub enum AlternateHandling {
+    /// They count as other elements do.
+    NonIgnorable,
+    /// They count at the quaternary level alone.
+    Shifted,
+}
+
+/// The last group of characters that are variable; the groups before it are so too.
+#[derive(Debug, Clone, Copy, PartialEq, Eq)]
+pub enum MaxVariable {
+    Space,
+    Punctuation,
+    Symbol,
+    Currency,
+}
+
+/// Whether case is compared on a level of its own, between the secondary and the tertiary one.
+#[derive(Debug, Clone, Copy, PartialEq, Eq)]
+pub enum CaseLevel {
+    Off,
+    On,
+}
+
+/// Whether case comes before other tertiary differences, and which case is less.
+#[derive(Debug, Clone, Copy, PartialEq, Eq)]
+pub enum CollationCaseFirst {
+    /// Case is one tertiary difference among others.
+    False,
+    /// Lower case is less.
+    Lower,
+    /// Upper case is less.
+    Upper,
+}
+
+/// Whether a run of decimal digits is compared by its value.
+#[derive(Debug, Clone, Copy, PartialEq, Eq)]
+pub enum CollationNumericOrdering {
+    False,
+    True,
+}

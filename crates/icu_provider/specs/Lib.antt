@@ -1,0 +1,10 @@
+pub mod Elements
+pub mod Entries
+pub mod Weights
+pub mod Tables
+pub mod Final
+pub mod Live
+pub mod Conditions
+pub mod CodePointTables
+pub mod Roots
+pub mod Stored

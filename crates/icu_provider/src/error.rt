@@ -1,0 +1,30 @@
+/// Why a table is refused.
+#[derive(Debug, Clone, Copy, PartialEq, Eq)]
+pub enum DataErrorKind {
+    /// The provider has no such table.
+    Absent,
+    /// A table has another number of members than it must have.
+    Length,
+    /// A place that is named lies outside its table, or a list has no member.
+    Index,
+    /// A digit entry holds a digit above 9.
+    Digit,
+    /// An entry leads to one that it may not lead to, as a digit to a contraction.
+    Chain,
+    /// An entry's low byte has no meaning where it stands.
+    Tag,
+    /// An element or one of its weights is malformed.
+    Element,
+    /// The rows of a context are malformed, or not in order.
+    Context,
+    /// A weight begins another one.
+    Overlap,
+    /// Weights that share a lead byte can't be compressed alike.
+    Compression,
+    /// The reordering moves a lead byte that it must keep apart.
+    Reordering,
+    /// The numeric lead, or the last primary weight of a group, is out of its range.
+    SpecialPrimary,
+    /// A growth was refused.
+    NoMemory,
+}
