@@ -1,0 +1,4 @@
+pub mod Sinks
+pub mod SliceSinks
+pub mod ListSinkLaws
+pub mod SliceSinkLaws

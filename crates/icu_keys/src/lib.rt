@@ -1,0 +1,15 @@
+//! Sort keys as bytes: where they go, and the writers of each level, over any sink.
+//!
+//! The crate knows no text and no table. A writer is fed the weights of one level one at a time and hands their bytes
+//! to a sink, which says by ghost members what it took; each writer's contract says that this is the level of
+//! `icu_levels`, or a beginning of it and the sink's own error.
+#![tactic(auto)]
+
+pub mod error;
+mod list_sinks;
+pub mod sink;
+pub mod slice_sink;
+
+pub use error::SortKeyError;
+pub use sink::CollationKeySink;
+pub use slice_sink::TooSmall;
