@@ -1,4 +1,5 @@
 pub mod Sinks
+pub mod Writes
 pub mod SliceSinks
 pub mod ListSinkLaws
 pub mod SliceSinkLaws

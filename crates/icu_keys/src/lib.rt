@@ -7,8 +7,11 @@
 
 pub mod error;
 mod list_sinks;
+pub mod run;
 pub mod sink;
 pub mod slice_sink;
+pub mod weight_bytes;
+mod writes;
 
 pub use error::SortKeyError;
 pub use sink::CollationKeySink;
