@@ -8,7 +8,10 @@ pub fn trimmed(bytes: &[u8]) -> &[u8]
     ensures { result.now ≡ without_last_zeros bytes.now }
 {
     let mut kept = bytes;
-    while let [front @ .., 0] = kept {
+    while let [front @ .., last] = kept {
+        if *last != 0 {
+            return kept;
+        }
         kept = front;
     }
     kept
