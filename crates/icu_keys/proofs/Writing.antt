@@ -62,3 +62,10 @@ module _ {X St E : Type 0} (took : X → St → List ℕ → X → St → Type 0
       → ((rest : R) → before rest ≡ b ++ after rest) → Writes took refused x s b r y t → Feeds took refused x s before after r y t
   feeds_writes x y s t b before after (Ok v) h w = record { front = b; taken = w; leaves = h }
   feeds_writes x y s t b before after (Err e) h w = λ rest. let g = fails_front x y s t b (after rest) e w in rw (h rest) g
+
+  -- the same call, where the rest of the level is said in other words
+  pub feeds_mapped : {Q R : Type 0} (f : Q → R) (x y : X) (s t : St) (before after : R → List ℕ) (before' after' : Q → List ℕ) (r : Result Unit E)
+      → ((q : Q) → before' q ≡ before (f q)) → ((q : Q) → after' q ≡ after (f q)) → Feeds took refused x s before after r y t → Feeds took refused x s before' after' r y t
+  feeds_mapped f x y s t before after before' after' (Ok v) p q w =
+      record { front = w.front; taken = w.taken; leaves = λ rest. p rest ∙ (w.leaves (f rest) ∙ ap (λ l. w.front ++ l) (sym (q rest))) }
+  feeds_mapped f x y s t before after before' after' (Err e) p q w = λ rest. rw (p rest) (w (f rest))

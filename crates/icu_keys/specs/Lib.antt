@@ -3,3 +3,4 @@ pub mod Writes
 pub mod SliceSinks
 pub mod ListSinkLaws
 pub mod SliceSinkLaws
+pub mod SecondaryWriters

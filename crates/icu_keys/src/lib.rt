@@ -8,6 +8,7 @@
 pub mod error;
 mod list_sinks;
 pub mod run;
+pub mod secondaries;
 pub mod sink;
 pub mod slice_sink;
 pub mod weight_bytes;
