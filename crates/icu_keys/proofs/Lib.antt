@@ -3,3 +3,4 @@ pub mod RunSteps
 pub mod TrimmedLemmas
 pub mod BytesLemmas
 pub mod LevelWriting
+pub mod QuaternaryLemmas

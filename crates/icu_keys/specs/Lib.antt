@@ -4,3 +4,9 @@ pub mod SliceSinks
 pub mod ListSinkLaws
 pub mod SliceSinkLaws
 pub mod SecondaryWriters
+pub mod Forms
+pub mod TertiaryWriters
+pub mod QuaternaryWeights
+pub mod QuaternaryWriters
+pub mod IdenticalWriters
+pub mod PrimaryWriters

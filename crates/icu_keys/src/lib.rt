@@ -5,12 +5,17 @@
 //! `icu_levels`, or a beginning of it and the sink's own error.
 #![tactic(auto)]
 
+mod differences;
 pub mod error;
+pub mod identical;
 mod list_sinks;
+pub mod primaries;
+pub mod quaternaries;
 pub mod run;
 pub mod secondaries;
 pub mod sink;
 pub mod slice_sink;
+pub mod tertiaries;
 pub mod weight_bytes;
 mod writes;
 
