@@ -4,3 +4,5 @@ pub mod TrimmedLemmas
 pub mod BytesLemmas
 pub mod LevelWriting
 pub mod QuaternaryLemmas
+pub mod IdenticalSteps
+pub mod PrimarySteps

@@ -1,5 +1,5 @@
 -- Writes one after another
-use Rattle.std.proofs.Common.{◌≡◌, ℕ, List, [], ◌++◌, refl, sym, ap, ◌∙◌, append_assoc, Result, Ok, Err, MatchResult}
+use Rattle.std.proofs.Common.{◌≡◌, ℕ, List, [], ◌++◌, refl, sym, ap, subst, ◌∙◌, append_assoc, Result, Ok, Err, MatchResult}
 use Rattle.std.proofs.lemmas.List.{append-nil}
 use Rattle.icu_keys.specs.Writes.{Writes, WriteFails, Brings, Feeds}
 
@@ -41,6 +41,10 @@ module _ {X St E : Type 0} (took : X → St → List ℕ → X → St → Type 0
       → took x s [] x s → MatchResult r (λ _. took x s b y t) (λ e. refused x s b e y t) → Writes took refused x s b r y t
   writes_one x y s t b (Ok v) n w = w
   writes_one x y s t b (Err e) n w = fails_one x y s t b e n w
+
+  -- the same bytes in other words
+  pub writes_same : {O : Type 0} (x y : X) (s t : St) (b c : List ℕ) (r : Result O E) → b ≡ c → Writes took refused x s c r y t → Writes took refused x s b r y t
+  writes_same x y s t b c r e w = subst (λ (bs : List ℕ). Writes took refused x s bs r y t) (sym e) w
 
   -- the answer of a call that goes on after some bytes
   pub writes_after : {O : Type 0} (x y z : X) (s t u : St) (b c : List ℕ) (r : Result O E)

@@ -1,7 +1,7 @@
 //! The primary level, compressed and reordered, written as it is fed.
 
 ghost use Rattle.std.specs.Prelude.{◌≡◌, ℕ, List, ◌∷◌, option_to_list};
-ghost use Rattle.icu_levels.specs.Primaries.{Compression, lead, lead_change, primary_bytes, primary_level};
+ghost use Rattle.icu_levels.specs.Primaries.{Compression, lead, lead_change, dropped_after, primary_bytes, primary_level};
 ghost use Rattle.icu_keys.specs.Writes.{Writes, Feeds};
 
 use crate::sink::CollationKeySink;
@@ -34,6 +34,19 @@ fn change_of_lead(dropped: u8, new: u8) -> Option<u8>
         Some(0x03)
     } else {
         Some(0xFF)
+    }
+}
+
+// The lead that is dropped after a weight, 0 for none. Whether it is compressible is asked of the lead before
+// reordering.
+fn lead_to_drop<C: PrimaryCompression>(compression: &C, weight: u32, reordered: u32) -> u8
+    requires { reordered ≡ (C.compression compression.now).reorder weight }
+    ensures { result ≡ dropped_after (C.compression compression.now) weight }
+{
+    if compression.is_compressible((weight >> 24) as u8) {
+        (reordered >> 24) as u8
+    } else {
+        0
     }
 }
 
@@ -90,11 +103,7 @@ impl PrimaryWriter {
     {
         let dropped = self.dropped;
         let reordered = compression.reorder(weight);
-        self.dropped = if compression.is_compressible((weight >> 24) as u8) {
-            (reordered >> 24) as u8
-        } else {
-            0
-        };
+        self.dropped = lead_to_drop(compression, weight, reordered);
         write_primary(sink, state, dropped, reordered)
     }
 }
