@@ -10,3 +10,5 @@ pub mod QuaternaryWeights
 pub mod QuaternaryWriters
 pub mod IdenticalWriters
 pub mod PrimaryWriters
+pub mod CaseWeights
+pub mod CaseWriters

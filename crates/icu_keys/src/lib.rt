@@ -5,10 +5,12 @@
 //! `icu_levels`, or a beginning of it and the sink's own error.
 #![tactic(auto)]
 
+pub mod cases;
 mod differences;
 pub mod error;
 pub mod identical;
 mod list_sinks;
+mod nibbles;
 pub mod primaries;
 pub mod quaternaries;
 pub mod run;

@@ -1,6 +1,6 @@
 //! Runs of the common weight of a level, counted.
 
-ghost use Rattle.std.specs.Prelude.{◌≡◌, ◌≢◌, ℕ, suc, ◌≤◌, List, [], ◌∷◌, ◌++◌, option_to_list, if◌then◌else◌};
+ghost use Rattle.std.specs.Prelude.{◌≡◌, ◌≢◌, ℕ, suc, ◌≤◌, List, [], ◌∷◌, ◌++◌, option_to_list, IsTrue, IfSome, if◌then◌else◌};
 ghost use Rattle.icu_levels.specs.Runs.{IsRow, run_before_less, run_before_more, level_bytes};
 ghost use Rattle.icu_keys.specs.Writes.{Writes, Feeds};
 
@@ -31,6 +31,7 @@ impl Run {
         requires row { IsRow row.now }
         requires bounded { self.old.length ≤ row.now.count }
         ensures bounded { self.new.length ≤ row.now.count }
+        ensures middle { IfSome result (λ byte. byte ≡ row.now.middle) }
         ensures bytes { (spell : ℕ → List ℕ) (ws : List ℕ) → level_bytes row.now spell (suc self.old.length) ws ≡ option_to_list result ++ level_bytes row.now spell self.new.length ws }
     {
         if self.length == row.count {
@@ -48,6 +49,8 @@ impl Run {
         requires row { IsRow row.now }
         requires bounded { self.old.length ≤ row.now.count }
         ensures empty { self.new.length ≡ 0 }
+        ensures low { IsTrue before_less → IfSome result (λ byte. byte ≤ row.now.middle) }
+        ensures high { IfSome result (λ byte. byte ≤ row.now.high) }
         ensures bytes { option_to_list result ≡ (if before_less then run_before_less row.now self.old.length else run_before_more row.now self.old.length) }
     {
         let length = self.length;
