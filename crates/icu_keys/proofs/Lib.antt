@@ -6,3 +6,4 @@ pub mod LevelWriting
 pub mod QuaternaryLemmas
 pub mod IdenticalSteps
 pub mod PrimarySteps
+pub mod CaseSteps
