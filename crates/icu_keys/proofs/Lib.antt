@@ -7,3 +7,4 @@ pub mod QuaternaryLemmas
 pub mod IdenticalSteps
 pub mod PrimarySteps
 pub mod CaseSteps
+pub mod SegmentLemmas

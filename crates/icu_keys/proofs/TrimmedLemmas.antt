@@ -18,7 +18,7 @@ kept_whole [] y = refl
 kept_whole (x ∷ []) y = before_some x (suc y) []
 kept_whole (x ∷ (z ∷ xs)) y = ap (before_nonzero x) (kept_whole (z ∷ xs) y) ∙ before_some x z (xs ++ suc y ∷ [])
 
-at_end : (xs : List ℕ) (n : ℕ) → length xs ≡ n + 1 → xs ≡ take n xs ++ get_or xs n 0 ∷ []
+pub at_end : (xs : List ℕ) (n : ℕ) → length xs ≡ n + 1 → xs ≡ take n xs ++ get_or xs n 0 ∷ []
 at_end xs n e = sym (take-length xs) ∙ (ap (λ k. take k xs) e ∙ take_more xs n 0 (omega arith))
 
 pub last_zero : (xs : List ℕ) (n : ℕ) → length xs ≡ n + 1 → get_or xs n 0 ≡ 0 → without_last_zeros (take n xs) ≡ without_last_zeros xs

@@ -1,7 +1,7 @@
 -- Writes one after another
 use Rattle.std.proofs.Common.{◌≡◌, ℕ, List, [], ◌++◌, refl, sym, ap, subst, ◌∙◌, append_assoc, Result, Ok, Err, MatchResult}
 use Rattle.std.proofs.lemmas.List.{append-nil}
-use Rattle.icu_keys.specs.Writes.{Writes, WriteFails, Brings, Feeds}
+use Rattle.icu_keys.specs.Writes.{Writes, WriteFails, Brings, Feeds, Owes}
 
 module _ {X St E : Type 0} (took : X → St → List ℕ → X → St → Type 0) (refused : X → St → List ℕ → E → X → St → Type 0) where
   -- a failed write of a front
@@ -73,3 +73,27 @@ module _ {X St E : Type 0} (took : X → St → List ℕ → X → St → Type 0
   feeds_mapped f x y s t before after before' after' (Ok v) p q w =
       record { front = w.front; taken = w.taken; leaves = λ rest. p rest ∙ (w.leaves (f rest) ∙ ap (λ l. w.front ++ l) (sym (q rest))) }
   feeds_mapped f x y s t before after before' after' (Err e) p q w = λ rest. rw (p rest) (w (f rest))
+
+  -- ---- a level fed in a loop
+
+  pub owes_all : (x : X) (s : St) (whole : List ℕ) → took x s [] x s → Owes took x s whole whole x s
+  owes_all x s whole n = record { front = []; taken = n; splits = refl }
+
+  pub owes_fed : {R : Type 0} (x y z : X) (s t u : St) (whole : List ℕ) (before after : R → List ℕ) (rest : R)
+      → ((y z : X) (t u : St) (b c : List ℕ) → took x s b y t → took y t c z u → took x s (b ++ c) z u)
+      → Owes took x s whole (before rest) y t → Brings took y t before after z u → Owes took x s whole (after rest) z u
+  owes_fed x y z s t u whole before after rest both o w = record {
+    front = o.front ++ w.front;
+    taken = both y z t u o.front w.front o.taken w.taken;
+    splits = o.splits ∙ (ap (λ l. o.front ++ l) (w.leaves rest) ∙ sym (append_assoc o.front w.front (after rest)));
+  }
+
+  pub owes_fails : (x y z : X) (s t u : St) (whole rest : List ℕ) (e : E)
+      → ((y z : X) (t u : St) (b c : List ℕ) → took x s b y t → took y t c z u → took x s (b ++ c) z u)
+      → Owes took x s whole rest y t → WriteFails took refused y t rest e z u → WriteFails took refused x s whole e z u
+  owes_fails x y z s t u whole rest e both o f = rw o.splits (fails_after x y z s t u o.front rest e both o.taken f)
+
+  pub owes_written : {O : Type 0} (x y z : X) (s t u : St) (whole rest : List ℕ) (r : Result O E)
+      → ((y z : X) (t u : St) (b c : List ℕ) → took x s b y t → took y t c z u → took x s (b ++ c) z u)
+      → Owes took x s whole rest y t → Writes took refused y t rest r z u → Writes took refused x s whole r z u
+  owes_written x y z s t u whole rest r both o w = rw o.splits (writes_after x y z s t u o.front rest r both o.taken w)

@@ -2,7 +2,7 @@
 use Rattle.std.specs.Prelude.{ℕ, ◌+◌, List, [], ◌∷◌}
 use Rattle.icu_levels.specs.declared.rows.Row.{Row}
 use Rattle.icu_levels.specs.Rows.{lower_first_case_row, upper_first_case_row}
-use Rattle.icu_levels.specs.Cases.{lower_first_nibbles, upper_first_nibbles}
+use Rattle.icu_levels.specs.Cases.{lower_first_nibbles, upper_first_nibbles, lower_first_case_level, upper_first_case_level}
 use Rattle.icu_keys.specs.declared.cases.LetterCase.{LetterCase}
 use Rattle.icu_keys.specs.declared.cases.LetterCase.TheVariants.{Lower, Mixed, Upper}
 use Rattle.icu_keys.specs.declared.cases.CaseForm.{CaseForm}
@@ -30,3 +30,8 @@ case_spelling UpperFirst rank = (1 + rank) ∷ []
 abbrev pub case_nibbles : CaseForm → List ℕ → List ℕ
 case_nibbles LowerFirst = lower_first_nibbles
 case_nibbles UpperFirst = upper_first_nibbles
+
+-- the bytes of a level
+abbrev pub case_level : CaseForm → List ℕ → List ℕ
+case_level LowerFirst = lower_first_case_level
+case_level UpperFirst = upper_first_case_level

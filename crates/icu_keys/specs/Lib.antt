@@ -12,3 +12,6 @@ pub mod IdenticalWriters
 pub mod PrimaryWriters
 pub mod CaseWeights
 pub mod CaseWriters
+pub mod BackwardWriters
+pub mod Accumulated
+pub mod HeldLevels

@@ -5,9 +5,12 @@
 //! `icu_levels`, or a beginning of it and the sink's own error.
 #![tactic(auto)]
 
+pub mod accumulator;
+pub mod backward;
 pub mod cases;
 mod differences;
 pub mod error;
+pub mod held;
 pub mod identical;
 mod list_sinks;
 mod nibbles;

@@ -1,6 +1,6 @@
 //! The quaternary level, written as it is fed.
 
-ghost use Rattle.std.specs.Prelude.{◌≡◌, ℕ, ◌+◌, ◌≤◌, ◌^◌, List, [], ◌∷◌};
+ghost use Rattle.std.specs.Prelude.{◌≡◌, ◌↔◌, IsTrue, ℕ, ◌+◌, ◌≤◌, ◌^◌, List, [], ◌∷◌};
 ghost use Rattle.icu_levels.specs.Quaternaries.{quaternary_level};
 ghost use Rattle.icu_keys.specs.QuaternaryWeights.{weight_of};
 ghost use Rattle.icu_keys.specs.Writes.{Writes, Feeds};
@@ -26,6 +26,27 @@ pub enum QuaternaryWeight {
     Bits(u8),
     /// The primary of a shifted element, after reordering.
     Shifted(u32),
+}
+
+impl QuaternaryWeight {
+    /// Whether it is the common weight.
+    pub fn is_common(self) -> bool
+        ensures { IsTrue result ↔ (weight_of self ≡ 2 ^ 32) }
+    {
+        match self {
+            QuaternaryWeight::Bits(bits) => bits == 0,
+            QuaternaryWeight::Shifted(_) => false,
+        }
+    }
+}
+
+/// Whether variable elements may be shifted (UTS #10, section 4).
+#[derive(Clone, Copy, Debug, PartialEq, Eq)]
+pub enum QuaternaryForm {
+    /// They may.
+    MayShift,
+    /// None is, and common weights alone are written as nothing.
+    Unshifted,
 }
 
 /// Writes the quaternary level of a text.
