@@ -8,3 +8,4 @@ pub mod IdenticalSteps
 pub mod PrimarySteps
 pub mod CaseSteps
 pub mod SegmentLemmas
+pub mod HeldLemmas
