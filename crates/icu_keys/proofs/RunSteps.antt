@@ -16,15 +16,15 @@ pub short_less : (r : Row) (n m : ℕ) → n ≡ suc m → n ≤ r.count → (r.
 short_less r n m e l =
     ap (λ k. (r.low + k) ∷ []) (first n m e)
     ∙ (sym (ap (λ q. replicate q r.middle ++ (r.low + m % r.count) ∷ []) (div-eq_of_lt (below n m r.count e l))
-      ∙ ap (λ k. (r.low + k) ∷ []) (mod-eq_of_lt (below n m r.count e l)))
-      ∙ ap (run_before_less r) (sym e))
+    ∙ ap (λ k. (r.low + k) ∷ []) (mod-eq_of_lt (below n m r.count e l)))
+    ∙ ap (run_before_less r) (sym e))
 
 pub short_more : (r : Row) (n m : ℕ) → n ≡ suc m → n ≤ r.count → (r.high - (n - 1)) ∷ [] ≡ run_before_more r n
 short_more r n m e l =
     ap (λ k. (r.high - k) ∷ []) (first n m e)
     ∙ (sym (ap (λ q. replicate q r.middle ++ (r.high - m % r.count) ∷ []) (div-eq_of_lt (below n m r.count e l))
-      ∙ ap (λ k. (r.high - k) ∷ []) (mod-eq_of_lt (below n m r.count e l)))
-      ∙ ap (run_before_more r) (sym e))
+    ∙ ap (λ k. (r.high - k) ∷ []) (mod-eq_of_lt (below n m r.count e l)))
+    ∙ ap (run_before_more r) (sym e))
 
 -- both kinds of run begin with a middle byte for a full count
 quotient_step : (c k : ℕ) → 0 < c → (c + k) / c ≡ suc (k / c)
@@ -54,8 +54,8 @@ full_level r spell k n (w ∷ ws) h e =
     either_way (w == r.common) r.middle _ _ _ _
     (full_level r spell (suc k) (suc n) ws h (omega arith))
     (ap (λ bs. bs ++ (spell w ++ level_bytes r spell 0 ws)) (either_way (nat_lt w r.common) r.middle _ _ _ _
-      (ap (λ m. run_before_less r (suc m)) e ∙ full_less r k h)
-      (ap (λ m. run_before_more r (suc m)) e ∙ full_more r k h)))
+    (ap (λ m. run_before_less r (suc m)) e ∙ full_less r k h)
+    (ap (λ m. run_before_more r (suc m)) e ∙ full_more r k h)))
 
 -- a weight that is not common ends the run and is spelled
 pub other_level : (r : Row) (spell : ℕ → List ℕ) (n w k : ℕ) (ws last spelled : List ℕ) → w ≢ r.common → last ≡ run_before r n w → spell w ≡ spelled → k ≡ 0

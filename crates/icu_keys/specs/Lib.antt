@@ -15,3 +15,4 @@ pub mod CaseWriters
 pub mod BackwardWriters
 pub mod Accumulated
 pub mod HeldLevels
+pub mod WorkedCompression

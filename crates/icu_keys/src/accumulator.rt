@@ -36,7 +36,8 @@ impl AnyQuaternaryAccumulator {
         ensures { self.new ≡ (self.old || has_quaternary_bits non_primary) }
     {
         let bits = non_primary.tertiary_case_quarternary(0xC0);
-        self.any = self.any || bits != 0;
+        let any = &mut self.any;
+        *any = *any || bits != 0;
     }
 
     /// Whether an accumulated element had quaternary bits.

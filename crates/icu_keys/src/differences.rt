@@ -93,7 +93,11 @@ pub(crate) fn spelled(difference: u32) -> DifferenceBytes
     } else if e < SHIFT + 10_668 {
         DifferenceBytes::two((210 + e / TAILS - TAILS * TAILS) as u8, lowest(e))
     } else if e < SHIFT + 192_786 {
-        DifferenceBytes::three((252 + e / TAILS / TAILS - TAILS) as u8, middle(e), lowest(e))
+        DifferenceBytes::three(
+            (252 + e / TAILS / TAILS - TAILS) as u8,
+            middle(e),
+            lowest(e),
+        )
     } else {
         DifferenceBytes::four(255, highest(e), middle(e), lowest(e))
     }

@@ -27,3 +27,6 @@ mod writes;
 pub use error::SortKeyError;
 pub use sink::CollationKeySink;
 pub use slice_sink::TooSmall;
+
+#[cfg(test)]
+mod tests;

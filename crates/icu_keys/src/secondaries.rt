@@ -60,7 +60,11 @@ impl SecondaryWriter {
     }
 
     /// Writes what is left at the end of the level. An error is the sink's own.
-    pub fn close<S: CollationKeySink>(self, sink: &mut S, state: &mut S::State) -> Result<(), S::Error>
+    pub fn close<S: CollationKeySink>(
+        self,
+        sink: &mut S,
+        state: &mut S::State,
+    ) -> Result<(), S::Error>
         requires { S.is_sound sink.old state.old }
         ensures sound { S.is_sound sink.new state.new }
         ensures bytes { Writes S.took S.refused sink.old state.old (secondary_rest self []) result sink.new state.new }

@@ -30,9 +30,9 @@ loop-left-preserved g c =
       sound = c.in_ok-push.ensures.sound;
       within = omega (arith, length-take-le n c.loop-left.left.now (omega arith), c.loop-left.invariant.within);
       owes = owes_fed g.S.CollationKeySink.took g.S.CollationKeySink.refused _ _ _ _ _ _ _
-        (λ ws. secondary_rest c.loop-left.writer (get_or c.loop-left.left.now n 0 ∷ ws)) (secondary_rest c.push.new.self) (reverse (take n c.loop-left.left.now))
-        (λ y z t u b d. g.met.S.CollationKeySink.took_both _ y z _ t u b d c.requires)
-        owes c.in_ok-push.ensures.bytes;
+          (λ ws. secondary_rest c.loop-left.writer (get_or c.loop-left.left.now n 0 ∷ ws)) (secondary_rest c.push.new.self) (reverse (take n c.loop-left.left.now))
+          (λ y z t u b d. g.met.S.CollationKeySink.took_both _ y z _ t u b d c.requires)
+          owes c.in_ok-push.ensures.bytes;
     }
 
 pub returns-clause-bytes : goal.returns-clause-bytes

@@ -10,6 +10,6 @@ returns-then-new-dropped-clause-bytes g c =
     let e = c.to_be_bytes-bytes.ensures in
     writes_same g.S.CollationKeySink.took g.S.CollationKeySink.refused _ _ _ _ _ _ _
     (same_lead c.args.dropped p (lead_first p c.args.dropped c.ranges.primary.fits (sym (ap (λ bs. get_or bs 0 0) e) ∙ c.if-new-dropped.true))
-      ∙ (ap without_last_zeros (below_lead_digits p)
-      ∙ (ap (λ bs. without_last_zeros (take 3 (drop 1 bs))) (sym e) ∙ sym c.trimmed.ensures)))
+    ∙ (ap without_last_zeros (below_lead_digits p)
+    ∙ (ap (λ bs. without_last_zeros (take 3 (drop 1 bs))) (sym e) ∙ sym c.trimmed.ensures)))
     (writes_one g.S.CollationKeySink.took g.S.CollationKeySink.refused _ _ _ _ _ _ (g.met.S.CollationKeySink.took_nothing _ _ c.requires) c.write.ensures.outcome)

@@ -17,9 +17,9 @@ returns-in_err-write-clause-bytes g c =
     let rest = case_rest c.args.self.writer [] in
     let refused = subst (λ (l : List ℕ). g.S.CollationKeySink.refused c.args.sink.now c.args.state.now l e c.write.new.self c.write.new.state) c.as_slice.ensures c.in_err-write.ensures.outcome in
     let fails = fails_front g.S.CollationKeySink.took g.S.CollationKeySink.refused c.args.sink.now c.write.new.self c.args.state.now c.write.new.state items rest e
-      (fails_one g.S.CollationKeySink.took g.S.CollationKeySink.refused c.args.sink.now c.write.new.self c.args.state.now c.write.new.state items e (g.met.S.CollationKeySink.took_nothing _ _ c.requires) refused) in
+    (fails_one g.S.CollationKeySink.took g.S.CollationKeySink.refused c.args.sink.now c.write.new.self c.args.state.now c.write.new.state items e (g.met.S.CollationKeySink.took_nothing _ _ c.requires) refused) in
     rw (p.1, p.2) (subst (λ (l : List ℕ). WriteFails g.S.CollationKeySink.took g.S.CollationKeySink.refused c.args.sink.now c.args.state.now l e c.write.new.self c.write.new.state)
-      (sym (held_bytes c.args.self.vanishes (is_only (case_row (holds_cases c.args.self)).common []) (items ++ rest) c.if-self.false)) fails)
+    (sym (held_bytes c.args.self.vanishes (is_only (case_row (holds_cases c.args.self)).common []) (items ++ rest) c.if-self.false)) fails)
 
 pub returns-clause-bytes : goal.returns-clause-bytes
 returns-clause-bytes g c =
@@ -29,5 +29,5 @@ returns-clause-bytes g c =
     writes_same g.S.CollationKeySink.took g.S.CollationKeySink.refused _ _ _ _ _ (items ++ rest) _
     (held_bytes c.args.self.vanishes (is_only (case_row (holds_cases c.args.self)).common []) (items ++ rest) c.if-self.false)
     (writes_after g.S.CollationKeySink.took g.S.CollationKeySink.refused _ _ _ _ _ _ items rest _
-      (λ y z t u b d. g.met.S.CollationKeySink.took_both _ y z _ t u b d c.requires)
-      taken c.close.ensures.bytes)
+    (λ y z t u b d. g.met.S.CollationKeySink.took_both _ y z _ t u b d c.requires)
+    taken c.close.ensures.bytes)

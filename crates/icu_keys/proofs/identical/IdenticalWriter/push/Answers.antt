@@ -17,7 +17,7 @@ returns-else-number-eq65534-clause-bytes g c =
     let bytes = take c.spelled-difference.result.length c.spelled-difference.result.bytes in
     feeds_writes g.S.CollationKeySink.took g.S.CollationKeySink.refused _ _ _ _ bytes _ _ _
     (λ cs. other_step n c.args.character c.next_base-self.result cs bytes
-      (λ same. c.if-number-eq65534.false (e ∙ same))
-      (c.spelled-difference.ensures ∙ ap (λ k. difference_bytes (k + 253 ^ 3 - n)) e)
-      (c.next_base-self.ensures ∙ ap base_after e))
+    (λ same. c.if-number-eq65534.false (e ∙ same))
+    (c.spelled-difference.ensures ∙ ap (λ k. difference_bytes (k + 253 ^ 3 - n)) e)
+    (c.next_base-self.ensures ∙ ap base_after e))
     (writes_one g.S.CollationKeySink.took g.S.CollationKeySink.refused _ _ _ _ _ _ (g.met.S.CollationKeySink.took_nothing _ _ c.requires) c.write.ensures.outcome)

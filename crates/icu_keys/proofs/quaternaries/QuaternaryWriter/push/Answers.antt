@@ -30,9 +30,9 @@ returns-then-primary-lt452984832-clause-bytes g c =
     feeds_weight g.S.CollationKeySink.took g.S.CollationKeySink.refused _ _ _ _ quaternary_row quaternary_bytes _ _ (weight_of c.args.weight) c.from-weight_in_row.result _
     (ap weight_of c.in-Shifted.is ∙ sym c.from-weight_in_row.ensures)
     (c.write_other-then-primary-lt452984832.ensures.bytes quaternary_bytes
-      (ap quaternary_bytes c.from-weight_in_row.ensures
-      ∙ (low_spelled p c.if-primary-lt452984832.true
-      ∙ (ap without_last_zeros (digits_four p (omega arith) ∙ sym c.to_be_bytes-bytes.ensures) ∙ sym c.trimmed.ensures))))
+    (ap quaternary_bytes c.from-weight_in_row.ensures
+    ∙ (low_spelled p c.if-primary-lt452984832.true
+    ∙ (ap without_last_zeros (digits_four p (omega arith) ∙ sym c.to_be_bytes-bytes.ensures) ∙ sym c.trimmed.ensures))))
 
 pub returns-else-primary-lt452984832-clause-bytes : goal.returns-else-primary-lt452984832-clause-bytes
 returns-else-primary-lt452984832-clause-bytes g c =
@@ -40,6 +40,6 @@ returns-else-primary-lt452984832-clause-bytes g c =
     feeds_weight g.S.CollationKeySink.took g.S.CollationKeySink.refused _ _ _ _ quaternary_row quaternary_bytes _ _ (weight_of c.args.weight) c.from-weight_in_row.result _
     (ap weight_of c.in-Shifted.is ∙ sym c.from-weight_in_row.ensures)
     (c.write_other-else-primary-lt452984832.ensures.bytes quaternary_bytes
-      (ap quaternary_bytes c.from-weight_in_row.ensures
-      ∙ (high_spelled p c.if-primary-lt452984832.false (omega arith)
-      ∙ (ap (λ bs. without_last_zeros (0x1B ∷ get_or bs 0 0 ∷ get_or bs 1 0 ∷ get_or bs 2 0 ∷ get_or bs 3 0 ∷ [])) (sym c.to_be_bytes-bytes.ensures) ∙ sym c.trimmed-else-primary-lt452984832.ensures))))
+    (ap quaternary_bytes c.from-weight_in_row.ensures
+    ∙ (high_spelled p c.if-primary-lt452984832.false (omega arith)
+    ∙ (ap (λ bs. without_last_zeros (0x1B ∷ get_or bs 0 0 ∷ get_or bs 1 0 ∷ get_or bs 2 0 ∷ get_or bs 3 0 ∷ [])) (sym c.to_be_bytes-bytes.ensures) ∙ sym c.trimmed-else-primary-lt452984832.ensures))))

@@ -17,4 +17,4 @@ returns-else-weight_in_row-clause-bytes g c =
     feeds_weight g.S.CollationKeySink.took g.S.CollationKeySink.refused _ _ _ _ secondary_row (weight_bytes 2) _ _ c.args.weight w _
     (sym c.from-weight_in_row.ensures)
     (c.write_other.ensures.bytes (weight_bytes 2)
-      (ap (weight_bytes 2) c.from-weight_in_row.ensures ∙ (ap without_last_zeros (digits_two c.args.weight c.ranges.weight.fits ∙ sym c.to_be_bytes-bytes.ensures) ∙ sym c.trimmed.ensures)))
+    (ap (weight_bytes 2) c.from-weight_in_row.ensures ∙ (ap without_last_zeros (digits_two c.args.weight c.ranges.weight.fits ∙ sym c.to_be_bytes-bytes.ensures) ∙ sym c.trimmed.ensures)))

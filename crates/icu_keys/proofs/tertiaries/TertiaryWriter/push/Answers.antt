@@ -24,5 +24,5 @@ returns-else-weight_in_row-row-clause-bytes g c =
     (sym c.row-row.ensures)
     (sym c.from-weight_in_row.ensures)
     (c.write_other.ensures.bytes (tertiary_bytes form)
-      (ap (tertiary_bytes form) c.from-weight_in_row.ensures
-      ∙ (ap without_last_zeros (digits_two v c.requires.fits ∙ (ap (to_be_bytes w16) (sym c.moved.ensures) ∙ sym c.to_be_bytes-bytes.ensures)) ∙ sym c.trimmed.ensures)))
+    (ap (tertiary_bytes form) c.from-weight_in_row.ensures
+    ∙ (ap without_last_zeros (digits_two v c.requires.fits ∙ (ap (to_be_bytes w16) (sym c.moved.ensures) ∙ sym c.to_be_bytes-bytes.ensures)) ∙ sym c.trimmed.ensures)))
