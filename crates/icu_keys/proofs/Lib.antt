@@ -1,0 +1,11 @@
+pub mod Writing
+pub mod RunSteps
+pub mod TrimmedLemmas
+pub mod BytesLemmas
+pub mod LevelWriting
+pub mod QuaternaryLemmas
+pub mod IdenticalSteps
+pub mod PrimarySteps
+pub mod CaseSteps
+pub mod SegmentLemmas
+pub mod HeldLemmas

@@ -1,0 +1,11 @@
+use Rattle.std.proofs.Common.{◌∙◌, refl, option_to_list}
+use Rattle.icu_levels.specs.Runs.{level_bytes}
+use Rattle.icu_levels.proofs.LevelOrder.{level_common}
+use Rattle.icu_keys.proofs.Writing.{feeds_writes}
+use Rattle.icu_keys.proofs.run.Run.write_common.Goals as goal
+
+pub returns-clause-bytes : goal.returns-clause-bytes
+returns-clause-bytes g c = λ spell.
+    feeds_writes g.S.CollationKeySink.took g.S.CollationKeySink.refused _ _ _ _ (option_to_list c.count-due.result) _ _ _
+    (λ ws. level_common c.args.row.now spell c.args.self.now.length c.args.row.now.common ws refl ∙ c.count-due.ensures.bytes spell ws)
+    c.write_optional.ensures.bytes

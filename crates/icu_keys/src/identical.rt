@@ -1,0 +1,69 @@
+//! The identical level, written as it is fed.
+
+ghost use Rattle.std.specs.Prelude.{◌≡◌, ℕ, ◌<◌, List, ◌∷◌};
+ghost use Rattle.icu_levels.specs.Identical.{base_after, identical_level};
+ghost use Rattle.icu_keys.specs.Writes.{Feeds};
+
+use crate::differences::{SHIFT, spelled};
+use crate::sink::CollationKeySink;
+
+/// The base of the first character, and of the one after U+FFFE.
+const FIRST_BASE: u32 = 80;
+
+// The base after a character other than U+FFFE: one for all from U+4E00 to U+A000, else the middle of the character's
+// 128.
+fn next_base(character: u32) -> u32
+    requires { character < 0x110000 }
+    ensures { result ≡ base_after character }
+{
+    if character < 0x4E00 {
+        character / 128 * 128 + 80
+    } else if character <= 0xA000 {
+        30292
+    } else {
+        character / 128 * 128 + 80
+    }
+}
+
+/// Writes the identical level of a text: its decomposed characters, each by its difference from a base that the
+/// character before it sets, and U+FFFE as 02 (UTS #10, section 4.3; UTS #35 part 5 on U+FFFE).
+///
+/// It is fed the characters one at a time. Nothing is left to write at the end.
+#[derive(Clone, Copy, Debug, Drop)]
+pub struct IdenticalWriter {
+    base: u32,
+    ghost bounded: { base < 0x110100 },
+}
+
+impl IdenticalWriter {
+    ghost use Rattle.icu_keys.specs.IdenticalWriters.{identical_rest};
+
+    /// The writer of a level, with nothing written.
+    pub fn new() -> Self
+        ensures { (cs : List ℕ) → identical_rest result cs ≡ identical_level cs }
+    {
+        IdenticalWriter { base: FIRST_BASE }
+    }
+
+    /// Takes the next character, and writes its bytes. An error is the sink's own.
+    pub fn push<S: CollationKeySink>(
+        &mut self,
+        sink: &mut S,
+        state: &mut S::State,
+        character: char,
+    ) -> Result<(), S::Error>
+        requires { S.is_sound sink.old state.old }
+        ensures sound { S.is_sound sink.new state.new }
+        ensures bytes { Feeds S.took S.refused sink.old state.old (λ cs. identical_rest self.old (character ∷ cs)) (identical_rest self.new) result sink.new state.new }
+    {
+        let number = u32::from(character);
+        if number == 0xFFFE {
+            self.base = FIRST_BASE;
+            sink.write_byte(state, 2)
+        } else {
+            let difference = spelled(number + SHIFT - self.base);
+            self.base = next_base(number);
+            sink.write(state, &difference.bytes[..difference.length])
+        }
+    }
+}

@@ -1,0 +1,32 @@
+//! Sort keys as bytes: where they go, and the writers of each level, over any sink.
+//!
+//! The crate knows no text and no table. A writer is fed the weights of one level one at a time and hands their bytes
+//! to a sink, which says by ghost members what it took; each writer's contract says that this is the level of
+//! `icu_levels`, or a beginning of it and the sink's own error.
+#![tactic(auto)]
+
+pub mod accumulator;
+pub mod backward;
+pub mod cases;
+mod differences;
+pub mod error;
+pub mod held;
+pub mod identical;
+mod list_sinks;
+mod nibbles;
+pub mod primaries;
+pub mod quaternaries;
+pub mod run;
+pub mod secondaries;
+pub mod sink;
+pub mod slice_sink;
+pub mod tertiaries;
+pub mod weight_bytes;
+mod writes;
+
+pub use error::SortKeyError;
+pub use sink::CollationKeySink;
+pub use slice_sink::TooSmall;
+
+#[cfg(test)]
+mod tests;

@@ -1,0 +1,112 @@
+//! Lists as sinks: a key is appended to what they hold. A refused write changes nothing.
+
+ghost use Rattle.std.specs.Prelude.{◌≡◌, ◌++◌, IsOk};
+ghost use Rattle.icu_keys.specs.ListSinkLaws.{appended_nothing, appended_both, refused_beginning};
+
+use crate::sink::CollationKeySink;
+use smallvec::SmallVec;
+use std::alloc::AllocError;
+use std::collections::VecDeque;
+
+/// Appends to the vector.
+impl CollationKeySink for Vec<u8> {
+    type Error = AllocError;
+
+    type State = ();
+
+    type Output = ();
+
+    ghost is_sound = { λ _ _. Unit {0} };
+
+    ghost took = { λ x _ b y _. y.items ≡ x.items ++ b };
+
+    ghost refused = { λ x _ _ _ y _. y.items ≡ x.items };
+
+    ghost finished = { λ x _ r y. IsOk r × (y ≡ x) };
+
+    ghost starts_sound = { λ _ _ _. tt };
+
+    ghost took_nothing = { λ x _ _. appended_nothing x.items };
+
+    ghost took_both = { λ x y z _ _ _ b c _ p q. appended_both x.items y.items z.items b c p q };
+
+    ghost refused_took = { λ x y _ _ b _ _ p. refused_beginning x.items y.items b p };
+
+    fn write(&mut self, _state: &mut (), buf: &[u8]) -> Result<(), AllocError> {
+        self.extend_from_slice(buf)
+    }
+
+    fn finish(&mut self, _state: ()) -> Result<(), AllocError> {
+        Ok(())
+    }
+}
+
+/// Appends to the inline vector.
+impl<const N: usize> CollationKeySink for SmallVec<u8, N> {
+    type Error = AllocError;
+
+    type State = ();
+
+    type Output = ();
+
+    ghost is_sound = { λ _ _. Unit {0} };
+
+    ghost took = { λ x _ b y _. y.items ≡ x.items ++ b };
+
+    ghost refused = { λ x _ _ _ y _. y.items ≡ x.items };
+
+    ghost finished = { λ x _ r y. IsOk r × (y ≡ x) };
+
+    ghost starts_sound = { λ _ _ _. tt };
+
+    ghost took_nothing = { λ x _ _. appended_nothing x.items };
+
+    ghost took_both = { λ x y z _ _ _ b c _ p q. appended_both x.items y.items z.items b c p q };
+
+    ghost refused_took = { λ x y _ _ b _ _ p. refused_beginning x.items y.items b p };
+
+    fn write(&mut self, _state: &mut (), buf: &[u8]) -> Result<(), AllocError> {
+        self.extend_from_slice(buf)
+    }
+
+    fn finish(&mut self, _state: ()) -> Result<(), AllocError> {
+        Ok(())
+    }
+}
+
+/// Appends to the back of the deque.
+impl CollationKeySink for VecDeque<u8> {
+    type Error = AllocError;
+
+    type State = ();
+
+    type Output = ();
+
+    ghost is_sound = { λ _ _. Unit {0} };
+
+    ghost took = { λ x _ b y _. y.items ≡ x.items ++ b };
+
+    ghost refused = { λ x _ _ _ y _. y.items ≡ x.items };
+
+    ghost finished = { λ x _ r y. IsOk r × (y ≡ x) };
+
+    ghost starts_sound = { λ _ _ _. tt };
+
+    ghost took_nothing = { λ x _ _. appended_nothing x.items };
+
+    ghost took_both = { λ x y z _ _ _ b c _ p q. appended_both x.items y.items z.items b c p q };
+
+    ghost refused_took = { λ x y _ _ b _ _ p. refused_beginning x.items y.items b p };
+
+    fn write(&mut self, _state: &mut (), buf: &[u8]) -> Result<(), AllocError> {
+        self.reserve(buf.len())?;
+        for byte in buf {
+            self.push_back_reserved(*byte);
+        }
+        Ok(())
+    }
+
+    fn finish(&mut self, _state: ()) -> Result<(), AllocError> {
+        Ok(())
+    }
+}

@@ -1,0 +1,109 @@
+//! The primary level, compressed and reordered, written as it is fed.
+
+ghost use Rattle.std.specs.Prelude.{◌≡◌, ℕ, List, ◌∷◌, option_to_list};
+ghost use Rattle.icu_levels.specs.Primaries.{Compression, lead, lead_change, dropped_after, primary_bytes, primary_level};
+ghost use Rattle.icu_keys.specs.Writes.{Writes, Feeds};
+
+use crate::sink::CollationKeySink;
+use crate::weight_bytes::trimmed;
+use crate::writes::write_after;
+
+/// How primaries are written: what reordering makes of each, and the weights of which leads are compressed (UTS #35
+/// part 5 on script reordering and on sort key compression).
+pub trait PrimaryCompression {
+    /// The two functions.
+    ghost compression: { Self → Compression };
+
+    /// The primary weight after reordering.
+    fn reorder(&self, primary: u32) -> u32
+        ensures { result ≡ (compression self.now).reorder primary };
+
+    /// Whether weights of this lead, before reordering, drop their reordered lead where they stand one after another.
+    fn is_compressible(&self, lead: u8) -> bool
+        ensures { result ≡ (compression self.now).is_compressible lead };
+}
+
+// What a weight with another lead than the dropped one writes first: 03 before a lesser lead, FF before a greater one,
+// nothing where no lead is dropped and before the merge separator, whose lead is 02.
+fn change_of_lead(dropped: u8, new: u8) -> Option<u8>
+    ensures { option_to_list result ≡ lead_change dropped new }
+{
+    if dropped == 0 || new == 2 {
+        None
+    } else if new < dropped {
+        Some(0x03)
+    } else {
+        Some(0xFF)
+    }
+}
+
+// The lead that is dropped after a weight, 0 for none. Whether it is compressible is asked of the lead before
+// reordering.
+fn lead_to_drop<C: PrimaryCompression>(compression: &C, weight: u32, reordered: u32) -> u8
+    requires { reordered ≡ (C.compression compression.now).reorder weight }
+    ensures { result ≡ dropped_after (C.compression compression.now) weight }
+{
+    if compression.is_compressible((weight >> 24) as u8) {
+        (reordered >> 24) as u8
+    } else {
+        0
+    }
+}
+
+// Writes a reordered primary after weights whose lead is dropped.
+fn write_primary<S: CollationKeySink>(
+    sink: &mut S,
+    state: &mut S::State,
+    dropped: u8,
+    primary: u32,
+) -> Result<(), S::Error>
+    requires { S.is_sound sink.old state.old }
+    ensures sound { S.is_sound sink.new state.new }
+    ensures bytes { Writes S.took S.refused sink.old state.old (primary_bytes dropped primary) result sink.new state.new }
+{
+    let bytes = primary.to_be_bytes();
+    let new = bytes[0];
+    if new == dropped {
+        sink.write(state, trimmed(&bytes[1..]))
+    } else {
+        write_after(sink, state, change_of_lead(dropped, new), trimmed(&bytes))
+    }
+}
+
+/// Writes the primary level of a text.
+///
+/// It is fed the nonzero primary weights, as they are before reordering, one at a time. Nothing is left to write at the
+/// end.
+#[derive(Clone, Copy, Debug, Drop)]
+pub struct PrimaryWriter {
+    dropped: u8,
+}
+
+impl PrimaryWriter {
+    ghost use Rattle.icu_keys.specs.PrimaryWriters.{primary_rest};
+
+    /// The writer of a level, with nothing written.
+    pub fn new() -> Self
+        ensures { (c : Compression) (ws : List ℕ) → primary_rest c result ws ≡ primary_level c 0 ws }
+    {
+        PrimaryWriter { dropped: 0 }
+    }
+
+    /// Takes the next weight, as it is before reordering, and writes it. An error is the sink's own.
+    pub fn push<S: CollationKeySink, C: PrimaryCompression>(
+        &mut self,
+        sink: &mut S,
+        state: &mut S::State,
+        compression: &C,
+        weight: u32,
+    ) -> Result<(), S::Error>
+        requires { S.is_sound sink.old state.old }
+        ensures sound { S.is_sound sink.new state.new }
+        ensures bytes { Feeds S.took S.refused sink.old state.old (λ ws. primary_rest (C.compression compression.now) self.old (weight ∷ ws)) (primary_rest (C.compression compression.now) self.new) result sink.new state.new }
+    {
+        let dropped = self.dropped;
+        let reordered = compression.reorder(weight);
+        self.dropped = lead_to_drop(compression, weight, reordered);
+        write_primary(sink, state, dropped, reordered)
+    }
+}
