@@ -10,4 +10,6 @@ mod options;
 #[cfg(test)]
 mod refusals;
 #[cfg(test)]
+mod small_tables;
+#[cfg(test)]
 mod tables;

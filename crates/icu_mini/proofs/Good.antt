@@ -14,7 +14,8 @@ use Rattle.icu_provider.specs.CodePointTables.{stored_value}
 use Rattle.icu_provider.specs.Entries.{kind_of, is_self_contained}
 use Rattle.icu_provider.specs.Live.{live_digit}
 use Rattle.icu_provider.specs.Tables.{Data}
-use Rattle.icu_provider.specs.Conditions.{names_inside, has_digit, leads_on, is_known, all_live_meet, AllMeet}
+use Rattle.icu_provider.specs.EntryConditions.{has_digit, leads_on}
+use Rattle.icu_provider.specs.Conditions.{names_inside, is_known, all_live_meet, AllMeet}
 use Rattle.icu_provider.specs.Roots.{stored_data}
 use Rattle.icu_mini.specs.EntryRange.{Row, covers, entry_at, entry_among}
 use Rattle.icu_mini.specs.Mini.{RootTables, IsMini, IsMiniWith, IsMiniWithSharpS, IsGood, mini_rows, implicit_entry, one, run}
