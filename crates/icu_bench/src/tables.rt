@@ -100,7 +100,11 @@ fn code_point_tables_have_whole_blocks_inside(rt: HostRuntime) -> Result<(), Fai
         let blocks = vec![in rt.alloc(); block; block_count]?;
         let values = vec![in rt.alloc(); 0xCFu32; value_count]?;
         let found = CodePointTable::new(blocks.as_slice(), values.as_slice()).err();
-        assert_eq!(rt; found, refused, "{block_count} blocks of {block}, {value_count} values");
+        assert_eq!(rt;
+            found,
+            refused,
+            "{block_count} blocks of {block}, {value_count} values"
+        );
     }
     Ok(())
 }
@@ -141,16 +145,66 @@ fn contexts_have_ranges_inside_and_ascending_rows(rt: HostRuntime) {
         (context(0, 2), row(0, 1), row(0, 2), None),
         (context(2, 0), row(0, 1), row(1, 1), None),
         (context(2, 0), row(0, 0), row(0, 0), None),
-        (context(0, 3), row(0, 1), row(1, 1), Some(DataErrorKind::Index)),
-        (context(2, 1), row(0, 1), row(1, 1), Some(DataErrorKind::Index)),
-        (context(u32::MAX, u32::MAX), row(0, 1), row(1, 1), Some(DataErrorKind::Index)),
-        (context(0, 1), row(0, 1), row(2, 2), Some(DataErrorKind::Index)),
-        (context(0, 1), row(0, 1), row(u32::MAX, u32::MAX), Some(DataErrorKind::Index)),
-        (context(0, 2), row(0, 0), row(1, 1), Some(DataErrorKind::Context)),
-        (context(0, 2), row(0, 1), row(1, 0), Some(DataErrorKind::Context)),
-        (context(0, 2), row(1, 1), row(0, 1), Some(DataErrorKind::Context)),
-        (context(0, 2), row(1, 1), row(1, 1), Some(DataErrorKind::Context)),
-        (context(0, 2), row(0, 2), row(0, 1), Some(DataErrorKind::Context)),
+        (
+            context(0, 3),
+            row(0, 1),
+            row(1, 1),
+            Some(DataErrorKind::Index),
+        ),
+        (
+            context(2, 1),
+            row(0, 1),
+            row(1, 1),
+            Some(DataErrorKind::Index),
+        ),
+        (
+            context(u32::MAX, u32::MAX),
+            row(0, 1),
+            row(1, 1),
+            Some(DataErrorKind::Index),
+        ),
+        (
+            context(0, 1),
+            row(0, 1),
+            row(2, 2),
+            Some(DataErrorKind::Index),
+        ),
+        (
+            context(0, 1),
+            row(0, 1),
+            row(u32::MAX, u32::MAX),
+            Some(DataErrorKind::Index),
+        ),
+        (
+            context(0, 2),
+            row(0, 0),
+            row(1, 1),
+            Some(DataErrorKind::Context),
+        ),
+        (
+            context(0, 2),
+            row(0, 1),
+            row(1, 0),
+            Some(DataErrorKind::Context),
+        ),
+        (
+            context(0, 2),
+            row(1, 1),
+            row(0, 1),
+            Some(DataErrorKind::Context),
+        ),
+        (
+            context(0, 2),
+            row(1, 1),
+            row(1, 1),
+            Some(DataErrorKind::Context),
+        ),
+        (
+            context(0, 2),
+            row(0, 2),
+            row(0, 1),
+            Some(DataErrorKind::Context),
+        ),
     ] {
         let found = ContextTable::new(&[context], &[first, second], &['a', 'b', 'c']).err();
         assert_eq!(rt; found, refused, "{context:?}, {first:?}, {second:?}");
@@ -181,7 +235,11 @@ fn entries_that_name_nothing(rt: HostRuntime) -> Result<(), Fail> {
         (0x0000_00CA, Some(DataErrorKind::Index)),
         (0x0000_00CE, Some(DataErrorKind::Index)),
     ] {
-        assert_eq!(rt; refusal(rt.alloc(), entry, NO_LISTS)?, refused, "{entry:08X}");
+        assert_eq!(rt;
+            refusal(rt.alloc(), entry, NO_LISTS)?,
+            refused,
+            "{entry:08X}"
+        );
     }
     Ok(())
 }
@@ -224,8 +282,16 @@ fn weights_of_simple_entries(rt: HostRuntime) -> Result<(), Fail> {
         (0x0300_0505, true),
         (0xFFFF_0505, true),
     ] {
-        let refused = if accepted { None } else { Some(DataErrorKind::Element) };
-        assert_eq!(rt; refusal(rt.alloc(), entry, NO_LISTS)?, refused, "{entry:08X}");
+        let refused = if accepted {
+            None
+        } else {
+            Some(DataErrorKind::Element)
+        };
+        assert_eq!(rt;
+            refusal(rt.alloc(), entry, NO_LISTS)?,
+            refused,
+            "{entry:08X}"
+        );
     }
     Ok(())
 }
@@ -252,9 +318,20 @@ fn weights_of_listed_elements(rt: HostRuntime) -> Result<(), Fail> {
         (0x0000_0000_0000_0000, true),
     ] {
         let ces = [element];
-        let lists = Lists { ces: &ces, ..NO_LISTS };
-        let refused = if accepted { None } else { Some(DataErrorKind::Element) };
-        assert_eq!(rt; refusal(rt.alloc(), 0x0000_01C6, lists)?, refused, "{element:016X}");
+        let lists = Lists {
+            ces: &ces,
+            ..NO_LISTS
+        };
+        let refused = if accepted {
+            None
+        } else {
+            Some(DataErrorKind::Element)
+        };
+        assert_eq!(rt;
+            refusal(rt.alloc(), 0x0000_01C6, lists)?,
+            refused,
+            "{element:016X}"
+        );
     }
     Ok(())
 }
@@ -283,7 +360,11 @@ fn lists_have_1_to_31_members_inside(rt: HostRuntime) -> Result<(), Fail> {
             ce32s: &ce32s,
             ..NO_LISTS
         };
-        assert_eq!(rt; refusal(rt.alloc(), entry, lists)?, refused, "{entry:08X} of {ce_count}");
+        assert_eq!(rt;
+            refusal(rt.alloc(), entry, lists)?,
+            refused,
+            "{entry:08X} of {ce_count}"
+        );
     }
     Ok(())
 }
@@ -306,8 +387,15 @@ fn digits_are_at_most_9_and_lead_to_final_entries(rt: HostRuntime) -> Result<(),
         (0x0000_0ACA, 0x6110_3005, Some(DataErrorKind::Digit)),
     ] {
         let ce32s = [plain];
-        let lists = Lists { ce32s: &ce32s, ..NO_LISTS };
-        assert_eq!(rt; refusal(rt.alloc(), entry, lists)?, refused, "{entry:08X} to {plain:08X}");
+        let lists = Lists {
+            ce32s: &ce32s,
+            ..NO_LISTS
+        };
+        assert_eq!(rt;
+            refusal(rt.alloc(), entry, lists)?,
+            refused,
+            "{entry:08X} to {plain:08X}"
+        );
     }
     Ok(())
 }
@@ -319,34 +407,144 @@ fn prefixes_and_contractions_lead_on(rt: HostRuntime) -> Result<(), Fail> {
     for (entry, default, chars_len, row_entry, other, refused) in [
         (0xC8, 0x6110_0505, 1, 0x6210_0505, 0x6310_0505, None),
         (0xC8, 0x6110_0505, 2, 0x6210_0505, 0x6310_0505, None),
-        (0xC8, 0x6110_0505, 3, 0x6210_0505, 0x6310_0505, Some(DataErrorKind::Context)),
+        (
+            0xC8,
+            0x6110_0505,
+            3,
+            0x6210_0505,
+            0x6310_0505,
+            Some(DataErrorKind::Context),
+        ),
         (0xC9, 0x6110_0505, 3, 0x6210_0505, 0x6310_0505, None),
         (0xC8, 0x20C9, 1, 0x20C9, 0x00CA, None),
         (0xC9, 0x00CA, 1, 0x00CA, 0x6310_0505, None),
         (0xC8, 0x00CA, 1, 0x01CA, 0x6310_0505, None),
-        (0xC8, 0x00C8, 1, 0x6210_0505, 0x6310_0505, Some(DataErrorKind::Chain)),
-        (0xC8, 0x6110_0505, 1, 0x20C8, 0x6310_0505, Some(DataErrorKind::Chain)),
-        (0xC9, 0x20C9, 1, 0x6210_0505, 0x6310_0505, Some(DataErrorKind::Chain)),
-        (0xC9, 0x6110_0505, 1, 0x20C8, 0x6310_0505, Some(DataErrorKind::Chain)),
-        (0xC9, 0x6110_0505, 1, 0x20C9, 0x6310_0505, Some(DataErrorKind::Chain)),
-        (0xC8, 0x20C9, 1, 0x6210_0505, 0x20C9, Some(DataErrorKind::Chain)),
-        (0xC8, 0x40C9, 1, 0x6210_0505, 0x6310_0505, Some(DataErrorKind::Index)),
-        (0x40C8, 0x6110_0505, 1, 0x6210_0505, 0x6310_0505, Some(DataErrorKind::Index)),
-        (0xC8, 0x6110_0505, 1, 0x00C0, 0x6310_0505, Some(DataErrorKind::Tag)),
-        (0xC9, 0x6110_0505, 1, 0x6110_3005, 0x6310_0505, Some(DataErrorKind::Element)),
-        (0xC8, 0x20C9, 1, 0x6210_0505, 0x0ACA, Some(DataErrorKind::Digit)),
+        (
+            0xC8,
+            0x00C8,
+            1,
+            0x6210_0505,
+            0x6310_0505,
+            Some(DataErrorKind::Chain),
+        ),
+        (
+            0xC8,
+            0x6110_0505,
+            1,
+            0x20C8,
+            0x6310_0505,
+            Some(DataErrorKind::Chain),
+        ),
+        (
+            0xC9,
+            0x20C9,
+            1,
+            0x6210_0505,
+            0x6310_0505,
+            Some(DataErrorKind::Chain),
+        ),
+        (
+            0xC9,
+            0x6110_0505,
+            1,
+            0x20C8,
+            0x6310_0505,
+            Some(DataErrorKind::Chain),
+        ),
+        (
+            0xC9,
+            0x6110_0505,
+            1,
+            0x20C9,
+            0x6310_0505,
+            Some(DataErrorKind::Chain),
+        ),
+        (
+            0xC8,
+            0x20C9,
+            1,
+            0x6210_0505,
+            0x20C9,
+            Some(DataErrorKind::Chain),
+        ),
+        (
+            0xC8,
+            0x40C9,
+            1,
+            0x6210_0505,
+            0x6310_0505,
+            Some(DataErrorKind::Index),
+        ),
+        (
+            0x40C8,
+            0x6110_0505,
+            1,
+            0x6210_0505,
+            0x6310_0505,
+            Some(DataErrorKind::Index),
+        ),
+        (
+            0xC8,
+            0x6110_0505,
+            1,
+            0x00C0,
+            0x6310_0505,
+            Some(DataErrorKind::Tag),
+        ),
+        (
+            0xC9,
+            0x6110_0505,
+            1,
+            0x6110_3005,
+            0x6310_0505,
+            Some(DataErrorKind::Element),
+        ),
+        (
+            0xC8,
+            0x20C9,
+            1,
+            0x6210_0505,
+            0x0ACA,
+            Some(DataErrorKind::Digit),
+        ),
         // what an entry leads to that it may not lead to is judged itself, and what that leads to isn't
-        (0xC9, 0x40C9, 1, 0x6210_0505, 0x6310_0505, Some(DataErrorKind::Index)),
-        (0xC9, 0x20C9, 1, 0x6210_0505, 0xE1C5, Some(DataErrorKind::Chain)),
+        (
+            0xC9,
+            0x40C9,
+            1,
+            0x6210_0505,
+            0x6310_0505,
+            Some(DataErrorKind::Index),
+        ),
+        (
+            0xC9,
+            0x20C9,
+            1,
+            0x6210_0505,
+            0xE1C5,
+            Some(DataErrorKind::Chain),
+        ),
         // what no entry names isn't judged
         (0x6110_0505, 0x00C8, 3, 0x00C8, 0x00C8, None),
         (0xC9, 0x6110_0505, 1, 0x6210_0505, 0x00C3, None),
     ] {
         let contexts = [
-            Context { default, rows_start: 0, rows_len: 1 },
-            Context { default: other, rows_start: 0, rows_len: 0 },
+            Context {
+                default,
+                rows_start: 0,
+                rows_len: 1,
+            },
+            Context {
+                default: other,
+                rows_start: 0,
+                rows_len: 0,
+            },
         ];
-        let rows = [ContextRow { chars_start: 0, chars_len, entry: row_entry }];
+        let rows = [ContextRow {
+            chars_start: 0,
+            chars_len,
+            entry: row_entry,
+        }];
         let lists = Lists {
             ces: &[],
             ce32s: &[0x1410_0505],
@@ -391,8 +589,18 @@ fn offsets_give_weights_of_three_bytes(rt: HostRuntime) -> Result<(), Fail> {
         let rows = [('\u{3B1}', 0xCE), ('\u{3B2}', 0xCE)];
         let stored = Stored::new(rt.alloc(), &rows, 0xC0)?;
         let ces = [data];
-        let found = refusal_of(&stored, Lists { ces: &ces, ..NO_LISTS });
-        let refused = if accepted { None } else { Some(DataErrorKind::Element) };
+        let found = refusal_of(
+            &stored,
+            Lists {
+                ces: &ces,
+                ..NO_LISTS
+            },
+        );
+        let refused = if accepted {
+            None
+        } else {
+            Some(DataErrorKind::Element)
+        };
         assert_eq!(rt; found, refused, "{data:016X}");
     }
     Ok(())
@@ -408,7 +616,11 @@ fn diacritics_have_secondary_weights(rt: HostRuntime) -> Result<(), Fail> {
         (80, Some(DataErrorKind::Length)),
     ] {
         let secondaries = full.as_slice().get(..count).unwrap_or(&[]);
-        assert_eq!(rt; CollationDiacritics::new(secondaries).err(), refused, "{count}");
+        assert_eq!(rt;
+            CollationDiacritics::new(secondaries).err(),
+            refused,
+            "{count}"
+        );
     }
     for (place, secondary, accepted) in [
         (0, 0x9400u16, true),
@@ -432,7 +644,11 @@ fn diacritics_have_secondary_weights(rt: HostRuntime) -> Result<(), Fail> {
             *changed = secondary;
         }
         let found = CollationDiacritics::new(secondaries.as_slice()).err();
-        let refused = if accepted { None } else { Some(DataErrorKind::Element) };
+        let refused = if accepted {
+            None
+        } else {
+            Some(DataErrorKind::Element)
+        };
         assert_eq!(rt; found, refused, "{secondary:04X} at {place}");
     }
     let table = CollationDiacritics::new(&[0x4600, 0x4700])?;
@@ -476,7 +692,11 @@ fn reorderings_move_lead_bytes(rt: HostRuntime) -> Result<(), Fail> {
     let mut swapped = vec![in rt.alloc(); 0u8; 256]?;
     let mut split = vec![in rt.alloc(); 0u8; 256]?;
     for (place, lead) in split.as_mut_slice().iter_mut().enumerate() {
-        *lead = if place == 0x61 { 0 } else { (place % 256) as u8 };
+        *lead = if place == 0x61 {
+            0
+        } else {
+            (place % 256) as u8
+        };
     }
     if let Some(lead) = swapped.get_mut(0x61) {
         *lead = 0x62;
@@ -486,7 +706,11 @@ fn reorderings_move_lead_bytes(rt: HostRuntime) -> Result<(), Fail> {
     }
     let swap = CollationReordering::new(0, swapped.as_slice(), &[])?;
     let split_a = CollationReordering::new(0x6200_0000, split.as_slice(), &[0x6140_002F])?;
-    let split_more = CollationReordering::new(0x6180_0000, split.as_slice(), &[0x6120_00FF, 0x6140_0001])?;
+    let split_more = CollationReordering::new(
+        0x6180_0000,
+        split.as_slice(),
+        &[0x6120_00FF, 0x6140_0001],
+    )?;
     let zeros = vec![in rt.alloc(); 0u8; 256]?;
     let wrapped = CollationReordering::new(u32::MAX, zeros.as_slice(), &[0xFFFF_FFA0])?;
     let rows = [
@@ -510,21 +734,13 @@ fn reorderings_move_lead_bytes(rt: HostRuntime) -> Result<(), Fail> {
         (0x6180_0000, 0x6180_0000),
     ];
     assert_eq!(rt; first_moved_elsewhere(split_more, &rows), None);
-    let rows = [
-        (0, 0),
-        (1, 1),
-        (2, 0xA000_0002),
-        (0x6110_0000, 0x0110_0000),
-    ];
+    let rows = [(0, 0), (1, 1), (2, 0xA000_0002), (0x6110_0000, 0x0110_0000)];
     assert_eq!(rt; first_moved_elsewhere(wrapped, &rows), None);
     Ok(())
 }
 
 // The first of these primary weights that isn't reordered to the one beside it.
-fn first_moved_elsewhere(
-    reordering: CollationReordering<'_>,
-    rows: &[(u32, u32)],
-) -> Option<u32> {
+fn first_moved_elsewhere(reordering: CollationReordering<'_>, rows: &[(u32, u32)]) -> Option<u32> {
     for (primary, reordered) in rows {
         if reordering.reorder(*primary) != *reordered {
             return Some(*primary);
@@ -539,9 +755,21 @@ fn special_primaries_end_groups(rt: HostRuntime) -> Result<(), Fail> {
     for (numbers, numeric, refused) in [
         (four, 0x0F, None),
         ([0x0400, 0x0600, 0x0900, 0x0F00], 0x0F, None),
-        ([0x0400, 0x0600, 0x0900, 0x0F01], 0x0F, Some(DataErrorKind::SpecialPrimary)),
-        ([0x0F01, 0x0600, 0x0900, 0x0E00], 0x0F, Some(DataErrorKind::SpecialPrimary)),
-        ([0, 0x0600, 0x0900, 0x0E00], 0x0F, Some(DataErrorKind::SpecialPrimary)),
+        (
+            [0x0400, 0x0600, 0x0900, 0x0F01],
+            0x0F,
+            Some(DataErrorKind::SpecialPrimary),
+        ),
+        (
+            [0x0F01, 0x0600, 0x0900, 0x0E00],
+            0x0F,
+            Some(DataErrorKind::SpecialPrimary),
+        ),
+        (
+            [0, 0x0600, 0x0900, 0x0E00],
+            0x0F,
+            Some(DataErrorKind::SpecialPrimary),
+        ),
         ([1, 2, 3, 4], 0x0F, None),
         ([1, 2, 3, 0], 0x0F, Some(DataErrorKind::SpecialPrimary)),
         ([1, 1, 1, 0x300], 3, None),
@@ -573,7 +801,9 @@ fn lead_bytes_are_compressible(rt: HostRuntime) -> Result<(), Fail> {
     let four = [0x0400, 0x0600, 0x0900, 0x0E00];
     let mut twenty = vec![in rt.alloc(); 0u16; 0]?;
     twenty.extend_from_slice(&four)?;
-    twenty.extend_from_slice(&[0x8000, 0x0001, 0, 0, 0, 0, 0, 0, 0, 0, 0, 0, 0, 0, 0, 0x4000])?;
+    twenty.extend_from_slice(&[
+        0x8000, 0x0001, 0, 0, 0, 0, 0, 0, 0, 0, 0, 0, 0, 0, 0, 0x4000,
+    ])?;
     let by_leads = CollationSpecialPrimaries::new(&four, 0x0F)?;
     let by_bits = CollationSpecialPrimaries::new(twenty.as_slice(), 0x0F)?;
     let mut more = vec![in rt.alloc(); 0x0400u16; 1]?;
@@ -660,9 +890,21 @@ fn metadata_is_read_bit_by_bit(rt: HostRuntime) {
 #[test]
 fn errors_name_the_table_and_the_kind(rt: HostRuntime) -> Result<(), Fail> {
     for (table, kind, text) in [
-        (DataTable::Root, DataErrorKind::Length, "collation table Root: Length"),
-        (DataTable::SpecialPrimaries, DataErrorKind::SpecialPrimary, "collation table SpecialPrimaries: SpecialPrimary"),
-        (DataTable::Diacritics, DataErrorKind::NoMemory, "collation table Diacritics: NoMemory"),
+        (
+            DataTable::Root,
+            DataErrorKind::Length,
+            "collation table Root: Length",
+        ),
+        (
+            DataTable::SpecialPrimaries,
+            DataErrorKind::SpecialPrimary,
+            "collation table SpecialPrimaries: SpecialPrimary",
+        ),
+        (
+            DataTable::Diacritics,
+            DataErrorKind::NoMemory,
+            "collation table Diacritics: NoMemory",
+        ),
     ] {
         let error = DataError { table, kind };
         assert_eq!(rt; format!(in rt.alloc(); "{error}")?.as_str(), text);
@@ -687,8 +929,16 @@ fn look_ups_answer_what_was_handed_in(rt: HostRuntime) -> Result<(), Fail> {
         rows_len: 2,
     }];
     let rows = [
-        ContextRow { chars_start: 0, chars_len: 1, entry: 0x6210_0505 },
-        ContextRow { chars_start: 1, chars_len: 2, entry: 0x6230_0505 },
+        ContextRow {
+            chars_start: 0,
+            chars_len: 1,
+            entry: 0x6210_0505,
+        },
+        ContextRow {
+            chars_start: 1,
+            chars_len: 2,
+            entry: 0x6230_0505,
+        },
     ];
     let table = ContextTable::new(&contexts, &rows, &['\u{30A}', '\u{323}', '\u{30A}'])?;
     let ces = [0x6110_0000_0500_0500, 0x6210_0000_0500_0500];

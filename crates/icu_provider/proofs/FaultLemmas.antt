@@ -167,8 +167,10 @@ module _ (falls_back : Bool) (home : Data) where
 
   pub walk_good : (v : FirstFault) → v.first ≡ None → ((after_chars after falls_back v home (chars_below 0x110000)).first ≡ None) ↔ IsGoodData falls_back home
   walk_good v none = (
-    λ h. record { each = λ condition c s.
-    weaker (Passes home c) (λ e. IsTrue (meets condition home c e)) (λ e p. passes_meets home c e p condition) (live_at falls_back home c) (each_char PassesAt (none_before_chars v _ h).1 c s) },
+    λ h. record {
+      each = λ condition c s.
+          weaker (Passes home c) (λ e. IsTrue (meets condition home c e)) (λ e p. passes_meets home c e p condition) (live_at falls_back home c) (each_char PassesAt (none_before_chars v _ h).1 c s);
+    },
     λ good. none_after_chars v _ none (every_char PassesAt (λ c s. all_pass c _ (λ condition. good.each condition c s))),
   )
 

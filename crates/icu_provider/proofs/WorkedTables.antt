@@ -24,8 +24,8 @@ with_entry e = record {
   elements = element_of 0x7010FE000003B184 ∷ [];
   entries = 0x14100505 ∷ [];
   contexts =
-    record { default = 0x20C9; rows = record { chars = 0x62 ∷ []; entry = 0x62100505 } ∷ [] }
-    ∷ record { default = 0x61100505; rows = record { chars = 0x30A ∷ []; entry = 0x01CA } ∷ [] } ∷ [];
+      record { default = 0x20C9; rows = record { chars = 0x62 ∷ []; entry = 0x62100505 } ∷ [] }
+      ∷ record { default = 0x61100505; rows = record { chars = 0x30A ∷ []; entry = 0x01CA } ∷ [] } ∷ [];
 }
 
 -- ---- what is live

@@ -63,7 +63,9 @@ fn has_chars_inside(row: ContextRow, len: usize) -> bool
 fn has_ranges_inside(contexts: &[Context], rows: &[ContextRow], chars: &[char]) -> bool
     ensures { IsTrue result ↔ HasRangesInside contexts.now rows.now chars.now }
 {
-    contexts.iter().all(|context| has_rows_inside(*context, rows.len()))
+    contexts
+        .iter()
+        .all(|context| has_rows_inside(*context, rows.len()))
         && rows.iter().all(|row| has_chars_inside(*row, chars.len()))
 }
 
@@ -112,9 +114,7 @@ fn have_ascending_rows(contexts: &[Context], rows: &[ContextRow], chars: &[char]
     requires { HasRangesInside contexts.now rows.now chars.now }
     ensures { IsTrue result ↔ HasAscendingRows contexts.now rows.now chars.now }
 {
-    contexts
-        .iter()
-        .all(|context| are_ascending(rows_of_context(*context, rows), chars))
+    contexts.iter().all(|context| are_ascending(rows_of_context(*context, rows), chars))
 }
 
 impl<'d> ContextTable<'d> {

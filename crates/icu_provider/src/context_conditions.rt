@@ -39,7 +39,9 @@ fn all_may_follow_prefix(rows: &[ContextRow]) -> bool
 fn may_follow_contraction(entry: u32) -> bool
     ensures { result ≡ may_follow_contraction (kind_of entry) }
 {
-    CollationElement32::new(entry).kind().may_follow_contraction()
+    CollationElement32::new(entry)
+        .kind()
+        .may_follow_contraction()
 }
 
 fn all_may_follow_contraction(rows: &[ContextRow]) -> bool

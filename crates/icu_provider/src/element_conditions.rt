@@ -71,10 +71,7 @@ fn has_tertiary_lead(tertiary: u16) -> bool
     ensures { result ≡ has_tertiary_lead tertiary }
 {
     let lead = tertiary / 256;
-    tertiary == 0
-        || tertiary == 0x500
-        || lead >= 2 && lead <= 4
-        || lead >= 6 && lead <= 0x3F
+    tertiary == 0 || tertiary == 0x500 || lead >= 2 && lead <= 4 || lead >= 6 && lead <= 0x3F
 }
 
 impl CollationElement {

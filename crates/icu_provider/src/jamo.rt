@@ -24,10 +24,16 @@ impl<'d> CollationJamo<'d> {
         if ce32s.len() != 256 {
             return Err(DataErrorKind::Length);
         }
-        if !ce32s.iter().all(|entry| CollationElement32::new(*entry).has_digit()) {
+        if !ce32s
+            .iter()
+            .all(|entry| CollationElement32::new(*entry).has_digit())
+        {
             return Err(DataErrorKind::Digit);
         }
-        if !ce32s.iter().all(|entry| CollationElement32::new(*entry).has_known_byte()) {
+        if !ce32s
+            .iter()
+            .all(|entry| CollationElement32::new(*entry).has_known_byte())
+        {
             return Err(DataErrorKind::Tag);
         }
         Ok(CollationJamo { ce32s })

@@ -28,8 +28,8 @@ fn place_of_weight(compressible: bool, weight: u32) -> u32
     let lead = weight >> 24;
     let second = weight >> 16 & 0xff;
     let third = weight >> 8 & 0xff;
-    let seconds = (lead * second_bytes(compressible) + second)
-        .saturating_sub(least_second_byte(compressible));
+    let least = least_second_byte(compressible);
+    let seconds = (lead * second_bytes(compressible) + second).saturating_sub(least);
     (seconds * 254 + third).saturating_sub(2)
 }
 

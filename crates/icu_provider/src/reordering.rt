@@ -24,7 +24,10 @@ fn with_lead(lead: u8, primary: u32) -> u32
 fn range_above(ranges: &[u32], primary: u32) -> Option<u32>
     ensures { result ≡ find (lies_below primary) ranges.now }
 {
-    ranges.iter().copied().find(|range| primary | 0xFFFF < *range)
+    ranges
+        .iter()
+        .copied()
+        .find(|range| primary | 0xFFFF < *range)
 }
 
 /// The weight, moved by the first range that it lies below.
