@@ -1,7 +1,6 @@
 -- A walk that keeps the first fault: it keeps none exactly if there is none, and one that it keeps is true.
 use Rattle.std.proofs.Common.{◌≡◌, ℕ, Bool, true, false, not, List, [], ◌∷◌, Option, Some, None, if◌then◌else◌, refl, sym, ap, ◌∙◌, subst, IfSome, IsTrue, ◌↔◌, nat_lt}
 use Rattle.std.specs.Prelude.{find, option_map}
-use Rattle.std.specs.Char.{IsScalar}
 use Rattle.std.specs.List.{AllByRecursion}
 use Rattle.icu_provider.specs.Tables.{Data}
 use Rattle.icu_provider.specs.declared.error.DataTable.{DataTable}

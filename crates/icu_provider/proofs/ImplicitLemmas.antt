@@ -1,12 +1,11 @@
 -- Implicit weights meet every condition, so that entries for them need no look at the weight.
-use Rattle.std.proofs.Common.{◌≡◌, ℕ, ◌+◌, ◌*◌, ◌/◌, ◌%◌, ◌<◌, ◌≤◌, Bool, true, false, not, ◌&&◌, nat_eq, nat_le, List, [], ◌∷◌, Option, Some, None, refl, sym, ap, ◌∙◌, arith, IsTrue}
+use Rattle.std.proofs.Common.{◌≡◌, ℕ, ◌<◌, ◌≤◌, Bool, true, false, not, ◌&&◌, nat_eq, nat_le, [], ◌∷◌, None, refl, ap, arith, IsTrue}
 use Rattle.std.specs.Prelude.{◌||◌}
 use Rattle.std.proofs.lemmas.Bool.Decides.{nat_tests}
 use Rattle.std.specs.Int.{byte_at}
 use Rattle.icu_provider.specs.declared.live_condition.LiveCondition.{LiveCondition}
 use Rattle.icu_provider.specs.declared.live_condition.LiveCondition.TheVariants.{Places, PrefixRows, Chains, Digits, Bytes, Offsets, Shapes, Leads, Primaries}
-use Rattle.icu_provider.specs.declared.fault.Fault.{Fault}
-use Rattle.icu_provider.specs.Elements.{of_primary, common}
+use Rattle.icu_provider.specs.Elements.{of_primary}
 use Rattle.icu_provider.specs.Weights.{weight, implicit_weight}
 use Rattle.icu_provider.specs.Entries.{Implicit, kind_of}
 use Rattle.icu_provider.specs.Tables.{Data}
@@ -14,7 +13,6 @@ use Rattle.icu_provider.specs.Final.{final_elements}
 use Rattle.icu_provider.specs.ElementConditions.{four_bytes, ends_at_zero, has_shape, has_secondary_lead, has_tertiary_lead, has_primary_lead, is_separator}
 use Rattle.icu_provider.specs.EntryConditions.{is_inside, has_short_rows, leads_on, has_digit, has_known_byte, has_known_members, fits_offset}
 use Rattle.icu_provider.specs.LiveConditions.{meets, first_failing}
-use Rattle.icu_provider.specs.Faults.{earlier}
 use Rattle.icu_provider.proofs.FaultLemmas.{meets_passes}
 
 or_true : (b : Bool) → (b || true) ≡ true

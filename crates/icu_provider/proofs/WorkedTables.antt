@@ -1,5 +1,5 @@
 -- Worked rows of the definitions on tables, computed.
-use Rattle.std.proofs.Common.{◌≡◌, ℕ, Bool, true, false, List, [], ◌∷◌, ◌++◌, Option, Some, None, refl}
+use Rattle.std.proofs.Common.{◌≡◌, ℕ, true, false, [], ◌∷◌, ◌++◌, Option, Some, None, refl}
 use Rattle.std.specs.Prelude.{replicate}
 use Rattle.icu_options.specs.declared.settings.MaxVariable.TheVariants.{Space}
 use Rattle.icu_provider.specs.declared.live_condition.LiveCondition.{LiveCondition}

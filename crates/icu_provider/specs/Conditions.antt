@@ -1,12 +1,12 @@
 -- The conditions on the tables of a collator that has a root alone, whose entries name no context and no offset.
-use Rattle.std.specs.Prelude.{ℕ, ◌≡◌, ◌+◌, Bool, true, false, ◌&&◌, nat_le, nat_lt, List, length, All, IsTrue}
+use Rattle.std.specs.Prelude.{ℕ, ◌≡◌, Bool, true, false, nat_lt, List, length, All, IsTrue}
 use Rattle.std.specs.Char.{IsScalar}
 use Rattle.std.specs.List.{list_all}
 use Rattle.icu_provider.specs.declared.conditions.EntryCondition.{EntryCondition}
 use Rattle.icu_provider.specs.declared.conditions.EntryCondition.TheVariants as conditions
 use Rattle.icu_provider.specs.declared.error.DataErrorKind.{DataErrorKind}
 use Rattle.icu_provider.specs.declared.error.DataErrorKind.TheVariants as kinds
-use Rattle.icu_provider.specs.Entries.{Simple, LongPrimary, LongSecondary, Expansion32, Expansion, Digit, Offset, Implicit, kind_of, list_length, entry_index, digit_value, is_self_contained}
+use Rattle.icu_provider.specs.Entries.{Simple, LongPrimary, LongSecondary, Expansion32, Expansion, Digit, Offset, Implicit, kind_of, entry_index, is_self_contained}
 use Rattle.icu_provider.specs.Tables.{Data, Tables}
 use Rattle.icu_provider.specs.Final.{listed, is_final}
 use Rattle.icu_provider.specs.EntryConditions.{is_listed, leads_on, has_digit}

@@ -1,6 +1,6 @@
 -- The conditions on one collation element: that its weights are well formed (UTS #10, section 3.2), and which lead bytes they may
 -- have, so that they stand between the bytes that sort keys keep for themselves.
-use Rattle.std.specs.Prelude.{ℕ, ◌/◌, Bool, true, not, ◌&&◌, ◌||◌, ◌==◌, nat_le, nat_lt, List, [], ◌∷◌, bit_and}
+use Rattle.std.specs.Prelude.{ℕ, ◌/◌, Bool, true, not, ◌&&◌, ◌||◌, ◌==◌, nat_le, List, [], ◌∷◌, bit_and}
 use Rattle.std.specs.Int.{w32, w16, to_be_bytes}
 use Rattle.icu_provider.specs.declared.element_conditions.ElementCondition.{ElementCondition}
 use Rattle.icu_provider.specs.declared.element_conditions.ElementCondition.TheVariants.{Shape, Leads, Primary}

@@ -1,5 +1,5 @@
 -- The conditions on one entry, each in one word over the entry, its home and, where it counts, its character.
-use Rattle.std.specs.Prelude.{ℕ, ◌+◌, ◌/◌, ◌%◌, Bool, true, false, not, ◌&&◌, ◌||◌, ◌==◌, nat_le, nat_lt, List, length, take, drop}
+use Rattle.std.specs.Prelude.{ℕ, ◌+◌, ◌/◌, ◌%◌, Bool, true, false, not, ◌&&◌, ◌==◌, nat_le, nat_lt, length, take, drop}
 use Rattle.std.specs.List.{list_all}
 use Rattle.icu_provider.specs.Elements.{Element}
 use Rattle.icu_provider.specs.Entries.{EntryKind, Fallback, Expansion32, Expansion, Prefix, Contraction, Digit, Offset, Reserved, kind_of, list_length, entry_index, digit_value, is_self_contained}

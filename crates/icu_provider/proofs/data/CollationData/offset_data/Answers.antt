@@ -1,4 +1,4 @@
-use Rattle.std.proofs.Common.{rules, ◌<◌, length}
+use Rattle.std.proofs.Common.{rules}
 use Rattle.icu_provider.specs.Elements.{element_of}
 use Rattle.icu_provider.specs.Entries.{entry_index}
 use Rattle.icu_provider.specs.Stored.{data_of}

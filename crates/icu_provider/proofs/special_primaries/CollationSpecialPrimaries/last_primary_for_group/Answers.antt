@@ -1,6 +1,5 @@
-use Rattle.std.proofs.Common.{rules, ◌≤◌, get_or, arith}
+use Rattle.std.proofs.Common.{rules, ◌≤◌, get_or}
 use Rattle.icu_provider.proofs.SpecialLemmas.{group_end}
-use Rattle.icu_provider.specs.SpecialPrimaries.{group_place}
 use Rattle.icu_provider.proofs.special_primaries.CollationSpecialPrimaries.last_primary_for_group.Goals as goal
 
 pub overflow_sub-result : goal.overflow_sub-result
