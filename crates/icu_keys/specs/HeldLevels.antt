@@ -1,5 +1,5 @@
 -- What a level that is held back has yet to write
-use Rattle.std.specs.Prelude.{Bool, ◌&&◌, if◌then◌else◌, ℕ, ◌^◌, List, [], ◌++◌}
+use Rattle.std.specs.Prelude.{◌&&◌, if◌then◌else◌, ℕ, ◌^◌, List, [], ◌++◌}
 use Rattle.icu_levels.specs.Cases.{is_only}
 use Rattle.icu_keys.specs.CaseWeights.{case_row}
 use Rattle.icu_keys.specs.CaseWriters.{case_rest, writes_cases}

@@ -1,4 +1,4 @@
-use Rattle.std.proofs.Common.{ℕ, List, [], ◌++◌, ap, sym, subst}
+use Rattle.std.proofs.Common.{ℕ, List, [], ◌++◌, sym, subst}
 use Rattle.std.proofs.lemmas.Result.{err_from_is_err_and}
 use Rattle.icu_levels.specs.Cases.{is_only}
 use Rattle.icu_keys.specs.CaseWeights.{case_row}
