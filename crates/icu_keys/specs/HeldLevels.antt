@@ -5,8 +5,8 @@ use Rattle.icu_keys.specs.CaseWeights.{case_row}
 use Rattle.icu_keys.specs.CaseWriters.{case_rest, writes_cases}
 use Rattle.icu_keys.specs.QuaternaryWriters.{quaternary_rest}
 use Rattle.icu_keys.specs.declared.cases.CaseForm.{CaseForm}
-use Rattle.icu_keys.specs.declared.held.CaseLevel.{CaseLevel}
-use Rattle.icu_keys.specs.declared.held.QuaternaryLevel.{QuaternaryLevel}
+use Rattle.icu_keys.specs.declared.held_cases.CaseLevel.{CaseLevel}
+use Rattle.icu_keys.specs.declared.held_quaternaries.QuaternaryLevel.{QuaternaryLevel}
 
 -- the form that is held
 abbrev pub holds_cases : CaseLevel → CaseForm

@@ -5,7 +5,7 @@ use Rattle.icu_keys.specs.QuaternaryWriters.{quaternary_rest}
 use Rattle.icu_keys.specs.Writes.{WriteFails}
 use Rattle.icu_keys.proofs.HeldLemmas.{held_bytes}
 use Rattle.icu_keys.proofs.Writing.{fails_front, fails_one, writes_after, writes_same}
-use Rattle.icu_keys.proofs.held.QuaternaryLevel.write_to.Goals as goal
+use Rattle.icu_keys.proofs.held_quaternaries.QuaternaryLevel.write_to.Goals as goal
 
 pub returns-in_err-write-clause-bytes : goal.returns-in_err-write-clause-bytes
 returns-in_err-write-clause-bytes g c =
