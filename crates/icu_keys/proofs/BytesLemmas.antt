@@ -1,5 +1,5 @@
 -- The bytes of a number, the highest first
-use Rattle.std.proofs.Common.{◌≡◌, ℕ, ◌+◌, ◌/◌, ◌%◌, ◌<◌, ◌^◌, List, [], ◌∷◌, refl, sym, ap, ◌∙◌, arith}
+use Rattle.std.proofs.Common.{◌≡◌, ℕ, ◌<◌, ◌^◌, [], ◌∷◌, refl, arith}
 use Rattle.std.specs.Int.{to_be_bytes, w16, w32}
 use Rattle.icu_levels.specs.WeightBytes.{digits}
 

@@ -1,5 +1,5 @@
 -- Nibbles of a level that counts runs, one case at a time
-use Rattle.std.proofs.Common.{◌≡◌, ◌≢◌, ℕ, suc, List, [], ◌∷◌, ◌++◌, refl, sym, ap, ◌∙◌, append_assoc}
+use Rattle.std.proofs.Common.{◌≡◌, ◌≢◌, ℕ, suc, List, [], ◌∷◌, ◌++◌, sym, ap, ◌∙◌, append_assoc}
 use Rattle.std.proofs.lemmas.List.{append-nil}
 use Rattle.icu_levels.specs.declared.rows.Row.{Row}
 use Rattle.icu_levels.specs.Runs.{run_before_less, run_before, level_bytes}

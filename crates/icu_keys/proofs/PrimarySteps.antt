@@ -1,5 +1,5 @@
 -- The bytes of one primary
-use Rattle.std.proofs.Common.{◌≡◌, ℕ, ◌/◌, ◌%◌, ◌<◌, ◌^◌, List, [], ◌∷◌, refl, arith, drop, get_or, eq-eqb}
+use Rattle.std.proofs.Common.{◌≡◌, ℕ, ◌<◌, ◌^◌, [], ◌∷◌, refl, arith, drop, get_or, eq-eqb}
 use Rattle.std.specs.Int.{to_be_bytes, w32}
 use Rattle.icu_levels.specs.WeightBytes.{digits, weight_bytes}
 use Rattle.icu_levels.specs.Primaries.{lead, below_lead, primary_bytes}

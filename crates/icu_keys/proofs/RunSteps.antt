@@ -1,9 +1,9 @@
 -- Runs of common weights, one weight or one full count at a time
-use Rattle.std.proofs.Common.{◌≡◌, ◌≢◌, ℕ, suc, zero, ◌+◌, ◌-◌, ◌/◌, ◌%◌, ◌<◌, ◌≤◌, ◌==◌, Bool, true, false, List, [], ◌∷◌, ◌++◌, refl, sym, ap, ◌∙◌, arith, append_assoc, replicate, cond, nat_lt}
+use Rattle.std.proofs.Common.{◌≡◌, ◌≢◌, ℕ, suc, ◌+◌, ◌-◌, ◌/◌, ◌%◌, ◌<◌, ◌≤◌, ◌==◌, Bool, true, false, List, [], ◌∷◌, ◌++◌, sym, ap, ◌∙◌, arith, append_assoc, replicate, cond, nat_lt}
 use Rattle.std.proofs.Math.Nat.{add-div_left, add-mod_left, div-eq_of_lt, mod-eq_of_lt}
 use Rattle.icu_levels.specs.declared.rows.Row.{Row}
 use Rattle.icu_levels.proofs.LevelOrder.{level_other}
-use Rattle.icu_levels.specs.Runs.{IsRow, run_before_less, run_before_more, run_before, level_bytes}
+use Rattle.icu_levels.specs.Runs.{run_before_less, run_before_more, run_before, level_bytes}
 
 first : (n m : ℕ) → n ≡ suc m → n - 1 ≡ m
 first n m e = omega arith

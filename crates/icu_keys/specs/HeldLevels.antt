@@ -1,12 +1,12 @@
 -- What a level that is held back has yet to write
-use Rattle.std.specs.Prelude.{Bool, ◌&&◌, if◌then◌else◌, ℕ, ◌^◌, List, [], ◌++◌}
+use Rattle.std.specs.Prelude.{◌&&◌, if◌then◌else◌, ℕ, ◌^◌, List, [], ◌++◌}
 use Rattle.icu_levels.specs.Cases.{is_only}
 use Rattle.icu_keys.specs.CaseWeights.{case_row}
 use Rattle.icu_keys.specs.CaseWriters.{case_rest, writes_cases}
 use Rattle.icu_keys.specs.QuaternaryWriters.{quaternary_rest}
 use Rattle.icu_keys.specs.declared.cases.CaseForm.{CaseForm}
-use Rattle.icu_keys.specs.declared.held.CaseLevel.{CaseLevel}
-use Rattle.icu_keys.specs.declared.held.QuaternaryLevel.{QuaternaryLevel}
+use Rattle.icu_keys.specs.declared.held_cases.CaseLevel.{CaseLevel}
+use Rattle.icu_keys.specs.declared.held_quaternaries.QuaternaryLevel.{QuaternaryLevel}
 
 -- the form that is held
 abbrev pub holds_cases : CaseLevel → CaseForm

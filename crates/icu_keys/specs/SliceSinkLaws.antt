@@ -3,7 +3,6 @@ use Rattle.std.proofs.Common.{◌≡◌, ℕ, ◌+◌, ◌<◌, ◌≤◌, ◌^�
 use Rattle.std.proofs.lemmas.List.{nil_from_length, take-append-drop, length-take-le, take_at, drop-drop}
 use Rattle.std.proofs.lemmas.Bool.{cases_lt}
 use Rattle.std.proofs.Math.Seq.{drop-append-add}
-use Rattle.icu_keys.specs.Sinks.{TakesBeginning}
 use Rattle.icu_keys.specs.SliceSinks.{put_over, HasRoom, SliceTook, SliceTakes}
 
 put_nothing : (xs : List ℕ) (s : ℕ) → put_over xs s [] ≡ xs

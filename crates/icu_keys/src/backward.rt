@@ -91,6 +91,7 @@ impl BackwardWriter {
         ensures sound { S.is_sound sink.new state.new }
         ensures bytes { Writes S.took S.refused sink.old state.old (backward_rest self ([], [])) result sink.new state.new }
     {
-        write_segment(sink, state, self.segment.as_slice())
+        let last = self.segment;
+        write_segment(sink, state, last.as_slice())
     }
 }

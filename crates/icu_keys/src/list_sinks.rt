@@ -65,8 +65,8 @@ impl<const N: usize> CollationKeySink for SmallVec<u8, N> {
 
     ghost refused_took = { λ x y _ _ b _ _ p. refused_beginning x.items y.items b p };
 
-    fn write(&mut self, _state: &mut (), buf: &[u8]) -> Result<(), AllocError> {
-        self.extend_from_slice(buf)
+    fn write(&mut self, _state: &mut (), bytes: &[u8]) -> Result<(), AllocError> {
+        self.extend_from_slice(bytes)
     }
 
     fn finish(&mut self, _state: ()) -> Result<(), AllocError> {

@@ -4,7 +4,8 @@ ghost use Rattle.icu_keys.specs.WorkedCompression.{worked_reorder, worked_test};
 
 use crate::backward::BackwardWriter;
 use crate::cases::{CaseForm, LetterCase};
-use crate::held::{CaseLevel, QuaternaryLevel};
+use crate::held_cases::CaseLevel;
+use crate::held_quaternaries::QuaternaryLevel;
 use crate::identical::IdenticalWriter;
 use crate::primaries::{PrimaryCompression, PrimaryWriter};
 use crate::quaternaries::{QuaternaryForm, QuaternaryWeight};

@@ -1,4 +1,4 @@
-use Rattle.std.proofs.Common.{◌-◌, ◌≡◌, ℕ, suc, length, get_or, arith, ◌∙◌, sym}
+use Rattle.std.proofs.Common.{◌-◌, ℕ, length, get_or, arith, ◌∙◌}
 use Rattle.icu_keys.proofs.TrimmedLemmas.{last_zero, last_other}
 use Rattle.icu_keys.proofs.weight_bytes.trimmed.Goals as goal
 

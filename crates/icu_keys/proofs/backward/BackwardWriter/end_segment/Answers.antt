@@ -1,4 +1,4 @@
-use Rattle.std.proofs.Common.{ℕ, List, subst, [], ◌∷◌, ◌++◌, ◌∙◌, ap, map, reverse}
+use Rattle.std.proofs.Common.{ℕ, List, subst, [], ◌∷◌, ◌++◌, map, reverse}
 use Rattle.std.proofs.lemmas.List.{append-nil}
 use Rattle.std.proofs.lemmas.Result.{err_from_is_err_and}
 use Rattle.icu_levels.specs.Secondaries.{secondary_level, further_segments}

@@ -1,5 +1,4 @@
 use Rattle.std.proofs.Common.{◌∙◌, refl, option_to_list}
-use Rattle.icu_levels.specs.Runs.{level_bytes}
 use Rattle.icu_levels.proofs.LevelOrder.{level_common}
 use Rattle.icu_keys.proofs.Writing.{feeds_writes}
 use Rattle.icu_keys.proofs.run.Run.write_common.Goals as goal

@@ -1,7 +1,7 @@
-use Rattle.std.proofs.Common.{◌∙◌, ap, sym, arith}
+use Rattle.std.proofs.Common.{◌∙◌, ap, sym}
 use Rattle.std.specs.Int.{to_be_bytes, w16}
 use Rattle.icu_levels.specs.Tertiaries.{tertiary_row, tertiary_bytes, moved_tertiary}
-use Rattle.icu_levels.specs.WeightBytes.{weight_bytes, without_last_zeros}
+use Rattle.icu_levels.specs.WeightBytes.{without_last_zeros}
 use Rattle.icu_keys.specs.Forms.{form_of}
 use Rattle.icu_keys.proofs.BytesLemmas.{digits_two}
 use Rattle.icu_keys.proofs.LevelWriting.{feeds_row}
