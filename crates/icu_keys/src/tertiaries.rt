@@ -57,26 +57,15 @@ impl TertiaryForm {
         requires { moved_tertiary (form_of self) weight < 2 ^ 16 }
         ensures { result ≡ moved_tertiary (form_of self) weight }
     {
+        let lead = weight >> 8;
         match self {
-            TertiaryForm::Plain => {
-                if weight > 0x500 {
-                    weight + 0xC000
-                } else {
-                    weight
-                }
-            }
-            TertiaryForm::LowerFirst => {
-                if weight > 0x500 {
-                    weight + 0x4000
-                } else {
-                    weight
-                }
-            }
+            TertiaryForm::Plain => { if lead > 0x05 { weight + 0xC000 } else { weight } }
+            TertiaryForm::LowerFirst => { if lead > 0x05 { weight + 0x4000 } else { weight } }
             TertiaryForm::UpperFirst => {
-                if weight > 0xC500 {
-                    weight
-                } else {
+                if lead < 0xC5 {
                     weight.saturating_sub(0x4000)
+                } else {
+                    weight
                 }
             }
         }
