@@ -1,2 +1,3 @@
 pub mod WritingLemmas
-pub mod RefusalLemmas
+pub mod MiniLemmas
+pub mod SettingLemmas

@@ -1,47 +1,35 @@
 ghost use Rattle.std.specs.Prelude.{◌≡◌, IfOk, IsTrue, ◌++◌, ◌∷◌, []};
 ghost use Rattle.icu_comparison.specs.Order.{is_at_most_tertiary};
-ghost use Rattle.icu_comparison.specs.Collators.{collator_comparison, plain_comparison};
-ghost use Rattle.icu_mini.specs.Mini.{RootTables, IsMini, collator_tables};
-ghost use Rattle.collate.specs.Answers.{IsAnswer, sign_of};
+ghost use Rattle.icu_comparison.specs.Collators.{settings_kept, tables_kept};
+ghost use Rattle.icu_mini.specs.Mini.{IsMini, collator_tables};
+ghost use Rattle.collate.specs.Answers.{ComparesBy, IsAnswer, sign_of};
 ghost use Rattle.collate.specs.Asked.{asked};
 
 use crate::command::Command;
 use icu_comparison::Collator;
 use icu_mini::mini::Mini;
-use icu_options::Strength;
-use icu_provider::DataErrorKind;
+use icu_options::{CollatorOptions, CollatorPreferences, Strength};
 use std::alloc::{AllocError, Global};
 use std::cmp::Ordering;
 
-// What a refusal says of tables that meet all conditions.
-fn want_of_memory(kind: DataErrorKind) -> AllocError
-    requires { kind ≡ DataErrorKind.NoMemory }
-{
-    match kind {
-        DataErrorKind::NoMemory => AllocError,
-        _ => unreachable!(),
-    }
-}
-
-// The collator by Mini's tables. They meet the conditions on tables, so it is refused for want of memory alone.
+// The collator by Mini's tables. They meet the conditions on tables, as tests show; so what is refused is memory.
 fn mini_collator(alloc: Global, strength: Strength) -> Result<Collator, AllocError>
     requires { IsTrue (is_at_most_tertiary strength) }
-    ensures { IfOk result (λ c. (tables : RootTables) × IsMini tables × (collator_comparison c ≡ plain_comparison strength (collator_tables tables))) }
+    ensures { IfOk result (λ c. (tables : Mini) × IsMini tables × ComparesBy strength (collator_tables tables) (tables_kept c) (settings_kept c)) }
 {
     let mini = Mini::new(alloc)?;
-    let made = Collator::try_new_root(
+    let options = CollatorOptions {
+        strength: Some(strength),
+        ..CollatorOptions::default()
+    };
+    match Collator::try_new_unstable(
         alloc,
-        mini.blocks(),
-        mini.values(),
-        mini.ces(),
-        mini.ce32s(),
-        mini.diacritics(),
-        mini.jamo(),
-        strength,
-    );
-    match made {
+        &mini.provider(),
+        CollatorPreferences::default(),
+        options,
+    ) {
         Ok(collator) => Ok(collator),
-        Err(kind) => Err(want_of_memory(kind)),
+        Err(_) => Err(AllocError),
     }
 }
 

@@ -15,7 +15,8 @@ use std::io::{Read, Write};
 ///
 /// - 0: the answer stands on `output`, and nothing on `faults`.
 /// - 1: memory was refused, and nothing stands on `output`; or a write failed, and a beginning of the answer stands
-///   there. `faults` says which.
+///   there. `faults` says which. A refusal of the program's own tables would be answered as one of memory; tests show that they
+///   aren't refused.
 /// - 2: the words are no command. `faults` says what commands there are.
 ///
 /// A failed write to `faults` changes no status. No command reads `input` yet.

@@ -1,28 +1,26 @@
 //! Comparisons by collators over the test table Mini.
-ghost use Rattle.std.specs.Prelude.{IsTrue};
-ghost use Rattle.icu_comparison.specs.Order.{is_at_most_tertiary};
-
 use icu_comparison::Collator;
 use icu_mini::mini::Mini;
-use icu_options::Strength;
-use icu_provider::DataErrorKind;
+use icu_options::{
+    AlternateHandling, CaseLevel, CollationCaseFirst, CollationNumericOrdering, CollatorOptions,
+    CollatorPreferences, MaxVariable, Strength,
+};
+use icu_provider::DataError;
 use std::alloc::Global;
 use std::cmp::Ordering;
 use std::process::Abort;
 use std::test::Fail;
 
-fn collator(alloc: Global, mini: &Mini, strength: Strength) -> Result<Collator, DataErrorKind>
-    requires { IsTrue (is_at_most_tertiary strength) }
-{
-    Collator::try_new_root(
+fn collator(alloc: Global, mini: &Mini, strength: Strength) -> Result<Collator, DataError> {
+    let options = CollatorOptions {
+        strength: Some(strength),
+        ..CollatorOptions::default()
+    };
+    Collator::try_new_unstable(
         alloc,
-        mini.blocks(),
-        mini.values(),
-        mini.ces(),
-        mini.ce32s(),
-        mini.diacritics(),
-        mini.jamo(),
-        strength,
+        &mini.provider(),
+        CollatorPreferences::default(),
+        options,
     )
 }
 
@@ -105,5 +103,51 @@ fn names_ascend_at_tertiary_strength(rt: HostRuntime) -> Result<(), Fail> {
         );
         before = name;
     }
+    Ok(())
+}
+
+#[test]
+fn tailored_letters_have_their_place(rt: HostRuntime) -> Result<(), Fail> {
+    let root = Mini::new(rt.alloc())?;
+    let root = collator(rt.alloc(), &root, Strength::Tertiary)?;
+    let tailored = Mini::with_offsets(rt.alloc())?;
+    let tailored = collator(rt.alloc(), &tailored, Strength::Tertiary)?;
+    for (left, right, by_root, by_tailoring) in [
+        ("α", "β", Ordering::Less, Ordering::Less),
+        ("z", "α", Ordering::Less, Ordering::Less),
+        ("α", "\u{370}", Ordering::Greater, Ordering::Less),
+        ("a", "B", Ordering::Less, Ordering::Less),
+    ] {
+        let found = (
+            root.as_borrowed().compare(left, right)?,
+            tailored.as_borrowed().compare(left, right)?,
+        );
+        assert_eq!(rt; found, (by_root, by_tailoring), "{left} and {right}");
+    }
+    Ok(())
+}
+
+#[test]
+fn settings_come_from_their_sources(rt: HostRuntime) -> Result<(), Fail> {
+    let mut mini = Mini::new(rt.alloc())?;
+    mini.metadata.bits = 0x701;
+    let preferences = CollatorPreferences {
+        case_first: Some(CollationCaseFirst::False),
+        numeric_ordering: Some(CollationNumericOrdering::True),
+        ..CollatorPreferences::default()
+    };
+    let collator = Collator::try_new_unstable(
+        rt.alloc(),
+        &mini.provider(),
+        preferences,
+        CollatorOptions::default(),
+    )?;
+    let settings = collator.as_borrowed().resolved_options();
+    assert!(rt; settings.strength == Strength::Tertiary);
+    assert!(rt; settings.alternate_handling == AlternateHandling::Shifted);
+    assert!(rt; settings.case_first == CollationCaseFirst::False);
+    assert!(rt; settings.max_variable == MaxVariable::Punctuation);
+    assert!(rt; settings.case_level == CaseLevel::Off);
+    assert!(rt; settings.numeric == CollationNumericOrdering::True);
     Ok(())
 }

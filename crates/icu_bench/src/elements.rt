@@ -4,7 +4,7 @@ ghost use Rattle.icu_elements.specs.CollationElements.{CanGive};
 use icu_comparison::Collator;
 use icu_elements::CollationElements;
 use icu_mini::mini::Mini;
-use icu_options::Strength;
+use icu_options::{CollatorOptions, CollatorPreferences};
 use icu_provider::{CollationElement, CollationElement32, NonPrimary, Tag};
 use std::process::Abort;
 use std::test::Fail;
@@ -90,15 +90,11 @@ fn assert_gives<I: Iterator<Item = char> + Drop>(
 #[test]
 fn elements_come_one_by_one_and_then_the_end(rt: HostRuntime) -> Result<(), Fail> {
     let mini = Mini::new(rt.alloc())?;
-    let collator = Collator::try_new_root(
+    let collator = Collator::try_new_unstable(
         rt.alloc(),
-        mini.blocks(),
-        mini.values(),
-        mini.ces(),
-        mini.ce32s(),
-        mini.diacritics(),
-        mini.jamo(),
-        Strength::Tertiary,
+        &mini.provider(),
+        CollatorPreferences::default(),
+        CollatorOptions::default(),
     )?;
     let tables = collator.as_borrowed().tables();
     let elements = CollationElements::new("áb7".chars(), tables, None, false);

@@ -2,7 +2,15 @@
 #![tactic(auto)]
 
 #[cfg(test)]
+mod checked_tables;
+#[cfg(test)]
 mod comparison;
+#[cfg(test)]
+mod damage;
+#[cfg(test)]
+mod damaged_tables;
+#[cfg(test)]
+mod damaged_weights;
 #[cfg(test)]
 mod elements;
 #[cfg(test)]
@@ -10,6 +18,14 @@ mod options;
 #[cfg(test)]
 mod refusals;
 #[cfg(test)]
+mod refused_memory;
+#[cfg(test)]
+mod requests;
+#[cfg(test)]
 mod small_tables;
 #[cfg(test)]
 mod tables;
+#[cfg(test)]
+mod two_faults;
+#[cfg(test)]
+mod walks;

@@ -1,66 +1,58 @@
-//! Roots that are refused: the test table Mini with one thing wrong.
+//! Tables that are refused: the test table Mini with one thing wrong.
 use icu_comparison::Collator;
 use icu_mini::mini::Mini;
-use icu_options::Strength;
-use icu_provider::DataErrorKind;
-use std::alloc::{AllocError, Global};
+use icu_options::{CollatorOptions, CollatorPreferences};
+use icu_provider::{DataError, DataErrorKind, DataTable};
+use std::alloc::Global;
 use std::process::Abort;
 use std::test::Fail;
 
-/// The vectors of a root, which a test may change.
-#[derive(Drop)]
-struct Root {
-    blocks: Vec<u16>,
-    values: Vec<u32>,
-    ce32s: Vec<u32>,
-    diacritics: Vec<u16>,
-    jamo: Vec<u32>,
+/// The bit of metadata that says that diacritics are tailored.
+const OWN_DIACRITICS: u32 = 0x10;
+
+/// What is said of Mini's tables, by themselves or together.
+fn refusal(alloc: Global, mini: &Mini) -> Option<DataError> {
+    Collator::try_new_unstable(
+        alloc,
+        &mini.provider(),
+        CollatorPreferences::default(),
+        CollatorOptions::default(),
+    )
+    .err()
 }
 
-impl Root {
-    fn new(alloc: Global) -> Result<Root, AllocError> {
-        let mini = Mini::new(alloc)?;
-        Ok(Root {
-            blocks: mini.blocks().to_vec(alloc)?,
-            values: mini.values().to_vec(alloc)?,
-            ce32s: mini.ce32s().to_vec(alloc)?,
-            diacritics: mini.diacritics().to_vec(alloc)?,
-            jamo: mini.jamo().to_vec(alloc)?,
-        })
-    }
-
-    /// Gives "a" another entry.
-    fn set_a(&mut self, entry: u32) {
-        let block = self.blocks.get(1).copied().unwrap_or(0);
-        if let Some(value) = self.values.get_mut(block as usize * 64 + 33) {
-            *value = entry;
-        }
-    }
-
-    fn refusal(&self, alloc: Global) -> Option<DataErrorKind> {
-        Collator::try_new_root(
-            alloc,
-            self.blocks.as_slice(),
-            self.values.as_slice(),
-            &[],
-            self.ce32s.as_slice(),
-            self.diacritics.as_slice(),
-            self.jamo.as_slice(),
-            Strength::Tertiary,
-        )
-        .err()
+/// A refusal of the root, if there is a kind.
+fn of_root(kind: Option<DataErrorKind>) -> Option<DataError> {
+    match kind {
+        Some(kind) => Some(DataError {
+            table: DataTable::Root,
+            kind,
+        }),
+        None => None,
     }
 }
 
 #[test]
-fn mini_is_accepted(rt: HostRuntime) -> Result<(), Fail> {
-    assert_eq!(rt; Root::new(rt.alloc())?.refusal(rt.alloc()), None);
+fn mini_and_its_variants_are_accepted(rt: HostRuntime) -> Result<(), Fail> {
+    let alloc = rt.alloc();
+    for (name, mini) in [
+        ("mini", Mini::new(alloc)?),
+        ("backward", Mini::with_backward_second_level(alloc)?),
+        ("lithuanian", Mini::lithuanian(alloc)?),
+        ("a ring", Mini::with_a_ring(alloc)?),
+        ("double l", Mini::with_double_l(alloc)?),
+        ("b after a", Mini::with_b_after_a(alloc)?),
+        ("offsets", Mini::with_offsets(alloc)?),
+        ("sharp s", Mini::with_sharp_s(alloc)?),
+    ] {
+        assert_eq!(rt; refusal(alloc, &mini), None, "{name}");
+    }
     Ok(())
 }
 
 #[test]
 fn entries_that_break_a_condition_are_refused(rt: HostRuntime) -> Result<(), Fail> {
-    for (entry, refusal) in [
+    for (entry, kind) in [
         (0x0000_0ACAu32, Some(DataErrorKind::Digit)),
         (0x0000_09CA, None),
         (0x0001_40CA, Some(DataErrorKind::Index)),
@@ -68,53 +60,119 @@ fn entries_that_break_a_condition_are_refused(rt: HostRuntime) -> Result<(), Fai
         (0x0000_0AC5, None),
         (0x0000_0BC5, Some(DataErrorKind::Index)),
         (0x0000_01C6, Some(DataErrorKind::Index)),
+        (0x0000_00C8, Some(DataErrorKind::Index)),
+        (0x0000_00C9, Some(DataErrorKind::Index)),
         (0x0000_00C0, Some(DataErrorKind::Tag)),
         (0x0000_00C3, Some(DataErrorKind::Tag)),
-        (0x0000_00C8, Some(DataErrorKind::Tag)),
-        (0x0000_00C9, Some(DataErrorKind::Tag)),
         (0x0000_00D5, Some(DataErrorKind::Tag)),
     ] {
-        let mut root = Root::new(rt.alloc())?;
-        root.set_a(entry);
-        assert_eq!(rt; root.refusal(rt.alloc()), refusal, "{entry}");
+        let mut mini = Mini::new(rt.alloc())?;
+        mini.root.set_entry('a', entry)?;
+        assert_eq!(rt; refusal(rt.alloc(), &mini), of_root(kind), "{entry:X}");
     }
     Ok(())
 }
 
 #[test]
 fn plain_entries_of_digits_are_final(rt: HostRuntime) -> Result<(), Fail> {
-    for (entry, refusal) in [
+    for (entry, kind) in [
         (0x0000_20CAu32, Some(DataErrorKind::Chain)),
-        (0x0000_00C8, Some(DataErrorKind::Chain)),
         (0x0000_00CF, None),
-        (0x0000_00C3, Some(DataErrorKind::Chain)),
     ] {
-        let mut root = Root::new(rt.alloc())?;
-        if let Some(plain) = root.ce32s.get_mut(0) {
+        let mut mini = Mini::new(rt.alloc())?;
+        if let Some(plain) = mini.root.ce32s.get_mut(0) {
             *plain = entry;
         }
-        assert_eq!(rt; root.refusal(rt.alloc()), refusal, "{entry}");
+        assert_eq!(rt; refusal(rt.alloc(), &mini), of_root(kind), "{entry:X}");
     }
     Ok(())
 }
 
 #[test]
-fn lengths_and_block_numbers_are_checked(rt: HostRuntime) -> Result<(), Fail> {
-    let mut fewer_blocks = Root::new(rt.alloc())?;
-    fewer_blocks.blocks.pop();
-    let mut broken_block = Root::new(rt.alloc())?;
-    broken_block.values.pop();
-    let mut fewer_diacritics = Root::new(rt.alloc())?;
-    fewer_diacritics.diacritics.pop();
-    let mut more_jamo = Root::new(rt.alloc())?;
-    more_jamo.jamo.push(0x6510_0505)?;
-    for root in [&fewer_blocks, &broken_block, &fewer_diacritics, &more_jamo] {
-        assert_eq!(rt; root.refusal(rt.alloc()), Some(DataErrorKind::Length));
+fn weights_that_begin_others_are_refused(rt: HostRuntime) -> Result<(), Fail> {
+    for (entry, kind) in [
+        (0x6110_04C1u32, Some(DataErrorKind::Overlap)),
+        (0x6112_04C1, None),
+    ] {
+        let mut mini = Mini::new(rt.alloc())?;
+        mini.root.set_entry('\u{3B1}', entry)?;
+        assert_eq!(rt; refusal(rt.alloc(), &mini), of_root(kind), "{entry:X}");
     }
-    let mut far_block = Root::new(rt.alloc())?;
-    if let Some(block) = far_block.blocks.get_mut(0) {
-        *block = 100;
+    Ok(())
+}
+
+/// Where one member too few or too many stands.
+#[derive(Debug, Clone, Copy)]
+enum Damage {
+    FewerBlocks,
+    BrokenBlock,
+    FarBlock,
+    MoreJamo,
+    FewerLastPrimaries,
+    NoNumericLead,
+    FewerDiacritics,
+    FewerOwnDiacritics,
+}
+
+/// Damages the tables.
+fn spoil(mini: &mut Mini, damage: Damage) -> Result<(), Fail> {
+    match damage {
+        Damage::FewerBlocks => drop(mini.root.blocks.pop()),
+        Damage::BrokenBlock => drop(mini.root.values.pop()),
+        Damage::FarBlock => {
+            if let Some(block) = mini.root.blocks.get_mut(0) {
+                *block = 100;
+            }
+        }
+        Damage::MoreJamo => mini.jamo.push(0x6510_0505)?,
+        Damage::FewerLastPrimaries => drop(mini.last_primaries.pop()),
+        Damage::NoNumericLead => mini.numeric_primary = 0,
+        Damage::FewerDiacritics => drop(mini.diacritics.pop()),
+        Damage::FewerOwnDiacritics => {
+            drop(mini.diacritics.pop());
+            mini.metadata.bits |= OWN_DIACRITICS;
+        }
     }
-    assert_eq!(rt; far_block.refusal(rt.alloc()), Some(DataErrorKind::Index));
+    Ok(())
+}
+
+#[test]
+fn a_damaged_table_is_named(rt: HostRuntime) -> Result<(), Fail> {
+    for (damaged, expected) in [
+        (
+            Damage::FewerBlocks,
+            Some((DataTable::Root, DataErrorKind::Length)),
+        ),
+        (
+            Damage::BrokenBlock,
+            Some((DataTable::Root, DataErrorKind::Length)),
+        ),
+        (
+            Damage::FarBlock,
+            Some((DataTable::Root, DataErrorKind::Index)),
+        ),
+        (
+            Damage::MoreJamo,
+            Some((DataTable::Jamo, DataErrorKind::Length)),
+        ),
+        (
+            Damage::FewerLastPrimaries,
+            Some((DataTable::SpecialPrimaries, DataErrorKind::Length)),
+        ),
+        (
+            Damage::NoNumericLead,
+            Some((DataTable::SpecialPrimaries, DataErrorKind::SpecialPrimary)),
+        ),
+        (
+            Damage::FewerDiacritics,
+            Some((DataTable::Diacritics, DataErrorKind::Length)),
+        ),
+        (Damage::FewerOwnDiacritics, None),
+    ] {
+        let mut mini = Mini::new(rt.alloc())?;
+        spoil(&mut mini, damaged)?;
+        let found = refusal(rt.alloc(), &mini).map(|refusal| (refusal.table, refusal.kind));
+        assert!(rt; found == expected, "{damaged:?}");
+    }
     Ok(())
 }

@@ -298,6 +298,11 @@ fn errors_name_the_table_and_the_kind(rt: HostRuntime) -> Result<(), Fail> {
             "collation table Root: Length",
         ),
         (
+            DataTable::Root,
+            DataErrorKind::Overlap,
+            "collation table Root: Overlap",
+        ),
+        (
             DataTable::SpecialPrimaries,
             DataErrorKind::SpecialPrimary,
             "collation table SpecialPrimaries: SpecialPrimary",

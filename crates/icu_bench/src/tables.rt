@@ -10,14 +10,14 @@ use std::test::Fail;
 
 // A code point table: its blocks and values.
 #[derive(Debug, Drop)]
-struct Stored {
-    blocks: Vec<u16>,
-    values: Vec<u32>,
+pub(crate) struct Stored {
+    pub(crate) blocks: Vec<u16>,
+    pub(crate) values: Vec<u32>,
 }
 
 impl Stored {
     // The table that gives these characters these entries, and all others one entry. Characters of one block stand in a row.
-    fn new(alloc: Global, rows: &[(char, u32)], others: u32) -> Result<Stored, Fail> {
+    pub(crate) fn new(alloc: Global, rows: &[(char, u32)], others: u32) -> Result<Stored, Fail> {
         let mut stored = Stored {
             blocks: vec![in alloc; 0u16; 17408]?,
             values: vec![in alloc; others; 64]?,

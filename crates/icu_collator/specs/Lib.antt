@@ -1,9 +1,10 @@
 pub use Rattle.icu_options.specs.Settings
 pub use Rattle.icu_options.specs.Merge
 pub use Rattle.icu_provider.specs.Tables
-pub use Rattle.icu_provider.specs.Conditions
-pub use Rattle.icu_provider.specs.Roots
 pub use Rattle.icu_provider.specs.Stored
+pub use Rattle.icu_checks.specs.CollatorTables
+pub use Rattle.icu_checks.specs.GoodTables
+pub use Rattle.icu_checks.specs.Loads
 pub use Rattle.icu_elements.specs.TextElements
 pub use Rattle.icu_elements.specs.Reading
 pub use Rattle.icu_elements.specs.CollationElements

@@ -1,7 +1,8 @@
 //! Collation: the order of texts by a language's rules (UTS #10, UTS #35 part 5), with the names and the behaviour of
 //! `icu_collator`.
 //!
-//! A `Collator` is made of tables and settings; `as_borrowed` lends it, and `compare` answers the order of two texts.
+//! A `Collator` is made of the tables that a `CollationProvider` lends, which are checked together, and of settings;
+//! `as_borrowed` lends it, and `compare` answers the order of two texts.
 #![tactic(auto)]
 
 pub use icu_comparison as comparison;
@@ -9,7 +10,16 @@ pub use icu_comparison::{Collator, CollatorBorrowed};
 pub use icu_elements as elements;
 pub use icu_options as options;
 pub use icu_options::CollatorPreferences;
-pub use icu_provider as provider;
+
+/// Where the tables of collators come from, and the check that they pass.
+pub mod provider {
+    pub use icu_checks::{CheckedTables, TableSet, load_tables};
+    pub use icu_provider::{
+        CodePointTable, CollationData, CollationDiacritics, CollationJamo, CollationMetadata,
+        CollationProvider, CollationReordering, CollationSpecialPrimaries, Context, ContextRow,
+        ContextTable, DataError, DataErrorKind, DataRequest, DataTable,
+    };
+}
 
 /// What a user prefers beside the options that a caller names.
 pub mod preferences {

@@ -1,19 +1,75 @@
--- What decides in a collator.
-use Rattle.icu_provider.specs.Tables.{Tables}
-use Rattle.icu_provider.specs.Stored.{kept_tables}
-use Rattle.icu_elements.specs.Reading.{tables_of}
-use Rattle.icu_elements.specs.Plain.{plain_reading}
+-- What a collator is asked for, and what decides between two texts in it.
+use Rattle.std.specs.Prelude.{◌≡◌, false, Some, None, Result, option_map, IsTrue, if◌then◌else◌}
+use Rattle.icu_options.specs.Settings.{Settings}
+use Rattle.icu_options.specs.declared.options.CollatorPreferences.{CollatorPreferences}
 use Rattle.icu_options.specs.declared.settings.Strength.{Strength}
+use Rattle.icu_options.specs.declared.settings.AlternateHandling.TheVariants.{NonIgnorable}
+use Rattle.icu_options.specs.declared.settings.CollationCaseFirst.TheVariants as case_first
+use Rattle.icu_provider.specs.declared.error.DataError.{DataError}
+use Rattle.icu_provider.specs.Loads.{Loads}
+use Rattle.icu_provider.specs.Metadata.{is_lithuanian}
+use Rattle.icu_provider.specs.Requests.{Request}
+use Rattle.icu_provider.specs.Tables.{Tables}
+use Rattle.icu_checks.specs.Checked.{checked_tables}
+use Rattle.icu_checks.specs.CollatorTables.{CollatorTables}
+use Rattle.icu_checks.specs.Loads.{lent_tables}
+use Rattle.icu_elements.specs.TextElements.{Reading}
+use Rattle.icu_elements.specs.Plain.{IsPlain, plain_reading}
 use Rattle.icu_comparison.specs.declared.collator.Collator.{Collator}
 use Rattle.icu_comparison.specs.declared.collator.CollatorBorrowed.{CollatorBorrowed}
-use Rattle.icu_comparison.specs.Order.{Comparison}
+use Rattle.icu_comparison.specs.Order.{Comparison, is_at_most_tertiary}
+
+-- ---- what is asked for
+
+-- the locale and the type of the preferences
+abbrev pub request_in : CollatorPreferences → Request
+request_in p = record { locale = p.locale.now; collation_type = option_map (λ t. t.now) p.collation_type }
+
+-- the tables that a provider lends for them, or the first refusal that no further request mends
+abbrev pub lent_for : Loads → CollatorPreferences → Result CollatorTables DataError
+lent_for loads preferences = lent_tables loads (request_in preferences)
+
+-- ---- what a collator has
+
+-- all tables together, and the merged settings
+abbrev pub tables_kept : Collator → CollatorTables
+tables_kept c = checked_tables c.tables
+
+abbrev pub settings_kept : Collator → Settings
+settings_kept c = c.settings
+
+-- the same of a collator that borrows its tables
+abbrev pub tables_borrowed : CollatorBorrowed → CollatorTables
+tables_borrowed c = checked_tables c.tables.now
+
+abbrev pub settings_borrowed : CollatorBorrowed → Settings
+settings_borrowed c = c.settings
+
+-- ---- what decides between two texts
+
+-- how texts are read: digits as numbers where the settings say so, and silent dots where the metadata does
+abbrev pub reading_by : CollatorTables → Settings → Reading
+reading_by all settings = record {
+  tables = all.tables;
+  numeric = if settings.numeric.value then Some all.special.numeric else None;
+  lithuanian = is_lithuanian all.bits;
+}
+
+abbrev pub comparison_by : CollatorTables → Settings → Comparison
+comparison_by all settings = record { strength = settings.strength.value; reading = reading_by all settings }
 
 -- by tables whose digits are letters like others
 abbrev pub plain_comparison : Strength → Tables → Comparison
 plain_comparison strength tables = record { strength = strength; reading = plain_reading tables }
 
-abbrev pub collator_comparison : Collator → Comparison
-collator_comparison c = plain_comparison c.strength (kept_tables c.tables)
-
-abbrev pub comparison_of : CollatorBorrowed → Comparison
-comparison_of c = plain_comparison c.strength (tables_of c.tables)
+-- The order needs no more than the primary, secondary and tertiary weights of each character by itself, as they are: the reading
+-- needs no context, leads aren't reordered, the secondary level is compared from the front, variable elements are like others, and
+-- neither case nor a level after the tertiary one counts.
+pub record IsPlainComparison (all : CollatorTables) (settings : Settings) : Type 0 where
+  pub reading : IsPlain (reading_by all settings)
+  pub reordering : all.reordering ≡ None
+  pub forward : settings.backward_second_level.value ≡ false
+  pub alternate_handling : settings.alternate_handling.value ≡ NonIgnorable
+  pub case_level : settings.case_level.value ≡ false
+  pub case_first : settings.case_first.value ≡ case_first.False
+  pub strength : IsTrue (is_at_most_tertiary settings.strength.value)

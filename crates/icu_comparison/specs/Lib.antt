@@ -1,6 +1,4 @@
 pub use Rattle.icu_levels.specs.ListOrder
-pub use Rattle.icu_provider.specs.Conditions
-pub use Rattle.icu_provider.specs.Roots
 pub use Rattle.icu_provider.specs.Stored
 pub use Rattle.icu_provider.specs.Tables
 pub use Rattle.icu_elements.specs.TextElements
@@ -8,3 +6,4 @@ pub use Rattle.icu_elements.specs.Reading
 pub mod Levels
 pub mod Order
 pub mod Collators
+pub mod LiveWeights

@@ -1,58 +1,76 @@
-ghost use Rattle.std.specs.Prelude.{◌≡◌, IsOk, IfOk, IfErr, IsTrue, chars};
-ghost use Rattle.icu_provider.specs.Roots.{IsGoodStoredRoot, IsTrueRefusal, stored_data, root_tables};
+ghost use Rattle.std.specs.Prelude.{◌≡◌, Err, Ok, Some, None, IfErr, IfOk, chars, if◌then◌else◌};
+ghost use Rattle.icu_options.specs.Conversions.{resolved_of};
+ghost use Rattle.icu_options.specs.Merge.{merge};
+ghost use Rattle.icu_options.specs.Metadata.{metadata_settings};
+ghost use Rattle.icu_provider.specs.declared.error.DataErrorKind.TheVariants.{NoMemory};
+ghost use Rattle.icu_checks.specs.GoodTables.{IsGoodTables, IsTrueRefusal};
+ghost use Rattle.icu_elements.specs.Plain.{IsPlain};
 ghost use Rattle.icu_elements.specs.Reading.{tables_of};
-ghost use Rattle.icu_comparison.specs.Order.{is_at_most_tertiary, order_of};
+ghost use Rattle.icu_elements.specs.TextElements.{elements_of};
+ghost use Rattle.icu_comparison.specs.Order.{order_of};
+ghost use Rattle.unicode_normalization.specs.Forms.{nfd};
 
 use crate::order::compare_elements;
+use icu_checks::{CheckedTables, load_tables};
 use icu_elements::{ElementTables, all_elements};
-use icu_options::Strength;
-use icu_provider::{CheckedTables, DataErrorKind};
+use icu_options::{
+    CollatorOptions, CollatorOptionsBitField, CollatorPreferences, ResolvedCollatorOptions,
+    merged_options,
+};
+use icu_provider::{CollationElement, CollationProvider, DataError};
 use std::alloc::{AllocError, Global};
 use std::cmp::Ordering;
 
-/// Compares texts by a language's rules (UTS #10). Owns copies of its tables.
+/// Compares texts by a language's rules (UTS #10). Owns copies of its tables, which were checked together, and its settings.
 #[derive(Debug, Drop)]
 pub struct Collator {
     tables: CheckedTables,
-    strength: Strength,
-    ghost few_levels: { IsTrue (is_at_most_tertiary strength) },
+    settings: CollatorOptionsBitField,
 }
 
 impl Collator {
-    ghost use Rattle.icu_comparison.specs.Collators.{collator_comparison, comparison_of, plain_comparison};
+    ghost use Rattle.icu_comparison.specs.Collators.{lent_for, tables_kept, settings_kept, tables_borrowed, settings_borrowed};
 
-    /// A collator by a root table, without tailoring: the blocks and values of its code point table, its lists of elements
-    /// and of entries, the secondary weights of the diacritics from U+0300 on, and the entries of the jamo from U+1100 on. The
-    /// slices are copied. Digits are letters like others.
+    /// A collator by the tables that a provider lends for the locale and the type of `preferences` (`load_tables` says which are
+    /// asked for, and in which order). They are checked together, and copied; nothing is kept that wasn't checked. Each setting is
+    /// that of the first source that names it: `options` or `preferences`, then the metadata that was lent, then the default
+    /// (`merged_options`).
     ///
-    /// Refuses tables whose lengths, indexes, digits or tags are wrong, or whose digits lead to entries that aren't
-    /// final. `NoMemory` says that a growth was refused.
-    pub fn try_new_root(
+    /// Where a table isn't lent, the provider's last refusal of it is answered. Tables that don't meet the conditions together are
+    /// refused with the name of one that takes part in a condition that fails, and the condition's kind. `NoMemory` says that a
+    /// growth was refused.
+    pub fn try_new_unstable<P: CollationProvider>(
         alloc: Global,
-        blocks: &[u16],
-        values: &[u32],
-        ces: &[u64],
-        ce32s: &[u32],
-        diacritics: &[u16],
-        jamo: &[u32],
-        strength: Strength,
-    ) -> Result<Collator, DataErrorKind>
-        requires { IsTrue (is_at_most_tertiary strength) }
-        ensures accepts { IsOk result → IsGoodStoredRoot blocks.now values.now ces.now ce32s.now jamo.now diacritics.now }
-        ensures kind { IfErr result (IsTrueRefusal blocks.now values.now (root_tables (stored_data blocks.now values.now ces.now ce32s.now) jamo.now diacritics.now)) }
-        ensures keeps { IfOk result (λ c. collator_comparison c ≡ plain_comparison strength (root_tables (stored_data blocks.now values.now ces.now ce32s.now) jamo.now diacritics.now)) }
+        provider: &P,
+        preferences: CollatorPreferences<'_>,
+        options: CollatorOptions,
+    ) -> Result<Collator, DataError>
+        // What the provider lends, or its refusal.
+        ensures not_lent { IfErr (lent_for (P.loads provider.now) preferences.entry) (λ e. result ≡ Err e) }
+        ensures keeps { IfOk result (λ c. lent_for (P.loads provider.now) preferences.entry ≡ Ok (tables_kept c)) }
+
+        // It is checked: memory aside, a collator is made of good tables, and only of them.
+        ensures good { IfOk result (λ c. IsGoodTables (tables_kept c)) }
+        ensures refusal { IfErr result (λ e. IfOk (lent_for (P.loads provider.now) preferences.entry) (λ all. IsTrueRefusal all e)) }
+        ensures exact { IfErr result (λ e. IfOk (lent_for (P.loads provider.now) preferences.entry) (λ all.
+            (e.kind ≡ NoMemory → ⊥) → IsGoodTables all → ⊥)) }
+
+        ensures settings { IfOk result (λ c. settings_kept c ≡ merge options preferences.entry (metadata_settings (tables_kept c).bits)) }
     {
-        let tables = CheckedTables::new_root(alloc, blocks, values, ces, ce32s, diacritics, jamo)?;
-        Ok(Collator { tables, strength })
+        let lent = load_tables(provider, preferences.locale, preferences.collation_type)?;
+        let tables = CheckedTables::from_set(alloc, lent)?;
+        let settings = merged_options(options, preferences, tables.metadata().settings());
+        Ok(Collator { tables, settings })
     }
 
     /// The same collator, borrowed: copies nothing.
     pub fn as_borrowed(&self) -> CollatorBorrowed<'_>
-        ensures { comparison_of result ≡ collator_comparison self.now }
+        ensures tables { tables_borrowed result ≡ tables_kept self.now }
+        ensures settings { settings_borrowed result ≡ settings_kept self.now }
     {
         CollatorBorrowed {
-            tables: ElementTables::new(&self.tables),
-            strength: self.strength,
+            tables: &self.tables,
+            settings: self.settings,
         }
     }
 }
@@ -60,31 +78,65 @@ impl Collator {
 /// A collator that borrows its tables.
 #[derive(Debug, Clone, Copy)]
 pub struct CollatorBorrowed<'a> {
-    tables: ElementTables<'a>,
-    strength: Strength,
+    tables: &'a CheckedTables,
+    settings: CollatorOptionsBitField,
 }
 
 impl<'a> CollatorBorrowed<'a> {
-    ghost use Rattle.icu_comparison.specs.Collators.{comparison_of};
+    ghost use Rattle.icu_comparison.specs.Collators.{IsPlainComparison, comparison_by, reading_by, tables_borrowed, settings_borrowed};
+
+    /// The settings that the collator works by.
+    pub fn resolved_options(&self) -> ResolvedCollatorOptions
+        ensures { result ≡ resolved_of (settings_borrowed self.now) }
+    {
+        self.settings.into()
+    }
 
     /// The tables that elements are read from.
     pub fn tables(&self) -> ElementTables<'a>
-        ensures { tables_of result ≡ (comparison_of self.now).reading.tables }
+        ensures { tables_of result ≡ (tables_borrowed self.now).tables }
     {
-        self.tables
+        ElementTables::new(self.tables)
     }
 
-    /// The order of two texts (UTS #10, section 7.4). Refused only where a growth was.
+    /// The order of two texts (UTS #10, section 7.4), where their elements are plain and compared as they are
+    /// (`IsPlainComparison`). Elsewhere each character is read by itself, the weights are compared as they stand in the tables, and
+    /// levels after the tertiary one don't count. Refused only where a growth was.
     pub fn compare(&self, left: &str, right: &str) -> Result<Ordering, AllocError>
-        ensures { IfOk result (λ o. o ≡ order_of (comparison_of self.now) (chars left.now) (chars right.now)) }
+        ensures { IsPlainComparison (tables_borrowed self.now) (settings_borrowed self.now)
+            → IfOk result (λ o. o ≡ order_of (comparison_by (tables_borrowed self.now) (settings_borrowed self.now)) (chars left.now) (chars right.now)) }
     {
-        let left = all_elements(self.tables, left.chars())?;
-        let right = all_elements(self.tables, right.chars())?;
+        let left = self.elements(left)?;
+        let right = self.elements(right)?;
         compare_elements(
             self.tables.allocator(),
-            self.strength,
+            self.settings.strength(),
             left.as_slice(),
             right.as_slice(),
         )
+    }
+
+    /// The elements of a text.
+    fn elements(&self, text: &str) -> Result<Vec<CollationElement>, AllocError>
+        ensures { let reading = reading_by (tables_borrowed self.now) (settings_borrowed self.now) in
+            IsPlain reading → IfOk result (λ es. es.items ≡ elements_of reading (nfd (chars text.now))) }
+    {
+        all_elements(
+            self.tables(),
+            text.chars(),
+            self.numeric_primary(),
+            self.tables.metadata().lithuanian_dot_above(),
+        )
+    }
+
+    /// The lead byte of numbers, where digits are read as numbers.
+    fn numeric_primary(&self) -> Option<u8>
+        ensures { result ≡ (reading_by (tables_borrowed self.now) (settings_borrowed self.now)).numeric }
+    {
+        if self.settings.numeric() {
+            Some(self.tables.special_primaries().numeric_primary())
+        } else {
+            None
+        }
     }
 }

@@ -2,6 +2,7 @@
 #![tactic(auto)]
 
 pub mod collator;
+pub mod laws;
 mod levels;
 mod order;
 

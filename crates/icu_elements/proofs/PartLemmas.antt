@@ -17,7 +17,7 @@ use Rattle.icu_provider.specs.Live.{live_digit, live_contraction, live_from, Eac
 use Rattle.icu_provider.proofs.ListLemmas.{weaker}
 use Rattle.icu_elements.specs.Matches.{Match, match_of}
 use Rattle.icu_elements.specs.TextElements.{Reading, Step, is_silent_dot, goes_on, begins_with_mark, digit_of, number_elements, number_step, entry_step, diacritic_step, matched_step, step, taken, last_two, elements_along, elements_after, elements_of}
-use Rattle.icu_elements.specs.LiveTables.{jamo_entry, AllLive, HasDigits}
+use Rattle.icu_provider.specs.LiveTables.{jamo_entry, AllLive, HasDigits}
 use Rattle.icu_elements.specs.TextParts.{IsDecomposed, IsDecomposedText, AreDigits, HasGoodParts, EachPasses, PartsPass}
 use Rattle.icu_elements.proofs.LiveLemmas.{match_of-live, all_drop}
 
@@ -39,7 +39,7 @@ prefix_head : (P : ℕ → Type 0) (k : EntryKind) (e : ℕ) (es fs : List ℕ) 
 prefix_head P Prefix e es fs f h = h.0
 prefix_head P _ e es fs f h = f h
 
-live_from-head : (P : ℕ → Type 0) (home : Data) (e : ℕ) → AllByRecursion P (live_from home e) → P e
+pub live_from-head : (P : ℕ → Type 0) (home : Data) (e : ℕ) → AllByRecursion P (live_from home e) → P e
 unfolding live_from live_contraction
 live_from-head P home e h =
     prefix_head P (kind_of e) e _ _ (λ g. contraction_head P (kind_of e) e _ _ (live_digit-head P home e) g) h
@@ -63,7 +63,7 @@ by_home P root (Some tailoring) c scalar r t =
     home_if (HoldsFrom P c) (tailoring.value c == 0xC0) (homed root (root.value c)) (homed tailoring (tailoring.value c)) (λ _. r)
     (λ h. not_fallback (P tailoring c) (tailoring.value c == 0xC0) (live_from tailoring (tailoring.value c)) h (t c scalar))
 
-entry_of-live : (P : Data → ℕ → ℕ → Type 0) (tables : Tables) → AllLive P tables → (c : ℕ) → IsScalar c → HoldsFrom P c (entry_of tables c)
+pub entry_of-live : (P : Data → ℕ → ℕ → Type 0) (tables : Tables) → AllLive P tables → (c : ℕ) → IsScalar c → HoldsFrom P c (entry_of tables c)
 unfolding entry_of
 entry_of-live P tables live c scalar =
     home_if (HoldsFrom P c) (is_jamo c) (homed tables.root (jamo_entry tables c)) _ (λ j. live.jamo c j)

@@ -1,7 +1,7 @@
--- Where no entry names a context and digits are letters like others, a text's elements are those of its characters.
-use Rattle.std.proofs.Common.{◌≡◌, ℕ, ◌≤◌, Bool, true, false, List, [], ◌∷◌, ◌++◌, length, flat_map, Option, Some, None, refl, ap, ◌∙◌, arith, All}
+-- Where the reading is plain, a text's elements are those of its characters.
+use Rattle.std.proofs.Common.{◌≡◌, ℕ, ◌≤◌, true, List, [], ◌∷◌, ◌++◌, length, fold, Option, Some, None, refl, sym, ap, ◌∙◌, append-nil, append_assoc, arith, All, IsTrue}
 use Rattle.std.specs.Char.{IsScalar}
-use Rattle.std.specs.List.{AllByRecursion}
+use Rattle.std.specs.List.{AllByRecursion, push}
 use Rattle.std.proofs.lemmas.List.Elements.{recursion_from_All}
 use Rattle.icu_provider.specs.Elements.{Element, accent_element}
 use Rattle.icu_provider.specs.declared.entry.EntryKind.{EntryKind}
@@ -10,14 +10,12 @@ use Rattle.icu_provider.specs.Entries.{kind_of}
 use Rattle.icu_provider.specs.Tables.{Data, Tables, HomedEntry, homed, entry_of, diacritic_of}
 use Rattle.icu_provider.specs.Final.{final_elements}
 use Rattle.icu_elements.specs.Matches.{Match, after_prefix, match_from, match_of}
-use Rattle.icu_elements.specs.TextElements.{Step, entry_step, matched_step, step, elements_along, elements_after, elements_of}
-use Rattle.icu_elements.specs.Plain.{plain_reading, plain_entry, elements_of_char}
-
--- the kind names no context
-abbrev pub names_no_context : EntryKind → Bool
-names_no_context Prefix = false
-names_no_context Contraction = false
-names_no_context _ = true
+use Rattle.icu_elements.specs.TextElements.{Reading, Step, entry_step, matched_step, step, elements_along, elements_after, elements_of}
+use Rattle.icu_provider.specs.LiveTables.{AllLive, IsLive}
+use Rattle.icu_elements.specs.Plain.{plain_reading, plain_entry, elements_of_char, elements_by_char, names_no_context, IsPlain}
+use Rattle.icu_elements.proofs.PartLemmas.{live_from-head}
+use Rattle.icu_elements.proofs.SourceLemmas.{AllLive-at}
+use Rattle.icu_elements.proofs.ReadableLemmas.{entry_of-is_live}
 
 not_prefix : {A : Type 0} (k : EntryKind) (a b : A) → names_no_context k ≡ true → (elim k [ Prefix ↦ a | _ ↦ b ]) ≡ b
 not_prefix Prefix a b h = cc
@@ -65,10 +63,10 @@ step-plain tables before c text p =
     at_accent (diacritic_of tables c) text _ _ matched
 
 -- each character's entry names no context
-pub record IsPlain (tables : Tables) : Type 0 where
+record HasPlainEntries (tables : Tables) : Type 0 where
   pub at : (c : ℕ) → IsScalar c → names_no_context (kind_of (entry_of tables c).entry) ≡ true
 
-elements_along-plain : (tables : Tables) → IsPlain tables → (along before text : List ℕ) → length text ≤ length along → AllByRecursion IsScalar text → elements_along along (plain_reading tables) before text ≡ flat_map (elements_of_char tables) text
+elements_along-plain : (tables : Tables) → HasPlainEntries tables → (along before text : List ℕ) → length text ≤ length along → AllByRecursion IsScalar text → elements_along along (plain_reading tables) before text ≡ elements_by_char tables text
 unfolding elements_along
 elements_along-plain tables plain along before [] fits all = refl
 elements_along-plain tables plain [] before (c ∷ text) fits all = absurd (omega arith)
@@ -76,11 +74,43 @@ elements_along-plain tables plain (_ ∷ along) before (c ∷ text) fits all =
     let e = step-plain tables before c text (plain.at c all.0) in
     rw e (ap (λ es. elements_of_char tables c ++ es) (elements_along-plain tables plain along _ text (omega arith) all.1))
 
+-- so it is where no live entry does
+plain_entries : (reading : Reading) → IsPlain reading → HasPlainEntries reading.tables
+plain_entries reading plain =
+    record {
+      at = λ c scalar.
+          let h = entry_of reading.tables c in
+          let live = live_from-head (IsLive reading.tables h.home c) h.home h.entry (entry_of-is_live reading.tables c scalar) in
+          plain.entries h.home c h.entry live;
+    }
+
+read_plainly : (reading : Reading) → IsPlain reading → reading ≡ plain_reading reading.tables
+read_plainly reading plain =
+    ap (λ n. record { tables = reading.tables; numeric = n; lithuanian = reading.lithuanian }) plain.no_numbers
+    ∙ ap (λ b. record { tables = reading.tables; numeric = None; lithuanian = b }) plain.no_silent_dot
+
 -- the elements of a text are those of its characters
-pub elements_of-plain : (tables : Tables) → IsPlain tables → (text : List ℕ) → All IsScalar text → elements_of (plain_reading tables) text ≡ flat_map (elements_of_char tables) text
+pub elements_of-plain : (reading : Reading) → IsPlain reading → (text : List ℕ) → All IsScalar text → elements_of reading text ≡ elements_by_char reading.tables text
 unfolding elements_after
-elements_of-plain tables plain text all =
-    elements_along-plain tables plain text [] text (omega arith) (recursion_from_All IsScalar text all)
+elements_of-plain reading plain text all =
+    ap (λ r. elements_of r text) (read_plainly reading plain)
+    ∙ elements_along-plain reading.tables (plain_entries reading plain) text [] text (omega arith) (recursion_from_All IsScalar text all)
+
+-- where no live entry looks at a context, the reading with digits as letters is plain
+pub IsPlain-from_each : (tables : Tables) → AllLive (λ home c e. IsTrue (names_no_context (kind_of e))) tables → IsPlain (plain_reading tables)
+IsPlain-from_each tables all = record {
+  entries = AllLive-at (λ home c e. IsTrue (names_no_context (kind_of e))) tables all;
+  no_numbers = refl;
+  no_silent_dot = refl;
+}
+
+-- ---- appending
+
+pub fold_pushed : {X : Type 0} (xs ys : List X) → fold push xs ys ≡ xs ++ ys
+fold_pushed xs [] = sym (append-nil xs)
+fold_pushed xs (y ∷ ys) = fold_pushed (xs ++ y ∷ []) ys ∙ append_assoc xs (y ∷ []) ys
+
+-- ---- digits
 
 not_digit : {A : Type 0} (k : EntryKind) (a b : A) → (k ≡ Digit → ⊥) → (elim k [ Digit ↦ a | _ ↦ b ]) ≡ b
 not_digit Digit a b h = absurd (h refl)

@@ -1,5 +1,5 @@
 -- Each element of a text is one of a live entry, a diacritic or a number.
-use Rattle.std.proofs.Common.{◌≡◌, ℕ, true, false, List, [], ◌∷◌, Option, Some, None, refl, IfSome, inl, inr, zero, suc, arith}
+use Rattle.std.proofs.Common.{◌≡◌, ℕ, true, false, List, [], ◌∷◌, Option, Some, None, refl, sym, subst, IfSome, inl, inr, zero, suc, arith}
 use Rattle.std.specs.Char.{IsScalar}
 use Rattle.std.specs.List.{AllByRecursion, Contains}
 use Rattle.unicode_normalization.specs.Forms.{nfd}
@@ -7,9 +7,9 @@ use Rattle.icu_provider.specs.Elements.{accent_element}
 use Rattle.icu_provider.specs.Tables.{Data, Tables, homed, diacritic_of}
 use Rattle.icu_provider.specs.Final.{final_elements}
 use Rattle.icu_provider.specs.Live.{live_from, live_at, EachLive}
-use Rattle.icu_provider.proofs.ListLemmas.{all_append}
+use Rattle.icu_provider.proofs.ListLemmas.{all_append, of_member}
 use Rattle.icu_elements.specs.TextElements.{Reading, number_elements, elements_of}
-use Rattle.icu_elements.specs.LiveTables.{jamo_entry, AllLive, HasDigits, IsLive}
+use Rattle.icu_provider.specs.LiveTables.{jamo_entry, AllLive, HasDigits, IsLive}
 use Rattle.icu_elements.specs.TextParts.{IsDecomposed, GoodNumbers, IsTextElement}
 use Rattle.icu_elements.proofs.DecomposedLemmas.{IsDecomposedText-nfd}
 use Rattle.icu_elements.proofs.PartLemmas.{elements_of-good, AllLive-weaker}
@@ -26,13 +26,23 @@ in_tailoring : (tables : Tables) (o : Option Data) → tables.tailoring ≡ o �
 in_tailoring tables None is = tt
 in_tailoring tables (Some home) is = λ c s. all_contained (IsLive tables home c) (live_at true home c) (λ e h. inr (inr (is, s, h)))
 
-all_live : (tables : Tables) → AllLive (IsLive tables) tables
+-- what is live is live
+pub all_live : (tables : Tables) → AllLive (IsLive tables) tables
 all_live tables =
     record {
       root = λ c s. all_contained (IsLive tables tables.root c) (live_at false tables.root c) (λ e h. inl (refl, s, h));
       jamo = λ c j. all_contained (IsLive tables tables.root c) (live_from tables.root (jamo_entry tables c)) (λ e h. inr (inl (refl, j, h)));
       tailoring = in_tailoring tables tables.tailoring refl;
     }
+
+-- what holds of each live entry holds of one
+pub AllLive-at : (P : Data → ℕ → ℕ → Type 0) (tables : Tables) → AllLive P tables → (home : Data) (c e : ℕ) → IsLive tables home c e → P home c e
+AllLive-at P tables all home c e (inl (is, scalar, member)) =
+    subst (λ (h : Data). Contains (live_at false h c) e → P h c e) (sym is) (of_member (P tables.root c) (live_at false tables.root c) e (all.root c scalar)) member
+AllLive-at P tables all home c e (inr (inl (is, jamo, member))) =
+    subst (λ (h : Data). Contains (live_from h (jamo_entry tables c)) e → P h c e) (sym is) (of_member (P tables.root c) (live_from tables.root (jamo_entry tables c)) e (all.jamo c jamo)) member
+AllLive-at P tables all home c e (inr (inr (is, scalar, member))) =
+    of_member (P home c) (live_at true home c) e (subst (λ o. IfSome o (λ (home : Data). EachLive (P home) true home)) is all.tailoring c scalar) member
 
 of_diacritic : (reading : Reading) (c : ℕ) → IsDecomposed c → (o : Option ℕ) → diacritic_of reading.tables c ≡ o → IfSome o (λ s. AllByRecursion (IsTextElement reading) (accent_element s ∷ []))
 of_diacritic reading c read None is = tt

@@ -1,5 +1,6 @@
 -- What an iterator of elements still gives, and that it may be called.
-use Rattle.std.specs.Prelude.{◌≡◌, ℕ, List, [], ◌∷◌, drop, Option, ⊤}
+use Rattle.std.specs.Prelude.{◌≡◌, ℕ, List, [], ◌∷◌, drop, Option, ⊤, All}
+use Rattle.std.specs.Char.{IsScalar}
 use Rattle.std.specs.Iterator.{Count}
 use Rattle.unicode_normalization.specs.Decompositions.{DecomposesTo, CanDecompose}
 use Rattle.unicode_normalization.specs.declared.decompose.Decompositions.{Decompositions}
@@ -7,18 +8,18 @@ use Rattle.icu_provider.specs.Elements.{Element, end_element}
 use Rattle.icu_elements.specs.declared.iter.Progress.{Progress}
 use Rattle.icu_elements.specs.declared.iter.Progress.TheVariants.{Unread, Read, Refused}
 use Rattle.icu_elements.specs.declared.iter.CollationElements.{CollationElements}
-use Rattle.icu_elements.specs.TextElements.{elements_of}
-use Rattle.icu_elements.specs.Reading.{reading_of}
+use Rattle.icu_elements.specs.Plain.{elements_by_char}
+use Rattle.icu_elements.specs.Reading.{tables_of}
 
 -- these decomposed characters are still to come from the source, unless memory runs out
 abbrev pub StillReads : {I : Type 0} → (I → Option ℕ → I → Type 0) → Decompositions I → List ℕ → Type 0
 StillReads steps source cs = DecomposesTo steps source cs
 
--- a text that is still to be read, and its elements
+-- a text that is still to be read, and its elements, character by character; a text is of scalar values, as each char is one
 pub record HasUnread {I : Type 0} (steps : I → Option ℕ → I → Type 0) (s : CollationElements I) (es : List Element) : Type 0 where
   pub text : List ℕ
   pub source : StillReads steps s.source text
-  pub elements : es ≡ elements_of (reading_of s.tables s.numeric_primary s.lithuanian_dot_above) text
+  pub elements : All IsScalar text → es ≡ elements_by_char (tables_of s.tables) text
 
 abbrev pub GivesAt : {I : Type 0} → Progress → (I → Option ℕ → I → Type 0) → CollationElements I → List Element → Type 0
 GivesAt Unread steps s es = HasUnread steps s es

@@ -1,10 +1,12 @@
--- Elements character by character, where no entry names a context and digits are letters like others.
-use Rattle.std.specs.Prelude.{ℕ, false, List, [], ◌∷◌, Some, None}
+-- Elements character by character, and where they are a text's elements.
+use Rattle.std.specs.Prelude.{ℕ, ◌≡◌, Bool, true, false, List, [], ◌∷◌, Some, None, flat_map, IsTrue}
 use Rattle.icu_provider.specs.Elements.{Element, accent_element}
-use Rattle.icu_provider.specs.declared.entry.EntryKind.TheVariants.{Digit}
+use Rattle.icu_provider.specs.declared.entry.EntryKind.{EntryKind}
+use Rattle.icu_provider.specs.declared.entry.EntryKind.TheVariants.{Prefix, Contraction, Digit}
 use Rattle.icu_provider.specs.Entries.{kind_of}
-use Rattle.icu_provider.specs.Tables.{Tables, HomedEntry, homed, plain_of, entry_of, diacritic_of}
+use Rattle.icu_provider.specs.Tables.{Data, Tables, HomedEntry, homed, plain_of, entry_of, diacritic_of}
 use Rattle.icu_provider.specs.Final.{final_elements}
+use Rattle.icu_provider.specs.LiveTables.{IsLive}
 use Rattle.icu_elements.specs.TextElements.{Reading}
 
 -- how a text is read whose digits are letters like others
@@ -15,10 +17,27 @@ plain_reading tables = record { tables = tables; numeric = None; lithuanian = fa
 unfoldable pub plain_entry : HomedEntry → HomedEntry
 plain_entry h = elim (kind_of h.entry) [ Digit ↦ homed h.home (plain_of h.home h.entry) | _ ↦ h ]
 
--- the elements of one character
+-- the elements of one character by itself: an entry that looks at a context gives none
 unfoldable pub elements_of_char : Tables → ℕ → List Element
 elements_of_char tables c =
     elim (diacritic_of tables c) [
       | Some secondary ↦ accent_element secondary ∷ []
       | None ↦ final_elements (plain_entry (entry_of tables c)) c
     ]
+
+-- the elements of each character by itself, one after the other
+abbrev pub elements_by_char : Tables → List ℕ → List Element
+elements_by_char tables text = flat_map (elements_of_char tables) text
+
+-- the kind looks at no context
+abbrev pub names_no_context : EntryKind → Bool
+names_no_context Prefix = false
+names_no_context Contraction = false
+names_no_context _ = true
+
+-- A reading that needs no context: no entry that is live is a prefix's or a contraction's, digits are letters like others, and no
+-- dot is silent.
+pub record IsPlain (reading : Reading) : Type 0 where
+  pub entries : (home : Data) (c e : ℕ) → IsLive reading.tables home c e → IsTrue (names_no_context (kind_of e))
+  pub no_numbers : reading.numeric ≡ None
+  pub no_silent_dot : reading.lithuanian ≡ false

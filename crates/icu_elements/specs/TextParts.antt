@@ -6,7 +6,7 @@ use Rattle.icu_provider.specs.Elements.{Element, accent_element}
 use Rattle.icu_provider.specs.Tables.{Data, Tables, homed, diacritic_of}
 use Rattle.icu_provider.specs.Final.{final_elements}
 use Rattle.icu_elements.specs.TextElements.{Reading, number_elements}
-use Rattle.icu_elements.specs.LiveTables.{AllLive, HasDigits, IsLive}
+use Rattle.icu_provider.specs.LiveTables.{AllLive, HasDigits, IsLive}
 
 -- a mark that canonical decomposition replaces: U+0340, U+0341, U+0343 or U+0344 (UAX #15)
 abbrev pub is_replaced : ℕ → Bool

@@ -1,4 +1,4 @@
-ghost use Rattle.std.specs.Prelude.{◌≡◌, ℕ, List, IsErr, IfOk, OnOk, OnErr, drop, None, false};
+ghost use Rattle.std.specs.Prelude.{◌≡◌, ℕ, List, IsErr, IfOk, OnOk, OnErr, drop};
 ghost use Rattle.std.specs.Iterator.{IsFinite};
 ghost use Rattle.icu_provider.specs.Elements.{Element};
 ghost use Rattle.unicode_normalization.specs.Decompositions.{CanDecompose};
@@ -25,39 +25,39 @@ enum Progress {
 pub struct CollationElements<'d, I> {
     source: Decompositions<I>,
     tables: ElementTables<'d>,
-    numeric_primary: Option<u8>,
-    lithuanian_dot_above: bool,
     elements: Vec<CollationElement>,
     next: usize,
     progress: Progress,
-    ghost no_numbers: { numeric_primary ≡ None },
-    ghost no_silent_dot: { lithuanian_dot_above ≡ false },
 }
 
 impl<'d, I: Iterator<Item = char> + Drop> CollationElements<'d, I> {
     ghost use Rattle.icu_elements.specs.TextElements.{elements_of};
-    ghost use Rattle.icu_elements.specs.Reading.{reading_of};
+    ghost use Rattle.icu_elements.specs.Plain.{IsPlain, elements_by_char};
+    ghost use Rattle.icu_elements.specs.Reading.{tables_of, reading_of};
     ghost use Rattle.icu_elements.specs.CollationElements.{StillGives, HasUnread, CanGive, IsRefused, first_of, rest_of};
 
     /// Reads the text that `delegate` spells, by these tables. `numeric_primary` is the lead byte of numbers, where digits
     /// are read as numbers. With `lithuanian_dot_above`, U+0307 before an accent above is silent. Takes no memory.
+    ///
+    /// The text is read character by character, which gives its elements where the reading is plain: no entry of the tables
+    /// looks at a context, digits are letters like others, and no dot is silent. Elsewhere an entry that looks at a context
+    /// gives no element, digits are letters all the same, and each dot has its element.
     pub fn new(
         delegate: I,
         tables: ElementTables<'d>,
         numeric_primary: Option<u8>,
         lithuanian_dot_above: bool,
     ) -> CollationElements<'d, I>
-        requires no_numbers { numeric_primary ≡ None }
-        requires no_silent_dot { lithuanian_dot_above ≡ false }
         ensures text { (cs : List ℕ) → Spells I.next_gives delegate cs
+            → StillGives I.next_gives result (elements_by_char (tables_of tables.entry) (nfd cs)) }
+        ensures plain { IsPlain (reading_of tables.entry numeric_primary lithuanian_dot_above)
+            → (cs : List ℕ) → Spells I.next_gives delegate cs
             → StillGives I.next_gives result (elements_of (reading_of tables.entry numeric_primary lithuanian_dot_above) (nfd cs)) }
         ensures ready { I.can_next delegate → IsFinite (I.remaining delegate) → CanGive I.can_next I.remaining result }
     {
         CollationElements {
             source: Decompositions::new_canonical(tables.allocator(), delegate),
             tables,
-            numeric_primary,
-            lithuanian_dot_above,
             elements: Vec::new(tables.allocator()),
             next: 0,
             progress: Progress::Unread,

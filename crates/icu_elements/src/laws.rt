@@ -1,6 +1,7 @@
 //! The theorems on the elements of all texts, each as a function that makes no call.
 
 ghost use Rattle.icu_elements.specs.TextLaws.{TextsDecompose, GoodPartsMakeGoodTexts, ElementsPass, ElementsHaveSources};
+ghost use Rattle.icu_elements.specs.LiveTexts.{GoodTablesGiveLiveElements};
 
 /// Canonical decomposition of a text of scalar values gives scalar values, and none of U+0340, U+0341, U+0343 and
 /// U+0344 (UAX #15).
@@ -20,4 +21,10 @@ pub fn good_parts_make_good_texts()
 /// of a number (UTS #10, section 7.2).
 pub fn elements_have_sources()
     ensures { ElementsHaveSources }
+{}
+
+/// By tables that meet the conditions, each element of each text is live by one of them, or is that of one of a number's
+/// weights (UTS #10, section 7.2; numbers by UTS #35 part 5).
+pub fn good_tables_give_live_elements()
+    ensures { GoodTablesGiveLiveElements }
 {}

@@ -1,7 +1,7 @@
 //! The collation elements of a text.
 #![tactic(auto)]
 
-mod final_elements;
+mod element_list;
 pub mod iter;
 pub mod laws;
 mod plain;

@@ -1,57 +1,59 @@
-ghost use Rattle.std.specs.Prelude.{◌≡◌, ◌++◌, OnOk, IfOk};
+ghost use Rattle.std.specs.Prelude.{◌≡◌, ◌++◌, All, IsTrue, OnOk, IfOk};
+ghost use Rattle.std.specs.Char.{IsScalar};
 ghost use Rattle.icu_provider.specs.Tables.{homed};
-ghost use Rattle.icu_provider.specs.Conditions.{IsGoodLive, IsGoodFinal};
+ghost use Rattle.icu_provider.specs.EntryConditions.{is_readable};
 ghost use Rattle.icu_provider.specs.Stored.{data_of};
-ghost use Rattle.icu_elements.specs.TextElements.{elements_of};
-ghost use Rattle.icu_elements.specs.Plain.{plain_reading, plain_entry, elements_of_char};
+ghost use Rattle.icu_elements.specs.Plain.{plain_entry, elements_of_char, elements_by_char};
+ghost use Rattle.icu_elements.specs.Readable.{IsGoodFrom};
 ghost use Rattle.icu_elements.specs.Reading.{tables_of};
 
-use crate::final_elements::push_final;
+use crate::element_list::ElementList;
 use crate::tables::ElementTables;
+use icu_provider::element_walk::visit_elements;
 use icu_provider::{CollationData, CollationElement, CollationElement32, EntryKind};
 use std::alloc::{AllocError, Global};
 
 /// A digit's plain entry, and any other as it is.
 #[tactic(auto, unfolding(crate::specs::Plain::plain_entry))]
-fn plain_of(home: CollationData<'_>, entry: CollationElement32) -> CollationElement32
-    requires { IsGoodLive (data_of home) entry }
-    ensures value { plain_entry (homed (data_of home.entry) entry) ≡ homed (data_of home.entry) result }
-    ensures good { IsGoodFinal (data_of home.entry) result }
+fn plain_of(home: CollationData<'_>, c: char, ce32: CollationElement32) -> CollationElement32
+    requires { IsGoodFrom (data_of home) c ce32 }
+    ensures value { plain_entry (homed (data_of home.entry) ce32) ≡ homed (data_of home.entry) result }
+    ensures readable { IsTrue (is_readable (data_of home.entry) c result) }
 {
-    match entry.kind() {
-        EntryKind::Digit => home.get_ce32(entry.index()),
-        _ => entry,
+    match ce32.kind() {
+        EntryKind::Digit => home.get_ce32(ce32.index()),
+        _ => ce32,
     }
 }
 
-/// Appends the elements of a character.
-#[tactic(auto, unfolding(crate::specs::Plain::elements_of_char))]
-fn push_char(
-    out: &mut Vec<CollationElement>,
-    tables: ElementTables<'_>,
-    c: char,
-) -> Result<(), AllocError>
-    ensures { OnOk result (out.new.items ≡ out.old.items ++ elements_of_char (tables_of tables.entry) c) }
+/// Appends the elements of a character by itself. An entry that looks at a context gives none.
+#[tactic(auto, using(crate::proofs::PlainLemmas::fold_pushed), unfolding(crate::specs::Plain::elements_of_char))]
+fn push_char(list: &mut ElementList, tables: ElementTables<'_>, c: char) -> Result<(), AllocError>
+    ensures { OnOk result (list.new.elements.items ≡ list.old.elements.items ++ elements_of_char (tables_of tables.entry) c) }
 {
     if let Some(secondary) = tables.diacritic(c) {
-        out.push(CollationElement::new_from_secondary(secondary))?;
+        list.elements
+            .push(CollationElement::new_from_secondary(secondary))?;
         return Ok(());
     }
-    let root = tables.root();
-    push_final(out, root, plain_of(root, tables.entry(c)), c)
+    let found = tables.entry(c);
+    visit_elements(list, found.home, c, plain_of(found.home, c, found.ce32))
 }
 
-/// The elements of a decomposed text, where digits are letters like others.
+/// The elements of a decomposed text, character by character.
 pub(crate) fn elements_of_text(
     alloc: Global,
     tables: ElementTables<'_>,
     text: &[char],
 ) -> Result<Vec<CollationElement>, AllocError>
-    ensures { IfOk result (λ es. es.items ≡ elements_of (plain_reading (tables_of tables.entry)) text.now) }
+    ensures elements { IfOk result (λ es. es.items ≡ elements_by_char (tables_of tables.entry) text.now) }
+    ensures scalars { IfOk result (λ es. All IsScalar text.now) }
 {
-    let mut elements = Vec::new(alloc);
+    let mut list = ElementList {
+        elements: Vec::new(alloc),
+    };
     for c in text {
-        push_char(&mut elements, tables, *c)?;
+        push_char(&mut list, tables, *c)?;
     }
-    Ok(elements)
+    Ok(list.elements)
 }

@@ -1,33 +1,44 @@
 ghost use Rattle.std.specs.Prelude.{◌≡◌};
-ghost use Rattle.icu_provider.specs.Tables.{Tables, entry_of, diacritic_of, homed};
-ghost use Rattle.icu_provider.specs.Conditions.{IsGoodRoot, IsGoodLive};
-ghost use Rattle.icu_provider.specs.Roots.{root_tables};
-ghost use Rattle.icu_provider.specs.Stored.{data_of, kept_tables};
+ghost use Rattle.icu_provider.specs.Tables.{entry_of, diacritic_of, homed};
+ghost use Rattle.icu_provider.specs.Stored.{data_of};
+ghost use Rattle.icu_checks.specs.Checked.{checked_tables};
+ghost use Rattle.icu_elements.specs.Readable.{AreReadable, IsGoodFrom, lent_tables};
 
-use icu_provider::{CheckedTables, CollationData, CollationElement32};
+use icu_checks::CheckedTables;
+use icu_provider::{CollationData, CollationDiacritics, CollationElement32, CollationJamo};
 use std::alloc::Global;
 
-/// The tables that elements are read from: root, jamo and diacritics, checked together.
+/// The tables that elements are read from: root, tailoring, jamo and diacritics, checked together.
 #[derive(Debug, Clone, Copy)]
 pub struct ElementTables<'d> {
     alloc: Global,
     root: CollationData<'d>,
-    jamo: &'d [u32],
-    diacritics: &'d [u16],
-    ghost good: { IsGoodRoot (root_tables (data_of root) jamo.now diacritics.now) },
+    tailoring: Option<CollationData<'d>>,
+    jamo: CollationJamo<'d>,
+    diacritics: CollationDiacritics<'d>,
+    ghost readable: { AreReadable (lent_tables root tailoring jamo diacritics) },
+}
+
+/// An entry with the table whose lists and contexts it names.
+#[derive(Debug, Clone, Copy)]
+pub(crate) struct HomedEntry<'d> {
+    pub(crate) home: CollationData<'d>,
+    pub(crate) ce32: CollationElement32,
 }
 
 impl<'d> ElementTables<'d> {
     ghost use Rattle.icu_elements.specs.Reading.{tables_of};
 
-    /// Lends the tables of a collator, without a second check.
-    #[tactic(auto, unfolding(crate::specs::Reading::tables_of, icu_provider::specs::Stored::kept_tables))]
+    /// Lends the tables of a collator, without a second check. Takes no memory.
+    #[tactic(auto, unfolding(crate::specs::Reading::tables_of, crate::specs::Readable::lent_tables))]
     pub fn new(tables: &'d CheckedTables) -> ElementTables<'d>
-        ensures { tables_of result ≡ kept_tables tables.entry.now }
+        ensures { tables_of result ≡ (checked_tables tables.entry.now).tables }
     {
+        tables.are_good();
         ElementTables {
             alloc: tables.allocator(),
             root: tables.root(),
+            tailoring: tables.tailoring(),
             jamo: tables.jamo(),
             diacritics: tables.diacritics(),
         }
@@ -38,37 +49,53 @@ impl<'d> ElementTables<'d> {
         self.alloc
     }
 
-    #[tactic(auto, unfolding(crate::specs::Reading::tables_of))]
-    pub(crate) fn root(self) -> CollationData<'d>
-        ensures { data_of result ≡ (tables_of self.entry).root }
-    {
-        self.root
-    }
-
     /// The secondary weight of a combining diacritic.
-    #[tactic(auto, unfolding(icu_provider::specs::Tables::diacritic_of, crate::specs::Reading::tables_of))]
+    #[tactic(auto, unfolding(icu_provider::specs::Tables::diacritic_of, crate::specs::Reading::tables_of, crate::specs::Readable::lent_tables))]
     pub(crate) fn diacritic(self, c: char) -> Option<u16>
         ensures { result ≡ diacritic_of (tables_of self.entry) c }
     {
+        let secondaries = self.diacritics.secondaries();
         let code = c as usize;
-        if code >= 0x300 && code - 0x300 < self.diacritics.len() {
-            Some(self.diacritics[code - 0x300])
+        if code >= 0x300 && code - 0x300 < secondaries.len() {
+            Some(secondaries[code - 0x300])
         } else {
             None
         }
     }
 
-    /// The entry of a character.
-    #[tactic(auto, unfolding(icu_provider::specs::Tables::entry_of, crate::specs::Reading::tables_of))]
-    pub(crate) fn entry(self, c: char) -> CollationElement32
-        ensures value { entry_of (tables_of self.entry) c ≡ homed (tables_of self.entry).root result }
-        ensures good { IsGoodLive (tables_of self.entry).root result }
+    /// The entry of a character, with its home: that of a conjoining jamo by their table, whose home is the root, else the
+    /// tailoring's, and where there is none, or it is fallback, the root's (UTS #35 part 5, section 3).
+    pub(crate) fn entry(self, c: char) -> HomedEntry<'d>
+        ensures value { entry_of (tables_of self.entry) c ≡ homed (data_of result.home) result.ce32 }
+        ensures good { IsGoodFrom (data_of result.home) c result.ce32 }
+    {
+        self.found(c)
+    }
+
+    #[tactic(auto, unfolding(icu_provider::specs::Tables::entry_of, crate::specs::Reading::tables_of, crate::specs::Readable::lent_tables))]
+    fn found(self, c: char) -> HomedEntry<'d>
+        ensures { entry_of (tables_of self.entry) c ≡ homed (data_of result.home) result.ce32 }
     {
         let code = c as usize;
         if code >= 0x1100 && code < 0x1200 {
-            CollationElement32::new(self.jamo[code - 0x1100])
-        } else {
-            self.root.ce32_for_char(c)
+            let jamo = CollationElement32::new(self.jamo.ce32s()[code - 0x1100]);
+            return HomedEntry {
+                home: self.root,
+                ce32: jamo,
+            };
+        }
+        if let Some(tailoring) = self.tailoring {
+            let tailored = tailoring.ce32_for_char(c);
+            if tailored != CollationElement32::new(0xC0) {
+                return HomedEntry {
+                    home: tailoring,
+                    ce32: tailored,
+                };
+            }
+        }
+        HomedEntry {
+            home: self.root,
+            ce32: self.root.ce32_for_char(c),
         }
     }
 }

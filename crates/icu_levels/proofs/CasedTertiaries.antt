@@ -7,9 +7,10 @@ use Rattle.icu_levels.specs.Tertiaries.{TertiaryForm, plain, lower_first, upper_
 use Rattle.icu_levels.specs.Premises.{Passes, AreTertiaries, cased_tertiary}
 use Rattle.icu_levels.proofs.MovedWeights.{moved_begins, begins_lead}
 
-module _ (live : ℕ → Bool) (good : AreTertiaries plain (Passes live)) where
+-- Tertiaries without case bits, and others that have theirs above one of them
+module _ (IsPlain IsCased : ℕ → Type 0) (good : AreTertiaries plain IsPlain) where
   -- of two weights with case bits none begins the other
-  apart : (v w : ℕ) → live (v % 0x4000) ≡ true → live (w % 0x4000) ≡ true → v ≢ w → IsBeginning (weight_bytes 2 v) (weight_bytes 2 w) → ⊥
+  apart : (v w : ℕ) → IsPlain (v % 0x4000) → IsPlain (w % 0x4000) → v ≢ w → IsBeginning (weight_bytes 2 v) (weight_bytes 2 w) → ⊥
   apart v w p q n b = by (cases_eq (v % 0x4000) (w % 0x4000))
     where
       low_v : 2 ≤ v % 0x4000 / 256
@@ -27,6 +28,27 @@ module _ (live : ℕ → Bool) (good : AreTertiaries plain (Passes live)) where
           (moved_begins (v % 0x4000) (w % 0x4000) v w (omega (arith, low_v)) (omega (arith, low_w)) (omega (arith, low_v))
           (omega (arith, low_w)) (omega arith) (omega arith) (λ e. omega arith) b)
 
+  pub lower_cased : ((w : ℕ) → IsCased w → IsPlain (w % 0x4000) × (w / 0x4000 < 3)) → AreTertiaries lower_first IsCased
+  lower_cased parts = record {
+    least = λ w h. let p = parts w h in omega (arith, good.least (w % 0x4000) p.0);
+    greatest = λ w h. let p = parts w h in omega (arith, p.1, good.greatest (w % 0x4000) p.0);
+    leads = λ w h n e. let p = parts w h in
+        good.leads (w % 0x4000) p.0 (omega (arith, p.1)) (omega (arith, p.1, good.greatest (w % 0x4000) p.0));
+    prefix_free = λ v w h k n b. apart v w (parts v h).0 (parts w k).0 n b;
+  }
+
+  pub upper_cased : ((w : ℕ) → IsCased w → IsPlain (w % 0x4000) × (0 < w / 0x4000) × (w / 0x4000 < 4))
+      → AreTertiaries upper_first IsCased
+  upper_cased parts = record {
+    least = λ w h. let p = parts w h in omega (arith, p.1, good.least (w % 0x4000) p.0);
+    greatest = λ w h. let p = parts w h in omega (arith, p.2);
+    leads = λ w h n e. let p = parts w h in
+        good.leads (w % 0x4000) p.0 (omega (arith, p.2)) (omega (arith, p.2, good.greatest (w % 0x4000) p.0));
+    prefix_free = λ v w h k n b. apart v w (parts v h).0 (parts w k).0 n b;
+  }
+
+-- where tests tell them
+module _ (live : ℕ → Bool) where
   lower_parts : (w : ℕ) → cased_tertiary lower_first live w ≡ true → (live (w % 0x4000) ≡ true) × (w / 0x4000 < 3)
   lower_parts w h = let p = and_parts (live (w % 0x4000)) (ltb (w / 0x4000) 3) h in (p.0, ltb-true (w / 0x4000) 3 p.1)
 
@@ -36,26 +58,8 @@ module _ (live : ℕ → Bool) (good : AreTertiaries plain (Passes live)) where
       let q = and_parts (ltb 0 (w / 0x4000)) (ltb (w / 0x4000) 4) p.1 in
       (p.0, ltb-true 0 (w / 0x4000) q.0, ltb-true (w / 0x4000) 4 q.1)
 
-  lower_cased : AreTertiaries lower_first (λ w. cased_tertiary lower_first live w ≡ true)
-  lower_cased = record {
-    least = λ w h. let p = lower_parts w h in omega (arith, good.least (w % 0x4000) p.0);
-    greatest = λ w h. let p = lower_parts w h in omega (arith, p.1, good.greatest (w % 0x4000) p.0);
-    leads = λ w h n e. let p = lower_parts w h in
-        good.leads (w % 0x4000) p.0 (omega (arith, p.1)) (omega (arith, p.1, good.greatest (w % 0x4000) p.0));
-    prefix_free = λ v w h k n b. apart v w (lower_parts v h).0 (lower_parts w k).0 n b;
-  }
-
-  upper_cased : AreTertiaries upper_first (λ w. cased_tertiary upper_first live w ≡ true)
-  upper_cased = record {
-    least = λ w h. let p = upper_parts w h in omega (arith, p.1, good.least (w % 0x4000) p.0);
-    greatest = λ w h. let p = upper_parts w h in omega (arith, p.2);
-    leads = λ w h n e. let p = upper_parts w h in
-        good.leads (w % 0x4000) p.0 (omega (arith, p.2)) (omega (arith, p.2, good.greatest (w % 0x4000) p.0));
-    prefix_free = λ v w h k n b. apart v w (upper_parts v h).0 (upper_parts w k).0 n b;
-  }
-
 pub cased_tertiaries : (form : TertiaryForm) (live : ℕ → Bool) → AreTertiaries plain (Passes live)
     → AreTertiaries form (Passes (cased_tertiary form live))
 cased_tertiaries plain live good = good
-cased_tertiaries lower_first live good = lower_cased live good
-cased_tertiaries upper_first live good = upper_cased live good
+cased_tertiaries lower_first live good = lower_cased (Passes live) (Passes (cased_tertiary lower_first live)) good (lower_parts live)
+cased_tertiaries upper_first live good = upper_cased (Passes live) (Passes (cased_tertiary upper_first live)) good (upper_parts live)

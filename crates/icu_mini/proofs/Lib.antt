@@ -1,5 +1,6 @@
+pub mod AddedRows
 pub mod Blocks
+pub mod CopiedBlock
 pub mod Growing
 pub mod RunLemmas
-mod MiniRows
-pub mod Good
+mod WorkedRows

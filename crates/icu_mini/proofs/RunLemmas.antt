@@ -1,7 +1,7 @@
 -- A run of weights grows by one.
-use Rattle.std.proofs.Common.{◌≡◌, ℕ, ◌+◌, ◌*◌, ◌++◌, ◌∷◌, [], List, refl, sym, arith, append_assoc, append-nil}
-use Rattle.std.proofs.lemmas.List.FromFn.{map-range_with_len_more}
-use Rattle.icu_mini.specs.Mini.{run}
+use Rattle.std.proofs.Common.{◌≡◌, ℕ, ◌+◌, ◌*◌, ◌++◌, ◌∷◌, [], List, length, refl, sym, arith, append_assoc, append-nil}
+use Rattle.std.proofs.lemmas.List.FromFn.{length-map-range_with_len, map-range_with_len_more}
+use Rattle.icu_mini.specs.Runs.{run}
 
 pub run_none : (first step : ℕ) → run first step 0 ≡ []
 unfolding run
@@ -19,3 +19,7 @@ appended_run before now first step count h =
 
 pub appended_run_none : (before : List ℕ) (first step : ℕ) → before ≡ before ++ run first step 0
 appended_run_none before first step = rw run_none (sym (append-nil before))
+
+pub length_run : (first step count : ℕ) → length (run first step count) ≡ count
+unfolding run
+length_run first step count = length-map-range_with_len (λ i. first + step * i) 0 count

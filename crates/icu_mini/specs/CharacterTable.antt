@@ -1,17 +1,11 @@
 -- A table of the entries of all characters, in blocks that characters share.
 use Rattle.std.specs.Prelude.{◌≡◌, ℕ, ◌+◌, ◌*◌, ◌%◌, ◌<◌, ◌≤◌, List, length, slice_index, map}
 use Rattle.std.specs.List.{range_with_len}
-use Rattle.icu_provider.specs.CodePointTables.{stored_value}
 use Rattle.icu_mini.specs.EntryRange.{Row, entry_among}
 
--- the blocks of a table, one for each 64 characters, and the values that they point into
-pub record Blocks : Type 0 where
-  pub blocks : List ℕ
-  pub values : List ℕ
-
--- the table gives each character what the ranges say, and the entry for all others where they are silent
-abbrev pub IsTableOf : List Row → ℕ → Blocks → Type 0
-IsTableOf ranges others table = (c : ℕ) → c < 0x110000 → stored_value table.blocks table.values c ≡ entry_among ranges others c
+-- a table gives each character what the ranges say, and the entry for all others where they are silent
+abbrev pub IsTableOf : List Row → ℕ → (ℕ → ℕ) → Type 0
+IsTableOf ranges others value = (c : ℕ) → c < 0x110000 → value c ≡ entry_among ranges others c
 
 -- the entries of so many characters, from one on
 unfoldable pub entries_from : List Row → ℕ → ℕ → ℕ → List ℕ

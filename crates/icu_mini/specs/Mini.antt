@@ -1,75 +1,85 @@
--- The test table Mini: what it says of each character, and its other tables. It is made for tests: space, '-' and '.',
--- digits and the letters a to z have weights of their own, and every other character has an implicit weight.
-use Rattle.std.specs.Prelude.{◌≡◌, ℕ, ◌+◌, ◌*◌, List, [], ◌∷◌, ◌++◌, map}
-use Rattle.std.specs.List.{range_with_len}
-use Rattle.icu_provider.specs.CodePointTables.{IsCodePointTable}
+-- The test table Mini. It is made for tests: space, '-' and '.', digits and the letters a to z have weights of their own, and
+-- every other character has an implicit weight.
+use Rattle.std.specs.Prelude.{◌≡◌, ℕ, List, [], ◌∷◌, ◌++◌, Option, Some, None}
+use Rattle.std.specs.Option.{option_map}
+use Rattle.icu_provider.specs.Reorderings.{Reordering}
+use Rattle.icu_provider.specs.SpecialPrimaries.{SpecialPrimaries}
 use Rattle.icu_provider.specs.Tables.{Tables}
-use Rattle.icu_provider.specs.Roots.{stored_data, root_tables, IsGoodStoredRoot}
+use Rattle.icu_mini.specs.declared.mini.Mini.{Mini}
+use Rattle.icu_mini.specs.declared.table_data.TableData.{TableData}
 use Rattle.icu_mini.specs.EntryRange.{Row}
-use Rattle.icu_mini.specs.CharacterTable.{Blocks, IsTableOf}
+use Rattle.icu_mini.specs.ReorderingData.{reordering_held}
+use Rattle.icu_mini.specs.Runs.{mini_rows, run}
+use Rattle.icu_mini.specs.TableData.{Wanted, Says, data_held}
 
--- the root tables of a collator: entries of characters, lists of elements and of entries, secondary weights of
--- diacritics, entries of jamo
-pub record RootTables : Type 0 where
-  pub characters : Blocks
-  pub elements : List ℕ
-  pub entries : List ℕ
-  pub diacritics : List ℕ
+-- what a collator reads in the tables
+abbrev pub collator_tables : Mini → Tables
+collator_tables m =
+    record { root = data_held m.root; tailoring = option_map data_held m.tailoring; jamo = m.jamo.items; diacritics = m.diacritics.items }
+
+-- the special primary weights
+abbrev pub special_held : Mini → SpecialPrimaries
+special_held m = record { last = m.last_primaries.items; numeric = m.numeric_primary }
+
+-- What all tables are to say.
+pub record Contents : Type 0 where
+  pub root : Wanted
+  pub tailoring : Option Wanted
   pub jamo : List ℕ
+  pub diacritics : List ℕ
+  pub special : SpecialPrimaries
+  pub metadata : ℕ
+  pub reordering : Option Reordering
 
--- what a collator reads in such tables
-abbrev pub collator_tables : RootTables → Tables
-collator_tables t =
-    root_tables (stored_data t.characters.blocks t.characters.values t.elements t.entries) t.jamo t.diacritics
+-- there is a tailoring exactly if one is wanted, and it says what it is to say
+abbrev pub SaysAny : Option Wanted → Option TableData → Type 0
+SaysAny None None = Unit {0}
+SaysAny (Some wanted) (Some d) = Says wanted d
+SaysAny _ _ = ⊥
 
--- the tables meet the conditions of a root
-abbrev pub IsGood : RootTables → Type 0
-IsGood t = IsGoodStoredRoot t.characters.blocks t.characters.values t.elements t.entries t.jamo t.diacritics
+-- they say just that
+pub record Holds (contents : Contents) (m : Mini) : Type 0 where
+  pub root : Says contents.root m.root
+  pub tailoring : SaysAny contents.tailoring m.tailoring
+  pub jamo : m.jamo.items ≡ contents.jamo
+  pub diacritics : m.diacritics.items ≡ contents.diacritics
+  pub special : special_held m ≡ contents.special
+  pub metadata : m.metadata.bits ≡ contents.metadata
+  pub reordering : option_map reordering_held m.reordering ≡ contents.reordering
 
--- one character with its entry
-abbrev pub one : ℕ → ℕ → Row
-one c entry = record { first = c; last = c; entry = entry; step = 0 }
-
--- from one character to another, with the first entry and the step
-abbrev pub rising : ℕ → ℕ → ℕ → ℕ → Row
-rising first last entry step = record { first = first; last = last; entry = entry; step = step }
-
--- the characters that have entries of their own
-abbrev pub mini_rows : List Row
-mini_rows =
-    one 0 0  -- ignored
-    ∷ one 0xFFFE 0x02000505  -- the separator of merged texts
-    ∷ one 0xFFFD 0xFFFD0505
-    ∷ one 0x20 0x03100505  -- space, '-', '.'
-    ∷ one 0x2D 0x04100505
-    ∷ one 0x2E 0x04200505
-    ∷ rising 0x30 0x39 0xCA 0x2100  -- digits, each with its value and the place of its plain entry
-    ∷ rising 0x61 0x7A 0x61100505 0x40000  -- 'a' to 'z'
-    ∷ rising 0x41 0x5A 0x6110059C 0x40000  -- 'A' to 'Z', upper case
-    ∷ one 0x24B6 0x6110059D  -- a circled 'A'
-    ∷ []
-
--- the entry of every other character: its implicit weight
+-- the entry of a character that has none of its own: its implicit weight
 abbrev pub implicit_entry : ℕ
 implicit_entry = 0xCF
 
--- so many entries, each with so much more than the one before
-unfoldable pub run : ℕ → ℕ → ℕ → List ℕ
-run first step count = map (λ i. first + step * i) (range_with_len 0 count)
+-- the entry of a character that a tailoring leaves to the root
+abbrev pub fallback_entry : ℕ
+fallback_entry = 0xC0
 
--- Mini's tables, where these characters have entries of their own and these entries stand after those of the digits
-pub record IsMiniWith (rows : List Row) (more : List ℕ) (tables : RootTables) : Type 0 where
-  pub fits : IsCodePointTable tables.characters.blocks tables.characters.values
-  pub characters : IsTableOf rows implicit_entry tables.characters
-  pub elements : tables.elements ≡ []
-  pub entries : tables.entries ≡ run 0x14100505 0x40000 10 ++ more
-  pub diacritics : tables.diacritics ≡ run 0x4600 0x100 79
-  pub jamo : tables.jamo ≡ run 0x65100505 0x10000 128 ++ run 0x66100505 0x10000 128
+-- the special primary weights, with the end of the last group and the lead byte of numbers
+abbrev pub special_with : ℕ → ℕ → SpecialPrimaries
+special_with currency numeric = record { last = 0x0400 ∷ 0x0600 ∷ 0x0900 ∷ currency ∷ []; numeric = numeric }
 
--- Mini
-abbrev pub IsMini : RootTables → Type 0
-IsMini tables = IsMiniWith mini_rows [] tables
+-- Mini, where these characters too have entries of their own, and these entries stand after those of the digits
+abbrev pub mini_with : List Row → List ℕ → Contents
+mini_with rows entries = record {
+  root = record {
+    rows = rows ++ mini_rows;
+    others = implicit_entry;
+    elements = [];
+    entries = run 0x14100505 0x40000 10 ++ entries;
+    contexts = [];
+  };
+  tailoring = None;
+  jamo = run 0x65100505 0x10000 128 ++ run 0x66100505 0x10000 128;
+  diacritics = run 0x4600 0x100 79;
+  special = special_with 0x0E00 0x0F;
+  metadata = 0x01;
+  reordering = None;
+}
 
--- Mini where sharp s is read as "ss", the second with a tertiary weight of its own
-abbrev pub IsMiniWithSharpS : RootTables → Type 0
-IsMiniWithSharpS tables = IsMiniWith (one 0xDF 0x000142C5 ∷ mini_rows) (0x61580505 ∷ 0x61580506 ∷ []) tables
+-- Mini itself
+abbrev pub mini : Contents
+mini = mini_with [] []
+
+abbrev pub IsMini : Mini → Type 0
+IsMini = Holds mini

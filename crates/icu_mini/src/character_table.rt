@@ -1,30 +1,23 @@
 ghost use Rattle.std.specs.Prelude.{◌≡◌, ℕ, ◌+◌, ◌*◌, ◌%◌, ◌<◌, ◌≤◌, ◌++◌, IfOk, OnOk, length, false};
-ghost use Rattle.icu_provider.specs.CodePointTables.{IsCodePointTable};
-ghost use Rattle.icu_mini.specs.CharacterTable.{Blocks, IsTableOf, BeginsBlank, HoldsBlock, entries_from};
+ghost use Rattle.icu_provider.specs.CodePointTables.{IsCodePointTable, stored_value};
+ghost use Rattle.icu_mini.specs.CharacterTable.{IsTableOf, BeginsBlank, HoldsBlock, entries_from};
 ghost use Rattle.icu_mini.specs.EntryRange.{entry_among};
 
 use crate::entry_range::{EntryRange, entry_among_ranges};
 use std::alloc::{AllocError, Global};
-use std::marker::Model;
 
 /// How many characters share a block.
 const BLOCK_LEN: u32 = 64;
 
 /// How many blocks the characters up to U+10FFFF fill.
-const BLOCK_COUNT: u32 = 17408;
+pub(crate) const BLOCK_COUNT: u32 = 17408;
 
 /// The entries of all characters: a block number for each 64 characters, and the values of the blocks. Character `c`
 /// reads `values[64 * blocks[c / 64] + c % 64]`.
 #[derive(Debug, Drop)]
 pub(crate) struct CharacterTable {
-    blocks: Vec<u16>,
-    values: Vec<u32>,
-}
-
-impl Model for CharacterTable {
-    ghost Value = { Blocks };
-
-    ghost view = { λ t. record { blocks = t.blocks.items; values = t.values.items } };
+    pub(crate) blocks: Vec<u16>,
+    pub(crate) values: Vec<u32>,
 }
 
 impl CharacterTable {
@@ -37,8 +30,8 @@ impl CharacterTable {
         ranges: &[EntryRange],
         others: u32,
     ) -> Result<CharacterTable, AllocError>
-        ensures fits { IfOk result (λ t. IsCodePointTable t.blocks t.values) }
-        ensures entries { IfOk result (IsTableOf ranges.now others) }
+        ensures fits { IfOk result (λ t. IsCodePointTable t.blocks.items t.values.items) }
+        ensures entries { IfOk result (λ t. IsTableOf ranges.now others (stored_value t.blocks.items t.values.items)) }
     {
         let mut values = Vec::new(alloc);
         push_block(&mut values, &[], others, 0)?;
@@ -48,20 +41,6 @@ impl CharacterTable {
             blocks.push(block)?;
         }
         Ok(CharacterTable { blocks, values })
-    }
-
-    /// The block of each 64 characters.
-    pub(crate) fn blocks(&self) -> &[u16]
-        ensures { result.now ≡ self.now.blocks }
-    {
-        self.blocks.as_slice()
-    }
-
-    /// The entries of the blocks.
-    pub(crate) fn values(&self) -> &[u32]
-        ensures { result.now ≡ self.now.values }
-    {
-        self.values.as_slice()
     }
 }
 

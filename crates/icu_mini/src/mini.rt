@@ -1,122 +1,140 @@
-ghost use Rattle.std.specs.Prelude.{◌≡◌, ℕ, ◌+◌, ◌*◌, ◌^◌, ◌<◌, ◌++◌, [], ◌∷◌, IfOk, OnOk, List};
-ghost use Rattle.icu_mini.specs.Mini.{RootTables, IsGood, IsMini, IsMiniWith, IsMiniWithSharpS, mini_rows, run, one};
+ghost use Rattle.std.specs.Prelude.{◌≡◌, ◌↔◌, ◌+◌, ◌*◌, ◌^◌, ◌<◌, ◌++◌, IsOk, IfOk, IfErr, IfSome, OnOk};
+ghost use Rattle.std.specs.Option.{option_map};
+ghost use Rattle.icu_provider.specs.Accents.{IsDiacritics, IsJamo, FailsDiacritics, FailsJamo};
+ghost use Rattle.icu_provider.specs.SpecialPrimaries.{IsSpecialPrimaries, FailsSpecial};
+ghost use Rattle.icu_provider.specs.Stored.{accents_of, data_of, jamo_of, reordering_of, special_of};
+ghost use Rattle.icu_mini.specs.Runs.{mini_rows, run};
 
-use crate::character_table::CharacterTable;
 use crate::entry_range::EntryRange;
+use crate::reordering_data::ReorderingData;
+use crate::table_data::TableData;
+use icu_provider::{
+    CollationData, CollationDiacritics, CollationJamo, CollationMetadata, CollationReordering,
+    CollationSpecialPrimaries, DataErrorKind,
+};
 use std::alloc::{AllocError, Global};
-use std::marker::Model;
 
 /// The entry of a character whose weight follows from its number.
 const IMPLICIT_ENTRY: u32 = 0xCF;
 
-/// The tables of Mini, a small root table for tests, or of a variant of it. It owns them and lends them as slices, in
-/// the form in which a collator takes them.
+/// The tables of Mini, a small collation for tests, or of a variant of it. It owns them and lends each in the form in which
+/// a collator takes it. The fields are public, so that a test may damage a table.
 #[derive(Debug, Drop)]
 pub struct Mini {
-    characters: CharacterTable,
-    elements: Vec<u64>,
-    entries: Vec<u32>,
-    diacritics: Vec<u16>,
-    jamo: Vec<u32>,
-}
-
-impl Model for Mini {
-    ghost Value = { RootTables };
-
-    ghost view = { λ m. record {
-      characters = m.characters;
-      elements = m.elements.items;
-      entries = m.entries.items;
-      diacritics = m.diacritics.items;
-      jamo = m.jamo.items;
-    } };
+    /// The root.
+    pub root: TableData,
+    /// The tailoring, if there is one.
+    pub tailoring: Option<TableData>,
+    /// The entries of the conjoining jamo from U+1100 on.
+    pub jamo: Vec<u32>,
+    /// The secondary weights of the diacritics from U+0300 on.
+    pub diacritics: Vec<u16>,
+    /// The two highest bytes of the first primary weight after each variable group, and perhaps bits for the compressible
+    /// lead bytes.
+    pub last_primaries: Vec<u16>,
+    /// The lead byte of the primary weights of numbers.
+    pub numeric_primary: u8,
+    /// Which tables there are, and the settings.
+    pub metadata: CollationMetadata,
+    /// The reordering, if there is one.
+    pub reordering: Option<ReorderingData>,
 }
 
 impl Mini {
-    #[tactic(auto, using(crate::proofs::Good::mini_is_good))]
+    ghost use Rattle.icu_mini.specs.TableData.{data_held, IsAccepted, FailsTable};
+    ghost use Rattle.icu_mini.specs.ReorderingData.{reordering_held, HasAllLeads};
+    ghost use Rattle.icu_mini.specs.Mini.{Holds, IsMini, mini_with, special_held};
+
     /// Mini itself.
     pub fn new(alloc: Global) -> Result<Mini, AllocError>
-        ensures tables { IfOk result IsMini }
-        ensures good { IfOk result IsGood }
+        ensures { IfOk result IsMini }
     {
-        let rows = mini_ranges();
-        Mini::with(alloc, &rows, &[])
+        Mini::with(alloc, &[], &[])
     }
 
-    #[tactic(auto, using(crate::proofs::Good::mini_with_sharp_s_is_good))]
-    /// Mini with U+00DF, the sharp s, whose entry is the list of the entry of "s" and of one that is greater on the
-    /// third level.
-    pub fn with_sharp_s(alloc: Global) -> Result<Mini, AllocError>
-        ensures tables { IfOk result IsMiniWithSharpS }
-        ensures good { IfOk result IsGood }
+    // Mini where these characters too have entries of their own, and these entries stand after those of the digits.
+    pub(crate) fn with(
+        alloc: Global,
+        ranges: &[EntryRange],
+        entries: &[u32],
+    ) -> Result<Mini, AllocError>
+        ensures { IfOk result (Holds (mini_with ranges.now entries.now)) }
     {
-        let mut ranges = Vec::new(alloc);
-        ranges.push(EntryRange::of_character('ß', 0x0001_42C5))?;
-        ranges.extend_from_slice(&mini_ranges())?;
-        Mini::with(alloc, ranges.as_slice(), &[0x6158_0505, 0x6158_0506])
-    }
-
-    // Mini where these ranges have entries of their own, and these entries stand after those of the digits.
-    fn with(alloc: Global, ranges: &[EntryRange], more: &[u32]) -> Result<Mini, AllocError>
-        ensures { IfOk result (IsMiniWith ranges.now more.now) }
-    {
-        let characters = CharacterTable::new(alloc, ranges, IMPLICIT_ENTRY)?;
-        let mut entries = Vec::new(alloc);
-        push_run(&mut entries, 0x1410_0505, 0x4_0000, 10)?;
-        entries.extend_from_slice(more)?;
-        let diacritics = diacritics(alloc)?;
-        let mut jamo = Vec::new(alloc);
-        push_run(&mut jamo, 0x6510_0505, 0x1_0000, 128)?;
-        push_run(&mut jamo, 0x6610_0505, 0x1_0000, 128)?;
+        let mut all = Vec::from_slice(alloc, ranges)?;
+        all.extend_from_slice(&mini_ranges())?;
+        let mut root = TableData::of_ranges(alloc, all.as_slice(), IMPLICIT_ENTRY)?;
+        push_run(&mut root.ce32s, 0x1410_0505, 0x4_0000, 10)?;
+        root.ce32s.extend_from_slice(entries)?;
         Ok(Mini {
-            characters,
-            elements: Vec::new(alloc),
-            entries,
-            diacritics,
-            jamo,
+            root,
+            tailoring: None,
+            jamo: jamo(alloc)?,
+            diacritics: diacritics(alloc)?,
+            last_primaries: Vec::from_slice(alloc, &[0x0400, 0x0600, 0x0900, 0x0E00])?,
+            numeric_primary: 0x0F,
+            metadata: CollationMetadata { bits: 0x01 },
+            reordering: None,
         })
     }
 
-    /// The block of each 64 characters.
-    pub fn blocks(&self) -> &[u16]
-        ensures { result.now ≡ self.now.characters.blocks }
+    /// The root as a collator takes it, or the kind of a condition that it fails.
+    pub fn lend_root(&self) -> Result<CollationData<'_>, DataErrorKind>
+        ensures accepts { IsOk result ↔ IsAccepted self.now.root }
+        ensures kind { IfErr result (FailsTable self.now.root) }
+        ensures lends { IfOk result (λ d. data_of d ≡ data_held self.now.root) }
     {
-        self.characters.blocks()
+        self.root.lend()
     }
 
-    /// The entries of the blocks.
-    pub fn values(&self) -> &[u32]
-        ensures { result.now ≡ self.now.characters.values }
+    /// The tailoring, if there is one, or the kind of a condition that it fails.
+    pub fn lend_tailoring(&self) -> Result<Option<CollationData<'_>>, DataErrorKind>
+        ensures accepts { IsOk result ↔ IfSome self.now.tailoring IsAccepted }
+        ensures kind { IfErr result (λ k. IfSome self.now.tailoring (λ d. FailsTable d k)) }
+        ensures lends { IfOk result (λ d. option_map data_of d ≡ option_map data_held self.now.tailoring) }
     {
-        self.characters.values()
+        match &self.tailoring {
+            None => Ok(None),
+            Some(tailoring) => Ok(Some(tailoring.lend()?)),
+        }
     }
 
-    /// The collation elements that entries name by place.
-    pub fn ces(&self) -> &[u64]
-        ensures { result.now ≡ self.now.elements }
+    /// The entries of the jamo as a collator takes them, or the kind of a condition that they fail.
+    pub fn lend_jamo(&self) -> Result<CollationJamo<'_>, DataErrorKind>
+        ensures accepts { IsOk result ↔ IsJamo self.now.jamo.items }
+        ensures kind { IfErr result (FailsJamo self.now.jamo.items) }
+        ensures lends { IfOk result (λ j. jamo_of j ≡ self.now.jamo.items) }
     {
-        self.elements.as_slice()
+        CollationJamo::new(self.jamo.as_slice())
     }
 
-    /// The entries that other entries name by place.
-    pub fn ce32s(&self) -> &[u32]
-        ensures { result.now ≡ self.now.entries }
+    /// The secondary weights of the diacritics as a collator takes them, or the kind of a condition that they fail.
+    pub fn lend_diacritics(&self) -> Result<CollationDiacritics<'_>, DataErrorKind>
+        ensures accepts { IsOk result ↔ IsDiacritics self.now.diacritics.items }
+        ensures kind { IfErr result (FailsDiacritics self.now.diacritics.items) }
+        ensures lends { IfOk result (λ d. accents_of d ≡ self.now.diacritics.items) }
     {
-        self.entries.as_slice()
+        CollationDiacritics::new(self.diacritics.as_slice())
     }
 
-    /// The secondary weights of the diacritics from U+0300 on.
-    pub fn diacritics(&self) -> &[u16]
-        ensures { result.now ≡ self.now.diacritics }
+    /// The special primary weights as a collator takes them, or the kind of a condition that they fail.
+    pub fn lend_special_primaries(&self) -> Result<CollationSpecialPrimaries<'_>, DataErrorKind>
+        ensures accepts { IsOk result ↔ IsSpecialPrimaries self.now.last_primaries.items self.now.numeric_primary }
+        ensures kind { IfErr result (FailsSpecial self.now.last_primaries.items self.now.numeric_primary) }
+        ensures lends { IfOk result (λ s. special_of s ≡ special_held self.now) }
     {
-        self.diacritics.as_slice()
+        CollationSpecialPrimaries::new(self.last_primaries.as_slice(), self.numeric_primary)
     }
 
-    /// The entries of the conjoining jamo from U+1100 on.
-    pub fn jamo(&self) -> &[u32]
-        ensures { result.now ≡ self.now.jamo }
+    /// The reordering, if there is one, or the kind of a condition that it fails.
+    pub fn lend_reordering(&self) -> Result<Option<CollationReordering<'_>>, DataErrorKind>
+        ensures accepts { IsOk result ↔ IfSome self.now.reordering HasAllLeads }
+        ensures kind { IfErr result (λ k. k ≡ DataErrorKind.Length) }
+        ensures lends { IfOk result (λ r. option_map reordering_of r ≡ option_map reordering_held self.now.reordering) }
     {
-        self.jamo.as_slice()
+        match &self.reordering {
+            None => Ok(None),
+            Some(reordering) => Ok(Some(reordering.lend()?)),
+        }
     }
 }
 
@@ -148,6 +166,16 @@ fn push_run(entries: &mut Vec<u32>, first: u32, step: u32, count: u32) -> Result
         entries.push(first + step * i)?;
     }
     Ok(())
+}
+
+// The entries of the jamo: the leading byte is 65 for the first half, 66 for the second.
+fn jamo(alloc: Global) -> Result<Vec<u32>, AllocError>
+    ensures { IfOk result (λ v. v.items ≡ run 0x65100505 0x10000 128 ++ run 0x66100505 0x10000 128) }
+{
+    let mut entries = Vec::new(alloc);
+    push_run(&mut entries, 0x6510_0505, 0x1_0000, 128)?;
+    push_run(&mut entries, 0x6610_0505, 0x1_0000, 128)?;
+    Ok(entries)
 }
 
 // The secondary weights of the diacritics: the leading byte rises from 46.

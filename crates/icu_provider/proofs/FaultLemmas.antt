@@ -1,19 +1,19 @@
--- A walk that keeps the first fault: it keeps none exactly if there is none, and one that it keeps is true.
-use Rattle.std.proofs.Common.{◌≡◌, ℕ, Bool, true, false, not, List, [], ◌∷◌, Option, Some, None, if◌then◌else◌, refl, sym, ap, ◌∙◌, subst, IfSome, IsTrue, ◌↔◌, nat_lt}
-use Rattle.std.specs.Prelude.{find, option_map}
-use Rattle.std.specs.List.{AllByRecursion}
+-- Which fault a walk names, by any judge, and the judge of a root or a tailoring alone: the first condition that an entry fails.
+use Rattle.std.proofs.Common.{◌≡◌, ℕ, ◌<◌, ◌≤◌, Bool, true, false, not, List, [], ◌∷◌, ◌⊎◌, Option, Some, None, if◌then◌else◌, refl, sym, ap, ◌∙◌, subst, IfSome, IsTrue, ◌↔◌, nat_lt, inl, inr, arith}
+use Rattle.std.proofs.lemmas.Bool.{and_parts, and_from}
+use Rattle.std.proofs.lemmas.Bool.Decides.{nat_tests}
+use Rattle.std.specs.Prelude.{find}
+use Rattle.std.specs.List.{AllByRecursion, Contains}
 use Rattle.icu_provider.specs.Tables.{Data}
-use Rattle.icu_provider.specs.declared.error.DataTable.{DataTable}
 use Rattle.icu_provider.specs.declared.live_condition.LiveCondition.{LiveCondition}
 use Rattle.icu_provider.specs.declared.live_condition.LiveCondition.TheVariants.{Places, PrefixRows, Chains, Digits, Bytes, Offsets, Shapes, Leads, Primaries}
-use Rattle.icu_provider.specs.declared.fault.Fault.{Fault}
-use Rattle.icu_provider.specs.declared.fault.FirstFault.{FirstFault}
-use Rattle.icu_provider.specs.Live.{live_at}
+use Rattle.icu_provider.specs.Live.{live_at, EachLive}
 use Rattle.icu_provider.specs.LiveConditions.{meets, live_conditions, first_failing, EachMeets, IsGoodData}
+use Rattle.icu_provider.specs.EntryConditions.{is_inside, is_readable, has_known_byte, has_known_members, fits_offset}
 use Rattle.icu_provider.specs.Walks.{after_all, after_chars, chars_below}
-use Rattle.icu_provider.specs.Faults.{rank, earlier, fault_of, IsFault}
-use Rattle.icu_provider.proofs.ListLemmas.{weaker}
-use Rattle.icu_provider.proofs.CharLemmas.{each_char, every_char}
+use Rattle.icu_provider.specs.Faults.{earlier, judged, ComesFirst, IsFaultAmong, IsLiveFault}
+use Rattle.icu_provider.proofs.ListLemmas.{weaker, all_of, all_members, of_member}
+use Rattle.icu_provider.proofs.WalkLemmas.{fold_keeps, fold_back, walk_keeps, walk_back}
 
 -- ---- the first member that passes a test
 
@@ -21,7 +21,7 @@ find_if : {X : Type 0} (P : X → Type 0) (b : Bool) (x : X) (o : Option X) → 
 find_if P true x o p q = p refl
 find_if P false x o p q = q
 
-find_passes : {X : Type 0} (p : X → Bool) (xs : List X) → IfSome (find p xs) (λ x. p x ≡ true)
+pub find_passes : {X : Type 0} (p : X → Bool) (xs : List X) → IfSome (find p xs) (λ x. p x ≡ true)
 find_passes p [] = tt
 find_passes p (x ∷ xs) = find_if (λ y. p y ≡ true) (p x) x (find p xs) (λ h. h) (find_passes p xs)
 
@@ -29,7 +29,7 @@ none_if : {X : Type 0} (b : Bool) (x : X) (o : Option X) → (if b then Some x e
 none_if true x o h = cc
 none_if false x o h = (refl, h)
 
-find_none : {X : Type 0} (p : X → Bool) (xs : List X) → find p xs ≡ None → AllByRecursion (λ x. p x ≡ false) xs
+pub find_none : {X : Type 0} (p : X → Bool) (xs : List X) → find p xs ≡ None → AllByRecursion (λ x. p x ≡ false) xs
 find_none p [] h = tt
 find_none p (x ∷ xs) h = let both = none_if (p x) x (find p xs) h in (both.0, find_none p xs both.1)
 
@@ -37,28 +37,25 @@ skipped : {X : Type 0} (b : Bool) (x : X) (o : Option X) → b ≡ false → (if
 skipped true x o h = cc
 skipped false x o h = refl
 
-none_found : {X : Type 0} (p : X → Bool) → ((x : X) → p x ≡ false) → (xs : List X) → find p xs ≡ None
+pub none_found : {X : Type 0} (p : X → Bool) → ((x : X) → p x ≡ false) → (xs : List X) → find p xs ≡ None
 none_found p fails [] = refl
 none_found p fails (x ∷ xs) = skipped (p x) x (find p xs) (fails x) ∙ none_found p fails xs
 
-not_false : (b : Bool) → not b ≡ false → b ≡ true
+pub not_false : (b : Bool) → not b ≡ false → b ≡ true
 not_false true h = refl
 not_false false h = cc
 
-not_true : (b : Bool) → not b ≡ true → b ≡ false
+pub not_true : (b : Bool) → not b ≡ true → b ≡ false
 not_true true h = cc
 not_true false h = refl
 
-negated : (b : Bool) → b ≡ true → not b ≡ false
+pub negated : (b : Bool) → b ≡ true → not b ≡ false
 negated true h = refl
 negated false h = cc
 
 -- ---- one entry
 
-abbrev Passes : Data → ℕ → ℕ → Type 0
-Passes home c e = first_failing home c e ≡ None
-
-abbrev Fails : Data → ℕ → ℕ → LiveCondition → Type 0
+abbrev pub Fails : Data → ℕ → ℕ → LiveCondition → Type 0
 Fails home c e condition = meets condition home c e ≡ false
 
 listed_meets : (home : Data) (c e : ℕ) → AllByRecursion (λ condition. not (meets condition home c e) ≡ false) live_conditions → (condition : LiveCondition) → IsTrue (meets condition home c e)
@@ -72,146 +69,211 @@ listed_meets home c e all Shapes = not_false _ all.1.1.1.1.1.1.0
 listed_meets home c e all Leads = not_false _ all.1.1.1.1.1.1.1.0
 listed_meets home c e all Primaries = not_false _ all.1.1.1.1.1.1.1.1.0
 
-passes_meets : (home : Data) (c e : ℕ) → Passes home c e → (condition : LiveCondition) → IsTrue (meets condition home c e)
+pub passes_meets : (home : Data) (c e : ℕ) → first_failing home c e ≡ None → (condition : LiveCondition) → IsTrue (meets condition home c e)
 unfolding first_failing
 passes_meets home c e h = listed_meets home c e (find_none (λ condition. not (meets condition home c e)) live_conditions h)
 
-pub meets_passes : (home : Data) (c e : ℕ) → ((condition : LiveCondition) → IsTrue (meets condition home c e)) → Passes home c e
+pub meets_passes : (home : Data) (c e : ℕ) → ((condition : LiveCondition) → IsTrue (meets condition home c e)) → first_failing home c e ≡ None
 unfolding first_failing
 meets_passes home c e all = none_found (λ condition. not (meets condition home c e)) (λ condition. negated (meets condition home c e) (all condition)) live_conditions
 
-weaker_some : {X : Type 0} (P Q : X → Type 0) → ((x : X) → P x → Q x) → (o : Option X) → IfSome o P → IfSome o Q
+pub weaker_some : {X : Type 0} (P Q : X → Type 0) → ((x : X) → P x → Q x) → (o : Option X) → IfSome o P → IfSome o Q
 weaker_some P Q f None h = tt
 weaker_some P Q f (Some x) h = f x h
 
-failing_fails : (home : Data) (c e : ℕ) → IfSome (first_failing home c e) (Fails home c e)
+pub failing_fails : (home : Data) (c e : ℕ) → IfSome (first_failing home c e) (Fails home c e)
 unfolding first_failing
 failing_fails home c e =
     weaker_some _ (Fails home c e) (λ condition h. not_true (meets condition home c e) h) _ (find_passes (λ condition. not (meets condition home c e)) live_conditions)
 
+-- an entry that meets each condition can be read
+pub meets_readable : (home : Data) (c e : ℕ) → ((condition : LiveCondition) → IsTrue (meets condition home c e)) → IsTrue (is_readable home c e)
+unfolding is_readable
+meets_readable home c e all =
+    let bytes = and_parts (has_known_byte e) (has_known_members home e) (all Bytes) in
+    and_from _ (fits_offset home c e) (and_from (is_inside home e) (has_known_members home e) (all Places) bytes.1) (all Offsets)
+
+some_itself : {X : Type 0} (o : Option X) → IfSome o (λ x. o ≡ Some x)
+some_itself None = tt
+some_itself (Some x) = refl
+
 -- ---- the earlier of two
 
-some_if : (b : Bool) (x y : Fault) → (if b then Some x else Some y) ≡ None → ⊥
-some_if true x y h = cc
-some_if false x y h = cc
+module _ {F : Type 0} (rank : F → ℕ) where
+  some_if : (b : Bool) (x y : F) → (if b then Some x else Some y) ≡ None → ⊥
+  some_if true x y h = cc
+  some_if false x y h = cc
 
-earlier-none : (a b : Option Fault) → earlier a b ≡ None → (a ≡ None) × (b ≡ None)
-unfolding earlier
-earlier-none None b h = (refl, h)
-earlier-none (Some a) None h = cc
-earlier-none (Some a) (Some b) h = absurd (some_if (nat_lt (rank b) (rank a)) b a h)
+  pub earlier-none : (a b : Option F) → earlier rank a b ≡ None → (a ≡ None) × (b ≡ None)
+  unfolding earlier
+  earlier-none None b h = (refl, h)
+  earlier-none (Some a) None h = cc
+  earlier-none (Some a) (Some b) h = absurd (some_if (nat_lt (rank b) (rank a)) b a h)
 
-earlier-nothing : (a b : Option Fault) → a ≡ None → b ≡ None → earlier a b ≡ None
-unfolding earlier
-earlier-nothing None b p q = q
-earlier-nothing (Some a) b p q = cc
+  earlier-nothing : (a b : Option F) → a ≡ None → b ≡ None → earlier rank a b ≡ None
+  unfolding earlier
+  earlier-nothing None b p q = q
+  earlier-nothing (Some a) b p q = cc
 
-choose : (P : Fault → Type 0) (b : Bool) (x y : Fault) → P x → P y → IfSome (if b then Some x else Some y) P
-choose P true x y p q = p
-choose P false x y p q = q
+  choose : (P : F → Type 0) (b : Bool) (x y : F) → P x → P y → IfSome (if b then Some x else Some y) P
+  choose P true x y p q = p
+  choose P false x y p q = q
 
-earlier-keeps : (P : Fault → Type 0) (a b : Option Fault) → IfSome a P → IfSome b P → IfSome (earlier a b) P
-unfolding earlier
-earlier-keeps P None b p q = q
-earlier-keeps P (Some a) None p q = p
-earlier-keeps P (Some a) (Some b) p q = choose P (nat_lt (rank b) (rank a)) b a q p
+  both_after : (b : Bool) (x y : F) (n : ℕ) → nat_lt (rank x) (rank y) ≡ b → IfSome (if b then Some x else Some y) (λ g. n ≤ rank g) → (n ≤ rank x) × (n ≤ rank y)
+  both_after true x y n is h = let less : rank x < rank y = grind (arith, nat_tests) in (h, omega arith)
+  both_after false x y n is h = let less : rank y ≤ rank x = grind (arith, nat_tests) in (omega arith, h)
 
--- ---- walks
+  earlier-after : (f : F) (a b : Option F) → ComesFirst rank f (earlier rank a b) → ComesFirst rank f a × ComesFirst rank f b
+  unfolding earlier
+  earlier-after f None b h = (tt, h)
+  earlier-after f (Some a) None h = (h, tt)
+  earlier-after f (Some a) (Some b) h =
+      let both = both_after (nat_lt (rank b) (rank a)) b a (rank f) refl h in (both.1, both.0)
 
-abbrev named : DataTable → LiveCondition → Fault
-named table condition = record { condition = condition; table = table }
+  comes_first : (o : Option F) → IfSome o (λ f. ComesFirst rank f o)
+  comes_first None = tt
+  comes_first (Some f) = omega arith
 
-abbrev after : FirstFault → Data → ℕ → ℕ → FirstFault
-after v home c e = record { table = v.table; first = earlier v.first (fault_of v.table home c e) }
+  pub earlier-keeps : (P : F → Type 0) (a b : Option F) → IfSome a P → IfSome b P → IfSome (earlier rank a b) P
+  unfolding earlier
+  earlier-keeps P None b p q = q
+  earlier-keeps P (Some a) None p q = p
+  earlier-keeps P (Some a) (Some b) p q = choose P (nat_lt (rank b) (rank a)) b a q p
 
-no_fault : (table : DataTable) (o : Option LiveCondition) → option_map (named table) o ≡ None → o ≡ None
-no_fault table None h = refl
-no_fault table (Some condition) h = cc
+-- ---- walks with any judge
 
-module _ (home : Data) where
-  none_before : (c : ℕ) (v : FirstFault) (es : List ℕ) → (after_all after v home c es).first ≡ None → (v.first ≡ None) × AllByRecursion (Passes home c) es
-  none_before c v [] h = (h, tt)
-  none_before c v (e ∷ es) h =
-      let later = none_before c (after v home c e) es h in
-      let both = earlier-none v.first (fault_of v.table home c e) later.0 in
-      (both.0, (no_fault v.table (first_failing home c e) both.1, later.1))
+module _ {J F : Type 0} (rank : F → ℕ) (fault : J → Data → ℕ → ℕ → Option F) (judge : J) (falls_back : Bool) (home : Data) where
+  abbrev kept : Option F → Data → ℕ → ℕ → Option F
+  kept first home c e = earlier rank first (fault judge home c e)
 
-  none_after : (c : ℕ) (v : FirstFault) (es : List ℕ) → v.first ≡ None → AllByRecursion (Passes home c) es → (after_all after v home c es).first ≡ None
-  none_after c v [] h all = h
-  none_after c v (e ∷ es) h all =
-      none_after c (after v home c e) es (earlier-nothing v.first _ h (ap (option_map (named v.table)) all.0)) all.1
+  -- a walk keeps the judge
+  same_all : (c : ℕ) (o : Option F) (es : List ℕ) → after_all (judged rank fault) (judge, o) home c es ≡ (judge, after_all kept o home c es)
+  same_all c o [] = refl
+  same_all c o (e ∷ es) = same_all c (kept o home c e) es
+
+  same_chars : (o : Option F) (cs : List ℕ) → after_chars (judged rank fault) falls_back (judge, o) home cs ≡ (judge, after_chars kept falls_back o home cs)
+  same_chars o [] = refl
+  same_chars o (c ∷ cs) =
+      let es = live_at falls_back home c in
+      ap (λ s. after_chars (judged rank fault) falls_back s home cs) (same_all c o es) ∙ same_chars (after_all kept o home c es) cs
+
+  -- none is found exactly if there is none
+  abbrev Passes : ℕ → ℕ → Type 0
+  Passes c e = fault judge home c e ≡ None
+
+  none_at : (c e : ℕ) (o : Option F) → kept o home c e ≡ None → (o ≡ None) × Passes c e
+  none_at c e o h = earlier-none rank o (fault judge home c e) h
+
+  none_on : (c e : ℕ) → Passes c e → (o : Option F) → o ≡ None → kept o home c e ≡ None
+  none_on c e p o h = earlier-nothing rank o (fault judge home c e) h p
+
+  none_among : (c : ℕ) (es : List ℕ) (o : Option F) → (after_all kept o home c es ≡ None) ↔ ((o ≡ None) × AllByRecursion (Passes c) es)
+  none_among c es o = (
+    fold_back (λ o e. kept o home c e) (λ o. o ≡ None) (Passes c) es (all_of _ (none_at c) es) o,
+    λ both. fold_keeps (λ o e. kept o home c e) (λ o. o ≡ None) es (weaker (Passes c) _ (none_on c) es both.1) o both.0,
+  )
+
+  none_live : (o : Option F) → (after_chars kept falls_back o home (chars_below 0x110000) ≡ None) ↔ ((o ≡ None) × EachLive Passes falls_back home)
+  none_live o = (
+    walk_back kept falls_back home (λ o. o ≡ None) Passes none_at o,
+    λ both. walk_keeps kept falls_back home (λ o. o ≡ None) (λ c scalar. weaker (Passes c) _ (none_on c) (live_at falls_back home c) (both.1 c scalar)) o both.0,
+  )
+
+  -- one that is found is that of an entry
+  abbrev Among : ℕ → List ℕ → F → Type 0
+  Among c es = IsFaultAmong (fault judge) home c es
+
+  found_at : (P : F → Type 0) (c : ℕ) (es : List ℕ) → ((f : F) → Among c es f → P f) → AllByRecursion (λ e. (o : Option F) → IfSome o P → IfSome (kept o home c e) P) es
+  found_at P c es into =
+      weaker (Contains es) (λ e. (o : Option F) → IfSome o P → IfSome (kept o home c e) P)
+      (λ e live o p.
+      let one : IfSome (fault judge home c e) P = weaker_some (λ f. fault judge home c e ≡ Some f) P (λ f found. into f (record { e = e; live = live; found = found })) (fault judge home c e) (some_itself (fault judge home c e)) in
+      earlier-keeps rank P o (fault judge home c e) p one) es (all_members es)
+
+  some_among : (c : ℕ) (es : List ℕ) (o : Option F) → IfSome (after_all kept o home c es) (λ f. (o ≡ Some f) ⊎ Among c es f)
+  some_among c es o =
+      let P : F → Type 0 = λ f. (o ≡ Some f) ⊎ Among c es f in
+      fold_keeps (λ o e. kept o home c e) (λ o. IfSome o P) es (found_at P c es (λ f is. inr is)) o (weaker_some _ P (λ f is. inl is) o (some_itself o))
+
+  some_live : (o : Option F) → IfSome (after_chars kept falls_back o home (chars_below 0x110000)) (λ f. (o ≡ Some f) ⊎ IsLiveFault (fault judge) falls_back home f)
+  some_live o =
+      let P : F → Type 0 = λ f. (o ≡ Some f) ⊎ IsLiveFault (fault judge) falls_back home f in
+      walk_keeps kept falls_back home (λ o. IfSome o P)
+      (λ c scalar. found_at P c (live_at falls_back home c) (λ f is. inr (record { c = c; scalar = scalar; among = is }))) o (weaker_some _ P (λ f is. inl is) o (some_itself o))
+
+  -- none has a lesser rank than one that is found
+  least_at : (f : F) (c e : ℕ) (o : Option F) → ComesFirst rank f (kept o home c e) → ComesFirst rank f o × ComesFirst rank f (fault judge home c e)
+  least_at f c e o h = earlier-after rank f o (fault judge home c e) h
+
+  abbrev After : F → ℕ → ℕ → Type 0
+  After f c e = ComesFirst rank f (fault judge home c e)
+
+  least_among : (c : ℕ) (es : List ℕ) (o : Option F) → IfSome (after_all kept o home c es) (λ f. ComesFirst rank f o × AllByRecursion (After f c) es)
+  least_among c es o =
+      let end = after_all kept o home c es in
+      weaker_some (λ f. ComesFirst rank f end) _
+      (λ f h. fold_back (λ o e. kept o home c e) (ComesFirst rank f) (After f c) es (all_of _ (least_at f c) es) o h) end (comes_first rank end)
+
+  least_live : (o : Option F) → IfSome (after_chars kept falls_back o home (chars_below 0x110000)) (λ f. ComesFirst rank f o × EachLive (After f) falls_back home)
+  least_live o =
+      let end = after_chars kept falls_back o home (chars_below 0x110000) in
+      weaker_some (λ f. ComesFirst rank f end) _ (λ f h. walk_back kept falls_back home (ComesFirst rank f) (After f) (least_at f) o h) end (comes_first rank end)
+
+  -- what a walk with this judge, which began with one fault, comes to
+  pub record FirstAmong (c : ℕ) (es : List ℕ) (o found : Option F) : Type 0 where
+    pub nothing : (found ≡ None) ↔ ((o ≡ None) × AllByRecursion (Passes c) es)
+    pub some : IfSome found (λ f. (o ≡ Some f) ⊎ Among c es f)
+    pub least : IfSome found (λ f. ComesFirst rank f o × AllByRecursion (After f c) es)
+
+  pub first_among : (c : ℕ) (es : List ℕ) (o : Option F) (s : J × Option F) → s ≡ after_all (judged rank fault) (judge, o) home c es → FirstAmong c es o s.1
+  first_among c es o s is =
+      subst (λ (s : J × Option F). FirstAmong c es o s.1) (sym (is ∙ same_all c o es))
+      (record { nothing = none_among c es o; some = some_among c es o; least = least_among c es o })
+
+  pub record FirstLive (o found : Option F) : Type 0 where
+    pub nothing : (found ≡ None) ↔ ((o ≡ None) × EachLive Passes falls_back home)
+    pub some : IfSome found (λ f. (o ≡ Some f) ⊎ IsLiveFault (fault judge) falls_back home f)
+    pub least : IfSome found (λ f. ComesFirst rank f o × EachLive (After f) falls_back home)
+
+  pub first_live : (o : Option F) (s : J × Option F) → s ≡ after_chars (judged rank fault) falls_back (judge, o) home (chars_below 0x110000) → FirstLive o s.1
+  first_live o s is =
+      subst (λ (s : J × Option F). FirstLive o s.1) (sym (is ∙ same_chars o (chars_below 0x110000)))
+      (record { nothing = none_live o; some = some_live o; least = least_live o })
+
+-- where none was found before, one that is found is new
+pub not_before : {F : Type 0} (f : F) (A : Type 0) → ((None ≡ Some f) ⊎ A) → A
+not_before f A (inl is) = cc
+not_before f A (inr new) = new
+
+-- ---- a root or a tailoring alone
+
+abbrev FirstPasses : Data → ℕ → ℕ → Type 0
+FirstPasses home c e = first_failing home c e ≡ None
 
 module _ (falls_back : Bool) (home : Data) where
-  abbrev PassesAt : ℕ → Type 0
-  PassesAt c = AllByRecursion (Passes home c) (live_at falls_back home c)
-
-  none_before_chars : (v : FirstFault) (cs : List ℕ) → (after_chars after falls_back v home cs).first ≡ None → (v.first ≡ None) × AllByRecursion PassesAt cs
-  none_before_chars v [] h = (h, tt)
-  none_before_chars v (c ∷ cs) h =
-      let es = live_at falls_back home c in
-      let later = none_before_chars (after_all after v home c es) cs h in
-      let now = none_before home c v es later.0 in (now.0, (now.1, later.1))
-
-  none_after_chars : (v : FirstFault) (cs : List ℕ) → v.first ≡ None → AllByRecursion PassesAt cs → (after_chars after falls_back v home cs).first ≡ None
-  none_after_chars v [] h all = h
-  none_after_chars v (c ∷ cs) h all =
-      let es = live_at falls_back home c in
-      none_after_chars (after_all after v home c es) cs (none_after home c v es h all.0) all.1
-
   -- each condition of each entry, and each entry of each condition
-  all_pass : (c : ℕ) (es : List ℕ) → ((condition : LiveCondition) → AllByRecursion (λ e. IsTrue (meets condition home c e)) es) → AllByRecursion (Passes home c) es
+  all_pass : (c : ℕ) (es : List ℕ) → ((condition : LiveCondition) → AllByRecursion (λ e. IsTrue (meets condition home c e)) es) → AllByRecursion (FirstPasses home c) es
   all_pass c [] all = tt
   all_pass c (e ∷ es) all =
       (meets_passes home c e (λ condition. (all condition).0), all_pass c es (λ condition. (all condition).1))
 
-  pub walk_good : (v : FirstFault) → v.first ≡ None → ((after_chars after falls_back v home (chars_below 0x110000)).first ≡ None) ↔ IsGoodData falls_back home
-  walk_good v none = (
-    λ h. record {
-      each = λ condition c s.
-          weaker (Passes home c) (λ e. IsTrue (meets condition home c e)) (λ e p. passes_meets home c e p condition) (live_at falls_back home c) (each_char PassesAt (none_before_chars v _ h).1 c s);
+  -- no entry fails a condition exactly if each meets each
+  pub good_data : EachLive (λ c e. first_failing home c e ≡ None) falls_back home ↔ IsGoodData falls_back home
+  good_data = (
+    λ each. record {
+      each = λ condition c scalar. weaker (FirstPasses home c) _ (λ e p. passes_meets home c e p condition) (live_at falls_back home c) (each c scalar);
     },
-    λ good. none_after_chars v _ none (every_char PassesAt (λ c s. all_pass c _ (λ condition. good.each condition c s))),
+    λ good. λ c scalar. all_pass c (live_at falls_back home c) (λ condition. good.each condition c scalar),
   )
-
-  -- a condition that an entry of the list fails isn't met by each
-  abbrev Refutes : ℕ → ℕ → Type 0
-  Refutes c e = (condition : LiveCondition) → Fails home c e condition → EachMeets condition falls_back home → ⊥
 
   clash : (b : Bool) → b ≡ true → b ≡ false → ⊥
   clash true p q = cc
   clash false p q = cc
 
-  refutes : (c : ℕ) (es : List ℕ) → ((condition : LiveCondition) → EachMeets condition falls_back home → AllByRecursion (λ e. IsTrue (meets condition home c e)) es) → AllByRecursion (Refutes c) es
-  refutes c [] into = tt
-  refutes c (e ∷ es) into =
-      (λ condition fails each. clash (meets condition home c e) (into condition each).0 fails, refutes c es (λ condition each. (into condition each).1))
-
-  abbrev Kept : DataTable → FirstFault → Type 0
-  Kept table v = (v.table ≡ table) × IfSome v.first (IsFault table falls_back home)
-
-  found_true : (table : DataTable) (c e : ℕ) → Refutes c e → (o : Option LiveCondition) → IfSome o (Fails home c e) → IfSome (option_map (named table) o) (IsFault table falls_back home)
-  found_true table c e refuted None h = tt
-  found_true table c e refuted (Some condition) h = record { in_table = refl; fails = refuted condition h }
-
-  kept_one : (table : DataTable) (c : ℕ) (v : FirstFault) (e : ℕ) → Refutes c e → Kept table v → Kept table (after v home c e)
-  kept_one table c v e refuted kept =
-      let true_one : IfSome (fault_of table home c e) (IsFault table falls_back home) = found_true table c e refuted (first_failing home c e) (failing_fails home c e) in
-      let found : IfSome (fault_of v.table home c e) (IsFault table falls_back home) = subst (λ t. IfSome (fault_of t home c e) (IsFault table falls_back home)) (sym kept.0) true_one in
-      (kept.0, earlier-keeps (IsFault table falls_back home) v.first (fault_of v.table home c e) kept.1 found)
-
-  kept_all : (table : DataTable) (c : ℕ) (v : FirstFault) (es : List ℕ) → AllByRecursion (Refutes c) es → Kept table v → Kept table (after_all after v home c es)
-  kept_all table c v [] refuted kept = kept
-  kept_all table c v (e ∷ es) refuted kept = kept_all table c (after v home c e) es refuted.1 (kept_one table c v e refuted.0 kept)
-
-  abbrev RefutesAt : ℕ → Type 0
-  RefutesAt c = AllByRecursion (Refutes c) (live_at falls_back home c)
-
-  kept_chars : (table : DataTable) (v : FirstFault) (cs : List ℕ) → AllByRecursion RefutesAt cs → Kept table v → Kept table (after_chars after falls_back v home cs)
-  kept_chars table v [] refuted kept = kept
-  kept_chars table v (c ∷ cs) refuted kept =
-      kept_chars table (after_all after v home c (live_at falls_back home c)) cs refuted.1 (kept_all table c v _ refuted.0 kept)
-
-  pub walk_fault : (v : FirstFault) → v.first ≡ None → IfSome (after_chars after falls_back v home (chars_below 0x110000)).first (IsFault v.table falls_back home)
-  walk_fault v none =
-      let start : Kept v.table v = (refl, subst (λ o. IfSome o (IsFault v.table falls_back home)) (sym none) tt) in
-      (kept_chars v.table v (chars_below 0x110000) (every_char RefutesAt (λ c s. refutes c _ (λ condition each. each c s))) start).1
+  -- a condition that a live entry fails isn't met by each
+  pub refutes : (condition : LiveCondition) → IsLiveFault first_failing falls_back home condition → ¬ (EachMeets condition falls_back home)
+  refutes condition is each =
+      let among = is.among in
+      let met : IsTrue (meets condition home is.c among.e) = of_member (λ e. IsTrue (meets condition home is.c e)) _ among.e (each is.c is.scalar) among.live in
+      let fails : meets condition home is.c among.e ≡ false = subst (λ o. IfSome o (Fails home is.c among.e)) among.found (failing_fails home is.c among.e) in
+      clash (meets condition home is.c among.e) met fails

@@ -1,11 +1,11 @@
 -- Implicit weights meet every condition, so that entries for them need no look at the weight.
-use Rattle.std.proofs.Common.{◌≡◌, ℕ, ◌<◌, ◌≤◌, Bool, true, false, not, ◌&&◌, nat_eq, nat_le, [], ◌∷◌, None, refl, ap, arith, IsTrue}
+use Rattle.std.proofs.Common.{◌≡◌, ℕ, ◌<◌, ◌≤◌, Bool, true, false, not, ◌&&◌, nat_eq, nat_le, List, [], ◌∷◌, Option, None, refl, ap, arith, IsTrue}
 use Rattle.std.specs.Prelude.{◌||◌}
 use Rattle.std.proofs.lemmas.Bool.Decides.{nat_tests}
 use Rattle.std.specs.Int.{byte_at}
 use Rattle.icu_provider.specs.declared.live_condition.LiveCondition.{LiveCondition}
 use Rattle.icu_provider.specs.declared.live_condition.LiveCondition.TheVariants.{Places, PrefixRows, Chains, Digits, Bytes, Offsets, Shapes, Leads, Primaries}
-use Rattle.icu_provider.specs.Elements.{of_primary}
+use Rattle.icu_provider.specs.Elements.{Element, of_primary}
 use Rattle.icu_provider.specs.Weights.{weight, implicit_weight}
 use Rattle.icu_provider.specs.Entries.{Implicit, kind_of}
 use Rattle.icu_provider.specs.Tables.{Data}
@@ -13,7 +13,8 @@ use Rattle.icu_provider.specs.Final.{final_elements}
 use Rattle.icu_provider.specs.ElementConditions.{four_bytes, ends_at_zero, has_shape, has_secondary_lead, has_tertiary_lead, has_primary_lead, is_separator}
 use Rattle.icu_provider.specs.EntryConditions.{is_inside, has_short_rows, leads_on, has_digit, has_known_byte, has_known_members, fits_offset}
 use Rattle.icu_provider.specs.LiveConditions.{meets, first_failing}
-use Rattle.icu_provider.proofs.FaultLemmas.{meets_passes}
+use Rattle.icu_provider.specs.LiveWeights.{given_elements, collected_at}
+use Rattle.icu_provider.proofs.FaultLemmas.{meets_passes, meets_readable}
 
 or_true : (b : Bool) → (b || true) ≡ true
 or_true true = refl
@@ -91,3 +92,9 @@ implicit_meets home c e is Primaries = rw (is, final_elements) (and_true _ (impl
 -- an entry for an implicit weight fails no condition
 pub implicit_passes : (home : Data) (c e : ℕ) → kind_of e ≡ Implicit → first_failing home c e ≡ None
 implicit_passes home c e is = meets_passes home c e (implicit_meets home c e is)
+
+-- where no implicit weight is collected, nothing is of an entry for one
+pub collects_nothing : {W : Type 0} (weight : W → Element → Option ℕ) (w : W) (ws : List ℕ) (home : Data) (c e : ℕ) → kind_of e ≡ Implicit → weight w (of_primary (implicit_weight c)) ≡ None
+    → (w, ws) ≡ collected_at weight (w, ws) home c e
+unfolding given_elements final_elements
+collects_nothing weight w ws home c e is none = rw (meets_readable home c e (implicit_meets home c e is), is, final_elements, none) refl

@@ -37,11 +37,14 @@ has_short_rows home e = elim (kind_of e) [ Prefix ↦ list_all is_short (context
 abbrev pub is_diacritic : ℕ → ℕ → Bool
 is_diacritic count c = nat_le 0x300 c && nat_lt c (0x300 + count)
 
+abbrev pub row_avoids : ℕ → Row → Bool
+row_avoids count row = list_all (λ c. not (is_diacritic count c)) row.chars
+
 -- no character of the rows of a prefix is a diacritic, whose element no text before it changes
 unfoldable pub avoids_diacritics : ℕ → Data → ℕ → Bool
 avoids_diacritics count home e =
     elim (kind_of e) [
-      | Prefix ↦ list_all (λ (row : Row). list_all (λ c. not (is_diacritic count c)) row.chars) (context_of (homed home e)).rows
+      | Prefix ↦ list_all (row_avoids count) (context_of (homed home e)).rows
       | _ ↦ true
     ]
 
@@ -99,3 +102,7 @@ fits_offset home c e =
       | Offset ↦ list_all (λ d. has_offset_weight d c) (take 1 (drop (entry_index e) home.elements))
       | _ ↦ true
     ]
+
+-- the elements of the entry with the character can be read, if it is final
+unfoldable pub is_readable : Data → ℕ → ℕ → Bool
+is_readable home c e = is_inside home e && has_known_members home e && fits_offset home c e

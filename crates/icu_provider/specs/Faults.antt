@@ -1,12 +1,11 @@
--- Which of the conditions that fail is named.
-use Rattle.std.specs.Prelude.{ℕ, ◌≡◌, ◌+◌, ◌*◌, Bool, nat_lt, Option, Some, None, option_map, if◌then◌else◌}
-use Rattle.icu_provider.specs.declared.error.DataTable.{DataTable}
-use Rattle.icu_provider.specs.declared.error.DataTable.TheVariants.{Root, Jamo, SpecialPrimaries, Metadata, Tailoring, Reordering, Diacritics}
+-- Which of the faults that are found is named.
+use Rattle.std.specs.Prelude.{ℕ, ◌≡◌, ◌≤◌, Bool, nat_lt, List, Option, Some, None, IfSome, if◌then◌else◌}
+use Rattle.std.specs.Char.{IsScalar}
+use Rattle.std.specs.List.{Contains}
 use Rattle.icu_provider.specs.declared.live_condition.LiveCondition.{LiveCondition}
 use Rattle.icu_provider.specs.declared.live_condition.LiveCondition.TheVariants.{Places, PrefixRows, Chains, Digits, Bytes, Offsets, Shapes, Leads, Primaries}
-use Rattle.icu_provider.specs.declared.fault.Fault.{Fault}
 use Rattle.icu_provider.specs.Tables.{Data}
-use Rattle.icu_provider.specs.LiveConditions.{first_failing, EachMeets}
+use Rattle.icu_provider.specs.Live.{live_at}
 
 -- with room between them for conditions on several tables
 abbrev pub condition_rank : LiveCondition → ℕ
@@ -20,30 +19,28 @@ condition_rank Shapes = 70
 condition_rank Leads = 80
 condition_rank Primaries = 110
 
-abbrev pub table_rank : DataTable → ℕ
-table_rank Root = 0
-table_rank Jamo = 1
-table_rank SpecialPrimaries = 2
-table_rank Metadata = 3
-table_rank Tailoring = 4
-table_rank Reordering = 5
-table_rank Diacritics = 6
-
--- by condition, then by table
-unfoldable pub rank : Fault → ℕ
-rank f = condition_rank f.condition * 8 + table_rank f.table
-
 -- the fault with the lesser rank
-unfoldable pub earlier : Option Fault → Option Fault → Option Fault
-earlier None found = found
-earlier (Some a) None = Some a
-earlier (Some a) (Some b) = if nat_lt (rank b) (rank a) then Some b else Some a
+unfoldable pub earlier : {F : Type 0} → (F → ℕ) → Option F → Option F → Option F
+earlier rank None found = found
+earlier rank (Some a) None = Some a
+earlier rank (Some a) (Some b) = if nat_lt (rank b) (rank a) then Some b else Some a
 
--- the first condition that a live entry fails, as a fault of a table
-abbrev pub fault_of : DataTable → Data → ℕ → ℕ → Option Fault
-fault_of table home c e = option_map (λ condition. record { condition = condition; table = table }) (first_failing home c e)
+-- a judge and the first fault so far, after one more entry
+abbrev pub judged : {J F : Type 0} → (F → ℕ) → (J → Data → ℕ → ℕ → Option F) → J × Option F → Data → ℕ → ℕ → J × Option F
+judged rank fault s home c e = (s.0, earlier rank s.1 (fault s.0 home c e))
 
--- the fault is true: its condition fails in this data, which stands in that table
-pub record IsFault (table : DataTable) (falls_back : Bool) (home : Data) (f : Fault) : Type 0 where
-  pub in_table : f.table ≡ table
-  pub fails : ¬ (EachMeets f.condition falls_back home)
+-- the fault has no greater rank than this one, if it is one
+abbrev pub ComesFirst : {F : Type 0} → (F → ℕ) → F → Option F → Type 0
+ComesFirst rank f found = IfSome found (λ g. rank f ≤ rank g)
+
+-- the fault, by a judge of entries with characters, of one of these entries with this character
+pub record IsFaultAmong {F : Type 0} (fault : Data → ℕ → ℕ → Option F) (home : Data) (c : ℕ) (es : List ℕ) (f : F) : Type 0 where
+  pub e : ℕ
+  pub live : Contains es e
+  pub found : fault home c e ≡ Some f
+
+-- the fault of an entry that is live with a character
+pub record IsLiveFault {F : Type 0} (fault : Data → ℕ → ℕ → Option F) (falls_back : Bool) (home : Data) (f : F) : Type 0 where
+  pub c : ℕ
+  pub scalar : IsScalar c
+  pub among : IsFaultAmong fault home c (live_at falls_back home c) f

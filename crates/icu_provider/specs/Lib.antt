@@ -4,12 +4,13 @@ pub mod Weights
 pub mod Tables
 pub mod Final
 pub mod Live
+pub mod LiveTables
 pub mod ElementConditions
 pub mod EntryConditions
 pub mod LiveConditions
 pub mod Walks
 pub mod Faults
-pub mod Conditions
+pub mod LiveWeights
 pub mod CodePointTables
 pub mod Contexts
 pub mod Accents
@@ -17,5 +18,5 @@ pub mod Reorderings
 pub mod SpecialPrimaries
 pub mod Metadata
 pub mod Requests
-pub mod Roots
+pub mod Loads
 pub mod Stored

@@ -5,18 +5,16 @@ use Rattle.icu_provider.specs.declared.context.ContextTable.{ContextTable}
 use Rattle.icu_provider.specs.declared.context.FoundContext.{FoundContext}
 use Rattle.icu_provider.specs.declared.context.FoundRow.{FoundRow}
 use Rattle.icu_provider.specs.declared.data.CollationData.{CollationData}
-use Rattle.icu_provider.specs.declared.checked.CheckedTables.{CheckedTables}
 use Rattle.icu_provider.specs.declared.diacritics.CollationDiacritics.{CollationDiacritics}
 use Rattle.icu_provider.specs.declared.jamo.CollationJamo.{CollationJamo}
 use Rattle.icu_provider.specs.declared.reordering.CollationReordering.{CollationReordering}
 use Rattle.icu_provider.specs.declared.special_primaries.CollationSpecialPrimaries.{CollationSpecialPrimaries}
 use Rattle.icu_provider.specs.Elements.{element_of}
 use Rattle.icu_provider.specs.CodePointTables.{stored_value}
-use Rattle.icu_provider.specs.Tables.{Row, Context, Data, Tables}
+use Rattle.icu_provider.specs.Tables.{Row, Context, Data}
 use Rattle.icu_provider.specs.Contexts.{rows_of, stored_contexts}
 use Rattle.icu_provider.specs.Reorderings.{Reordering}
 use Rattle.icu_provider.specs.SpecialPrimaries.{SpecialPrimaries}
-use Rattle.icu_provider.specs.Roots.{stored_data, root_tables}
 
 -- the function from characters to values that a code point table is
 abbrev pub table_value : CodePointTable → ℕ → ℕ
@@ -39,10 +37,6 @@ data_by trie ces ce32s contexts =
 
 unfoldable pub data_of : CollationData → Data
 data_of d = data_by d.trie d.ces.now d.ce32s.now d.contexts
-
--- the tables that a value of checked tables keeps
-unfoldable pub kept_tables : CheckedTables → Tables
-kept_tables t = root_tables (stored_data t.blocks.items t.values.items t.ces.items t.ce32s.items) t.jamo.items t.diacritics.items
 
 -- the secondary weights of diacritics, the entries of jamo, a reordering, the special primary weights
 abbrev pub accents_of : CollationDiacritics → List ℕ

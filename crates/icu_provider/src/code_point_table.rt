@@ -29,7 +29,7 @@ impl<'d> CodePointTable<'d> {
         if !blocks.iter().all(|block| (*block as usize) < whole) {
             return Err(DataErrorKind::Index);
         }
-        Ok(CodePointTable { blocks, values })
+        Ok(CodePointTable::from_parts(blocks, values))
     }
 
     /// The value of a character.
@@ -40,8 +40,16 @@ impl<'d> CodePointTable<'d> {
         self.values[self.blocks[code / 64] as usize * 64 + code % 64]
     }
 
-    /// A table of slices that are known to fit.
-    pub(crate) fn from_parts(blocks: &'d [u16], values: &'d [u32]) -> CodePointTable<'d>
+    /// The blocks and the values, as `new` takes them.
+    pub fn parts(self) -> (&'d [u16], &'d [u32])
+        ensures value { stored_value result.0.now result.1.now ≡ table_value self.entry }
+        ensures table { IsCodePointTable result.0.now result.1.now }
+    {
+        (self.blocks, self.values)
+    }
+
+    /// A table of slices that are known to fit, without a check.
+    pub fn from_parts(blocks: &'d [u16], values: &'d [u32]) -> CodePointTable<'d>
         requires { IsCodePointTable blocks.now values.now }
         ensures { table_value result ≡ stored_value blocks.entry.now values.entry.now }
     {

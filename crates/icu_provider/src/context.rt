@@ -1,6 +1,6 @@
 ghost use Rattle.std.specs.Prelude.{◌≡◌, ◌↔◌, ◌<◌, ◌≤◌, ℕ, IsOk, IfOk, IfErr, IsTrue, All, length, take, drop, slice_index_or, slice_get, Some, []};
 ghost use Rattle.icu_provider.specs.Tables.{no_context};
-ghost use Rattle.icu_provider.specs.Contexts.{row_of, rows_of, stored_contexts, HasRowsInside, HasCharsInside, HasRangesInside, is_before, ascend_from, HasAscendingRows, IsContextTable, FailsContexts};
+ghost use Rattle.icu_provider.specs.Contexts.{row_of, rows_of, stored_contexts, HasRowsInside, HasCharsInside, HasRangesInside, is_before, ascend_from, has_ascending_rows, HasAscendingRows, IsContextTable, FailsContexts};
 
 use crate::entry::CollationElement32;
 use crate::error::DataErrorKind;
@@ -138,11 +138,34 @@ impl<'d> ContextTable<'d> {
         if !have_ascending_rows(contexts, rows, chars) {
             return Err(DataErrorKind::Context);
         }
-        Ok(ContextTable {
+        Ok(ContextTable::from_parts(contexts, rows, chars))
+    }
+
+    /// The contexts, their rows, and the rows' characters, as `new` takes them. In each context the rows ascend by the numbers of their
+    /// characters.
+    #[tactic(auto, using(crate::proofs::ContextLemmas::ascending_rows))]
+    pub fn parts(self) -> (&'d [Context], &'d [ContextRow], &'d [char])
+        ensures value { stored_contexts result.0.now result.1.now result.2.now ≡ contexts_of self.entry }
+        ensures table { IsContextTable result.0.now result.1.now result.2.now }
+        ensures ascending { All (λ x. IsTrue (has_ascending_rows x)) (contexts_of self.entry) }
+    {
+        (self.contexts, self.rows, self.chars)
+    }
+
+    /// A table of slices that are known to fit, without a check.
+    pub fn from_parts(
+        contexts: &'d [Context],
+        rows: &'d [ContextRow],
+        chars: &'d [char],
+    ) -> ContextTable<'d>
+        requires { IsContextTable contexts.now rows.now chars.now }
+        ensures { contexts_of result ≡ stored_contexts contexts.entry.now rows.entry.now chars.entry.now }
+    {
+        ContextTable {
             contexts,
             rows,
             chars,
-        })
+        }
     }
 
     /// The table without contexts.

@@ -1,4 +1,5 @@
-ghost use Rattle.std.specs.Prelude.{◌≡◌, ◌+◌, ◌<◌, ◌≤◌, length, slice_index, slice_index_or, take, drop, map, IsTrue, IsOk, IfOk, IfErr, true, ◌↔◌, ◌∷◌, []};
+ghost use Rattle.std.specs.Prelude.{◌≡◌, ◌+◌, ◌<◌, ◌≤◌, length, slice_index, slice_index_or, take, drop, map, IsTrue, All, IsOk, IfOk, IfErr, true, ◌↔◌, ◌∷◌, []};
+ghost use Rattle.icu_provider.specs.Contexts.{has_ascending_rows};
 ghost use Rattle.icu_provider.specs.Elements.{element_of, end_element};
 ghost use Rattle.icu_provider.specs.Entries.{kind_of, has_index, entry_index};
 ghost use Rattle.icu_provider.specs.Weights.{place_of_weight, offset_compressible, offset_place};
@@ -11,8 +12,9 @@ use crate::code_point_table::CodePointTable;
 use crate::context::{ContextTable, FoundContext};
 use crate::element::CollationElement;
 use crate::entry::{CollationElement32, EntryKind};
-use crate::error::{DataErrorKind, DataTable};
+use crate::error::DataErrorKind;
 use crate::fault::first_fault;
+use crate::live_condition::EntryJudge;
 
 /// A root or a tailoring: a table of entries by character, and the lists and contexts that entries name.
 #[derive(Debug, Clone, Copy, PartialEq)]
@@ -26,8 +28,9 @@ pub struct CollationData<'d> {
 impl<'d> CollationData<'d> {
     ghost use Rattle.icu_provider.specs.Stored.{data_of, data_by, found_context};
 
+    /// Borrows a root or a tailoring without a check of its entries. Its look-ups ask their callers for what they need.
     #[tactic(auto, unfolding(crate::specs::Stored::data_of))]
-    pub(crate) fn from_parts(
+    pub fn from_parts(
         trie: CodePointTable<'d>,
         ces: &'d [u64],
         ce32s: &'d [u32],
@@ -69,10 +72,20 @@ impl<'d> CollationData<'d> {
         ensures accepts { IsOk result ↔ IsGoodData true (data_of self.entry) }
         ensures kind { IfErr result (FailsData true (data_of self.entry)) }
     {
-        match first_fault(DataTable::Root, self, true) {
+        match first_fault(&EntryJudge, None, self, true) {
             None => Ok(()),
-            Some(fault) => Err(fault.condition.kind()),
+            Some(condition) => Err(condition.kind()),
         }
+    }
+
+    /// The code point table, the bits of the elements, the entries, and the contexts, as `new` takes them. In each context the rows
+    /// ascend by the numbers of their characters.
+    #[tactic(auto, using(crate::proofs::ContextLemmas::ascending_rows), unfolding(crate::specs::Stored::data_of))]
+    pub fn parts(self) -> (CodePointTable<'d>, &'d [u64], &'d [u32], ContextTable<'d>)
+        ensures value { data_by result.0 result.1.now result.2.now result.3 ≡ data_of self.entry }
+        ensures ascending { All (λ x. IsTrue (has_ascending_rows x)) (data_of self.entry).contexts }
+    {
+        (self.trie, self.ces, self.ce32s, self.contexts)
     }
 
     /// The entry of a character.

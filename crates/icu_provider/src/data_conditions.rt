@@ -1,19 +1,20 @@
-ghost use Rattle.std.specs.Prelude.{◌≡◌, flat_map, map, IsTrue};
+ghost use Rattle.std.specs.Prelude.{◌≡◌, Bool, IsTrue};
 ghost use Rattle.std.specs.List.{list_all};
-ghost use Rattle.icu_provider.specs.Elements.{element_of};
-ghost use Rattle.icu_provider.specs.Entries.{is_self_contained, self_contained, kind_of};
+ghost use Rattle.icu_provider.specs.Entries.{is_self_contained, kind_of};
 ghost use Rattle.icu_provider.specs.Tables.{homed};
 ghost use Rattle.icu_provider.specs.Final.{listed, final_elements};
-ghost use Rattle.icu_provider.specs.ElementConditions.{element_meets};
+ghost use Rattle.icu_provider.specs.ElementConditions.{element_meets, all_meet};
 ghost use Rattle.icu_provider.specs.LiveConditions.{first_failing};
 ghost use Rattle.icu_provider.specs.Stored.{data_of};
-ghost use Rattle.icu_provider.specs.EntryConditions.{is_inside, has_short_rows, leads_on, has_known_members, fits_offset};
+ghost use Rattle.icu_provider.specs.EntryConditions.{is_inside, has_short_rows, leads_on, has_known_members, fits_offset, is_readable};
 
 use crate::data::CollationData;
 use crate::element::CollationElement;
 use crate::element_conditions::ElementCondition;
+use crate::element_walk::{VisitElement, visit_elements};
 use crate::entry::{CollationElement32, EntryKind};
 use crate::live_condition::LiveCondition;
+use std::convert::Infallible;
 
 impl<'d> CollationData<'d> {
     /// Whether what the entry names is there.
@@ -89,8 +90,17 @@ impl<'d> CollationData<'d> {
         }
     }
 
+    /// Whether the elements of the entry with the character can be read, if it is final: what it names is there, the members of its
+    /// list have one element each, and the character has a weight by its offset data.
+    #[tactic(auto, unfolding(crate::specs::EntryConditions::is_readable))]
+    pub fn is_readable(self, c: char, entry: CollationElement32) -> bool
+        ensures { result ≡ is_readable (data_of self.entry) c entry }
+    {
+        self.is_inside(entry) && self.has_known_members(entry) && self.fits_offset(c, entry)
+    }
+
     /// Whether each element that the entry gives with the character meets the condition.
-    #[tactic(auto, unfolding(crate::specs::Final::final_elements, crate::specs::Entries::self_contained, crate::specs::Entries::is_self_contained, crate::specs::EntryConditions::is_inside, crate::specs::EntryConditions::has_known_members))]
+    #[tactic(auto, unfolding(crate::specs::EntryConditions::is_readable))]
     pub(crate) fn elements_meet(
         self,
         condition: ElementCondition,
@@ -102,27 +112,21 @@ impl<'d> CollationData<'d> {
         requires offset { IsTrue (fits_offset (data_of self) c entry) }
         ensures { result ≡ list_all (element_meets condition) (final_elements (homed (data_of self.entry) entry) c) }
     {
-        match entry.kind() {
-            EntryKind::Simple | EntryKind::LongPrimary | EntryKind::LongSecondary => {
-                condition.holds(entry.self_contained())
-            }
-            EntryKind::Expansion32 => {
-                entries_meet(condition, self.get_ce32s(entry.index(), entry.len()))
-            }
-            EntryKind::Expansion => {
-                listed_meet(condition, self.get_ces(entry.index(), entry.len()))
-            }
-            EntryKind::Offset => condition.holds(self.ce_from_offset_ce32(c, entry)),
-            EntryKind::Implicit => condition.holds(CollationElement::new_implicit_from_char(c)),
-            _ => true,
+        let mut visitor = AllMeet {
+            condition,
+            all: true,
+        };
+        match visit_elements(&mut visitor, self, c, entry) {
+            Ok(()) => visitor.all,
+            Err(never) => match never {},
         }
     }
 
     /// The first condition that a live entry fails with a character.
-    pub(crate) fn first_failing(self, c: char, entry: CollationElement32) -> Option<LiveCondition>
+    pub fn first_failing(self, c: char, entry: CollationElement32) -> Option<LiveCondition>
         ensures { result ≡ first_failing (data_of self.entry) c entry }
     {
-        if entry.kind() == EntryKind::Implicit {
+        if entry.is_implicit() {
             None
         } else {
             self.first_failing_of_any(c, entry)
@@ -159,27 +163,26 @@ impl<'d> CollationData<'d> {
     }
 }
 
-/// Whether each element that the entries spell meets the condition.
-fn entries_meet(condition: ElementCondition, entries: &[u32]) -> bool
-    requires { IsTrue (list_all is_self_contained entries.now) }
-    ensures { result ≡ list_all (element_meets condition) (flat_map self_contained entries.now) }
-{
-    for entry in entries {
-        if !condition.holds(CollationElement32::new(*entry).self_contained()) {
-            return false;
-        }
-    }
-    true
+/// Whether each element so far meets a condition.
+#[derive(Drop)]
+struct AllMeet {
+    condition: ElementCondition,
+    all: bool,
 }
 
-/// Whether each of these elements meets the condition.
-fn listed_meet(condition: ElementCondition, elements: &[u64]) -> bool
-    ensures { result ≡ list_all (element_meets condition) (map element_of elements.now) }
-{
-    for bits in elements {
-        if !condition.holds(CollationElement::new(*bits)) {
-            return false;
-        }
+impl VisitElement for AllMeet {
+    ghost use Rattle.icu_provider.specs.declared.element_conditions.ElementCondition.{ElementCondition};
+
+    type Refusal = Infallible;
+
+    ghost Seen = { ElementCondition × Bool };
+
+    ghost seen = { λ v. (v.condition, v.all) };
+
+    ghost after = { all_meet };
+
+    fn visit(&mut self, element: CollationElement) -> Result<(), Infallible> {
+        self.all = self.all && self.condition.holds(element);
+        Ok(())
     }
-    true
 }

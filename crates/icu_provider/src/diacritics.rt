@@ -11,7 +11,8 @@ pub struct CollationDiacritics<'d> {
     ghost is_diacritics: { IsDiacritics secondaries.now },
 }
 
-fn is_replaced_place(place: usize) -> bool
+/// Whether the place, from U+0300 on, is that of U+0340, U+0341, U+0343 or U+0344, which no canonical decomposition has.
+pub fn is_replaced_place(place: usize) -> bool
     ensures { result ≡ is_replaced_place place }
 {
     place == 0x40 || place == 0x41 || place == 0x43 || place == 0x44
@@ -45,12 +46,21 @@ impl<'d> CollationDiacritics<'d> {
                 return Err(DataErrorKind::Element);
             }
         }
-        Ok(CollationDiacritics { secondaries })
+        Ok(CollationDiacritics::from_parts(secondaries))
+    }
+
+    /// A table of weights that are known to meet the conditions, without a check.
+    pub fn from_parts(secondaries: &'d [u16]) -> CollationDiacritics<'d>
+        requires { IsDiacritics secondaries.now }
+        ensures { accents_of result ≡ secondaries.entry.now }
+    {
+        CollationDiacritics { secondaries }
     }
 
     /// The secondary weights, from that of U+0300 on.
     pub fn secondaries(self) -> &'d [u16]
-        ensures { result.now ≡ accents_of self.entry }
+        ensures value { result.now ≡ accents_of self.entry }
+        ensures diacritics { IsDiacritics (accents_of self.entry) }
     {
         self.secondaries
     }

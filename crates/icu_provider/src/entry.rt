@@ -97,6 +97,14 @@ impl CollationElement32 {
         }
     }
 
+    /// Whether it stands for the implicit weight of its character: what `kind` says, with one test.
+    #[tactic(auto, unfolding(crate::specs::Entries::kind_of))]
+    pub fn is_implicit(self) -> bool
+        ensures { IsTrue result ↔ (kind_of self ≡ EntryKind.Implicit) }
+    {
+        self.bits & 0xff == 0xCF
+    }
+
     /// Whether it is the entry of a tailoring for which the root's stands.
     pub(crate) fn is_fallback(self) -> bool
         ensures { result ≡ (self == 0xC0) }

@@ -1,50 +1,48 @@
-ghost use Rattle.std.specs.Prelude.{◌≡◌, ◌↔◌, ◌+◌, ◌*◌, ◌<◌, IfSome, None};
-ghost use Rattle.icu_provider.specs.LiveConditions.{IsGoodData};
+//! The first fault of the entries that are live in a root or a tailoring, by a judge of each.
+ghost use Rattle.std.specs.Prelude.{◌≡◌, ◌↔◌, ◌⊎◌, ℕ, Option, IfSome, None, Some};
+ghost use Rattle.std.specs.List.{AllByRecursion};
+ghost use Rattle.icu_provider.specs.Tables.{Data};
+ghost use Rattle.icu_provider.specs.Live.{live_from, live_at, EachLive};
 ghost use Rattle.icu_provider.specs.Stored.{data_of};
-ghost use Rattle.icu_provider.specs.Faults.{table_rank, rank, earlier, fault_of, IsFault};
+ghost use Rattle.icu_provider.specs.Faults.{earlier, judged, ComesFirst, IsFaultAmong, IsLiveFault};
 
 use crate::data::CollationData;
 use crate::entry::CollationElement32;
-use crate::error::DataTable;
-use crate::live_condition::LiveCondition;
-use crate::walk::{Visit, visit_chars};
+use crate::walk::{Visit, visit_chars, visit_from};
+use std::convert::Infallible;
 
-/// A condition that fails, and the table in which it does.
-#[derive(Debug, Clone, Copy, PartialEq, Eq)]
-pub struct Fault {
-    pub condition: LiveCondition,
-    pub table: DataTable,
+/// A fault that has a place among all that may be named.
+pub trait Ranked: Copy {
+    /// Its place.
+    ghost rank: { Self → ℕ };
+
+    /// Its place: where several are found, the one with the least rank is named.
+    fn rank(self) -> u32
+        ensures { result ≡ rank self };
 }
 
-fn table_rank(table: DataTable) -> u32
-    ensures value { result ≡ table_rank table }
-    ensures bound { result < 8 }
-{
-    match table {
-        DataTable::Root => 0,
-        DataTable::Jamo => 1,
-        DataTable::SpecialPrimaries => 2,
-        DataTable::Metadata => 3,
-        DataTable::Tailoring => 4,
-        DataTable::Reordering => 5,
-        DataTable::Diacritics => 6,
-    }
+/// What finds the fault of an entry that is live with a character.
+pub trait Judge {
+    /// What it names.
+    type Fault: Ranked;
+
+    /// The fault of an entry, by the entry's home, the character, and the entry.
+    ghost fault: { Self → Data → ℕ → ℕ → Option Self.Fault };
+
+    /// The fault of an entry that is live with a character in its home, if it has one.
+    fn fault(
+        &self,
+        home: CollationData<'_>,
+        c: char,
+        entry: CollationElement32,
+    ) -> Option<Self::Fault>
+        ensures { result ≡ fault self.now (data_of home.entry) c entry };
 }
 
-impl Fault {
-    /// Its place among all faults: by condition, then by table.
-    #[tactic(auto, unfolding(crate::specs::Faults::rank))]
-    pub fn rank(self) -> u32
-        ensures { result ≡ rank self }
-    {
-        self.condition.rank() * 8 + table_rank(self.table)
-    }
-}
-
-/// The fault that comes first.
+/// The fault with the lesser rank; of two with one rank, the best so far.
 #[tactic(auto, unfolding(crate::specs::Faults::earlier))]
-pub(crate) fn earlier(best: Option<Fault>, found: Option<Fault>) -> Option<Fault>
-    ensures { result ≡ earlier best found }
+pub fn earlier<F: Ranked>(best: Option<F>, found: Option<F>) -> Option<F>
+    ensures { result ≡ earlier F.rank best found }
 {
     match (best, found) {
         (None, found) => found,
@@ -59,47 +57,67 @@ pub(crate) fn earlier(best: Option<Fault>, found: Option<Fault>) -> Option<Fault
     }
 }
 
-/// The first condition that a live entry fails, as a fault of a table.
-fn fault_of(
-    table: DataTable,
+/// A visitor that keeps the fault that comes first.
+#[derive(Drop)]
+struct FirstFault<'j, J: Judge> {
+    judge: &'j J,
+    first: Option<J::Fault>,
+}
+
+impl<'j, J: Judge> Visit for FirstFault<'j, J> {
+    type Refusal = Infallible;
+
+    ghost Seen = { J × Option J.Fault };
+
+    ghost seen = { λ v. (v.judge.now, v.first) };
+
+    ghost after = { judged J.Fault.rank J.fault };
+
+    fn visit(
+        &mut self,
+        home: CollationData<'_>,
+        c: char,
+        entry: CollationElement32,
+    ) -> Result<(), Infallible> {
+        self.first = earlier(self.first, self.judge.fault(home, c, entry));
+        Ok(())
+    }
+}
+
+/// The fault with the least rank among one found before and those of the entries that are live in a root or a tailoring. A tailoring
+/// falls back: a fallback entry of its code point table is none.
+pub fn first_fault<J: Judge>(
+    judge: &J,
+    first: Option<J::Fault>,
+    home: CollationData<'_>,
+    falls_back: bool,
+) -> Option<J::Fault>
+    ensures none { (result ≡ None) ↔ ((first ≡ None) × EachLive (λ c e. J.fault judge.now (data_of home.entry) c e ≡ None) falls_back (data_of home.entry)) }
+    ensures some { IfSome result (λ f. (first ≡ Some f) ⊎ IsLiveFault (J.fault judge.now) falls_back (data_of home.entry) f) }
+    ensures least { IfSome result (λ f. ComesFirst J.Fault.rank f first × EachLive (λ c e. ComesFirst J.Fault.rank f (J.fault judge.now (data_of home.entry) c e)) falls_back (data_of home.entry)) }
+{
+    let mut visitor = FirstFault { judge, first };
+    match visit_chars(&mut visitor, home, falls_back) {
+        Ok(()) => visitor.first,
+        Err(never) => match never {},
+    }
+}
+
+/// The same of the entries that are live with a character from one entry on.
+pub fn first_fault_from<J: Judge>(
+    judge: &J,
+    first: Option<J::Fault>,
     home: CollationData<'_>,
     c: char,
     entry: CollationElement32,
-) -> Option<Fault>
-    ensures { result ≡ fault_of table (data_of home.entry) c entry }
+) -> Option<J::Fault>
+    ensures none { (result ≡ None) ↔ ((first ≡ None) × AllByRecursion (λ e. J.fault judge.now (data_of home.entry) c e ≡ None) (live_from (data_of home.entry) entry)) }
+    ensures some { IfSome result (λ f. (first ≡ Some f) ⊎ IsFaultAmong (J.fault judge.now) (data_of home.entry) c (live_from (data_of home.entry) entry) f) }
+    ensures least { IfSome result (λ f. ComesFirst J.Fault.rank f first × AllByRecursion (λ e. ComesFirst J.Fault.rank f (J.fault judge.now (data_of home.entry) c e)) (live_from (data_of home.entry) entry)) }
 {
-    match home.first_failing(c, entry) {
-        Some(condition) => Some(Fault { condition, table }),
-        None => None,
+    let mut visitor = FirstFault { judge, first };
+    match visit_from(&mut visitor, home, c, entry) {
+        Ok(()) => visitor.first,
+        Err(never) => match never {},
     }
-}
-
-/// A visitor that keeps the fault that comes first.
-#[derive(Debug, Clone, Copy, PartialEq)]
-pub struct FirstFault {
-    /// The table that the entries stand in.
-    pub table: DataTable,
-    pub first: Option<Fault>,
-}
-
-impl Visit for FirstFault {
-    ghost after = { λ v home c e. record { table = v.table; first = earlier v.first (fault_of v.table home c e) } };
-
-    fn visit(&mut self, home: CollationData<'_>, c: char, entry: CollationElement32) {
-        self.first = earlier(self.first, fault_of(self.table, home, c, entry));
-    }
-}
-
-/// The first fault of a root or a tailoring, if it has one.
-pub(crate) fn first_fault(
-    table: DataTable,
-    home: CollationData<'_>,
-    falls_back: bool,
-) -> Option<Fault>
-    ensures sound { (result ≡ None) ↔ IsGoodData falls_back (data_of home.entry) }
-    ensures fault { IfSome result (IsFault table falls_back (data_of home.entry)) }
-{
-    let mut visitor = FirstFault { table, first: None };
-    visit_chars(&mut visitor, home, falls_back);
-    visitor.first
 }

@@ -36,12 +36,21 @@ impl<'d> CollationJamo<'d> {
         {
             return Err(DataErrorKind::Tag);
         }
-        Ok(CollationJamo { ce32s })
+        Ok(CollationJamo::from_parts(ce32s))
+    }
+
+    /// A table of entries that are known to meet the conditions, without a check.
+    pub fn from_parts(ce32s: &'d [u32]) -> CollationJamo<'d>
+        requires { IsJamo ce32s.now }
+        ensures { jamo_of result ≡ ce32s.entry.now }
+    {
+        CollationJamo { ce32s }
     }
 
     /// The entries, from that of U+1100 on.
     pub fn ce32s(self) -> &'d [u32]
-        ensures { result.now ≡ jamo_of self.entry }
+        ensures value { result.now ≡ jamo_of self.entry }
+        ensures jamo { IsJamo (jamo_of self.entry) }
     {
         self.ce32s
     }

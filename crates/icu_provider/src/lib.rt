@@ -1,10 +1,7 @@
 //! Collation tables: entries, collation elements, and the checks that tables pass before they are read.
 #![tactic(auto)]
 
-mod check_root;
-pub mod checked;
 pub mod code_point_table;
-mod conditions;
 pub mod context;
 mod context_conditions;
 pub mod data;
@@ -12,21 +9,24 @@ mod data_conditions;
 pub mod diacritics;
 pub mod element;
 pub mod element_conditions;
+pub mod element_walk;
 pub mod entry;
 mod entry_conditions;
 pub mod error;
 pub mod fault;
 pub mod jamo;
 pub mod live_condition;
+pub mod live_weights;
 pub mod metadata;
 pub mod non_primary;
 mod offset;
+mod prefix_rows;
+pub mod provider;
 pub mod reordering;
 pub mod request;
 pub mod special_primaries;
-mod walk;
+pub mod walk;
 
-pub use checked::CheckedTables;
 pub use code_point_table::CodePointTable;
 pub use context::{Context, ContextRow, ContextTable, FoundContext, FoundRow};
 pub use data::CollationData;
@@ -37,6 +37,7 @@ pub use error::{DataError, DataErrorKind, DataTable};
 pub use jamo::CollationJamo;
 pub use metadata::CollationMetadata;
 pub use non_primary::NonPrimary;
+pub use provider::CollationProvider;
 pub use reordering::CollationReordering;
 pub use request::DataRequest;
 pub use special_primaries::CollationSpecialPrimaries;

@@ -1,8 +1,11 @@
 ghost use Rattle.std.specs.Prelude.{◌≡◌, ◌<◌};
-ghost use Rattle.icu_provider.specs.LiveConditions.{kind_for};
+ghost use Rattle.icu_provider.specs.LiveConditions.{kind_for, first_failing};
 ghost use Rattle.icu_provider.specs.Faults.{condition_rank};
 
+use crate::data::CollationData;
+use crate::entry::CollationElement32;
 use crate::error::DataErrorKind;
+use crate::fault::{Judge, Ranked};
 
 /// A condition on an entry that is live in a root or a tailoring, in the order in which a refusal names them.
 #[derive(Debug, Clone, Copy, PartialEq, Eq)]
@@ -44,9 +47,13 @@ impl LiveCondition {
             | LiveCondition::Primaries => DataErrorKind::Element,
         }
     }
+}
+
+impl Ranked for LiveCondition {
+    ghost rank = { condition_rank };
 
     /// Its place among all conditions.
-    pub fn rank(self) -> u32
+    fn rank(self) -> u32
         ensures value { result ≡ condition_rank self }
         ensures bound { result < 256 }
     {
@@ -61,5 +68,24 @@ impl LiveCondition {
             LiveCondition::Leads => 80,
             LiveCondition::Primaries => 110,
         }
+    }
+}
+
+/// The judge of a root or a tailoring alone: the first condition that an entry fails.
+#[derive(Debug, Clone, Copy, PartialEq)]
+pub struct EntryJudge;
+
+impl Judge for EntryJudge {
+    type Fault = LiveCondition;
+
+    ghost fault = { λ j home c e. first_failing home c e };
+
+    fn fault(
+        &self,
+        home: CollationData<'_>,
+        c: char,
+        entry: CollationElement32,
+    ) -> Option<LiveCondition> {
+        home.first_failing(c, entry)
     }
 }

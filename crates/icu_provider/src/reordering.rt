@@ -1,4 +1,4 @@
-ghost use Rattle.std.specs.Prelude.{◌≡◌, ◌<◌, ◌%◌, ◌^◌, ◌↔◌, IsOk, IfOk, IfErr, length, find};
+ghost use Rattle.std.specs.Prelude.{◌≡◌, ◌<◌, ◌%◌, ◌^◌, ◌↔◌, IsOk, IfOk, IfErr, length, find, All};
 ghost use Rattle.icu_provider.specs.Reorderings.{with_lead, lies_below, moved, reordered};
 
 use crate::error::DataErrorKind;
@@ -45,6 +45,12 @@ fn moved(ranges: &[u32], primary: u32) -> u32
     }
 }
 
+fn are_bytes(bytes: &[u8])
+    ensures { All (λ b. b < 256) bytes.now }
+{
+    let _length = bytes.len();
+}
+
 impl<'d> CollationReordering<'d> {
     ghost use Rattle.icu_provider.specs.Reorderings.{Reordering};
     ghost use Rattle.icu_provider.specs.Stored.{reordering_of};
@@ -63,11 +69,42 @@ impl<'d> CollationReordering<'d> {
         if reorder_table.len() != 256 {
             return Err(DataErrorKind::Length);
         }
-        Ok(CollationReordering {
+        Ok(CollationReordering::from_parts(min_high_no_reorder, reorder_table, reorder_ranges))
+    }
+
+    /// A reordering of slices that are known to fit, without a check: there are 256 lead bytes.
+    pub fn from_parts(
+        min_high_no_reorder: u32,
+        reorder_table: &'d [u8],
+        reorder_ranges: &'d [u32],
+    ) -> CollationReordering<'d>
+        requires { length reorder_table.now ≡ 256 }
+        ensures { reordering_of result ≡ record { limit = min_high_no_reorder; leads = reorder_table.entry.now; ranges = reorder_ranges.entry.now } }
+    {
+        CollationReordering {
             min_high_no_reorder,
             reorder_table,
             reorder_ranges,
-        })
+        }
+    }
+
+    /// The limit from which on weights stay, the 256 new lead bytes, and the ranges, as `new` takes them.
+    pub fn parts(self) -> (u32, &'d [u8], &'d [u32])
+        ensures value { record { limit = result.0; leads = result.1.now; ranges = result.2.now } ≡ reordering_of self.entry }
+        ensures whole { length result.1.now ≡ 256 }
+    {
+        (
+            self.min_high_no_reorder,
+            self.reorder_table,
+            self.reorder_ranges,
+        )
+    }
+
+    /// The new lead bytes are bytes.
+    pub fn has_bytes(self)
+        ensures { All (λ b. b < 256) (reordering_of self.entry).leads }
+    {
+        are_bytes(self.reorder_table);
     }
 
     /// The primary weight that stands for this one. A nonzero byte of the table replaces the lead byte. Where it is zero, weights 0

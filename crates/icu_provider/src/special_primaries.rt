@@ -72,15 +72,35 @@ impl<'d> CollationSpecialPrimaries<'d> {
         if !has_group_ends(last_primaries, numeric_primary) {
             return Err(DataErrorKind::SpecialPrimary);
         }
-        Ok(CollationSpecialPrimaries {
+        Ok(CollationSpecialPrimaries::from_parts(last_primaries, numeric_primary))
+    }
+
+    /// Numbers that are known to meet the conditions, without a check.
+    pub fn from_parts(
+        last_primaries: &'d [u16],
+        numeric_primary: u8,
+    ) -> CollationSpecialPrimaries<'d>
+        requires { IsSpecialPrimaries last_primaries.now numeric_primary }
+        ensures { special_of result ≡ record { last = last_primaries.entry.now; numeric = numeric_primary } }
+    {
+        CollationSpecialPrimaries {
             last_primaries,
             numeric_primary,
-        })
+        }
+    }
+
+    /// The numbers of the four variable groups, and bits for the compressible lead bytes if there are 20 in all, as `new` takes them.
+    pub fn last_primaries(self) -> &'d [u16]
+        ensures value { result.now ≡ (special_of self.entry).last }
+        ensures special { let s = special_of self.entry in IsSpecialPrimaries s.last s.numeric }
+    {
+        self.last_primaries
     }
 
     /// The lead byte of the primary weights of numbers, 03 to FD.
     pub fn numeric_primary(self) -> u8
-        ensures { result ≡ (special_of self.entry).numeric }
+        ensures value { result ≡ (special_of self.entry).numeric }
+        ensures bound { (3 ≤ result) × (result ≤ 0xFD) }
     {
         self.numeric_primary
     }

@@ -1,5 +1,5 @@
-//! A walk over the entries that are live with characters: one for all conditions.
-ghost use Rattle.std.specs.Prelude.{◌≡◌, ℕ, ◌<◌};
+//! A walk over the entries that are live with characters: one for all that is asked of them.
+ghost use Rattle.std.specs.Prelude.{◌≡◌, ℕ, ◌<◌, OnOk};
 ghost use Rattle.icu_provider.specs.Tables.{Data};
 ghost use Rattle.icu_provider.specs.Live.{live_digit, live_contraction, live_from, live_at};
 ghost use Rattle.icu_provider.specs.Stored.{data_of, found_context};
@@ -11,12 +11,26 @@ use crate::entry::{CollationElement32, EntryKind};
 
 /// What is told of each live entry.
 pub trait Visit {
-    /// What it is after an entry.
-    ghost after: { Self → Data → ℕ → ℕ → Self };
+    /// Why a visit ends the walk, as for want of memory. `Infallible` where none does.
+    type Refusal;
+
+    /// What visits add up to.
+    ghost Seen: { Type 0 };
+
+    /// What the visits so far came to.
+    ghost seen: { Self → Seen };
+
+    /// What it is after one more entry, by the entry's home, the character, and the entry.
+    ghost after: { Seen → Data → ℕ → ℕ → Seen };
 
     /// Tells of an entry that is live with a character, and of the entry's home.
-    fn visit(&mut self, home: CollationData<'_>, c: char, entry: CollationElement32)
-        ensures { self.new ≡ after self.old (data_of home.entry) c entry };
+    fn visit(
+        &mut self,
+        home: CollationData<'_>,
+        c: char,
+        entry: CollationElement32,
+    ) -> Result<(), Self::Refusal>
+        ensures { OnOk result (seen self.new ≡ after (seen self.old) (data_of home.entry) c entry) };
 }
 
 #[tactic(auto, unfolding(crate::specs::Live::live_digit))]
@@ -25,13 +39,14 @@ fn visit_digit<V: Visit>(
     home: CollationData<'_>,
     c: char,
     entry: CollationElement32,
-)
-    ensures { visitor.new ≡ after_all V.after visitor.old (data_of home.entry) c (live_digit (data_of home.entry) entry) }
+) -> Result<(), V::Refusal>
+    ensures { OnOk result (V.seen visitor.new ≡ after_all V.after (V.seen visitor.old) (data_of home.entry) c (live_digit (data_of home.entry) entry)) }
 {
-    visitor.visit(home, c, entry);
+    visitor.visit(home, c, entry)?;
     if entry.kind() == EntryKind::Digit {
-        visitor.visit(home, c, home.plain_entry(entry));
+        visitor.visit(home, c, home.plain_entry(entry))?;
     }
+    Ok(())
 }
 
 fn visit_digit_rows<V: Visit>(
@@ -39,13 +54,14 @@ fn visit_digit_rows<V: Visit>(
     home: CollationData<'_>,
     c: char,
     context: FoundContext<'_>,
-)
-    ensures { visitor.new ≡ after_rows V.after (live_digit (data_of home.entry)) (data_of home.entry) c (found_context context.entry).rows visitor.old }
+) -> Result<(), V::Refusal>
+    ensures { OnOk result (V.seen visitor.new ≡ after_rows V.after (live_digit (data_of home.entry)) (data_of home.entry) c (found_context context.entry).rows (V.seen visitor.old)) }
 {
     let rows = context.rows;
     for row in rows {
-        visit_digit(visitor, home, c, CollationElement32::new(row.entry));
+        visit_digit(visitor, home, c, CollationElement32::new(row.entry))?;
     }
+    Ok(())
 }
 
 #[tactic(auto, unfolding(crate::specs::Live::live_contraction))]
@@ -54,16 +70,16 @@ fn visit_contraction<V: Visit>(
     home: CollationData<'_>,
     c: char,
     entry: CollationElement32,
-)
-    ensures { visitor.new ≡ after_all V.after visitor.old (data_of home.entry) c (live_contraction (data_of home.entry) entry) }
+) -> Result<(), V::Refusal>
+    ensures { OnOk result (V.seen visitor.new ≡ after_all V.after (V.seen visitor.old) (data_of home.entry) c (live_contraction (data_of home.entry) entry)) }
 {
     if entry.kind() == EntryKind::Contraction {
-        visitor.visit(home, c, entry);
+        visitor.visit(home, c, entry)?;
         let context = home.context_of(entry);
-        visit_digit(visitor, home, c, context.default());
-        visit_digit_rows(visitor, home, c, context);
+        visit_digit(visitor, home, c, context.default())?;
+        visit_digit_rows(visitor, home, c, context)
     } else {
-        visit_digit(visitor, home, c, entry);
+        visit_digit(visitor, home, c, entry)
     }
 }
 
@@ -72,54 +88,69 @@ fn visit_contraction_rows<V: Visit>(
     home: CollationData<'_>,
     c: char,
     context: FoundContext<'_>,
-)
-    ensures { visitor.new ≡ after_rows V.after (live_contraction (data_of home.entry)) (data_of home.entry) c (found_context context.entry).rows visitor.old }
+) -> Result<(), V::Refusal>
+    ensures { OnOk result (V.seen visitor.new ≡ after_rows V.after (live_contraction (data_of home.entry)) (data_of home.entry) c (found_context context.entry).rows (V.seen visitor.old)) }
 {
     let rows = context.rows;
     for row in rows {
-        visit_contraction(visitor, home, c, CollationElement32::new(row.entry));
+        visit_contraction(visitor, home, c, CollationElement32::new(row.entry))?;
     }
+    Ok(())
 }
 
 /// Tells a visitor of each entry that is live from this one.
 #[tactic(auto, unfolding(crate::specs::Live::live_from))]
-pub(crate) fn visit_from<V: Visit>(
+pub fn visit_from<V: Visit>(
     visitor: &mut V,
     home: CollationData<'_>,
     c: char,
     entry: CollationElement32,
-)
-    ensures { visitor.new ≡ after_all V.after visitor.old (data_of home.entry) c (live_from (data_of home.entry) entry) }
+) -> Result<(), V::Refusal>
+    ensures { OnOk result (V.seen visitor.new ≡ after_all V.after (V.seen visitor.old) (data_of home.entry) c (live_from (data_of home.entry) entry)) }
 {
     if entry.kind() == EntryKind::Prefix {
-        visitor.visit(home, c, entry);
+        visitor.visit(home, c, entry)?;
         let context = home.context_of(entry);
-        visit_contraction(visitor, home, c, context.default());
-        visit_contraction_rows(visitor, home, c, context);
+        visit_contraction(visitor, home, c, context.default())?;
+        visit_contraction_rows(visitor, home, c, context)
     } else {
-        visit_contraction(visitor, home, c, entry);
+        visit_contraction(visitor, home, c, entry)
     }
 }
 
 /// Tells a visitor of each entry that is live with a character of the code point table. In a tailoring, which falls back, a
 /// fallback entry is none.
-fn visit_char<V: Visit>(visitor: &mut V, home: CollationData<'_>, c: char, falls_back: bool)
-    ensures { visitor.new ≡ after_all V.after visitor.old (data_of home.entry) c (live_at falls_back (data_of home.entry) c) }
+fn visit_char<V: Visit>(
+    visitor: &mut V,
+    home: CollationData<'_>,
+    c: char,
+    falls_back: bool,
+) -> Result<(), V::Refusal>
+    ensures { OnOk result (V.seen visitor.new ≡ after_all V.after (V.seen visitor.old) (data_of home.entry) c (live_at falls_back (data_of home.entry) c)) }
 {
     let entry = home.ce32_for_char(c);
-    if falls_back && entry.is_fallback() {
-        return;
+    // nearly all entries of a root, which lead to nothing else
+    if entry.is_implicit() {
+        return visitor.visit(home, c, entry);
     }
-    visit_from(visitor, home, c, entry);
+    if falls_back && entry.is_fallback() {
+        return Ok(());
+    }
+    visit_from(visitor, home, c, entry)
 }
 
 /// Tells a visitor of each entry that is live with each character.
-pub(crate) fn visit_chars<V: Visit>(visitor: &mut V, home: CollationData<'_>, falls_back: bool)
-    ensures { visitor.new ≡ after_chars V.after falls_back visitor.old (data_of home.entry) (chars_below 0x110000) }
+pub fn visit_chars<V: Visit>(
+    visitor: &mut V,
+    home: CollationData<'_>,
+    falls_back: bool,
+) -> Result<(), V::Refusal>
+    ensures { OnOk result (V.seen visitor.new ≡ after_chars V.after falls_back (V.seen visitor.old) (data_of home.entry) (chars_below 0x110000)) }
 {
     for code in 0..0x110000u32 {
         if let Some(c) = char::from_u32(code) {
-            visit_char(visitor, home, c, falls_back);
+            visit_char(visitor, home, c, falls_back)?;
         }
     }
+    Ok(())
 }

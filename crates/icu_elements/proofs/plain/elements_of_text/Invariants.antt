@@ -1,11 +1,11 @@
-use Rattle.std.proofs.Common.{◌≡◌, ℕ, ◌<◌, take, flat_map, slice_index}
+use Rattle.std.proofs.Common.{◌≡◌, ℕ, ◌<◌, take, slice_index}
 use Rattle.std.specs.Char.{IsScalar}
-use Rattle.icu_elements.specs.Plain.{elements_of_char}
+use Rattle.icu_elements.specs.Plain.{elements_by_char}
 use Rattle.icu_elements.specs.Reading.{tables_of}
 use Rattle.icu_elements.proofs.plain.elements_of_text.Given as goal
 
 abbrev pub invariant-loop-c : goal.invariant-loop-c
 invariant-loop-c l = record {
-  items : l.elements.items ≡ flat_map (elements_of_char (tables_of l.tables)) (take l.c-index l.text);
+  items : l.list.elements.items ≡ elements_by_char (tables_of l.tables) (take l.c-index l.text);
   scalars : (k : ℕ) → k < l.c-index → IsScalar (slice_index l.text k);
 }

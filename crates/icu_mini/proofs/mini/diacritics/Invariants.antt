@@ -1,6 +1,6 @@
 -- The weights as far as they have come.
 use Rattle.std.proofs.Common.{◌≡◌}
-use Rattle.icu_mini.specs.Mini.{run}
+use Rattle.icu_mini.specs.Runs.{run}
 use Rattle.icu_mini.proofs.mini.diacritics.Given as goal
 
 abbrev pub invariant-loop-i : goal.invariant-loop-i

@@ -5,4 +5,4 @@ use Rattle.icu_provider.proofs.walk.visit_chars.Given as goal
 
 abbrev pub invariant-loop-code : goal.invariant-loop-code
 invariant-loop-code g l =
-    l.visitor ≡ after_chars g.V.Visit.after l.falls_back l.fn.visitor (data_of l.home) (chars_below l.code)
+    g.V.Visit.seen l.visitor ≡ after_chars g.V.Visit.after l.falls_back (g.V.Visit.seen l.fn.visitor) (data_of l.home) (chars_below l.code)

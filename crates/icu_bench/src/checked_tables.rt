@@ -1,0 +1,167 @@
+//! Tables that are accepted together, and what checked tables lend.
+use crate::damage::lend_all;
+use icu_checks::CheckedTables;
+use icu_mini::mini::Mini;
+use icu_options::MaxVariable;
+use icu_provider::{CollationData, CollationElement32};
+use std::alloc::{AllocError, Global};
+use std::process::Abort;
+use std::test::Fail;
+
+/// Mini and each of its variants, with a name.
+fn all_tables(alloc: Global) -> Result<Vec<(&'static str, Mini)>, AllocError> {
+    let mut all = Vec::new(alloc);
+    all.push(("Mini", Mini::new(alloc)?))?;
+    all.push(("backward", Mini::with_backward_second_level(alloc)?))?;
+    all.push(("Lithuanian", Mini::lithuanian(alloc)?))?;
+    all.push(("a with ring", Mini::with_a_ring(alloc)?))?;
+    all.push(("double l", Mini::with_double_l(alloc)?))?;
+    all.push(("b after a", Mini::with_b_after_a(alloc)?))?;
+    all.push(("offsets", Mini::with_offsets(alloc)?))?;
+    all.push(("swapped leads", Mini::with_swapped_leads(alloc)?))?;
+    all.push(("sharp s", Mini::with_sharp_s(alloc)?))?;
+    all.push(("two rows", Mini::with_two_rows(alloc)?))?;
+    all.push(("c after ab", Mini::with_c_after_ab(alloc)?))?;
+    all.push(("jamo list", Mini::with_jamo_list(alloc)?))?;
+    all.push(("kana", Mini::with_kana(alloc)?))?;
+    all.push(("high currency", Mini::with_high_currency(alloc)?))?;
+    all.push(("secondary alone", Mini::with_secondary_alone(alloc)?))?;
+    all.push(("tertiary alone", Mini::with_tertiary_alone(alloc)?))?;
+    all.push(("split lead", Mini::with_split_lead(alloc)?))?;
+    Ok(all)
+}
+
+#[test]
+fn mini_and_all_variants_are_accepted(rt: HostRuntime) -> Result<(), Fail> {
+    let all = all_tables(rt.alloc())?;
+    assert_eq!(rt; all.len(), 17);
+    for (name, mini) in all.iter() {
+        let set = lend_all(mini)?;
+        let refusal = CheckedTables::from_set(rt.alloc(), set).err();
+        assert_eq!(rt; refusal, None, "{name}, in a set");
+        let refusal = CheckedTables::new(
+            rt.alloc(),
+            set.root,
+            set.jamo,
+            set.special,
+            set.metadata,
+            set.tailoring,
+            set.reordering,
+            set.diacritics,
+        )
+        .err();
+        assert_eq!(rt; refusal, None, "{name}, one by one");
+    }
+    Ok(())
+}
+
+/// The lengths of the lists of elements and of entries, and the number of contexts.
+fn lengths(data: CollationData<'_>) -> (usize, usize, usize) {
+    let (_trie, ces, ce32s, contexts) = data.parts();
+    (ces.len(), ce32s.len(), contexts.len())
+}
+
+#[test]
+fn a_root_and_its_companions_are_lent_as_they_came(rt: HostRuntime) -> Result<(), Fail> {
+    let mini = Mini::with_high_currency(rt.alloc())?;
+    let tables = CheckedTables::from_set(rt.alloc(), lend_all(&mini)?)?;
+    for (c, entry) in [
+        ('$', 0x1E10_0505),
+        ('a', 0x6110_0505),
+        ('9', 0x0001_29CA),
+        ('\u{FFFE}', 0x0200_0505),
+        ('\u{10FFFF}', 0x0000_00CF),
+    ] {
+        assert_eq!(rt;
+            tables.root().ce32_for_char(c),
+            CollationElement32::new(entry),
+            "{}",
+            c as u32
+        );
+    }
+    let (elements, entries, contexts) = lengths(tables.root());
+    assert_eq!(rt; elements, 0);
+    assert_eq!(rt; entries, 10);
+    assert_eq!(rt; contexts, 0);
+    let (_trie, _ces, ce32s, _contexts) = tables.root().parts();
+    assert_eq!(rt; ce32s.last().copied(), Some(0x1434_0505));
+
+    assert_eq!(rt; tables.jamo().ce32s().len(), 256);
+    for (place, entry) in [(0, 0x6510_0505), (255, 0x668F_0505)] {
+        assert_eq!(rt;
+            tables.jamo().ce32s().get(place).copied(),
+            Some(entry),
+            "jamo {place}"
+        );
+    }
+    assert_eq!(rt; tables.diacritics().secondaries().len(), 79);
+    for (place, weight) in [(0, 0x4600), (78, 0x9400)] {
+        assert_eq!(rt;
+            tables.diacritics().secondaries().get(place).copied(),
+            Some(weight),
+            "diacritic {place}"
+        );
+    }
+    let special = tables.special_primaries();
+    assert_eq!(rt; special.numeric_primary(), 0x30);
+    assert!(rt; special.last_primaries() == [0x0400, 0x0600, 0x0900, 0x2000].as_slice());
+    assert_eq!(rt;
+        special.last_primary_for_group(MaxVariable::Currency),
+        0x1FFF_FFFF
+    );
+    assert_eq!(rt; tables.metadata().bits, 1);
+    assert!(rt; tables.tailoring().is_none());
+    assert!(rt; tables.reordering().is_none());
+    Ok(())
+}
+
+#[test]
+fn a_tailoring_and_a_reordering_are_lent_as_they_came(rt: HostRuntime) -> Result<(), Fail> {
+    let mini = Mini::with_swapped_leads(rt.alloc())?;
+    let tables = CheckedTables::from_set(rt.alloc(), lend_all(&mini)?)?;
+    assert_eq!(rt; tables.metadata().bits, 0x29);
+    let Some(tailoring) = tables.tailoring() else {
+        return Err(Fail::from("no tailoring"));
+    };
+    for (c, entry) in [('a', 0xC9), ('b', 0xC0), ('\u{10FFFF}', 0xC0)] {
+        assert_eq!(rt;
+            tailoring.ce32_for_char(c),
+            CollationElement32::new(entry),
+            "{}",
+            c as u32
+        );
+    }
+    let (elements, entries, contexts) = lengths(tailoring);
+    assert_eq!(rt; elements, 0);
+    assert_eq!(rt; entries, 0);
+    assert_eq!(rt; contexts, 1);
+    let Some(reordering) = tables.reordering() else {
+        return Err(Fail::from("no reordering"));
+    };
+    let (limit, leads, ranges) = reordering.parts();
+    assert_eq!(rt; limit, 0);
+    assert_eq!(rt; leads.len(), 256);
+    for (place, lead) in [(0x60, 0), (0x61, 0x62), (0x62, 0x61), (0x63, 0)] {
+        assert_eq!(rt; leads.get(place).copied(), Some(lead), "lead byte {place}");
+    }
+    assert_eq!(rt; ranges.len(), 0);
+    Ok(())
+}
+
+#[test]
+fn lists_and_ranges_are_lent_as_they_came(rt: HostRuntime) -> Result<(), Fail> {
+    let kana = Mini::with_kana(rt.alloc())?;
+    let tables = CheckedTables::from_set(rt.alloc(), lend_all(&kana)?)?;
+    let (_trie, ces, _ce32s, _contexts) = tables.root().parts();
+    assert!(rt; ces == [0x6710_0000_0500_0500, 0x6710_0000_0500_0540].as_slice());
+
+    let split = Mini::with_split_lead(rt.alloc())?;
+    let tables = CheckedTables::from_set(rt.alloc(), lend_all(&split)?)?;
+    let Some(reordering) = tables.reordering() else {
+        return Err(Fail::from("no reordering"));
+    };
+    let (limit, _leads, ranges) = reordering.parts();
+    assert_eq!(rt; limit, 0x6200_0000);
+    assert!(rt; ranges == [0x6140_002F].as_slice());
+    Ok(())
+}

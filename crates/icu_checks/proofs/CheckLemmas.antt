@@ -1,0 +1,41 @@
+-- The parts of the check together.
+use Rattle.icu_checks.specs.declared.condition.Condition.{Condition}
+use Rattle.icu_checks.specs.declared.condition.Condition.TheVariants as conditions
+use Rattle.icu_checks.specs.declared.condition.PairCondition.{PairCondition}
+use Rattle.icu_checks.specs.declared.condition.PairCondition.TheVariants.{LoneTertiaries, Primaries, Secondaries, Tertiaries, Compression}
+use Rattle.icu_checks.specs.declared.condition.LeadCondition.TheVariants.{Separator, HighLead, ImplicitLead, NumericLead, LeadsApart, NumericWhole}
+use Rattle.icu_checks.specs.CollatorTables.{CollatorTables}
+use Rattle.icu_checks.specs.LeadConditions.{LeadMeets}
+use Rattle.icu_checks.specs.EntryFaults.{LiveMeets}
+use Rattle.icu_checks.specs.GoodTables.{AreTables, HasDiacriticCount, Meets, IsGoodTables}
+use Rattle.icu_checks.specs.Checks.{LeadsMeet, PairsMeet}
+use Rattle.icu_checks.proofs.LevelLemmas.{meets_in}
+use Rattle.icu_checks.proofs.LevelMeets.{lone_meet, secondaries_meet, tertiaries_meet}
+use Rattle.icu_checks.proofs.PrimaryMeets.{primaries_meet, compression_meets}
+
+pub leads_meet : (all : CollatorTables) → LeadMeets Separator all → LeadMeets HighLead all → LeadMeets ImplicitLead all → LeadMeets NumericLead all → LeadMeets LeadsApart all → LeadMeets NumericWhole all → LeadsMeet all
+leads_meet all a b c d e f Separator = a
+leads_meet all a b c d e f HighLead = b
+leads_meet all a b c d e f ImplicitLead = c
+leads_meet all a b c d e f NumericLead = d
+leads_meet all a b c d e f LeadsApart = e
+leads_meet all a b c d e f NumericWhole = f
+
+module _ (all : CollatorTables) (tables : AreTables all) (count : HasDiacriticCount all) (live : LiveMeets all) (leads : LeadsMeet all) (pairs : PairsMeet all) where
+  pair_meets : (condition : PairCondition) → Meets (conditions.Pair condition) all
+  pair_meets LoneTertiaries = lone_meet all live tables pairs.lones
+  pair_meets Secondaries = secondaries_meet all live tables pairs.secondaries.weights pairs.secondaries.all pairs.secondaries.free
+  pair_meets Tertiaries = tertiaries_meet all live tables pairs.tertiaries.weights pairs.tertiaries.all pairs.tertiaries.free
+  pair_meets Primaries = primaries_meet all live tables (leads ImplicitLead) (leads Separator) (leads HighLead) pairs.primaries.weights pairs.primaries.all_held pairs.primaries.free
+  pair_meets Compression = compression_meets all live tables (leads ImplicitLead) (leads Separator) (leads HighLead) pairs.primaries.weights pairs.primaries.all_held pairs.primaries.alike
+
+  each : (condition : Condition) → Meets condition all
+  each conditions.DiacriticCount = count
+  each (conditions.Entry condition) = λ table. (meets_in all live table).entries condition
+  each conditions.PrefixRows = λ table. (meets_in all live table).rows
+  each (conditions.Element condition) = λ table. (meets_in all live table).elements condition
+  each (conditions.Pair condition) = pair_meets condition
+  each (conditions.Lead condition) = leads condition
+
+  pub good_tables : IsGoodTables all
+  good_tables = record { tables = tables; each = each }

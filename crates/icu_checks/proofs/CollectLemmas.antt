@@ -1,0 +1,265 @@
+-- The weights that a list comes to hold, table by table.
+use Rattle.std.proofs.Common.{◌≡◌, ◌↔◌, ◌⊎◌, ℕ, ◌+◌, ◌-◌, ◌<◌, ◌++◌, false, true, Bool, Result, Ok, Err, OnOk, List, [], ◌∷◌, length, slice_index, Option, Some, None, IsTrue, refl, sym, ap, ◌∙◌, subst, inl, inr, arith, option_map}
+use Rattle.std.proofs.lemmas.Bool.{cases_eq}
+use Rattle.std.proofs.lemmas.Bool.Decides.{nat_tests}
+use Rattle.std.proofs.lemmas.List.Elements.{Contains-append_left, Contains-append_right, Contains-append_cases}
+use Rattle.std.specs.List.{Contains}
+use Rattle.icu_provider.specs.declared.data.CollationData.{CollationData}
+use Rattle.icu_provider.specs.declared.error.DataTable.TheVariants.{Root, Jamo, SpecialPrimaries, Metadata, Tailoring, Reordering, Diacritics}
+use Rattle.icu_provider.specs.Elements.{accent_element}
+use Rattle.icu_provider.specs.EntryConditions.{is_readable}
+use Rattle.icu_provider.specs.Final.{final_elements}
+use Rattle.icu_provider.specs.Tables.{Data, homed, is_jamo}
+use Rattle.icu_provider.specs.Live.{live_from, live_at}
+use Rattle.icu_provider.specs.LiveWeights.{IsWeightAmong, IsLiveWeight}
+use Rattle.icu_provider.specs.Accents.{is_replaced_place}
+use Rattle.icu_provider.specs.Stored.{data_of, jamo_of, accents_of}
+use Rattle.icu_checks.specs.declared.table_set.TableSet.{TableSet}
+use Rattle.icu_checks.specs.declared.weights.Level.{Level}
+use Rattle.icu_checks.specs.CollatorTables.{CollatorTables}
+use Rattle.icu_checks.specs.TableSets.{tables_in}
+use Rattle.icu_checks.specs.Weights.{weight_at, IsWeightBy, Adds, IsBelow, IsJamoWeight, IsAccentWeight}
+
+-- ---- what is added
+
+map_right : {A B C D : Type 0} → (A ↔ (B ⊎ C)) → (C ↔ D) → (A ↔ (B ⊎ D))
+map_right f g = (
+  λ a. elim (f.0 a) [ inl b ↦ inl b | inr c ↦ inr (g.0 c) ],
+  λ s. elim s [ inl b ↦ f.1 (inl b) | inr d ↦ f.1 (inr (g.1 d)) ],
+)
+
+pub adds_same : (P Q : ℕ → Type 0) (old new : List ℕ) → ((w : ℕ) → P w ↔ Q w) → Adds P old new → Adds Q old new
+adds_same P Q old new same adds w = map_right (adds w) (same w)
+
+pub adds_none : (P : ℕ → Type 0) (old new : List ℕ) → new ≡ old → ((w : ℕ) → P w → ⊥) → Adds P old new
+adds_none P old new is none w = (λ c. inl (subst (λ ws. Contains ws w) is c), λ s. elim s [ inl c ↦ subst (λ ws. Contains ws w) (sym is) c | inr p ↦ absurd (none w p) ])
+
+one_member : (v w : ℕ) → Contains (v ∷ []) w → v ≡ w
+one_member v w c = grind (arith, c)
+
+pub adds_one : (P : ℕ → Type 0) (old new : List ℕ) (v : ℕ) → new ≡ old ++ v ∷ [] → P v → ((w : ℕ) → P w → v ≡ w) → Adds P old new
+adds_one P old new v is has only w = (
+  λ c. elim (Contains-append_cases old (v ∷ []) w (subst (λ ws. Contains ws w) is c)) [ inl before ↦ inl before | inr last ↦ inr (subst P (one_member v w last) has) ],
+  λ s. subst (λ ws. Contains ws w) (sym is) (elim s [
+    | inl before ↦ Contains-append_left old (v ∷ []) w before
+    | inr p ↦ Contains-append_right old (v ∷ []) w (0, omega arith, only w p)
+  ]),
+)
+
+-- ---- place by place
+
+pub below_none : (P : ℕ → ℕ → Type 0) (old : List ℕ) → Adds (IsBelow P 0) old old
+below_none P old = adds_none (IsBelow P 0) old old refl (λ w is. absurd (omega (arith, is.below)))
+
+last_or_before : (i n : ℕ) → i < n + 1 → (i < n) ⊎ (i ≡ n)
+last_or_before i n h = elim (cases_eq i n) [ inl same ↦ inr same | inr other ↦ inl (omega arith) ]
+
+more : (i n : ℕ) → i < n → i < n + 1
+more i n h = omega (arith, h)
+
+last : (n : ℕ) → n < n + 1
+last n = omega arith
+
+pub below_step : (P : ℕ → ℕ → Type 0) (start old new : List ℕ) (n : ℕ) → Adds (IsBelow P n) start old → Adds (P n) old new → Adds (IsBelow P (n + 1)) start new
+below_step P start old new n before now w = (
+  λ c. elim ((now w).0 c) [
+    | inl older ↦ elim ((before w).0 older) [
+      | inl oldest ↦ inl oldest
+      | inr is ↦ inr (record { place = is.place; below = more is.place n is.below; is = is.is })
+    ]
+    | inr p ↦ inr (record { place = n; below = last n; is = p })
+  ],
+  λ s. elim s [
+    | inl oldest ↦ (now w).1 (inl ((before w).1 (inl oldest)))
+    | inr is ↦ elim (last_or_before is.place n is.below) [
+      | inl earlier ↦ (now w).1 (inl ((before w).1 (inr (record { place = is.place; below = earlier; is = is.is }))))
+      | inr same ↦ (now w).1 (inr (subst (λ i. P i w) same is.is))
+    ]
+  ],
+)
+
+-- ---- table by table
+
+module _ (level : Level) (all : CollatorTables) where
+  pub root_same : (w : ℕ) → IsLiveWeight (weight_at level) false all.tables.root w ↔ IsWeightBy level Root all.tables w
+  root_same w = (
+    λ is. record {
+      x = is.among.x;
+      read = record { home = all.tables.root; char = is.c; entry = is.among.e; live = (refl, is.scalar, is.among.live); readable = is.among.readable; member = is.among.given };
+      weighs = is.among.weighs;
+    },
+    λ is. record {
+      c = is.read.char;
+      scalar = is.read.live.1;
+      among = record {
+        e = is.read.entry;
+        live = subst (λ h. Contains (live_at false h is.read.char) is.read.entry) is.read.live.0 is.read.live.2;
+        readable = subst (λ h. IsTrue (is_readable h is.read.char is.read.entry)) is.read.live.0 is.read.readable;
+        x = is.x;
+        given = subst (λ h. Contains (final_elements (homed h is.read.entry) is.read.char) is.x) is.read.live.0 is.read.member;
+        weighs = is.weighs;
+      };
+    },
+  )
+
+  same_some : (a b : Data) → Some a ≡ Some b → a ≡ b
+  same_some a b h = cc
+
+  pub tailoring_same : (t : Data) → all.tables.tailoring ≡ Some t → (w : ℕ) → IsLiveWeight (weight_at level) true t w ↔ IsWeightBy level Tailoring all.tables w
+  tailoring_same t found w = (
+    λ is. record {
+      x = is.among.x;
+      read = record { home = t; char = is.c; entry = is.among.e; live = (found, is.scalar, is.among.live); readable = is.among.readable; member = is.among.given };
+      weighs = is.among.weighs;
+    },
+    λ is.
+        let same : is.read.home ≡ t = same_some is.read.home t (sym is.read.live.0 ∙ found) in
+        record {
+          c = is.read.char;
+          scalar = is.read.live.1;
+          among = record {
+            e = is.read.entry;
+            live = subst (λ h. Contains (live_at true h is.read.char) is.read.entry) same is.read.live.2;
+            readable = subst (λ h. IsTrue (is_readable h is.read.char is.read.entry)) same is.read.readable;
+            x = is.x;
+            given = subst (λ h. Contains (final_elements (homed h is.read.entry) is.read.char) is.x) same is.read.member;
+            weighs = is.weighs;
+          };
+        },
+  )
+
+  none_some : (a : Data) → None ≡ Some a → ⊥
+  none_some a h = cc
+
+  pub no_tailoring : all.tables.tailoring ≡ None → (w : ℕ) → IsWeightBy level Tailoring all.tables w → ⊥
+  no_tailoring found w is = none_some is.read.home (sym found ∙ is.read.live.0)
+
+  place_back : (c : ℕ) → IsTrue (is_jamo c) → 0x1100 + (c - 0x1100) ≡ c
+  place_back c is = grind (arith, nat_tests)
+
+  place_inside : (c : ℕ) → IsTrue (is_jamo c) → c - 0x1100 < 256
+  place_inside c is = grind (arith, nat_tests)
+
+  char_jamo : (i : ℕ) → i < 256 → IsTrue (is_jamo (0x1100 + i))
+  char_jamo i inside = grind (arith, nat_tests)
+
+  char_place : (i : ℕ) → 0x1100 + i - 0x1100 ≡ i
+  char_place i = omega arith
+
+  pub jamo_same : (w : ℕ) → IsBelow (IsJamoWeight level all) 256 w ↔ IsWeightBy level Jamo all.tables w
+  jamo_same w = (
+    λ is. record {
+      x = is.is.x;
+      read = record {
+        home = all.tables.root;
+        char = 0x1100 + is.place;
+        entry = is.is.e;
+        live = (refl, char_jamo is.place is.below, subst (λ i. Contains (live_from all.tables.root (slice_index all.tables.jamo i)) is.is.e) (sym (char_place is.place)) is.is.live);
+        readable = is.is.readable;
+        member = is.is.given;
+      };
+      weighs = is.is.weighs;
+    },
+    λ is.
+        let back = place_back is.read.char is.read.live.1 in
+        record {
+          place = is.read.char - 0x1100;
+          below = place_inside is.read.char is.read.live.1;
+          is = record {
+            e = is.read.entry;
+            live = subst (λ h. Contains (live_from h (slice_index all.tables.jamo (is.read.char - 0x1100))) is.read.entry) is.read.live.0 is.read.live.2;
+            readable = subst (λ c. IsTrue (is_readable all.tables.root c is.read.entry)) (sym back) (subst (λ h. IsTrue (is_readable h is.read.char is.read.entry)) is.read.live.0 is.read.readable);
+            x = is.x;
+            given = subst (λ c. Contains (final_elements (homed all.tables.root is.read.entry) c) is.x) (sym back) (subst (λ h. Contains (final_elements (homed h is.read.entry) is.read.char) is.x) is.read.live.0 is.read.member);
+            weighs = is.weighs;
+          };
+        },
+  )
+
+  pub accents_same : (n : ℕ) → n ≡ length all.tables.diacritics → (w : ℕ) → IsBelow (IsAccentWeight level all) n w ↔ IsWeightBy level Diacritics all.tables w
+  accents_same n count w = (
+    λ is. record {
+      x = accent_element (slice_index all.tables.diacritics is.place);
+      read = record { place = is.place; inside = subst (λ n. is.place < n) count is.below; kept = is.is.kept; is = refl };
+      weighs = is.is.weighs;
+    },
+    λ is. record {
+      place = is.read.place;
+      below = subst (λ n. is.read.place < n) (sym count) is.read.inside;
+      is = record { kept = is.read.kept; weighs = subst (λ x. weight_at level x ≡ Some w) is.read.is is.weighs };
+    },
+  )
+
+  pub special_none : (w : ℕ) → IsWeightBy level SpecialPrimaries all.tables w → ⊥
+  special_none w is = is.read.live
+
+  pub metadata_none : (w : ℕ) → IsWeightBy level Metadata all.tables w → ⊥
+  metadata_none w is = is.read.live
+
+  pub reordering_none : (w : ℕ) → IsWeightBy level Reordering all.tables w → ⊥
+  reordering_none w is = is.read.live
+
+-- ---- as tables are lent
+
+on_ok : {X E : Type 0} (A B : Type 0) → (A → B) → (r : Result X E) → OnOk r A → OnOk r B
+on_ok A B f (Ok x) h = f h
+on_ok A B f (Err e) h = tt
+
+abbrev Found : (ℕ → Type 0) → List ℕ → List ℕ → Type 0
+Found P old new = (w : ℕ) → Contains new w ↔ (Contains old w ⊎ P w)
+
+module _ (s : TableSet) (level : Level) where
+  pub lent_root : {X E : Type 0} (r : Result X E) (old new : List ℕ) → OnOk r (Found (IsLiveWeight (weight_at level) false (data_of s.root)) old new) → OnOk r (Adds (IsWeightBy level Root (tables_in s).tables) old new)
+  unfolding tables_in
+  lent_root r old new = on_ok _ _ (adds_same (IsLiveWeight (weight_at level) false (data_of s.root)) (IsWeightBy level Root (tables_in s).tables) old new (root_same level (tables_in s))) r
+
+  pub lent_tailoring : (t : CollationData) → s.tailoring ≡ Some t → {X E : Type 0} (r : Result X E) (old new : List ℕ) → OnOk r (Found (IsLiveWeight (weight_at level) true (data_of t)) old new) → OnOk r (Adds (IsWeightBy level Tailoring (tables_in s).tables) old new)
+  unfolding tables_in
+  lent_tailoring t found r old new =
+      on_ok _ _ (adds_same (IsLiveWeight (weight_at level) true (data_of t)) (IsWeightBy level Tailoring (tables_in s).tables) old new
+      (tailoring_same level (tables_in s) (data_of t) (ap (option_map data_of) found))) r
+
+  pub lent_no_tailoring : s.tailoring ≡ None → (old : List ℕ) → Adds (IsWeightBy level Tailoring (tables_in s).tables) old old
+  unfolding tables_in
+  lent_no_tailoring found old = adds_none (IsWeightBy level Tailoring (tables_in s).tables) old old refl (no_tailoring level (tables_in s) (ap (option_map data_of) found))
+
+  pub lent_of_jamo : (i e c : ℕ) → e ≡ slice_index (jamo_of s.jamo) i → c ≡ 0x1100 + i → {X E : Type 0} (r : Result X E) (old new : List ℕ)
+      → OnOk r (Found (IsWeightAmong (weight_at level) (data_of s.root) c (live_from (data_of s.root) e)) old new) → OnOk r (Adds (IsJamoWeight level (tables_in s) i) old new)
+  unfolding tables_in
+  lent_of_jamo i e c is at r old new h =
+      subst (λ e. OnOk r (Found (IsWeightAmong (weight_at level) (data_of s.root) (0x1100 + i) (live_from (data_of s.root) e)) old new)) is
+      (subst (λ d. OnOk r (Found (IsWeightAmong (weight_at level) (data_of s.root) d (live_from (data_of s.root) e)) old new)) at h)
+
+  pub lent_jamo : (n : ℕ) → n ≡ 256 → (old new : List ℕ) → Adds (IsBelow (IsJamoWeight level (tables_in s)) n) old new → Adds (IsWeightBy level Jamo (tables_in s).tables) old new
+  lent_jamo n count old new adds =
+      adds_same (IsBelow (IsJamoWeight level (tables_in s)) 256) (IsWeightBy level Jamo (tables_in s).tables) old new (jamo_same level (tables_in s))
+      (subst (λ n. Adds (IsBelow (IsJamoWeight level (tables_in s)) n) old new) count adds)
+
+  pub lent_accents : (n : ℕ) → n ≡ length (accents_of s.diacritics) → (old new : List ℕ) → Adds (IsBelow (IsAccentWeight level (tables_in s)) n) old new → Adds (IsWeightBy level Diacritics (tables_in s).tables) old new
+  unfolding tables_in
+  lent_accents n count old new adds = adds_same (IsBelow (IsAccentWeight level (tables_in s)) n) (IsWeightBy level Diacritics (tables_in s).tables) old new (accents_same level (tables_in s) n count) adds
+
+  same_some_weight : (v w : ℕ) → Some v ≡ Some w → v ≡ w
+  same_some_weight v w h = cc
+
+  none_some_weight : (w : ℕ) → None ≡ Some w → ⊥
+  none_some_weight w h = cc
+
+  abbrev accent_weight : ℕ → Option ℕ
+  accent_weight i = weight_at level (accent_element (slice_index (accents_of s.diacritics) i))
+
+  pub lent_accent : (i v : ℕ) → is_replaced_place i ≡ false → accent_weight i ≡ Some v → (old new : List ℕ) → new ≡ old ++ v ∷ [] → Adds (IsAccentWeight level (tables_in s) i) old new
+  unfolding tables_in
+  lent_accent i v kept weighs old new is =
+      adds_one (IsAccentWeight level (tables_in s) i) old new v is (record { kept = kept; weighs = weighs }) (λ w p. same_some_weight v w (sym weighs ∙ p.weighs))
+
+  pub lent_no_accent : (i : ℕ) → accent_weight i ≡ None → (old : List ℕ) → Adds (IsAccentWeight level (tables_in s) i) old old
+  unfolding tables_in
+  lent_no_accent i weighs old = adds_none (IsAccentWeight level (tables_in s) i) old old refl (λ w p. none_some_weight w (sym weighs ∙ p.weighs))
+
+  true_false : (b : Bool) → b ≡ true → b ≡ false → ⊥
+  true_false true h k = cc
+  true_false false h k = cc
+
+  pub lent_replaced : (i : ℕ) → is_replaced_place i ≡ true → (old : List ℕ) → Adds (IsAccentWeight level (tables_in s) i) old old
+  lent_replaced i replaced old = adds_none (IsAccentWeight level (tables_in s) i) old old refl (λ w p. true_false _ replaced p.kept)

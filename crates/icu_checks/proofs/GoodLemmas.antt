@@ -1,0 +1,27 @@
+-- What each condition says of one table, and of all.
+use Rattle.std.proofs.Common.{◌≡◌, inl, inr}
+use Rattle.icu_provider.specs.declared.error.DataError.{DataError}
+use Rattle.icu_provider.specs.declared.error.DataErrorKind.{DataErrorKind}
+use Rattle.icu_provider.specs.declared.error.DataErrorKind.TheVariants as kinds
+use Rattle.icu_provider.specs.declared.error.DataTable.{DataTable}
+use Rattle.icu_checks.specs.declared.condition.Condition.{Condition}
+use Rattle.icu_checks.specs.declared.condition.Condition.TheVariants as conditions
+use Rattle.icu_checks.specs.CollatorTables.{CollatorTables}
+use Rattle.icu_checks.specs.GoodTables.{Meets, MeetsBy, IsGoodTables, FailsBy, IsTrueRefusal}
+
+-- a condition that holds does so as far as any table takes part
+pub meets_by : (all : CollatorTables) (condition : Condition) (table : DataTable) → Meets condition all → MeetsBy condition table all
+meets_by all conditions.DiacriticCount table meets = λ is. meets
+meets_by all (conditions.Entry condition) table meets = meets table
+meets_by all conditions.PrefixRows table meets = λ is. meets
+meets_by all (conditions.Element condition) table meets = λ own is. meets own
+meets_by all (conditions.Pair condition) table meets = λ first second named. meets first second
+meets_by all (conditions.Lead condition) table meets = λ is. meets
+
+-- tables that meet the conditions are refused for want of memory alone
+pub fails_not_good : (all : CollatorTables) (table : DataTable) (kind : DataErrorKind) → FailsBy table kind all → IsGoodTables all → ⊥
+fails_not_good all table kind fails good = fails.fails (meets_by all fails.condition table (good.each fails.condition))
+
+pub refusal_not_good : (all : CollatorTables) (e : DataError) → IsTrueRefusal all e → (e.kind ≡ kinds.NoMemory → ⊥) → IsGoodTables all → ⊥
+refusal_not_good all e (inl none) other good = other none
+refusal_not_good all e (inr fails) other good = fails_not_good all e.table e.kind fails good

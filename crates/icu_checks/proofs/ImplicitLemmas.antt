@@ -1,0 +1,186 @@
+-- Implicit weights: none of them is collected, and they meet every condition where reordering takes them to a lead byte of their own.
+use Rattle.std.proofs.Common.{◌≡◌, ◌≢◌, ℕ, ◌+◌, ◌*◌, ◌/◌, ◌%◌, ◌^◌, ◌<◌, ◌≤◌, Bool, true, false, not, ◌==◌, ◌&&◌, ◌||◌, nat_eq, nat_le, nat_lt, List, [], ◌∷◌, Option, Some, None, IsTrue, if◌then◌else◌, fold, refl, sym, ap, ◌∙◌, subst, arith}
+use Rattle.std.proofs.lemmas.Bool.Decides.{nat_tests}
+use Rattle.icu_provider.specs.declared.error.DataTable.{DataTable}
+use Rattle.icu_provider.specs.Elements.{Element, of_primary}
+use Rattle.icu_provider.specs.declared.entry.EntryKind.TheVariants.{Implicit}
+use Rattle.icu_provider.specs.Entries.{kind_of}
+use Rattle.icu_provider.specs.EntryConditions.{avoids_diacritics}
+use Rattle.icu_provider.specs.Faults.{earlier}
+use Rattle.icu_provider.specs.Final.{final_elements}
+use Rattle.icu_provider.specs.Reorderings.{lead_byte}
+use Rattle.icu_provider.specs.SpecialPrimaries.{is_compressible}
+use Rattle.icu_provider.specs.Tables.{Data}
+use Rattle.icu_provider.specs.Weights.{weight, implicit_weight}
+use Rattle.icu_provider.proofs.FaultLemmas.{none_found, negated}
+use Rattle.icu_provider.proofs.ImplicitLemmas.{implicit_passes}
+use Rattle.icu_checks.specs.declared.condition.ElementCondition.{ElementCondition}
+use Rattle.icu_checks.specs.declared.condition.ElementCondition.TheVariants.{Width, BackwardLead, LoneTertiary, MiddleLead, ImplicitLength, NumericLead, SharedLead, SecondByte}
+use Rattle.icu_checks.specs.declared.fault.Fault.{Fault}
+use Rattle.icu_checks.specs.declared.weights.Level.{Level}
+use Rattle.icu_checks.specs.declared.weights.Level.TheVariants.{Primary, Secondary, Tertiary, Lone, Beside}
+use Rattle.icu_checks.specs.CollatorTables.{CollatorTables, is_forward, reorder, new_lead}
+use Rattle.icu_checks.specs.Leads.{is_middle}
+use Rattle.icu_checks.specs.ElementConditions.{implicit_lead, has_low_bytes, has_second_byte, is_apart, primary_meets, element_meets, element_conditions}
+use Rattle.icu_checks.specs.declared.condition.LeadCondition.TheVariants.{ImplicitLead, LeadsApart}
+use Rattle.icu_checks.specs.LeadConditions.{TakesTogether, LeadMeets}
+use Rattle.icu_checks.specs.EntryFaults.{first_failing_element, after_element, elements_fault, entry_fault, ImplicitPasses}
+use Rattle.icu_checks.specs.Faults.{fault_rank}
+use Rattle.icu_checks.specs.Weights.{weight_at}
+
+-- ---- the bytes of an implicit weight
+
+pub record AreBytes (p : ℕ) : Type 0 where
+  pub lead : lead_byte p ≡ 0xFE
+  pub fits : p < 2 ^ 32
+  pub low : IsTrue (has_low_bytes p)
+  pub second : IsTrue (has_second_byte p)
+
+module _ (b2 b3 b4 : ℕ) (low2 : 4 ≤ b2) (high2 : b2 ≤ 254) (low3 : 1 ≤ b3) (high3 : b3 < 256) (low4 : 1 ≤ b4) (high4 : b4 < 256) where
+  abbrev p : ℕ
+  p = b2 * 0x10000 + b3 * 0x100 + b4 + 0xFE000000
+
+  second_is : (b2 * 0x10000 + b3 * 0x100 + b4 + 0xFE000000) / 0x10000 % 256 ≡ b2
+  second_is = omega arith
+
+  third_is : (b2 * 0x10000 + b3 * 0x100 + b4 + 0xFE000000) / 0x100 % 256 ≡ b3
+  third_is = omega arith
+
+  fourth_is : (b2 * 0x10000 + b3 * 0x100 + b4 + 0xFE000000) % 256 ≡ b4
+  fourth_is = omega arith
+
+  isnt_zero : (b : ℕ) → 1 ≤ b → nat_eq b 0 ≡ false
+  isnt_zero b h = grind (arith, nat_tests)
+
+  some : (b d : ℕ) → b ≡ d → 1 ≤ d → not (nat_eq b 0) ≡ true
+  some b d is h = ap (λ t. not t) (isnt_zero b (subst (λ n. 1 ≤ n) (sym is) h))
+
+  all_three : (a b c : Bool) → a ≡ true → b ≡ true → c ≡ true → IsTrue (a && b && c)
+  all_three true true true h k l = refl
+  all_three false b c h k l = cc
+  all_three true false c h k l = cc
+  all_three true true false h k l = cc
+
+  at_least : (b : ℕ) → b ≡ b2 → nat_le 4 b ≡ true
+  at_least b is = grind (arith, nat_tests)
+
+  at_most : (b : ℕ) → b ≡ b2 → nat_le b 0xFE ≡ true
+  at_most b is = grind (arith, nat_tests)
+
+  both : (a b : Bool) → a ≡ true → b ≡ true → IsTrue (a && b)
+  both true true h k = refl
+  both false b h k = cc
+  both true false h k = cc
+
+  pub bytes : AreBytes (b2 * 0x10000 + b3 * 0x100 + b4 + 0xFE000000)
+  bytes = record {
+    lead = omega arith;
+    fits = omega arith;
+    low = all_three _ _ _ (some _ b2 second_is (omega arith)) (some _ b3 third_is low3) (some _ b4 fourth_is low4);
+    second = both _ _ (at_least _ second_is) (at_most _ second_is);
+  }
+
+sum : (b2 b3 b4 : ℕ) → b2 * 0x10000 + b3 * 0x100 + b4 + 0xFE000000 ≡ weight 0xFE b2 b3 b4
+sum b2 b3 b4 = omega arith
+
+pub implicit_bytes : (c : ℕ) → AreBytes (implicit_weight c)
+unfolding implicit_weight
+implicit_bytes c =
+    subst AreBytes (sum (4 + (c + 1) / 4572 % 251) (2 + (c + 1) / 18 % 254) (2 + 14 * ((c + 1) % 18)))
+    (bytes (4 + (c + 1) / 4572 % 251) (2 + (c + 1) / 18 % 254) (2 + 14 * ((c + 1) % 18)) (omega arith) (omega arith) (omega arith) (omega arith) (omega arith) (omega arith))
+
+-- ---- none is collected
+
+no_primary : (p : ℕ) → lead_byte p ≡ 0xFE → (if p == 0 || lead_byte p == implicit_lead then None else Some p) ≡ None
+no_primary p is = chosen (p == 0) (lead_byte p == implicit_lead) (is_lead (lead_byte p) is)
+  where
+    is_lead : (b : ℕ) → b ≡ 0xFE → nat_eq b 0xFE ≡ true
+    is_lead b h = grind (arith, nat_tests)
+
+    chosen : (a b : Bool) → b ≡ true → (if a || b then None else Some p) ≡ None
+    chosen true b h = refl
+    chosen false true h = refl
+    chosen false false h = cc
+
+pub weighs_nothing : (level : Level) (c : ℕ) → weight_at level (of_primary (implicit_weight c)) ≡ None
+unfolding weight_at
+weighs_nothing Primary c = no_primary (implicit_weight c) (implicit_bytes c).lead
+weighs_nothing Secondary c = refl
+weighs_nothing Tertiary c = refl
+weighs_nothing Lone c = refl
+weighs_nothing Beside c = refl
+
+-- ---- they meet every condition
+
+module _ (all : CollatorTables) (together : TakesTogether all implicit_lead) (apart : new_lead all implicit_lead ≢ new_lead all all.special.numeric) (below : all.special.numeric ≤ 0xFD) where
+  or_second : (a b : Bool) → IsTrue b → IsTrue (a || b)
+  or_second true b h = refl
+  or_second false b h = h
+
+  or_first : (a b : Bool) → IsTrue a → IsTrue (a || b)
+  or_first true b h = refl
+  or_first false b h = cc
+
+  and_both : (a b : Bool) → IsTrue a → IsTrue b → IsTrue (a && b)
+  and_both true true h k = refl
+  and_both false b h k = cc
+  and_both true false h k = cc
+
+  differs : (a b : ℕ) → a ≢ b → not (nat_eq a b) ≡ true
+  differs a b h = grind (arith, nat_tests, h)
+
+  same : (a b : ℕ) → a ≡ b → nat_eq a b ≡ true
+  same a b h = grind (arith, nat_tests)
+
+  module _ (p : ℕ) (is : AreBytes p) where
+    taken : lead_byte (reorder all p) ≡ new_lead all implicit_lead
+    taken = together.together p is.fits is.lead
+
+    not_numeric : lead_byte p ≢ all.special.numeric
+    not_numeric h = omega (arith, is.lead, h, below)
+
+    primary : (condition : ElementCondition) → IsTrue (primary_meets condition all p)
+    primary MiddleLead = or_second _ (is_middle (lead_byte (reorder all p))) (subst (λ b. IsTrue (is_middle b)) (sym taken) together.middle)
+    primary ImplicitLength = or_second _ (has_low_bytes p) is.low
+    primary NumericLead = differs (lead_byte p) all.special.numeric not_numeric
+    primary SharedLead = and_both (is_apart all implicit_lead p) (is_apart all all.special.numeric p)
+        (or_first _ _ (same (lead_byte p) implicit_lead is.lead))
+        (or_second _ _ (differs (lead_byte (reorder all p)) (new_lead all all.special.numeric) (λ h. apart (sym taken ∙ h))))
+    primary SecondByte = or_second _ (has_second_byte p) is.second
+    primary Width = refl
+    primary BackwardLead = refl
+    primary LoneTertiary = refl
+
+    less : nat_lt p (2 ^ 32) ≡ true
+    less = let fits = is.fits in grind (arith, nat_tests, fits)
+
+    element : (condition : ElementCondition) → IsTrue (element_meets condition all (of_primary p))
+    element Width = rw less refl
+    element BackwardLead = or_second (is_forward all) true refl
+    element LoneTertiary = refl
+    element MiddleLead = or_second (p == 0) _ (primary MiddleLead)
+    element ImplicitLength = or_second (p == 0) _ (primary ImplicitLength)
+    element NumericLead = or_second (p == 0) _ (primary NumericLead)
+    element SharedLead = or_second (p == 0) _ (primary SharedLead)
+    element SecondByte = or_second (p == 0) _ (primary SecondByte)
+
+    none_fails : first_failing_element all (of_primary p) ≡ None
+    unfolding first_failing_element
+    none_fails = none_found (λ condition. not (element_meets condition all (of_primary p))) (λ condition. negated (element_meets condition all (of_primary p)) (element condition)) element_conditions
+
+  pub implicit_meets : (c : ℕ) → first_failing_element all (of_primary (implicit_weight c)) ≡ None
+  implicit_meets c = none_fails (implicit_weight c) (implicit_bytes c)
+
+read_or_not : (b : Bool) (o : Option Fault) → o ≡ None → (if b then o else None) ≡ None
+read_or_not true o h = h
+read_or_not false o h = refl
+
+-- an entry for one has no fault then
+pub implicit_no_fault : (all : CollatorTables) (table : DataTable) (home : Data) (c e : ℕ) → kind_of e ≡ Implicit → first_failing_element all (of_primary (implicit_weight c)) ≡ None → entry_fault all table home c e ≡ None
+unfolding entry_fault avoids_diacritics final_elements earlier
+implicit_no_fault all table home c e is none =
+    rw (implicit_passes home c e is, is, avoids_diacritics) (read_or_not _ (elements_fault all table home c e) (rw (is, final_elements, none) refl))
+
+-- both from the conditions on lead bytes
+pub implicit_pass : (all : CollatorTables) → LeadMeets ImplicitLead all → LeadMeets LeadsApart all → all.special.numeric ≤ 0xFD → ImplicitPasses all
+implicit_pass all together apart below = implicit_meets all together apart below

@@ -1,0 +1,192 @@
+-- The elements that weights are collected from, what a collected weight is, and the tests that conditions on elements are made of.
+use Rattle.std.proofs.Common.{◌≡◌, ◌≢◌, ℕ, ◌*◌, ◌^◌, Bool, true, false, not, ◌==◌, ◌&&◌, ◌||◌, List, Option, Some, None, if◌then◌else◌, refl, subst, arith, inl, inr, IsTrue}
+use Rattle.std.specs.List.{Contains, list_all}
+use Rattle.std.proofs.lemmas.Bool.{cases_Bool}
+use Rattle.std.proofs.lemmas.Bool.Decides.{nat_tests}
+use Rattle.std.proofs.lemmas.List.Sums.{AllPass-from_list_all}
+use Rattle.icu_provider.specs.declared.error.DataTable.{DataTable}
+use Rattle.icu_provider.specs.declared.error.DataTable.TheVariants.{Root, Jamo, SpecialPrimaries, Metadata, Tailoring, Reordering, Diacritics}
+use Rattle.icu_provider.specs.Elements.{Element, common}
+use Rattle.icu_provider.specs.ElementConditions.{tertiary_of}
+use Rattle.icu_provider.specs.Reorderings.{lead_byte}
+use Rattle.icu_provider.specs.Tables.{Tables}
+use Rattle.icu_checks.specs.declared.weights.Level.TheVariants.{Primary, Secondary, Tertiary, Lone, Beside}
+use Rattle.icu_checks.specs.CollatorTables.{CollatorTables}
+use Rattle.icu_checks.specs.ElementConditions.{implicit_lead, is_lone}
+use Rattle.icu_checks.specs.LiveElements.{IsElementBy}
+use Rattle.icu_checks.specs.EntryFaults.{MeetsIn, LiveMeets}
+use Rattle.icu_checks.specs.Weights.{left_aligned, plain_primary, uncommon, weight_at, IsReadBy}
+use Rattle.icu_checks.proofs.EntryFaultLemmas.{readable}
+
+-- ---- elements
+
+-- what is read is live
+pub element_by : (tables : Tables) (table : DataTable) (x : Element) → IsReadBy table tables x → IsElementBy table tables x
+element_by tables Root x is = record { home = is.home; char = is.char; entry = is.entry; live = is.live; member = is.member }
+element_by tables Jamo x is = record { home = is.home; char = is.char; entry = is.entry; live = is.live; member = is.member }
+element_by tables Tailoring x is = record { home = is.home; char = is.char; entry = is.entry; live = is.live; member = is.member }
+element_by tables SpecialPrimaries x is = absurd is.live
+element_by tables Metadata x is = absurd is.live
+element_by tables Reordering x is = absurd is.live
+element_by tables Diacritics x is = is
+
+module _ (all : CollatorTables) where
+  -- what is live by any table meets the conditions; by some tables nothing is live
+  pub meets_in : LiveMeets all → (table : DataTable) → MeetsIn table all
+  meets_in met Root = met.root
+  meets_in met Jamo = met.jamo
+  meets_in met Tailoring = met.tailoring
+  meets_in met Diacritics = met.diacritics
+  meets_in met SpecialPrimaries = record { entries = λ condition home c e is. absurd is; rows = λ home c e is. absurd is; elements = λ condition x is. absurd is.live }
+  meets_in met Metadata = record { entries = λ condition home c e is. absurd is; rows = λ home c e is. absurd is; elements = λ condition x is. absurd is.live }
+  meets_in met Reordering = record { entries = λ condition home c e is. absurd is; rows = λ home c e is. absurd is; elements = λ condition x is. absurd is.live }
+
+  -- so what is live is read
+  pub read_by : LiveMeets all → (table : DataTable) (x : Element) → IsElementBy table all.tables x → IsReadBy table all.tables x
+  read_by met Root x is = record {
+    home = is.home;
+    char = is.char;
+    entry = is.entry;
+    live = is.live;
+    readable = readable all is.home is.char is.entry (λ condition. met.root.entries condition is.home is.char is.entry is.live);
+    member = is.member;
+  }
+  read_by met Jamo x is = record {
+    home = is.home;
+    char = is.char;
+    entry = is.entry;
+    live = is.live;
+    readable = readable all is.home is.char is.entry (λ condition. met.jamo.entries condition is.home is.char is.entry is.live);
+    member = is.member;
+  }
+  read_by met Tailoring x is = record {
+    home = is.home;
+    char = is.char;
+    entry = is.entry;
+    live = is.live;
+    readable = readable all is.home is.char is.entry (λ condition. met.tailoring.entries condition is.home is.char is.entry is.live);
+    member = is.member;
+  }
+  read_by met SpecialPrimaries x is = absurd is.live
+  read_by met Metadata x is = absurd is.live
+  read_by met Reordering x is = absurd is.live
+  read_by met Diacritics x is = is
+
+-- ---- what a collected weight is
+
+kept : (b : Bool) (a w : ℕ) → (if b then None else Some a) ≡ Some w → (b ≡ false) × (a ≡ w)
+kept true a w h = cc
+kept false a w h = (refl, cc)
+
+chosen : (b : Bool) (a w : ℕ) → (if b then Some a else None) ≡ Some w → (b ≡ true) × (a ≡ w)
+chosen true a w h = (refl, cc)
+chosen false a w h = cc
+
+kept_of : (b : Bool) (o : Option ℕ) (w : ℕ) → (if b then None else o) ≡ Some w → (b ≡ false) × (o ≡ Some w)
+kept_of true o w h = cc
+kept_of false o w h = (refl, h)
+
+some_of_two : (s : ℕ) → (s == 0 || s == common) ≡ false → s ≢ 0
+some_of_two s h e = grind (arith, nat_tests)
+
+some_of_four : (p : ℕ) → (p == 0 || lead_byte p == implicit_lead) ≡ false → p ≢ 0
+some_of_four p h e = grind (arith, nat_tests)
+
+some_of_one : (s : ℕ) → (s == 0) ≡ false → s ≢ 0
+some_of_one s h e = grind (arith, nat_tests)
+
+two_bytes_weigh : (s w : ℕ) → left_aligned s ≡ Some w → (s ≢ 0) × (s * 2 ^ 16 ≡ w)
+two_bytes_weigh s w h = let parts = kept (s == 0 || s == common) (s * 2 ^ 16) w h in (some_of_two s parts.0, parts.1)
+
+pub primary_weighs : (x : Element) (w : ℕ) → weight_at Primary x ≡ Some w → (x.primary ≢ 0) × (x.primary ≡ w)
+unfolding weight_at
+primary_weighs x w h = let parts = kept (x.primary == 0 || lead_byte x.primary == implicit_lead) x.primary w h in (some_of_four x.primary parts.0, parts.1)
+
+pub secondary_weighs : (x : Element) (w : ℕ) → weight_at Secondary x ≡ Some w → (x.secondary ≢ 0) × (x.secondary * 2 ^ 16 ≡ w)
+unfolding weight_at
+secondary_weighs x w h = two_bytes_weigh x.secondary w h
+
+pub tertiary_weighs : (x : Element) (w : ℕ) → weight_at Tertiary x ≡ Some w → (tertiary_of x ≢ 0) × (tertiary_of x * 2 ^ 16 ≡ w)
+unfolding weight_at
+tertiary_weighs x w h = two_bytes_weigh (tertiary_of x) w h
+
+pub lone_weighs : (x : Element) (w : ℕ) → weight_at Lone x ≡ Some w → (is_lone x ≡ true) × (tertiary_of x ≡ w)
+unfolding weight_at
+lone_weighs x w h = chosen (is_lone x) (tertiary_of x) w h
+
+pub beside_weighs : (x : Element) (w : ℕ) → weight_at Beside x ≡ Some w → (x.secondary ≢ 0) × (tertiary_of x ≡ w)
+unfolding weight_at
+beside_weighs x w h =
+    let parts = kept_of (x.secondary == 0) (uncommon (tertiary_of x)) w h in
+    (some_of_one x.secondary parts.0, (kept (tertiary_of x == 0 || tertiary_of x == common) (tertiary_of x) w parts.1).1)
+
+-- ---- what weighs so is collected
+
+pub two_bytes_kept : (s : ℕ) → s ≢ 0 → s ≢ common → left_aligned s ≡ Some (s * 2 ^ 16)
+two_bytes_kept s some other =
+    elim (cases_Bool (s == 0 || s == common)) [
+      | inl t ↦ absurd (grind (arith, nat_tests))
+      | inr f ↦ rw f refl
+    ]
+
+pub primary_kept : (x : Element) → x.primary ≢ 0 → lead_byte x.primary ≢ implicit_lead → weight_at Primary x ≡ Some x.primary
+unfolding weight_at
+primary_kept x some other = four_bytes_kept x.primary some other
+  where
+    four_bytes_kept : (p : ℕ) → p ≢ 0 → lead_byte p ≢ implicit_lead → plain_primary p ≡ Some p
+    four_bytes_kept p some other =
+        elim (cases_Bool (p == 0 || lead_byte p == implicit_lead)) [
+          | inl t ↦ absurd (grind (arith, nat_tests))
+          | inr f ↦ rw f refl
+        ]
+
+pub lone_kept : (x : Element) → IsTrue (is_lone x) → weight_at Lone x ≡ Some (tertiary_of x)
+unfolding weight_at
+lone_kept x h = by (is_lone x) (tertiary_of x) h
+  where
+    by : (b : Bool) (t : ℕ) → IsTrue b → (if b then Some t else None) ≡ Some t
+    by true t h = refl
+    by false t h = cc
+
+pub beside_kept : (x : Element) → x.secondary ≢ 0 → tertiary_of x ≢ 0 → tertiary_of x ≢ common → weight_at Beside x ≡ Some (tertiary_of x)
+unfolding weight_at
+beside_kept x below some other = by x.secondary (tertiary_of x) below some other
+  where
+    inner : (t : ℕ) → t ≢ 0 → t ≢ common → uncommon t ≡ Some t
+    inner t some other =
+        elim (cases_Bool (t == 0 || t == common)) [
+          | inl is ↦ absurd (grind (arith, nat_tests))
+          | inr f ↦ rw f refl
+        ]
+
+    by : (s t : ℕ) → s ≢ 0 → t ≢ 0 → t ≢ common → (if s == 0 then None else uncommon t) ≡ Some t
+    by s t below some other =
+        elim (cases_Bool (s == 0)) [
+          | inl is ↦ absurd (grind (arith, nat_tests))
+          | inr f ↦ rw f (inner t some other)
+        ]
+
+-- ---- tests
+
+pub first_of_three : (a b c : Bool) → IsTrue (a && b && c) → IsTrue a
+first_of_three true true c h = refl
+first_of_three false b c h = cc
+first_of_three true false c h = cc
+
+pub second_of_three : (a b c : Bool) → IsTrue (a && b && c) → IsTrue b
+second_of_three true true c h = refl
+second_of_three false b c h = cc
+second_of_three true false c h = cc
+
+pub third_of_three : (a b c : Bool) → IsTrue (a && b && c) → IsTrue c
+third_of_three true true c h = h
+third_of_three false b c h = cc
+third_of_three true false c h = cc
+
+pub implied : (a b : Bool) → IsTrue (not a || b) → IsTrue a → IsTrue b
+implied true b h t = h
+implied false b h t = cc
+
+-- what a list passes as a whole, each member passes
+pub passes : {X : Type 0} (p : X → Bool) (xs : List X) (x : X) → IsTrue (list_all p xs) → Contains xs x → IsTrue (p x)
+passes p xs x all is = subst (λ y. p y ≡ true) is.2 (AllPass-from_list_all p xs all is.0 x is.1)

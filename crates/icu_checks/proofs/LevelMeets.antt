@@ -1,0 +1,182 @@
+-- Collected weights that don't clash give the conditions on the elements of all tables: on tertiary weights of elements without a
+-- secondary weight, on secondary and on tertiary weights.
+use Rattle.std.proofs.Common.{◌≡◌, ◌≢◌, ℕ, ◌*◌, ◌/◌, ◌^◌, ◌<◌, ◌≤◌, Bool, true, false, not, ◌==◌, ◌&&◌, ◌||◌, nat_lt, List, Some, refl, sym, ap, ◌∙◌, subst, arith, inl, inr, IsTrue}
+use Rattle.std.specs.List.{Contains}
+use Rattle.std.proofs.lemmas.Bool.{cases_eq, and_parts}
+use Rattle.std.proofs.lemmas.Bool.Decides.{nat_tests}
+use Rattle.std.proofs.lemmas.Nat.{and_le_r}
+use Rattle.std.specs.Prelude.{slice_index}
+use Rattle.icu_levels.specs.WeightBytes.{weight_bytes}
+use Rattle.icu_levels.specs.Premises.{IsPrefixFree}
+use Rattle.icu_provider.specs.declared.error.DataTable.{DataTable}
+use Rattle.icu_provider.specs.declared.error.DataTable.TheVariants.{Root, Jamo, SpecialPrimaries, Metadata, Tailoring, Reordering, Diacritics}
+use Rattle.icu_provider.specs.declared.live_condition.LiveCondition.TheVariants as live
+use Rattle.icu_provider.specs.Accents.{is_replaced_place, is_accent}
+use Rattle.icu_provider.specs.Elements.{Element, common, accent_element}
+use Rattle.icu_provider.specs.ElementConditions.{tertiary_of, has_shape, has_leads, has_secondary_lead, has_tertiary_lead}
+use Rattle.icu_provider.specs.Final.{final_elements}
+use Rattle.icu_provider.specs.Tables.{homed}
+use Rattle.icu_checks.specs.declared.condition.Condition.TheVariants as conditions
+use Rattle.icu_checks.specs.declared.condition.ElementCondition.TheVariants as of_element
+use Rattle.icu_checks.specs.declared.condition.PairCondition.TheVariants as of_pair
+use Rattle.icu_checks.specs.declared.weights.Level.{Level}
+use Rattle.icu_checks.specs.declared.weights.Level.TheVariants.{Secondary, Tertiary}
+use Rattle.icu_checks.specs.CollatorTables.{CollatorTables}
+use Rattle.icu_checks.specs.LiveElements.{IsElementBy, IsOfEntryBy, IsOfAccent}
+use Rattle.icu_checks.specs.ElementConditions.{is_lone, is_high_lone}
+use Rattle.icu_checks.specs.EntryFaults.{MeetsIn, LiveMeets}
+use Rattle.icu_checks.specs.GoodTables.{AreTables, Meets}
+use Rattle.icu_checks.specs.PairFaults.{LonesAreHigh}
+use Rattle.icu_checks.specs.Weights.{left_aligned, weight_at, IsWeightBy}
+use Rattle.icu_checks.proofs.CommonLemmas.{HaveLeads, none_begins}
+use Rattle.icu_checks.proofs.OverlapLemmas.{free_of_two_bytes}
+use Rattle.icu_checks.proofs.LevelLemmas.{meets_in, read_by, two_bytes_kept, lone_kept, beside_kept, second_of_three, third_of_three, implied, passes}
+
+-- ---- what is collected, and what is live
+module _ (all : CollatorTables) where
+  -- the list has each weight of this level
+  abbrev pub Collected : Level → List ℕ → Type 0
+  Collected level ws = (table : DataTable) (w : ℕ) → IsWeightBy level table all.tables w → Contains ws w
+
+  -- a weight, not zero, of an element that is live by some table
+  pub record IsLiveWeight (weigh : Element → ℕ) (w : ℕ) : Type 0 where
+    pub table : DataTable
+    pub x : Element
+    pub live : IsElementBy table all.tables x
+    pub is : weigh x ≡ w
+    pub some : w ≢ 0
+
+module _ (all : CollatorTables) (met : LiveMeets all) where
+  pub collected_at : (level : Level) (ws : List ℕ) → Collected all level ws → (table : DataTable) (x : Element) → IsElementBy table all.tables x
+      → (w : ℕ) → weight_at level x ≡ Some w → Contains ws w
+  collected_at level ws has table x is w weighs = has table w (record { x = x; read = read_by all met table x is; weighs = weighs })
+
+-- ---- the weights of one element
+
+lone_some : (s t : ℕ) → IsTrue (s == 0 && not (t == 0)) → 0 < t
+lone_some s t h = grind (arith, nat_tests)
+
+above_common : (a : Bool) (t : ℕ) → IsTrue (a && nat_lt common t) → common < t
+above_common a t h = let parts = and_parts a (nat_lt common t) h in grind (arith, nat_tests)
+
+below_two_bytes : (s : ℕ) → IsTrue (nat_lt s (2 ^ 16)) → s < 2 ^ 16
+below_two_bytes s h = grind (arith, nat_tests)
+
+otherwise : (a b : Bool) → IsTrue (a || b) → a ≡ false → IsTrue b
+otherwise true b h f = cc
+otherwise false b h f = h
+
+secondary_some : (s : ℕ) → IsTrue (has_secondary_lead true s) → s ≢ 0 → 1 ≤ s / 256
+unfolding has_secondary_lead
+secondary_some s h some = grind (arith, nat_tests)
+
+secondary_common : (s : ℕ) → IsTrue (has_secondary_lead true s) → s ≢ 0 → s / 256 ≡ 5 → s ≡ common
+unfolding has_secondary_lead
+secondary_common s h some lead = grind (arith, nat_tests)
+
+tertiary_some : (t : ℕ) → IsTrue (has_tertiary_lead t) → t ≢ 0 → 1 ≤ t / 256
+unfolding has_tertiary_lead
+tertiary_some t h some = grind (arith, nat_tests)
+
+tertiary_common : (t : ℕ) → IsTrue (has_tertiary_lead t) → t ≢ 0 → t / 256 ≡ 5 → t ≡ common
+unfolding has_tertiary_lead
+tertiary_common t h some lead = grind (arith, nat_tests)
+
+accent_leads : (s : ℕ) → IsTrue (is_accent true s) → IsTrue (has_leads true (accent_element s))
+unfolding is_accent
+accent_leads s h = third_of_three (not (s == 0)) (has_shape (accent_element s)) (has_leads true (accent_element s)) h
+
+secondary_weight : (x : Element) → weight_at Secondary x ≡ left_aligned x.secondary
+unfolding weight_at
+secondary_weight x = refl
+
+tertiary_weight : (x : Element) → weight_at Tertiary x ≡ left_aligned (tertiary_of x)
+unfolding weight_at
+tertiary_weight x = refl
+
+-- ---- the conditions
+module _ (all : CollatorTables) (met : LiveMeets all) (tables : AreTables all) where
+  pub lone_meet : LonesAreHigh all.tables → Meets (conditions.Pair of_pair.LoneTertiaries) all
+  lone_meet high first second x is_x y is_y lone beside =
+      elim (cases_eq (tertiary_of y) 0) [
+        | inl none ↦ subst (λ t. t < tertiary_of x) (sym none) (lone_some x.secondary (tertiary_of x) lone)
+        | inr some ↦ elim (cases_eq (tertiary_of y) common) [
+          | inl is ↦ subst (λ t. t < tertiary_of x) (sym is) (above_common _ (tertiary_of x)
+              (implied (is_lone x) (is_high_lone x) ((meets_in all met first).elements of_element.LoneTertiary x is_x) lone))
+          | inr other ↦ high first second (tertiary_of x) (tertiary_of y)
+              (record { x = x; read = read_by all met first x is_x; weighs = lone_kept x lone })
+              (record { x = y; read = read_by all met second y is_y; weighs = beside_kept y beside some other })
+        ]
+      ]
+
+  entry_leads : (table : DataTable) → MeetsIn table all → (x : Element) → IsOfEntryBy table all.tables x → IsTrue (has_leads true x)
+  entry_leads table given x is =
+      passes (λ x. has_leads true x) (final_elements (homed is.home is.entry) is.char) x (given.entries live.Leads is.home is.char is.entry is.live) is.member
+
+  accent_has_leads : (x : Element) → IsOfAccent all.tables.diacritics x → IsTrue (has_leads true x)
+  accent_has_leads x is =
+      let s : ℕ = slice_index all.tables.diacritics is.place in
+      subst (λ x. IsTrue (has_leads true x)) (sym is.is)
+      (accent_leads s (otherwise (is_replaced_place is.place) (is_accent true s) (tables.diacritics.accents is.place is.inside) is.kept))
+
+  leads_of : (table : DataTable) (x : Element) → IsElementBy table all.tables x → IsTrue (has_leads true x)
+  leads_of Root x is = entry_leads Root met.root x is
+  leads_of Jamo x is = entry_leads Jamo met.jamo x is
+  leads_of Tailoring x is = entry_leads Tailoring met.tailoring x is
+  leads_of Diacritics x is = accent_has_leads x is
+  leads_of SpecialPrimaries x is = absurd is.live
+  leads_of Metadata x is = absurd is.live
+  leads_of Reordering x is = absurd is.live
+
+  -- weights of two bytes, of which the common one isn't collected
+  two_bytes_meet : (level : Level) (weigh : Element → ℕ) → ((x : Element) → weight_at level x ≡ left_aligned (weigh x))
+      → HaveLeads (IsLiveWeight all weigh) → ((w : ℕ) → IsLiveWeight all weigh w → w < 2 ^ 16)
+      → (ws : List ℕ) → Collected all level ws → IsPrefixFree (weight_bytes 4) (Contains ws) → IsPrefixFree (weight_bytes 2) (IsLiveWeight all weigh)
+  two_bytes_meet level weigh weighs leads fits ws has free =
+      none_begins (IsLiveWeight all weigh) leads (λ v w live_v live_w other_v other_w differ begins.
+      free_of_two_bytes ws (λ s. IsLiveWeight all weigh s × (s ≢ common)) (λ s l. fits s l.0)
+      (λ s l. collected_at all met level ws has l.0.table l.0.x l.0.live (s * 2 ^ 16) (weighs l.0.x ∙ ap left_aligned l.0.is ∙ two_bytes_kept s l.0.some l.1))
+      free v w (live_v, other_v) (live_w, other_w) differ begins)
+
+  secondary_lead : (w : ℕ) → IsLiveWeight all (λ x. x.secondary) w → IsTrue (has_secondary_lead true w)
+  secondary_lead w l =
+      subst (λ s. IsTrue (has_secondary_lead true s)) l.is
+      (and_parts (has_secondary_lead true l.x.secondary) (has_tertiary_lead (tertiary_of l.x)) (leads_of l.table l.x l.live)).0
+
+  secondary_leads : HaveLeads (IsLiveWeight all (λ x. x.secondary))
+  secondary_leads = record {
+    some = λ w l. secondary_some w (secondary_lead w l) l.some;
+    common_alone = λ w l lead. secondary_common w (secondary_lead w l) l.some lead;
+  }
+
+  secondary_fits : (w : ℕ) → IsLiveWeight all (λ x. x.secondary) w → w < 2 ^ 16
+  secondary_fits w l =
+      subst (λ s. s < 2 ^ 16) l.is (below_two_bytes l.x.secondary
+      (second_of_three (nat_lt l.x.primary (2 ^ 32)) (nat_lt l.x.secondary (2 ^ 16)) (nat_lt l.x.lower (2 ^ 16))
+      ((meets_in all met l.table).elements of_element.Width l.x l.live)))
+
+  pub secondaries_meet : (ws : List ℕ) → Collected all Secondary ws → IsPrefixFree (weight_bytes 4) (Contains ws) → Meets (conditions.Pair of_pair.Secondaries) all
+  secondaries_meet ws has free first second x is_x y is_y some_x some_y differ begins =
+      two_bytes_meet Secondary (λ x. x.secondary) secondary_weight secondary_leads secondary_fits ws has free x.secondary y.secondary
+      (record { table = first; x = x; live = is_x; is = refl; some = some_x }) (record { table = second; x = y; live = is_y; is = refl; some = some_y })
+      differ begins
+
+  tertiary_lead : (w : ℕ) → IsLiveWeight all tertiary_of w → IsTrue (has_tertiary_lead w)
+  tertiary_lead w l =
+      subst (λ t. IsTrue (has_tertiary_lead t)) l.is
+      (and_parts (has_secondary_lead true l.x.secondary) (has_tertiary_lead (tertiary_of l.x)) (leads_of l.table l.x l.live)).1
+
+  tertiary_leads : HaveLeads (IsLiveWeight all tertiary_of)
+  tertiary_leads = record {
+    some = λ w l. tertiary_some w (tertiary_lead w l) l.some;
+    common_alone = λ w l lead. tertiary_common w (tertiary_lead w l) l.some lead;
+  }
+
+  tertiary_fits : (w : ℕ) → IsLiveWeight all tertiary_of w → w < 2 ^ 16
+  tertiary_fits w l = subst (λ t. t < 2 ^ 16) l.is (omega (arith, and_le_r l.x.lower 0x3F3F))
+
+  pub tertiaries_meet : (ws : List ℕ) → Collected all Tertiary ws → IsPrefixFree (weight_bytes 4) (Contains ws) → Meets (conditions.Pair of_pair.Tertiaries) all
+  tertiaries_meet ws has free first second x is_x y is_y some_x some_y differ begins =
+      two_bytes_meet Tertiary tertiary_of tertiary_weight tertiary_leads tertiary_fits ws has free (tertiary_of x) (tertiary_of y)
+      (record { table = first; x = x; live = is_x; is = refl; some = some_x }) (record { table = second; x = y; live = is_y; is = refl; some = some_y })
+      differ begins

@@ -1,0 +1,65 @@
+-- Where collected weights clash, the condition on the elements of their tables fails.
+use Rattle.std.proofs.Common.{◌≡◌, ◌≢◌, ℕ, ◌*◌, ◌^◌, ◌<◌, ◌≤◌, sym, ap, ◌∙◌, subst, arith}
+use Rattle.icu_levels.specs.ListOrder.{IsBeginning}
+use Rattle.icu_levels.specs.WeightBytes.{weight_bytes}
+use Rattle.icu_provider.specs.declared.error.DataTable.{DataTable}
+use Rattle.icu_provider.specs.ElementConditions.{tertiary_of}
+use Rattle.icu_provider.specs.Reorderings.{lead_byte}
+use Rattle.icu_provider.specs.SpecialPrimaries.{is_compressible}
+use Rattle.icu_checks.specs.declared.condition.PairCondition.TheVariants.{LoneTertiaries, Primaries, Secondaries, Tertiaries, Compression}
+use Rattle.icu_checks.specs.declared.weights.Level.TheVariants.{Primary, Secondary, Tertiary, Lone, Beside}
+use Rattle.icu_checks.specs.CollatorTables.{CollatorTables, reorder}
+use Rattle.icu_checks.specs.PairConditions.{BeginsNot, PairMeets}
+use Rattle.icu_checks.specs.GoodTables.{EachPair}
+use Rattle.icu_checks.specs.Weights.{IsWeightBy}
+use Rattle.icu_checks.proofs.BeginningLemmas.{moved_up_bytes}
+use Rattle.icu_checks.proofs.LevelLemmas.{element_by, primary_weighs, secondary_weighs, tertiary_weighs, lone_weighs, beside_weighs}
+
+-- two weights of two bytes clash where they do with two zero bytes after them
+two_bytes_clash : (s r v w : ℕ) → (s ≢ 0) × (s * 2 ^ 16 ≡ v) → (r ≢ 0) × (r * 2 ^ 16 ≡ w) → v < 2 ^ 32 → w < 2 ^ 32 → v ≢ w
+    → IsBeginning (weight_bytes 4 v) (weight_bytes 4 w) → BeginsNot (weight_bytes 2) s r → ⊥
+two_bytes_clash s r v w p q fits_v fits_w differ begins free =
+    let one : weight_bytes 4 v ≡ weight_bytes 2 s = ap (weight_bytes 4) (sym p.1) ∙ moved_up_bytes s (omega (arith, p.1)) in
+    let other : weight_bytes 4 w ≡ weight_bytes 2 r = ap (weight_bytes 4) (sym q.1) ∙ moved_up_bytes r (omega (arith, q.1)) in
+    free p.0 q.0 (λ e. differ (sym p.1 ∙ ap (λ n. n * 2 ^ 16) e ∙ q.1))
+    (subst (λ l. IsBeginning l (weight_bytes 2 r)) one (subst (λ l. IsBeginning (weight_bytes 4 v) l) other begins))
+
+module _ (all : CollatorTables) (t u : DataTable) (v w : ℕ) where
+  pub refute_secondaries : v < 2 ^ 32 → w < 2 ^ 32 → IsWeightBy Secondary t all.tables v → IsWeightBy Secondary u all.tables w → v ≢ w
+      → IsBeginning (weight_bytes 4 v) (weight_bytes 4 w) → EachPair (PairMeets Secondaries all) t u all → ⊥
+  refute_secondaries fits_v fits_w a b differ begins each =
+      two_bytes_clash a.x.secondary b.x.secondary v w (secondary_weighs a.x v a.weighs) (secondary_weighs b.x w b.weighs) fits_v fits_w differ begins
+      (each a.x (element_by all.tables t a.x a.read) b.x (element_by all.tables u b.x b.read))
+
+  pub refute_tertiaries : v < 2 ^ 32 → w < 2 ^ 32 → IsWeightBy Tertiary t all.tables v → IsWeightBy Tertiary u all.tables w → v ≢ w
+      → IsBeginning (weight_bytes 4 v) (weight_bytes 4 w) → EachPair (PairMeets Tertiaries all) t u all → ⊥
+  refute_tertiaries fits_v fits_w a b differ begins each =
+      two_bytes_clash (tertiary_of a.x) (tertiary_of b.x) v w (tertiary_weighs a.x v a.weighs) (tertiary_weighs b.x w b.weighs) fits_v fits_w differ begins
+      (each a.x (element_by all.tables t a.x a.read) b.x (element_by all.tables u b.x b.read))
+
+  pub refute_primaries : IsWeightBy Primary t all.tables v → IsWeightBy Primary u all.tables w → v ≢ w
+      → IsBeginning (weight_bytes 4 (reorder all v)) (weight_bytes 4 (reorder all w)) → EachPair (PairMeets Primaries all) t u all → ⊥
+  refute_primaries a b differ begins each =
+      let p = primary_weighs a.x v a.weighs in
+      let q = primary_weighs b.x w b.weighs in
+      each a.x (element_by all.tables t a.x a.read) b.x (element_by all.tables u b.x b.read) p.0 q.0 (λ e. differ (sym p.1 ∙ e ∙ q.1))
+      (subst (λ n. IsBeginning (weight_bytes 4 (reorder all n)) (weight_bytes 4 (reorder all b.x.primary))) (sym p.1)
+      (subst (λ n. IsBeginning (weight_bytes 4 (reorder all v)) (weight_bytes 4 (reorder all n))) (sym q.1) begins))
+
+  pub refute_lone : IsWeightBy Lone t all.tables v → IsWeightBy Beside u all.tables w → v ≤ w → EachPair (PairMeets LoneTertiaries all) t u all → ⊥
+  refute_lone a b at_most each =
+      let p = lone_weighs a.x v a.weighs in
+      let q = beside_weighs b.x w b.weighs in
+      below (tertiary_of a.x) (tertiary_of b.x) p.1 q.1 at_most (each a.x (element_by all.tables t a.x a.read) b.x (element_by all.tables u b.x b.read) p.0 q.0)
+    where
+      below : (x y : ℕ) → x ≡ v → y ≡ w → v ≤ w → y < x → ⊥
+      below x y is_v is_w at_most less = omega (arith, is_v, is_w, at_most, less)
+
+  pub refute_compression : IsWeightBy Primary t all.tables v → IsWeightBy Primary u all.tables w → lead_byte (reorder all v) ≡ lead_byte (reorder all w)
+      → (is_compressible all.special (lead_byte v) ≡ is_compressible all.special (lead_byte w) → ⊥) → EachPair (PairMeets Compression all) t u all → ⊥
+  refute_compression a b same unlike each =
+      let p = primary_weighs a.x v a.weighs in
+      let q = primary_weighs b.x w b.weighs in
+      let alike = each a.x (element_by all.tables t a.x a.read) b.x (element_by all.tables u b.x b.read) p.0 q.0
+      (ap (λ n. lead_byte (reorder all n)) p.1 ∙ same ∙ ap (λ n. lead_byte (reorder all n)) (sym q.1)) in
+      unlike (ap (λ n. is_compressible all.special (lead_byte n)) (sym p.1) ∙ alike ∙ ap (λ n. is_compressible all.special (lead_byte n)) q.1)

@@ -1,0 +1,92 @@
+-- The faults of all that is live by one table.
+use Rattle.std.proofs.Common.{◌≡◌, ℕ, false, true, Option, Some, None, IfSome, IsTrue, refl, sym, subst}
+use Rattle.std.specs.List.{AllByRecursion, Contains}
+use Rattle.icu_provider.specs.declared.error.DataTable.{DataTable}
+use Rattle.icu_provider.specs.declared.error.DataTable.TheVariants.{Root, Jamo, Tailoring}
+use Rattle.icu_provider.specs.Elements.{Element}
+use Rattle.icu_provider.specs.Tables.{Data, homed, is_jamo}
+use Rattle.icu_provider.specs.Final.{final_elements}
+use Rattle.icu_provider.specs.Live.{live_from, live_at, EachLive}
+use Rattle.icu_provider.specs.LiveTables.{jamo_entry}
+use Rattle.icu_provider.specs.Faults.{IsFaultAmong, IsLiveFault}
+use Rattle.icu_provider.proofs.ListLemmas.{of_member}
+use Rattle.icu_checks.specs.declared.condition.ElementCondition.{ElementCondition}
+use Rattle.icu_checks.specs.declared.fault.Fault.{Fault}
+use Rattle.icu_checks.specs.CollatorTables.{CollatorTables}
+use Rattle.icu_checks.specs.LiveElements.{IsLiveBy, IsOfEntryBy}
+use Rattle.icu_checks.specs.ElementConditions.{element_meets}
+use Rattle.icu_checks.specs.Faults.{IsTrueFault}
+use Rattle.icu_checks.specs.EntryFaults.{entry_fault, MeetsIn}
+use Rattle.icu_checks.proofs.EntryFaultLemmas.{entry_none, entry_true}
+
+module _ (all : CollatorTables) where
+  abbrev NoFault : DataTable → Type 0
+  NoFault table = (home : Data) (c e : ℕ) → IsLiveBy table all.tables home c e → entry_fault all table home c e ≡ None
+
+  element_passes : (table : DataTable) → NoFault table → (condition : ElementCondition) (x : Element) → IsOfEntryBy table all.tables x → IsTrue (element_meets condition all x)
+  element_passes table none condition x is =
+      let passes = entry_none all table is.home is.char is.entry (none is.home is.char is.entry is.live) in
+      of_member _ (final_elements (homed is.home is.entry) is.char) x passes.elements is.member condition
+
+  root_passes : NoFault Root → MeetsIn Root all
+  root_passes none = record {
+    entries = λ condition home c e is. (entry_none all Root home c e (none home c e is)).own condition;
+    rows = λ home c e is. (entry_none all Root home c e (none home c e is)).rows;
+    elements = λ condition x is. element_passes Root none condition x is;
+  }
+
+  jamo_passes : NoFault Jamo → MeetsIn Jamo all
+  jamo_passes none = record {
+    entries = λ condition home c e is. (entry_none all Jamo home c e (none home c e is)).own condition;
+    rows = λ home c e is. (entry_none all Jamo home c e (none home c e is)).rows;
+    elements = λ condition x is. element_passes Jamo none condition x is;
+  }
+
+  tailoring_passes : NoFault Tailoring → MeetsIn Tailoring all
+  tailoring_passes none = record {
+    entries = λ condition home c e is. (entry_none all Tailoring home c e (none home c e is)).own condition;
+    rows = λ home c e is. (entry_none all Tailoring home c e (none home c e is)).rows;
+    elements = λ condition x is. element_passes Tailoring none condition x is;
+  }
+
+  -- ---- the walks
+
+  abbrev NoneIn : DataTable → Data → ℕ → ℕ → Type 0
+  NoneIn table home c e = entry_fault all table home c e ≡ None
+
+  pub root_meets : EachLive (NoneIn Root all.tables.root) false all.tables.root → MeetsIn Root all
+  root_meets each = root_passes (λ home c e is.
+      subst (λ h. entry_fault all Root h c e ≡ None) (sym is.0)
+      (of_member (NoneIn Root all.tables.root c) (live_at false all.tables.root c) e (each c is.1) (subst (λ h. Contains (live_at false h c) e) is.0 is.2)))
+
+  pub jamo_meets : ((c : ℕ) → IsTrue (is_jamo c) → AllByRecursion (NoneIn Jamo all.tables.root c) (live_from all.tables.root (jamo_entry all.tables c))) → MeetsIn Jamo all
+  jamo_meets each = jamo_passes (λ home c e is.
+      subst (λ h. entry_fault all Jamo h c e ≡ None) (sym is.0)
+      (of_member (NoneIn Jamo all.tables.root c) (live_from all.tables.root (jamo_entry all.tables c)) e (each c is.1) (subst (λ h. Contains (live_from h (jamo_entry all.tables c)) e) is.0 is.2)))
+
+  same_some : (a b : Data) → Some a ≡ Some b → a ≡ b
+  same_some a b h = cc
+
+  pub tailoring_meets : (t : Data) → all.tables.tailoring ≡ Some t → EachLive (NoneIn Tailoring t) true t → MeetsIn Tailoring all
+  tailoring_meets t found each = tailoring_passes (λ home c e is.
+      let same : t ≡ home = same_some t home (subst (λ o. o ≡ Some home) found is.0) in
+      subst (λ h. entry_fault all Tailoring h c e ≡ None) same
+      (of_member (NoneIn Tailoring t c) (live_at true t c) e (each c is.1) (subst (λ h. Contains (live_at true h c) e) (sym same) is.2)))
+
+  no_tailoring : (home : Data) → None ≡ Some home → ⊥
+  no_tailoring home h = cc
+
+  pub no_tailoring_meets : all.tables.tailoring ≡ None → MeetsIn Tailoring all
+  no_tailoring_meets found = tailoring_passes (λ home c e is. absurd (no_tailoring home (subst (λ o. o ≡ Some home) found is.0)))
+
+  some_of : (o : Option Fault) (f : Fault) → o ≡ Some f → IfSome o (IsTrueFault all) → IsTrueFault all f
+  some_of o f same h = subst (λ o. IfSome o (IsTrueFault all)) same h
+
+  pub root_true : (f : Fault) → IsLiveFault (entry_fault all Root) false all.tables.root f → IsTrueFault all f
+  root_true f is = some_of (entry_fault all Root all.tables.root is.c is.among.e) f is.among.found (entry_true all Root all.tables.root is.c is.among.e (refl, is.scalar, is.among.live))
+
+  pub jamo_true : (c : ℕ) → IsTrue (is_jamo c) → (f : Fault) → IsFaultAmong (entry_fault all Jamo) all.tables.root c (live_from all.tables.root (jamo_entry all.tables c)) f → IsTrueFault all f
+  jamo_true c jamo f is = some_of (entry_fault all Jamo all.tables.root c is.e) f is.found (entry_true all Jamo all.tables.root c is.e (refl, jamo, is.live))
+
+  pub tailoring_true : (t : Data) → all.tables.tailoring ≡ Some t → (f : Fault) → IsLiveFault (entry_fault all Tailoring) true t f → IsTrueFault all f
+  tailoring_true t found f is = some_of (entry_fault all Tailoring t is.c is.among.e) f is.among.found (entry_true all Tailoring t is.c is.among.e (found, is.scalar, is.among.live))

@@ -1,0 +1,34 @@
+use Rattle.std.proofs.Common.{refl}
+use Rattle.icu_checks.specs.TableSets.{tables_in}
+use Rattle.icu_checks.specs.Faults.{IsTrueFault}
+use Rattle.icu_checks.proofs.FaultPairs.{both_none, either_true}
+use Rattle.icu_checks.proofs.LevelRefutes.{refute_lone, refute_secondaries, refute_tertiaries}
+use Rattle.icu_checks.proofs.check.pairs_fault.Goals as goal
+
+pub lone_fault-requires : goal.lone_fault-requires
+lone_fault-requires c = refute_lone (tables_in c.args.tables)
+
+pub overlap_fault-requires : goal.overlap_fault-requires
+overlap_fault-requires c = record { named = λ first second. refl; breaks = refute_secondaries (tables_in c.args.tables) }
+
+pub overlap_fault-requires-2 : goal.overlap_fault-requires-2
+overlap_fault-requires-2 c = record { named = λ first second. refl; breaks = refute_tertiaries (tables_in c.args.tables) }
+
+pub returns : goal.returns
+returns c =
+    let T = IsTrueFault (tables_in c.args.tables) in
+    record {
+      none = λ h.
+          let both = both_none _ _ _ c.earlier-3.ensures h in
+          let first = both_none _ _ _ c.earlier.ensures both.0 in
+          let second = both_none _ _ _ c.earlier-2.ensures both.1 in
+          record {
+            lones = c.in_ok-lone.ensures.none first.0;
+            secondaries = c.in_ok-secondary.ensures.none first.1;
+            tertiaries = c.in_ok-tertiary.ensures.none second.0;
+            primaries = c.in_ok-primary.ensures.none second.1;
+          };
+      some = either_true T _ _ _ c.earlier-3.ensures
+          (either_true T _ _ _ c.earlier.ensures c.in_ok-lone.ensures.some c.in_ok-secondary.ensures.some)
+          (either_true T _ _ _ c.earlier-2.ensures c.in_ok-tertiary.ensures.some c.in_ok-primary.ensures.some);
+    }

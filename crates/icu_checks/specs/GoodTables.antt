@@ -1,0 +1,160 @@
+-- The conditions on all tables of a collator together, and what a refusal says.
+use Rattle.std.specs.Prelude.{ℕ, ◌≡◌, ◌⊎◌, ◌<◌, nat_lt, length, All, ◌==◌, ◌||◌, IsTrue, if◌then◌else◌}
+use Rattle.std.specs.Option.{ForSome}
+use Rattle.icu_provider.specs.declared.error.DataError.{DataError}
+use Rattle.icu_provider.specs.declared.error.DataErrorKind.{DataErrorKind}
+use Rattle.icu_provider.specs.declared.error.DataErrorKind.TheVariants as kinds
+use Rattle.icu_provider.specs.declared.error.DataTable.{DataTable}
+use Rattle.icu_provider.specs.declared.error.DataTable.TheVariants as tables
+use Rattle.icu_provider.specs.declared.live_condition.LiveCondition.{LiveCondition}
+use Rattle.icu_provider.specs.Elements.{Element}
+use Rattle.icu_provider.specs.Tables.{Context, Data}
+use Rattle.icu_provider.specs.Contexts.{has_ascending_rows}
+use Rattle.icu_provider.specs.Accents.{IsDiacritics, IsJamo}
+use Rattle.icu_provider.specs.EntryConditions.{avoids_diacritics}
+use Rattle.icu_provider.specs.LiveConditions.{meets, kind_for}
+use Rattle.icu_provider.specs.Metadata.{has_tailored_diacritics}
+use Rattle.icu_provider.specs.Reorderings.{Reordering}
+use Rattle.icu_provider.specs.SpecialPrimaries.{IsSpecialPrimaries}
+use Rattle.icu_checks.specs.declared.condition.Condition.{Condition}
+use Rattle.icu_checks.specs.declared.condition.Condition.TheVariants as conditions
+use Rattle.icu_checks.specs.declared.condition.ElementCondition.{ElementCondition}
+use Rattle.icu_checks.specs.declared.condition.ElementCondition.TheVariants as of_element
+use Rattle.icu_checks.specs.declared.condition.PairCondition.{PairCondition}
+use Rattle.icu_checks.specs.declared.condition.PairCondition.TheVariants as of_pair
+use Rattle.icu_checks.specs.declared.condition.LeadCondition.{LeadCondition}
+use Rattle.icu_checks.specs.declared.condition.LeadCondition.TheVariants as of_lead
+use Rattle.icu_checks.specs.CollatorTables.{CollatorTables}
+use Rattle.icu_checks.specs.LiveElements.{IsLiveBy, IsElementBy}
+use Rattle.icu_checks.specs.ElementConditions.{element_meets}
+use Rattle.icu_checks.specs.PairConditions.{PairMeets}
+use Rattle.icu_checks.specs.LeadConditions.{LeadMeets}
+
+-- ---- what each table shows by itself
+
+abbrev pub HasAscendingContexts : Data → Type 0
+HasAscendingContexts home = All (λ (x : Context). IsTrue (has_ascending_rows x)) home.contexts
+
+pub record IsReordering (r : Reordering) : Type 0 where
+  pub count : length r.leads ≡ 256
+  pub bytes : All (λ b. b < 256) r.leads
+
+pub record AreTables (all : CollatorTables) : Type 0 where
+  pub root : HasAscendingContexts all.tables.root
+  pub tailoring : ForSome all.tables.tailoring HasAscendingContexts
+  pub jamo : IsJamo all.tables.jamo
+  pub diacritics : IsDiacritics all.tables.diacritics
+  pub special : IsSpecialPrimaries all.special.last all.special.numeric
+  pub reordering : ForSome all.reordering IsReordering
+
+-- ---- what they show together
+
+-- 79 diacritics, or at most so many where they are tailored
+abbrev pub HasDiacriticCount : CollatorTables → Type 0
+HasDiacriticCount all = IsTrue (length all.tables.diacritics == 79 || has_tailored_diacritics all.bits)
+
+abbrev pub EachEntry : (Data → ℕ → ℕ → Type 0) → DataTable → CollatorTables → Type 0
+EachEntry P table all = (home : Data) (c e : ℕ) → IsLiveBy table all.tables home c e → P home c e
+
+abbrev pub EachElement : (Element → Type 0) → DataTable → CollatorTables → Type 0
+EachElement P table all = (x : Element) → IsElementBy table all.tables x → P x
+
+abbrev pub EachPair : (Element → Element → Type 0) → DataTable → DataTable → CollatorTables → Type 0
+EachPair P first second all = EachElement (λ x. EachElement (λ y. P x y) second all) first all
+
+abbrev pub EntryMeets : LiveCondition → Data → ℕ → ℕ → Type 0
+EntryMeets condition home c e = IsTrue (meets condition home c e)
+
+-- no row of a prefix has a diacritic
+abbrev pub HasPlainRows : CollatorTables → Data → ℕ → ℕ → Type 0
+HasPlainRows all home c e = IsTrue (avoids_diacritics (length all.tables.diacritics) home e)
+
+-- each condition, of all that is live
+abbrev pub Meets : Condition → CollatorTables → Type 0
+Meets conditions.DiacriticCount all = HasDiacriticCount all
+Meets (conditions.Entry condition) all = (table : DataTable) → EachEntry (EntryMeets condition) table all
+Meets conditions.PrefixRows all = (table : DataTable) → EachEntry (HasPlainRows all) table all
+Meets (conditions.Element condition) all = (table : DataTable) → EachElement (λ x. IsTrue (element_meets condition all x)) table all
+Meets (conditions.Pair condition) all = (first second : DataTable) → EachPair (PairMeets condition all) first second all
+Meets (conditions.Lead condition) all = LeadMeets condition all
+
+-- the conditions on all tables of a collator
+pub record IsGoodTables (all : CollatorTables) : Type 0 where
+  pub tables : AreTables all
+  pub each : (condition : Condition) → Meets condition all
+
+-- ---- what a refusal says
+
+abbrev pub kind_of : Condition → DataErrorKind
+kind_of conditions.DiacriticCount = kinds.Length
+kind_of (conditions.Entry condition) = kind_for condition
+kind_of conditions.PrefixRows = kinds.Context
+kind_of (conditions.Element of_element.Width) = kinds.Element
+kind_of (conditions.Element of_element.BackwardLead) = kinds.Element
+kind_of (conditions.Element of_element.LoneTertiary) = kinds.Element
+kind_of (conditions.Element of_element.MiddleLead) = kinds.Reordering
+kind_of (conditions.Element of_element.ImplicitLength) = kinds.Overlap
+kind_of (conditions.Element of_element.NumericLead) = kinds.Overlap
+kind_of (conditions.Element of_element.SharedLead) = kinds.Reordering
+kind_of (conditions.Element of_element.SecondByte) = kinds.Compression
+kind_of (conditions.Pair of_pair.LoneTertiaries) = kinds.Element
+kind_of (conditions.Pair of_pair.Primaries) = kinds.Overlap
+kind_of (conditions.Pair of_pair.Secondaries) = kinds.Overlap
+kind_of (conditions.Pair of_pair.Tertiaries) = kinds.Overlap
+kind_of (conditions.Pair of_pair.Compression) = kinds.Compression
+kind_of (conditions.Lead of_lead.NumericWhole) = kinds.Compression
+kind_of (conditions.Lead _) = kinds.Reordering
+
+-- the order in which tables are named
+abbrev pub table_rank : DataTable → ℕ
+table_rank tables.Root = 0
+table_rank tables.Jamo = 1
+table_rank tables.SpecialPrimaries = 2
+table_rank tables.Metadata = 3
+table_rank tables.Tailoring = 4
+table_rank tables.Reordering = 5
+table_rank tables.Diacritics = 6
+
+-- the later of two tables: a condition between them is named by it
+abbrev pub later : DataTable → DataTable → DataTable
+later a b = if nat_lt (table_rank a) (table_rank b) then b else a
+
+-- the table that a condition on elements speaks of beside their own
+abbrev pub table_of_element : ElementCondition → DataTable
+table_of_element of_element.BackwardLead = tables.Metadata
+table_of_element of_element.MiddleLead = tables.Reordering
+table_of_element of_element.NumericLead = tables.SpecialPrimaries
+table_of_element of_element.SharedLead = tables.Reordering
+table_of_element of_element.SecondByte = tables.SpecialPrimaries
+table_of_element _ = tables.Root
+
+abbrev pub table_of_lead : LeadCondition → DataTable
+table_of_lead of_lead.NumericWhole = tables.SpecialPrimaries
+table_of_lead _ = tables.Reordering
+
+-- the table by which a condition on an element of one table and one of another is named
+abbrev pub IsNamedBy : PairCondition → DataTable → DataTable → DataTable → Type 0
+IsNamedBy of_pair.Compression first second table = table ≡ tables.Reordering
+IsNamedBy of_pair.Primaries first second table = (table ≡ later first second) ⊎ (table ≡ tables.Reordering)
+IsNamedBy _ first second table = table ≡ later first second
+
+-- the condition, as far as this table takes part in it
+abbrev pub MeetsBy : Condition → DataTable → CollatorTables → Type 0
+MeetsBy conditions.DiacriticCount table all = table ≡ tables.Diacritics → HasDiacriticCount all
+MeetsBy (conditions.Entry condition) table all = EachEntry (EntryMeets condition) table all
+MeetsBy conditions.PrefixRows table all = table ≡ tables.Diacritics → Meets conditions.PrefixRows all
+MeetsBy (conditions.Element condition) table all =
+    (own : DataTable) → table ≡ later own (table_of_element condition) → EachElement (λ x. IsTrue (element_meets condition all x)) own all
+MeetsBy (conditions.Pair condition) table all =
+    (first second : DataTable) → IsNamedBy condition first second table → EachPair (PairMeets condition all) first second all
+MeetsBy (conditions.Lead condition) table all = table ≡ table_of_lead condition → LeadMeets condition all
+
+-- a condition of this kind fails, and this table takes part in it
+pub record FailsBy (table : DataTable) (kind : DataErrorKind) (all : CollatorTables) : Type 0 where
+  pub condition : Condition
+  pub of_kind : kind_of condition ≡ kind
+  pub fails : MeetsBy condition table all → ⊥
+
+-- The refusal is true. Want of memory says nothing of the tables.
+abbrev pub IsTrueRefusal : CollatorTables → DataError → Type 0
+IsTrueRefusal all e = (e.kind ≡ kinds.NoMemory) ⊎ FailsBy e.table e.kind all

@@ -1,0 +1,30 @@
+-- The conditions on two live elements.
+use Rattle.std.specs.Prelude.{ℕ, ◌≡◌, ◌≢◌, ◌<◌, List, IsTrue}
+use Rattle.icu_levels.specs.WeightBytes.{weight_bytes}
+use Rattle.icu_levels.specs.ListOrder.{IsBeginning}
+use Rattle.icu_provider.specs.Elements.{Element}
+use Rattle.icu_provider.specs.ElementConditions.{tertiary_of}
+use Rattle.icu_provider.specs.Reorderings.{lead_byte}
+use Rattle.icu_provider.specs.SpecialPrimaries.{is_compressible}
+use Rattle.icu_checks.specs.declared.condition.PairCondition.{PairCondition}
+use Rattle.icu_checks.specs.declared.condition.PairCondition.TheVariants.{LoneTertiaries, Primaries, Secondaries, Tertiaries, Compression}
+use Rattle.icu_checks.specs.CollatorTables.{CollatorTables, reorder}
+use Rattle.icu_checks.specs.ElementConditions.{is_lone}
+
+-- the first of two different weights isn't written as a beginning of the second (UTS #10, "Large Weight Values")
+abbrev pub BeginsNot : (ℕ → List ℕ) → ℕ → ℕ → Type 0
+BeginsNot spell v w = v ≢ 0 → w ≢ 0 → v ≢ w → IsBeginning (spell v) (spell w) → ⊥
+
+-- two primary weights that share a lead byte after reordering have lead bytes that compress alike
+abbrev pub CompressAlike : CollatorTables → ℕ → ℕ → Type 0
+CompressAlike all p q =
+    p ≢ 0 → q ≢ 0 → lead_byte (reorder all p) ≡ lead_byte (reorder all q)
+    → is_compressible all.special (lead_byte p) ≡ is_compressible all.special (lead_byte q)
+
+-- what each condition asks of two elements
+abbrev pub PairMeets : PairCondition → CollatorTables → Element → Element → Type 0
+PairMeets LoneTertiaries all x y = IsTrue (is_lone x) → y.secondary ≢ 0 → tertiary_of y < tertiary_of x
+PairMeets Primaries all x y = BeginsNot (λ p. weight_bytes 4 (reorder all p)) x.primary y.primary
+PairMeets Secondaries all x y = BeginsNot (weight_bytes 2) x.secondary y.secondary
+PairMeets Tertiaries all x y = BeginsNot (weight_bytes 2) (tertiary_of x) (tertiary_of y)
+PairMeets Compression all x y = CompressAlike all x.primary y.primary

@@ -1,0 +1,80 @@
+-- The weights of live elements that are compared with one another, and how they stand in four bytes.
+use Rattle.std.specs.Prelude.{ℕ, ◌≡◌, ◌↔◌, ◌⊎◌, ◌<◌, ◌+◌, ◌*◌, ◌^◌, false, ◌||◌, ◌==◌, List, slice_index, Option, Some, None, IsTrue, if◌then◌else◌}
+use Rattle.std.specs.List.{Contains}
+use Rattle.icu_provider.specs.declared.error.DataTable.{DataTable}
+use Rattle.icu_provider.specs.declared.error.DataTable.TheVariants.{Diacritics}
+use Rattle.icu_provider.specs.Accents.{is_replaced_place}
+use Rattle.icu_provider.specs.Elements.{Element, common, accent_element}
+use Rattle.icu_provider.specs.ElementConditions.{tertiary_of}
+use Rattle.icu_provider.specs.EntryConditions.{is_readable}
+use Rattle.icu_provider.specs.Final.{final_elements}
+use Rattle.icu_provider.specs.Live.{live_from}
+use Rattle.icu_provider.specs.LiveWeights.{IsWeightAmong}
+use Rattle.icu_provider.specs.Reorderings.{lead_byte}
+use Rattle.icu_provider.specs.Tables.{Data, Tables, homed}
+use Rattle.icu_checks.specs.declared.weights.Level.{Level}
+use Rattle.icu_checks.specs.declared.weights.Level.TheVariants.{Primary, Secondary, Tertiary, Lone, Beside}
+use Rattle.icu_checks.specs.CollatorTables.{CollatorTables}
+use Rattle.icu_checks.specs.ElementConditions.{implicit_lead, is_lone}
+use Rattle.icu_checks.specs.LiveElements.{IsLiveBy, IsOfAccent}
+
+-- A weight of two bytes with two zero bytes after it. Zero is none; the common weight needs no comparison, since its lead byte is
+-- its alone.
+abbrev pub left_aligned : ℕ → Option ℕ
+left_aligned w = if w == 0 || w == common then None else Some (w * 2 ^ 16)
+
+-- Weights with the lead byte of implicit weights need no comparison: they have four bytes, and no other weight comes to their lead.
+abbrev pub plain_primary : ℕ → Option ℕ
+plain_primary p = if p == 0 || lead_byte p == implicit_lead then None else Some p
+
+abbrev pub uncommon : ℕ → Option ℕ
+uncommon t = if t == 0 || t == common then None else Some t
+
+-- the weight of an element that is compared
+unfoldable pub weight_at : Level → Element → Option ℕ
+weight_at Primary x = plain_primary x.primary
+weight_at Secondary x = left_aligned x.secondary
+weight_at Tertiary x = left_aligned (tertiary_of x)
+weight_at Lone x = if is_lone x then Some (tertiary_of x) else None
+weight_at Beside x = if x.secondary == 0 then None else uncommon (tertiary_of x)
+
+-- an element of an entry that is live by a table and can be read
+pub record IsReadOfEntry (table : DataTable) (tables : Tables) (x : Element) : Type 0 where
+  pub home : Data
+  pub char : ℕ
+  pub entry : ℕ
+  pub live : IsLiveBy table tables home char entry
+  pub readable : IsTrue (is_readable home char entry)
+  pub member : Contains (final_elements (homed home entry) char) x
+
+abbrev pub IsReadBy : DataTable → Tables → Element → Type 0
+IsReadBy Diacritics tables x = IsOfAccent tables.diacritics x
+IsReadBy table tables x = IsReadOfEntry table tables x
+
+-- a weight of such an element
+pub record IsWeightBy (level : Level) (table : DataTable) (tables : Tables) (w : ℕ) : Type 0 where
+  pub x : Element
+  pub read : IsReadBy table tables x
+  pub weighs : weight_at level x ≡ Some w
+
+-- ---- the weights that a list comes to hold
+
+-- a list holds what it held, and what is P
+abbrev pub Adds : (ℕ → Type 0) → List ℕ → List ℕ → Type 0
+Adds P old new = (w : ℕ) → Contains new w ↔ (Contains old w ⊎ P w)
+
+-- the weight is P at a place before the n-th
+pub record IsBelow (P : ℕ → ℕ → Type 0) (n w : ℕ) : Type 0 where
+  pub place : ℕ
+  pub below : place < n
+  pub is : P place w
+
+-- a weight of what is live with the conjoining jamo at a place of the jamo table
+abbrev pub IsJamoWeight : Level → CollatorTables → ℕ → ℕ → Type 0
+IsJamoWeight level all place w =
+    IsWeightAmong (weight_at level) all.tables.root (0x1100 + place) (live_from all.tables.root (slice_index all.tables.jamo place)) w
+
+-- the weight of the diacritic at a place
+pub record IsAccentWeight (level : Level) (all : CollatorTables) (place w : ℕ) : Type 0 where
+  pub kept : is_replaced_place place ≡ false
+  pub weighs : weight_at level (accent_element (slice_index all.tables.diacritics place)) ≡ Some w

@@ -1,0 +1,123 @@
+//! The weights that are compared with one another, collected table by table.
+ghost use Rattle.std.specs.Prelude.{◌≡◌, ◌<◌, OnOk, length, slice_index};
+ghost use Rattle.icu_provider.specs.Stored.{jamo_of, accents_of};
+ghost use Rattle.icu_checks.specs.TableSets.{tables_in};
+ghost use Rattle.icu_checks.specs.Weights.{Adds, IsWeightBy, IsJamoWeight, IsAccentWeight};
+
+use crate::table_set::{TableSet, jamo_char};
+use crate::weights::Level;
+use icu_provider::diacritics::is_replaced_place;
+use icu_provider::live_weights::{Weigh, collect_weights, collect_weights_from};
+use icu_provider::{CollationElement, CollationElement32, DataTable};
+use std::alloc::AllocError;
+
+fn collect_root(
+    tables: TableSet<'_>,
+    level: Level,
+    weights: &mut Vec<u32>,
+) -> Result<(), AllocError>
+    ensures { OnOk result (Adds (IsWeightBy level DataTable.Root (tables_in tables.entry).tables) weights.old.items weights.new.items) }
+{
+    collect_weights(weights, &level, tables.root, false)
+}
+
+fn collect_tailoring(
+    tables: TableSet<'_>,
+    level: Level,
+    weights: &mut Vec<u32>,
+) -> Result<(), AllocError>
+    ensures { OnOk result (Adds (IsWeightBy level DataTable.Tailoring (tables_in tables.entry).tables) weights.old.items weights.new.items) }
+{
+    match tables.tailoring {
+        Some(tailoring) => collect_weights(weights, &level, tailoring, true),
+        None => Ok(()),
+    }
+}
+
+/// The weights of what is live with one of the conjoining jamo.
+fn collect_of_jamo(
+    tables: TableSet<'_>,
+    level: Level,
+    place: usize,
+    entry: CollationElement32,
+    weights: &mut Vec<u32>,
+) -> Result<(), AllocError>
+    requires inside { place < 256 }
+    requires entry { entry ≡ slice_index (jamo_of tables.jamo) place }
+    ensures { OnOk result (Adds (IsJamoWeight level (tables_in tables.entry) place) weights.old.items weights.new.items) }
+{
+    match jamo_char(place) {
+        Some(c) => collect_weights_from(weights, &level, tables.root, c, entry),
+        None => Ok(()),
+    }
+}
+
+fn collect_jamo(
+    tables: TableSet<'_>,
+    level: Level,
+    weights: &mut Vec<u32>,
+) -> Result<(), AllocError>
+    ensures { OnOk result (Adds (IsWeightBy level DataTable.Jamo (tables_in tables.entry).tables) weights.old.items weights.new.items) }
+{
+    for (place, entry) in tables.jamo.ce32s().iter().enumerate() {
+        collect_of_jamo(
+            tables,
+            level,
+            place,
+            CollationElement32::new(*entry),
+            weights,
+        )?;
+    }
+    Ok(())
+}
+
+/// The weight of a diacritic.
+fn collect_accent(
+    tables: TableSet<'_>,
+    level: Level,
+    place: usize,
+    secondary: u16,
+    weights: &mut Vec<u32>,
+) -> Result<(), AllocError>
+    requires secondary { secondary ≡ slice_index (accents_of tables.diacritics) place }
+    ensures { OnOk result (Adds (IsAccentWeight level (tables_in tables.entry) place) weights.old.items weights.new.items) }
+{
+    if is_replaced_place(place) {
+        return Ok(());
+    }
+    if let Some(weight) = level.weight(CollationElement::new_from_secondary(secondary)) {
+        weights.push(weight)?;
+    }
+    Ok(())
+}
+
+fn collect_accents(
+    tables: TableSet<'_>,
+    level: Level,
+    weights: &mut Vec<u32>,
+) -> Result<(), AllocError>
+    ensures { OnOk result (Adds (IsWeightBy level DataTable.Diacritics (tables_in tables.entry).tables) weights.old.items weights.new.items) }
+{
+    for (place, secondary) in tables.diacritics.secondaries().iter().enumerate() {
+        collect_accent(tables, level, place, *secondary, weights)?;
+    }
+    Ok(())
+}
+
+/// Adds the weights of what is live by a table.
+pub(crate) fn collect(
+    tables: TableSet<'_>,
+    level: Level,
+    table: DataTable,
+    weights: &mut Vec<u32>,
+) -> Result<(), AllocError>
+    ensures { OnOk result (Adds (IsWeightBy level table (tables_in tables.entry).tables) weights.old.items weights.new.items) }
+{
+    match table {
+        DataTable::Root => collect_root(tables, level, weights),
+        DataTable::Jamo => collect_jamo(tables, level, weights),
+        DataTable::Tailoring => collect_tailoring(tables, level, weights),
+        DataTable::Diacritics => collect_accents(tables, level, weights),
+        DataTable::SpecialPrimaries | DataTable::Metadata | DataTable::Reordering => Ok(()),
+    }
+}

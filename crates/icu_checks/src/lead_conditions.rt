@@ -1,0 +1,81 @@
+ghost use Rattle.std.specs.Prelude.{◌≡◌, ◌≤◌, ◌↔◌, IsTrue, option_map};
+ghost use Rattle.icu_provider.specs.ElementConditions.{separator_primary};
+ghost use Rattle.icu_provider.specs.SpecialPrimaries.{is_compressible};
+ghost use Rattle.icu_provider.specs.Stored.{reordering_of};
+ghost use Rattle.icu_checks.specs.CollatorTables.{new_lead};
+ghost use Rattle.icu_checks.specs.TableSets.{tables_in};
+ghost use Rattle.icu_checks.specs.LeadConditions.{TakesLeadBy, TakesLead, TakesTogether, LeadMeets};
+
+use crate::condition::LeadCondition;
+use crate::element_conditions::IMPLICIT_LEAD;
+use crate::leads::{is_middle, takes_lead};
+use crate::table_set::TableSet;
+use icu_provider::CollationReordering;
+
+/// The primary weight of the merge separator.
+const SEPARATOR: u32 = 0x0200_0000;
+
+/// Whether every primary weight with the first lead byte is taken to the second.
+#[tactic(auto, using(crate::proofs::LeadMeetings::kept_leads))]
+fn takes_lead_by(reordering: Option<CollationReordering<'_>>, from: u8, to: u8) -> bool
+    requires { 1 ≤ from }
+    ensures { IsTrue result ↔ TakesLeadBy (option_map reordering_of reordering.entry) from to }
+{
+    match reordering {
+        Some(reordering) => takes_lead(reordering, from, to),
+        None => from == to,
+    }
+}
+
+impl<'d> TableSet<'d> {
+    #[tactic(auto, unfolding(crate::specs::TableSets::tables_in))]
+    fn takes_lead(self, from: u8, to: u8) -> bool
+        requires { 1 ≤ from }
+        ensures { IsTrue result ↔ TakesLead (tables_in self.entry) from to }
+    {
+        takes_lead_by(self.reordering, from, to)
+    }
+
+    /// The lead byte of numbers.
+    #[tactic(auto, unfolding(crate::specs::TableSets::tables_in))]
+    pub(crate) fn numeric(self) -> u8
+        ensures value { result ≡ (tables_in self.entry).special.numeric }
+        ensures bound { (1 ≤ result) × (result ≤ 0xFD) }
+    {
+        self.special.numeric_primary()
+    }
+
+    /// Whether weights with this lead byte are written shorter in sort keys.
+    #[tactic(auto, unfolding(crate::specs::TableSets::tables_in))]
+    fn is_compressible(self, lead: u8) -> bool
+        ensures { result ≡ is_compressible (tables_in self.entry).special lead }
+    {
+        self.special.is_compressible(lead)
+    }
+
+    /// Whether every primary weight with this lead byte is taken to one lead byte, from 03 to FE.
+    fn takes_together(self, lead: u8) -> bool
+        requires { 1 ≤ lead }
+        ensures { IsTrue result ↔ TakesTogether (tables_in self.entry) lead }
+    {
+        let new = self.new_lead(lead);
+        is_middle(new) && self.takes_lead(lead, new)
+    }
+}
+
+impl LeadCondition {
+    /// Whether the tables meet the condition.
+    pub(crate) fn holds(self, tables: TableSet<'_>) -> bool
+        ensures { IsTrue result ↔ LeadMeets self (tables_in tables.entry) }
+    {
+        let numeric = tables.numeric();
+        match self {
+            LeadCondition::Separator => tables.reorder(SEPARATOR) == SEPARATOR,
+            LeadCondition::HighLead => tables.takes_lead(0xFF, 0xFF),
+            LeadCondition::ImplicitLead => tables.takes_together(IMPLICIT_LEAD),
+            LeadCondition::NumericLead => tables.takes_together(numeric),
+            LeadCondition::LeadsApart => tables.new_lead(IMPLICIT_LEAD) != tables.new_lead(numeric),
+            LeadCondition::NumericWhole => !tables.is_compressible(numeric),
+        }
+    }
+}

@@ -1,0 +1,89 @@
+-- What each live element of tables meets that meet the conditions on all tables of a collator.
+use Rattle.std.proofs.Common.{◌≡◌, ◌≢◌, ℕ, Bool, true, false, not, ◌&&◌, ◌||◌, ◌==◌, List, refl, sym, subst, arith, IsTrue}
+use Rattle.std.specs.Prelude.{slice_index}
+use Rattle.std.specs.List.{Contains, list_all}
+use Rattle.std.proofs.lemmas.Bool.{and_parts}
+use Rattle.std.proofs.lemmas.Bool.Decides.{nat_tests}
+use Rattle.std.proofs.lemmas.List.Elements.{All-contains}
+use Rattle.std.proofs.lemmas.List.Sums.{AllPass-from_list_all}
+use Rattle.icu_provider.specs.declared.error.DataTable.{DataTable}
+use Rattle.icu_provider.specs.declared.error.DataTable.TheVariants.{Root, Jamo, SpecialPrimaries, Metadata, Tailoring, Reordering, Diacritics}
+use Rattle.icu_provider.specs.declared.live_condition.LiveCondition.TheVariants.{Shapes, Leads, Primaries}
+use Rattle.icu_provider.specs.Elements.{Element, accent_element}
+use Rattle.icu_provider.specs.ElementConditions.{has_shape, has_leads, has_primary_lead}
+use Rattle.icu_provider.specs.Accents.{is_replaced_place, is_accent}
+use Rattle.icu_provider.specs.Tables.{homed}
+use Rattle.icu_provider.specs.Final.{final_elements}
+use Rattle.icu_checks.specs.declared.condition.Condition.TheVariants as conditions
+use Rattle.icu_checks.specs.CollatorTables.{CollatorTables}
+use Rattle.icu_checks.specs.LiveElements.{IsOfEntryBy, IsOfAccent, IsElementBy}
+use Rattle.icu_checks.specs.GoodTables.{IsGoodTables}
+
+-- ---- tests
+
+pub other_part : (a b : Bool) → (a || b) ≡ true → a ≡ false → b ≡ true
+other_part true b h e = cc
+other_part false b h e = h
+
+pub implied : (a b : Bool) → (not a || b) ≡ true → a ≡ true → b ≡ true
+implied true b h e = h
+implied false b h e = cc
+
+pub where_some : (n : ℕ) (b : Bool) → (n == 0 || b) ≡ true → n ≢ 0 → b ≡ true
+where_some n b h some = other_part (n == 0) b h (grind (arith, nat_tests))
+
+member_passes : (p : Element → Bool) (xs : List Element) (x : Element) → IsTrue (list_all p xs) → Contains xs x → p x ≡ true
+member_passes p xs x passes is = All-contains (λ x. p x ≡ true) xs x (AllPass-from_list_all p xs passes) is
+
+accent-passes : (s : ℕ) → is_accent true s ≡ true → (has_shape (accent_element s) ≡ true) × (has_leads true (accent_element s) ≡ true)
+unfolding is_accent
+accent-passes s h =
+    let parts = and_parts (not (s == 0) && has_shape (accent_element s)) (has_leads true (accent_element s)) h in
+    ((and_parts (not (s == 0)) (has_shape (accent_element s)) parts.0).1, parts.1)
+
+accent-primary : (s : ℕ) → has_primary_lead (accent_element s) ≡ true
+unfolding has_primary_lead
+accent-primary s = refl
+
+-- ---- live elements
+
+-- what the elements of entries meet, and those of diacritics, all do
+by_source : (P : Element → Type 0) (all : CollatorTables)
+    → ((table : DataTable) (x : Element) → IsOfEntryBy table all.tables x → P x)
+    → ((x : Element) → IsOfAccent all.tables.diacritics x → P x)
+    → (table : DataTable) (x : Element) → IsElementBy table all.tables x → P x
+by_source P all entries accents Root x live = entries Root x live
+by_source P all entries accents Jamo x live = entries Jamo x live
+by_source P all entries accents SpecialPrimaries x live = entries SpecialPrimaries x live
+by_source P all entries accents Metadata x live = entries Metadata x live
+by_source P all entries accents Tailoring x live = entries Tailoring x live
+by_source P all entries accents Reordering x live = entries Reordering x live
+by_source P all entries accents Diacritics x live = accents x live
+
+module _ (all : CollatorTables) (good : IsGoodTables all) where
+  accent : (x : Element) → IsOfAccent all.tables.diacritics x → (has_shape x ≡ true) × (has_leads true x ≡ true)
+  accent x is =
+      let s = slice_index all.tables.diacritics is.place in
+      let is_one : is_accent true s ≡ true = other_part (is_replaced_place is.place) (is_accent true s) (good.tables.diacritics.accents is.place is.inside) is.kept in
+      subst (λ x. (has_shape x ≡ true) × (has_leads true x ≡ true)) (sym is.is) (accent-passes s is_one)
+
+  pub live-shape : (table : DataTable) (x : Element) → IsElementBy table all.tables x → has_shape x ≡ true
+  live-shape =
+      by_source (λ x. has_shape x ≡ true) all
+      (λ table x is. member_passes has_shape (final_elements (homed is.home is.entry) is.char) x
+      (good.each (conditions.Entry Shapes) table is.home is.char is.entry is.live) is.member)
+      (λ x is. (accent x is).0)
+
+  pub live-leads : (table : DataTable) (x : Element) → IsElementBy table all.tables x → has_leads true x ≡ true
+  live-leads =
+      by_source (λ x. has_leads true x ≡ true) all
+      (λ table x is. member_passes (has_leads true) (final_elements (homed is.home is.entry) is.char) x
+      (good.each (conditions.Entry Leads) table is.home is.char is.entry is.live) is.member)
+      (λ x is. (accent x is).1)
+
+  pub live-primary_lead : (table : DataTable) (x : Element) → IsElementBy table all.tables x → has_primary_lead x ≡ true
+  live-primary_lead =
+      by_source (λ x. has_primary_lead x ≡ true) all
+      (λ table x is. member_passes has_primary_lead (final_elements (homed is.home is.entry) is.char) x
+      (good.each (conditions.Entry Primaries) table is.home is.char is.entry is.live) is.member)
+      (λ x is. subst (λ x. has_primary_lead x ≡ true) (sym is.is) (accent-primary (slice_index all.tables.diacritics is.place)))

@@ -1,0 +1,92 @@
+-- By tables that were checked, each element of a text is live by one of them, or of a number.
+use Rattle.std.proofs.Common.{◌≡◌, ℕ, ◌<◌, ◌-◌, Bool, true, false, not, ◌&&◌, nat_le, nat_lt, List, [], ◌∷◌, length, map, Option, Some, None, if◌then◌else◌, slice_index, refl, sym, ap, ◌∙◌, arith, inl, inr, IsTrue}
+use Rattle.std.proofs.lemmas.Bool.{and_parts}
+use Rattle.std.proofs.lemmas.Bool.Decides.{nat_tests}
+use Rattle.std.specs.Char.{IsScalar}
+use Rattle.std.specs.List.{AllByRecursion, Contains}
+use Rattle.unicode_normalization.specs.Forms.{nfd}
+use Rattle.icu_levels.specs.Numbers.{run_weights}
+use Rattle.icu_provider.specs.declared.error.DataTable.TheVariants.{Root, Jamo, Tailoring, Diacritics}
+use Rattle.icu_provider.specs.Accents.{is_replaced_place}
+use Rattle.icu_provider.specs.Elements.{Element, of_primary, accent_element}
+use Rattle.icu_provider.specs.LiveTables.{IsLive}
+use Rattle.icu_provider.specs.Tables.{Data, Tables, homed, diacritic_of}
+use Rattle.icu_provider.specs.Final.{final_elements}
+use Rattle.icu_provider.proofs.ListLemmas.{all_members, of_member, weaker}
+use Rattle.icu_checks.specs.CollatorTables.{CollatorTables}
+use Rattle.icu_checks.specs.GoodTables.{IsGoodTables}
+use Rattle.icu_elements.specs.TextElements.{Reading, elements_of}
+use Rattle.icu_elements.specs.TextParts.{is_replaced, IsOfDiacritic, IsOfNumber, IsTextElement}
+use Rattle.icu_elements.specs.LiveTexts.{IsLiveElement, IsNumberElement, IsLiveOrNumber, read_by}
+use Rattle.icu_elements.proofs.ReadableLemmas.{good_readable, readable_digits}
+use Rattle.icu_elements.proofs.SourceLemmas.{elements_of-sources}
+
+-- ---- entries
+
+live_entry : (tables : Tables) (x : Element) (home : Data) (c e : ℕ) → IsLive tables home c e → Contains (final_elements (homed home e) c) x → IsLiveElement tables x
+live_entry tables x home c e (inl live) member =
+    record { table = Root; live = record { home = home; char = c; entry = e; live = live; member = member } }
+live_entry tables x home c e (inr (inl live)) member =
+    record { table = Jamo; live = record { home = home; char = c; entry = e; live = live; member = member } }
+live_entry tables x home c e (inr (inr live)) member =
+    record { table = Tailoring; live = record { home = home; char = c; entry = e; live = live; member = member } }
+
+-- ---- diacritics
+
+found : (b : Bool) (v s : ℕ) → (if b then Some v else None) ≡ Some s → (b ≡ true) × (v ≡ s)
+found true v s is = (refl, cc)
+found false v s is = cc
+
+place_inside : (c n : ℕ) → (nat_le 0x300 c && nat_lt (c - 0x300) n) ≡ true → c - 0x300 < n
+place_inside c n h = let parts = and_parts (nat_le 0x300 c) (nat_lt (c - 0x300) n) h in grind (arith, nat_tests)
+
+kept_place : (c n : ℕ) → (nat_le 0x300 c && nat_lt (c - 0x300) n) ≡ true → IsTrue (not (is_replaced c)) → is_replaced_place (c - 0x300) ≡ false
+kept_place c n h kept = let parts = and_parts (nat_le 0x300 c) (nat_lt (c - 0x300) n) h in grind (arith, nat_tests)
+
+live_accent : (tables : Tables) (x : Element) → IsOfDiacritic tables x → IsLiveElement tables x
+unfolding diacritic_of
+live_accent tables x accent =
+    let c = accent.char in
+    let is = found (nat_le 0x300 c && nat_lt (c - 0x300) (length tables.diacritics)) (slice_index tables.diacritics (c - 0x300)) accent.secondary accent.in_table in
+    record {
+      table = Diacritics;
+      live = record {
+        place = c - 0x300;
+        inside = place_inside c _ is.0;
+        kept = kept_place c _ is.0 accent.decomposed.kept;
+        is = accent.element ∙ ap accent_element (sym is.1);
+      };
+    }
+
+-- ---- numbers
+
+mapped : {X Y : Type 0} (P : X → Type 0) (f : X → Y) (xs : List X) → AllByRecursion P xs → AllByRecursion (λ y. (x : X) × P x × (y ≡ f x)) (map f xs)
+mapped P f [] all = tt
+mapped P f (x ∷ xs) all = ((x, all.0, refl), mapped P f xs all.1)
+
+number_element : (numeric : Option ℕ) (x : Element) → IsOfNumber numeric x → IsNumberElement numeric x
+number_element numeric x number =
+    let weights = run_weights number.lead number.digits in
+    let from = of_member (λ x. (w : ℕ) × Contains weights w × (x ≡ of_primary w)) (map of_primary weights) x (mapped (Contains weights) of_primary weights (all_members weights)) number.member in
+    record {
+      lead = number.lead;
+      digits = number.digits;
+      weight = from.0;
+      is_numeric = number.is_numeric;
+      decimal = number.decimal;
+      member = from.1;
+      element = from.2;
+    }
+
+-- ---- all of them
+
+live_or_number : (reading : Reading) (x : Element) → IsTextElement reading x → IsLiveOrNumber reading x
+live_or_number reading x (inl entry) = inl (live_entry reading.tables x entry.home entry.char entry.entry entry.live entry.member)
+live_or_number reading x (inr (inl accent)) = inl (live_accent reading.tables x accent)
+live_or_number reading x (inr (inr number)) = inr (number_element reading.numeric x number)
+
+pub good_tables_live : (all : CollatorTables) (numeric : Option ℕ) (lithuanian : Bool) → IsGoodTables all → (cs : List ℕ) → AllByRecursion IsScalar cs → AllByRecursion (IsLiveOrNumber (read_by all numeric lithuanian)) (elements_of (read_by all numeric lithuanian) (nfd cs))
+good_tables_live all numeric lithuanian good cs scalars =
+    let reading = read_by all numeric lithuanian in
+    weaker (IsTextElement reading) (IsLiveOrNumber reading) (live_or_number reading) (elements_of reading (nfd cs))
+    (elements_of-sources reading (readable_digits all.tables (good_readable all good)) cs scalars)

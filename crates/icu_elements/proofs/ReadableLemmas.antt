@@ -1,0 +1,105 @@
+-- What tables give to those who read texts by them.
+use Rattle.std.proofs.Common.{◌≡◌, ℕ, ◌<◌, Bool, true, List, [], ◌∷◌, length, nat_lt, Option, option_map, subst, arith, inl, inr, IsTrue}
+use Rattle.std.proofs.lemmas.Bool.{and_parts, and_from}
+use Rattle.std.proofs.lemmas.Bool.Decides.{nat_tests}
+use Rattle.std.specs.Char.{IsScalar}
+use Rattle.std.specs.List.{AllByRecursion, Contains}
+use Rattle.icu_provider.specs.declared.data.CollationData.{CollationData}
+use Rattle.icu_provider.specs.declared.diacritics.CollationDiacritics.{CollationDiacritics}
+use Rattle.icu_provider.specs.declared.error.DataTable.TheVariants.{Root, Jamo, Tailoring}
+use Rattle.icu_provider.specs.declared.jamo.CollationJamo.{CollationJamo}
+use Rattle.icu_provider.specs.declared.live_condition.LiveCondition.{LiveCondition}
+use Rattle.icu_provider.specs.declared.live_condition.LiveCondition.TheVariants.{Places, Digits, Bytes, Offsets}
+use Rattle.icu_provider.specs.declared.entry.EntryKind.{EntryKind}
+use Rattle.icu_provider.specs.declared.entry.EntryKind.TheVariants.{Expansion32, Expansion, Prefix, Contraction, Digit, Offset}
+use Rattle.icu_provider.specs.Entries.{kind_of, entry_index}
+use Rattle.icu_provider.specs.EntryConditions.{is_inside, has_digit, is_readable}
+use Rattle.icu_provider.specs.Live.{live_digit, live_contraction, live_from}
+use Rattle.icu_provider.specs.LiveConditions.{meets}
+use Rattle.icu_provider.specs.LiveTables.{HasDigits, IsLive}
+use Rattle.icu_provider.specs.Stored.{data_of, jamo_of, accents_of}
+use Rattle.icu_provider.specs.Tables.{Data, Tables, HomedEntry, homed, plain_of, entry_of}
+use Rattle.icu_provider.proofs.ListLemmas.{all_members, of_member}
+use Rattle.icu_checks.specs.declared.condition.Condition.TheVariants as conditions
+use Rattle.icu_checks.specs.CollatorTables.{CollatorTables}
+use Rattle.icu_checks.specs.GoodTables.{IsGoodTables}
+use Rattle.icu_elements.specs.declared.tables.ElementTables.{ElementTables}
+use Rattle.icu_elements.specs.Readable.{AreReadable, IsGoodFrom, lent_tables}
+use Rattle.icu_elements.specs.Reading.{tables_of}
+use Rattle.icu_elements.proofs.PartLemmas.{live_from-head, entry_of-live, AllLive-weaker}
+use Rattle.icu_elements.proofs.SourceLemmas.{all_live}
+
+-- ---- tables that were checked
+
+live_meets : (all : CollatorTables) → IsGoodTables all → (condition : LiveCondition) (home : Data) (c e : ℕ) → IsLive all.tables home c e → IsTrue (meets condition home c e)
+live_meets all good condition home c e (inl live) = good.each (conditions.Entry condition) Root home c e live
+live_meets all good condition home c e (inr (inl live)) = good.each (conditions.Entry condition) Jamo home c e live
+live_meets all good condition home c e (inr (inr live)) = good.each (conditions.Entry condition) Tailoring home c e live
+
+pub good_readable : (all : CollatorTables) → IsGoodTables all → AreReadable all.tables
+good_readable all good = record { jamo_count = good.tables.jamo.count; each = live_meets all good }
+
+-- so may the same tables be read where they are lent
+pub lent_readable : (all : CollatorTables) → IsGoodTables all → (root : CollationData) (tailoring : Option CollationData) (jamo : CollationJamo) (diacritics : CollationDiacritics) → data_of root ≡ all.tables.root → option_map data_of tailoring ≡ all.tables.tailoring → jamo_of jamo ≡ all.tables.jamo → accents_of diacritics ≡ all.tables.diacritics → AreReadable (lent_tables root tailoring jamo diacritics)
+unfolding lent_tables
+lent_readable all good root tailoring jamo diacritics r t j d = rw (r, t, j, d) (good_readable all good)
+
+pub readable_digits : (tables : Tables) → AreReadable tables → HasDigits tables
+readable_digits tables readable =
+    AllLive-weaker (IsLive tables) (λ home c e. IsTrue (has_digit e)) tables (λ home c e live. readable.each Digits home c e live) (all_live tables)
+
+-- ---- the entry of a character
+
+-- it is live, and so is what it leads to
+pub entry_of-is_live : (tables : Tables) (c : ℕ) → IsScalar c → AllByRecursion (IsLive tables (entry_of tables c).home c) (live_from (entry_of tables c).home (entry_of tables c).entry)
+entry_of-is_live tables c scalar = entry_of-live (IsLive tables) tables (all_live tables) c scalar
+
+good_entry : (tables : Tables) → AreReadable tables → (c : ℕ) → IsScalar c → IsGoodFrom (entry_of tables c).home c (entry_of tables c).entry
+good_entry tables readable c scalar = λ condition f among.
+    let h = entry_of tables c in
+    readable.each condition h.home c f (of_member (IsLive tables h.home c) (live_from h.home h.entry) f (entry_of-is_live tables c scalar) among)
+
+-- it meets the conditions, and so does what it leads to
+pub good_found : (t : ElementTables) (c : ℕ) → IsScalar c → (home : Data) (e : ℕ) → entry_of (tables_of t) c ≡ homed home e → IsGoodFrom home c e
+unfolding tables_of
+good_found t c scalar home e is =
+    subst (λ (h : HomedEntry). IsGoodFrom h.home c h.entry) is (good_entry (tables_of t) t.readable c scalar)
+
+-- ---- an entry that meets the conditions can be read, and so can a digit's plain entry
+
+readable_from : (home : Data) (c e f : ℕ) → IsGoodFrom home c e → Contains (live_from home e) f → IsTrue (is_readable home c f)
+unfolding is_readable
+readable_from home c e f good among =
+    and_from _ _ (and_from _ _ (good Places f among) (and_parts _ _ (good Bytes f among)).1) (good Offsets f among)
+
+itself : (home : Data) (e : ℕ) → Contains (live_from home e) e
+itself home e = live_from-head (Contains (live_from home e)) home e (all_members (live_from home e))
+
+pub readable_itself : (home : Data) (c e : ℕ) → IsGoodFrom home c e → IsTrue (is_readable home c e)
+readable_itself home c e good = readable_from home c e e good (itself home e)
+
+second : (P : ℕ → Type 0) (k : EntryKind) (e f : ℕ) (xs ys zs : List ℕ) → k ≡ Digit → AllByRecursion P (elim k as (λ _. List ℕ) [ Prefix ↦ xs | _ ↦ elim k as (λ _. List ℕ) [ Contraction ↦ ys | _ ↦ elim k as (λ _. List ℕ) [ Digit ↦ e ∷ f ∷ [] | _ ↦ zs ] ] ]) → P f
+second P Digit e f xs ys zs is all = all.1.0
+second P _ e f xs ys zs is all = cc
+
+plain_among : (home : Data) (e : ℕ) → kind_of e ≡ Digit → Contains (live_from home e) (plain_of home e)
+unfolding live_from live_contraction live_digit
+plain_among home e is =
+    second (Contains (live_from home e)) (kind_of e) e (plain_of home e) _ _ _ is (all_members (live_from home e))
+
+pub readable_plain : (home : Data) (c e : ℕ) → IsGoodFrom home c e → kind_of e ≡ Digit → IsTrue (is_readable home c (plain_of home e))
+readable_plain home c e good is = readable_from home c e (plain_of home e) good (plain_among home e is)
+
+at_digit : (k : EntryKind) (a b d f g h : Bool) → k ≡ Digit → IsTrue (elim k as (λ _. Bool) [ Expansion32 ↦ a | Expansion ↦ b | Prefix ↦ d | Contraction ↦ f | Digit ↦ g | Offset ↦ h | _ ↦ true ]) → IsTrue g
+at_digit Digit a b d f g h is t = t
+at_digit _ a b d f g h is t = cc
+
+test_inside : (i n : ℕ) → IsTrue (nat_lt i n) → i < n
+test_inside i n h = grind (arith, nat_tests)
+
+-- the plain entry of a digit is there
+pub plain_inside : (home : Data) (c e : ℕ) → IsGoodFrom home c e → kind_of e ≡ Digit → entry_index e < length home.entries
+unfolding is_inside
+plain_inside home c e good is =
+    let inside : IsTrue (is_inside home e) = good Places e (itself home e) in
+    test_inside _ _ (at_digit (kind_of e) _ _ _ _ _ _ is inside)

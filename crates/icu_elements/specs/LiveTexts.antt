@@ -1,0 +1,44 @@
+-- The theorem on the elements of all texts by tables that were checked.
+use Rattle.std.specs.Prelude.{ℕ, ◌≡◌, ◌⊎◌, Bool, List, Option, Some}
+use Rattle.std.specs.List.{AllByRecursion, Contains}
+use Rattle.unicode_normalization.specs.Forms.{nfd}
+use Rattle.icu_levels.specs.Numbers.{run_weights}
+use Rattle.icu_provider.specs.declared.error.DataTable.{DataTable}
+use Rattle.icu_provider.specs.Elements.{Element, of_primary}
+use Rattle.icu_provider.specs.Tables.{Tables}
+use Rattle.icu_checks.specs.CollatorTables.{CollatorTables}
+use Rattle.icu_checks.specs.GoodTables.{IsGoodTables}
+use Rattle.icu_checks.specs.LiveElements.{IsElementBy}
+use Rattle.icu_elements.specs.TextElements.{Reading, elements_of}
+use Rattle.icu_elements.specs.TextParts.{AreDigits}
+use Rattle.icu_elements.specs.TextLaws.{IsText}
+
+-- live by one of the tables
+pub record IsLiveElement (tables : Tables) (x : Element) : Type 0 where
+  pub table : DataTable
+  pub live : IsElementBy table tables x
+
+-- of one of the weights of a run of digits, where digits are read as numbers
+pub record IsNumberElement (numeric : Option ℕ) (x : Element) : Type 0 where
+  pub lead : ℕ
+  pub digits : List ℕ
+  pub weight : ℕ
+  pub is_numeric : numeric ≡ Some lead
+  pub decimal : AreDigits digits
+  pub member : Contains (run_weights lead digits) weight
+  pub element : x ≡ of_primary weight
+
+-- an element that a text has by tables that were checked
+abbrev pub IsLiveOrNumber : Reading → Element → Type 0
+IsLiveOrNumber reading x = IsLiveElement reading.tables x ⊎ IsNumberElement reading.numeric x
+
+-- how a text is read by the tables of a collator
+abbrev pub read_by : CollatorTables → Option ℕ → Bool → Reading
+read_by all numeric lithuanian = record { tables = all.tables; numeric = numeric; lithuanian = lithuanian }
+
+-- each element of each text is live by one of the tables, or of a number
+abbrev pub GoodTablesGiveLiveElements : Type 0
+GoodTablesGiveLiveElements =
+    (all : CollatorTables) (numeric : Option ℕ) (lithuanian : Bool) → IsGoodTables all
+    → (cs : List ℕ) → IsText cs
+    → AllByRecursion (IsLiveOrNumber (read_by all numeric lithuanian)) (elements_of (read_by all numeric lithuanian) (nfd cs))

@@ -1,0 +1,26 @@
+-- What reading texts asks of tables.
+use Rattle.std.specs.Prelude.{ℕ, ◌≡◌, length, Option, option_map, IsTrue}
+use Rattle.std.specs.List.{Contains}
+use Rattle.icu_provider.specs.declared.data.CollationData.{CollationData}
+use Rattle.icu_provider.specs.declared.diacritics.CollationDiacritics.{CollationDiacritics}
+use Rattle.icu_provider.specs.declared.jamo.CollationJamo.{CollationJamo}
+use Rattle.icu_provider.specs.declared.live_condition.LiveCondition.{LiveCondition}
+use Rattle.icu_provider.specs.Live.{live_from}
+use Rattle.icu_provider.specs.LiveConditions.{meets}
+use Rattle.icu_provider.specs.LiveTables.{IsLive}
+use Rattle.icu_provider.specs.Stored.{data_of, jamo_of, accents_of}
+use Rattle.icu_provider.specs.Tables.{Data, Tables}
+
+-- each conjoining jamo has an entry, and each entry that is live meets each condition on entries
+pub record AreReadable (tables : Tables) : Type 0 where
+  pub jamo_count : length tables.jamo ≡ 256
+  pub each : (condition : LiveCondition) (home : Data) (c e : ℕ) → IsLive tables home c e → IsTrue (meets condition home c e)
+
+-- each entry that is live from this one meets each condition with the character
+abbrev pub IsGoodFrom : Data → ℕ → ℕ → Type 0
+IsGoodFrom home c e = (condition : LiveCondition) (f : ℕ) → Contains (live_from home e) f → IsTrue (meets condition home c f)
+
+-- a root, a tailoring, jamo and diacritics as they are lent
+unfoldable pub lent_tables : CollationData → Option CollationData → CollationJamo → CollationDiacritics → Tables
+lent_tables root tailoring jamo diacritics =
+    record { root = data_of root; tailoring = option_map data_of tailoring; jamo = jamo_of jamo; diacritics = accents_of diacritics }

@@ -1,0 +1,28 @@
+ghost use Rattle.std.specs.Prelude.{List};
+ghost use Rattle.std.specs.List.{push};
+ghost use Rattle.icu_provider.specs.Elements.{Element};
+
+use icu_provider::CollationElement;
+use icu_provider::element_walk::VisitElement;
+use std::alloc::AllocError;
+
+/// The elements that were read so far.
+#[derive(Drop)]
+pub(crate) struct ElementList {
+    pub(crate) elements: Vec<CollationElement>,
+}
+
+impl VisitElement for ElementList {
+    type Refusal = AllocError;
+
+    ghost Seen = { List Element };
+
+    ghost seen = { λ list. list.elements.items };
+
+    ghost after = { push };
+
+    fn visit(&mut self, element: CollationElement) -> Result<(), AllocError> {
+        self.elements.push(element)?;
+        Ok(())
+    }
+}

@@ -1,0 +1,57 @@
+-- What the tables of Mini, or of a variant, lend as a provider: to each request the same.
+use Rattle.std.specs.Prelude.{◌≡◌, ◌↔◌, Option, Some, None, IsOk, IfOk, IfErr, IfSome, Result}
+use Rattle.std.specs.Option.{option_map}
+use Rattle.icu_provider.specs.declared.error.DataError.{DataError}
+use Rattle.icu_provider.specs.declared.error.DataErrorKind.{DataErrorKind}
+use Rattle.icu_provider.specs.declared.error.DataErrorKind.TheVariants as kinds
+use Rattle.icu_provider.specs.declared.error.DataTable.{DataTable}
+use Rattle.icu_provider.specs.declared.error.DataTable.TheVariants as tables
+use Rattle.icu_provider.specs.Accents.{IsDiacritics, IsJamo, FailsDiacritics, FailsJamo}
+use Rattle.icu_provider.specs.Loads.{Loads, answer}
+use Rattle.icu_provider.specs.SpecialPrimaries.{IsSpecialPrimaries, FailsSpecial}
+use Rattle.icu_provider.specs.Stored.{accents_of, data_of, jamo_of, reordering_of, special_of}
+use Rattle.icu_mini.specs.declared.mini.Mini.{Mini}
+use Rattle.icu_mini.specs.declared.provider.MiniProvider.{MiniProvider}
+use Rattle.icu_mini.specs.declared.table_data.TableData.{TableData}
+use Rattle.icu_mini.specs.declared.reordering_data.ReorderingData.{ReorderingData}
+use Rattle.icu_mini.specs.Mini.{special_held}
+use Rattle.icu_mini.specs.ReorderingData.{reordering_held, HasAllLeads}
+use Rattle.icu_mini.specs.TableData.{data_held, IsAccepted, FailsTable}
+
+-- the locale and the type don't matter
+abbrev pub loads_of : MiniProvider → Loads
+loads_of p = record {
+  root = answer data_of p.root;
+  jamo = answer jamo_of p.jamo;
+  special = answer special_of p.special;
+  metadata = λ r. answer (λ m. m.bits) p.metadata;
+  tailoring = λ r. answer data_of p.tailoring;
+  reordering = λ r. answer reordering_of p.reordering;
+  diacritics = λ r. answer accents_of p.diacritics;
+}
+
+-- the refusal names the table, and a kind of which this holds
+abbrev pub Names : DataTable → (DataErrorKind → Type 0) → DataError → Type 0
+Names table Fails e = (e.table ≡ table) × Fails e.kind
+
+-- A table is lent exactly if it is accepted, and says then what it is to say. A refusal names it, and a condition that it fails.
+pub record IsLent {T A : Type 0} (says : T → A) (held : A) (Accepted : Type 0) (Refused : DataError → Type 0) (r : Result T DataError) : Type 0 where
+  pub accepts : IsOk r ↔ Accepted
+  pub lends : IfOk r (λ t. says t ≡ held)
+  pub refuses : IfErr r Refused
+
+-- the same of a table that there may be: where there is none, it is absent
+abbrev pub IsLentIfAny : {T D A : Type 0} → (T → A) → (D → A) → DataTable → (D → Type 0) → (D → DataErrorKind → Type 0) → Option D → Result T DataError → Type 0
+IsLentIfAny says held table Accepted Fails None r = IfErr r (Names table (λ k. k ≡ kinds.Absent)) × (IsOk r → ⊥)
+IsLentIfAny says held table Accepted Fails (Some d) r = IsLent says (held d) (Accepted d) (Names table (Fails d)) r
+
+-- what Mini's tables lend
+pub record LendsMini (m : Mini) (p : MiniProvider) : Type 0 where
+  pub root : IsLent data_of (data_held m.root) (IsAccepted m.root) (Names tables.Root (FailsTable m.root)) p.root
+  pub jamo : IsLent jamo_of m.jamo.items (IsJamo m.jamo.items) (Names tables.Jamo (FailsJamo m.jamo.items)) p.jamo
+  pub special : IsLent special_of (special_held m) (IsSpecialPrimaries m.last_primaries.items m.numeric_primary)
+      (Names tables.SpecialPrimaries (FailsSpecial m.last_primaries.items m.numeric_primary)) p.special
+  pub metadata : IfOk p.metadata (λ b. b.bits ≡ m.metadata.bits) × IsOk p.metadata
+  pub tailoring : IsLentIfAny data_of data_held tables.Tailoring IsAccepted FailsTable m.tailoring p.tailoring
+  pub reordering : IsLentIfAny reordering_of reordering_held tables.Reordering HasAllLeads (λ r k. k ≡ kinds.Length) m.reordering p.reordering
+  pub diacritics : IsLent accents_of m.diacritics.items (IsDiacritics m.diacritics.items) (Names tables.Diacritics (FailsDiacritics m.diacritics.items)) p.diacritics

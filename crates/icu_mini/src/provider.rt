@@ -1,0 +1,156 @@
+//! Mini's tables as a provider lends them.
+ghost use Rattle.std.specs.Prelude.{◌≡◌};
+ghost use Rattle.icu_provider.specs.Accents.{FailsDiacritics, FailsJamo, IsDiacritics, IsJamo};
+ghost use Rattle.icu_provider.specs.SpecialPrimaries.{FailsSpecial, IsSpecialPrimaries};
+ghost use Rattle.icu_provider.specs.Stored.{accents_of, data_of, jamo_of, reordering_of, special_of};
+
+use crate::mini::Mini;
+use icu_provider::{
+    CollationData, CollationDiacritics, CollationJamo, CollationMetadata, CollationProvider,
+    CollationReordering, CollationSpecialPrimaries, DataError, DataErrorKind, DataRequest,
+    DataTable,
+};
+
+/// A provider that answers every locale and type alike. The fields are public, so that a test may have it refuse a table, or lend
+/// another one.
+#[derive(Debug, Clone, Copy)]
+pub struct MiniProvider<'m> {
+    pub root: Result<CollationData<'m>, DataError>,
+    pub jamo: Result<CollationJamo<'m>, DataError>,
+    pub special: Result<CollationSpecialPrimaries<'m>, DataError>,
+    pub metadata: Result<CollationMetadata, DataError>,
+    pub tailoring: Result<CollationData<'m>, DataError>,
+    pub reordering: Result<CollationReordering<'m>, DataError>,
+    pub diacritics: Result<CollationDiacritics<'m>, DataError>,
+}
+
+impl<'m> CollationProvider for MiniProvider<'m> {
+    ghost use Rattle.icu_mini.specs.Provider.{loads_of};
+
+    ghost loads = { loads_of };
+
+    fn load_root(&self) -> Result<CollationData<'_>, DataError> {
+        self.root
+    }
+
+    fn load_jamo(&self) -> Result<CollationJamo<'_>, DataError> {
+        self.jamo
+    }
+
+    fn load_special_primaries(&self) -> Result<CollationSpecialPrimaries<'_>, DataError> {
+        self.special
+    }
+
+    fn load_metadata(&self, _request: DataRequest<'_>) -> Result<CollationMetadata, DataError> {
+        self.metadata
+    }
+
+    fn load_tailoring(&self, _request: DataRequest<'_>) -> Result<CollationData<'_>, DataError> {
+        self.tailoring
+    }
+
+    fn load_reordering(
+        &self,
+        _request: DataRequest<'_>,
+    ) -> Result<CollationReordering<'_>, DataError> {
+        self.reordering
+    }
+
+    fn load_diacritics(
+        &self,
+        _request: DataRequest<'_>,
+    ) -> Result<CollationDiacritics<'_>, DataError> {
+        self.diacritics
+    }
+}
+
+/// The refusal of a table.
+fn refusal(table: DataTable, kind: DataErrorKind) -> DataError
+    ensures { result ≡ record { table = table; kind = kind } }
+{
+    DataError { table, kind }
+}
+
+impl Mini {
+    ghost use Rattle.icu_mini.specs.Mini.{special_held};
+    ghost use Rattle.icu_mini.specs.TableData.{data_held, FailsTable, IsAccepted};
+    ghost use Rattle.icu_mini.specs.ReorderingData.{reordering_held, HasAllLeads};
+    ghost use Rattle.icu_mini.specs.Provider.{IsLent, IsLentIfAny, LendsMini, Names};
+
+    /// A provider of these tables, for every locale and type. A table that fails a condition of its own is refused with the kind
+    /// of one; a tailoring and a reordering that there isn't are `Absent`.
+    pub fn provider(&self) -> MiniProvider<'_>
+        ensures { LendsMini self.now result }
+    {
+        MiniProvider {
+            root: self.named_root(),
+            jamo: self.named_jamo(),
+            special: self.named_special_primaries(),
+            metadata: Ok(self.metadata),
+            tailoring: self.named_tailoring(),
+            reordering: self.named_reordering(),
+            diacritics: self.named_diacritics(),
+        }
+    }
+
+    fn named_root(&self) -> Result<CollationData<'_>, DataError>
+        ensures { IsLent data_of (data_held self.now.root) (IsAccepted self.now.root) (Names DataTable.Root (FailsTable self.now.root)) result }
+    {
+        match self.lend_root() {
+            Ok(root) => Ok(root),
+            Err(kind) => Err(refusal(DataTable::Root, kind)),
+        }
+    }
+
+    fn named_jamo(&self) -> Result<CollationJamo<'_>, DataError>
+        ensures { IsLent jamo_of self.now.jamo.items (IsJamo self.now.jamo.items) (Names DataTable.Jamo (FailsJamo self.now.jamo.items)) result }
+    {
+        match self.lend_jamo() {
+            Ok(jamo) => Ok(jamo),
+            Err(kind) => Err(refusal(DataTable::Jamo, kind)),
+        }
+    }
+
+    fn named_special_primaries(&self) -> Result<CollationSpecialPrimaries<'_>, DataError>
+        ensures { IsLent special_of (special_held self.now) (IsSpecialPrimaries self.now.last_primaries.items self.now.numeric_primary)
+            (Names DataTable.SpecialPrimaries (FailsSpecial self.now.last_primaries.items self.now.numeric_primary)) result }
+    {
+        match self.lend_special_primaries() {
+            Ok(special) => Ok(special),
+            Err(kind) => Err(refusal(DataTable::SpecialPrimaries, kind)),
+        }
+    }
+
+    fn named_tailoring(&self) -> Result<CollationData<'_>, DataError>
+        ensures { IsLentIfAny data_of data_held DataTable.Tailoring IsAccepted FailsTable self.now.tailoring result }
+    {
+        let Some(tailoring) = &self.tailoring else {
+            return Err(refusal(DataTable::Tailoring, DataErrorKind::Absent));
+        };
+        match tailoring.lend() {
+            Ok(tailoring) => Ok(tailoring),
+            Err(kind) => Err(refusal(DataTable::Tailoring, kind)),
+        }
+    }
+
+    fn named_reordering(&self) -> Result<CollationReordering<'_>, DataError>
+        ensures { IsLentIfAny reordering_of reordering_held DataTable.Reordering HasAllLeads (λ r k. k ≡ DataErrorKind.Length) self.now.reordering result }
+    {
+        let Some(reordering) = &self.reordering else {
+            return Err(refusal(DataTable::Reordering, DataErrorKind::Absent));
+        };
+        match reordering.lend() {
+            Ok(reordering) => Ok(reordering),
+            Err(kind) => Err(refusal(DataTable::Reordering, kind)),
+        }
+    }
+
+    fn named_diacritics(&self) -> Result<CollationDiacritics<'_>, DataError>
+        ensures { IsLent accents_of self.now.diacritics.items (IsDiacritics self.now.diacritics.items) (Names DataTable.Diacritics (FailsDiacritics self.now.diacritics.items)) result }
+    {
+        match self.lend_diacritics() {
+            Ok(diacritics) => Ok(diacritics),
+            Err(kind) => Err(refusal(DataTable::Diacritics, kind)),
+        }
+    }
+}

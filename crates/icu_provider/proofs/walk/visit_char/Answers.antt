@@ -1,0 +1,8 @@
+use Rattle.icu_provider.specs.Stored.{data_of}
+use Rattle.icu_provider.proofs.WalkLemmas.{implicit_visit}
+use Rattle.icu_provider.proofs.walk.visit_char.Goals as goal
+
+pub returns-then-is_implicit : goal.returns-then-is_implicit
+returns-then-is_implicit g c =
+    implicit_visit g.V.Visit.after _ _ c.args.falls_back (data_of c.args.home) c.args.c c.ce32_for_char-entry.result c.ce32_for_char-entry.ensures
+    (c.is_implicit.ensures.0 c.if-is_implicit.true) _ c.visit.ensures
