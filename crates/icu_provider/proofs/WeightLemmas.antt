@@ -1,9 +1,9 @@
 -- The weights that a walk collects: those that were there, and those of the elements of the entries that it comes to.
-use Rattle.std.proofs.Common.{◌≡◌, ℕ, ◌-◌, Bool, true, false, ◌==◌, List, [], ◌∷◌, ◌++◌, ◌⊎◌, length, fold, Option, Some, None, if◌then◌else◌, refl, sym, ap, ◌∙◌, subst, OnOk, Result, Ok, Err, is_ok, IsTrue, ◌↔◌, inl, inr, arith}
+use Rattle.std.proofs.Common.{◌≡◌, ℕ, ◌-◌, Bool, true, false, ◌==◌, List, [], ◌∷◌, ◌++◌, ◌⊎◌, length, fold, Option, Some, None, if◌then◌else◌, refl, sym, ap, ◌∙◌, subst, OnOk, Result, Ok, Err, IsTrue, ◌↔◌, inl, inr, arith}
 use Rattle.std.specs.List.{AllByRecursion, Contains, slice_get}
 use Rattle.std.proofs.lemmas.Bool.Decides.{nat_tests}
 use Rattle.std.proofs.lemmas.Option.{slice_get_within, get_or_from_slice_get}
-use Rattle.std.proofs.lemmas.List.Elements.{Contains-append_left, Contains-append_right, Contains-append_cases, Contains-push, Contains-push_cases}
+use Rattle.std.proofs.lemmas.List.Elements.{Contains-append_left, Contains-push, Contains-push_cases}
 use Rattle.icu_provider.specs.Elements.{Element}
 use Rattle.icu_provider.specs.Tables.{Data, homed}
 use Rattle.icu_provider.specs.Final.{final_elements}
@@ -79,15 +79,6 @@ unfolding given_elements
 given_is home c e x h = given-parts (is_readable home c e) (final_elements (homed home e) c) x h
 
 -- ---- walks
-
-none_there : (w : ℕ) → Contains [] w → ⊥
-none_there w h = absurd (omega arith)
-
-from_none : (found : List ℕ) (w : ℕ) (P : Type 0) → (Contains found w ↔ (Contains [] w ⊎ P)) → Contains found w ↔ P
-from_none found w P both = (
-  λ has. elim (both.0 has) [ inl before ↦ absurd (none_there w before) | inr is ↦ is ],
-  λ is. both.1 (inr is),
-)
 
 module _ {W : Type 0} (weight : W → Element → Option ℕ) (weigh : W) (falls_back : Bool) (home : Data) where
   abbrev step : List ℕ → Element → List ℕ
@@ -166,22 +157,20 @@ module _ {W : Type 0} (weight : W → Element → Option ℕ) (weigh : W) (falls
         elim [ inl before ↦ both.0 before | inr is ↦ leads_to w G is.c (live_at falls_back home is.c) (both.1 is.c is.scalar) is.among ],
       )
 
-  -- where a walk that began with no weight came to these
-  pub collected_among : (c : ℕ) (es start : List ℕ) → start ≡ [] → (s : W × List ℕ) → s ≡ after_all (collected_at weight) (weigh, start) home c es → (w : ℕ) → Contains s.1 w ↔ Among c es w
-  collected_among c es start none s is w =
-      subst (λ (s : W × List ℕ). Contains s.1 w ↔ Among c es w) (sym (is ∙ ap (λ ws. after_all (collected_at weight) (weigh, ws) home c es) none ∙ same_all c [] es))
-      (from_none (after_all kept [] home c es) w (Among c es w) (among c es [] w))
+  -- where a walk that began so came to a weight
+  started : (v : W) (ws start : List ℕ) → v ≡ weigh → ws ≡ start → ◌≡◌ {A = W × List ℕ} (v, ws) (weigh, start)
+  started v ws start same begun = cc
 
-  pub collected_live : (start : List ℕ) → start ≡ [] → (s : W × List ℕ) → s ≡ after_chars (collected_at weight) falls_back (weigh, start) home (chars_below 0x110000) → (w : ℕ) → Contains s.1 w ↔ Live w
-  collected_live start none s is w =
-      subst (λ (s : W × List ℕ). Contains s.1 w ↔ Live w) (sym (is ∙ ap (λ ws. after_chars (collected_at weight) falls_back (weigh, ws) home (chars_below 0x110000)) none ∙ same_chars [] (chars_below 0x110000)))
-      (from_none (after_chars kept falls_back [] home (chars_below 0x110000)) w (Live w) (live [] w))
+  pub collected_among : (v : W) (ws start : List ℕ) → v ≡ weigh → ws ≡ start → (c : ℕ) (es : List ℕ) {X E : Type 0} (r : Result X E) (s : W × List ℕ)
+      → OnOk r (s ≡ after_all (collected_at weight) (v, ws) home c es) → OnOk r ((w : ℕ) → Contains s.1 w ↔ (Contains start w ⊎ Among c es w))
+  collected_among v ws start same begun c es (Err e) s is = tt
+  collected_among v ws start same begun c es (Ok x) s is = λ w.
+      subst (λ (s : W × List ℕ). Contains s.1 w ↔ (Contains start w ⊎ Among c es w))
+      (sym (is ∙ ap (λ s. after_all (collected_at weight) s home c es) (started v ws start same begun) ∙ same_all c start es)) (among c es start w)
 
--- weights that were found, added to those before them
-pub added : {X E : Type 0} (r : Result X E) (ws found now : List ℕ) (P : ℕ → Type 0) → ((w : ℕ) → Contains found w ↔ P w) → now ≡ (if is_ok r then ws ++ found else ws) → OnOk r ((w : ℕ) → Contains now w ↔ (Contains ws w ⊎ P w))
-added (Ok x) ws found now P is same =
-    λ w. subst (λ now. Contains now w ↔ (Contains ws w ⊎ P w)) (sym same) (
-      λ has. elim (Contains-append_cases ws found w has) [ inl before ↦ inl before | inr new ↦ inr ((is w).0 new) ],
-      elim [ inl before ↦ Contains-append_left ws found w before | inr new ↦ Contains-append_right ws found w ((is w).1 new) ],
-    )
-added (Err e) ws found now P is same = tt
+  pub collected_live : (v : W) (ws start : List ℕ) → v ≡ weigh → ws ≡ start → {X E : Type 0} (r : Result X E) (s : W × List ℕ)
+      → OnOk r (s ≡ after_chars (collected_at weight) falls_back (v, ws) home (chars_below 0x110000)) → OnOk r ((w : ℕ) → Contains s.1 w ↔ (Contains start w ⊎ Live w))
+  collected_live v ws start same begun (Err e) s is = tt
+  collected_live v ws start same begun (Ok x) s is = λ w.
+      subst (λ (s : W × List ℕ). Contains s.1 w ↔ (Contains start w ⊎ Live w))
+      (sym (is ∙ ap (λ s. after_chars (collected_at weight) falls_back s home (chars_below 0x110000)) (started v ws start same begun) ∙ same_chars start (chars_below 0x110000))) (live start w)

@@ -1,5 +1,5 @@
 //! The weights of the elements of live entries, collected.
-ghost use Rattle.std.specs.Prelude.{◌≡◌, ◌↔◌, ◌⊎◌, ℕ, true, List, Option, None, OnOk, OnErr};
+ghost use Rattle.std.specs.Prelude.{◌≡◌, ◌↔◌, ◌⊎◌, ℕ, true, List, Option, None, OnOk};
 ghost use Rattle.std.specs.List.{Contains};
 ghost use Rattle.icu_provider.specs.Elements.{Element, of_primary};
 ghost use Rattle.icu_provider.specs.Weights.{implicit_weight};
@@ -13,6 +13,7 @@ use crate::element_walk::{VisitElement, visit_elements};
 use crate::entry::CollationElement32;
 use crate::walk::{Visit, visit_chars, visit_from};
 use std::alloc::AllocError;
+use std::mem::replace;
 
 /// Which weight of an element is collected.
 pub trait Weigh {
@@ -57,6 +58,20 @@ fn add_weight(weights: &mut Vec<u32>, weight: u32) -> Result<(), AllocError>
 struct Collector<'w, W> {
     weigh: &'w W,
     weights: Vec<u32>,
+}
+
+impl<'w, W: Weigh> Collector<'w, W> {
+    /// A collector that goes on with a list, which is left empty.
+    fn over(weigh: &'w W, weights: &mut Vec<u32>) -> Collector<'w, W>
+        ensures weigh { result.weigh.now ≡ weigh.now }
+        ensures weights { result.weights.items ≡ weights.old.items }
+    {
+        let none = Vec::new(*weights.allocator());
+        Collector {
+            weigh,
+            weights: replace(weights, none),
+        }
+    }
 }
 
 impl<'w, W: Weigh> VisitElement for Collector<'w, W> {
@@ -105,22 +120,19 @@ impl<'w, W: Weigh> Visit for Collector<'w, W> {
 
 /// Adds to a list the weights that are collected of the elements of all entries that are live in a root or a tailoring, in any
 /// order, with or without repetition. A tailoring falls back: a fallback entry of its code point table is none. An entry whose
-/// elements can't be read, and one that is not final, gives none. For want of memory the list is left as it was.
+/// elements can't be read, and one that is not final, gives none. Where memory is refused, nothing is said of the list.
 pub fn collect_weights<W: Weigh>(
     weights: &mut Vec<u32>,
     weigh: &W,
     home: CollationData<'_>,
     falls_back: bool,
 ) -> Result<(), AllocError>
-    ensures collects { OnOk result ((w : ℕ) → Contains weights.new.items w ↔ (Contains weights.old.items w ⊎ IsLiveWeight (W.weight weigh.now) falls_back (data_of home.entry) w)) }
-    ensures refused { OnErr result (weights.new.items ≡ weights.old.items) }
+    ensures { OnOk result ((w : ℕ) → Contains weights.new.items w ↔ (Contains weights.old.items w ⊎ IsLiveWeight (W.weight weigh.now) falls_back (data_of home.entry) w)) }
 {
-    let mut collector = Collector {
-        weigh,
-        weights: Vec::new(*weights.allocator()),
-    };
-    visit_chars(&mut collector, home, falls_back)?;
-    weights.extend_from_slice(&collector.weights)
+    let mut collector = Collector::over(weigh, weights);
+    let outcome = visit_chars(&mut collector, home, falls_back);
+    *weights = collector.weights;
+    outcome
 }
 
 /// The same of the entries that are live with a character from one entry on.
@@ -131,13 +143,10 @@ pub fn collect_weights_from<W: Weigh>(
     c: char,
     entry: CollationElement32,
 ) -> Result<(), AllocError>
-    ensures collects { OnOk result ((w : ℕ) → Contains weights.new.items w ↔ (Contains weights.old.items w ⊎ IsWeightAmong (W.weight weigh.now) (data_of home.entry) c (live_from (data_of home.entry) entry) w)) }
-    ensures refused { OnErr result (weights.new.items ≡ weights.old.items) }
+    ensures { OnOk result ((w : ℕ) → Contains weights.new.items w ↔ (Contains weights.old.items w ⊎ IsWeightAmong (W.weight weigh.now) (data_of home.entry) c (live_from (data_of home.entry) entry) w)) }
 {
-    let mut collector = Collector {
-        weigh,
-        weights: Vec::new(*weights.allocator()),
-    };
-    visit_from(&mut collector, home, c, entry)?;
-    weights.extend_from_slice(&collector.weights)
+    let mut collector = Collector::over(weigh, weights);
+    let outcome = visit_from(&mut collector, home, c, entry);
+    *weights = collector.weights;
+    outcome
 }

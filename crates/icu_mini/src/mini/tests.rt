@@ -7,7 +7,12 @@ use std::test::Fail;
 // What the table gives a character.
 fn entry(rt: &impl Abort, mini: &Mini, character: char) -> u32 {
     let code = character as usize;
-    let block = *mini.root.blocks.as_slice().get(code / 64).expect(rt, "a block");
+    let block = *mini
+        .root
+        .blocks
+        .as_slice()
+        .get(code / 64)
+        .expect(rt, "a block");
     let place = usize::from(block) * 64 + code % 64;
     *mini.root.values.as_slice().get(place).expect(rt, "a value")
 }
@@ -94,7 +99,11 @@ fn the_other_tables_are_those_of_the_table(rt: HostRuntime) -> Result<(), Fail> 
         (0xA8, 0x6638_0505),
         (255, 0x668F_0505),
     ] {
-        assert_eq!(rt; mini.jamo.as_slice().get(place).copied(), Some(want), "jamo {place}");
+        assert_eq!(rt;
+            mini.jamo.as_slice().get(place).copied(),
+            Some(want),
+            "jamo {place}"
+        );
     }
     assert_eq!(rt;
         mini.last_primaries.as_slice(),
