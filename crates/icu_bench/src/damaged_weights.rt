@@ -107,7 +107,7 @@ static ELEMENTS: [Case<'static>; 14] = [
 ];
 
 /// Weights beside one another, and lead bytes.
-static WEIGHTS: [Case<'static>; 14] = [
+static WEIGHTS: [Case<'static>; 15] = [
     Case {
         name: "a short weight among implicit ones",
         base: Base::Mini,
@@ -176,6 +176,13 @@ static WEIGHTS: [Case<'static>; 14] = [
         damages: &[Damage::Entry('a', 0x6103_0505)],
         alone: None,
         together: Some((DataTable::SpecialPrimaries, DataErrorKind::Compression)),
+    },
+    Case {
+        name: "a weight that a begins, before the leads are swapped and after it",
+        base: Base::SwappedLeads,
+        damages: &[Damage::Entry('i', 0x6110_20C1)],
+        alone: None,
+        together: Some((DataTable::Root, DataErrorKind::Overlap)),
     },
     Case {
         name: "FF goes to FE",

@@ -1,24 +1,48 @@
-//! What checked tables are refused with where memory is refused. With memory enough they are accepted; run with one
-//! allocation after another refused, these tests show that `NoMemory` is the only other answer.
+//! What is answered where memory is refused. With memory enough, tables are accepted; run with one allocation after another
+//! refused, these tests show that `NoMemory` is the only other answer.
 use crate::damage::{Base, lend_all};
 use icu_checks::CheckedTables;
-use icu_provider::DataErrorKind;
+use icu_comparison::Collator;
+use icu_options::{CollatorOptions, CollatorPreferences};
+use icu_provider::{DataError, DataErrorKind};
 use std::process::Abort;
 use std::test::Fail;
 
+/// Whether a refusal, if there is one, is for want of memory.
+fn is_of_memory(refusal: Option<DataError>) -> bool {
+    match refusal {
+        Some(refusal) => refusal.kind == DataErrorKind::NoMemory,
+        None => true,
+    }
+}
+
 #[test]
-fn nothing_but_want_of_memory_is_named(rt: HostRuntime) -> Result<(), Fail> {
+fn tables_are_refused_for_want_of_memory_alone(rt: HostRuntime) -> Result<(), Fail> {
     for base in [Base::Mini, Base::SwappedLeads] {
         let Ok(mini) = base.tables(rt.alloc()) else {
             return Ok(());
         };
         let set = lend_all(&mini)?;
         let refusal = CheckedTables::from_set(rt.alloc(), set).err();
-        let kind = refusal.map(|refusal| refusal.kind);
-        assert!(rt;
-            kind.is_none() || kind == Some(DataErrorKind::NoMemory),
-            "{base:?}: {kind:?}"
+        assert!(rt; is_of_memory(refusal), "{base:?}: {refusal:?}");
+    }
+    Ok(())
+}
+
+#[test]
+fn a_collator_is_refused_for_want_of_memory_alone(rt: HostRuntime) -> Result<(), Fail> {
+    for base in [Base::Mini, Base::SwappedLeads] {
+        let Ok(mini) = base.tables(rt.alloc()) else {
+            return Ok(());
+        };
+        let collator = Collator::try_new_unstable(
+            rt.alloc(),
+            &mini.provider(),
+            CollatorPreferences::default(),
+            CollatorOptions::default(),
         );
+        let refusal = collator.err();
+        assert!(rt; is_of_memory(refusal), "{base:?}: {refusal:?}");
     }
     Ok(())
 }
