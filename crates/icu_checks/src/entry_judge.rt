@@ -154,25 +154,6 @@ impl<'d> Judge for EntryJudge<'d> {
 
     #[tactic(auto, unfolding(crate::specs::EntryFaults::entry_fault))]
     fn fault(&self, home: CollationData<'_>, c: char, entry: CollationElement32) -> Option<Fault> {
-        if entry.is_implicit() && self.implicit_passes {
-            return None;
-        }
-        self.fault_of_any(home, c, entry)
-    }
-}
-
-impl<'d> EntryJudge<'d> {
-    // apart, so that the walk passes over entries for implicit weights in a few steps
-    #[inline(never)]
-    #[tactic(auto, unfolding(crate::specs::EntryFaults::entry_fault))]
-    fn fault_of_any(
-        &self,
-        home: CollationData<'_>,
-        c: char,
-        entry: CollationElement32,
-    ) -> Option<Fault>
-        ensures { result ≡ entry_fault (tables_in self.now.tables) self.now.table (data_of home.entry) c entry }
-    {
         let own = match home.first_failing(c, entry) {
             Some(condition) => Some(Fault {
                 condition: Condition::Entry(condition),
@@ -187,5 +168,9 @@ impl<'d> EntryJudge<'d> {
             None
         };
         earlier(found, of_elements)
+    }
+
+    fn passes_implicit(&self) -> bool {
+        self.implicit_passes
     }
 }

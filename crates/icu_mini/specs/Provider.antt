@@ -1,6 +1,5 @@
 -- What the tables of Mini, or of a variant, lend as a provider: to each request the same.
-use Rattle.std.specs.Prelude.{◌≡◌, ◌↔◌, Option, Some, None, IsOk, IfOk, IfErr, IfSome, Result}
-use Rattle.std.specs.Option.{option_map}
+use Rattle.std.specs.Prelude.{◌≡◌, ◌↔◌, Option, Some, None, IsOk, IfOk, IfErr, Result}
 use Rattle.icu_provider.specs.declared.error.DataError.{DataError}
 use Rattle.icu_provider.specs.declared.error.DataErrorKind.{DataErrorKind}
 use Rattle.icu_provider.specs.declared.error.DataErrorKind.TheVariants as kinds
@@ -12,8 +11,6 @@ use Rattle.icu_provider.specs.SpecialPrimaries.{IsSpecialPrimaries, FailsSpecial
 use Rattle.icu_provider.specs.Stored.{accents_of, data_of, jamo_of, reordering_of, special_of}
 use Rattle.icu_mini.specs.declared.mini.Mini.{Mini}
 use Rattle.icu_mini.specs.declared.provider.MiniProvider.{MiniProvider}
-use Rattle.icu_mini.specs.declared.table_data.TableData.{TableData}
-use Rattle.icu_mini.specs.declared.reordering_data.ReorderingData.{ReorderingData}
 use Rattle.icu_mini.specs.Mini.{special_held}
 use Rattle.icu_mini.specs.ReorderingData.{reordering_held, HasAllLeads}
 use Rattle.icu_mini.specs.TableData.{data_held, IsAccepted, FailsTable}

@@ -110,6 +110,15 @@ module _ {F : Type 0} (rank : F → ℕ) where
   earlier-none (Some a) None h = cc
   earlier-none (Some a) (Some b) h = absurd (some_if (nat_lt (rank b) (rank a)) b a h)
 
+  earlier-same : (a : Option F) → earlier rank a None ≡ a
+  unfolding earlier
+  earlier-same None = refl
+  earlier-same (Some a) = refl
+
+  -- where there is no fault, what was judged stays
+  pub judges_nothing : {J : Type 0} (fault : J → Data → ℕ → ℕ → Option F) (s : J × Option F) (home : Data) (c e : ℕ) → fault s.0 home c e ≡ None → judged rank fault s home c e ≡ s
+  judges_nothing fault s home c e none = ap (λ f. (s.0, earlier rank s.1 f)) none ∙ ap (λ a. (s.0, a)) (earlier-same s.1)
+
   earlier-nothing : (a b : Option F) → a ≡ None → b ≡ None → earlier rank a b ≡ None
   unfolding earlier
   earlier-nothing None b p q = q

@@ -95,6 +95,6 @@ implicit_passes home c e is = meets_passes home c e (implicit_meets home c e is)
 
 -- where no implicit weight is collected, nothing is of an entry for one
 pub collects_nothing : {W : Type 0} (weight : W → Element → Option ℕ) (w : W) (ws : List ℕ) (home : Data) (c e : ℕ) → kind_of e ≡ Implicit → weight w (of_primary (implicit_weight c)) ≡ None
-    → (w, ws) ≡ collected_at weight (w, ws) home c e
+    → collected_at weight (w, ws) home c e ≡ (w, ws)
 unfolding given_elements final_elements
 collects_nothing weight w ws home c e is none = rw (meets_readable home c e (implicit_meets home c e is), is, final_elements, none) refl

@@ -94,7 +94,11 @@ on_ok A B f (Ok x) h = f h
 on_ok A B f (Err e) h = tt
 
 -- so one visit is the walk over what is live with its character
+pub implicit_walk : {S : Type 0} (after : S → Data → ℕ → ℕ → S) (v w : S) (falls_back : Bool) (home : Data) (c e : ℕ) → e ≡ home.value c → kind_of e ≡ Implicit
+    → w ≡ after v home c e → w ≡ after_all after v home c (live_at falls_back home c)
+implicit_walk after v w falls_back home c e at is h =
+    subst (λ es. w ≡ after_all after v home c es) (sym (implicit_alone falls_back home c (subst (λ e. kind_of e ≡ Implicit) at is))) (subst (λ e. w ≡ after v home c e) at h)
+
 pub implicit_visit : {S X E : Type 0} (after : S → Data → ℕ → ℕ → S) (v w : S) (falls_back : Bool) (home : Data) (c e : ℕ) → e ≡ home.value c → kind_of e ≡ Implicit → (r : Result X E)
     → OnOk r (w ≡ after v home c e) → OnOk r (w ≡ after_all after v home c (live_at falls_back home c))
-implicit_visit after v w falls_back home c e at is =
-    on_ok _ _ (λ h. subst (λ es. w ≡ after_all after v home c es) (sym (implicit_alone falls_back home c (subst (λ e. kind_of e ≡ Implicit) at is))) (subst (λ e. w ≡ after v home c e) at h))
+implicit_visit after v w falls_back home c e at is = on_ok _ _ (implicit_walk after v w falls_back home c e at is)

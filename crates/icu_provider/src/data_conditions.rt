@@ -123,20 +123,8 @@ impl<'d> CollationData<'d> {
     }
 
     /// The first condition that a live entry fails with a character.
-    pub fn first_failing(self, c: char, entry: CollationElement32) -> Option<LiveCondition>
-        ensures { result ≡ first_failing (data_of self.entry) c entry }
-    {
-        if entry.is_implicit() {
-            None
-        } else {
-            self.first_failing_of_any(c, entry)
-        }
-    }
-
-    // apart, so that the walk passes over entries for implicit weights in a few steps
-    #[inline(never)]
     #[tactic(auto, unfolding(crate::specs::LiveConditions::first_failing))]
-    fn first_failing_of_any(self, c: char, entry: CollationElement32) -> Option<LiveCondition>
+    pub fn first_failing(self, c: char, entry: CollationElement32) -> Option<LiveCondition>
         ensures { result ≡ first_failing (data_of self.entry) c entry }
     {
         if !self.is_inside(entry) {

@@ -1,13 +1,14 @@
 //! The first fault of the entries that are live in a root or a tailoring, by a judge of each.
-ghost use Rattle.std.specs.Prelude.{◌≡◌, ◌↔◌, ◌⊎◌, ℕ, Option, IfSome, None, Some};
+ghost use Rattle.std.specs.Prelude.{◌≡◌, ◌↔◌, ◌⊎◌, ℕ, true, Option, IfSome, None, Some};
 ghost use Rattle.std.specs.List.{AllByRecursion};
+ghost use Rattle.icu_provider.specs.Entries.{kind_of};
 ghost use Rattle.icu_provider.specs.Tables.{Data};
 ghost use Rattle.icu_provider.specs.Live.{live_from, live_at, EachLive};
 ghost use Rattle.icu_provider.specs.Stored.{data_of};
 ghost use Rattle.icu_provider.specs.Faults.{earlier, judged, ComesFirst, IsFaultAmong, IsLiveFault};
 
 use crate::data::CollationData;
-use crate::entry::CollationElement32;
+use crate::entry::{CollationElement32, EntryKind};
 use crate::walk::{Visit, visit_chars, visit_from};
 use std::convert::Infallible;
 
@@ -37,6 +38,14 @@ pub trait Judge {
         entry: CollationElement32,
     ) -> Option<Self::Fault>
         ensures { result ≡ fault self.now (data_of home.entry) c entry };
+
+    /// Whether no entry for an implicit weight (UTS #10, section 10.1) has a fault, so that a walk may pass over the million
+    /// characters that have one. `false` leaves that open.
+    fn passes_implicit(&self) -> bool
+        ensures { result ≡ true → (home : Data) (c e : ℕ) → kind_of e ≡ EntryKind.Implicit → fault self.now home c e ≡ None }
+    {
+        false
+    }
 }
 
 /// The fault with the lesser rank; of two with one rank, the best so far.
@@ -81,6 +90,10 @@ impl<'j, J: Judge> Visit for FirstFault<'j, J> {
     ) -> Result<(), Infallible> {
         self.first = earlier(self.first, self.judge.fault(home, c, entry));
         Ok(())
+    }
+
+    fn passes_implicit(&self) -> bool {
+        self.judge.passes_implicit()
     }
 }
 

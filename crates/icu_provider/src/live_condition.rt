@@ -88,4 +88,9 @@ impl Judge for EntryJudge {
     ) -> Option<LiveCondition> {
         home.first_failing(c, entry)
     }
+
+    #[tactic(auto, using(crate::proofs::ImplicitLemmas::implicit_passes))]
+    fn passes_implicit(&self) -> bool {
+        true
+    }
 }

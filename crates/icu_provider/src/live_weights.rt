@@ -107,14 +107,15 @@ impl<'w, W: Weigh> Visit for Collector<'w, W> {
         c: char,
         entry: CollationElement32,
     ) -> Result<(), AllocError> {
-        if entry.is_implicit() && self.weigh.skips_implicit() {
-            return Ok(());
-        }
         if home.is_readable(c, entry) {
             visit_elements(self, home, c, entry)
         } else {
             Ok(())
         }
+    }
+
+    fn passes_implicit(&self) -> bool {
+        self.weigh.skips_implicit()
     }
 }
 

@@ -1,5 +1,6 @@
 //! A walk over the entries that are live with characters: one for all that is asked of them.
-ghost use Rattle.std.specs.Prelude.{◌≡◌, ℕ, ◌<◌, OnOk};
+ghost use Rattle.std.specs.Prelude.{◌≡◌, ℕ, ◌<◌, true, OnOk};
+ghost use Rattle.icu_provider.specs.Entries.{kind_of};
 ghost use Rattle.icu_provider.specs.Tables.{Data};
 ghost use Rattle.icu_provider.specs.Live.{live_digit, live_contraction, live_from, live_at};
 ghost use Rattle.icu_provider.specs.Stored.{data_of, found_context};
@@ -31,6 +32,14 @@ pub trait Visit {
         entry: CollationElement32,
     ) -> Result<(), Self::Refusal>
         ensures { OnOk result (seen self.new ≡ after (seen self.old) (data_of home.entry) c entry) };
+
+    /// Whether a visit of an entry for an implicit weight (UTS #10, section 10.1) changes nothing, so that a walk may pass over the
+    /// million characters that have one. `false` leaves that open.
+    fn passes_implicit(&self) -> bool
+        ensures { result ≡ true → (home : Data) (c e : ℕ) → kind_of e ≡ EntryKind.Implicit → after (seen self.now) home c e ≡ seen self.now }
+    {
+        false
+    }
 }
 
 #[tactic(auto, unfolding(crate::specs::Live::live_digit))]
@@ -131,6 +140,9 @@ fn visit_char<V: Visit>(
     let entry = home.ce32_for_char(c);
     // nearly all entries of a root, which lead to nothing else
     if entry.is_implicit() {
+        if visitor.passes_implicit() {
+            return Ok(());
+        }
         return visitor.visit(home, c, entry);
     }
     if falls_back && entry.is_fallback() {
