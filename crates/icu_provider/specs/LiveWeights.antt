@@ -1,18 +1,24 @@
--- The weights of the elements of live entries, as they are collected.
-use Rattle.std.specs.Prelude.{ℕ, ◌-◌, ◌≡◌, Bool, false, ◌==◌, List, [], ◌∷◌, ◌++◌, length, slice_get, fold, Option, Some, None, IsTrue, if◌then◌else◌}
+-- The weights of the elements of live entries, as they are collected. Those of implicit weights (UTS #10, section 10.1) aren't: they
+-- follow from the character, and there are a million of them.
+use Rattle.std.specs.Prelude.{ℕ, ◌-◌, ◌≡◌, Bool, true, false, ◌&&◌, ◌==◌, List, [], ◌∷◌, ◌++◌, length, slice_get, fold, Option, Some, None, IsTrue, if◌then◌else◌}
 use Rattle.std.specs.Char.{IsScalar}
 use Rattle.std.specs.List.{Contains}
 use Rattle.icu_provider.specs.Elements.{Element}
+use Rattle.icu_provider.specs.Entries.{Implicit, kind_of}
 use Rattle.icu_provider.specs.Tables.{Data, homed}
 use Rattle.icu_provider.specs.Final.{final_elements}
 use Rattle.icu_provider.specs.EntryConditions.{is_readable}
 use Rattle.icu_provider.specs.Live.{live_at}
 
--- a weight that is collected of an element of one of these entries with this character; an entry that can't be read has none
+-- the table states the elements of the entry: they can be read, and aren't for an implicit weight
+unfoldable pub is_stated : Data → ℕ → ℕ → Bool
+is_stated home c e = (elim (kind_of e) [ Implicit ↦ false | _ ↦ true ]) && is_readable home c e
+
+-- a weight that is collected of an element of one of these entries with this character; of an entry that states none, none is
 pub record IsWeightAmong (weight : Element → Option ℕ) (home : Data) (c : ℕ) (es : List ℕ) (w : ℕ) : Type 0 where
   pub e : ℕ
   pub live : Contains es e
-  pub readable : IsTrue (is_readable home c e)
+  pub stated : IsTrue (is_stated home c e)
   pub x : Element
   pub given : Contains (final_elements (homed home e) c) x
   pub weighs : weight x ≡ Some w
@@ -40,7 +46,7 @@ abbrev pub collected : {W : Type 0} → (W → Element → Option ℕ) → W × 
 collected weight s x = (s.0, with_found s.1 (weight s.0 x))
 
 unfoldable pub given_elements : Data → ℕ → ℕ → List Element
-given_elements home c e = if is_readable home c e then final_elements (homed home e) c else []
+given_elements home c e = if is_stated home c e then final_elements (homed home e) c else []
 
 abbrev pub collected_at : {W : Type 0} → (W → Element → Option ℕ) → W × List ℕ → Data → ℕ → ℕ → W × List ℕ
 collected_at weight s home c e = fold (collected weight) s (given_elements home c e)
