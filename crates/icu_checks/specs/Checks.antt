@@ -11,6 +11,6 @@ LeadsMeet all = (condition : LeadCondition) → LeadMeets condition all
 -- tertiary weights alone are high, and no weight of a level begins another
 pub record PairsMeet (all : CollatorTables) : Type 0 where
   pub lones : LonesAreHigh all.tables
-  pub secondaries : LevelIsFree Secondary all.tables
-  pub tertiaries : LevelIsFree Tertiary all.tables
+  pub secondaries : LevelIsFree Secondary all
+  pub tertiaries : LevelIsFree Tertiary all
   pub primaries : PrimariesAreFree all

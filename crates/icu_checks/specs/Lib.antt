@@ -12,6 +12,7 @@ pub mod Weights
 pub mod PairFaults
 pub mod Checks
 pub mod Overlaps
+pub mod Levels
 pub mod Leads
 pub mod Alike
 pub mod Kept

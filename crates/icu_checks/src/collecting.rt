@@ -5,7 +5,7 @@ ghost use Rattle.icu_checks.specs.TableSets.{tables_in};
 ghost use Rattle.icu_checks.specs.Weights.{Adds, IsWeightBy, IsJamoWeight, IsAccentWeight};
 
 use crate::table_set::{TableSet, jamo_char};
-use crate::weights::Level;
+use crate::weights::WeightList;
 use icu_provider::diacritics::is_replaced_place;
 use icu_provider::live_weights::{Weigh, collect_weights, collect_weights_from};
 use icu_provider::{CollationElement, CollationElement32, DataTable};
@@ -13,23 +13,23 @@ use std::alloc::AllocError;
 
 fn collect_root(
     tables: TableSet<'_>,
-    level: Level,
+    list: WeightList,
     weights: &mut Vec<u32>,
 ) -> Result<(), AllocError>
-    ensures { OnOk result (Adds (IsWeightBy level DataTable.Root (tables_in tables.entry).tables) weights.old.items weights.new.items) }
+    ensures { OnOk result (Adds (IsWeightBy list DataTable.Root (tables_in tables.entry).tables) weights.old.items weights.new.items) }
 {
-    collect_weights(weights, &level, tables.root, false)
+    collect_weights(weights, &list, tables.root, false)
 }
 
 fn collect_tailoring(
     tables: TableSet<'_>,
-    level: Level,
+    list: WeightList,
     weights: &mut Vec<u32>,
 ) -> Result<(), AllocError>
-    ensures { OnOk result (Adds (IsWeightBy level DataTable.Tailoring (tables_in tables.entry).tables) weights.old.items weights.new.items) }
+    ensures { OnOk result (Adds (IsWeightBy list DataTable.Tailoring (tables_in tables.entry).tables) weights.old.items weights.new.items) }
 {
     match tables.tailoring {
-        Some(tailoring) => collect_weights(weights, &level, tailoring, true),
+        Some(tailoring) => collect_weights(weights, &list, tailoring, true),
         None => Ok(()),
     }
 }
@@ -37,32 +37,32 @@ fn collect_tailoring(
 /// The weights of what is live with one of the conjoining jamo.
 fn collect_of_jamo(
     tables: TableSet<'_>,
-    level: Level,
+    list: WeightList,
     place: usize,
     entry: CollationElement32,
     weights: &mut Vec<u32>,
 ) -> Result<(), AllocError>
     requires inside { place < 256 }
     requires entry { entry ≡ slice_index (jamo_of tables.jamo) place }
-    ensures { OnOk result (Adds (IsJamoWeight level (tables_in tables.entry) place) weights.old.items weights.new.items) }
+    ensures { OnOk result (Adds (IsJamoWeight list (tables_in tables.entry) place) weights.old.items weights.new.items) }
 {
     match jamo_char(place) {
-        Some(c) => collect_weights_from(weights, &level, tables.root, c, entry),
+        Some(c) => collect_weights_from(weights, &list, tables.root, c, entry),
         None => Ok(()),
     }
 }
 
 fn collect_jamo(
     tables: TableSet<'_>,
-    level: Level,
+    list: WeightList,
     weights: &mut Vec<u32>,
 ) -> Result<(), AllocError>
-    ensures { OnOk result (Adds (IsWeightBy level DataTable.Jamo (tables_in tables.entry).tables) weights.old.items weights.new.items) }
+    ensures { OnOk result (Adds (IsWeightBy list DataTable.Jamo (tables_in tables.entry).tables) weights.old.items weights.new.items) }
 {
     for (place, entry) in tables.jamo.ce32s().iter().enumerate() {
         collect_of_jamo(
             tables,
-            level,
+            list,
             place,
             CollationElement32::new(*entry),
             weights,
@@ -74,18 +74,18 @@ fn collect_jamo(
 /// The weight of a diacritic.
 fn collect_accent(
     tables: TableSet<'_>,
-    level: Level,
+    list: WeightList,
     place: usize,
     secondary: u16,
     weights: &mut Vec<u32>,
 ) -> Result<(), AllocError>
     requires secondary { secondary ≡ slice_index (accents_of tables.diacritics) place }
-    ensures { OnOk result (Adds (IsAccentWeight level (tables_in tables.entry) place) weights.old.items weights.new.items) }
+    ensures { OnOk result (Adds (IsAccentWeight list (tables_in tables.entry) place) weights.old.items weights.new.items) }
 {
     if is_replaced_place(place) {
         return Ok(());
     }
-    if let Some(weight) = level.weight(CollationElement::new_from_secondary(secondary)) {
+    if let Some(weight) = list.weight(CollationElement::new_from_secondary(secondary)) {
         weights.push(weight)?;
     }
     Ok(())
@@ -93,13 +93,13 @@ fn collect_accent(
 
 fn collect_accents(
     tables: TableSet<'_>,
-    level: Level,
+    list: WeightList,
     weights: &mut Vec<u32>,
 ) -> Result<(), AllocError>
-    ensures { OnOk result (Adds (IsWeightBy level DataTable.Diacritics (tables_in tables.entry).tables) weights.old.items weights.new.items) }
+    ensures { OnOk result (Adds (IsWeightBy list DataTable.Diacritics (tables_in tables.entry).tables) weights.old.items weights.new.items) }
 {
     for (place, secondary) in tables.diacritics.secondaries().iter().enumerate() {
-        collect_accent(tables, level, place, *secondary, weights)?;
+        collect_accent(tables, list, place, *secondary, weights)?;
     }
     Ok(())
 }
@@ -107,17 +107,17 @@ fn collect_accents(
 /// Adds the weights of what is live by a table.
 pub(crate) fn collect(
     tables: TableSet<'_>,
-    level: Level,
+    list: WeightList,
     table: DataTable,
     weights: &mut Vec<u32>,
 ) -> Result<(), AllocError>
-    ensures { OnOk result (Adds (IsWeightBy level table (tables_in tables.entry).tables) weights.old.items weights.new.items) }
+    ensures { OnOk result (Adds (IsWeightBy list table (tables_in tables.entry).tables) weights.old.items weights.new.items) }
 {
     match table {
-        DataTable::Root => collect_root(tables, level, weights),
-        DataTable::Jamo => collect_jamo(tables, level, weights),
-        DataTable::Tailoring => collect_tailoring(tables, level, weights),
-        DataTable::Diacritics => collect_accents(tables, level, weights),
+        DataTable::Root => collect_root(tables, list, weights),
+        DataTable::Jamo => collect_jamo(tables, list, weights),
+        DataTable::Tailoring => collect_tailoring(tables, list, weights),
+        DataTable::Diacritics => collect_accents(tables, list, weights),
         DataTable::SpecialPrimaries | DataTable::Metadata | DataTable::Reordering => Ok(()),
     }
 }

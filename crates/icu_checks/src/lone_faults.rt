@@ -3,14 +3,14 @@ ghost use Rattle.std.specs.Prelude.{◌≡◌, ◌⊎◌, ◌<◌, ℕ, None, So
 ghost use Rattle.icu_checks.specs.TableSets.{tables_in};
 ghost use Rattle.icu_checks.specs.Faults.{IsTrueFault};
 ghost use Rattle.icu_checks.specs.Weights.{IsWeightBy};
-ghost use Rattle.icu_checks.specs.PairFaults.{IsFound, AtMost, AtLeast, IsExtreme, LonesAreHigh, LonesBreak, IsOutcome};
+ghost use Rattle.icu_checks.specs.PairFaults.{IsFound, AtMost, AtLeast, IsExtreme, LonesAreHigh, IsOutcome};
 
 use crate::collecting::collect;
 use crate::condition::{Condition, PairCondition};
 use crate::fault::{Fault, later};
 use crate::table_set::TableSet;
 use crate::weight_list::{greatest, least};
-use crate::weights::Level;
+use crate::weights::WeightList;
 use icu_provider::DataTable;
 use std::alloc::{AllocError, Global};
 
@@ -66,11 +66,11 @@ fn least_lone(
     table: DataTable,
     best: Option<Found>,
 ) -> Result<Option<Found>, AllocError>
-    requires { IfSome best (IsFound Level.Lone (tables_in tables).tables) }
-    ensures { IfOk result (IsExtreme AtMost Level.Lone table (tables_in tables.entry).tables best) }
+    requires { IfSome best (IsFound WeightList.TertiaryElements (tables_in tables).tables) }
+    ensures { IfOk result (IsExtreme AtMost WeightList.TertiaryElements table (tables_in tables.entry).tables best) }
 {
     let mut weights = Vec::new(alloc);
-    collect(tables, Level::Lone, table, &mut weights)?;
+    collect(tables, WeightList::TertiaryElements, table, &mut weights)?;
     Ok(lesser(best, least(&weights), table))
 }
 
@@ -81,19 +81,18 @@ fn greatest_beside(
     table: DataTable,
     best: Option<Found>,
 ) -> Result<Option<Found>, AllocError>
-    requires { IfSome best (IsFound Level.Beside (tables_in tables).tables) }
-    ensures { IfOk result (IsExtreme AtLeast Level.Beside table (tables_in tables.entry).tables best) }
+    requires { IfSome best (IsFound WeightList.WithSecondary (tables_in tables).tables) }
+    ensures { IfOk result (IsExtreme AtLeast WeightList.WithSecondary table (tables_in tables.entry).tables best) }
 {
     let mut weights = Vec::new(alloc);
-    collect(tables, Level::Beside, table, &mut weights)?;
+    collect(tables, WeightList::WithSecondary, table, &mut weights)?;
     Ok(greater(best, greatest(&weights), table))
 }
 
 /// The fault of a least weight alone that isn't greater than the greatest one beside a secondary weight.
 fn fault_between(tables: TableSet<'_>, lone: Option<Found>, beside: Option<Found>) -> Option<Fault>
-    requires breaks { LonesBreak (tables_in tables) }
-    requires lone { IfSome lone (IsFound Level.Lone (tables_in tables).tables) }
-    requires beside { IfSome beside (IsFound Level.Beside (tables_in tables).tables) }
+    requires lone { IfSome lone (IsFound WeightList.TertiaryElements (tables_in tables).tables) }
+    requires beside { IfSome beside (IsFound WeightList.WithSecondary (tables_in tables).tables) }
     ensures none { result ≡ None → (x y : ℕ) → AtMost lone x → AtLeast beside y → y < x }
     ensures some { IfSome result (IsTrueFault (tables_in tables.entry)) }
 {
@@ -114,7 +113,6 @@ fn fault_between(tables: TableSet<'_>, lone: Option<Found>, beside: Option<Found
 
 /// The first fault of tertiary weights alone. It is looked for table by table, so that the earliest ones are named.
 pub(crate) fn lone_fault(alloc: Global, tables: TableSet<'_>) -> Result<Option<Fault>, AllocError>
-    requires { LonesBreak (tables_in tables) }
     ensures { IfOk result (IsOutcome (tables_in tables.entry) (LonesAreHigh (tables_in tables.entry).tables)) }
 {
     let lone = least_lone(alloc, tables, DataTable::Root, None)?;

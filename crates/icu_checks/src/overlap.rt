@@ -4,16 +4,18 @@
 //! first from the rest of the second, so on each level no weight may begin another (UTS #10, "Large Weight Values"). A weight that
 //! begins another begins its neighbour in ascending order too, so neighbours are all that is looked at.
 
-ghost use Rattle.std.specs.Prelude.{ℕ, ◌≡◌, ◌*◌, ◌+◌, ◌^◌, ◌<◌, ◌≢◌, ◌↔◌, true, false, length, map, slice_index, Contains, IfSome, IsNone, IsPermutation, IsTrue};
-ghost use Rattle.std.specs.List.Sorted.{IsNonDecreasing, IsStrictlyIncreasing};
+ghost use Rattle.std.specs.Prelude.{ℕ, ◌≡◌, ◌*◌, ◌+◌, ◌^◌, ◌<◌, ◌≢◌, ◌↔◌, Option, length, option_map, slice_index, Contains, IfOk, IfSome, IsNone, IsPermutation, IsTrue, OnOk};
+ghost use Rattle.std.specs.List.Sorted.{IsNonDecreasingBy, IsStrictlyIncreasing};
 ghost use Rattle.icu_levels.specs.ListOrder.{IsBeginning};
 ghost use Rattle.icu_levels.specs.WeightBytes.{weight_bytes};
 ghost use Rattle.icu_levels.specs.Premises.{IsPrefixFree};
-ghost use Rattle.icu_provider.specs.Reorderings.{reordered};
 ghost use Rattle.icu_provider.specs.Stored.{reordering_of};
-ghost use Rattle.icu_checks.specs.Overlaps.{reordered_bytes, NeighbourBegins, Overlaps, HasOverlap};
+ghost use Rattle.icu_checks.specs.CollatorTables.{reorder_by};
+ghost use Rattle.icu_checks.specs.Overlaps.{AreOverlapping, written_bytes, NeighbourBegins, Overlaps};
 
+use crate::table_set::{lead_byte, reorder_by};
 use icu_provider::CollationReordering;
+use std::alloc::AllocError;
 
 /// Two weights of which the first is written as a beginning of the second.
 #[derive(Debug, Clone, Copy, PartialEq)]
@@ -44,76 +46,91 @@ pub fn is_beginning(v: u32, w: u32) -> bool
     }
 }
 
-/// The first place whose weight begins the next one.
-fn overlapping_place(weights: &[u32]) -> Option<usize>
-    requires { IsNonDecreasing weights.now }
-    ensures none { IsNone result → (i j : ℕ) → i < length weights.now → j < length weights.now → i ≢ j → ¬ (IsBeginning (weight_bytes 4 (slice_index weights.now i)) (weight_bytes 4 (slice_index weights.now j))) }
+/// Whether one of two weights is written as a beginning of the other.
+pub fn are_overlapping(v: u32, w: u32) -> bool
+    ensures { IsTrue result ↔ AreOverlapping v w }
+{
+    is_beginning(v, w) || is_beginning(w, v)
+}
+
+/// Puts weights in the order of what a reordering makes of them.
+fn sort_reordered(
+    weights: &mut Vec<u32>,
+    reordering: Option<CollationReordering<'_>>,
+) -> Result<(), AllocError>
+    ensures permutation { IsPermutation weights.old.items weights.new.items }
+    ensures ascending { OnOk result (IsNonDecreasingBy (reorder_by (option_map reordering_of reordering.entry)) weights.new.items) }
+{
+    weights.sort_by_key(|weight| reorder_by(reordering, *weight))
+}
+
+/// The first index whose weight begins the next one, once they are reordered.
+fn overlapping_index(
+    weights: &[u32],
+    reordering: Option<CollationReordering<'_>>,
+) -> Option<usize>
+    requires { IsNonDecreasingBy (reorder_by (option_map reordering_of reordering)) weights.now }
+    ensures none { IsNone result → (i j : ℕ) → i < length weights.now → j < length weights.now → i ≢ j → ¬ (IsBeginning (written_bytes (option_map reordering_of reordering.entry) (slice_index weights.now i)) (written_bytes (option_map reordering_of reordering.entry) (slice_index weights.now j))) }
     ensures within { IfSome result (λ k. k + 1 < length weights.now) }
-    ensures begins { IfSome result (NeighbourBegins (weight_bytes 4) weights.now) }
+    ensures begins { IfSome result (NeighbourBegins (written_bytes (option_map reordering_of reordering.entry)) weights.now) }
 {
     for next in 1..weights.len() {
-        if is_beginning(weights[next - 1], weights[next]) {
+        let first = reorder_by(reordering, weights[next - 1]);
+        let second = reorder_by(reordering, weights[next]);
+        if is_beginning(first, second) {
             return Some(next - 1);
         }
     }
     None
 }
 
-/// The first neighbours of a strictly ascending list that overlap: `None` exactly if no weight of it begins another.
-pub fn first_overlap(ascending: &[u32]) -> Option<Overlap>
-    requires { IsStrictlyIncreasing ascending.now }
-    ensures free { IsNone result ↔ IsPrefixFree (weight_bytes 4) (Contains ascending.now) }
-    ensures overlaps { IfSome result (λ o. Overlaps (weight_bytes 4) ascending.now o.first o.second) }
-{
-    let place = overlapping_place(ascending)?;
-    Some(Overlap {
-        first: ascending[place],
-        second: ascending[place + 1],
-    })
-}
-
-/// Puts for each weight the one that a reordering gives, and sorts these.
-fn reorder_and_sort(weights: &mut Vec<u32>, reordering: CollationReordering<'_>)
-    ensures reordered { IsPermutation (map (reordered (reordering_of reordering.entry)) weights.old.items) weights.new.items }
-    ensures ascending { IsNonDecreasing weights.new.items }
-{
-    for weight in weights.iter_mut() {
-        *weight = reordering.reorder(*weight);
-    }
-    weights.sort_unstable();
-}
-
-/// Whether of some two weights of a strictly ascending list one begins the other once they are reordered; two that become one weight
-/// do so as well. The list is overwritten.
-pub fn overlap_after(weights: &mut Vec<u32>, reordering: CollationReordering<'_>) -> bool
+/// Two weights of which one begins the other once they are reordered: `None` exactly if no weight of the list does. Weights that
+/// become one do so as well. The weights are put in another order.
+pub fn first_overlap(
+    weights: &mut Vec<u32>,
+    reordering: Option<CollationReordering<'_>>,
+) -> Result<Option<Overlap>, AllocError>
     requires { IsStrictlyIncreasing weights.old.items }
-    ensures free { result ≡ false → IsPrefixFree (reordered_bytes (reordering_of reordering.entry)) (Contains weights.old.items) }
-    ensures overlaps { result ≡ true → HasOverlap (reordered_bytes (reordering_of reordering.entry)) weights.old.items }
+    ensures free { IfOk result (λ found. IsNone found → IsPrefixFree (written_bytes (option_map reordering_of reordering.entry)) (Contains weights.old.items)) }
+    ensures overlaps { IfOk result (λ found. IfSome found (λ o. Overlaps (written_bytes (option_map reordering_of reordering.entry)) weights.old.items o.first o.second)) }
 {
-    reorder_and_sort(weights, reordering);
-    overlapping_place(weights.as_slice()).is_some()
+    sort_reordered(weights, reordering)?;
+    let index = overlapping_index(weights.as_slice(), reordering);
+    Ok(index.map(|index| Overlap {
+        first: weights[index],
+        second: weights[index + 1],
+    }))
 }
 
-/// The first neighbours of a strictly ascending list of which one begins the other, before they are reordered and after it. Where
-/// there are none, weights that are no neighbours may still do so.
-pub fn first_common_overlap(
-    ascending: &[u32],
-    reordering: CollationReordering<'_>,
+/// Neighbours of a list of which one begins the other, both before they are reordered and after it.
+fn overlapping_neighbours(
+    weights: &[u32],
+    reordering: Option<CollationReordering<'_>>,
 ) -> Option<Overlap>
-    requires { IsStrictlyIncreasing ascending.now }
-    ensures before { IfSome result (λ o. Overlaps (weight_bytes 4) ascending.now o.first o.second) }
-    ensures after { IfSome result (λ o. Overlaps (reordered_bytes (reordering_of reordering.entry)) ascending.now o.first o.second) }
-    ensures none { IsNone result → (k : ℕ) → k + 1 < length ascending.now → NeighbourBegins (weight_bytes 4) ascending.now k → NeighbourBegins (reordered_bytes (reordering_of reordering.entry)) ascending.now k → ⊥ }
+    ensures { IfSome result (λ o. Overlaps (written_bytes (option_map reordering_of reordering.entry)) weights.now o.first o.second) }
 {
-    for next in 1..ascending.len() {
-        let (first, second) = (ascending[next - 1], ascending[next]);
-        if is_beginning(first, second)
-            && is_beginning(reordering.reorder(first), reordering.reorder(second))
-        {
+    for next in 1..weights.len() {
+        let (first, second) = (weights[next - 1], weights[next]);
+        let begins = is_beginning(reorder_by(reordering, first), reorder_by(reordering, second));
+        if begins && first != second && is_beginning(first, second) {
             return Some(Overlap { first, second });
         }
     }
     None
+}
+
+/// Two weights of which one begins the other, both before they are reordered and after it. The weights are put in another order: such
+/// weights share their lead bytes before and after, and among those that do, neighbours suffice.
+pub fn first_common_overlap(
+    weights: &mut Vec<u32>,
+    reordering: Option<CollationReordering<'_>>,
+) -> Result<Option<Overlap>, AllocError>
+    ensures members { (w : ℕ) → Contains weights.new.items w ↔ Contains weights.old.items w }
+    ensures overlaps { IfOk result (λ found. IfSome found (λ o. Overlaps (written_bytes (option_map reordering_of reordering.entry)) weights.old.items o.first o.second)) }
+{
+    sort_reordered(weights, reordering)?;
+    weights.sort_by_key(|weight| lead_byte(*weight))?;
+    Ok(overlapping_neighbours(weights.as_slice(), reordering))
 }
 
 #[cfg(test)]

@@ -1,6 +1,7 @@
-ghost use Rattle.std.specs.Prelude.{◌≡◌, ◌<◌, ◌+◌, Some};
+ghost use Rattle.std.specs.Prelude.{◌≡◌, ◌<◌, ◌+◌, Some, option_map};
 ghost use Rattle.icu_provider.specs.Reorderings.{lead_byte};
-ghost use Rattle.icu_checks.specs.CollatorTables.{is_forward, reorder, new_lead};
+ghost use Rattle.icu_provider.specs.Stored.{reordering_of};
+ghost use Rattle.icu_checks.specs.CollatorTables.{is_forward, reorder, reorder_by, new_lead};
 ghost use Rattle.icu_checks.specs.ElementConditions.{is_apart};
 
 use icu_provider::{
@@ -35,6 +36,16 @@ pub(crate) fn jamo_char(place: usize) -> Option<char>
     char::from_u32(0x1100 + place as u32)
 }
 
+/// A primary weight as it is compared: reordered, where there is a reordering.
+pub(crate) fn reorder_by(reordering: Option<CollationReordering<'_>>, primary: u32) -> u32
+    ensures { result ≡ reorder_by (option_map reordering_of reordering.entry) primary }
+{
+    match reordering {
+        Some(reordering) => reordering.reorder(primary),
+        None => primary,
+    }
+}
+
 impl<'d> TableSet<'d> {
     ghost use Rattle.icu_checks.specs.TableSets.{tables_in};
 
@@ -51,10 +62,7 @@ impl<'d> TableSet<'d> {
     pub(crate) fn reorder(self, primary: u32) -> u32
         ensures { result ≡ reorder (tables_in self.entry) primary }
     {
-        match self.reordering {
-            Some(reordering) => reordering.reorder(primary),
-            None => primary,
-        }
+        reorder_by(self.reordering, primary)
     }
 
     /// The lead byte that the least primary weight with this one is taken to.

@@ -1,25 +1,72 @@
 //! The weights of live elements, level by level, as they are compared with one another.
-ghost use Rattle.std.specs.Prelude.{◌≡◌};
-ghost use Rattle.icu_checks.specs.Weights.{left_aligned, plain_primary, uncommon};
+ghost use Rattle.std.specs.Prelude.{◌≡◌, option_map};
+ghost use Rattle.icu_provider.specs.Stored.{reordering_of};
+ghost use Rattle.icu_checks.specs.TableSets.{tables_in};
+ghost use Rattle.icu_checks.specs.Weights.{left_aligned, nonzero, uncommon};
+ghost use Rattle.icu_checks.specs.Levels.{list_of, overlap_condition, reordering_at};
 
-use crate::element_conditions::{IMPLICIT_LEAD, is_lone};
-use crate::table_set::lead_byte;
-use icu_provider::CollationElement;
+use crate::condition::PairCondition;
+use crate::element_conditions::is_lone;
+use crate::table_set::TableSet;
+use icu_provider::{CollationElement, CollationReordering};
 use icu_provider::live_weights::Weigh;
+
+/// A level of weights, none of which may begin another.
+#[derive(Debug, Clone, Copy, PartialEq, Eq)]
+pub enum Level {
+    Primary,
+    Secondary,
+    Tertiary,
+}
 
 /// Which weights are compared with one another.
 #[derive(Debug, Clone, Copy, PartialEq, Eq)]
-pub enum Level {
-    /// Primary weights, but for those with the lead byte of implicit weights.
-    Primary,
+pub enum WeightList {
+    /// Primary weights.
+    Primaries,
     /// Secondary weights, but for the common one, with two zero bytes after them.
-    Secondary,
+    Secondaries,
     /// Tertiary weights, but for the common one, with two zero bytes after them.
-    Tertiary,
+    Tertiaries,
     /// Tertiary weights of elements without a secondary weight.
-    Lone,
+    TertiaryElements,
     /// Tertiary weights of elements with a secondary weight, but for the common one.
-    Beside,
+    WithSecondary,
+}
+
+impl Level {
+    /// Its weights.
+    pub(crate) fn list(self) -> WeightList
+        ensures { result ≡ list_of self }
+    {
+        match self {
+            Level::Primary => WeightList::Primaries,
+            Level::Secondary => WeightList::Secondaries,
+            Level::Tertiary => WeightList::Tertiaries,
+        }
+    }
+
+    /// That none of its weights begins another.
+    pub(crate) fn condition(self) -> PairCondition
+        ensures { result ≡ overlap_condition self }
+    {
+        match self {
+            Level::Primary => PairCondition::Primaries,
+            Level::Secondary => PairCondition::Secondaries,
+            Level::Tertiary => PairCondition::Tertiaries,
+        }
+    }
+
+    /// The reordering by which its weights are compared.
+    #[tactic(auto, unfolding(crate::specs::TableSets::tables_in))]
+    pub(crate) fn reordering<'d>(self, tables: TableSet<'d>) -> Option<CollationReordering<'d>>
+        ensures { option_map reordering_of result ≡ reordering_at self (tables_in tables.entry) }
+    {
+        match self {
+            Level::Primary => tables.reordering,
+            Level::Secondary | Level::Tertiary => None,
+        }
+    }
 }
 
 /// A weight of two bytes with two zero bytes after it, if it is neither zero nor the common one.
@@ -33,11 +80,11 @@ fn left_aligned(weight: u16) -> Option<u32>
     }
 }
 
-/// A primary weight, if it is neither zero nor has the lead byte of implicit weights.
-fn plain_primary(primary: u32) -> Option<u32>
-    ensures { result ≡ plain_primary primary }
+/// A primary weight, if it isn't zero.
+fn nonzero(primary: u32) -> Option<u32>
+    ensures { result ≡ nonzero primary }
 {
-    if primary == 0 || lead_byte(primary) == IMPLICIT_LEAD {
+    if primary == 0 {
         None
     } else {
         Some(primary)
@@ -55,26 +102,26 @@ fn uncommon(tertiary: u16) -> Option<u32>
     }
 }
 
-impl Weigh for Level {
+impl Weigh for WeightList {
     ghost use Rattle.icu_checks.specs.Weights.{weight_at};
 
-    ghost weight = { λ level x. weight_at level x };
+    ghost weight = { λ list x. weight_at list x };
 
     #[tactic(auto, unfolding(crate::specs::Weights::weight_at))]
     fn weight(&self, element: CollationElement) -> Option<u32> {
         let tertiary = element.non_primary().tertiary();
         match self {
-            Level::Primary => plain_primary(element.primary()),
-            Level::Secondary => left_aligned(element.secondary()),
-            Level::Tertiary => left_aligned(tertiary),
-            Level::Lone => {
+            WeightList::Primaries => nonzero(element.primary()),
+            WeightList::Secondaries => left_aligned(element.secondary()),
+            WeightList::Tertiaries => left_aligned(tertiary),
+            WeightList::TertiaryElements => {
                 if is_lone(element) {
                     Some(u32::from(tertiary))
                 } else {
                     None
                 }
             }
-            Level::Beside => {
+            WeightList::WithSecondary => {
                 if element.secondary() == 0 {
                     None
                 } else {
@@ -82,10 +129,5 @@ impl Weigh for Level {
                 }
             }
         }
-    }
-
-    #[tactic(auto, using(crate::proofs::ImplicitLemmas::weighs_nothing))]
-    fn skips_implicit(&self) -> bool {
-        true
     }
 }

@@ -9,9 +9,9 @@ whole xs ys n same end inside = omega (arith, same, end, inside)
 
 pub loop-place-preserved : goal.loop-place-preserved
 loop-place-preserved c =
-    below_step (IsAccentWeight c.args.level (tables_in c.args.tables)) _ _ _ c.loop-place.place c.loop-place.invariant c.in_ok-collect_accent.ensures
+    below_step (IsAccentWeight c.args.list (tables_in c.args.tables)) _ _ _ c.loop-place.place c.loop-place.invariant c.in_ok-collect_accent.ensures
 
 pub returns : goal.returns
 returns c =
-    lent_accents c.args.tables c.args.level c.loop-place.place
+    lent_accents c.args.tables c.args.list c.loop-place.place
     (whole _ _ _ (ap length c.secondaries-secondary-items.ensures.value) c.loop-place-test.false c.loop-place.auto.place-end) _ _ c.loop-place.invariant

@@ -7,5 +7,5 @@ same_some a b h = cc
 
 pub returns-in-Some : goal.returns-in-Some
 returns-in-Some c =
-    lent_of_jamo c.args.tables c.args.level c.args.place c.args.entry c.in-Some.c c.requires.entry
+    lent_of_jamo c.args.tables c.args.list c.args.place c.args.entry c.in-Some.c c.requires.entry
     (same_some _ _ (sym c.in-Some.is ∙ c.jamo_char.ensures)) _ _ _ c.collect_weights_from.ensures
