@@ -1,15 +1,16 @@
 -- The weights of live elements that are compared with one another, and how they stand in four bytes.
 use Rattle.std.specs.Prelude.{ℕ, ◌≡◌, ◌↔◌, ◌⊎◌, ◌<◌, ◌+◌, ◌*◌, ◌^◌, false, ◌||◌, ◌==◌, List, slice_index, Option, Some, None, IsTrue, if◌then◌else◌}
 use Rattle.std.specs.List.{Contains}
-use Rattle.icu_provider.specs.declared.error.DataTable.{DataTable}
-use Rattle.icu_provider.specs.declared.error.DataTable.TheVariants.{Diacritics}
-use Rattle.icu_provider.specs.Accents.{is_replaced_place}
-use Rattle.icu_provider.specs.Elements.{Element, common, accent_element}
-use Rattle.icu_provider.specs.ElementConditions.{tertiary_of}
-use Rattle.icu_provider.specs.Final.{final_elements}
-use Rattle.icu_provider.specs.Live.{live_from}
-use Rattle.icu_provider.specs.LiveWeights.{is_stated, IsWeightAmong}
-use Rattle.icu_provider.specs.Tables.{Data, Tables, homed}
+use Rattle.icu_entries.specs.declared.error.DataTable.{DataTable}
+use Rattle.icu_entries.specs.declared.error.DataTable.TheVariants.{Diacritics}
+use Rattle.icu_provider.specs.Diacritics.{is_replaced_place}
+use Rattle.icu_entries.specs.Elements.{Element, common, accent_element}
+use Rattle.icu_entries.specs.ElementConditions.{tertiary_of}
+use Rattle.icu_data.specs.Final.{final_elements}
+use Rattle.icu_data.specs.Live.{live_from}
+use Rattle.icu_data.specs.LiveWeights.{is_stated, IsWeightAmong}
+use Rattle.icu_data.specs.Data.{Data, homed}
+use Rattle.icu_provider.specs.Tables.{Tables}
 use Rattle.icu_checks.specs.declared.weights.WeightList.{WeightList}
 use Rattle.icu_checks.specs.declared.weights.WeightList.TheVariants.{Primaries, Secondaries, Tertiaries, TertiaryElements, WithSecondary}
 use Rattle.icu_checks.specs.CollatorTables.{CollatorTables}

@@ -4,8 +4,8 @@
 //! with given bytes is arithmetic.
 ghost use Rattle.std.specs.Prelude.{ℕ, ◌≡◌, ◌≤◌, ◌<◌, ◌||◌, ◌↔◌, Bool, Contains, IfOk, IfSome, IsTrue, All};
 ghost use Rattle.std.specs.List.{list_any};
-ghost use Rattle.icu_provider.specs.Live.{live_from};
-ghost use Rattle.icu_provider.specs.Stored.{data_of};
+ghost use Rattle.icu_data.specs.Live.{live_from};
+ghost use Rattle.icu_data.specs.StoredData.{data_of};
 ghost use Rattle.icu_checks.specs.CollatorTables.{reorder};
 ghost use Rattle.icu_checks.specs.TableSets.{tables_in};
 ghost use Rattle.icu_checks.specs.Faults.{IsTrueFault};
@@ -22,8 +22,9 @@ use crate::overlap_tables::{clash_table, table_of};
 use crate::table_set::{TableSet, lead_byte};
 use crate::weight_list::sort_and_dedup;
 use crate::weights::{Level, WeightList};
-use icu_provider::walk::{Visit, visit_from};
-use icu_provider::{CollationData, CollationElement, CollationElement32, DataTable, EntryKind};
+use icu_data::CollationData;
+use icu_data::walk::{Visit, visit_from};
+use icu_entries::{CollationElement, CollationElement32, DataTable, EntryKind};
 use std::alloc::{AllocError, Global};
 use std::convert::Infallible;
 

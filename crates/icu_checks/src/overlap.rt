@@ -9,7 +9,7 @@ ghost use Rattle.std.specs.List.Sorted.{IsNonDecreasingBy, IsStrictlyIncreasing}
 ghost use Rattle.icu_levels.specs.ListOrder.{IsBeginning};
 ghost use Rattle.icu_levels.specs.WeightBytes.{weight_bytes};
 ghost use Rattle.icu_levels.specs.Premises.{IsPrefixFree};
-ghost use Rattle.icu_provider.specs.Stored.{reordering_of};
+ghost use Rattle.icu_provider.specs.StoredTables.{reordering_of};
 ghost use Rattle.icu_checks.specs.CollatorTables.{reorder_by};
 ghost use Rattle.icu_checks.specs.Overlaps.{AreOverlapping, written_bytes, NeighbourBegins, Overlaps};
 
@@ -65,10 +65,7 @@ fn sort_reordered(
 }
 
 /// The first index whose weight begins the next one, once they are reordered.
-fn overlapping_index(
-    weights: &[u32],
-    reordering: Option<CollationReordering<'_>>,
-) -> Option<usize>
+fn overlapping_index(weights: &[u32], reordering: Option<CollationReordering<'_>>) -> Option<usize>
     requires { IsNonDecreasingBy (reorder_by (option_map reordering_of reordering)) weights.now }
     ensures none { IsNone result → (i j : ℕ) → i < length weights.now → j < length weights.now → i ≢ j → ¬ (IsBeginning (written_bytes (option_map reordering_of reordering.entry) (slice_index weights.now i)) (written_bytes (option_map reordering_of reordering.entry) (slice_index weights.now j))) }
     ensures within { IfSome result (λ k. k + 1 < length weights.now) }
@@ -111,7 +108,10 @@ fn overlapping_neighbours(
 {
     for next in 1..weights.len() {
         let (first, second) = (weights[next - 1], weights[next]);
-        let begins = is_beginning(reorder_by(reordering, first), reorder_by(reordering, second));
+        let begins = is_beginning(
+            reorder_by(reordering, first),
+            reorder_by(reordering, second),
+        );
         if begins && first != second && is_beginning(first, second) {
             return Some(Overlap { first, second });
         }

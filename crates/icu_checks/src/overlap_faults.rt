@@ -13,7 +13,7 @@ use crate::overlap_tables::clash_fault;
 use crate::table_set::TableSet;
 use crate::weight_list::sort_and_dedup;
 use crate::weights::{Level, WeightList};
-use icu_provider::DataTable;
+use icu_entries::DataTable;
 use std::alloc::{AllocError, Global};
 
 /// The tables by which weights are live, in the order in which they are named.

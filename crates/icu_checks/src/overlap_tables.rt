@@ -13,7 +13,7 @@ use crate::overlap::{Overlap, are_overlapping};
 use crate::table_set::TableSet;
 use crate::weight_list::contains;
 use crate::weights::{Level, WeightList};
-use icu_provider::DataTable;
+use icu_entries::DataTable;
 use std::alloc::{AllocError, Global};
 
 /// Whether a weight is live by a table.

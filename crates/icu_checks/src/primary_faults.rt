@@ -11,8 +11,8 @@ use crate::implicit_overlaps::implicit_fault;
 use crate::overlap_faults::{listed_weights, overlap_fault};
 use crate::table_set::TableSet;
 use crate::weights::{Level, WeightList};
-use icu_provider::DataTable;
-use icu_provider::fault::earlier;
+use icu_data::fault::earlier;
+use icu_entries::DataTable;
 use std::alloc::{AllocError, Global};
 
 /// The fault of weights that share a lead byte after reordering and don't compress alike.

@@ -1,11 +1,12 @@
 ghost use Rattle.std.specs.Prelude.{◌≡◌, ◌<◌, ◌+◌, Some, option_map};
 ghost use Rattle.icu_provider.specs.Reorderings.{lead_byte};
-ghost use Rattle.icu_provider.specs.Stored.{reordering_of};
+ghost use Rattle.icu_provider.specs.StoredTables.{reordering_of};
 ghost use Rattle.icu_checks.specs.CollatorTables.{is_forward, reorder, reorder_by, new_lead};
 ghost use Rattle.icu_checks.specs.ElementConditions.{is_apart};
 
+use icu_data::CollationData;
 use icu_provider::{
-    CollationData, CollationDiacritics, CollationJamo, CollationMetadata, CollationReordering,
+    CollationDiacritics, CollationJamo, CollationMetadata, CollationReordering,
     CollationSpecialPrimaries,
 };
 

@@ -1,6 +1,6 @@
 //! The weights of live elements, level by level, as they are compared with one another.
 ghost use Rattle.std.specs.Prelude.{◌≡◌, option_map};
-ghost use Rattle.icu_provider.specs.Stored.{reordering_of};
+ghost use Rattle.icu_provider.specs.StoredTables.{reordering_of};
 ghost use Rattle.icu_checks.specs.TableSets.{tables_in};
 ghost use Rattle.icu_checks.specs.Weights.{left_aligned, nonzero, uncommon};
 ghost use Rattle.icu_checks.specs.Levels.{list_of, overlap_condition, reordering_at};
@@ -8,8 +8,9 @@ ghost use Rattle.icu_checks.specs.Levels.{list_of, overlap_condition, reordering
 use crate::condition::PairCondition;
 use crate::element_conditions::is_lone;
 use crate::table_set::TableSet;
-use icu_provider::{CollationElement, CollationReordering};
-use icu_provider::live_weights::Weigh;
+use icu_data::live_weights::Weigh;
+use icu_entries::CollationElement;
+use icu_provider::CollationReordering;
 
 /// A level of weights, none of which may begin another.
 #[derive(Debug, Clone, Copy, PartialEq, Eq)]
@@ -84,11 +85,7 @@ fn left_aligned(weight: u16) -> Option<u32>
 fn nonzero(primary: u32) -> Option<u32>
     ensures { result ≡ nonzero primary }
 {
-    if primary == 0 {
-        None
-    } else {
-        Some(primary)
-    }
+    if primary == 0 { None } else { Some(primary) }
 }
 
 /// A tertiary weight, if it is neither zero nor the common one.

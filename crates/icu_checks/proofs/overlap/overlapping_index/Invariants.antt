@@ -1,5 +1,5 @@
 use Rattle.std.proofs.Common.{ℕ, ◌+◌, ◌<◌, option_map}
-use Rattle.icu_provider.specs.Stored.{reordering_of}
+use Rattle.icu_provider.specs.StoredTables.{reordering_of}
 use Rattle.icu_checks.specs.Overlaps.{NeighbourBegins, written_bytes}
 use Rattle.icu_checks.proofs.overlap.overlapping_index.Given as goal
 

@@ -1,0 +1,156 @@
+//! The weights of the elements of live entries, collected.
+ghost use Rattle.std.specs.Prelude.{◌≡◌, ◌↔◌, ◌⊎◌, ℕ, true, List, Option, OnOk, IsTrue};
+ghost use Rattle.std.specs.List.{Contains};
+ghost use Rattle.icu_entries.specs.Elements.{Element};
+ghost use Rattle.icu_data.specs.DataConditions.{is_readable};
+ghost use Rattle.icu_data.specs.Live.{live_from};
+ghost use Rattle.icu_data.specs.StoredData.{data_of};
+ghost use Rattle.icu_data.specs.LiveWeights.{is_stated, is_last, with_weight, collected, collected_at, IsWeightAmong, IsLiveWeight};
+
+use crate::data::CollationData;
+use crate::element_walk::{VisitElement, visit_elements};
+use crate::walk::{Visit, visit_chars, visit_from};
+use icu_entries::{CollationElement, CollationElement32, EntryKind};
+use std::alloc::AllocError;
+use std::mem::replace;
+
+/// Which weight of an element is collected.
+pub trait Weigh {
+    /// The weight of an element, if it is collected.
+    ghost weight: { Self → Element → Option ℕ };
+
+    /// The weight of an element, if it is collected.
+    fn weight(&self, element: CollationElement) -> Option<u32>
+        ensures { result ≡ weight self.now element };
+}
+
+#[tactic(auto, unfolding(crate::specs::LiveWeights::is_last))]
+fn is_last(weights: &[u32], weight: u32) -> bool
+    ensures { result ≡ is_last weights.now weight }
+{
+    match weights.last() {
+        Some(last) => *last == weight,
+        None => false,
+    }
+}
+
+#[tactic(auto, unfolding(crate::specs::LiveWeights::with_weight))]
+fn add_weight(weights: &mut Vec<u32>, weight: u32) -> Result<(), AllocError>
+    ensures { OnOk result (weights.new.items ≡ with_weight weights.old.items weight) }
+{
+    if !is_last(weights, weight) {
+        weights.push(weight)?;
+    }
+    Ok(())
+}
+
+/// Whether the table states the elements of an entry: they can be read, and aren't for an implicit weight.
+#[tactic(auto, unfolding(crate::specs::LiveWeights::is_stated))]
+fn is_stated(home: CollationData<'_>, c: char, entry: CollationElement32) -> bool
+    ensures value { result ≡ is_stated (data_of home.entry) c entry }
+    ensures readable { result ≡ true → IsTrue (is_readable (data_of home.entry) c entry) }
+{
+    match entry.kind() {
+        EntryKind::Implicit => false,
+        _ => home.is_readable(c, entry),
+    }
+}
+
+/// A visitor that collects weights.
+#[derive(Drop)]
+struct Collector<'w, W> {
+    weigh: &'w W,
+    weights: Vec<u32>,
+}
+
+impl<'w, W: Weigh> Collector<'w, W> {
+    /// A collector that goes on with a list, which is left empty.
+    fn over(weigh: &'w W, weights: &mut Vec<u32>) -> Collector<'w, W>
+        ensures weigh { result.weigh.now ≡ weigh.now }
+        ensures weights { result.weights.items ≡ weights.old.items }
+    {
+        let none = Vec::new(*weights.allocator());
+        Collector {
+            weigh,
+            weights: replace(weights, none),
+        }
+    }
+}
+
+impl<'w, W: Weigh> VisitElement for Collector<'w, W> {
+    type Refusal = AllocError;
+
+    ghost Seen = { W × List ℕ };
+
+    ghost seen = { λ v. (v.weigh.now, v.weights.items) };
+
+    ghost after = { collected W.weight };
+
+    fn visit(&mut self, element: CollationElement) -> Result<(), AllocError> {
+        match self.weigh.weight(element) {
+            Some(weight) => add_weight(&mut self.weights, weight),
+            None => Ok(()),
+        }
+    }
+}
+
+impl<'w, W: Weigh> Visit for Collector<'w, W> {
+    type Refusal = AllocError;
+
+    ghost Seen = { W × List ℕ };
+
+    ghost seen = { λ v. (v.weigh.now, v.weights.items) };
+
+    ghost after = { collected_at W.weight };
+
+    #[tactic(auto, unfolding(crate::specs::LiveWeights::given_elements))]
+    fn visit(
+        &mut self,
+        home: CollationData<'_>,
+        c: char,
+        entry: CollationElement32,
+    ) -> Result<(), AllocError> {
+        if is_stated(home, c, entry) {
+            visit_elements(self, home, c, entry)
+        } else {
+            Ok(())
+        }
+    }
+
+    fn passes_implicit(&self) -> bool {
+        true
+    }
+}
+
+/// Adds to a list the weights that are collected of the elements of all entries that are live in a root or a tailoring, in any
+/// order, with or without repetition. A tailoring falls back: a fallback entry of its code point table is none. An entry whose
+/// elements can't be read, one that is not final, and one for an implicit weight, gives none. Where memory is refused, nothing is said of the list.
+pub fn collect_weights<W: Weigh>(
+    weights: &mut Vec<u32>,
+    weigh: &W,
+    home: CollationData<'_>,
+    falls_back: bool,
+) -> Result<(), AllocError>
+    ensures { OnOk result ((w : ℕ) → Contains weights.new.items w ↔ (Contains weights.old.items w ⊎ IsLiveWeight (W.weight weigh.now) falls_back (data_of home.entry) w)) }
+{
+    let mut collector = Collector::over(weigh, weights);
+    let outcome = visit_chars(&mut collector, home, falls_back);
+    *weights = collector.weights;
+    outcome
+}
+
+/// The same of the entries that are live with a character from one entry on.
+pub fn collect_weights_from<W: Weigh>(
+    weights: &mut Vec<u32>,
+    weigh: &W,
+    home: CollationData<'_>,
+    c: char,
+    entry: CollationElement32,
+) -> Result<(), AllocError>
+    ensures { OnOk result ((w : ℕ) → Contains weights.new.items w ↔ (Contains weights.old.items w ⊎ IsWeightAmong (W.weight weigh.now) (data_of home.entry) c (live_from (data_of home.entry) entry) w)) }
+{
+    let mut collector = Collector::over(weigh, weights);
+    let outcome = visit_from(&mut collector, home, c, entry);
+    *weights = collector.weights;
+    outcome
+}
