@@ -10,6 +10,7 @@ pub mod Faults
 pub mod EntryFaults
 pub mod Weights
 pub mod PairFaults
+pub mod ImplicitOverlaps
 pub mod Checks
 pub mod Overlaps
 pub mod Levels

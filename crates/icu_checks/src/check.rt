@@ -7,14 +7,14 @@ ghost use Rattle.icu_checks.specs.TableSets.{tables_in};
 ghost use Rattle.icu_checks.specs.Faults.{IsTrueFault};
 ghost use Rattle.icu_checks.specs.GoodTables.{HasAscendingContexts, IsReordering, AreTables, HasDiacriticCount, IsGoodTables};
 ghost use Rattle.icu_checks.specs.LeadConditions.{LeadMeets};
-ghost use Rattle.icu_checks.specs.PairFaults.{IsOverlapAt, LonesBreak, IsOutcome};
+ghost use Rattle.icu_checks.specs.PairFaults.{IsOutcome};
 ghost use Rattle.icu_checks.specs.Checks.{LeadsMeet, PairsMeet};
 
-use crate::condition::{Condition, LeadCondition, PairCondition};
+use crate::condition::{Condition, LeadCondition};
 use crate::fault::Fault;
 use crate::live_faults::live_fault;
 use crate::lone_faults::lone_fault;
-use crate::overlap_faults::overlap_fault;
+use crate::overlap_faults::level_fault;
 use crate::primary_faults::primary_fault;
 use crate::table_set::TableSet;
 use crate::weights::Level;
@@ -80,8 +80,8 @@ fn pairs_fault(alloc: Global, tables: TableSet<'_>) -> Result<Option<Fault>, All
     ensures { IfOk result (IsOutcome (tables_in tables.entry) (PairsMeet (tables_in tables.entry))) }
 {
     let lone = lone_fault(alloc, tables)?;
-    let secondary = overlap_fault(alloc, tables, Level::Secondary, PairCondition::Secondaries)?;
-    let tertiary = overlap_fault(alloc, tables, Level::Tertiary, PairCondition::Tertiaries)?;
+    let secondary = level_fault(alloc, tables, Level::Secondary)?;
+    let tertiary = level_fault(alloc, tables, Level::Tertiary)?;
     let primary = primary_fault(alloc, tables)?;
     Ok(earlier(earlier(lone, secondary), earlier(tertiary, primary)))
 }

@@ -13,7 +13,7 @@ ghost use Rattle.icu_provider.specs.StoredTables.{reordering_of};
 ghost use Rattle.icu_checks.specs.CollatorTables.{reorder_by};
 ghost use Rattle.icu_checks.specs.Overlaps.{AreOverlapping, written_bytes, NeighbourBegins, Overlaps};
 
-use crate::table_set::{lead_byte, reorder_by};
+use crate::table_set::{lead_byte, reorder_by, stays_in_range};
 use icu_provider::CollationReordering;
 use std::alloc::AllocError;
 
@@ -61,7 +61,8 @@ fn sort_reordered(
     ensures permutation { IsPermutation weights.old.items weights.new.items }
     ensures ascending { OnOk result (IsNonDecreasingBy (reorder_by (option_map reordering_of reordering.entry)) weights.new.items) }
 {
-    weights.sort_by_key(|weight| reorder_by(reordering, *weight))
+    weights.sort_by_key(|weight| reorder_by(reordering, *weight))?;
+    Ok(())
 }
 
 /// The first index whose weight begins the next one, once they are reordered.
@@ -71,6 +72,7 @@ fn overlapping_index(weights: &[u32], reordering: Option<CollationReordering<'_>
     ensures within { IfSome result (λ k. k + 1 < length weights.now) }
     ensures begins { IfSome result (NeighbourBegins (written_bytes (option_map reordering_of reordering.entry)) weights.now) }
 {
+    stays_in_range(reordering);
     for next in 1..weights.len() {
         let first = reorder_by(reordering, weights[next - 1]);
         let second = reorder_by(reordering, weights[next]);
@@ -92,11 +94,13 @@ pub fn first_overlap(
     ensures overlaps { IfOk result (λ found. IfSome found (λ o. Overlaps (written_bytes (option_map reordering_of reordering.entry)) weights.old.items o.first o.second)) }
 {
     sort_reordered(weights, reordering)?;
-    let index = overlapping_index(weights.as_slice(), reordering);
-    Ok(index.map(|index| Overlap {
-        first: weights[index],
-        second: weights[index + 1],
-    }))
+    match overlapping_index(weights.as_slice(), reordering) {
+        Some(index) => Ok(Some(Overlap {
+            first: weights[index],
+            second: weights[index + 1],
+        })),
+        None => Ok(None),
+    }
 }
 
 /// Neighbours of a list of which one begins the other, both before they are reordered and after it.

@@ -17,7 +17,7 @@ use icu_entries::DataTable;
 use std::alloc::{AllocError, Global};
 
 /// The tables by which weights are live, in the order in which they are named.
-const LIVE_TABLES: [DataTable; 4] = [
+pub(crate) const LIVE_TABLES: [DataTable; 4] = [
     DataTable::Root,
     DataTable::Jamo,
     DataTable::Tailoring,

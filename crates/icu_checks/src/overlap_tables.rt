@@ -32,7 +32,7 @@ fn has_weight(
 }
 
 /// The first table by which a weight is live.
-fn table_of(
+pub(crate) fn table_of(
     alloc: Global,
     tables: TableSet<'_>,
     list: WeightList,

@@ -22,11 +22,17 @@ fn compression_fault(tables: TableSet<'_>, weights: &[u32]) -> Option<Fault>
     ensures some { IfSome result (IsTrueFault (tables_in tables.entry)) }
 {
     match tables.reordering {
-        Some(reordering) if !compress_alike(weights, tables.special, reordering) => Some(Fault {
-            condition: Condition::Pair(PairCondition::Compression),
-            table: DataTable::Reordering,
-        }),
-        _ => None,
+        Some(reordering) => {
+            if compress_alike(weights, tables.special, reordering) {
+                None
+            } else {
+                Some(Fault {
+                    condition: Condition::Pair(PairCondition::Compression),
+                    table: DataTable::Reordering,
+                })
+            }
+        }
+        None => None,
     }
 }
 

@@ -1,4 +1,4 @@
-ghost use Rattle.std.specs.Prelude.{◌≡◌, ◌<◌, ◌+◌, Some, option_map};
+ghost use Rattle.std.specs.Prelude.{ℕ, ◌≡◌, ◌<◌, ◌+◌, ◌^◌, Some, option_map};
 ghost use Rattle.icu_provider.specs.Reorderings.{lead_byte};
 ghost use Rattle.icu_provider.specs.StoredTables.{reordering_of};
 ghost use Rattle.icu_checks.specs.CollatorTables.{is_forward, reorder, reorder_by, new_lead};
@@ -35,6 +35,16 @@ pub(crate) fn jamo_char(place: usize) -> Option<char>
     ensures { result ≡ Some (0x1100 + place) }
 {
     char::from_u32(0x1100 + place as u32)
+}
+
+/// Reordering leaves weights in four bytes.
+#[tactic(auto, using(crate::proofs::LeadLemmas::reordered_fits))]
+pub(crate) fn stays_in_range(reordering: Option<CollationReordering<'_>>)
+    ensures { (p : ℕ) → p < 2 ^ 32 → reorder_by (option_map reordering_of reordering.entry) p < 2 ^ 32 }
+{
+    if let Some(reordering) = reordering {
+        reordering.has_bytes();
+    }
 }
 
 /// A primary weight as it is compared: reordered, where there is a reordering.
