@@ -4,7 +4,7 @@ use Rattle.std.specs.List.{Contains}
 use Rattle.icu_levels.specs.ListOrder.{IsBeginning}
 use Rattle.icu_entries.specs.declared.error.DataTable.{DataTable}
 use Rattle.icu_entries.specs.declared.error.DataTable.TheVariants.{Root, Jamo, SpecialPrimaries, Metadata, Tailoring, Reordering, Diacritics}
-use Rattle.icu_entries.specs.Elements.{Element, accent_element}
+use Rattle.icu_entries.specs.Elements.{Element, of_secondary}
 use Rattle.icu_provider.specs.declared.reordering.CollationReordering.{CollationReordering}
 use Rattle.icu_provider.specs.Reorderings.{reordered, lead_byte}
 use Rattle.icu_provider.specs.SpecialPrimaries.{is_compressible}
