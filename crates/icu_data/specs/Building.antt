@@ -2,6 +2,7 @@
 use Rattle.std.specs.Prelude.{◌≡◌, ℕ, ◌<◌, ◌&&◌, nat_le, List, [], map, slice_index_or, if◌then◌else◌}
 use Rattle.icu_entries.specs.Elements.{element_of}
 use Rattle.icu_data.specs.declared.data_builder.DataBuilder.{DataBuilder}
+use Rattle.icu_data.specs.CodePointTables.{code_point_count}
 use Rattle.icu_data.specs.Contexts.{stored_contexts}
 use Rattle.icu_data.specs.Data.{Data}
 
@@ -25,7 +26,7 @@ built_data b =
 
 -- two that say the same of characters, which end with U+10FFFF
 pub record SaysOfCharacters (wanted d : Data) : Type 0 where
-  pub value : (c : ℕ) → c < 0x110000 → d.value c ≡ wanted.value c
+  pub value : (c : ℕ) → c < code_point_count → d.value c ≡ wanted.value c
   pub elements : d.elements ≡ wanted.elements
   pub entries : d.entries ≡ wanted.entries
   pub contexts : d.contexts ≡ wanted.contexts

@@ -7,7 +7,7 @@ ghost use Rattle.icu_data.specs.AddedContexts.{AddsRows, given_context, given_ro
 use crate::context::{Context, ContextRow};
 use std::alloc::AllocError;
 
-/// Adds a context with its rows, each a list of characters and its entry, after those that are there. An `Err`, for want of
+/// Adds a context with its rows, each a list of characters and its entry, after those that are there. An `Err`, out of
 /// memory or since an index is past 2^32, leaves all as it was.
 pub(crate) fn add_context(
     contexts: &mut Vec<Context>,
@@ -24,10 +24,10 @@ pub(crate) fn add_context(
     let char_count = chars.len();
     match push_context(contexts, rows, chars, default, given) {
         Ok(()) => Ok(()),
-        Err(refused) => {
+        Err(error) => {
             rows.truncate(row_count);
             chars.truncate(char_count);
-            Err(refused)
+            Err(error)
         }
     }
 }

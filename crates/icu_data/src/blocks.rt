@@ -3,16 +3,8 @@ ghost use Rattle.std.specs.Prelude.{◌≡◌, ◌≢◌, ℕ, ◌+◌, ◌*◌,
 ghost use Rattle.icu_data.specs.CodePointTables.{IsCodePointTable, stored_value};
 ghost use Rattle.icu_data.specs.Blocks.{block_at, HoldsBlock, HasDistinctBlocks};
 
+use crate::code_point_table::{BLOCK_COUNT, BLOCK_LEN};
 use std::alloc::{AllocError, Global};
-
-/// How many code points share a block.
-pub(crate) const BLOCK_LEN: usize = 64;
-
-/// How many blocks the code points up to U+10FFFF fill.
-pub(crate) const BLOCK_COUNT: usize = 17408;
-
-/// How many code points there are.
-pub(crate) const CODE_POINT_COUNT: usize = 0x110000;
 
 /// The blocks of a list of entries, and the values of the different ones.
 pub(crate) struct Blocks {

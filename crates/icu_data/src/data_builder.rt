@@ -3,9 +3,11 @@ ghost use Rattle.std.specs.Prelude.{◌≡◌, ℕ, ◌<◌, ◌≤◌, ◌++◌
 ghost use Rattle.icu_entries.specs.Elements.{element_of};
 ghost use Rattle.icu_data.specs.Contexts.{HasRangesInside};
 ghost use Rattle.icu_data.specs.AddedContexts.{given_context};
+ghost use Rattle.icu_data.specs.Blocks.{HasDistinctBlocks};
 
 use crate::added_context::add_context;
-use crate::blocks::{Blocks, CODE_POINT_COUNT, blocks_of};
+use crate::blocks::{Blocks, blocks_of};
+use crate::code_point_table::CODE_POINT_COUNT;
 use crate::context::{Context, ContextRow};
 use crate::data_vectors::DataVectors;
 use std::alloc::{AllocError, Global};
@@ -116,7 +118,7 @@ impl DataBuilder {
     }
 
     /// Adds a context, and returns its index: an entry for all texts but those of its rows, and the rows, each a list of characters
-    /// and its entry. Rows stand as they are given; that they ascend is for `OwnedData::new` to see. An `Err`, for want of memory
+    /// and its entry. Rows stand as they are given; that they ascend is for `OwnedData::new` to see. An `Err`, out of memory
     /// or since there are 2^32 rows or characters, leaves all as it was.
     #[tactic(auto, unfolding(crate::specs::Building::built_data))]
     pub fn add_context(
@@ -142,7 +144,8 @@ impl DataBuilder {
     /// The root or the tailoring, with each different block of 64 entries once.
     #[tactic(auto, unfolding(crate::specs::Building::built_data, crate::specs::OwnedData::vectors_data))]
     pub fn build(self) -> Result<DataVectors, AllocError>
-        ensures { IfOk result (λ v. SaysOfCharacters (built_data self) (vectors_data v)) }
+        ensures says { IfOk result (λ v. SaysOfCharacters (built_data self) (vectors_data v)) }
+        ensures distinct { IfOk result (λ v. HasDistinctBlocks v.values.items) }
     {
         let DataBuilder {
             alloc,

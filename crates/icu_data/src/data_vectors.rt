@@ -112,11 +112,11 @@ impl OwnedData {
         ensures { data_of result ≡ owned_data self.now }
     {
         let vectors = &self.vectors;
-        CollationData::from_parts(
-            CodePointTable::from_parts(vectors.blocks.as_slice(), vectors.values.as_slice()),
+        CollationData::new_unchecked(
+            CodePointTable::new_unchecked(vectors.blocks.as_slice(), vectors.values.as_slice()),
             vectors.ces.as_slice(),
             vectors.ce32s.as_slice(),
-            ContextTable::from_parts(
+            ContextTable::new_unchecked(
                 vectors.contexts.as_slice(),
                 vectors.rows.as_slice(),
                 vectors.chars.as_slice(),

@@ -1,10 +1,14 @@
+//! The table of conjoining jamo.
 ghost use Rattle.std.specs.Prelude.{◌≡◌, ◌↔◌, IsOk, IfOk, IfErr};
 ghost use Rattle.icu_provider.specs.Jamo.{IsJamo, FailsJamo};
 
 use icu_entries::{CollationElement32, DataErrorKind};
 use std::alloc::{AllocError, Global};
 
-/// The entries of the 256 characters from U+1100 on, the conjoining jamo. They name lists and contexts of the root.
+/// How many conjoining jamo there are.
+pub const JAMO_COUNT: usize = 256;
+
+/// The entries of the 256 characters from U+1100 on, the conjoining jamo. They refer to lists and contexts of the root.
 #[derive(Debug, Clone, Copy, PartialEq)]
 pub struct CollationJamo<'d> {
     ce32s: &'d [u32],
@@ -21,7 +25,7 @@ impl<'d> CollationJamo<'d> {
         ensures kind { IfErr result (FailsJamo ce32s.entry.now) }
         ensures keeps { IfOk result (λ j. jamo_of j ≡ ce32s.entry.now) }
     {
-        if ce32s.len() != 256 {
+        if ce32s.len() != JAMO_COUNT {
             return Err(DataErrorKind::Length);
         }
         if !ce32s
@@ -36,11 +40,11 @@ impl<'d> CollationJamo<'d> {
         {
             return Err(DataErrorKind::Tag);
         }
-        Ok(CollationJamo::from_parts(ce32s))
+        Ok(CollationJamo::new_unchecked(ce32s))
     }
 
     /// A table of entries that are known to meet the conditions, without a check.
-    pub fn from_parts(ce32s: &'d [u32]) -> CollationJamo<'d>
+    pub fn new_unchecked(ce32s: &'d [u32]) -> CollationJamo<'d>
         requires { IsJamo ce32s.now }
         ensures { jamo_of result ≡ ce32s.entry.now }
     {
@@ -82,6 +86,6 @@ impl OwnedJamo {
     pub fn as_jamo(&self) -> CollationJamo<'_>
         ensures { jamo_of result ≡ owned_jamo self.now }
     {
-        CollationJamo::from_parts(self.ce32s.as_slice())
+        CollationJamo::new_unchecked(self.ce32s.as_slice())
     }
 }

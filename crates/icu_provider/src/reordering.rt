@@ -1,8 +1,12 @@
+//! Reorderings of scripts.
 ghost use Rattle.std.specs.Prelude.{◌≡◌, ◌<◌, ◌%◌, ◌^◌, ◌↔◌, IsOk, IfOk, IfErr, length, find, All};
 ghost use Rattle.icu_provider.specs.Reorderings.{lead_byte, with_lead, lies_below, moved, reordered};
 
 use icu_entries::DataErrorKind;
 use std::alloc::{AllocError, Global};
+
+/// How many lead bytes there are.
+const LEAD_COUNT: usize = 256;
 
 /// A reordering of scripts: where the lead bytes of primary weights go (UTS #35 part 5, section 3.9 "Collation Reordering").
 #[derive(Debug, Clone, Copy, PartialEq)]
@@ -74,14 +78,14 @@ impl<'d> CollationReordering<'d> {
         ensures kind { IfErr result (λ k. k ≡ DataErrorKind.Length) }
         ensures keeps { IfOk result (λ r. reordering_of r ≡ record { limit = min_high_no_reorder; leads = reorder_table.entry.now; ranges = reorder_ranges.entry.now }) }
     {
-        if reorder_table.len() != 256 {
+        if reorder_table.len() != LEAD_COUNT {
             return Err(DataErrorKind::Length);
         }
-        Ok(CollationReordering::from_parts(min_high_no_reorder, reorder_table, reorder_ranges))
+        Ok(CollationReordering::new_unchecked(min_high_no_reorder, reorder_table, reorder_ranges))
     }
 
     /// A reordering of slices that are known to fit, without a check: there are 256 lead bytes.
-    pub fn from_parts(
+    pub fn new_unchecked(
         min_high_no_reorder: u32,
         reorder_table: &'d [u8],
         reorder_ranges: &'d [u32],
@@ -168,7 +172,7 @@ impl OwnedReordering {
     pub fn as_reordering(&self) -> CollationReordering<'_>
         ensures { reordering_of result ≡ owned_reordering self.now }
     {
-        CollationReordering::from_parts(
+        CollationReordering::new_unchecked(
             self.min_high_no_reorder,
             self.reorder_table.as_slice(),
             self.reorder_ranges.as_slice(),

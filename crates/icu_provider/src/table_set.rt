@@ -84,7 +84,7 @@ impl<'d> TableSet<'d> {
     }
 }
 
-/// The copy, or a refusal for want of memory that blames the table.
+/// The copy, or an error for the table: out of memory.
 fn or_no_memory<T>(table: DataTable, copy: Result<T, AllocError>) -> Result<T, DataError>
     ensures copy { IfOk result (λ t. copy ≡ Ok t) }
     ensures memory { IfErr result (λ e. e ≡ record { table = table; kind = DataErrorKind.NoMemory }) }
@@ -123,7 +123,7 @@ fn copy_reordering(
 }
 
 impl OwnedTables {
-    /// Copies tables. Where memory is refused, the error names the table that was then copied.
+    /// Copies tables. Out of memory, the error is for the table that was then copied.
     #[tactic(auto, unfolding(crate::specs::TableSets::tables_in, crate::specs::OwnedTables::owned_tables))]
     pub fn copy(alloc: Global, tables: TableSet<'_>) -> Result<OwnedTables, DataError>
         ensures copies { IfOk result (λ o. owned_tables o ≡ tables_in tables.entry) }
