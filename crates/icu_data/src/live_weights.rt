@@ -5,7 +5,8 @@ ghost use Rattle.icu_entries.specs.Elements.{Element, of_primary};
 ghost use Rattle.icu_entries.specs.Weights.{implicit_weight};
 ghost use Rattle.icu_data.specs.Live.{live_from};
 ghost use Rattle.icu_data.specs.StoredData.{data_of};
-ghost use Rattle.icu_data.specs.LiveWeights.{is_last, with_weight, collected, collected_at, IsWeightAmong, IsLiveWeight};
+ghost use Rattle.icu_data.specs.LiveWeights.{IsWeightAmong, IsLiveWeight};
+ghost use Rattle.icu_data.specs.inner.Visitors.{is_last, with_weight, collected, collected_at};
 
 use crate::data::CollationData;
 use crate::element_walk::{VisitElement, visit_elements};
@@ -32,7 +33,7 @@ pub trait Weigh {
     }
 }
 
-#[tactic(auto, unfolding(crate::specs::LiveWeights::is_last))]
+#[tactic(auto, unfolding(crate::specs::inner::Visitors::is_last))]
 fn is_last(weights: &[u32], weight: u32) -> bool
     ensures { result ≡ is_last weights.now weight }
 {
@@ -42,7 +43,7 @@ fn is_last(weights: &[u32], weight: u32) -> bool
     }
 }
 
-#[tactic(auto, unfolding(crate::specs::LiveWeights::with_weight))]
+#[tactic(auto, unfolding(crate::specs::inner::Visitors::with_weight))]
 fn add_weight(weights: &mut Vec<u32>, weight: u32) -> Result<(), AllocError>
     ensures { OnOk result (weights.new.items ≡ with_weight weights.old.items weight) }
 {
@@ -99,7 +100,7 @@ impl<'w, W: Weigh> Visit for Collector<'w, W> {
 
     ghost after = { collected_at W.weight };
 
-    #[tactic(auto, unfolding(crate::specs::LiveWeights::given_elements))]
+    #[tactic(auto, unfolding(crate::specs::inner::Visitors::given_elements))]
     fn visit(
         &mut self,
         home: CollationData<'_>,
