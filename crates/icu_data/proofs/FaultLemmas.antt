@@ -1,4 +1,4 @@
--- Which fault a walk names, by any judge, and the judge of a root or a tailoring alone: the first condition that an entry fails.
+-- Which fault a walk reports, by any judge, and the judge of a root or a tailoring alone: the first condition that an entry fails.
 use Rattle.std.proofs.Common.{◌≡◌, ℕ, ◌<◌, ◌≤◌, Bool, true, false, not, List, [], ◌∷◌, ◌⊎◌, Option, Some, None, if◌then◌else◌, refl, sym, ap, ◌∙◌, subst, IfSome, IsTrue, ◌↔◌, nat_lt, inl, inr, arith}
 use Rattle.std.proofs.lemmas.Bool.{and_parts, and_from}
 use Rattle.std.proofs.lemmas.Bool.Decides.{nat_tests}
@@ -12,7 +12,8 @@ use Rattle.icu_data.specs.LiveConditions.{meets, live_conditions, first_failing,
 use Rattle.icu_data.specs.DataConditions.{is_inside, is_readable, has_known_members, fits_offset}
 use Rattle.icu_entries.specs.EntryConditions.{has_known_byte}
 use Rattle.icu_data.specs.Walks.{after_all, after_chars, chars_below}
-use Rattle.icu_data.specs.Faults.{earlier, judged, ComesFirst, IsFaultAmong, IsLiveFault}
+use Rattle.icu_data.specs.Faults.{earlier, ComesFirst, IsFaultAmong, IsLiveFault}
+use Rattle.icu_data.specs.inner.Visitors.{judged}
 use Rattle.icu_data.proofs.ListLemmas.{weaker, all_of, all_members, of_member}
 use Rattle.icu_data.proofs.WalkLemmas.{fold_keeps, fold_back, walk_keeps, walk_back}
 

@@ -24,7 +24,7 @@ pub trait Weigh {
         ensures { result ≡ weight self.now element };
 }
 
-#[tactic(auto, unfolding(crate::specs::LiveWeights::is_last))]
+#[tactic(auto, unfolding(crate::specs::inner::Visitors::is_last))]
 fn is_last(weights: &[u32], weight: u32) -> bool
     ensures { result ≡ is_last weights.now weight }
 {
@@ -34,7 +34,7 @@ fn is_last(weights: &[u32], weight: u32) -> bool
     }
 }
 
-#[tactic(auto, unfolding(crate::specs::LiveWeights::with_weight))]
+#[tactic(auto, unfolding(crate::specs::inner::Visitors::with_weight))]
 fn add_weight(weights: &mut Vec<u32>, weight: u32) -> Result<(), AllocError>
     ensures { OnOk result (weights.new.items ≡ with_weight weights.old.items weight) }
 {
@@ -103,7 +103,7 @@ impl<'w, W: Weigh> Visit for Collector<'w, W> {
 
     ghost after = { collected_at W.weight };
 
-    #[tactic(auto, unfolding(crate::specs::LiveWeights::given_elements))]
+    #[tactic(auto, unfolding(crate::specs::inner::Visitors::given_elements))]
     fn visit(
         &mut self,
         home: CollationData<'_>,

@@ -4,15 +4,16 @@ ghost use Rattle.icu_entries.specs.Entries.{kind_of};
 ghost use Rattle.icu_data.specs.Data.{Data};
 ghost use Rattle.icu_data.specs.Live.{live_digit, live_contraction, live_from, live_at};
 ghost use Rattle.icu_data.specs.StoredData.{data_of, found_context};
-ghost use Rattle.icu_data.specs.Walks.{after_all, after_rows, after_chars, chars_below};
+ghost use Rattle.icu_data.specs.Walks.{after_all, after_chars, chars_below};
+ghost use Rattle.icu_data.specs.inner.Visitors.{after_rows};
 
 use crate::context::FoundContext;
 use crate::data::CollationData;
 use icu_entries::{CollationElement32, EntryKind};
 
-/// What is told of each live entry.
+/// A visitor of live entries.
 pub trait Visit {
-    /// Why a visit ends the walk, as for want of memory. `Infallible` where none does.
+    /// Why a visit ends the walk, as out of memory. `Infallible` where none does.
     type Refusal;
 
     /// What visits add up to.
@@ -24,7 +25,7 @@ pub trait Visit {
     /// What it is after one more entry, by the entry's home, the character, and the entry.
     ghost after: { Seen → Data → ℕ → ℕ → Seen };
 
-    /// Tells of an entry that is live with a character, and of the entry's home.
+    /// Visits an entry that is live with a character, in the entry's home.
     fn visit(
         &mut self,
         home: CollationData<'_>,
@@ -53,7 +54,7 @@ fn visit_digit<V: Visit>(
 {
     visitor.visit(home, c, entry)?;
     if entry.kind() == EntryKind::Digit {
-        visitor.visit(home, c, home.plain_entry(entry))?;
+        visitor.visit(home, c, home.non_numeric_entry(entry))?;
     }
     Ok(())
 }
@@ -107,7 +108,7 @@ fn visit_contraction_rows<V: Visit>(
     Ok(())
 }
 
-/// Tells a visitor of each entry that is live from this one.
+/// Visits each entry that is live from this one.
 #[tactic(auto, unfolding(crate::specs::Live::live_from))]
 pub fn visit_from<V: Visit>(
     visitor: &mut V,
@@ -127,8 +128,8 @@ pub fn visit_from<V: Visit>(
     }
 }
 
-/// Tells a visitor of each entry that is live with a character of the code point table. In a tailoring, which falls back, a
-/// fallback entry is none.
+/// Visits each entry that is live with a character of the code point table. With `falls_back`, as in a tailoring, fallback entries
+/// are passed over.
 fn visit_char<V: Visit>(
     visitor: &mut V,
     home: CollationData<'_>,
@@ -151,7 +152,7 @@ fn visit_char<V: Visit>(
     visit_from(visitor, home, c, entry)
 }
 
-/// Tells a visitor of each entry that is live with each character.
+/// Visits each entry that is live with each character.
 pub fn visit_chars<V: Visit>(
     visitor: &mut V,
     home: CollationData<'_>,

@@ -17,7 +17,11 @@ abbrev pub HasDiacriticWeights : Bool → List ℕ → Type 0
 HasDiacriticWeights forward secondaries =
     (i : ℕ) → i < length secondaries → IsTrue (is_replaced_index i || is_diacritic_weight forward (slice_index secondaries i))
 
--- the secondary weights of at most 79 diacritics, from U+0300 on
+-- the greatest number of diacritics that have a table of their own
+abbrev pub diacritics_max_count : ℕ
+diacritics_max_count = 79
+
+-- the secondary weights of at most so many diacritics, from U+0300 on
 pub record IsDiacritics (secondaries : List ℕ) : Type 0 where
   pub count : length secondaries ≤ 79
   pub accents : HasDiacriticWeights true secondaries
