@@ -14,7 +14,7 @@ use Rattle.icu_provider.specs.Metadata.{is_tailored, has_reordering}
 use Rattle.icu_provider.specs.Requests.{Request}
 use Rattle.icu_provider.specs.SpecialPrimaries.{SpecialPrimaries}
 use Rattle.icu_data.specs.Data.{Data, plain_of}
-use Rattle.icu_checks.specs.CollatorTables.{CollatorTables}
+use Rattle.icu_provider.specs.CollatorTables.{CollatorTables}
 use Rattle.icu_checks.specs.Loads.{and_then, or_else, typed_first, if_named, diacritics_request, lent_tables}
 use Rattle.icu_elements.specs.Plain.{plain_reading, names_no_context, IsPlain}
 use Rattle.icu_elements.proofs.PlainLemmas.{IsPlain-from_each}

@@ -4,7 +4,7 @@ use Rattle.icu_checks.specs.declared.condition.Condition.TheVariants as conditio
 use Rattle.icu_checks.specs.declared.condition.PairCondition.{PairCondition}
 use Rattle.icu_checks.specs.declared.condition.PairCondition.TheVariants.{LoneTertiaries, Primaries, Secondaries, Tertiaries, Compression}
 use Rattle.icu_checks.specs.declared.condition.LeadCondition.TheVariants.{Separator, HighLead, ImplicitLead, NumericLead, LeadsApart, NumericWhole}
-use Rattle.icu_checks.specs.CollatorTables.{CollatorTables}
+use Rattle.icu_provider.specs.CollatorTables.{CollatorTables}
 use Rattle.icu_checks.specs.LeadConditions.{LeadMeets}
 use Rattle.icu_checks.specs.EntryFaults.{LiveMeets}
 use Rattle.icu_checks.specs.GoodTables.{AreTables, HasDiacriticCount, Meets, IsGoodTables}

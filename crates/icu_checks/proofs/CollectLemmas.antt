@@ -16,10 +16,10 @@ use Rattle.icu_data.specs.LiveWeights.{IsWeightAmong, IsLiveWeight}
 use Rattle.icu_provider.specs.Diacritics.{is_replaced_index}
 use Rattle.icu_data.specs.StoredData.{data_of}
 use Rattle.icu_provider.specs.StoredTables.{jamo_of, diacritics_of}
-use Rattle.icu_checks.specs.declared.table_set.TableSet.{TableSet}
-use Rattle.icu_checks.specs.declared.weights.WeightList.{WeightList}
-use Rattle.icu_checks.specs.CollatorTables.{CollatorTables}
-use Rattle.icu_checks.specs.TableSets.{tables_in}
+use Rattle.icu_provider.specs.declared.table_set.TableSet.{TableSet}
+use Rattle.icu_checks.specs.declared.check.weights.WeightList.{WeightList}
+use Rattle.icu_provider.specs.CollatorTables.{CollatorTables}
+use Rattle.icu_provider.specs.TableSets.{tables_in}
 use Rattle.icu_checks.specs.Weights.{weight_at, IsWeightBy, Adds, IsBelow, IsJamoWeight, IsAccentWeight}
 
 -- ---- what is added

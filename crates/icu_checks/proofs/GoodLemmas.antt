@@ -6,7 +6,7 @@ use Rattle.icu_entries.specs.declared.error.DataErrorKind.TheVariants as kinds
 use Rattle.icu_entries.specs.declared.error.DataTable.{DataTable}
 use Rattle.icu_checks.specs.declared.condition.Condition.{Condition}
 use Rattle.icu_checks.specs.declared.condition.Condition.TheVariants as conditions
-use Rattle.icu_checks.specs.CollatorTables.{CollatorTables}
+use Rattle.icu_provider.specs.CollatorTables.{CollatorTables}
 use Rattle.icu_checks.specs.GoodTables.{Meets, MeetsBy, IsGoodTables, FailsBy, IsTrueRefusal}
 
 -- a condition that holds does so as far as any table takes part

@@ -17,9 +17,9 @@ use Rattle.icu_data.proofs.ImplicitLemmas.{implicit_passes}
 use Rattle.icu_checks.specs.declared.condition.ElementCondition.{ElementCondition}
 use Rattle.icu_checks.specs.declared.condition.ElementCondition.TheVariants.{Width, BackwardLead, LoneTertiary, MiddleLead, ImplicitLength, NumericLead, SharedLead, SecondByte}
 use Rattle.icu_checks.specs.declared.fault.Fault.{Fault}
-use Rattle.icu_checks.specs.declared.weights.WeightList.{WeightList}
-use Rattle.icu_checks.specs.declared.weights.WeightList.TheVariants.{Primaries, Secondaries, Tertiaries, TertiaryElements, WithSecondary}
-use Rattle.icu_checks.specs.CollatorTables.{CollatorTables, is_forward, reorder, new_lead}
+use Rattle.icu_checks.specs.declared.check.weights.WeightList.{WeightList}
+use Rattle.icu_checks.specs.declared.check.weights.WeightList.TheVariants.{Primaries, Secondaries, Tertiaries, TertiaryElements, WithSecondary}
+use Rattle.icu_provider.specs.CollatorTables.{CollatorTables, is_forward, reorder, new_lead}
 use Rattle.icu_checks.specs.Leads.{is_middle}
 use Rattle.icu_checks.specs.ElementConditions.{implicit_lead, has_low_bytes, has_second_byte, is_apart, primary_meets, element_meets, element_conditions}
 use Rattle.icu_checks.specs.declared.condition.LeadCondition.TheVariants.{ImplicitLead, LeadsApart}

@@ -23,12 +23,12 @@ use Rattle.icu_provider.specs.StoredTables.{jamo_of}
 use Rattle.icu_provider.specs.Tables.{Tables, is_jamo}
 use Rattle.icu_checks.specs.declared.condition.Condition.TheVariants as conditions
 use Rattle.icu_checks.specs.declared.condition.PairCondition.TheVariants as of_pair
-use Rattle.icu_checks.specs.declared.implicit_overlaps.ImplicitClash.{ImplicitClash}
-use Rattle.icu_checks.specs.declared.table_set.TableSet.{TableSet}
-use Rattle.icu_checks.specs.declared.weights.Level.TheVariants.{Primary}
-use Rattle.icu_checks.specs.declared.weights.WeightList.TheVariants.{Primaries}
-use Rattle.icu_checks.specs.CollatorTables.{CollatorTables}
-use Rattle.icu_checks.specs.TableSets.{tables_in}
+use Rattle.icu_checks.specs.declared.check.implicit_overlaps.ImplicitClash.{ImplicitClash}
+use Rattle.icu_provider.specs.declared.table_set.TableSet.{TableSet}
+use Rattle.icu_checks.specs.declared.check.weights.Level.TheVariants.{Primary}
+use Rattle.icu_checks.specs.declared.check.weights.WeightList.TheVariants.{Primaries}
+use Rattle.icu_provider.specs.CollatorTables.{CollatorTables}
+use Rattle.icu_provider.specs.TableSets.{tables_in}
 use Rattle.icu_checks.specs.GoodTables.{MeetsBy, IsOverlapTable}
 use Rattle.icu_checks.specs.LiveElements.{IsElementBy, IsOfEntryBy}
 use Rattle.icu_checks.specs.Levels.{bytes_at}

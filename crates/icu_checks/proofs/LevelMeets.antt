@@ -19,9 +19,9 @@ use Rattle.icu_data.specs.Data.{homed}
 use Rattle.icu_checks.specs.declared.condition.Condition.TheVariants as conditions
 use Rattle.icu_checks.specs.declared.condition.ElementCondition.TheVariants as of_element
 use Rattle.icu_checks.specs.declared.condition.PairCondition.TheVariants as of_pair
-use Rattle.icu_checks.specs.declared.weights.WeightList.{WeightList}
-use Rattle.icu_checks.specs.declared.weights.WeightList.TheVariants.{Primaries, Secondaries, Tertiaries, TertiaryElements, WithSecondary}
-use Rattle.icu_checks.specs.CollatorTables.{CollatorTables}
+use Rattle.icu_checks.specs.declared.check.weights.WeightList.{WeightList}
+use Rattle.icu_checks.specs.declared.check.weights.WeightList.TheVariants.{Primaries, Secondaries, Tertiaries, TertiaryElements, WithSecondary}
+use Rattle.icu_provider.specs.CollatorTables.{CollatorTables}
 use Rattle.icu_checks.specs.LiveElements.{IsElementBy, IsOfEntryBy, IsOfAccent}
 use Rattle.icu_checks.specs.ElementConditions.{is_lone, is_high_lone}
 use Rattle.icu_checks.specs.EntryFaults.{MeetsIn, LiveMeets}
@@ -52,6 +52,18 @@ module _ (all : CollatorTables) (met : LiveMeets all) where
   collected_at list ws has table x is explicit w weighs = has table w (record { x = x; read = read_by all met table x is explicit; weighs = weighs })
 
 -- ---- the weights of one element
+
+secondaries_other : Secondaries ≡ Primaries → ⊥
+secondaries_other h = cc
+
+tertiaries_other : Tertiaries ≡ Primaries → ⊥
+tertiaries_other h = cc
+
+elements_other : TertiaryElements ≡ Primaries → ⊥
+elements_other h = cc
+
+beside_other : WithSecondary ≡ Primaries → ⊥
+beside_other h = cc
 
 lone_some : (s t : ℕ) → IsTrue (s == 0 && not (t == 0)) → 0 < t
 lone_some s t h = grind (arith, nat_tests)
@@ -104,8 +116,8 @@ module _ (all : CollatorTables) (met : LiveMeets all) (tables : AreTables all) w
           | inl is ↦ subst (λ t. t < tertiary_of x) (sym is) (above_common _ (tertiary_of x)
               (implied (is_lone x) (is_high_lone x) ((meets_in all met first).elements of_element.LoneTertiary x is_x) lone))
           | inr other ↦ high first second (tertiary_of x) (tertiary_of y)
-              (record { x = x; read = read_by all met first x is_x (weighs_explicit TertiaryElements x (tertiary_of x) cc (lone_kept x lone)); weighs = lone_kept x lone })
-              (record { x = y; read = read_by all met second y is_y (weighs_explicit WithSecondary y (tertiary_of y) cc (beside_kept y beside some other)); weighs = beside_kept y beside some other })
+              (record { x = x; read = read_by all met first x is_x (weighs_explicit TertiaryElements x (tertiary_of x) elements_other (lone_kept x lone)); weighs = lone_kept x lone })
+              (record { x = y; read = read_by all met second y is_y (weighs_explicit WithSecondary y (tertiary_of y) beside_other (beside_kept y beside some other)); weighs = beside_kept y beside some other })
         ]
       ]
 
@@ -159,7 +171,7 @@ module _ (all : CollatorTables) (met : LiveMeets all) (tables : AreTables all) w
 
   pub secondaries_meet : (ws : List ℕ) → Collected all Secondaries ws → IsPrefixFree (weight_bytes 4) (Contains ws) → Meets (conditions.Pair of_pair.Secondaries) all
   secondaries_meet ws has free first second x is_x y is_y some_x some_y differ begins =
-      two_bytes_meet Secondaries cc (λ x. x.secondary) secondary_weight secondary_leads secondary_fits ws has free x.secondary y.secondary
+      two_bytes_meet Secondaries secondaries_other (λ x. x.secondary) secondary_weight secondary_leads secondary_fits ws has free x.secondary y.secondary
       (record { table = first; x = x; live = is_x; is = refl; some = some_x }) (record { table = second; x = y; live = is_y; is = refl; some = some_y })
       differ begins
 
@@ -179,6 +191,6 @@ module _ (all : CollatorTables) (met : LiveMeets all) (tables : AreTables all) w
 
   pub tertiaries_meet : (ws : List ℕ) → Collected all Tertiaries ws → IsPrefixFree (weight_bytes 4) (Contains ws) → Meets (conditions.Pair of_pair.Tertiaries) all
   tertiaries_meet ws has free first second x is_x y is_y some_x some_y differ begins =
-      two_bytes_meet Tertiaries cc tertiary_of tertiary_weight tertiary_leads tertiary_fits ws has free (tertiary_of x) (tertiary_of y)
+      two_bytes_meet Tertiaries tertiaries_other tertiary_of tertiary_weight tertiary_leads tertiary_fits ws has free (tertiary_of x) (tertiary_of y)
       (record { table = first; x = x; live = is_x; is = refl; some = some_x }) (record { table = second; x = y; live = is_y; is = refl; some = some_y })
       differ begins

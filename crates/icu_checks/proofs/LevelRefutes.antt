@@ -9,10 +9,10 @@ use Rattle.icu_provider.specs.Reorderings.{lead_byte}
 use Rattle.icu_provider.specs.SpecialPrimaries.{is_compressible}
 use Rattle.icu_checks.specs.declared.condition.Condition.TheVariants as conditions
 use Rattle.icu_checks.specs.declared.condition.PairCondition.TheVariants as of_pair
-use Rattle.icu_checks.specs.declared.weights.Level.{Level}
-use Rattle.icu_checks.specs.declared.weights.Level.TheVariants.{Primary, Secondary, Tertiary}
-use Rattle.icu_checks.specs.declared.weights.WeightList.TheVariants.{Primaries, Secondaries, Tertiaries, TertiaryElements, WithSecondary}
-use Rattle.icu_checks.specs.CollatorTables.{CollatorTables, reorder}
+use Rattle.icu_checks.specs.declared.check.weights.Level.{Level}
+use Rattle.icu_checks.specs.declared.check.weights.Level.TheVariants.{Primary, Secondary, Tertiary}
+use Rattle.icu_checks.specs.declared.check.weights.WeightList.TheVariants.{Primaries, Secondaries, Tertiaries, TertiaryElements, WithSecondary}
+use Rattle.icu_provider.specs.CollatorTables.{CollatorTables, reorder}
 use Rattle.icu_checks.specs.PairConditions.{BeginsNot, PairMeets}
 use Rattle.icu_checks.specs.GoodTables.{EachPair, MeetsBy, IsOverlapTable}
 use Rattle.icu_checks.specs.Levels.{list_of, overlap_condition, bytes_at}

@@ -21,5 +21,4 @@ pub mod PrimaryMeets
 pub mod WeightListLemmas
 pub mod ImplicitOverlapLemmas
 pub mod CheckLemmas
-pub mod KeptLemmas
 pub mod ImplicitLemmas

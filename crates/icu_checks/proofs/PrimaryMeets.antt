@@ -20,8 +20,8 @@ use Rattle.icu_checks.specs.declared.condition.Condition.TheVariants as conditio
 use Rattle.icu_checks.specs.declared.condition.ElementCondition.TheVariants.{Width, MiddleLead, ImplicitLength, SharedLead}
 use Rattle.icu_checks.specs.declared.condition.LeadCondition.TheVariants.{ImplicitLead, Separator, HighLead}
 use Rattle.icu_checks.specs.declared.condition.PairCondition.TheVariants as of_pair
-use Rattle.icu_checks.specs.declared.weights.WeightList.TheVariants.{Primaries}
-use Rattle.icu_checks.specs.CollatorTables.{CollatorTables, reorder_by, reorder, new_lead}
+use Rattle.icu_checks.specs.declared.check.weights.WeightList.TheVariants.{Primaries}
+use Rattle.icu_provider.specs.CollatorTables.{CollatorTables, reorder_by, reorder, new_lead}
 use Rattle.icu_checks.specs.LiveElements.{IsElementBy, IsOfEntryBy}
 use Rattle.icu_checks.specs.ElementConditions.{implicit_lead, has_low_bytes, is_apart, primary_meets}
 use Rattle.icu_checks.specs.EntryFaults.{MeetsIn, LiveMeets}

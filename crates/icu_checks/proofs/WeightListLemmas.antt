@@ -11,12 +11,12 @@ use Rattle.icu_provider.specs.SpecialPrimaries.{is_compressible}
 use Rattle.icu_provider.specs.StoredTables.{reordering_of, special_of}
 use Rattle.icu_checks.specs.declared.condition.Condition.TheVariants as conditions
 use Rattle.icu_checks.specs.declared.condition.PairCondition.TheVariants.{Compression}
-use Rattle.icu_checks.specs.declared.table_set.TableSet.{TableSet}
-use Rattle.icu_checks.specs.declared.weights.Level.{Level}
-use Rattle.icu_checks.specs.declared.weights.WeightList.{WeightList}
-use Rattle.icu_checks.specs.declared.weights.WeightList.TheVariants.{Primaries, Secondaries, Tertiaries, TertiaryElements, WithSecondary}
-use Rattle.icu_checks.specs.CollatorTables.{CollatorTables, reorder_by, reorder}
-use Rattle.icu_checks.specs.TableSets.{tables_in}
+use Rattle.icu_provider.specs.declared.table_set.TableSet.{TableSet}
+use Rattle.icu_checks.specs.declared.check.weights.Level.{Level}
+use Rattle.icu_checks.specs.declared.check.weights.WeightList.{WeightList}
+use Rattle.icu_checks.specs.declared.check.weights.WeightList.TheVariants.{Primaries, Secondaries, Tertiaries, TertiaryElements, WithSecondary}
+use Rattle.icu_provider.specs.CollatorTables.{CollatorTables, reorder_by, reorder}
+use Rattle.icu_provider.specs.TableSets.{tables_in}
 use Rattle.icu_checks.specs.Alike.{CompressAlike, CompressApart}
 use Rattle.icu_checks.specs.Overlaps.{Overlaps}
 use Rattle.icu_checks.specs.Levels.{list_of, bytes_at}

@@ -1,7 +1,7 @@
 -- What the parts of the check find where there is no fault.
 use Rattle.icu_checks.specs.declared.condition.LeadCondition.{LeadCondition}
-use Rattle.icu_checks.specs.declared.weights.Level.TheVariants.{Secondary, Tertiary}
-use Rattle.icu_checks.specs.CollatorTables.{CollatorTables}
+use Rattle.icu_checks.specs.declared.check.weights.Level.TheVariants.{Secondary, Tertiary}
+use Rattle.icu_provider.specs.CollatorTables.{CollatorTables}
 use Rattle.icu_checks.specs.LeadConditions.{LeadMeets}
 use Rattle.icu_checks.specs.PairFaults.{LonesAreHigh, LevelIsFree, PrimariesAreFree}
 

@@ -25,7 +25,7 @@ use Rattle.icu_checks.specs.declared.condition.PairCondition.{PairCondition}
 use Rattle.icu_checks.specs.declared.condition.PairCondition.TheVariants as of_pair
 use Rattle.icu_checks.specs.declared.condition.LeadCondition.{LeadCondition}
 use Rattle.icu_checks.specs.declared.condition.LeadCondition.TheVariants as of_lead
-use Rattle.icu_checks.specs.CollatorTables.{CollatorTables}
+use Rattle.icu_provider.specs.CollatorTables.{CollatorTables}
 use Rattle.icu_checks.specs.LiveElements.{IsLiveBy, IsElementBy}
 use Rattle.icu_checks.specs.ElementConditions.{element_meets}
 use Rattle.icu_checks.specs.Overlaps.{AreOverlapping}

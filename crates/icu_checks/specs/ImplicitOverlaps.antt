@@ -7,10 +7,10 @@ use Rattle.icu_entries.specs.Entries.{kind_of}
 use Rattle.icu_entries.specs.Weights.{implicit_weight}
 use Rattle.icu_data.specs.Data.{Data}
 use Rattle.icu_provider.specs.Tables.{Tables}
-use Rattle.icu_checks.specs.declared.implicit_overlaps.ImplicitClash.{ImplicitClash}
-use Rattle.icu_checks.specs.declared.weights.Level.TheVariants.{Primary}
-use Rattle.icu_checks.specs.declared.weights.WeightList.TheVariants.{Primaries}
-use Rattle.icu_checks.specs.CollatorTables.{CollatorTables}
+use Rattle.icu_checks.specs.declared.check.implicit_overlaps.ImplicitClash.{ImplicitClash}
+use Rattle.icu_checks.specs.declared.check.weights.Level.TheVariants.{Primary}
+use Rattle.icu_checks.specs.declared.check.weights.WeightList.TheVariants.{Primaries}
+use Rattle.icu_provider.specs.CollatorTables.{CollatorTables}
 use Rattle.icu_checks.specs.LiveElements.{IsLiveBy}
 use Rattle.icu_checks.specs.Levels.{bytes_at}
 use Rattle.icu_checks.specs.PairFaults.{IsListedWeight}

@@ -3,11 +3,11 @@ use Rattle.std.specs.Prelude.{ℕ, List, Option, None}
 use Rattle.icu_provider.specs.Reorderings.{Reordering}
 use Rattle.icu_checks.specs.declared.condition.PairCondition.{PairCondition}
 use Rattle.icu_checks.specs.declared.condition.PairCondition.TheVariants as conditions
-use Rattle.icu_checks.specs.declared.weights.Level.{Level}
-use Rattle.icu_checks.specs.declared.weights.Level.TheVariants.{Primary, Secondary, Tertiary}
-use Rattle.icu_checks.specs.declared.weights.WeightList.{WeightList}
-use Rattle.icu_checks.specs.declared.weights.WeightList.TheVariants as lists
-use Rattle.icu_checks.specs.CollatorTables.{CollatorTables}
+use Rattle.icu_checks.specs.declared.check.weights.Level.{Level}
+use Rattle.icu_checks.specs.declared.check.weights.Level.TheVariants.{Primary, Secondary, Tertiary}
+use Rattle.icu_checks.specs.declared.check.weights.WeightList.{WeightList}
+use Rattle.icu_checks.specs.declared.check.weights.WeightList.TheVariants as lists
+use Rattle.icu_provider.specs.CollatorTables.{CollatorTables}
 use Rattle.icu_checks.specs.Overlaps.{written_bytes}
 
 -- the weights of a level, as they are collected

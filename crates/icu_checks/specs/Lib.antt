@@ -1,5 +1,3 @@
-pub mod CollatorTables
-pub mod TableSets
 pub mod LiveElements
 pub mod ElementConditions
 pub mod PairConditions
@@ -16,7 +14,6 @@ pub mod Overlaps
 pub mod Levels
 pub mod Leads
 pub mod Alike
-pub mod Kept
 pub mod Checked
 pub mod Loads
 pub mod WorkedLoads

@@ -4,7 +4,7 @@ use Rattle.std.specs.Prelude.{ℕ, ◌+◌, ◌≢◌, ◌⊎◌, List, Option, 
 use Rattle.icu_levels.specs.ListOrder.{IsBeginning}
 use Rattle.icu_levels.specs.WeightBytes.{weight_bytes}
 use Rattle.icu_provider.specs.Reorderings.{Reordering}
-use Rattle.icu_checks.specs.CollatorTables.{reorder_by}
+use Rattle.icu_provider.specs.CollatorTables.{reorder_by}
 
 -- one of two weights is written as a beginning of the other
 abbrev pub AreOverlapping : ℕ → ℕ → Type 0

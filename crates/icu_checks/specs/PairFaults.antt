@@ -8,12 +8,12 @@ use Rattle.icu_provider.specs.Reorderings.{lead_byte}
 use Rattle.icu_provider.specs.SpecialPrimaries.{is_compressible}
 use Rattle.icu_provider.specs.Tables.{Tables}
 use Rattle.icu_checks.specs.declared.fault.Fault.{Fault}
-use Rattle.icu_checks.specs.declared.lone_faults.Found.{Found}
-use Rattle.icu_checks.specs.declared.weights.Level.{Level}
-use Rattle.icu_checks.specs.declared.weights.Level.TheVariants as levels
-use Rattle.icu_checks.specs.declared.weights.WeightList.{WeightList}
-use Rattle.icu_checks.specs.declared.weights.WeightList.TheVariants.{Primaries, TertiaryElements, WithSecondary}
-use Rattle.icu_checks.specs.CollatorTables.{CollatorTables, reorder}
+use Rattle.icu_checks.specs.declared.check.lone_faults.Found.{Found}
+use Rattle.icu_checks.specs.declared.check.weights.Level.{Level}
+use Rattle.icu_checks.specs.declared.check.weights.Level.TheVariants as levels
+use Rattle.icu_checks.specs.declared.check.weights.WeightList.{WeightList}
+use Rattle.icu_checks.specs.declared.check.weights.WeightList.TheVariants.{Primaries, TertiaryElements, WithSecondary}
+use Rattle.icu_provider.specs.CollatorTables.{CollatorTables, reorder}
 use Rattle.icu_checks.specs.Levels.{list_of, bytes_at}
 use Rattle.icu_checks.specs.GoodTables.{later, IsOverlapTable}
 use Rattle.icu_checks.specs.Faults.{IsTrueFault}

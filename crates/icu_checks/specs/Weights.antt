@@ -11,9 +11,9 @@ use Rattle.icu_data.specs.Live.{live_from}
 use Rattle.icu_data.specs.LiveWeights.{is_stated, IsWeightAmong}
 use Rattle.icu_data.specs.Data.{Data, homed}
 use Rattle.icu_provider.specs.Tables.{Tables}
-use Rattle.icu_checks.specs.declared.weights.WeightList.{WeightList}
-use Rattle.icu_checks.specs.declared.weights.WeightList.TheVariants.{Primaries, Secondaries, Tertiaries, TertiaryElements, WithSecondary}
-use Rattle.icu_checks.specs.CollatorTables.{CollatorTables}
+use Rattle.icu_checks.specs.declared.check.weights.WeightList.{WeightList}
+use Rattle.icu_checks.specs.declared.check.weights.WeightList.TheVariants.{Primaries, Secondaries, Tertiaries, TertiaryElements, WithSecondary}
+use Rattle.icu_provider.specs.CollatorTables.{CollatorTables}
 use Rattle.icu_checks.specs.ElementConditions.{is_lone}
 use Rattle.icu_checks.specs.LiveElements.{IsLiveBy, IsOfAccent}
 

@@ -9,7 +9,8 @@ use Rattle.icu_data.specs.Data.{Data, homed}
 use Rattle.icu_data.specs.Final.{final_elements}
 use Rattle.icu_data.specs.Live.{live_at, EachLive}
 use Rattle.icu_data.specs.Walks.{after_all, after_chars, chars_below}
-use Rattle.icu_data.specs.LiveWeights.{is_stated, IsWeightAmong, IsLiveWeight, is_last, with_weight, with_found, collected, collected_at, given_elements}
+use Rattle.icu_data.specs.LiveWeights.{is_stated, IsWeightAmong, IsLiveWeight}
+use Rattle.icu_data.specs.inner.Visitors.{is_last, with_weight, with_found, collected, collected_at, given_elements}
 use Rattle.icu_data.proofs.ListLemmas.{weaker, all_of, all_members, of_member}
 use Rattle.icu_data.proofs.WalkLemmas.{fold_keeps, fold_back, walk_keeps, walk_back}
 

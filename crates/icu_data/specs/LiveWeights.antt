@@ -1,10 +1,10 @@
 -- The weights of the elements of live entries, as they are collected. Those of implicit weights (UTS #10, section 10.1) aren't: they
 -- follow from the character, and there are a million of them.
-use Rattle.std.specs.Prelude.{ℕ, ◌-◌, ◌≡◌, Bool, true, false, ◌&&◌, ◌==◌, List, [], ◌∷◌, ◌++◌, length, slice_get, fold, Option, Some, None, IsTrue, if◌then◌else◌}
+use Rattle.std.specs.Prelude.{ℕ, ◌≡◌, Bool, true, false, ◌&&◌, List, Option, Some, IsTrue}
 use Rattle.std.specs.Char.{IsScalar}
 use Rattle.std.specs.List.{Contains}
-use Rattle.icu_entries.specs.Elements.{Element}
 use Rattle.icu_entries.specs.declared.entry.EntryKind.TheVariants.{Implicit}
+use Rattle.icu_entries.specs.Elements.{Element}
 use Rattle.icu_entries.specs.Entries.{kind_of}
 use Rattle.icu_data.specs.Data.{Data, homed}
 use Rattle.icu_data.specs.Final.{final_elements}
@@ -29,25 +29,3 @@ pub record IsLiveWeight (weight : Element → Option ℕ) (falls_back : Bool) (h
   pub c : ℕ
   pub scalar : IsScalar c
   pub among : IsWeightAmong weight home c (live_at falls_back home c) w
-
--- the weight is the last of these
-unfoldable pub is_last : List ℕ → ℕ → Bool
-is_last ws w = elim (slice_get ws (length ws - 1)) [ Some last ↦ last == w | None ↦ false ]
-
--- these weights and one more, unless it is their last: many elements in a row have one weight
-unfoldable pub with_weight : List ℕ → ℕ → List ℕ
-with_weight ws w = if is_last ws w then ws else ws ++ w ∷ []
-
-abbrev pub with_found : List ℕ → Option ℕ → List ℕ
-with_found ws None = ws
-with_found ws (Some w) = with_weight ws w
-
--- what collects, and the weights so far, after one more element, and after one more entry
-abbrev pub collected : {W : Type 0} → (W → Element → Option ℕ) → W × List ℕ → Element → W × List ℕ
-collected weight s x = (s.0, with_found s.1 (weight s.0 x))
-
-unfoldable pub given_elements : Data → ℕ → ℕ → List Element
-given_elements home c e = if is_stated home c e then final_elements (homed home e) c else []
-
-abbrev pub collected_at : {W : Type 0} → (W → Element → Option ℕ) → W × List ℕ → Data → ℕ → ℕ → W × List ℕ
-collected_at weight s home c e = fold (collected weight) s (given_elements home c e)

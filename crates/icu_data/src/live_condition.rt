@@ -10,7 +10,7 @@ use icu_entries::{CollationElement32, DataErrorKind};
 /// A condition on an entry that is live in a root or a tailoring, in the order in which they are reported.
 #[derive(Debug, Clone, Copy, PartialEq, Eq)]
 pub enum LiveCondition {
-    /// What the entry names is there.
+    /// What the entry refers to is there.
     Indices,
     /// The rows of a prefix have one character or two.
     PrefixRows,

@@ -2,10 +2,11 @@
 ghost use Rattle.std.specs.Prelude.{◌≡◌, ◌↔◌, ◌⊎◌, ℕ, true, List, Option, OnOk, IsTrue};
 ghost use Rattle.std.specs.List.{Contains};
 ghost use Rattle.icu_entries.specs.Elements.{Element};
-ghost use Rattle.icu_data.specs.DataConditions.{is_readable};
 ghost use Rattle.icu_data.specs.Live.{live_from};
 ghost use Rattle.icu_data.specs.StoredData.{data_of};
-ghost use Rattle.icu_data.specs.LiveWeights.{is_stated, is_last, with_weight, collected, collected_at, IsWeightAmong, IsLiveWeight};
+ghost use Rattle.icu_data.specs.DataConditions.{is_readable};
+ghost use Rattle.icu_data.specs.LiveWeights.{is_stated, IsWeightAmong, IsLiveWeight};
+ghost use Rattle.icu_data.specs.inner.Visitors.{is_last, with_weight, collected, collected_at};
 
 use crate::data::CollationData;
 use crate::element_walk::{VisitElement, visit_elements};
@@ -124,7 +125,7 @@ impl<'w, W: Weigh> Visit for Collector<'w, W> {
 
 /// Adds to a list the weights that are collected of the elements of all entries that are live in a root or a tailoring, in any
 /// order, with or without repetition. A tailoring falls back: a fallback entry of its code point table is none. An entry whose
-/// elements can't be read, one that is not final, and one for an implicit weight, gives none. Where memory is refused, nothing is said of the list.
+/// elements can't be read, one that is not final, and one for an implicit weight, gives none. After an `Err`, out of memory, nothing is said of the list.
 pub fn collect_weights<W: Weigh>(
     weights: &mut Vec<u32>,
     weigh: &W,

@@ -19,7 +19,7 @@ second_bytes compressible = if compressible then 251 else 254
 abbrev pub least_second_byte : Bool → ℕ
 least_second_byte compressible = if compressible then 4 else 2
 
--- the place of a weight of three bytes among all of them, in their order
+-- the ordinal of a weight of three bytes among all of them
 unfoldable pub ordinal_of : Bool → ℕ → ℕ → ℕ → ℕ
 ordinal_of compressible b1 b2 b3 =
     (b1 * second_bytes compressible + b2 - least_second_byte compressible) * 254 + b3 - 2
@@ -53,7 +53,7 @@ offset_compressible d = offset_data d / 128 % 2 == 1
 abbrev pub offset_step : Element → ℕ
 offset_step d = offset_data d % 128
 
--- the place of a weight of three bytes, by its bytes
+-- the ordinal of a weight of three bytes
 abbrev pub ordinal_of_weight : Bool → ℕ → ℕ
 ordinal_of_weight compressible p = ordinal_of compressible (p / 0x1000000) (p / 0x10000 % 256) (p / 0x100 % 256)
 

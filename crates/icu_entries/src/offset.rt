@@ -20,7 +20,7 @@ fn least_second_byte(compressible: bool) -> u32
     if compressible { 4 } else { 2 }
 }
 
-/// The place of a weight of three bytes among all of them.
+/// The ordinal of a weight of three bytes among all of them.
 #[tactic(auto, unfolding(crate::specs::Weights::ordinal_of))]
 fn ordinal_of_weight(compressible: bool, weight: u32) -> u32
     ensures value { result ≡ ordinal_of_weight compressible weight }
@@ -78,7 +78,7 @@ impl CollationElement {
         self.non_primary().bits() & 0x7f
     }
 
-    /// The place of a character's weight by offset data.
+    /// The ordinal of a character's weight by offset data.
     #[tactic(auto, unfolding(crate::specs::Weights::offset_ordinal))]
     fn offset_ordinal(self, c: char) -> u32
         ensures { result ≡ offset_ordinal self c }

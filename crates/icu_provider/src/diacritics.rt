@@ -15,9 +15,9 @@ pub struct CollationDiacritics<'d> {
     ghost is_diacritics: { IsDiacritics secondaries.now },
 }
 
-/// Whether the place, from U+0300 on, is that of U+0340, U+0341, U+0343 or U+0344, which no canonical decomposition has.
-pub fn is_replaced_index(place: usize) -> bool
-    ensures { result ≡ is_replaced_index place }
+/// Whether the index, from U+0300 on, is that of U+0340, U+0341, U+0343 or U+0344, which no canonical decomposition has.
+pub fn is_replaced_index(index: usize) -> bool
+    ensures { result ≡ is_replaced_index index }
 {
     index == 0x40 || index == 0x41 || index == 0x43 || index == 0x44
 }
@@ -45,8 +45,8 @@ impl<'d> CollationDiacritics<'d> {
         if secondaries.len() > OPTIMIZED_DIACRITICS_MAX_COUNT {
             return Err(DataErrorKind::Length);
         }
-        for (place, secondary) in secondaries.iter().enumerate() {
-            if !is_replaced_index(place) && !is_diacritic_weight(*secondary) {
+        for (index, secondary) in secondaries.iter().enumerate() {
+            if !is_replaced_index(index) && !is_diacritic_weight(*secondary) {
                 return Err(DataErrorKind::Element);
             }
         }

@@ -15,7 +15,7 @@ pub struct CollationSpecialPrimaries<'d> {
     ghost is_special: { IsSpecialPrimaries last_primaries.now numeric_primary },
 }
 
-/// The place of a group's number.
+/// The index of a group's number.
 fn group_index(group: MaxVariable) -> usize
     ensures value { result ≡ group_index group }
     ensures bound { result ≤ 3 }

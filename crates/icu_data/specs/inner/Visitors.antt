@@ -4,7 +4,7 @@ use Rattle.icu_entries.specs.declared.element_conditions.ElementCondition.{Eleme
 use Rattle.icu_entries.specs.Elements.{Element}
 use Rattle.icu_data.specs.Data.{Data, Row, homed}
 use Rattle.icu_data.specs.Final.{final_elements}
-use Rattle.icu_data.specs.DataConditions.{is_readable}
+use Rattle.icu_data.specs.LiveWeights.{is_stated}
 use Rattle.icu_entries.specs.ElementConditions.{element_meets}
 use Rattle.icu_data.specs.Faults.{earlier}
 use Rattle.icu_data.specs.Walks.{after_all}
@@ -38,7 +38,7 @@ abbrev pub collected : {W : Type 0} → (W → Element → Option ℕ) → W × 
 collected weight s x = (s.0, with_found s.1 (weight s.0 x))
 
 unfoldable pub given_elements : Data → ℕ → ℕ → List Element
-given_elements home c e = if is_readable home c e then final_elements (homed home e) c else []
+given_elements home c e = if is_stated home c e then final_elements (homed home e) c else []
 
 abbrev pub collected_at : {W : Type 0} → (W → Element → Option ℕ) → W × List ℕ → Data → ℕ → ℕ → W × List ℕ
 collected_at weight s home c e = fold (collected weight) s (given_elements home c e)
