@@ -1,15 +1,14 @@
 -- Implicit weights: none of them is collected, and they meet every condition where reordering takes them to a lead byte of their own.
-use Rattle.std.proofs.Common.{◌≡◌, ◌≢◌, ℕ, ◌+◌, ◌*◌, ◌/◌, ◌%◌, ◌^◌, ◌<◌, ◌≤◌, Bool, true, false, not, ◌==◌, ◌&&◌, ◌||◌, nat_eq, nat_le, nat_lt, List, [], ◌∷◌, Option, Some, None, IsTrue, if◌then◌else◌, fold, refl, sym, ap, ◌∙◌, subst, arith}
+use Rattle.std.proofs.Common.{◌≡◌, ◌≢◌, ℕ, ◌+◌, ◌*◌, ◌/◌, ◌%◌, ◌^◌, ◌<◌, ◌≤◌, Bool, true, false, not, ◌==◌, ◌&&◌, ◌||◌, nat_eq, nat_le, nat_lt, Option, None, IsTrue, if◌then◌else◌, refl, sym, ap, ◌∙◌, subst, arith}
 use Rattle.std.proofs.lemmas.Bool.Decides.{nat_tests}
 use Rattle.icu_entries.specs.declared.error.DataTable.{DataTable}
-use Rattle.icu_entries.specs.Elements.{Element, of_primary}
+use Rattle.icu_entries.specs.Elements.{of_primary}
 use Rattle.icu_entries.specs.declared.entry.EntryKind.TheVariants.{Implicit}
 use Rattle.icu_entries.specs.Entries.{kind_of}
 use Rattle.icu_data.specs.DataConditions.{avoids_diacritics}
 use Rattle.icu_data.specs.Faults.{earlier}
 use Rattle.icu_data.specs.Final.{final_elements}
 use Rattle.icu_provider.specs.Reorderings.{lead_byte}
-use Rattle.icu_provider.specs.SpecialPrimaries.{is_compressible}
 use Rattle.icu_data.specs.Data.{Data}
 use Rattle.icu_entries.specs.Weights.{weight, implicit_weight}
 use Rattle.icu_data.proofs.FaultLemmas.{none_found, negated}
@@ -24,8 +23,7 @@ use Rattle.icu_checks.specs.Leads.{is_middle}
 use Rattle.icu_checks.specs.ElementConditions.{implicit_lead, has_low_bytes, has_second_byte, is_apart, primary_meets, element_meets, element_conditions}
 use Rattle.icu_checks.specs.declared.condition.LeadCondition.TheVariants.{ImplicitLead, LeadsApart}
 use Rattle.icu_checks.specs.LeadConditions.{TakesTogether, LeadMeets}
-use Rattle.icu_checks.specs.EntryFaults.{first_failing_element, after_element, elements_fault, entry_fault, ImplicitPasses}
-use Rattle.icu_checks.specs.Faults.{fault_rank}
+use Rattle.icu_checks.specs.EntryFaults.{first_failing_element, elements_fault, entry_fault, ImplicitPasses}
 use Rattle.icu_checks.specs.Weights.{weight_at}
 
 -- ---- the bytes of an implicit weight

@@ -1,5 +1,5 @@
 -- Entries for implicit weights that are live, and primary weights that begin an implicit weight.
-use Rattle.std.proofs.Common.{◌≡◌, ◌≢◌, ℕ, ◌+◌, ◌-◌, ◌^◌, ◌<◌, ◌≤◌, Bool, true, false, ◌&&◌, ◌||◌, ◌==◌, List, [], ◌∷◌, fold, Option, Some, None, IsTrue, slice_index, if◌then◌else◌, refl, sym, ap, ◌∙◌, subst, arith, option_map, inl, inr}
+use Rattle.std.proofs.Common.{◌≡◌, ◌≢◌, ℕ, ◌-◌, ◌<◌, ◌≤◌, Bool, true, false, ◌||◌, ◌==◌, List, [], ◌∷◌, fold, Some, IsTrue, slice_index, if◌then◌else◌, refl, sym, ap, ◌∙◌, subst, arith, option_map, inl, inr}
 use Rattle.std.specs.Char.{IsScalar}
 use Rattle.std.specs.List.{Contains, list_any}
 use Rattle.std.proofs.lemmas.Bool.Decides.{nat_tests}
@@ -10,13 +10,11 @@ use Rattle.icu_entries.specs.declared.error.DataTable.{DataTable}
 use Rattle.icu_entries.specs.declared.error.DataTable.TheVariants.{Root, Jamo, SpecialPrimaries, Metadata, Tailoring, Reordering, Diacritics}
 use Rattle.icu_entries.specs.declared.entry.EntryKind.{EntryKind}
 use Rattle.icu_entries.specs.declared.entry.EntryKind.TheVariants.{Simple, Fallback, LongPrimary, LongSecondary, Expansion32, Expansion, Prefix, Contraction, Digit, Offset, Implicit, Reserved}
-use Rattle.icu_entries.specs.Elements.{Element, of_primary}
+use Rattle.icu_entries.specs.Elements.{of_primary}
 use Rattle.icu_entries.specs.Entries.{kind_of}
 use Rattle.icu_entries.specs.Weights.{implicit_weight}
 use Rattle.icu_data.specs.declared.data.CollationData.{CollationData}
-use Rattle.icu_data.specs.Data.{Data, homed}
-use Rattle.icu_data.specs.Final.{final_elements}
-use Rattle.icu_data.specs.Live.{live_from, live_at}
+use Rattle.icu_data.specs.Live.{live_from}
 use Rattle.icu_data.specs.StoredData.{data_of}
 use Rattle.icu_provider.specs.Reorderings.{lead_byte}
 use Rattle.icu_provider.specs.StoredTables.{jamo_of}

@@ -1,5 +1,5 @@
 -- Overlaps of the members of a list, from those of its indexes.
-use Rattle.std.proofs.Common.{◌≡◌, ◌≢◌, ℕ, ◌+◌, ◌*◌, ◌^◌, ◌<◌, ◌≤◌, List, length, get_or, refl, sym, ap, ◌∙◌, subst, inl, inr, ◌⊎◌, arith, Contains, IsPermutation, Option, Some, None, IfSome}
+use Rattle.std.proofs.Common.{◌≡◌, ◌≢◌, ℕ, ◌*◌, ◌^◌, ◌<◌, ◌≤◌, List, length, get_or, refl, sym, ap, ◌∙◌, subst, inl, inr, ◌⊎◌, arith, Contains, IsPermutation}
 use Rattle.std.specs.List.Sorted.{IsStrictlyIncreasing}
 use Rattle.std.proofs.lemmas.Bool.{cases_lt}
 use Rattle.std.proofs.lemmas.List.{get_or_default}
@@ -11,7 +11,7 @@ use Rattle.icu_levels.specs.WeightBytes.{weight_bytes}
 use Rattle.icu_levels.specs.Premises.{IsPrefixFree}
 use Rattle.icu_checks.specs.Overlaps.{Overlaps}
 use Rattle.icu_checks.proofs.BeginningLemmas.{moved_up_bytes}
-use Rattle.icu_checks.proofs.NeighbourLemmas.{AreAt, permuted}
+use Rattle.icu_checks.proofs.NeighbourLemmas.{permuted}
 
 -- a member, by its index
 member_at : (ws : List ℕ) (v : ℕ) (c : Contains ws v) → get_or ws c.0 0 ≡ v

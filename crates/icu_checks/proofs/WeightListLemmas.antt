@@ -1,10 +1,8 @@
 -- Lists of weights, and the faults that they show.
-use Rattle.std.proofs.Common.{◌≡◌, ◌≢◌, ◌↔◌, ℕ, ◌≤◌, ◌<◌, ◌^◌, Bool, true, false, List, [], length, get_or, Option, Some, None, IfSome, All, refl, sym, ap, ◌∙◌, subst, inl, inr, arith, option_map}
+use Rattle.std.proofs.Common.{◌≡◌, ◌↔◌, ℕ, Bool, true, false, List, [], Some, None, refl, sym, ap, ◌∙◌, subst, inl, inr, arith, option_map}
 use Rattle.std.specs.List.{Contains}
-use Rattle.icu_levels.specs.ListOrder.{IsBeginning}
 use Rattle.icu_entries.specs.declared.error.DataTable.{DataTable}
 use Rattle.icu_entries.specs.declared.error.DataTable.TheVariants.{Root, Jamo, SpecialPrimaries, Metadata, Tailoring, Reordering, Diacritics}
-use Rattle.icu_entries.specs.Elements.{Element, of_secondary}
 use Rattle.icu_provider.specs.declared.reordering.CollationReordering.{CollationReordering}
 use Rattle.icu_provider.specs.Reorderings.{reordered, lead_byte}
 use Rattle.icu_provider.specs.SpecialPrimaries.{is_compressible}
@@ -14,7 +12,7 @@ use Rattle.icu_checks.specs.declared.condition.PairCondition.TheVariants.{Compre
 use Rattle.icu_provider.specs.declared.table_set.TableSet.{TableSet}
 use Rattle.icu_checks.specs.declared.check.weights.Level.{Level}
 use Rattle.icu_checks.specs.declared.check.weights.WeightList.{WeightList}
-use Rattle.icu_checks.specs.declared.check.weights.WeightList.TheVariants.{Primaries, Secondaries, Tertiaries, TertiaryElements, WithSecondary}
+use Rattle.icu_checks.specs.declared.check.weights.WeightList.TheVariants.{Primaries}
 use Rattle.icu_provider.specs.CollatorTables.{CollatorTables, reorder_by, reorder}
 use Rattle.icu_provider.specs.TableSets.{tables_in}
 use Rattle.icu_checks.specs.Alike.{CompressAlike, CompressApart}

@@ -1,7 +1,5 @@
 use Rattle.std.proofs.Common.{subst, arith}
 use Rattle.icu_checks.specs.declared.condition.Condition.TheVariants as conditions
-use Rattle.icu_checks.specs.declared.condition.PairCondition.{PairCondition}
-use Rattle.icu_checks.specs.declared.check.weights.WeightList.{WeightList}
 use Rattle.icu_provider.specs.TableSets.{tables_in}
 use Rattle.icu_checks.specs.GoodTables.{MeetsBy}
 use Rattle.icu_checks.specs.Weights.{IsWeightBy}

@@ -1,4 +1,4 @@
-use Rattle.std.proofs.Common.{◌≡◌, ◌↔◌, IsTrue, subst}
+use Rattle.std.proofs.Common.{◌↔◌, IsTrue, subst}
 use Rattle.std.specs.List.{Contains}
 use Rattle.icu_provider.specs.TableSets.{tables_in}
 use Rattle.icu_checks.proofs.WeightListLemmas.{is_weight_by}
