@@ -16,8 +16,8 @@ use Rattle.icu_provider.specs.SpecialPrimaries.{SpecialPrimaries}
 use Rattle.icu_provider.specs.Tables.{Data, plain_of}
 use Rattle.icu_checks.specs.CollatorTables.{CollatorTables}
 use Rattle.icu_checks.specs.Loads.{and_then, or_else, typed_first, if_named, diacritics_request, lent_tables}
-use Rattle.icu_elements.specs.Plain.{plain_reading, names_no_context, IsPlain}
-use Rattle.icu_elements.proofs.PlainLemmas.{IsPlain-from_each}
+use Rattle.icu_elements.specs.ByCharacter.{non_numeric_reading, needs_no_context, IsContextFree}
+use Rattle.icu_elements.proofs.ByCharacterLemmas.{IsContextFree-from_each}
 use Rattle.icu_mini.specs.declared.mini.Mini.{Mini}
 use Rattle.icu_mini.specs.declared.provider.MiniProvider.{MiniProvider}
 use Rattle.icu_mini.specs.declared.table_data.TableData.{TableData}
@@ -109,7 +109,7 @@ mini-lent m p r all mini lends h =
 
 -- an entry that looks at no context
 NamesNone : ℕ → Type 0
-NamesNone e = names_no_context (kind_of e) ≡ true
+NamesNone e = needs_no_context (kind_of e) ≡ true
 
 -- which the lowest byte alone says
 of_byte : (b e : ℕ) → e % 256 ≡ b → b < 256 → NamesNone b → NamesNone e
@@ -131,12 +131,12 @@ at_digit : (k : EntryKind) (e plain : ℕ) → NamesNone e → NamesNone plain �
 at_digit Digit e plain h p = (h, (p, tt))
 at_digit _ e plain h p = (h, tt)
 
-at_contraction : (k : EntryKind) (xs ys : List ℕ) → names_no_context k ≡ true → AllByRecursion NamesNone ys
+at_contraction : (k : EntryKind) (xs ys : List ℕ) → needs_no_context k ≡ true → AllByRecursion NamesNone ys
     → AllByRecursion NamesNone (elim k [ Contraction ↦ xs | _ ↦ ys ])
 at_contraction Contraction xs ys is h = absurd (cc)
 at_contraction _ xs ys is h = h
 
-at_prefix : (k : EntryKind) (xs ys : List ℕ) → names_no_context k ≡ true → AllByRecursion NamesNone ys
+at_prefix : (k : EntryKind) (xs ys : List ℕ) → needs_no_context k ≡ true → AllByRecursion NamesNone ys
     → AllByRecursion NamesNone (elim k [ Prefix ↦ xs | _ ↦ ys ])
 at_prefix Prefix xs ys is h = absurd (cc)
 at_prefix _ xs ys is h = h
@@ -237,9 +237,9 @@ module _ (m : Mini) (mini : IsMini m) where
   plain_value : (e : ℕ) → NamesNone (plain_of (data_held m.root) e)
   plain_value e = rw mini.root.entries (at_or _ plain_entries (e / 8192))
 
-  pub mini-plain : IsPlain (plain_reading (collator_tables m))
+  pub mini-plain : IsContextFree (non_numeric_reading (collator_tables m))
   unfolding NamesNone
-  mini-plain = IsPlain-from_each (collator_tables m) (record {
+  mini-plain = IsContextFree-from_each (collator_tables m) (record {
     root = λ c scalar. live (data_held m.root) _ (root_value c scalar) (plain_value _);
     jamo = λ c is. live (data_held m.root) _ (jamo_value (c - 0x1100)) (plain_value _);
     tailoring = rw (no_tailoring m.tailoring mini.tailoring) tt;

@@ -8,10 +8,10 @@ use Rattle.icu_provider.specs.Tables.{Tables}
 use Rattle.icu_elements.proofs.Computing.{icu_elements}
 use Rattle.icu_elements.proofs.WorkedTables.{mini, sharp_s}
 use Rattle.icu_comparison.specs.Order.{order_of_elements, order_of}
-use Rattle.icu_comparison.specs.Collators.{plain_comparison}
+use Rattle.icu_comparison.specs.Collators.{non_numeric_comparison}
 
 abbrev order_in : Tables → Strength → List ℕ → List ℕ → Ordering
-order_in tables strength = order_of (plain_comparison strength tables)
+order_in tables strength = order_of (non_numeric_comparison strength tables)
 
 -- "ab" and "aB"
 case_differs : order_in mini Tertiary (97 ∷ 98 ∷ []) (97 ∷ 66 ∷ []) ≡ Less

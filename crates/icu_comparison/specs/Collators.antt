@@ -14,7 +14,7 @@ use Rattle.icu_checks.specs.Checked.{checked_tables}
 use Rattle.icu_checks.specs.CollatorTables.{CollatorTables}
 use Rattle.icu_checks.specs.Loads.{lent_tables}
 use Rattle.icu_elements.specs.TextElements.{Reading}
-use Rattle.icu_elements.specs.Plain.{IsPlain, plain_reading}
+use Rattle.icu_elements.specs.ByCharacter.{IsContextFree, non_numeric_reading}
 use Rattle.icu_comparison.specs.declared.collator.Collator.{Collator}
 use Rattle.icu_comparison.specs.declared.collator.CollatorBorrowed.{CollatorBorrowed}
 use Rattle.icu_comparison.specs.Order.{Comparison, is_at_most_tertiary}
@@ -59,14 +59,14 @@ abbrev pub comparison_by : CollatorTables → Settings → Comparison
 comparison_by all settings = record { strength = settings.strength.value; reading = reading_by all settings }
 
 -- by tables whose digits are letters like others
-abbrev pub plain_comparison : Strength → Tables → Comparison
-plain_comparison strength tables = record { strength = strength; reading = plain_reading tables }
+abbrev pub non_numeric_comparison : Strength → Tables → Comparison
+non_numeric_comparison strength tables = record { strength = strength; reading = non_numeric_reading tables }
 
 -- The order needs no more than the primary, secondary and tertiary weights of each character by itself, as they are: the reading
 -- needs no context, leads aren't reordered, the secondary level is compared from the front, variable elements are like others, and
 -- neither case nor a level after the tertiary one counts.
-pub record IsPlainComparison (all : CollatorTables) (settings : Settings) : Type 0 where
-  pub reading : IsPlain (reading_by all settings)
+pub record IsSupportedComparison (all : CollatorTables) (settings : Settings) : Type 0 where
+  pub reading : IsContextFree (reading_by all settings)
   pub reordering : all.reordering ≡ None
   pub forward : settings.backward_second_level.value ≡ false
   pub alternate_handling : settings.alternate_handling.value ≡ NonIgnorable

@@ -4,8 +4,8 @@ ghost use Rattle.icu_options.specs.Merge.{merge};
 ghost use Rattle.icu_options.specs.Metadata.{metadata_settings};
 ghost use Rattle.icu_provider.specs.declared.error.DataErrorKind.TheVariants.{NoMemory};
 ghost use Rattle.icu_checks.specs.GoodTables.{IsGoodTables, IsTrueRefusal};
-ghost use Rattle.icu_elements.specs.Plain.{IsPlain};
-ghost use Rattle.icu_elements.specs.Reading.{tables_of};
+ghost use Rattle.icu_elements.specs.ByCharacter.{IsContextFree};
+ghost use Rattle.icu_elements.specs.Reading.{element_tables};
 ghost use Rattle.icu_elements.specs.TextElements.{elements_of};
 ghost use Rattle.icu_comparison.specs.Order.{order_of};
 ghost use Rattle.unicode_normalization.specs.Forms.{nfd};
@@ -83,7 +83,7 @@ pub struct CollatorBorrowed<'a> {
 }
 
 impl<'a> CollatorBorrowed<'a> {
-    ghost use Rattle.icu_comparison.specs.Collators.{IsPlainComparison, comparison_by, reading_by, tables_borrowed, settings_borrowed};
+    ghost use Rattle.icu_comparison.specs.Collators.{IsSupportedComparison, comparison_by, reading_by, tables_borrowed, settings_borrowed};
 
     /// The settings that the collator works by.
     pub fn resolved_options(&self) -> ResolvedCollatorOptions
@@ -94,16 +94,16 @@ impl<'a> CollatorBorrowed<'a> {
 
     /// The tables that elements are read from.
     pub fn tables(&self) -> ElementTables<'a>
-        ensures { tables_of result ≡ (tables_borrowed self.now).tables }
+        ensures { element_tables result ≡ (tables_borrowed self.now).tables }
     {
         ElementTables::new(self.tables)
     }
 
     /// The order of two texts (UTS #10, section 7.4), where their elements are plain and compared as they are
-    /// (`IsPlainComparison`). Elsewhere each character is read by itself, the weights are compared as they stand in the tables, and
+    /// (`IsSupportedComparison`). Elsewhere each character is read by itself, the weights are compared as they stand in the tables, and
     /// levels after the tertiary one don't count. Refused only where a growth was.
     pub fn compare(&self, left: &str, right: &str) -> Result<Ordering, AllocError>
-        ensures { IsPlainComparison (tables_borrowed self.now) (settings_borrowed self.now)
+        ensures { IsSupportedComparison (tables_borrowed self.now) (settings_borrowed self.now)
             → IfOk result (λ o. o ≡ order_of (comparison_by (tables_borrowed self.now) (settings_borrowed self.now)) (chars left.now) (chars right.now)) }
     {
         let left = self.elements(left)?;
@@ -119,7 +119,7 @@ impl<'a> CollatorBorrowed<'a> {
     /// The elements of a text.
     fn elements(&self, text: &str) -> Result<Vec<CollationElement>, AllocError>
         ensures { let reading = reading_by (tables_borrowed self.now) (settings_borrowed self.now) in
-            IsPlain reading → IfOk result (λ es. es.items ≡ elements_of reading (nfd (chars text.now))) }
+            IsContextFree reading → IfOk result (λ es. es.items ≡ elements_of reading (nfd (chars text.now))) }
     {
         all_elements(
             self.tables(),

@@ -4,10 +4,10 @@ pub mod DecomposedLemmas
 pub mod PartLemmas
 pub mod SourceLemmas
 pub mod ReadableLemmas
-pub mod PlainLemmas
+pub mod ByCharacterLemmas
 pub mod LiveTextLemmas
 pub mod Computing
 pub mod WorkedTables
 mod WorkedTexts
-mod WorkedPlain
+mod WorkedByCharacter
 mod WorkedLive

@@ -17,7 +17,7 @@ use Rattle.icu_checks.specs.CollatorTables.{CollatorTables}
 use Rattle.icu_checks.specs.GoodTables.{IsGoodTables}
 use Rattle.icu_elements.specs.TextElements.{Reading, elements_of}
 use Rattle.icu_elements.specs.TextParts.{is_replaced, IsOfDiacritic, IsOfNumber, IsTextElement}
-use Rattle.icu_elements.specs.LiveTexts.{IsLiveElement, IsNumberElement, IsLiveOrNumber, read_by}
+use Rattle.icu_elements.specs.LiveTexts.{IsLiveElement, IsNumberElement, IsLiveOrNumber, collator_reading}
 use Rattle.icu_elements.proofs.ReadableLemmas.{good_readable, readable_digits}
 use Rattle.icu_elements.proofs.SourceLemmas.{elements_of-sources}
 
@@ -43,9 +43,9 @@ place_inside c n h = let parts = and_parts (nat_le 0x300 c) (nat_lt (c - 0x300) 
 kept_place : (c n : ℕ) → (nat_le 0x300 c && nat_lt (c - 0x300) n) ≡ true → IsTrue (not (is_replaced c)) → is_replaced_place (c - 0x300) ≡ false
 kept_place c n h kept = let parts = and_parts (nat_le 0x300 c) (nat_lt (c - 0x300) n) h in grind (arith, nat_tests)
 
-live_accent : (tables : Tables) (x : Element) → IsOfDiacritic tables x → IsLiveElement tables x
+live_diacritic : (tables : Tables) (x : Element) → IsOfDiacritic tables x → IsLiveElement tables x
 unfolding diacritic_of
-live_accent tables x accent =
+live_diacritic tables x accent =
     let c = accent.char in
     let is = found (nat_le 0x300 c && nat_lt (c - 0x300) (length tables.diacritics)) (slice_index tables.diacritics (c - 0x300)) accent.secondary accent.in_table in
     record {
@@ -82,11 +82,11 @@ number_element numeric x number =
 
 live_or_number : (reading : Reading) (x : Element) → IsTextElement reading x → IsLiveOrNumber reading x
 live_or_number reading x (inl entry) = inl (live_entry reading.tables x entry.home entry.char entry.entry entry.live entry.member)
-live_or_number reading x (inr (inl accent)) = inl (live_accent reading.tables x accent)
+live_or_number reading x (inr (inl accent)) = inl (live_diacritic reading.tables x accent)
 live_or_number reading x (inr (inr number)) = inr (number_element reading.numeric x number)
 
-pub good_tables_live : (all : CollatorTables) (numeric : Option ℕ) (lithuanian : Bool) → IsGoodTables all → (cs : List ℕ) → AllByRecursion IsScalar cs → AllByRecursion (IsLiveOrNumber (read_by all numeric lithuanian)) (elements_of (read_by all numeric lithuanian) (nfd cs))
+pub good_tables_live : (all : CollatorTables) (numeric : Option ℕ) (lithuanian : Bool) → IsGoodTables all → (cs : List ℕ) → AllByRecursion IsScalar cs → AllByRecursion (IsLiveOrNumber (collator_reading all numeric lithuanian)) (elements_of (collator_reading all numeric lithuanian) (nfd cs))
 good_tables_live all numeric lithuanian good cs scalars =
-    let reading = read_by all numeric lithuanian in
+    let reading = collator_reading all numeric lithuanian in
     weaker (IsTextElement reading) (IsLiveOrNumber reading) (live_or_number reading) (elements_of reading (nfd cs))
     (elements_of-sources reading (readable_digits all.tables (good_readable all good)) cs scalars)

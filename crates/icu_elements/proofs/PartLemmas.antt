@@ -16,7 +16,7 @@ use Rattle.icu_provider.specs.Final.{final_elements}
 use Rattle.icu_provider.specs.Live.{live_digit, live_contraction, live_from, EachLive}
 use Rattle.icu_provider.proofs.ListLemmas.{weaker}
 use Rattle.icu_elements.specs.Matches.{Match, match_of}
-use Rattle.icu_elements.specs.TextElements.{Reading, Step, is_silent_dot, goes_on, begins_with_mark, digit_of, number_elements, number_step, entry_step, diacritic_step, matched_step, step, taken, last_two, elements_along, elements_after, elements_of}
+use Rattle.icu_elements.specs.TextElements.{Reading, Step, is_silent_dot, continues_number, begins_with_mark, digit_of, number_elements, number_step, entry_step, diacritic_step, matched_step, step, consumed, last_two, elements_along, elements_after, elements_of}
 use Rattle.icu_provider.specs.LiveTables.{jamo_entry, AllLive, HasDigits}
 use Rattle.icu_elements.specs.TextParts.{IsDecomposed, IsDecomposedText, AreDigits, HasGoodParts, EachPasses, PartsPass}
 use Rattle.icu_elements.proofs.LiveLemmas.{match_of-live, all_drop}
@@ -89,9 +89,9 @@ digit_from_run _ false small h s = cc
 decimal : (d : ℕ) → nat_le d 9 ≡ true → d < 10
 decimal d h = grind (arith, nat_tests)
 
-goes_on-decimal : (tables : Tables) → HasDigits tables → (x : ℕ) → goes_on tables x ≡ true → IsDecomposed x → digit_of tables x < 10
+continues_number-decimal : (tables : Tables) → HasDigits tables → (x : ℕ) → continues_number tables x ≡ true → IsDecomposed x → digit_of tables x < 10
 unfolding has_digit
-goes_on-decimal tables live x on read =
+continues_number-decimal tables live x on read =
     let h = entry_of tables x in
     let head : IsTrue (has_digit h.entry) = live_from-head (λ e. IsTrue (has_digit e)) h.home h.entry (entry_of-live (λ home c e. IsTrue (has_digit e)) tables live x read.scalar) in
     decimal _ (digit_from_run (kind_of h.entry) _ _ on head)
@@ -124,11 +124,11 @@ module _ (G : List Element → Type 0) (reading : Reading) (parts : HasGoodParts
   unfolding number_step
   number_step-gives lead m good small rest =
       let tables = reading.tables in
-      let run = take_while (goes_on tables) m.rest in
+      let run = take_while (continues_number tables) m.rest in
       let alone : Step = record { elements = number_elements lead (digit_value m.entry ∷ []); suffix = m.suffix; rest = m.rest } in
       let together : Step = record { elements = number_elements lead (digit_value m.entry ∷ map (digit_of tables) run); suffix = run; rest = drop (length run) m.rest } in
       let by_itself : Gives G IsDecomposed alone = record { elements = good (digit_value m.entry ∷ []) (small, tt); rest = rest } in
-      let digits = all_run (goes_on tables) (digit_of tables) IsDecomposed (λ d. d < 10) (goes_on-decimal tables parts.digits) m.rest rest in
+      let digits = all_run (continues_number tables) (digit_of tables) IsDecomposed (λ d. d < 10) (continues_number-decimal tables parts.digits) m.rest rest in
       let with_run : Gives G IsDecomposed together = record { elements = good (digit_value m.entry ∷ map (digit_of tables) run) (small, digits); rest = all_drop IsDecomposed (length run) m.rest rest } in
       step_nil (Gives G IsDecomposed) m.suffix _ alone (step_if (Gives G IsDecomposed) (begins_with_mark m.rest) alone together by_itself with_run) by_itself
 
@@ -169,7 +169,7 @@ module _ (G : List Element → Type 0) (reading : Reading) (parts : HasGoodParts
   elements_along-gives (_ ∷ along) before (c ∷ text) all =
       let s = step reading before c text in
       let gives = step-gives before c text all.0 all.1 in
-      parts.append s.elements _ gives.elements (elements_along-gives along (last_two before (taken c s)) s.rest gives.rest)
+      parts.append s.elements _ gives.elements (elements_along-gives along (last_two before (consumed c s)) s.rest gives.rest)
 
   -- the elements of each decomposed text
   pub elements_of-good : (text : List ℕ) → IsDecomposedText text → G (elements_of reading text)
@@ -183,9 +183,9 @@ passes_append test [] fs h k = k
 passes_append test (e ∷ es) fs h k =
     let parts = and_parts (test e) (list_all test es) h in and_from _ _ parts.0 (passes_append test es fs parts.1 k)
 
-accent_passes : (test : Element → Bool) (o : Option ℕ) → IfSome o (λ s. IsTrue (test (accent_element s))) → IfSome o (λ s. EachPasses test (accent_element s ∷ []))
-accent_passes test (Some s) h = and_from _ _ h refl
-accent_passes test None h = tt
+diacritic_passes : (test : Element → Bool) (o : Option ℕ) → IfSome o (λ s. IsTrue (test (accent_element s))) → IfSome o (λ s. EachPasses test (accent_element s ∷ []))
+diacritic_passes test (Some s) h = and_from _ _ h refl
+diacritic_passes test None h = tt
 
 pub elements_of-pass : (test : Element → Bool) (reading : Reading) → PartsPass test reading → (text : List ℕ) → IsDecomposedText text → EachPasses test (elements_of reading text)
 elements_of-pass test reading pass =
@@ -195,7 +195,7 @@ elements_of-pass test reading pass =
       append = passes_append test;
       digits = pass.digits;
       entries = pass.entries;
-      accents = λ c read. accent_passes test (diacritic_of reading.tables c) (pass.accents c read);
+      accents = λ c read. diacritic_passes test (diacritic_of reading.tables c) (pass.accents c read);
       numbers = pass.numbers;
     })
 

@@ -85,7 +85,7 @@ two_joined : elements_in (plain two_marks) (97 ∷ 0x323 ∷ 0x30A ∷ []) ≡ l
 unfolding icu_elements
 two_joined = refl
 
--- each mark taken makes a row
+-- each mark consumed makes a row
 cedilla_first : elements_in (plain two_marks) (97 ∷ 0x327 ∷ 0x323 ∷ 0x30A ∷ []) ≡ letter 0x62100000 ∷ accent 0x6D00 ∷ accent 0x6900 ∷ []
 unfolding icu_elements
 cedilla_first = refl

@@ -15,10 +15,10 @@ pub use Rattle.icu_checks.specs.GoodTables
 pub use Rattle.icu_checks.specs.LiveElements
 pub mod Matches
 pub mod TextElements
-pub mod Plain
-pub mod Readable
+pub mod ByCharacter
 pub mod Reading
 pub mod CollationElements
 pub mod TextParts
 pub mod TextLaws
 pub mod LiveTexts
+pub mod inner

@@ -52,6 +52,6 @@ match_from home entry text =
     let alone : Match = record { entry = entry; suffix = []; rest = text } in
     elim (kind_of entry) [ Contraction ↦ contracted (context_of (homed home entry)) text | _ ↦ alone ]
 
--- the match of an entry, after the characters that were taken, nearest first, and before a text
+-- the match of an entry, after the characters that were consumed, nearest first, and before a text
 abbrev pub match_of : HomedEntry → List ℕ → List ℕ → Match
 match_of h before text = match_from h.home (after_prefix h before) text

@@ -17,7 +17,7 @@ pub record Reading : Type 0 where
   pub numeric : Option ℕ
   pub lithuanian : Bool
 
--- what reading at one character gives: elements, the characters taken after it, and the text that is left
+-- what reading at one character gives: elements, the characters consumed after it, and the text that is left
 pub record Step : Type 0 where
   pub elements : List Element
   pub suffix : List ℕ
@@ -27,17 +27,17 @@ abbrev pub is_digit_kind : EntryKind → Bool
 is_digit_kind Digit = true
 is_digit_kind _ = false
 
-abbrev pub is_accent_above : List ℕ → Bool
-is_accent_above [] = false
-is_accent_above (c ∷ cs) = c == 0x300 || c == 0x301 || c == 0x303
+abbrev pub is_diacritic_above : List ℕ → Bool
+is_diacritic_above [] = false
+is_diacritic_above (c ∷ cs) = c == 0x300 || c == 0x301 || c == 0x303
 
 -- U+0307 directly before U+0300, U+0301 or U+0303 gives nothing under the Lithuanian rule
 abbrev pub is_silent_dot : Bool → ℕ → List ℕ → Bool
-is_silent_dot lithuanian c text = lithuanian && c == 0x307 && is_accent_above text
+is_silent_dot lithuanian c text = lithuanian && c == 0x307 && is_diacritic_above text
 
 -- a character that goes on a number: no diacritic, and its own entry is a digit's
-abbrev pub goes_on : Tables → ℕ → Bool
-goes_on tables c = not (is_some (diacritic_of tables c)) && is_digit_kind (kind_of (entry_of tables c).entry)
+abbrev pub continues_number : Tables → ℕ → Bool
+continues_number tables c = not (is_some (diacritic_of tables c)) && is_digit_kind (kind_of (entry_of tables c).entry)
 
 abbrev pub begins_with_mark : List ℕ → Bool
 begins_with_mark [] = false
@@ -53,7 +53,7 @@ number_elements lead digits = map of_primary (run_weights lead digits)
 -- A number: the digit with the run of digits after it, or the digit alone where its match took a suffix or a mark follows.
 unfoldable pub number_step : Tables → ℕ → Match → Step
 number_step tables lead m =
-    let run = take_while (goes_on tables) m.rest in
+    let run = take_while (continues_number tables) m.rest in
     let alone : Step = record { elements = number_elements lead (digit_value m.entry ∷ []); suffix = m.suffix; rest = m.rest } in
     let together : Step = record {
       elements = number_elements lead (digit_value m.entry ∷ map (digit_of tables) run);
@@ -88,15 +88,15 @@ matched_step reading c text m =
       | None ↦ entry_step reading (entry_of reading.tables c).home c m
     ]
 
--- the same, after the characters that were taken, nearest first
+-- the same, after the characters that were consumed, nearest first
 abbrev pub step : Reading → List ℕ → ℕ → List ℕ → Step
 step reading before c text = matched_step reading c text (match_of (entry_of reading.tables c) before text)
 
 -- the characters that a step took, its own first
-abbrev pub taken : ℕ → Step → List ℕ
-taken c s = c ∷ s.suffix
+abbrev pub consumed : ℕ → Step → List ℕ
+consumed c s = c ∷ s.suffix
 
--- the last two characters taken, nearest first: prefixes look no further back
+-- the last two characters consumed, nearest first: prefixes look no further back
 abbrev pub last_two : List ℕ → List ℕ → List ℕ
 last_two before chars = take 2 (reverse chars ++ before)
 
@@ -106,7 +106,7 @@ elements_along along reading before [] = []
 elements_along [] reading before (c ∷ text) = []
 elements_along (_ ∷ along) reading before (c ∷ text) =
     let s = step reading before c text in
-    s.elements ++ elements_along along reading (last_two before (taken c s)) s.rest
+    s.elements ++ elements_along along reading (last_two before (consumed c s)) s.rest
 
 -- the elements of a decomposed text that comes after a context
 unfoldable pub elements_after : Reading → List ℕ → List ℕ → List Element

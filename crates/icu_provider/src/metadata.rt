@@ -1,5 +1,5 @@
 ghost use Rattle.std.specs.Prelude.{◌≡◌, ◌<◌};
-ghost use Rattle.icu_options.specs.Metadata.{has_bit, max_variable_of, case_first_of, is_backward, metadata_settings};
+ghost use Rattle.icu_options.specs.Metadata.{is_bit_set, max_variable_of, case_first_of, is_backward, metadata_settings};
 ghost use Rattle.icu_provider.specs.Metadata.{is_tailored, has_tailored_diacritics, has_reordering, is_lithuanian, is_shifted};
 
 use icu_options::{CollationCaseFirst, MaxVariable, MetadataSettings};
@@ -12,7 +12,7 @@ pub struct CollationMetadata {
 
 fn has_bit(bits: u32, place: u32) -> bool
     requires { place < 32 }
-    ensures { result ≡ has_bit bits place }
+    ensures { result ≡ is_bit_set bits place }
 {
     bits >> place & 1 == 1
 }

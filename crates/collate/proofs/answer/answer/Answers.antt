@@ -1,6 +1,6 @@
 -- The order by the collator is the order by Mini's tables.
 use Rattle.std.proofs.Common.{◌≡◌, ◌++◌, ◌∷◌, [], chars, ap, ◌∙◌}
-use Rattle.icu_comparison.specs.Collators.{IsPlainComparison, comparison_by, plain_comparison, tables_borrowed, settings_borrowed}
+use Rattle.icu_comparison.specs.Collators.{IsSupportedComparison, comparison_by, non_numeric_comparison, tables_borrowed, settings_borrowed}
 use Rattle.icu_comparison.specs.Order.{Comparison, order_of}
 use Rattle.icu_mini.specs.Mini.{collator_tables}
 use Rattle.collate.specs.Answers.{sign_of, order_asked}
@@ -12,8 +12,8 @@ returns c =
     let m = c.in_ok-collator.ensures.0 in
     let by = c.in_ok-collator.ensures.2 in
     let lent = c.as_borrowed.result in
-    let plain : IsPlainComparison (tables_borrowed lent) (settings_borrowed lent) = rw (c.as_borrowed.ensures.tables, c.as_borrowed.ensures.settings) by.plain in
-    let same : comparison_by (tables_borrowed lent) (settings_borrowed lent) ≡ plain_comparison c.args.command.strength (collator_tables m) =
+    let plain : IsSupportedComparison (tables_borrowed lent) (settings_borrowed lent) = rw (c.as_borrowed.ensures.tables, c.as_borrowed.ensures.settings) by.plain in
+    let same : comparison_by (tables_borrowed lent) (settings_borrowed lent) ≡ non_numeric_comparison c.args.command.strength (collator_tables m) =
     rw (c.as_borrowed.ensures.tables, c.as_borrowed.ensures.settings) by.same in
     let order : c.in_ok-order.order ≡ order_asked m (asked c.args.command) =
     c.in_ok-order.ensures plain ∙ ap (λ (k : Comparison). order_of k (chars c.args.command.left.now) (chars c.args.command.right.now)) same in

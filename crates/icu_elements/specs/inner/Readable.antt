@@ -21,6 +21,6 @@ abbrev pub IsGoodFrom : Data → ℕ → ℕ → Type 0
 IsGoodFrom home c e = (condition : LiveCondition) (f : ℕ) → Contains (live_from home e) f → IsTrue (meets condition home c f)
 
 -- a root, a tailoring, jamo and diacritics as they are lent
-unfoldable pub lent_tables : CollationData → Option CollationData → CollationJamo → CollationDiacritics → Tables
-lent_tables root tailoring jamo diacritics =
+unfoldable pub tables_from : CollationData → Option CollationData → CollationJamo → CollationDiacritics → Tables
+tables_from root tailoring jamo diacritics =
     record { root = data_of root; tailoring = option_map data_of tailoring; jamo = jamo_of jamo; diacritics = accents_of diacritics }

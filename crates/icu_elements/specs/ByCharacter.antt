@@ -10,19 +10,19 @@ use Rattle.icu_provider.specs.LiveTables.{IsLive}
 use Rattle.icu_elements.specs.TextElements.{Reading}
 
 -- how a text is read whose digits are letters like others
-abbrev pub plain_reading : Tables → Reading
-plain_reading tables = record { tables = tables; numeric = None; lithuanian = false }
+abbrev pub non_numeric_reading : Tables → Reading
+non_numeric_reading tables = record { tables = tables; numeric = None; lithuanian = false }
 
--- a digit's plain entry, and any other as it is
-unfoldable pub plain_entry : HomedEntry → HomedEntry
-plain_entry h = elim (kind_of h.entry) [ Digit ↦ homed h.home (plain_of h.home h.entry) | _ ↦ h ]
+-- the entry that a digit has where digits are letters like others, and any other entry as it is
+unfoldable pub non_numeric_entry : HomedEntry → HomedEntry
+non_numeric_entry h = elim (kind_of h.entry) [ Digit ↦ homed h.home (plain_of h.home h.entry) | _ ↦ h ]
 
 -- the elements of one character by itself: an entry that looks at a context gives none
 unfoldable pub elements_of_char : Tables → ℕ → List Element
 elements_of_char tables c =
     elim (diacritic_of tables c) [
       | Some secondary ↦ accent_element secondary ∷ []
-      | None ↦ final_elements (plain_entry (entry_of tables c)) c
+      | None ↦ final_elements (non_numeric_entry (entry_of tables c)) c
     ]
 
 -- the elements of each character by itself, one after the other
@@ -30,14 +30,14 @@ abbrev pub elements_by_char : Tables → List ℕ → List Element
 elements_by_char tables text = flat_map (elements_of_char tables) text
 
 -- the kind looks at no context
-abbrev pub names_no_context : EntryKind → Bool
-names_no_context Prefix = false
-names_no_context Contraction = false
-names_no_context _ = true
+abbrev pub needs_no_context : EntryKind → Bool
+needs_no_context Prefix = false
+needs_no_context Contraction = false
+needs_no_context _ = true
 
--- A reading that needs no context: no entry that is live is a prefix's or a contraction's, digits are letters like others, and no
--- dot is silent.
-pub record IsPlain (reading : Reading) : Type 0 where
-  pub entries : (home : Data) (c e : ℕ) → IsLive reading.tables home c e → IsTrue (names_no_context (kind_of e))
+-- A reading that is free of contexts: no entry that is live is a prefix's or a contraction's, digits are letters like others, and
+-- no dot is silent.
+pub record IsContextFree (reading : Reading) : Type 0 where
+  pub entries : (home : Data) (c e : ℕ) → IsLive reading.tables home c e → IsTrue (needs_no_context (kind_of e))
   pub no_numbers : reading.numeric ≡ None
   pub no_silent_dot : reading.lithuanian ≡ false
