@@ -3,7 +3,7 @@ use Rattle.std.specs.Prelude.{◌≡◌, ℕ, List, [], ◌∷◌, ◌++◌, dro
 use Rattle.std.specs.Char.{IsScalar}
 use Rattle.std.specs.Iterator.{Count}
 use Rattle.unicode_normalization.specs.Decompositions.{CanDecompose}
-use Rattle.icu_provider.specs.Elements.{Element, end_element}
+use Rattle.icu_entries.specs.Elements.{Element, end_element}
 use Rattle.icu_elements.specs.declared.iter.Progress.{Progress}
 use Rattle.icu_elements.specs.declared.iter.Progress.TheVariants.{Unread, Read, Refused}
 use Rattle.icu_elements.specs.declared.iter.CollationElements.{CollationElements}

@@ -3,14 +3,14 @@
 ghost use Rattle.std.specs.Prelude.{◌≡◌, ℕ, List, All, IsErr, IfOk, OnOk, OnErr};
 ghost use Rattle.std.specs.Char.{IsScalar};
 ghost use Rattle.std.specs.Iterator.{IsFinite};
-ghost use Rattle.icu_provider.specs.Elements.{Element};
+ghost use Rattle.icu_entries.specs.Elements.{Element};
 ghost use Rattle.unicode_normalization.specs.Decompositions.{CanDecompose};
 ghost use Rattle.unicode_normalization.specs.Forms.{nfd};
 ghost use Rattle.unicode_normalization.specs.Iter.{Spells};
 
 use crate::read::elements_left;
 use crate::tables::ElementTables;
-use icu_provider::CollationElement;
+use icu_entries::CollationElement;
 use std::alloc::AllocError;
 use unicode_normalization::Decompositions;
 

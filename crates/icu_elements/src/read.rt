@@ -9,7 +9,7 @@ ghost use Rattle.icu_elements.specs.inner.Iterating.{StillReads};
 
 use crate::by_character::elements_of_text;
 use crate::tables::ElementTables;
-use icu_provider::CollationElement;
+use icu_entries::CollationElement;
 use std::alloc::{AllocError, Global};
 use unicode_normalization::Decompositions;
 

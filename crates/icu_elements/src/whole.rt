@@ -10,7 +10,7 @@ ghost use Rattle.icu_elements.specs.Reading.{element_tables, reading_of};
 
 use crate::read::elements_left;
 use crate::tables::ElementTables;
-use icu_provider::CollationElement;
+use icu_entries::CollationElement;
 use std::alloc::AllocError;
 use unicode_normalization::Decompositions;
 

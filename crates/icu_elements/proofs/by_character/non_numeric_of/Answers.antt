@@ -1,5 +1,5 @@
 use Rattle.std.proofs.Common.{rules}
-use Rattle.icu_provider.specs.Stored.{data_of}
+use Rattle.icu_data.specs.StoredData.{data_of}
 use Rattle.icu_elements.proofs.ByCharacterLemmas.{non_numeric_entry-other}
 use Rattle.icu_elements.proofs.ReadableLemmas.{non_numeric_inside, readable_non_numeric, readable_itself}
 use Rattle.icu_elements.proofs.by_character.non_numeric_of.Goals as goal
