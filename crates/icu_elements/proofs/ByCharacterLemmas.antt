@@ -90,12 +90,15 @@ read_without_contexts reading free =
     ap (λ n. record { tables = reading.tables; numeric = n; lithuanian = reading.lithuanian }) free.no_numbers
     ∙ ap (λ b. record { tables = reading.tables; numeric = None; lithuanian = b }) free.no_silent_dot
 
--- the elements of a text are those of its characters
-pub elements_of-by_char : (reading : Reading) → IsContextFree reading → (text : List ℕ) → All IsScalar text → elements_of reading text ≡ elements_by_char reading.tables text
+-- the elements of a text are those of its characters, whatever was consumed before
+pub elements_after_by_char : (reading : Reading) → IsContextFree reading → (before text : List ℕ) → All IsScalar text → elements_after reading before text ≡ elements_by_char reading.tables text
 unfolding elements_after
-elements_of-by_char reading free text all =
-    ap (λ r. elements_of r text) (read_without_contexts reading free)
-    ∙ elements_along-by_char reading.tables (free_entries reading free) text [] text (omega arith) (recursion_from_All IsScalar text all)
+elements_after_by_char reading free before text all =
+    ap (λ r. elements_after r before text) (read_without_contexts reading free)
+    ∙ elements_along-by_char reading.tables (free_entries reading free) text before text (omega arith) (recursion_from_All IsScalar text all)
+
+pub elements_of-by_char : (reading : Reading) → IsContextFree reading → (text : List ℕ) → All IsScalar text → elements_of reading text ≡ elements_by_char reading.tables text
+elements_of-by_char reading free text all = elements_after_by_char reading free [] text all
 
 -- where no live entry looks at a context, the reading with digits as letters is free of contexts
 pub IsContextFree-from_each : (tables : Tables) → AllLive (λ home c e. IsTrue (needs_no_context (kind_of e))) tables → IsContextFree (non_numeric_reading tables)

@@ -1,14 +1,16 @@
 -- What is left of an iterator of elements, at each progress.
-use Rattle.std.proofs.Common.{◌≡◌, ℕ, List, [], ◌++◌, Option, All, refl, sym, ap, subst, ◌∙◌, append-nil, arith}
+use Rattle.std.proofs.Common.{◌≡◌, ℕ, Bool, List, [], ◌++◌, Option, All, refl, sym, ap, subst, ◌∙◌, append-nil, arith}
 use Rattle.std.specs.Char.{IsScalar}
 use Rattle.std.specs.Iterator.{Count}
 use Rattle.unicode_normalization.specs.Decompositions.{CanDecompose}
 use Rattle.icu_entries.specs.Elements.{Element}
 use Rattle.icu_elements.specs.declared.iter.Progress.TheVariants.{Unread, Read, Refused}
 use Rattle.icu_elements.specs.declared.iter.CollationElements.{CollationElements}
-use Rattle.icu_elements.specs.ByCharacter.{elements_by_char}
+use Rattle.icu_elements.specs.ByCharacter.{elements_by_char, IsContextFree}
+use Rattle.icu_elements.specs.TextElements.{elements_after}
 use Rattle.icu_elements.specs.CollationElements.{ready_elements, HasSource, IsUnreadAt, IsLeft, StillGives, IsReadyAt, CanGive}
-use Rattle.icu_elements.specs.Reading.{element_tables}
+use Rattle.icu_elements.specs.Reading.{element_tables, reading_of}
+use Rattle.icu_elements.proofs.ByCharacterLemmas.{elements_after_by_char}
 use Rattle.icu_elements.specs.inner.Iterating.{StillReads}
 
 -- a text that is still to be read, and its elements
@@ -53,6 +55,15 @@ module _ {I : Type 0} (steps : I → Option ℕ → I → Type 0) (s : Collation
     is_unread = subst (λ p. IsUnreadAt p steps s []) (sym e) refl;
     elements = λ scalars. h ∙ sym (append-nil (ready_elements s));
   }
+
+-- where the reading is free of contexts, what is left is what stands ready, and the elements of what is still to be read, whatever
+-- was consumed before
+pub ready_and_after : {I : Type 0} (steps : I → Option ℕ → I → Type 0) (s : CollationElements I) (es : List Element) → (h : IsLeft steps s es)
+    → (numeric : Option ℕ) (lithuanian : Bool) → IsContextFree (reading_of s.tables numeric lithuanian) → (before : List ℕ) → All IsScalar h.unread
+    → es ≡ ready_elements s ++ elements_after (reading_of s.tables numeric lithuanian) before h.unread
+ready_and_after steps s es h numeric lithuanian free before scalars =
+    h.elements scalars
+    ∙ ap (λ (l : List Element). ready_elements s ++ l) (sym (elements_after_by_char (reading_of s.tables numeric lithuanian) free before h.unread scalars))
 
 module _ {I : Type 0} (can : I → Type 0) (left : I → Count) (s : CollationElements I) where
   pub CanDecompose-CanGive : s.progress ≡ Unread → CanGive can left s → CanDecompose can left s.source

@@ -1,4 +1,5 @@
 pub mod IterLemmas
+pub mod ChoiceLemmas
 pub mod LiveLemmas
 pub mod DecomposedLemmas
 pub mod PartLemmas
@@ -6,6 +7,7 @@ pub mod SourceLemmas
 pub mod ReadableLemmas
 pub mod ByCharacterLemmas
 pub mod LiveTextLemmas
+pub mod StepLemmas
 pub mod Computing
 pub mod WorkedTables
 mod WorkedTexts

@@ -20,6 +20,7 @@ use Rattle.icu_elements.specs.Matches.{Match, match_of}
 use Rattle.icu_elements.specs.TextElements.{Reading, Step, is_silent_dot, continues_number, begins_with_mark, digit_of, number_elements, number_step, entry_step, diacritic_step, matched_step, step, consumed, last_two, elements_along, elements_after, elements_of}
 use Rattle.icu_provider.specs.LiveTables.{jamo_entry, AllLive, HasDigits}
 use Rattle.icu_elements.specs.TextParts.{IsDecomposed, IsDecomposedText, AreDigits, HasGoodParts, EachPasses, PartsPass}
+use Rattle.icu_elements.proofs.ChoiceLemmas.{either, maybe, at_nil}
 use Rattle.icu_elements.proofs.LiveLemmas.{match_of-live, all_drop}
 
 -- ---- an entry is among those that are live from it
@@ -104,18 +105,6 @@ record Gives (G : List Element → Type 0) (R : ℕ → Type 0) (s : Step) : Typ
   pub elements : G s.elements
   pub rest : AllByRecursion R s.rest
 
-step_if : (C : Step → Type 0) (b : Bool) (x y : Step) → C x → C y → C (if b then x else y)
-step_if C true x y p q = p
-step_if C false x y p q = q
-
-step_maybe : {A : Type 0} (Q : A → Type 0) (C : Step → Type 0) (o : Option A) (f : A → Step) (y : Step) → IfSome o Q → ((x : A) → Q x → C (f x)) → C y → C (elim o as (λ _. Step) [ Some x ↦ f x | None ↦ y ])
-step_maybe Q C (Some x) f y h p q = p x h
-step_maybe Q C None f y h p q = q
-
-step_nil : (C : Step → Type 0) (l : List ℕ) (x y : Step) → C x → C y → C (elim l as (λ _. Step) [ [] ↦ x | _ ∷ _ ↦ y ])
-step_nil C [] x y p q = p
-step_nil C (_ ∷ _) x y p q = q
-
 at_digit : (P : ℕ → Type 0) (C : Step → Type 0) (k : EntryKind) (e p : ℕ) (small : Bool) (a b : Step) → (P p → small ≡ true → C a) → (P e → C b) → AllByRecursion P (elim k as (λ _. List ℕ) [ Digit ↦ e ∷ p ∷ [] | _ ↦ e ∷ [] ]) → IsTrue (elim k as (λ _. Bool) [ Digit ↦ small | _ ↦ true ]) → C (elim k as (λ _. Step) [ Digit ↦ a | _ ↦ b ])
 at_digit P C Digit e p small a b f g live s = f live.1.0 s
 at_digit P C _ e p small a b f g live s = g live.0
@@ -131,7 +120,7 @@ module _ (G : List Element → Type 0) (reading : Reading) (parts : HasGoodParts
       let by_itself : Gives G IsDecomposed alone = record { elements = good (digit_value m.entry ∷ []) (small, tt); rest = rest } in
       let digits = all_run (continues_number tables) (digit_of tables) IsDecomposed (λ d. d < 10) (continues_number-decimal tables parts.digits) m.rest rest in
       let with_run : Gives G IsDecomposed together = record { elements = good (digit_value m.entry ∷ map (digit_of tables) run) (small, digits); rest = all_drop IsDecomposed (length run) m.rest rest } in
-      step_nil (Gives G IsDecomposed) m.suffix _ alone (step_if (Gives G IsDecomposed) (begins_with_mark m.rest) alone together by_itself with_run) by_itself
+      at_nil (Gives G IsDecomposed) m.suffix _ alone (either (Gives G IsDecomposed) (begins_with_mark m.rest) alone together by_itself with_run) by_itself
 
   entry_step-gives : (home : Data) (c : ℕ) (m : Match) → AllByRecursion (λ e. G (final_elements (homed home e) c)) (live_digit home m.entry) → IsTrue (has_digit m.entry) → IsDecomposedText m.rest → Gives G IsDecomposed (entry_step reading home c m)
   unfolding entry_step live_digit has_digit
@@ -139,7 +128,7 @@ module _ (G : List Element → Type 0) (reading : Reading) (parts : HasGoodParts
       let P : ℕ → Type 0 = λ e. G (final_elements (homed home e) c) in
       at_digit P (Gives G IsDecomposed) (kind_of m.entry) m.entry (plain_of home m.entry) (nat_le (digit_value m.entry) 9) _ _
       (λ p s.
-      step_maybe (λ lead. (ds : List ℕ) → AreDigits ds → G (number_elements lead ds)) (Gives G IsDecomposed) reading.numeric _ _ parts.numbers
+      maybe (λ lead. (ds : List ℕ) → AreDigits ds → G (number_elements lead ds)) (Gives G IsDecomposed) reading.numeric _ _ parts.numbers
       (λ lead good. number_step-gives lead m good (decimal _ s) rest) (record { elements = p; rest = rest }))
       (λ p. record { elements = p; rest = rest }) live small
 
@@ -147,7 +136,7 @@ module _ (G : List Element → Type 0) (reading : Reading) (parts : HasGoodParts
   diacritic_step-gives secondary c text good all =
       let silent : Step = record { elements = []; suffix = []; rest = text } in
       let accent : Step = record { elements = accent_element secondary ∷ []; suffix = []; rest = text } in
-      step_if (Gives G IsDecomposed) (is_silent_dot reading.lithuanian c text) silent accent
+      either (Gives G IsDecomposed) (is_silent_dot reading.lithuanian c text) silent accent
       (record { elements = parts.none; rest = all }) (record { elements = good; rest = all })
 
   step-gives : (before : List ℕ) (c : ℕ) (text : List ℕ) → IsDecomposed c → IsDecomposedText text → Gives G IsDecomposed (step reading before c text)
@@ -159,7 +148,7 @@ module _ (G : List Element → Type 0) (reading : Reading) (parts : HasGoodParts
       let P : ℕ → Type 0 = λ e. G (final_elements (homed h.home e) c) in
       let finals = match_of-live P IsDecomposed h before text (entry_of-live (λ home c e. G (final_elements (homed home e) c)) reading.tables parts.entries c read.scalar) all in
       let smalls = match_of-live D IsDecomposed h before text (entry_of-live (λ home c e. IsTrue (has_digit e)) reading.tables parts.digits c read.scalar) all in
-      step_maybe (λ s. G (accent_element s ∷ [])) (Gives G IsDecomposed) (diacritic_of reading.tables c) _ (entry_step reading h.home c m) (parts.accents c read)
+      maybe (λ s. G (accent_element s ∷ [])) (Gives G IsDecomposed) (diacritic_of reading.tables c) _ (entry_step reading h.home c m) (parts.accents c read)
       (λ s good. diacritic_step-gives s c text good all)
       (entry_step-gives h.home c m finals.entry (live_digit-head D h.home m.entry smalls.entry) finals.rest)
 

@@ -1,4 +1,4 @@
--- What the tables lend is what the reading has.
+-- The reading has what the tables say.
 use Rattle.std.proofs.Common.{◌≡◌, ◌∙◌, ap, IfOk, chars, subst}
 use Rattle.unicode_normalization.specs.Forms.{nfd}
 use Rattle.unicode_normalization.proofs.IterLemmas.{Spells-chars}
@@ -15,4 +15,4 @@ returns c =
     let same : reading_of c.tables.result c.numeric_primary.result c.lithuanian_dot_above.result
     ≡ reading_by (tables_borrowed c.args.self.now) (settings_borrowed c.args.self.now) = rw (c.tables.ensures, c.numeric_primary.ensures, lithuanian) in
     subst (λ (r : Reading). IsContextFree r → IfOk c.all_elements.result (λ es. es.items ≡ elements_of r (nfd (chars c.args.text.now)))) same
-    (λ plain. c.all_elements.ensures.plain plain _ (Spells-chars _ _ c.utf8.text c.chars.ensures.rest))
+    (λ free. c.all_elements.ensures.context_free free _ (Spells-chars _ _ c.utf8.text c.chars.ensures.rest))
