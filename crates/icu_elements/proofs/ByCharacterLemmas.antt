@@ -30,7 +30,7 @@ after_prefix-same : (h : HomedEntry) (before : List ℕ) → needs_no_context (k
 unfolding after_prefix
 after_prefix-same h before p = not_prefix (kind_of h.entry) _ _ p
 
--- a match that takes its own character alone
+-- a match that consumes its own character alone
 abbrev alone : ℕ → List ℕ → Match
 alone entry text = record { entry = entry; suffix = []; rest = text }
 
@@ -40,7 +40,7 @@ match_of-alone h before text p =
     let same = after_prefix-same h before p in
     not_contraction (kind_of (after_prefix h before)) _ _ (ap (λ e. needs_no_context (kind_of e)) same ∙ p) ∙ ap (λ e. alone e text) same
 
--- a step that takes its own character alone
+-- a step that consumes its own character alone
 abbrev single : List Element → List ℕ → Step
 single es text = record { elements = es; suffix = []; rest = text }
 

@@ -135,8 +135,8 @@ module _ (G : List Element → Type 0) (reading : Reading) (parts : HasGoodParts
   diacritic_step-gives : (secondary c : ℕ) (text : List ℕ) → G (accent_element secondary ∷ []) → IsDecomposedText text → Gives G IsDecomposed (diacritic_step reading secondary c text)
   diacritic_step-gives secondary c text good all =
       let silent : Step = record { elements = []; suffix = []; rest = text } in
-      let accent : Step = record { elements = accent_element secondary ∷ []; suffix = []; rest = text } in
-      either (Gives G IsDecomposed) (is_silent_dot reading.lithuanian c text) silent accent
+      let sounding : Step = record { elements = accent_element secondary ∷ []; suffix = []; rest = text } in
+      either (Gives G IsDecomposed) (is_silent_dot reading.lithuanian c text) silent sounding
       (record { elements = parts.none; rest = all }) (record { elements = good; rest = all })
 
   step-gives : (before : List ℕ) (c : ℕ) (text : List ℕ) → IsDecomposed c → IsDecomposedText text → Gives G IsDecomposed (step reading before c text)
@@ -148,7 +148,7 @@ module _ (G : List Element → Type 0) (reading : Reading) (parts : HasGoodParts
       let P : ℕ → Type 0 = λ e. G (final_elements (homed h.home e) c) in
       let finals = match_of-live P IsDecomposed h before text (entry_of-live (λ home c e. G (final_elements (homed home e) c)) reading.tables parts.entries c read.scalar) all in
       let smalls = match_of-live D IsDecomposed h before text (entry_of-live (λ home c e. IsTrue (has_digit e)) reading.tables parts.digits c read.scalar) all in
-      maybe (λ s. G (accent_element s ∷ [])) (Gives G IsDecomposed) (diacritic_of reading.tables c) _ (entry_step reading h.home c m) (parts.accents c read)
+      maybe (λ s. G (accent_element s ∷ [])) (Gives G IsDecomposed) (diacritic_of reading.tables c) _ (entry_step reading h.home c m) (parts.diacritics c read)
       (λ s good. diacritic_step-gives s c text good all)
       (entry_step-gives h.home c m finals.entry (live_digit-head D h.home m.entry smalls.entry) finals.rest)
 
@@ -185,7 +185,7 @@ elements_of-pass test reading pass =
       append = passes_append test;
       digits = pass.digits;
       entries = pass.entries;
-      accents = λ c read. diacritic_passes test (diacritic_of reading.tables c) (pass.accents c read);
+      diacritics = λ c read. diacritic_passes test (diacritic_of reading.tables c) (pass.diacritics c read);
       numbers = pass.numbers;
     })
 

@@ -42,7 +42,7 @@ live_meets all good condition home c e (inr (inr live)) = good.each (conditions.
 pub good_readable : (all : CollatorTables) → IsGoodTables all → AreReadable all.tables
 good_readable all good = record { jamo_count = good.tables.jamo.count; each = live_meets all good }
 
--- so may the same tables be read where they are lent
+-- so may the same tables be read part by part
 pub readable_from_parts : (all : CollatorTables) → IsGoodTables all → (root : CollationData) (tailoring : Option CollationData) (jamo : CollationJamo) (diacritics : CollationDiacritics) → data_of root ≡ all.tables.root → option_map data_of tailoring ≡ all.tables.tailoring → jamo_of jamo ≡ all.tables.jamo → accents_of diacritics ≡ all.tables.diacritics → AreReadable (tables_from root tailoring jamo diacritics)
 unfolding tables_from
 readable_from_parts all good root tailoring jamo diacritics r t j d = rw (r, t, j, d) (good_readable all good)
@@ -68,7 +68,7 @@ unfolding element_tables
 good_found t c scalar home e is =
     subst (λ (h : HomedEntry). IsGoodFrom h.home c h.entry) is (good_entry (element_tables t) t.readable c scalar)
 
--- ---- an entry that meets the conditions can be read, and so can a digit's plain entry
+-- ---- an entry that meets the conditions can be read, and so can a digit's other entry
 
 readable_from : (home : Data) (c e f : ℕ) → IsGoodFrom home c e → Contains (live_from home e) f → IsTrue (is_readable home c f)
 unfolding is_readable
@@ -100,7 +100,7 @@ at_digit _ a b d f g h is t = cc
 test_inside : (i n : ℕ) → IsTrue (nat_lt i n) → i < n
 test_inside i n h = grind (arith, nat_tests)
 
--- the plain entry of a digit is there
+-- the other entry of a digit is there
 pub non_numeric_inside : (home : Data) (c e : ℕ) → IsGoodFrom home c e → kind_of e ≡ Digit → entry_index e < length home.entries
 unfolding is_inside
 non_numeric_inside home c e good is =

@@ -66,7 +66,7 @@ elements_of-sources reading digits cs scalars =
           AllLive-weaker (IsLive reading.tables) (λ home c e. AllByRecursion (IsTextElement reading) (final_elements (homed home e) c)) reading.tables
           (λ home c e live. all_contained (IsTextElement reading) (final_elements (homed home e) c) (λ x h. inl (record { home = home; char = c; entry = e; live = live; member = h })))
           (all_live reading.tables);
-      accents = λ c read. of_diacritic reading c read (diacritic_of reading.tables c) refl;
+      diacritics = λ c read. of_diacritic reading c read (diacritic_of reading.tables c) refl;
       numbers = of_number reading reading.numeric refl;
     })
     (nfd cs) (IsDecomposedText-nfd cs scalars)

@@ -8,7 +8,7 @@ use Rattle.icu_entries.specs.declared.entry.EntryKind.TheVariants.{Prefix, Contr
 use Rattle.icu_entries.specs.Entries.{kind_of}
 use Rattle.icu_data.specs.Data.{Row, Context, Data, HomedEntry, homed, context_of, row_entry, longest_row}
 
--- the entry that a match comes to, the characters that it takes after its first, and the text that it leaves
+-- the entry that a match comes to, the characters that it consumes after its first, and the text that it leaves
 pub record Match : Type 0 where
   pub entry : ℕ
   pub suffix : List ℕ

@@ -12,7 +12,7 @@ use Rattle.icu_data.specs.Final.{final_elements}
 use Rattle.icu_elements.specs.Matches.{Match, match_of}
 
 -- How a text is read: the tables, the lead byte of numbers where digits are read as numbers, and whether U+0307 before an
--- accent above is silent, as in Lithuanian.
+-- diacritic above is silent, as in Lithuanian.
 pub record Reading : Type 0 where
   pub tables : Tables
   pub numeric : Option ℕ
@@ -51,7 +51,7 @@ digit_of tables c = digit_value (entry_of tables c).entry
 abbrev pub number_elements : ℕ → List ℕ → List Element
 number_elements lead digits = map of_primary (run_weights lead digits)
 
--- A number: the digit with the run of digits after it, or the digit alone where its match took a suffix or a mark follows.
+-- A number: the digit with the run of digits after it, or the digit alone where its match consumed a suffix or a mark follows.
 unfoldable pub number_step : Tables → ℕ → Match → Step
 number_step tables lead m =
     let run = take_while (continues_number tables) m.rest in
@@ -63,23 +63,23 @@ number_step tables lead m =
     } in
     elim m.suffix [ [] ↦ if begins_with_mark m.rest then alone else together | _ ∷ _ ↦ alone ]
 
--- what a match takes and leaves, with the elements of a final entry
+-- what a match consumes and leaves, with the elements of a final entry
 abbrev pub final_step : Data → ℕ → ℕ → Match → Step
 final_step home c entry m = record { elements = final_elements (homed home entry) c; suffix = m.suffix; rest = m.rest }
 
--- what the entry that a match came to gives: a digit is a number, or its plain entry where digits aren't read as numbers
+-- what the entry that a match came to gives: a digit is a number, or its other entry where digits aren't read as numbers
 unfoldable pub entry_step : Reading → Data → ℕ → Match → Step
 entry_step reading home c m =
-    let plain : Step = final_step home c (plain_of home m.entry) m in
-    let numeric : Step = elim reading.numeric [ None ↦ plain | Some lead ↦ number_step reading.tables lead m ] in
+    let letter : Step = final_step home c (plain_of home m.entry) m in
+    let numeric : Step = elim reading.numeric [ None ↦ letter | Some lead ↦ number_step reading.tables lead m ] in
     elim (kind_of m.entry) [ Digit ↦ numeric | _ ↦ final_step home c m.entry m ]
 
--- what a diacritic gives before a text, where no match took it
+-- what a diacritic gives before a text, where no match consumed it
 abbrev pub diacritic_step : Reading → ℕ → ℕ → List ℕ → Step
 diacritic_step reading secondary c text =
     let silent : Step = record { elements = []; suffix = []; rest = text } in
-    let accent : Step = record { elements = accent_element secondary ∷ []; suffix = []; rest = text } in
-    if is_silent_dot reading.lithuanian c text then silent else accent
+    let sounding : Step = record { elements = accent_element secondary ∷ []; suffix = []; rest = text } in
+    if is_silent_dot reading.lithuanian c text then silent else sounding
 
 -- what a character gives before a text, with its match
 unfoldable pub matched_step : Reading → ℕ → List ℕ → Match → Step
@@ -93,7 +93,7 @@ matched_step reading c text m =
 abbrev pub step : Reading → List ℕ → ℕ → List ℕ → Step
 step reading before c text = matched_step reading c text (match_of (entry_of reading.tables c) before text)
 
--- the characters that a step took, its own first
+-- the characters that a step consumes, its own first
 abbrev pub consumed : ℕ → Step → List ℕ
 consumed c s = c ∷ s.suffix
 

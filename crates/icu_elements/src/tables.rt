@@ -1,3 +1,5 @@
+//! The tables that elements are read from.
+
 ghost use Rattle.std.specs.Prelude.{◌≡◌};
 ghost use Rattle.icu_provider.specs.Tables.{entry_of, diacritic_of};
 ghost use Rattle.icu_data.specs.Data.{homed};
@@ -22,7 +24,7 @@ pub struct ElementTables<'d> {
     ghost readable: { AreReadable (tables_from root tailoring jamo diacritics) },
 }
 
-/// An entry with the table whose lists and contexts it names.
+/// An entry with its home, the table whose lists and contexts it refers to.
 #[derive(Debug, Clone, Copy)]
 pub(crate) struct HomedEntry<'d> {
     pub(crate) home: CollationData<'d>,
@@ -32,7 +34,7 @@ pub(crate) struct HomedEntry<'d> {
 impl<'d> ElementTables<'d> {
     ghost use Rattle.icu_elements.specs.Reading.{element_tables};
 
-    /// Lends the tables of a collator, without a second check. Takes no memory.
+    /// The tables of a collator, borrowed without a second check. Does not allocate.
     #[tactic(auto, unfolding(crate::specs::Reading::element_tables, crate::specs::inner::Readable::tables_from))]
     pub fn new(tables: &'d CheckedTables) -> ElementTables<'d>
         ensures { element_tables result ≡ (checked_tables tables.entry.now).tables }

@@ -22,7 +22,7 @@ pub record AreReadable (tables : Tables) : Type 0 where
 abbrev pub IsGoodFrom : Data → ℕ → ℕ → Type 0
 IsGoodFrom home c e = (condition : LiveCondition) (f : ℕ) → Contains (live_from home e) f → IsTrue (meets condition home c f)
 
--- a root, a tailoring, jamo and diacritics as they are lent
+-- what a root, a tailoring, jamo and diacritics say together
 unfoldable pub tables_from : CollationData → Option CollationData → CollationJamo → CollationDiacritics → Tables
 tables_from root tailoring jamo diacritics =
     record { root = data_of root; tailoring = option_map data_of tailoring; jamo = jamo_of jamo; diacritics = accents_of diacritics }

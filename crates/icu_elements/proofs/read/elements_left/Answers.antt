@@ -1,4 +1,4 @@
-use Rattle.std.proofs.Common.{All, Result, Ok, Err, IfOk, sym, ap, subst, ◌∙◌}
+use Rattle.std.proofs.Common.{All, Result, Ok, Err, IfOk, ap, subst, ◌∙◌}
 use Rattle.std.specs.Char.{IsScalar}
 use Rattle.icu_elements.specs.ByCharacter.{elements_by_char}
 use Rattle.icu_elements.specs.Reading.{element_tables}
