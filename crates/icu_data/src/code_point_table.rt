@@ -29,7 +29,7 @@ impl<'d> CodePointTable<'d> {
         if !blocks.iter().all(|block| (*block as usize) < whole) {
             return Err(DataErrorKind::Index);
         }
-        Ok(CodePointTable::from_parts(blocks, values))
+        Ok(CodePointTable::new_unchecked(blocks, values))
     }
 
     /// The value of a character.
@@ -49,7 +49,7 @@ impl<'d> CodePointTable<'d> {
     }
 
     /// A table of slices that are known to fit, without a check.
-    pub fn from_parts(blocks: &'d [u16], values: &'d [u32]) -> CodePointTable<'d>
+    pub fn new_unchecked(blocks: &'d [u16], values: &'d [u32]) -> CodePointTable<'d>
         requires { IsCodePointTable blocks.now values.now }
         ensures { table_value result ≡ stored_value blocks.entry.now values.entry.now }
     {

@@ -137,7 +137,7 @@ impl<'d> ContextTable<'d> {
         if !have_ascending_rows(contexts, rows, chars) {
             return Err(DataErrorKind::Context);
         }
-        Ok(ContextTable::from_parts(contexts, rows, chars))
+        Ok(ContextTable::new_unchecked(contexts, rows, chars))
     }
 
     /// The contexts, their rows, and the rows' characters, as `new` takes them. In each context the rows ascend by the numbers of their
@@ -152,7 +152,7 @@ impl<'d> ContextTable<'d> {
     }
 
     /// A table of slices that are known to fit, without a check.
-    pub fn from_parts(
+    pub fn new_unchecked(
         contexts: &'d [Context],
         rows: &'d [ContextRow],
         chars: &'d [char],

@@ -2,7 +2,7 @@ ghost use Rattle.std.specs.Prelude.{◌≡◌, ◌+◌, ◌<◌, ◌≤◌, leng
 ghost use Rattle.icu_data.specs.Contexts.{has_ascending_rows};
 ghost use Rattle.icu_entries.specs.Elements.{element_of, end_element};
 ghost use Rattle.icu_entries.specs.Entries.{kind_of, has_index, entry_index};
-ghost use Rattle.icu_entries.specs.Weights.{place_of_weight, offset_compressible, offset_place};
+ghost use Rattle.icu_entries.specs.Weights.{ordinal_of_weight, offset_compressible, offset_ordinal};
 ghost use Rattle.icu_data.specs.Final.{final_elements};
 ghost use Rattle.icu_data.specs.DataConditions.{is_inside, fits_offset};
 ghost use Rattle.icu_data.specs.LiveConditions.{IsGoodData, FailsData};
@@ -28,7 +28,7 @@ impl<'d> CollationData<'d> {
 
     /// Borrows a root or a tailoring without a check of its entries. Its look-ups ask their callers for what they need.
     #[tactic(auto, unfolding(crate::specs::StoredData::data_of))]
-    pub fn from_parts(
+    pub fn new_unchecked(
         trie: CodePointTable<'d>,
         ces: &'d [u64],
         ce32s: &'d [u32],
@@ -60,7 +60,7 @@ impl<'d> CollationData<'d> {
         ensures kind { IfErr result (FailsData true (data_by trie.entry ces.entry.now ce32s.entry.now contexts.entry)) }
         ensures keeps { IfOk result (λ d. data_of d ≡ data_by trie.entry ces.entry.now ce32s.entry.now contexts.entry) }
     {
-        let data = CollationData::from_parts(trie, ces, ce32s, contexts);
+        let data = CollationData::new_unchecked(trie, ces, ce32s, contexts);
         data.check()?;
         Ok(data)
     }
@@ -167,7 +167,7 @@ impl<'d> CollationData<'d> {
         requires inside { IsTrue (is_inside (data_of self) entry) }
         requires fits { IsTrue (fits_offset (data_of self) c entry) }
         ensures value { final_elements (homed (data_of self.entry) entry) c ≡ result ∷ [] }
-        ensures place { let d = slice_index_or (data_of self.entry).elements (entry_index entry) end_element in place_of_weight (offset_compressible d) result.primary ≡ offset_place d c }
+        ensures place { let d = slice_index_or (data_of self.entry).elements (entry_index entry) end_element in ordinal_of_weight (offset_compressible d) result.primary ≡ offset_ordinal d c }
     {
         self.offset_data(entry).offset_element(c)
     }

@@ -127,7 +127,7 @@ impl<'d> CollationData<'d> {
         ensures { result ≡ first_failing (data_of self.entry) c entry }
     {
         if !self.is_inside(entry) {
-            Some(LiveCondition::Places)
+            Some(LiveCondition::Indices)
         } else if !self.has_short_rows(entry) {
             Some(LiveCondition::PrefixRows)
         } else if !self.leads_on(entry) {

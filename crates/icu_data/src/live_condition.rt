@@ -10,7 +10,7 @@ use icu_entries::{CollationElement32, DataErrorKind};
 #[derive(Debug, Clone, Copy, PartialEq, Eq)]
 pub enum LiveCondition {
     /// What the entry names is there.
-    Places,
+    Indices,
     /// The rows of a prefix have one character or two.
     PrefixRows,
     /// The entry leads only to entries that it may lead to.
@@ -35,7 +35,7 @@ impl LiveCondition {
         ensures { result ≡ kind_for self }
     {
         match self {
-            LiveCondition::Places => DataErrorKind::Index,
+            LiveCondition::Indices => DataErrorKind::Index,
             LiveCondition::PrefixRows => DataErrorKind::Context,
             LiveCondition::Chains => DataErrorKind::Chain,
             LiveCondition::Digits => DataErrorKind::Digit,
@@ -57,7 +57,7 @@ impl Ranked for LiveCondition {
         ensures bound { result < 256 }
     {
         match self {
-            LiveCondition::Places => 20,
+            LiveCondition::Indices => 20,
             LiveCondition::PrefixRows => 30,
             LiveCondition::Chains => 40,
             LiveCondition::Digits => 50,

@@ -2,7 +2,7 @@
 use Rattle.std.specs.Prelude.{ℕ, ◌+◌, ◌/◌, ◌%◌, Bool, true, false, ◌&&◌, ◌==◌, nat_le, nat_lt}
 use Rattle.icu_entries.specs.Elements.{Element}
 use Rattle.icu_entries.specs.Entries.{EntryKind, Fallback, Prefix, Contraction, Digit, Reserved, kind_of, list_length, entry_index, digit_value}
-use Rattle.icu_entries.specs.Weights.{least_second_byte, second_bytes, lead_at, offset_base, offset_compressible, offset_place}
+use Rattle.icu_entries.specs.Weights.{least_second_byte, second_bytes, lead_at, offset_base, offset_compressible, offset_ordinal}
 
 -- the list that an entry names has a member, and lies inside one of this length
 abbrev pub is_listed : ℕ → ℕ → Bool
@@ -39,4 +39,4 @@ unfoldable pub has_offset_weight : Element → ℕ → Bool
 has_offset_weight d c =
     nat_le (offset_base d) c
     && is_three_byte_weight (offset_compressible d) d.primary
-    && nat_lt (lead_at (offset_compressible d) (offset_place d c)) 256
+    && nat_lt (lead_at (offset_compressible d) (offset_ordinal d c)) 256

@@ -20,8 +20,8 @@ abbrev pub least_second_byte : Bool → ℕ
 least_second_byte compressible = if compressible then 4 else 2
 
 -- the place of a weight of three bytes among all of them, in their order
-unfoldable pub place_of : Bool → ℕ → ℕ → ℕ → ℕ
-place_of compressible b1 b2 b3 =
+unfoldable pub ordinal_of : Bool → ℕ → ℕ → ℕ → ℕ
+ordinal_of compressible b1 b2 b3 =
     (b1 * second_bytes compressible + b2 - least_second_byte compressible) * 254 + b3 - 2
 
 -- the bytes of the weight at a place
@@ -54,14 +54,14 @@ abbrev pub offset_step : Element → ℕ
 offset_step d = offset_data d % 128
 
 -- the place of a weight of three bytes, by its bytes
-abbrev pub place_of_weight : Bool → ℕ → ℕ
-place_of_weight compressible p = place_of compressible (p / 0x1000000) (p / 0x10000 % 256) (p / 0x100 % 256)
+abbrev pub ordinal_of_weight : Bool → ℕ → ℕ
+ordinal_of_weight compressible p = ordinal_of compressible (p / 0x1000000) (p / 0x10000 % 256) (p / 0x100 % 256)
 
-unfoldable pub offset_place : Element → ℕ → ℕ
-offset_place d c = place_of_weight (offset_compressible d) d.primary + (c - offset_base d) * offset_step d
+unfoldable pub offset_ordinal : Element → ℕ → ℕ
+offset_ordinal d c = ordinal_of_weight (offset_compressible d) d.primary + (c - offset_base d) * offset_step d
 
 unfoldable pub offset_weight : Element → ℕ → ℕ
-offset_weight d c = weight_at (offset_compressible d) (offset_place d c)
+offset_weight d c = weight_at (offset_compressible d) (offset_ordinal d c)
 
 abbrev pub offset_element : Element → ℕ → Element
 offset_element d c = of_primary (offset_weight d c)

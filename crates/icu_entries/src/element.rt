@@ -1,5 +1,5 @@
 ghost use Rattle.std.specs.Prelude.{◌≡◌, ◌≤◌, ◌⊎◌, ◌↔◌, IsTrue, bit_or};
-ghost use Rattle.icu_entries.specs.Elements.{element_of, of_primary, accent_element, end_element, non_primary, non_primary_bits};
+ghost use Rattle.icu_entries.specs.Elements.{element_of, of_primary, of_secondary, end_element, non_primary, non_primary_bits};
 ghost use Rattle.icu_entries.specs.Weights.{implicit_weight};
 
 use crate::non_primary::NonPrimary;
@@ -58,7 +58,7 @@ impl CollationElement {
 
     /// A secondary weight, without a primary one, and the common tertiary weight after it.
     pub fn new_from_secondary(secondary: u16) -> Self
-        ensures { result ≡ accent_element secondary }
+        ensures { result ≡ of_secondary secondary }
     {
         CollationElement::from_weights(0, secondary, COMMON)
     }

@@ -1,5 +1,5 @@
 ghost use Rattle.std.specs.Prelude.{◌≡◌, ◌<◌, IsTrue};
-ghost use Rattle.icu_entries.specs.Weights.{second_bytes, least_second_byte, lead_at, weight_at, offset_base, offset_compressible, offset_step, place_of_weight, offset_place, offset_weight, offset_element};
+ghost use Rattle.icu_entries.specs.Weights.{second_bytes, least_second_byte, lead_at, weight_at, offset_base, offset_compressible, offset_step, ordinal_of_weight, offset_ordinal, offset_weight, offset_element};
 ghost use Rattle.icu_entries.specs.EntryConditions.{is_three_byte_weight, has_offset_weight};
 
 use crate::element::CollationElement;
@@ -20,9 +20,9 @@ fn least_second_byte(compressible: bool) -> u32
 }
 
 /// The place of a weight of three bytes among all of them.
-#[tactic(auto, unfolding(crate::specs::Weights::place_of))]
-fn place_of_weight(compressible: bool, weight: u32) -> u32
-    ensures value { result ≡ place_of_weight compressible weight }
+#[tactic(auto, unfolding(crate::specs::Weights::ordinal_of))]
+fn ordinal_of_weight(compressible: bool, weight: u32) -> u32
+    ensures value { result ≡ ordinal_of_weight compressible weight }
     ensures bound { result < 0x2000000 }
 {
     let lead = weight >> 24;
@@ -78,11 +78,11 @@ impl CollationElement {
     }
 
     /// The place of a character's weight by offset data.
-    #[tactic(auto, unfolding(crate::specs::Weights::offset_place))]
-    fn offset_place(self, c: char) -> u32
-        ensures { result ≡ offset_place self c }
+    #[tactic(auto, unfolding(crate::specs::Weights::offset_ordinal))]
+    fn offset_ordinal(self, c: char) -> u32
+        ensures { result ≡ offset_ordinal self c }
     {
-        let start = place_of_weight(self.offset_compressible(), self.primary());
+        let start = ordinal_of_weight(self.offset_compressible(), self.primary());
         start + (c as u32).saturating_sub(self.offset_base()) * self.offset_step()
     }
 
@@ -94,17 +94,17 @@ impl CollationElement {
         let compressible = self.offset_compressible();
         c as u32 >= self.offset_base()
             && is_three_byte_weight(compressible, self.primary())
-            && self.offset_place(c) / 254 / second_bytes(compressible) < 256
+            && self.offset_ordinal(c) / 254 / second_bytes(compressible) < 256
     }
 
     /// The element of a character by offset data.
-    #[tactic(auto, using(crate::proofs::OffsetLemmas::place_of_weight_at), unfolding(crate::specs::Weights::offset_weight, crate::specs::EntryConditions::has_offset_weight))]
+    #[tactic(auto, using(crate::proofs::OffsetLemmas::ordinal_of_weight_at), unfolding(crate::specs::Weights::offset_weight, crate::specs::EntryConditions::has_offset_weight))]
     pub fn offset_element(self, c: char) -> CollationElement
         requires { IsTrue (has_offset_weight self c) }
         ensures value { result ≡ offset_element self c }
-        ensures place { place_of_weight (offset_compressible self) result.primary ≡ offset_place self c }
+        ensures place { ordinal_of_weight (offset_compressible self) result.primary ≡ offset_ordinal self c }
     {
         let compressible = self.offset_compressible();
-        CollationElement::new_from_primary(weight_at(compressible, self.offset_place(c)))
+        CollationElement::new_from_primary(weight_at(compressible, self.offset_ordinal(c)))
     }
 }

@@ -1,5 +1,5 @@
 ghost use Rattle.std.specs.Prelude.{◌≡◌, ◌↔◌, true, IsOk, IfOk, IfErr};
-ghost use Rattle.icu_provider.specs.Diacritics.{is_replaced_place, is_accent, IsDiacritics, FailsDiacritics};
+ghost use Rattle.icu_provider.specs.Diacritics.{is_replaced_index, is_diacritic_weight, IsDiacritics, FailsDiacritics};
 
 use icu_entries::{CollationElement, DataErrorKind};
 
@@ -11,22 +11,22 @@ pub struct CollationDiacritics<'d> {
 }
 
 /// Whether the place, from U+0300 on, is that of U+0340, U+0341, U+0343 or U+0344, which no canonical decomposition has.
-pub fn is_replaced_place(place: usize) -> bool
-    ensures { result ≡ is_replaced_place place }
+pub fn is_replaced_index(place: usize) -> bool
+    ensures { result ≡ is_replaced_index place }
 {
     place == 0x40 || place == 0x41 || place == 0x43 || place == 0x44
 }
 
-#[tactic(auto, unfolding(crate::specs::Diacritics::is_accent))]
-fn is_accent(secondary: u16) -> bool
-    ensures { result ≡ is_accent true secondary }
+#[tactic(auto, unfolding(crate::specs::Diacritics::is_diacritic_weight))]
+fn is_diacritic_weight(secondary: u16) -> bool
+    ensures { result ≡ is_diacritic_weight true secondary }
 {
     let element = CollationElement::new_from_secondary(secondary);
     secondary != 0 && element.has_shape() && element.has_leads(true)
 }
 
 impl<'d> CollationDiacritics<'d> {
-    ghost use Rattle.icu_provider.specs.StoredTables.{accents_of};
+    ghost use Rattle.icu_provider.specs.StoredTables.{diacritics_of};
 
     /// Borrows the secondary weights. Refuses with `Length` if there are more than 79, and with `Element` if a weight is 0, has a
     /// nonzero byte after a zero byte, or has a lead byte that secondary weights may not have (they may have 02 to 04, 46 to FF,
@@ -35,31 +35,31 @@ impl<'d> CollationDiacritics<'d> {
     pub fn new(secondaries: &'d [u16]) -> Result<CollationDiacritics<'d>, DataErrorKind>
         ensures accepts { IsOk result ↔ IsDiacritics secondaries.entry.now }
         ensures kind { IfErr result (FailsDiacritics secondaries.entry.now) }
-        ensures keeps { IfOk result (λ d. accents_of d ≡ secondaries.entry.now) }
+        ensures keeps { IfOk result (λ d. diacritics_of d ≡ secondaries.entry.now) }
     {
         if secondaries.len() > 79 {
             return Err(DataErrorKind::Length);
         }
         for (place, secondary) in secondaries.iter().enumerate() {
-            if !is_replaced_place(place) && !is_accent(*secondary) {
+            if !is_replaced_index(place) && !is_diacritic_weight(*secondary) {
                 return Err(DataErrorKind::Element);
             }
         }
-        Ok(CollationDiacritics::from_parts(secondaries))
+        Ok(CollationDiacritics::new_unchecked(secondaries))
     }
 
     /// A table of weights that are known to meet the conditions, without a check.
-    pub fn from_parts(secondaries: &'d [u16]) -> CollationDiacritics<'d>
+    pub fn new_unchecked(secondaries: &'d [u16]) -> CollationDiacritics<'d>
         requires { IsDiacritics secondaries.now }
-        ensures { accents_of result ≡ secondaries.entry.now }
+        ensures { diacritics_of result ≡ secondaries.entry.now }
     {
         CollationDiacritics { secondaries }
     }
 
     /// The secondary weights, from that of U+0300 on.
     pub fn secondaries(self) -> &'d [u16]
-        ensures value { result.now ≡ accents_of self.entry }
-        ensures diacritics { IsDiacritics (accents_of self.entry) }
+        ensures value { result.now ≡ diacritics_of self.entry }
+        ensures diacritics { IsDiacritics (diacritics_of self.entry) }
     {
         self.secondaries
     }

@@ -35,11 +35,11 @@ impl<'d> CollationJamo<'d> {
         {
             return Err(DataErrorKind::Tag);
         }
-        Ok(CollationJamo::from_parts(ce32s))
+        Ok(CollationJamo::new_unchecked(ce32s))
     }
 
     /// A table of entries that are known to meet the conditions, without a check.
-    pub fn from_parts(ce32s: &'d [u32]) -> CollationJamo<'d>
+    pub fn new_unchecked(ce32s: &'d [u32]) -> CollationJamo<'d>
         requires { IsJamo ce32s.now }
         ensures { jamo_of result ≡ ce32s.entry.now }
     {

@@ -2,7 +2,7 @@
 ghost use Rattle.std.specs.Prelude.{◌≡◌};
 ghost use Rattle.icu_provider.specs.Loads.{Loads, answer};
 ghost use Rattle.icu_provider.specs.Requests.{request_of};
-ghost use Rattle.icu_provider.specs.StoredTables.{accents_of, jamo_of, reordering_of, special_of};
+ghost use Rattle.icu_provider.specs.StoredTables.{diacritics_of, jamo_of, reordering_of, special_of};
 ghost use Rattle.icu_data.specs.StoredData.{data_of};
 
 use crate::diacritics::CollationDiacritics;
@@ -65,5 +65,5 @@ pub trait CollationProvider {
         &self,
         request: DataRequest<'_>,
     ) -> Result<CollationDiacritics<'_>, DataError>
-        ensures { answer accents_of result ≡ (loads self.now).diacritics (request_of request.entry) };
+        ensures { answer diacritics_of result ≡ (loads self.now).diacritics (request_of request.entry) };
 }

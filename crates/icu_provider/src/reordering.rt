@@ -69,11 +69,11 @@ impl<'d> CollationReordering<'d> {
         if reorder_table.len() != 256 {
             return Err(DataErrorKind::Length);
         }
-        Ok(CollationReordering::from_parts(min_high_no_reorder, reorder_table, reorder_ranges))
+        Ok(CollationReordering::new_unchecked(min_high_no_reorder, reorder_table, reorder_ranges))
     }
 
     /// A reordering of slices that are known to fit, without a check: there are 256 lead bytes.
-    pub fn from_parts(
+    pub fn new_unchecked(
         min_high_no_reorder: u32,
         reorder_table: &'d [u8],
         reorder_ranges: &'d [u32],

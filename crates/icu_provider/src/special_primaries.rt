@@ -1,5 +1,5 @@
 ghost use Rattle.std.specs.Prelude.{◌≡◌, ◌≤◌, ◌↔◌, IsOk, IfOk, IfErr, IsTrue, All, length};
-ghost use Rattle.icu_provider.specs.SpecialPrimaries.{group_place, last_primary, is_compressible, is_numeric_lead, ends_below, HasGroupEnds, IsSpecialPrimaries, FailsSpecial};
+ghost use Rattle.icu_provider.specs.SpecialPrimaries.{group_index, last_primary, is_compressible, is_numeric_lead, ends_below, HasGroupEnds, IsSpecialPrimaries, FailsSpecial};
 
 use icu_entries::DataErrorKind;
 use icu_options::MaxVariable;
@@ -14,8 +14,8 @@ pub struct CollationSpecialPrimaries<'d> {
 }
 
 /// The place of a group's number.
-fn group_place(group: MaxVariable) -> usize
-    ensures value { result ≡ group_place group }
+fn group_index(group: MaxVariable) -> usize
+    ensures value { result ≡ group_index group }
     ensures bound { result ≤ 3 }
 {
     match group {
@@ -72,11 +72,11 @@ impl<'d> CollationSpecialPrimaries<'d> {
         if !has_group_ends(last_primaries, numeric_primary) {
             return Err(DataErrorKind::SpecialPrimary);
         }
-        Ok(CollationSpecialPrimaries::from_parts(last_primaries, numeric_primary))
+        Ok(CollationSpecialPrimaries::new_unchecked(last_primaries, numeric_primary))
     }
 
     /// Numbers that are known to meet the conditions, without a check.
-    pub fn from_parts(
+    pub fn new_unchecked(
         last_primaries: &'d [u16],
         numeric_primary: u8,
     ) -> CollationSpecialPrimaries<'d>
@@ -109,7 +109,7 @@ impl<'d> CollationSpecialPrimaries<'d> {
     pub fn last_primary_for_group(self, group: MaxVariable) -> u32
         ensures { result ≡ last_primary (special_of self.entry) group }
     {
-        let end = self.last_primaries[group_place(group)];
+        let end = self.last_primaries[group_index(group)];
         u32::from(end) * 0x10000 - 1
     }
 
