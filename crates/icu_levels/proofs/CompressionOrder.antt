@@ -1,4 +1,4 @@
--- The bytes of a reordered primary after weights of one lead: of two the lesser precedes
+-- The bytes of a reordered primary after weights of one lead: of two the lesser precedes.
 use Rattle.std.proofs.Common.{◌≡◌, ◌≢◌, ℕ, ◌%◌, ◌^◌, ◌<◌, ◌≤◌, if◌then◌else◌, Bool, ◌||◌, false, [], ◌∷◌, ◌++◌, refl, sym, ap, ◌∙◌, subst, inl, inr, ◌⊎◌, arith, lit<, lit≤, eq-eqb, ne_eqb, eqb, ltb}
 use Rattle.std.proofs.lemmas.Bool.{cases_order, cases_eq, lt-ltb, le-ltb, cond-true, cond-false, or_right}
 use Rattle.icu_levels.specs.ListOrder.{IsUnder, IsOver, IsBeginning, Precedes}

@@ -1,6 +1,6 @@
--- Weights of two bytes whose leads are moved out of the way of runs
+-- Weights of two bytes whose leads are moved out of the way of runs.
 use Rattle.std.proofs.Common.{◌≡◌, ◌≢◌, ℕ, ◌/◌, ◌%◌, ◌^◌, ◌<◌, ◌∷◌, sym, subst, arith}
-use Rattle.icu_levels.specs.declared.rows.Row.{Row}
+use Rattle.icu_levels.specs.declared.run_bytes.RunBytes.{RunBytes}
 use Rattle.icu_levels.specs.ListOrder.{IsBeginning}
 use Rattle.icu_levels.specs.WeightBytes.{weight_bytes}
 use Rattle.icu_levels.specs.Runs.{IsSpelling}
@@ -39,7 +39,7 @@ moved_begins v w x y a b c d e f g h =
     )
 
 -- Weights are moved in their leads alone, in their order, and out of the way of runs
-pub record IsMove (r : Row) (end : ℕ) (move : ℕ → ℕ) (IsLive : ℕ → Type 0) : Type 0 where
+pub record IsMove (r : RunBytes) (end : ℕ) (move : ℕ → ℕ) (IsLive : ℕ → Type 0) : Type 0 where
   pub low : (w : ℕ) → IsLive w → w < r.common → (end < move w / 256) × (move w / 256 < r.low)
   pub high : (w : ℕ) → IsLive w → r.common < w → r.high < move w / 256
   pub fits : (w : ℕ) → IsLive w → move w < 2 ^ 16
@@ -49,7 +49,7 @@ pub record IsMove (r : Row) (end : ℕ) (move : ℕ → ℕ) (IsLive : ℕ → T
   pub rises : (v w : ℕ) → IsLive v → IsLive w → v ≢ r.common → w ≢ r.common → v < w → move v < move w
   pub one_lead : (v w : ℕ) → IsLive v → IsLive w → v ≢ r.common → w ≢ r.common → move v / 256 ≡ move w / 256 → v / 256 ≡ w / 256
 
-pub moved_spelling : (r : Row) (end : ℕ) (move : ℕ → ℕ) (IsLive : ℕ → Type 0) → end < r.low → IsMove r end move IsLive
+pub moved_spelling : (r : RunBytes) (end : ℕ) (move : ℕ → ℕ) (IsLive : ℕ → Type 0) → end < r.low → IsMove r end move IsLive
     → IsPrefixFree (weight_bytes 2) IsLive → IsSpelling r end (λ w. weight_bytes 2 (move w)) IsLive
 moved_spelling r end move IsLive l good free = record {
   end_below = l;

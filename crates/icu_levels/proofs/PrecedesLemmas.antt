@@ -1,4 +1,4 @@
--- When one list comes before another whatever follows either
+-- When one list comes before another whatever follows either.
 use Rattle.std.proofs.Common.{◌≡◌, ℕ, zero, suc, ◌<◌, List, [], ◌∷◌, ◌++◌, refl, sym, ◌∙◌, arith, append_assoc}
 use Rattle.icu_levels.specs.ListOrder.{IsUnder, IsOver, Precedes}
 use Rattle.icu_levels.specs.WeightBytes.{before_nonzero}

@@ -1,4 +1,4 @@
--- The primary level's bytes order as its reordered lists, numbers among them
+-- The primary level's bytes order as its reordered lists, numbers among them.
 use Rattle.std.proofs.Common.{◌≡◌, ◌≢◌, ℕ, ◌^◌, ◌<◌, ◌≤◌, Bool, true, false, if◌then◌else◌, List, [], ◌∷◌, ◌++◌, map, refl, sym, ap, ap₂, ◌∙◌, subst, inl, inr, ◌⊎◌, arith, lit<, Less, ne_eqb}
 use Rattle.std.proofs.lemmas.Bool.{cases_order, cases_eq, cases_Bool, cond-true, cond-false}
 use Rattle.std.specs.Ordering.{ordering_then}
@@ -149,8 +149,8 @@ module _ (c : Compression) (numeric : ℕ) (IsLive : ℕ → Type 0) (good : Are
   not_number : (i : Bool) (w : ℕ) → lead w ≢ numeric → goes_on numeric i w ≡ false
   not_number i w n = rw (ne_eqb (lead w) numeric n) refl
 
-  plain_drop : (w : ℕ) → lead w ≡ numeric → dropped_after c w ≡ 0
-  plain_drop w l = cond-false (c.is_compressible (lead w)) _ _ (ap c.is_compressible l ∙ good.numbers_whole)
+  number_drop : (w : ℕ) → lead w ≡ numeric → dropped_after c w ≡ 0
+  number_drop w l = cond-false (c.is_compressible (lead w)) _ _ (ap c.is_compressible l ∙ good.numbers_whole)
 
   same_place : (p : Place) (v w : ℕ) → Stands p v → Stands p w → c.reorder v ≡ c.reorder w → place_after p v ≡ place_after p w
   same_place p v w s t e = by (member p.inside v s.1) (member p.inside w t.1)
@@ -189,7 +189,7 @@ module _ (c : Compression) (numeric : ℕ) (IsLive : ℕ → Type 0) (good : Are
       by : (c.is_compressible (lead w) ≡ true) ⊎ (c.is_compressible (lead w) ≡ false) → IsDropped (dropped_after c w)
       by (inl k) = after w a k (sym (cond-true (c.is_compressible (lead w)) _ _ k))
       by (inr k) = none (cond-false (c.is_compressible (lead w)) _ _ k)
-  dropped_next i w (numbered f l) = none (plain_drop w l)
+  dropped_next i w (numbered f l) = none (number_drop w l)
 
   all_stand : (ws : List ℕ) (p : Place) → IsDropped p.dropped → IsPrimaryList numeric IsLive p.inside ws
       → StandAlong place_after Stands p ws
