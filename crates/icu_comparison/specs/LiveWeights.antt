@@ -2,7 +2,9 @@
 -- "Collation Reordering" and "Case Parameters"), and that they are as the levels of sort keys ask.
 use Rattle.std.specs.Prelude.{ℕ, ◌+◌, ◌≡◌, ◌≢◌, ◌⊎◌, ◌==◌, bit_and, bit_xor, if◌then◌else◌}
 use Rattle.icu_levels.specs.Primaries.{Compression}
-use Rattle.icu_levels.specs.Tertiaries.{TertiaryForm, plain, lower_first, upper_first, tertiary_row}
+use Rattle.icu_levels.specs.Tertiaries.{tertiary_runs}
+use Rattle.icu_levels.specs.declared.forms.TertiaryForm.{TertiaryForm}
+use Rattle.icu_levels.specs.declared.forms.TertiaryForm.TheVariants.{WithoutCase, LowerFirst, UpperFirst}
 use Rattle.icu_levels.specs.Premises.{ArePrimaries, AreSecondaries, AreTertiaries, AreShifted, forward_least, backward_least}
 use Rattle.icu_provider.specs.declared.error.DataTable.{DataTable}
 use Rattle.icu_provider.specs.Elements.{Element, common, case_mask, tertiary_mask}
@@ -57,21 +59,21 @@ cased_mask = 0xFF3F
 
 -- what a form reads of an element
 abbrev pub masked_tertiary : TertiaryForm → Element → ℕ
-masked_tertiary plain x = bit_and x.lower tertiary_mask
-masked_tertiary lower_first x = bit_and x.lower cased_mask
-masked_tertiary upper_first x = bit_and x.lower cased_mask
+masked_tertiary WithoutCase x = bit_and x.lower tertiary_mask
+masked_tertiary LowerFirst x = bit_and x.lower cased_mask
+masked_tertiary UpperFirst x = bit_and x.lower cased_mask
 
 -- What a form has for an element that it reads something of. Upper case first inverts the case bits; an element with a tertiary
 -- alone, whose case bits are 10, has 11 then, the greatest
 abbrev pub tertiary_in : TertiaryForm → Element → ℕ
-tertiary_in upper_first x =
-    if x.secondary == 0 then masked_tertiary upper_first x + 0x4000 else bit_xor (masked_tertiary upper_first x) case_mask
+tertiary_in UpperFirst x =
+    if x.secondary == 0 then masked_tertiary UpperFirst x + 0x4000 else bit_xor (masked_tertiary UpperFirst x) case_mask
 tertiary_in form x = masked_tertiary form x
 
 -- the common one, which numbers have, and those of live elements
 abbrev pub IsLiveTertiary : CollatorTables → TertiaryForm → ℕ → Type 0
 IsLiveTertiary all form t =
-    (t ≡ (tertiary_row form).common) ⊎ IsLiveWeight (masked_tertiary form) (tertiary_in form) all t
+    (t ≡ (tertiary_runs form).common) ⊎ IsLiveWeight (masked_tertiary form) (tertiary_in form) all t
 
 -- ---- all levels
 
