@@ -20,7 +20,7 @@ impl Nibbles {
         Nibbles { held: None }
     }
 
-    /// Adds a nibble, and answers the byte that it completes, if it does.
+    /// Adds a nibble, and returns the byte that it completes, if it does.
     pub fn add(&mut self, nibble: u8) -> Option<u8>
         requires { nibble < 16 }
         ensures { (ns : List ℕ) → packed (option_to_list self.old.held ++ (nibble ∷ ns)) ≡ option_to_list result ++ packed (option_to_list self.new.held ++ ns) }
