@@ -1,11 +1,14 @@
 -- The weights that the tables of a collator can give, level by level (UTS #10, section 7.3 "Form Sort Keys"; UTS #35 part 5,
 -- "Collation Reordering" and "Case Parameters"), and that they are as the levels of sort keys ask.
-use Rattle.std.specs.Prelude.{ℕ, ◌+◌, ◌≡◌, ◌≢◌, ◌⊎◌, ◌==◌, bit_and, bit_xor, if◌then◌else◌}
+use Rattle.std.specs.Prelude.{false, Option, Some, None, ℕ, ◌+◌, ◌≡◌, ◌≢◌, ◌⊎◌, ◌==◌, bit_and, bit_xor, if◌then◌else◌}
 use Rattle.icu_levels.specs.Primaries.{Compression}
 use Rattle.icu_levels.specs.Tertiaries.{tertiary_runs}
+use Rattle.icu_levels.specs.declared.forms.KeyForm.{KeyForm}
+use Rattle.icu_levels.specs.declared.forms.SecondaryForm.TheVariants.{Backward}
 use Rattle.icu_levels.specs.declared.forms.TertiaryForm.{TertiaryForm}
 use Rattle.icu_levels.specs.declared.forms.TertiaryForm.TheVariants.{WithoutCase, LowerFirst, UpperFirst}
-use Rattle.icu_levels.specs.Premises.{ArePrimaries, AreSecondaries, AreTertiaries, AreShifted, forward_least, backward_least}
+use Rattle.icu_levels.specs.Premises.{forward_least, backward_least}
+use Rattle.icu_levels.specs.KeyPremises.{LiveWeights, AreWeights}
 use Rattle.icu_provider.specs.declared.error.DataTable.{DataTable}
 use Rattle.icu_provider.specs.Elements.{Element, common, case_mask, tertiary_mask}
 use Rattle.icu_provider.specs.SpecialPrimaries.{is_compressible}
@@ -77,13 +80,24 @@ IsLiveTertiary all form t =
 
 -- ---- all levels
 
--- the weights that the tables give are as the levels of sort keys ask, whatever the settings
-pub record HaveLevelWeights (all : CollatorTables) : Type 0 where
-  pub primaries : ArePrimaries (compression_of all) all.special.numeric (IsLivePrimary all)
-  pub secondaries : AreSecondaries (least_secondary_lead all) (IsLiveSecondary all)
-  pub tertiaries : (form : TertiaryForm) → AreTertiaries form (IsLiveTertiary all form)
-  pub shifted : AreShifted (IsShiftedPrimary all)
+-- those of a key of this form, if it has the level
+abbrev pub IsTertiaryOf : CollatorTables → Option TertiaryForm → ℕ → Type 0
+IsTertiaryOf all None t = ⊥
+IsTertiaryOf all (Some form) t = IsLiveTertiary all form t
 
--- tables that meet the conditions on all tables of a collator give such weights
+-- the weights that the tables give to a key of this form, as the order theorem of keys speaks of them
+abbrev pub live_weights : CollatorTables → KeyForm → LiveWeights
+live_weights all f = record {
+  primary = IsLivePrimary all;
+  secondary = IsLiveSecondary all;
+  tertiary = IsTertiaryOf all f.tertiary;
+  shifted_primary = IsShiftedPrimary all;
+  numeric = all.special.numeric;
+}
+
+-- Tables that meet the conditions on all tables of a collator give weights that are as a key of any form asks, whatever the
+-- settings: a backward level is one of tables that say so
 abbrev pub GoodTablesServeLevels : Type 0
-GoodTablesServeLevels = (all : CollatorTables) → IsGoodTables all → HaveLevelWeights all
+GoodTablesServeLevels =
+    (all : CollatorTables) → IsGoodTables all → (f : KeyForm) → (f.secondary ≡ Some Backward → is_forward all ≡ false)
+    → AreWeights (compression_of all) f (live_weights all f)

@@ -15,14 +15,15 @@ const BETWEEN_SEGMENTS: u8 = 2;
 
 /// Writes the secondaries of a segment, which come in the order of the text, in reversed order. An error is the sink's
 /// own.
-fn write_segment<S: CollationKeySink>(
+pub(crate) fn write_segment<S: CollationKeySink>(
     sink: &mut S,
     state: &mut S::State,
     weights: &[u16],
 ) -> Result<(), S::Error>
     requires { S.is_sound sink.old state.old }
     ensures sound { S.is_sound sink.new state.new }
-    ensures bytes { Writes S.took S.refused sink.old state.old (secondary_level (reverse weights.now)) result sink.new state.new }
+    ensures bytes { Writes S.took S.refused sink.old state.old
+        (secondary_level (reverse weights.now)) result sink.new state.new }
 {
     let mut writer = SecondaryWriter::new();
     let mut left = weights;
@@ -48,7 +49,8 @@ impl BackwardWriter {
 
     /// The writer of a level, with nothing written. It allocates nothing.
     pub fn new(alloc: Global) -> Self
-        ensures { (more : List ℕ) (segments : List (List ℕ)) → backward_rest result (more, segments) ≡ backward_level (map reverse (more ∷ segments)) }
+        ensures { (more : List ℕ) (segments : List (List ℕ)) →
+            backward_rest result (more, segments) ≡ backward_level (map reverse (more ∷ segments)) }
     {
         BackwardWriter {
             segment: SmallVec::new(alloc),
@@ -57,7 +59,9 @@ impl BackwardWriter {
 
     /// Keeps the next weight of the segment, and writes nothing. On an error the writer is as it was.
     pub fn push(&mut self, weight: u16) -> Result<(), AllocError>
-        ensures ok { OnOk result ((more : List ℕ) (segments : List (List ℕ)) → backward_rest self.old (weight ∷ more, segments) ≡ backward_rest self.new (more, segments)) }
+        ensures ok { OnOk result ((more : List ℕ) (segments : List (List ℕ)) →
+            backward_rest self.old (weight ∷ more, segments)
+            ≡ backward_rest self.new (more, segments)) }
         ensures err { OnErr result (segment_so_far self.new ≡ segment_so_far self.old) }
     {
         self.segment.push(weight)?;
@@ -72,7 +76,9 @@ impl BackwardWriter {
     ) -> Result<(), S::Error>
         requires { S.is_sound sink.old state.old }
         ensures sound { S.is_sound sink.new state.new }
-        ensures bytes { Feeds S.took S.refused sink.old state.old (λ rest. backward_rest self.old ([], rest.0 ∷ rest.1)) (backward_rest self.new) result sink.new state.new }
+        ensures bytes { Feeds S.took S.refused sink.old state.old
+            (λ rest. backward_rest self.old ([], rest.0 ∷ rest.1)) (backward_rest self.new)
+            result sink.new state.new }
     {
         write_segment(sink, state, self.segment.as_slice())?;
         self.segment.clear();
@@ -87,7 +93,8 @@ impl BackwardWriter {
     ) -> Result<(), S::Error>
         requires { S.is_sound sink.old state.old }
         ensures sound { S.is_sound sink.new state.new }
-        ensures bytes { Writes S.took S.refused sink.old state.old (backward_rest self ([], [])) result sink.new state.new }
+        ensures bytes { Writes S.took S.refused sink.old state.old (backward_rest self ([], []))
+            result sink.new state.new }
     {
         let last = self.segment;
         write_segment(sink, state, last.as_slice())

@@ -78,7 +78,8 @@ impl CaseWriter {
     /// The writer of a level of this form, with nothing written.
     pub fn new(form: CaseForm) -> Self
         ensures form { case_form_of result ≡ form }
-        ensures begins { (ranks : List ℕ) → case_rest result ranks ≡ packed (case_nibbles form ranks) }
+        ensures begins { (ranks : List ℕ) →
+            case_rest result ranks ≡ packed (case_nibbles form ranks) }
     {
         CaseWriter {
             form,
@@ -97,7 +98,9 @@ impl CaseWriter {
         requires { S.is_sound sink.old state.old }
         ensures sound { S.is_sound sink.new state.new }
         ensures form { case_form_of self.new ≡ case_form_of self.old }
-        ensures bytes { Feeds S.took S.refused sink.old state.old (λ ranks. case_rest self.old (rank_of (case_form_of self.old) case ∷ ranks)) (case_rest self.new) result sink.new state.new }
+        ensures bytes { Feeds S.took S.refused sink.old state.old
+            (λ ranks. case_rest self.old (rank_of (case_form_of self.old) case ∷ ranks))
+            (case_rest self.new) result sink.new state.new }
     {
         let runs = runs_of(self.form);
         let rank = rank(self.form, case);
@@ -122,7 +125,8 @@ impl CaseWriter {
     ) -> Result<(), S::Error>
         requires { S.is_sound sink.old state.old }
         ensures sound { S.is_sound sink.new state.new }
-        ensures bytes { Writes S.took S.refused sink.old state.old (case_rest self []) result sink.new state.new }
+        ensures bytes { Writes S.took S.refused sink.old state.old (case_rest self [])
+            result sink.new state.new }
     {
         let runs = runs_of(self.form);
         let last = self.run.end(&runs, true);

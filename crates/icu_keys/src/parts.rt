@@ -22,7 +22,8 @@ pub fn write_opened<S: CollationKeySink>(
 ) -> Result<(), S::Error>
     requires { S.is_sound sink.old state.old }
     ensures sound { S.is_sound sink.new state.new }
-    ensures bytes { Writes S.took S.refused sink.old state.old (part_bytes (opened bytes.now)) result sink.new state.new }
+    ensures bytes { Writes S.took S.refused sink.old state.old (part_bytes (opened bytes.now))
+        result sink.new state.new }
 {
     sink.write_byte(state, LEVEL)?;
     sink.write(state, bytes)
@@ -36,7 +37,8 @@ pub fn write_closed<S: CollationKeySink>(
 ) -> Result<(), S::Error>
     requires { S.is_sound sink.old state.old }
     ensures sound { S.is_sound sink.new state.new }
-    ensures bytes { Writes S.took S.refused sink.old state.old (part_bytes (closed bytes.now)) result sink.new state.new }
+    ensures bytes { Writes S.took S.refused sink.old state.old (part_bytes (closed bytes.now))
+        result sink.new state.new }
 {
     write_opened(sink, state, bytes)?;
     sink.write_byte(state, LEVEL)
@@ -51,7 +53,9 @@ pub fn write_opened_level<S: CollationKeySink>(
     requires { S.is_sound sink.old state.old }
     ensures sound { S.is_sound sink.new state.new }
     ensures memory { IfErr result (λ error. error ≡ SortKeyError.NoMemory → IsErr level) }
-    ensures bytes { (wanted : List ℕ) → IfOk level (λ bytes. bytes.items ≡ wanted) → KeyWrites S.took S.refused sink.old state.old (part_bytes (opened wanted)) result sink.new state.new }
+    ensures bytes { (wanted : List ℕ) → IfOk level (λ bytes. bytes.items ≡ wanted) →
+        KeyWrites S.took S.refused sink.old state.old (part_bytes (opened wanted))
+        result sink.new state.new }
 {
     match level {
         Ok(bytes) => match write_opened(sink, state, bytes.as_slice()) {
@@ -71,7 +75,9 @@ pub fn write_closed_level<S: CollationKeySink>(
     requires { S.is_sound sink.old state.old }
     ensures sound { S.is_sound sink.new state.new }
     ensures memory { IfErr result (λ error. error ≡ SortKeyError.NoMemory → IsErr level) }
-    ensures bytes { (wanted : List ℕ) → IfOk level (λ bytes. bytes.items ≡ wanted) → KeyWrites S.took S.refused sink.old state.old (part_bytes (closed wanted)) result sink.new state.new }
+    ensures bytes { (wanted : List ℕ) → IfOk level (λ bytes. bytes.items ≡ wanted) →
+        KeyWrites S.took S.refused sink.old state.old (part_bytes (closed wanted))
+        result sink.new state.new }
 {
     match level {
         Ok(bytes) => match write_closed(sink, state, bytes.as_slice()) {

@@ -59,7 +59,8 @@ fn write_primary<S: CollationKeySink>(
 ) -> Result<(), S::Error>
     requires { S.is_sound sink.old state.old }
     ensures sound { S.is_sound sink.new state.new }
-    ensures bytes { Writes S.took S.refused sink.old state.old (primary_bytes dropped primary) result sink.new state.new }
+    ensures bytes { Writes S.took S.refused sink.old state.old (primary_bytes dropped primary)
+        result sink.new state.new }
 {
     let bytes = primary.to_be_bytes();
     let new = bytes[0];
@@ -84,7 +85,8 @@ impl PrimaryWriter {
 
     /// The writer of a level, with nothing written.
     pub fn new() -> Self
-        ensures { (c : Compression) (ws : List ℕ) → primary_rest c result ws ≡ primary_level c 0 ws }
+        ensures { (c : Compression) (ws : List ℕ) →
+            primary_rest c result ws ≡ primary_level c 0 ws }
     {
         PrimaryWriter { dropped: 0 }
     }
@@ -99,7 +101,9 @@ impl PrimaryWriter {
     ) -> Result<(), S::Error>
         requires { S.is_sound sink.old state.old }
         ensures sound { S.is_sound sink.new state.new }
-        ensures bytes { Feeds S.took S.refused sink.old state.old (λ ws. primary_rest (C.compression compression.now) self.old (weight ∷ ws)) (primary_rest (C.compression compression.now) self.new) result sink.new state.new }
+        ensures bytes { Feeds S.took S.refused sink.old state.old
+            (λ ws. primary_rest (C.compression compression.now) self.old (weight ∷ ws))
+            (primary_rest (C.compression compression.now) self.new) result sink.new state.new }
     {
         let dropped = self.dropped;
         let reordered = compression.reorder(weight);

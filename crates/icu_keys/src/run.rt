@@ -32,7 +32,9 @@ impl Run {
         requires bounded { self.old.length ≤ runs.now.count }
         ensures bounded { self.new.length ≤ runs.now.count }
         ensures middle { IfSome result (λ byte. byte ≡ runs.now.middle) }
-        ensures bytes { (spell : ℕ → List ℕ) (ws : List ℕ) → level_bytes runs.now spell (suc self.old.length) ws ≡ option_to_list result ++ level_bytes runs.now spell self.new.length ws }
+        ensures bytes { (spell : ℕ → List ℕ) (ws : List ℕ) →
+            level_bytes runs.now spell (suc self.old.length) ws
+            ≡ option_to_list result ++ level_bytes runs.now spell self.new.length ws }
     {
         if self.length == runs.count {
             self.length = 1;
@@ -51,7 +53,9 @@ impl Run {
         ensures empty { self.new.length ≡ 0 }
         ensures low { IsTrue before_less → IfSome result (λ byte. byte ≤ runs.now.middle) }
         ensures high { IfSome result (λ byte. byte ≤ runs.now.high) }
-        ensures bytes { option_to_list result ≡ (if before_less then run_before_less runs.now self.old.length else run_before_more runs.now self.old.length) }
+        ensures bytes { option_to_list result ≡ (if before_less
+            then run_before_less runs.now self.old.length
+            else run_before_more runs.now self.old.length) }
     {
         let length = self.length;
         self.length = 0;
@@ -76,7 +80,9 @@ impl Run {
         requires bounded { self.old.length ≤ runs.now.count }
         ensures sound { S.is_sound sink.new state.new }
         ensures bounded { self.new.length ≤ runs.now.count }
-        ensures bytes { (spell : ℕ → List ℕ) → Feeds S.took S.refused sink.old state.old (λ ws. level_bytes runs.now spell self.old.length (runs.now.common ∷ ws)) (level_bytes runs.now spell self.new.length) result sink.new state.new }
+        ensures bytes { (spell : ℕ → List ℕ) → Feeds S.took S.refused sink.old state.old
+            (λ ws. level_bytes runs.now spell self.old.length (runs.now.common ∷ ws))
+            (level_bytes runs.now spell self.new.length) result sink.new state.new }
     {
         let due = self.count(runs);
         write_optional(sink, state, due)
@@ -97,7 +103,10 @@ impl Run {
         requires other { weight ≢ runs.now.common }
         ensures sound { S.is_sound sink.new state.new }
         ensures bounded { self.new.length ≤ runs.now.count }
-        ensures bytes { (spell : ℕ → List ℕ) → spell weight ≡ spelled.now → Feeds S.took S.refused sink.old state.old (λ ws. level_bytes runs.now spell self.old.length (weight ∷ ws)) (level_bytes runs.now spell self.new.length) result sink.new state.new }
+        ensures bytes { (spell : ℕ → List ℕ) → spell weight ≡ spelled.now →
+            Feeds S.took S.refused sink.old state.old
+            (λ ws. level_bytes runs.now spell self.old.length (weight ∷ ws))
+            (level_bytes runs.now spell self.new.length) result sink.new state.new }
     {
         let last = self.end(runs, weight < runs.common);
         write_after(sink, state, last, spelled)
@@ -114,7 +123,8 @@ impl Run {
         requires runs { AreRunBytes runs.now }
         requires bounded { self.length ≤ runs.now.count }
         ensures sound { S.is_sound sink.new state.new }
-        ensures bytes { (spell : ℕ → List ℕ) → Writes S.took S.refused sink.old state.old (level_bytes runs.now spell self.length []) result sink.new state.new }
+        ensures bytes { (spell : ℕ → List ℕ) → Writes S.took S.refused sink.old state.old
+            (level_bytes runs.now spell self.length []) result sink.new state.new }
     {
         let last = self.end(runs, true);
         write_optional(sink, state, last)

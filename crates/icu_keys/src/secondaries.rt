@@ -39,7 +39,9 @@ impl SecondaryWriter {
     ) -> Result<(), S::Error>
         requires { S.is_sound sink.old state.old }
         ensures sound { S.is_sound sink.new state.new }
-        ensures bytes { Feeds S.took S.refused sink.old state.old (λ ws. secondary_rest self.old (weight ∷ ws)) (secondary_rest self.new) result sink.new state.new }
+        ensures bytes { Feeds S.took S.refused sink.old state.old
+            (λ ws. secondary_rest self.old (weight ∷ ws)) (secondary_rest self.new)
+            result sink.new state.new }
     {
         let whole = u64::from(weight);
         if whole == SECONDARY_RUNS.common {
@@ -59,7 +61,8 @@ impl SecondaryWriter {
     ) -> Result<(), S::Error>
         requires { S.is_sound sink.old state.old }
         ensures sound { S.is_sound sink.new state.new }
-        ensures bytes { Writes S.took S.refused sink.old state.old (secondary_rest self []) result sink.new state.new }
+        ensures bytes { Writes S.took S.refused sink.old state.old (secondary_rest self [])
+            result sink.new state.new }
     {
         self.run.write_end(&SECONDARY_RUNS, sink, state)
     }

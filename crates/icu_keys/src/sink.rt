@@ -34,13 +34,17 @@ pub trait CollationKeySink {
     fn write(&mut self, state: &mut Self::State, buf: &[u8]) -> Result<(), Self::Error>
         requires { is_sound self.old state.old }
         ensures sound { is_sound self.new state.new }
-        ensures outcome { MatchResult result (λ _. took self.old state.old buf.now self.new state.new) (λ e. refused self.old state.old buf.now e self.new state.new) };
+        ensures outcome { MatchResult result
+            (λ _. took self.old state.old buf.now self.new state.new)
+            (λ e. refused self.old state.old buf.now e self.new state.new) };
 
     /// Takes one byte, as `write` of it alone.
     fn write_byte(&mut self, state: &mut Self::State, byte: u8) -> Result<(), Self::Error>
         requires { is_sound self.old state.old }
         ensures sound { is_sound self.new state.new }
-        ensures outcome { MatchResult result (λ _. took self.old state.old (byte ∷ []) self.new state.new) (λ e. refused self.old state.old (byte ∷ []) e self.new state.new) }
+        ensures outcome { MatchResult result
+            (λ _. took self.old state.old (byte ∷ []) self.new state.new)
+            (λ e. refused self.old state.old (byte ∷ []) e self.new state.new) }
     {
         self.write(state, &[byte])
     }

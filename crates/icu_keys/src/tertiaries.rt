@@ -8,7 +8,9 @@ use crate::run::Run;
 use crate::sink::CollationKeySink;
 use crate::weight_bytes::trimmed;
 use icu_levels::forms::TertiaryForm;
-use icu_levels::run_bytes::{LOWER_FIRST_TERTIARY_RUNS, RunBytes, TERTIARY_RUNS, UPPER_FIRST_TERTIARY_RUNS};
+use icu_levels::run_bytes::{
+    LOWER_FIRST_TERTIARY_RUNS, RunBytes, TERTIARY_RUNS, UPPER_FIRST_TERTIARY_RUNS,
+};
 
 /// How runs of the common weight are written.
 fn runs_of(form: TertiaryForm) -> RunBytes
@@ -85,7 +87,9 @@ impl TertiaryWriter {
         requires fits { moved_tertiary (tertiary_form_of self.old) weight < 2 ^ 16 }
         ensures sound { S.is_sound sink.new state.new }
         ensures form { tertiary_form_of self.new ≡ tertiary_form_of self.old }
-        ensures bytes { Feeds S.took S.refused sink.old state.old (λ ws. tertiary_rest self.old (weight ∷ ws)) (tertiary_rest self.new) result sink.new state.new }
+        ensures bytes { Feeds S.took S.refused sink.old state.old
+            (λ ws. tertiary_rest self.old (weight ∷ ws)) (tertiary_rest self.new)
+            result sink.new state.new }
     {
         let runs = runs_of(self.form);
         let whole = u64::from(weight);
@@ -106,7 +110,8 @@ impl TertiaryWriter {
     ) -> Result<(), S::Error>
         requires { S.is_sound sink.old state.old }
         ensures sound { S.is_sound sink.new state.new }
-        ensures bytes { Writes S.took S.refused sink.old state.old (tertiary_rest self []) result sink.new state.new }
+        ensures bytes { Writes S.took S.refused sink.old state.old (tertiary_rest self [])
+            result sink.new state.new }
     {
         let runs = runs_of(self.form);
         self.run.write_end(&runs, sink, state)

@@ -20,7 +20,8 @@ impl HeldSegments {
 
     /// A level of one segment, with no weight. It allocates nothing.
     pub fn new(alloc: Global) -> Self
-        ensures { (more : List ℕ) (segments : List (List ℕ)) → held_segments result (more, segments) ≡ backward_level (map reverse (more ∷ segments)) }
+        ensures { (more : List ℕ) (segments : List (List ℕ)) →
+            held_segments result (more, segments) ≡ backward_level (map reverse (more ∷ segments)) }
     {
         HeldSegments {
             writer: BackwardWriter::new(alloc),
@@ -30,14 +31,18 @@ impl HeldSegments {
 
     /// Adds the next weight of the segment, in the order of the text. After an error, discard the level.
     pub fn push(&mut self, weight: u16) -> Result<(), AllocError>
-        ensures { OnOk result ((more : List ℕ) (segments : List (List ℕ)) → held_segments self.old (weight ∷ more, segments) ≡ held_segments self.new (more, segments)) }
+        ensures { OnOk result ((more : List ℕ) (segments : List (List ℕ)) →
+            held_segments self.old (weight ∷ more, segments)
+            ≡ held_segments self.new (more, segments)) }
     {
         self.writer.push(weight)
     }
 
     /// Ends the segment, and begins the next. After an error, discard the level.
     pub fn end_segment(&mut self) -> Result<(), AllocError>
-        ensures { OnOk result ((more : List ℕ) (segments : List (List ℕ)) → held_segments self.old ([], more ∷ segments) ≡ held_segments self.new (more, segments)) }
+        ensures { OnOk result ((more : List ℕ) (segments : List (List ℕ)) →
+            held_segments self.old ([], more ∷ segments)
+            ≡ held_segments self.new (more, segments)) }
     {
         self.writer.end_segment(&mut self.bytes, &mut ())
     }

@@ -37,7 +37,9 @@ impl HeldCases {
     /// Adds the next case. After an error, discard the level.
     pub fn push(&mut self, case: LetterCase) -> Result<(), AllocError>
         ensures form { held_case_form self.new ≡ held_case_form self.old }
-        ensures bytes { OnOk result ((ranks : List ℕ) → held_cases self.old (rank_of (held_case_form self.old) case ∷ ranks) ≡ held_cases self.new ranks) }
+        ensures bytes { OnOk result ((ranks : List ℕ) →
+            held_cases self.old (rank_of (held_case_form self.old) case ∷ ranks)
+            ≡ held_cases self.new ranks) }
     {
         self.vanishes = self.vanishes && case == LetterCase::Lower;
         self.writer.push(&mut self.bytes, &mut (), case)

@@ -36,7 +36,8 @@ impl HeldQuaternaries {
     /// Adds the next weight. After an error, discard the level.
     pub fn push(&mut self, weight: QuaternaryWeight) -> Result<(), AllocError>
         requires { weight_of weight ≤ 2 ^ 32 + 3 }
-        ensures { OnOk result ((ws : List ℕ) → held_quaternaries self.old (weight_of weight ∷ ws) ≡ held_quaternaries self.new ws) }
+        ensures { OnOk result ((ws : List ℕ) →
+            held_quaternaries self.old (weight_of weight ∷ ws) ≡ held_quaternaries self.new ws) }
     {
         self.vanishes = self.vanishes && weight.is_common();
         self.writer.push(&mut self.bytes, &mut (), weight)

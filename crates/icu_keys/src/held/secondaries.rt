@@ -30,7 +30,8 @@ impl HeldSecondaries {
 
     /// Adds the next weight. After an error, discard the level.
     pub fn push(&mut self, weight: u16) -> Result<(), AllocError>
-        ensures { OnOk result ((ws : List ℕ) → held_secondaries self.old (weight ∷ ws) ≡ held_secondaries self.new ws) }
+        ensures { OnOk result ((ws : List ℕ) →
+            held_secondaries self.old (weight ∷ ws) ≡ held_secondaries self.new ws) }
     {
         self.writer.push(&mut self.bytes, &mut (), weight)
     }

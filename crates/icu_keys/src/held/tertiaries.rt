@@ -41,7 +41,8 @@ impl HeldTertiaries {
     pub fn push(&mut self, weight: u16) -> Result<(), AllocError>
         requires { moved_tertiary (held_tertiary_form self.old) weight < 2 ^ 16 }
         ensures form { held_tertiary_form self.new ≡ held_tertiary_form self.old }
-        ensures bytes { OnOk result ((ws : List ℕ) → held_tertiaries self.old (weight ∷ ws) ≡ held_tertiaries self.new ws) }
+        ensures bytes { OnOk result ((ws : List ℕ) →
+            held_tertiaries self.old (weight ∷ ws) ≡ held_tertiaries self.new ws) }
     {
         self.writer.push(&mut self.bytes, &mut (), weight)
     }
