@@ -1,4 +1,4 @@
--- Nibbles of a level that counts runs, one case at a time
+-- Nibbles of a level that counts runs, one case at a time.
 use Rattle.std.proofs.Common.{◌≡◌, ◌≢◌, ℕ, suc, List, [], ◌∷◌, ◌++◌, sym, ap, ◌∙◌, append_assoc}
 use Rattle.std.proofs.lemmas.List.{append-nil}
 use Rattle.icu_levels.specs.declared.run_bytes.RunBytes.{RunBytes}

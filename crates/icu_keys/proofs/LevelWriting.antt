@@ -1,4 +1,4 @@
--- Feeding a level that counts runs
+-- Feeding a level that counts runs.
 use Rattle.std.proofs.Common.{◌≡◌, ℕ, List, ◌∷◌, sym, subst, Result}
 use Rattle.icu_levels.specs.declared.run_bytes.RunBytes.{RunBytes}
 use Rattle.icu_levels.specs.Runs.{level_bytes}

@@ -1,4 +1,4 @@
--- Runs of common weights, one weight or one full count at a time
+-- Runs of common weights, one weight or one full count at a time.
 use Rattle.std.proofs.Common.{◌≡◌, ◌≢◌, ℕ, suc, ◌+◌, ◌-◌, ◌/◌, ◌%◌, ◌<◌, ◌≤◌, ◌==◌, Bool, true, false, List, [], ◌∷◌, ◌++◌, sym, ap, ◌∙◌, arith, append_assoc, replicate, cond, nat_lt}
 use Rattle.std.proofs.Math.Nat.{add-div_left, add-mod_left, div-eq_of_lt, mod-eq_of_lt}
 use Rattle.icu_levels.specs.declared.run_bytes.RunBytes.{RunBytes}

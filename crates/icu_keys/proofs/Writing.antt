@@ -1,4 +1,4 @@
--- Writes one after another
+-- Writes one after another.
 use Rattle.std.proofs.Common.{◌≡◌, ℕ, List, [], ◌++◌, refl, sym, ap, subst, ◌∙◌, append_assoc, Result, Ok, Err, MatchResult}
 use Rattle.std.proofs.lemmas.List.{append-nil}
 use Rattle.icu_keys.specs.Writes.{Writes, WriteFails, Brings, Feeds}

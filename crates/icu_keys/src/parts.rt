@@ -1,9 +1,9 @@
-//! A level as a part of a key, between the bytes that open and close it.
+//! The parts of a key: a level between the bytes that open and close it, and the end.
 
 ghost use Rattle.std.specs.Prelude.{◌≡◌, ℕ, List, IfOk, IfErr, IsErr};
 ghost use Rattle.icu_levels.specs.Keys.{part_bytes, opened, closed};
 ghost use Rattle.icu_keys.specs.Writes.{Writes};
-ghost use Rattle.icu_keys.specs.KeyWrites.{KeyWrites};
+ghost use Rattle.icu_keys.specs.KeyWrites.{KeyWrites, WritesKey};
 
 use crate::error::SortKeyError;
 use crate::held::INLINE;
@@ -85,5 +85,26 @@ pub fn write_closed_level<S: CollationKeySink>(
             Err(error) => Err(SortKeyError::Sink(error)),
         },
         Err(_) => Err(SortKeyError::NoMemory),
+    }
+}
+
+/// Ends a key, as the call that wrote it returned.
+pub fn end_key<S: CollationKeySink>(
+    sink: &mut S,
+    state: S::State,
+    written: Result<(), SortKeyError<S::Error>>,
+) -> Result<S::Output, SortKeyError<S::Error>>
+    requires { S.is_sound sink.old state }
+    ensures memory { IfErr result (λ error. error ≡ SortKeyError.NoMemory → IsErr written) }
+    ensures key { (x : S) (s : S.State) (bytes : List ℕ) → S.State.is_default s →
+        KeyWrites S.took S.refused x s bytes written sink.old state →
+        WritesKey S.took S.refused S.finished S.State.is_default x bytes result sink.new }
+{
+    match written {
+        Ok(()) => match sink.finish(state) {
+            Ok(output) => Ok(output),
+            Err(error) => Err(SortKeyError::Sink(error)),
+        },
+        Err(error) => Err(error),
     }
 }

@@ -17,7 +17,7 @@ pub record FitsAfter (dropped : ℕ) (IsNext : ℕ → Type 0) : Type 0 where
   pub seconds : (w : ℕ) → IsNext w → lead w ≡ dropped → (4 ≤ second_byte w) × (second_byte w ≤ 0xFE)
   pub prefix_free : (v w : ℕ) → IsNext v → IsNext w → v ≢ w → IsBeginning (weight_bytes 4 v) (weight_bytes 4 w) → ⊥
 
-same_lead : (d w : ℕ) → lead w ≡ d → primary_bytes d w ≡ weight_bytes 3 (below_lead w)
+pub same_lead : (d w : ℕ) → lead w ≡ d → primary_bytes d w ≡ weight_bytes 3 (below_lead w)
 same_lead d w e = rw (eq-eqb (lead w) d e) refl
 
 other_lead : (d w : ℕ) → lead w ≢ d → primary_bytes d w ≡ lead_change d (lead w) ++ weight_bytes 4 w

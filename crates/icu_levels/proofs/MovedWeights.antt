@@ -6,19 +6,14 @@ use Rattle.icu_levels.specs.WeightBytes.{weight_bytes}
 use Rattle.icu_levels.specs.Runs.{IsSpelling}
 use Rattle.icu_levels.specs.Premises.{IsPrefixFree}
 use Rattle.icu_levels.proofs.WeightOrder.{weights_precede, over_first, under_first}
-use Rattle.icu_levels.proofs.PrecedesLemmas.{nonzero_first}
+use Rattle.icu_levels.proofs.PrecedesLemmas.{nonzero_first, begins_alike}
 
 lead_and_rest : (w : ℕ) → 0 < w / 256 → weight_bytes 2 w ≡ w / 256 ∷ weight_bytes 1 (w % 256)
 lead_and_rest w l = nonzero_first (w / 256) (weight_bytes 1 (w % 256)) l
 
 -- weights of which one begins the other have one lead
 pub begins_lead : (v w : ℕ) → 0 < v / 256 → 0 < w / 256 → IsBeginning (weight_bytes 2 v) (weight_bytes 2 w) → v / 256 ≡ w / 256
-begins_lead v w a b h =
-    first (subst (λ l. IsBeginning l (w / 256 ∷ weight_bytes 1 (w % 256))) (lead_and_rest v a)
-    (subst (λ l. IsBeginning (weight_bytes 2 v) l) (lead_and_rest w b) h))
-  where
-    first : IsBeginning (v / 256 ∷ weight_bytes 1 (v % 256)) (w / 256 ∷ weight_bytes 1 (w % 256)) → v / 256 ≡ w / 256
-    first k = k.0
+begins_lead v w a b h = (begins_alike 1 v w a b h).0
 
 -- which weight begins which is the same after the leads are moved apart from one another
 pub moved_begins : (v w x y : ℕ) → 0 < v / 256 → 0 < w / 256 → 0 < x / 256 → 0 < y / 256 → x % 256 ≡ v % 256 → y % 256 ≡ w % 256
