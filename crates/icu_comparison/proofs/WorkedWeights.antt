@@ -2,7 +2,7 @@
 use Rattle.std.proofs.Common.{◌≡◌, ℕ, [], ◌∷◌, None, refl, inr, arith, lit<}
 use Rattle.icu_levels.specs.declared.forms.TertiaryForm.TheVariants.{WithoutCase, LowerFirst, UpperFirst}
 use Rattle.icu_entries.specs.declared.error.DataTable.TheVariants.{Diacritics}
-use Rattle.icu_entries.specs.Elements.{Element, accent_element}
+use Rattle.icu_entries.specs.Elements.{Element, of_secondary}
 use Rattle.icu_checks.specs.CollatorTables.{CollatorTables}
 use Rattle.icu_comparison.specs.LiveWeights.{tertiary_in, least_secondary_lead, IsLiveSecondary}
 
@@ -45,7 +45,7 @@ forward_lead = refl
 second_accent : IsLiveSecondary accents_alone 0x8A00
 second_accent = inr (record {
   table = Diacritics;
-  element = accent_element 0x8A00;
+  element = of_secondary 0x8A00;
   live = record { place = 1; inside = lit< tt; kept = refl; is = refl };
   some = λ e. omega (arith, e);
   is = refl;
