@@ -30,9 +30,9 @@ class Progress:
         print(f"[{minutes:3}:{seconds:02}] {text}", flush=True)
 
     def beat(self):
-        left = [f"{it} is being proved" for it in self.unproved[:1]] + [f"edits of {it}" for it in sorted(self.trying)]
-        left += [f"{len(self.unproved)} crates left"] if self.unproved else []
-        self.say(f"under way: {'; '.join(left) or 'tests and programs'}")
+        left = [f"not proved yet: {', '.join(self.unproved)}"] if self.unproved else []
+        left += [f"edits of {', '.join(sorted(self.trying))}"] if self.trying else []
+        self.say(f"under way; {'; '.join(left) or 'tests and programs'}")
 
     def end_block(self, text):
         name, _, verdict = text.partition(" ")

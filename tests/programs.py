@@ -113,29 +113,40 @@ def driver_is_right(plain, refused, ran):
     return (ran.status, ran.output) == (plain.status, plain.output)
 
 
+class Outcome:
+    """One run of a sweep: what was refused, what the run came to if it ended, and what is wrong with it, if anything is."""
+
+    def __init__(self, refused, ran, fault):
+        self.refused, self.ran, self.fault = refused, ran, fault
+
+
+def tried(shim, program, words, given, plain, refused, is_right):
+    try:
+        ran = run(program, words, given, refused, shim)
+    except subprocess.TimeoutExpired:
+        return Outcome(refused, None, f"{refused}: it had not ended after {SECONDS} seconds")
+    if ran.status < 0 or not ran.counts:
+        return Outcome(refused, ran, f"{refused}: it crashed: {ran}")
+    if not ran.counts["refused"]:
+        return Outcome(refused, ran, f"{refused}: the request was not made")
+    return Outcome(refused, ran, None if is_right(plain, refused, ran) else f"{refused}: {ran}")
+
+
 def sweep(shim, program, words, given, requests, is_right):
-    """Refuses each of these requests of a run in turn. Returns how many runs that were, and those that went wrong."""
+    """Refuses each of these requests of a run in turn: alone, with all after it, and where it is no allocation by a signal
+    and by a single byte as well."""
     plain = run(program, words, given, shim=shim)
-    if not plain.counts:
-        return 1, [("none", f"the requests of {os.path.basename(program)} were not counted: {plain}")]
+    if not plain.counts or not plain.counts[requests[0]]:
+        return [Outcome(None, plain, f"no {requests[0]} was counted: {plain}")]
     kinds = [(request, "fail", after) for request in requests for after in (False, True)]
     kinds += [(request, how, False) for request in requests if request != "allocation" for how in ("signal", "short")]
     all_refused = [Refused(it, at, how, after) for it, how, after in kinds for at in range(1, plain.counts[it] + 1)]
-
-    def fault(refused):
-        try:
-            ran = run(program, words, given, refused, shim)
-        except subprocess.TimeoutExpired:
-            return f"{refused}: it had not ended after {SECONDS} seconds"
-        if ran.status < 0 or not ran.counts:
-            return f"{refused}: it crashed: {ran}"
-        if not ran.counts["refused"]:
-            return f"{refused}: the request was not made"
-        return None if is_right(plain, refused, ran) else f"{refused}: {ran}"
-
     with concurrent.futures.ThreadPoolExecutor(os.cpu_count() or 1) as pool:
-        found = [*pool.map(fault, all_refused)]
-    return len(all_refused), [((it.request, it.how, it.also_after), why) for it, why in zip(all_refused, found) if why]
+        return [*pool.map(lambda it: tried(shim, program, words, given, plain, it, is_right), all_refused)]
+
+
+def faults_of(outcomes):
+    return [it.fault for it in outcomes if it.fault]
 
 
 # ---- what the program `collate` does
@@ -240,10 +251,9 @@ def faults_missed(room, program):
 
 def refusals_missed(shim, careless):
     """The kinds of refusal of which a program that looks at none is not found."""
-    _, found = sweep(shim, careless, [], b"b\na\n", ["allocation", "read", "write"], collate_is_right)
-    kinds = [(request, "fail", after) for request in ("allocation", "read", "write") for after in (False, True)]
-    kinds += [(request, how, False) for request in ("read", "write") for how in ("signal", "short")]
-    return [f"not found: {Refused(it, 1, how, after)}" for it, how, after in kinds if (it, how, after) not in dict(found)]
+    requests = ["allocation", "read", "write"]
+    outcomes = sweep(shim, careless, [], b"b\na\n", requests, collate_is_right)
+    return [f"not found: {it.refused}" for it in outcomes if not it.fault] + ["too few"] * (len(outcomes) < 10)
 
 
 # ---- the run of all checks
@@ -286,8 +296,23 @@ def check_collate(report, room, shim):
     report.say("collate: closed and full streams", wrong_streams(program, STREAM_RUNS), len(STREAM_RUNS))
     report.say("collate: programs with a fault are found", faults_missed(room, program), len(FAULTY))
     for what, words in [("an answer", RIGHT), ("wrong words", WRONG), ("long texts", LONG_RUNS[0][0])]:
-        number, found = sweep(shim, program, words, b"", ["allocation", "read", "write"], collate_is_right)
-        report.say(f"collate: each request refused, {what}", [why for _, why in found], number)
+        outcomes = sweep(shim, program, words, b"", ["allocation", "read", "write"], collate_is_right)
+        report.say(f"collate: each request refused, {what}", faults_of(outcomes), len(outcomes))
+
+
+# The parts of the driver, and the tables that a refused collator names as one allocation after another fails: tables are
+# copied in the order in which they are loaded, the check before that is named by the root.
+PARTS = ["collators", "comparisons", "elements", "sinks"]
+OF_MINI = ["Root", "Jamo", "SpecialPrimaries", "Diacritics"]
+OF_SWAPPED_LEADS = ["Root", "Jamo", "SpecialPrimaries", "Tailoring", "Reordering", "Diacritics"]
+NAMED_TABLES = 2 * OF_MINI + 2 * OF_SWAPPED_LEADS
+
+
+def named_tables(outcomes):
+    """The tables that the runs with one refused allocation name, each run of equal ones once."""
+    said = [it.ran.faults.decode() for it in outcomes if it.ran and it.refused and not it.refused.also_after]
+    names = [line.partition("refused: ")[2] for text in said for line in text.splitlines() if line.startswith("refused: ")]
+    return [name for at, name in enumerate(names) if at == 0 or name != names[at - 1]]
 
 
 def check_driver(report, shim):
@@ -295,10 +320,14 @@ def check_driver(report, shim):
     with open(os.path.join(TOP, "crates", "refusal_driver", "stdout"), "rb") as it:
         wanted = it.read()
     whole = run(program, [])
-    found = [] if whole.came_to() == (0, wanted, b"") else [f"{whole}"]
-    report.say("refusal_driver: its answers", found, 1)
-    for part in wanted.decode().splitlines():
-        pass
+    report.say("refusal_driver: its answers", [] if whole.came_to() == (0, wanted, b"") else [str(whole)], 1)
+    for part in PARTS:
+        outcomes = sweep(shim, program, [part], b"", ["allocation"], driver_is_right)
+        report.say(f"refusal_driver: each allocation refused, {part}", faults_of(outcomes), len(outcomes))
+        if part == "collators":
+            named = named_tables(outcomes)
+            faults = [] if named == NAMED_TABLES else [f"{named}; wanted: {NAMED_TABLES}"]
+            report.say("refusal_driver: the tables that refusals name", faults, len(outcomes))
 
 
 def main():

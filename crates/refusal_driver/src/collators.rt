@@ -2,9 +2,9 @@
 use crate::stop::{Stop, twice};
 use icu_checks::{CheckedTables, load_tables};
 use icu_comparison::Collator;
+use icu_entries::{DataError, DataErrorKind, DataTable};
 use icu_mini::mini::Mini;
 use icu_options::{CollatorOptions, CollatorPreferences, Strength};
-use icu_entries::{DataError, DataErrorKind, DataTable};
 use std::alloc::{AllocError, Global};
 use std::cmp::Ordering;
 
