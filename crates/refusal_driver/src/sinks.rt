@@ -9,7 +9,10 @@ use std::collections::VecDeque;
 const SINGLE_BYTES: usize = 40;
 
 /// Writes bytes at once and then one by one, each call once more where an allocation failed.
-fn write_all<S: CollationKeySink>(sink: &mut S, state: &mut S::State) -> Result<(), S::Error>
+fn write_all<S: CollationKeySink<Error = AllocError>>(
+    sink: &mut S,
+    state: &mut S::State,
+) -> Result<(), AllocError>
     requires { S.is_sound sink.old state.old }
     ensures { S.is_sound sink.new state.new }
 {
