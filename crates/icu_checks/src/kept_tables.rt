@@ -141,6 +141,9 @@ impl KeptSpecialPrimaries {
     pub(crate) fn lend(&self) -> CollationSpecialPrimaries<'_>
         ensures { special_of result ≡ kept_special self.now }
     {
-        CollationSpecialPrimaries::new_unchecked(self.last_primaries.as_slice(), self.numeric_primary)
+        CollationSpecialPrimaries::new_unchecked(
+            self.last_primaries.as_slice(),
+            self.numeric_primary,
+        )
     }
 }

@@ -43,7 +43,7 @@ fallback_in_a_root : live_at false (with_entry 0xC0) 0x61 ≡ 0xC0 ∷ []
 unfolding live_from live_contraction live_digit kind_of
 fallback_in_a_root = refl
 
--- a place outside the table reads as the empty context
+-- an index outside the table reads as the empty context
 no_context_there : live_at false (with_entry 0x40C9) 0x61 ≡ 0x40C9 ∷ 0 ∷ []
 unfolding live_from live_contraction live_digit kind_of
 no_context_there = refl

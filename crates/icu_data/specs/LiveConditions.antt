@@ -25,7 +25,7 @@ meets Shapes home c e = list_all (element_meets of_element.Shape) (final_element
 meets Leads home c e = list_all (element_meets of_element.Leads) (final_elements (homed home e) c)
 meets Primaries home c e = list_all (element_meets of_element.Primary) (final_elements (homed home e) c)
 
--- all of them, in the order in which a refusal names them
+-- all of them, in the order in which they are reported
 abbrev pub live_conditions : List LiveCondition
 live_conditions = Indices ∷ PrefixRows ∷ Chains ∷ Digits ∷ Bytes ∷ Offsets ∷ Shapes ∷ Leads ∷ Primaries ∷ []
 

@@ -1,3 +1,4 @@
+//! The conditions on the entries that are live in a root or a tailoring, as a list.
 ghost use Rattle.std.specs.Prelude.{◌≡◌, ◌<◌};
 ghost use Rattle.icu_data.specs.LiveConditions.{kind_for, first_failing};
 ghost use Rattle.icu_data.specs.Faults.{condition_rank};
@@ -6,10 +7,10 @@ use crate::data::CollationData;
 use crate::fault::{Judge, Ranked};
 use icu_entries::{CollationElement32, DataErrorKind};
 
-/// A condition on an entry that is live in a root or a tailoring, in the order in which a refusal names them.
+/// A condition on an entry that is live in a root or a tailoring, in the order in which they are reported.
 #[derive(Debug, Clone, Copy, PartialEq, Eq)]
 pub enum LiveCondition {
-    /// What the entry names is there.
+    /// What the entry refers to is there.
     Indices,
     /// The rows of a prefix have one character or two.
     PrefixRows,
@@ -51,7 +52,7 @@ impl LiveCondition {
 impl Ranked for LiveCondition {
     ghost rank = { condition_rank };
 
-    /// Its place among all conditions.
+    /// Its rank among all conditions.
     fn rank(self) -> u32
         ensures value { result ≡ condition_rank self }
         ensures bound { result < 256 }

@@ -1,3 +1,4 @@
+//! Weights of three bytes that are counted from another one.
 ghost use Rattle.std.specs.Prelude.{◌≡◌, ◌<◌, IsTrue};
 ghost use Rattle.icu_entries.specs.Weights.{second_bytes, least_second_byte, lead_at, weight_at, offset_base, offset_compressible, offset_step, ordinal_of_weight, offset_ordinal, offset_weight, offset_element};
 ghost use Rattle.icu_entries.specs.EntryConditions.{is_three_byte_weight, has_offset_weight};
@@ -19,7 +20,7 @@ fn least_second_byte(compressible: bool) -> u32
     if compressible { 4 } else { 2 }
 }
 
-/// The place of a weight of three bytes among all of them.
+/// The ordinal of a weight of three bytes among all of them.
 #[tactic(auto, unfolding(crate::specs::Weights::ordinal_of))]
 fn ordinal_of_weight(compressible: bool, weight: u32) -> u32
     ensures value { result ≡ ordinal_of_weight compressible weight }
@@ -44,15 +45,15 @@ fn is_three_byte_weight(compressible: bool, weight: u32) -> bool
         && weight & 0xff == 0
 }
 
-/// The weight of three bytes at a place.
+/// The weight of three bytes with an ordinal.
 #[tactic(auto, unfolding(crate::specs::Weights::weight_at))]
-fn weight_at(compressible: bool, place: u32) -> u32
-    requires { lead_at compressible place < 256 }
-    ensures { result ≡ weight_at compressible place }
+fn weight_at(compressible: bool, ordinal: u32) -> u32
+    requires { lead_at compressible ordinal < 256 }
+    ensures { result ≡ weight_at compressible ordinal }
 {
-    let lead = place / 254 / second_bytes(compressible);
-    let second = place / 254 % second_bytes(compressible) + least_second_byte(compressible);
-    let third = place % 254 + 2;
+    let lead = ordinal / 254 / second_bytes(compressible);
+    let second = ordinal / 254 % second_bytes(compressible) + least_second_byte(compressible);
+    let third = ordinal % 254 + 2;
     lead * 0x1000000 + second * 0x10000 + third * 0x100
 }
 
@@ -77,7 +78,7 @@ impl CollationElement {
         self.non_primary().bits() & 0x7f
     }
 
-    /// The place of a character's weight by offset data.
+    /// The ordinal of a character's weight by offset data.
     #[tactic(auto, unfolding(crate::specs::Weights::offset_ordinal))]
     fn offset_ordinal(self, c: char) -> u32
         ensures { result ≡ offset_ordinal self c }

@@ -1,7 +1,12 @@
+//! The table of diacritics.
 ghost use Rattle.std.specs.Prelude.{◌≡◌, ◌↔◌, true, IsOk, IfOk, IfErr};
 ghost use Rattle.icu_provider.specs.Diacritics.{is_replaced_index, is_diacritic_weight, IsDiacritics, FailsDiacritics};
 
 use icu_entries::{CollationElement, DataErrorKind};
+use std::alloc::{AllocError, Global};
+
+/// The greatest number of diacritics that have a table of their own.
+pub const OPTIMIZED_DIACRITICS_MAX_COUNT: usize = 79;
 
 /// The secondary weights of combining diacritics: of U+0300 and the characters after it, at most 79.
 #[derive(Debug, Clone, Copy, PartialEq)]
@@ -10,11 +15,11 @@ pub struct CollationDiacritics<'d> {
     ghost is_diacritics: { IsDiacritics secondaries.now },
 }
 
-/// Whether the place, from U+0300 on, is that of U+0340, U+0341, U+0343 or U+0344, which no canonical decomposition has.
-pub fn is_replaced_index(place: usize) -> bool
-    ensures { result ≡ is_replaced_index place }
+/// Whether the index, from U+0300 on, is that of U+0340, U+0341, U+0343 or U+0344, which no canonical decomposition has.
+pub fn is_replaced_index(index: usize) -> bool
+    ensures { result ≡ is_replaced_index index }
 {
-    place == 0x40 || place == 0x41 || place == 0x43 || place == 0x44
+    index == 0x40 || index == 0x41 || index == 0x43 || index == 0x44
 }
 
 #[tactic(auto, unfolding(crate::specs::Diacritics::is_diacritic_weight))]
@@ -37,11 +42,11 @@ impl<'d> CollationDiacritics<'d> {
         ensures kind { IfErr result (FailsDiacritics secondaries.entry.now) }
         ensures keeps { IfOk result (λ d. diacritics_of d ≡ secondaries.entry.now) }
     {
-        if secondaries.len() > 79 {
+        if secondaries.len() > OPTIMIZED_DIACRITICS_MAX_COUNT {
             return Err(DataErrorKind::Length);
         }
-        for (place, secondary) in secondaries.iter().enumerate() {
-            if !is_replaced_index(place) && !is_diacritic_weight(*secondary) {
+        for (index, secondary) in secondaries.iter().enumerate() {
+            if !is_replaced_index(index) && !is_diacritic_weight(*secondary) {
                 return Err(DataErrorKind::Element);
             }
         }
@@ -62,5 +67,38 @@ impl<'d> CollationDiacritics<'d> {
         ensures diacritics { IsDiacritics (diacritics_of self.entry) }
     {
         self.secondaries
+    }
+}
+
+/// The secondary weights of diacritics in a vector of their own.
+#[derive(Debug, Drop)]
+pub struct OwnedDiacritics {
+    secondaries: Vec<u16>,
+    ghost is_diacritics: { IsDiacritics secondaries.items },
+}
+
+impl OwnedDiacritics {
+    ghost use Rattle.icu_provider.specs.StoredTables.{diacritics_of};
+    ghost use Rattle.icu_provider.specs.OwnedTables.{owned_diacritics};
+
+    /// Copies the weights.
+    #[tactic(auto, unfolding(crate::specs::OwnedTables::owned_diacritics))]
+    pub fn copy(
+        alloc: Global,
+        diacritics: CollationDiacritics<'_>,
+    ) -> Result<OwnedDiacritics, AllocError>
+        ensures { IfOk result (λ o. owned_diacritics o ≡ diacritics_of diacritics.entry) }
+    {
+        Ok(OwnedDiacritics {
+            secondaries: Vec::from_slice(alloc, diacritics.secondaries())?,
+        })
+    }
+
+    /// The table, without a check.
+    #[tactic(auto, unfolding(crate::specs::OwnedTables::owned_diacritics))]
+    pub fn as_diacritics(&self) -> CollationDiacritics<'_>
+        ensures { diacritics_of result ≡ owned_diacritics self.now }
+    {
+        CollationDiacritics::new_unchecked(self.secondaries.as_slice())
     }
 }
