@@ -7,6 +7,4 @@ pub mod QuaternaryWeights
 pub mod WriterRests
 pub mod HeldRests
 pub mod Accumulated
-pub mod ListSinkLaws
-pub mod SliceSinkLaws
-pub mod WorkedCompression
+pub mod inner

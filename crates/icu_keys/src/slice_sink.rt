@@ -3,7 +3,7 @@
 ghost use Rattle.std.specs.Prelude.{◌≡◌, ◌<◌, ◌^◌};
 ghost use Rattle.std.proofs.Common.{arith, refl, ◌∙◌};
 ghost use Rattle.icu_keys.specs.SliceSinks.{SliceTook, slice_finish};
-ghost use Rattle.icu_keys.specs.SliceSinkLaws.{slice_nothing, slice_both};
+ghost use Rattle.icu_keys.specs.inner.SliceSinkLaws.{slice_nothing, slice_both};
 
 use crate::sink::CollationKeySink;
 

@@ -8,7 +8,7 @@ use Rattle.icu_levels.specs.Primaries.{Compression, lead, below_lead, second_byt
 use Rattle.icu_levels.specs.Premises.{MayStand, goes_on, IsPrimaryList, ArePrimaries}
 use Rattle.icu_levels.proofs.Order.{same_lists_order}
 use Rattle.icu_levels.proofs.WeightOrder.{digits_less, trimmed_less}
-use Rattle.icu_levels.proofs.PrecedesLemmas.{begins_alike, nonzero_first}
+use Rattle.icu_levels.proofs.PrecedesLemmas.{begins_alike}
 use Rattle.icu_levels.proofs.StepwiseOrder.{stepwise_bytes, StandAlong, IsRising, stepwise_order}
 use Rattle.icu_levels.proofs.CompressionOrder.{FitsAfter, next_leads, next_rises}
 use Rattle.icu_levels.proofs.PieceLemmas.{first_pieces_apart, further_pieces_apart}

@@ -2,7 +2,7 @@
 
 ghost use Rattle.std.specs.Prelude.{◌≡◌, ◌++◌, IsOk};
 ghost use Rattle.icu_keys.specs.Sinks.{TakesBeginning};
-ghost use Rattle.icu_keys.specs.ListSinkLaws.{appended_nothing, appended_both};
+ghost use Rattle.icu_keys.specs.inner.ListSinkLaws.{appended_nothing, appended_both};
 
 use crate::error::SortKeyError;
 use crate::held::secondaries::HeldSecondaries;

@@ -1,6 +1,6 @@
 //! A reordering and compressible leads, and lists that are long.
 
-ghost use Rattle.icu_keys.specs.WorkedCompression.{worked_reorder, worked_test};
+ghost use Rattle.icu_keys.specs.inner.WorkedCompression.{worked_reorder, worked_test};
 
 use crate::primaries::PrimaryCompression;
 use std::alloc::{AllocError, Global};

@@ -1,4 +1,4 @@
-use Rattle.std.proofs.Common.{List, [], ◌∷◌, ◌++◌}
+use Rattle.std.proofs.Common.{[], ◌∷◌}
 use Rattle.std.proofs.lemmas.Result.{err_from_is_err_and}
 use Rattle.icu_keys.proofs.Writing.{fails_front, fails_one, writes_last}
 use Rattle.icu_keys.proofs.parts.write_opened.Goals as goal
