@@ -6,10 +6,11 @@ usage: tests/programs.py      after `rt ci`, which builds the programs (bin/test
 
 Each memory request, read and write of a run is refused in turn, by the library refuse.c, which is preloaded. Where one is
 refused, a program says so, or asks again and gives the right answer; anything else is a fault. The last line is
-`N passed, M failed`. It needs `cc`, and is quiet about nothing that fails.
+`N passed, M failed`. It needs `cc`, a C compiler.
 """
 import concurrent.futures
 import os
+import shlex
 import shutil
 import stat
 import subprocess
@@ -196,6 +197,9 @@ STREAM_RUNS = [
 ]
 
 
+RUNS = {"words": COLLATE_RUNS, "arguments that aren't UTF-8": DAMAGED_RUNS, "long texts": LONG_RUNS}
+
+
 def wrong_runs(program, runs):
     """The runs that came to something else than is wanted, as lines."""
     found = []
@@ -218,33 +222,44 @@ def wrong_streams(program, runs):
 
 # ---- that the checks can fail: programs with a fault, each of which must be found
 
+# How many runs a program comes to that makes one request of each kind: alone and with all after it, by a signal, by one byte.
+CARELESS_RUNS = 3 * 2 + 2 * 2 + 2
 # Shell scripts around the true program, and which of the runs above must find each.
 FAULTY = [
     ("status 0 whatever happens", '"$COLLATE" "$@"; exit 0', "words"),
     ("faults on standard output", 'exec "$COLLATE" "$@" 2>&1', "words"),
     ("an argument that isn't UTF-8 called want of memory",
-     '"$COLLATE" "$@" 2>/dev/null && exit; echo "collate: no memory" >&2; exit 1', "damaged"),
+     '"$COLLATE" "$@" 2>/dev/null && exit; echo "collate: no memory" >&2; exit 1', "arguments that aren't UTF-8"),
     ("giving up on a long input",
      'for word; do if [ ${#word} -gt 5000 ]; then echo "collate: no memory" >&2; exit 1; fi; done; exec "$COLLATE" "$@"',
-     "long"),
+     "long texts"),
     ("an output that is lost and not missed",
      'line=$("$COLLATE" "$@"); status=$?; [ -z "$line" ] || echo "$line" 2>/dev/null; exit $status', "streams"),
 ]
 
 
+def wrapped(room, name, program, text):
+    """A shell script around a program, which it knows as $COLLATE."""
+    path = os.path.join(room, name)
+    with open(path, "w", encoding="utf-8") as it:
+        it.write(f"#!/bin/sh\nCOLLATE={shlex.quote(program)}\n{text}\n")
+    os.chmod(path, stat.S_IRWXU)
+    return path
+
+
+def wrong_by_runs(program):
+    """What is wrong with a program, by the runs that show it."""
+    found = {what: wrong_runs(program, runs) for what, runs in RUNS.items()}
+    found["streams"] = wrong_streams(program, STREAM_RUNS)
+    return found
+
+
 def faults_missed(room, program):
-    """The faulty programs that the checks of `collate` let through."""
-    missed = []
+    """The faulty programs that the runs of `collate` let through, and what they find wrong with a script that has no fault."""
+    sound = wrong_by_runs(wrapped(room, "sound", program, 'exec "$COLLATE" "$@"'))
+    missed = [f"found wrong: {it}" for wrong in sound.values() for it in wrong]
     for at, (what, text, runs) in enumerate(FAULTY):
-        faulty = os.path.join(room, f"faulty{at}")
-        with open(faulty, "w", encoding="utf-8") as it:
-            it.write(f"#!/bin/sh\nCOLLATE='{program}'\n{text}\n")
-        os.chmod(faulty, stat.S_IRWXU)
-        if runs == "streams":
-            found = wrong_streams(faulty, STREAM_RUNS)
-        else:
-            found = wrong_runs(faulty, {"words": COLLATE_RUNS, "damaged": DAMAGED_RUNS, "long": LONG_RUNS}[runs])
-        if not found:
+        if not wrong_by_runs(wrapped(room, f"faulty{at}", program, text))[runs]:
             missed.append(f"not found: {what}")
     return missed
 
@@ -253,7 +268,8 @@ def refusals_missed(shim, careless):
     """The kinds of refusal of which a program that looks at none is not found."""
     requests = ["allocation", "read", "write"]
     outcomes = sweep(shim, careless, [], b"b\na\n", requests, collate_is_right)
-    return [f"not found: {it.refused}" for it in outcomes if not it.fault] + ["too few"] * (len(outcomes) < 10)
+    outcomes += sweep(shim, careless, [], b"b\na\n", ["allocation"], driver_is_right)
+    return [f"not found: {it.refused}" for it in outcomes if not it.fault] + ["too few"] * (len(outcomes) < CARELESS_RUNS)
 
 
 # ---- the run of all checks
@@ -290,8 +306,7 @@ def compiled(room, name, *options):
 
 def check_collate(report, room, shim):
     program = built("collate")
-    runs = [("words", COLLATE_RUNS), ("arguments that aren't UTF-8", DAMAGED_RUNS), ("long texts", LONG_RUNS)]
-    for what, wanted in runs:
+    for what, wanted in RUNS.items():
         report.say(f"collate: {what}", wrong_runs(program, wanted), len(wanted))
     report.say("collate: closed and full streams", wrong_streams(program, STREAM_RUNS), len(STREAM_RUNS))
     report.say("collate: programs with a fault are found", faults_missed(room, program), len(FAULTY))
@@ -344,7 +359,7 @@ def main():
     with tempfile.TemporaryDirectory(prefix="collate-tests-") as room:
         shim = compiled(room, "refuse", "-shared", "-fPIC")
         careless = compiled(room, "careless")
-        report.say("a program that looks at no refusal is found", refusals_missed(shim, careless), 10)
+        report.say("a program that looks at no refusal is found", refusals_missed(shim, careless), CARELESS_RUNS)
         check_collate(report, room, shim)
         check_driver(report, shim)
     return report.end()

@@ -2,3 +2,4 @@ pub mod WritingLemmas
 pub mod MiniLemmas
 pub mod SettingLemmas
 pub mod RefusalLemmas
+pub mod RunLemmas

@@ -46,7 +46,9 @@ impl Fault {
 }
 
 impl From<AllocError> for Fault {
-    ghost from_gives = { λ _ fault. fault ≡ Fault.NoMemory };
+    ghost use Rattle.collate.specs.declared.fault.Fault.TheVariants.{NoMemory};
+
+    ghost from_gives = { λ _ fault. fault ≡ NoMemory };
 
     fn from(_: AllocError) -> Fault {
         Fault::NoMemory

@@ -9,10 +9,10 @@ use Rattle.collate.specs.Answers.{sign_of, order_asked}
 use Rattle.collate.specs.Asked.{asked}
 use Rattle.collate.proofs.answer.answer.Goals as goal
 
-pub returns : goal.returns
-returns c =
-    let m = c.in_ok-collator.ensures.0 in
-    let by = c.in_ok-collator.ensures.2 in
+pub returns-clause-answer : goal.returns-clause-answer
+returns-clause-answer c =
+    let m = c.in_ok-collator.ensures.compares.0 in
+    let by = c.in_ok-collator.ensures.compares.2 in
     let lent = c.as_borrowed.result in
     let plain : IsSupportedComparison (tables_borrowed lent) (settings_borrowed lent) = rw (c.as_borrowed.ensures.tables, c.as_borrowed.ensures.settings) by.plain in
     let same : comparison_by (tables_borrowed lent) (settings_borrowed lent) ≡ non_numeric_comparison c.args.command.strength (collator_tables m) =
@@ -20,4 +20,4 @@ returns c =
     ∙ ap (λ (s : Settings). comparison_by (tables_kept c.in_ok-collator.collator) s) c.as_borrowed.ensures.settings ∙ by.same in
     let order : c.in_ok-order.order ≡ order_asked m (asked c.args.command) =
     c.in_ok-order.ensures plain ∙ ap (λ (k : Comparison). order_of k (chars c.args.command.left.now) (chars c.args.command.right.now)) same in
-    (m, c.in_ok-collator.ensures.1, c.sign_line.ensures ∙ ap (λ o. sign_of o ++ 10 ∷ []) order)
+    (m, c.in_ok-collator.ensures.compares.1, c.sign_line.ensures ∙ ap (λ o. sign_of o ++ 10 ∷ []) order)
