@@ -14,18 +14,10 @@ mod damaged_weights;
 #[cfg(test)]
 mod elements;
 #[cfg(test)]
-mod options;
-#[cfg(test)]
 mod refusals;
 #[cfg(test)]
 mod refused_memory;
 #[cfg(test)]
 mod requests;
 #[cfg(test)]
-mod small_tables;
-#[cfg(test)]
-mod tables;
-#[cfg(test)]
 mod two_faults;
-#[cfg(test)]
-mod walks;
