@@ -4,16 +4,16 @@ use Rattle.std.proofs.Math.Utf8.{scalar_cases}
 use Rattle.std.specs.Option.{option_map}
 use Rattle.std.specs.Char.{IsScalar}
 use Rattle.std.specs.List.{AllByRecursion, range_with_len}
-use Rattle.icu_provider.specs.declared.error.DataError.{DataError}
-use Rattle.icu_provider.specs.declared.entry.EntryKind.{EntryKind}
-use Rattle.icu_provider.specs.declared.entry.EntryKind.TheVariants.{Prefix, Contraction, Digit}
-use Rattle.icu_provider.specs.Entries.{kind_of}
-use Rattle.icu_provider.specs.Live.{live_digit, live_contraction, live_from}
+use Rattle.icu_entries.specs.declared.error.DataError.{DataError}
+use Rattle.icu_entries.specs.declared.entry.EntryKind.{EntryKind}
+use Rattle.icu_entries.specs.declared.entry.EntryKind.TheVariants.{Prefix, Contraction, Digit}
+use Rattle.icu_entries.specs.Entries.{kind_of}
+use Rattle.icu_data.specs.Live.{live_digit, live_contraction, live_from}
 use Rattle.icu_provider.specs.Loads.{Loads, answer}
 use Rattle.icu_provider.specs.Metadata.{is_tailored, has_reordering}
 use Rattle.icu_provider.specs.Requests.{Request}
 use Rattle.icu_provider.specs.SpecialPrimaries.{SpecialPrimaries}
-use Rattle.icu_provider.specs.Tables.{Data, plain_of}
+use Rattle.icu_data.specs.Data.{Data, plain_of}
 use Rattle.icu_checks.specs.CollatorTables.{CollatorTables}
 use Rattle.icu_checks.specs.Loads.{and_then, or_else, typed_first, if_named, diacritics_request, lent_tables}
 use Rattle.icu_elements.specs.Plain.{plain_reading, names_no_context, IsPlain}

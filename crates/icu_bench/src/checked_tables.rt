@@ -1,9 +1,10 @@
 //! Tables that are accepted together, and what checked tables lend.
 use crate::damage::lend_all;
 use icu_checks::CheckedTables;
+use icu_data::CollationData;
+use icu_entries::CollationElement32;
 use icu_mini::mini::Mini;
 use icu_options::MaxVariable;
-use icu_provider::{CollationData, CollationElement32};
 use std::alloc::{AllocError, Global};
 use std::process::Abort;
 use std::test::Fail;

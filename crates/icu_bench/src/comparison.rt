@@ -1,11 +1,11 @@
 //! Comparisons by collators over the test table Mini.
 use icu_comparison::Collator;
+use icu_entries::DataError;
 use icu_mini::mini::Mini;
 use icu_options::{
     AlternateHandling, CaseLevel, CollationCaseFirst, CollationNumericOrdering, CollatorOptions,
     CollatorPreferences, MaxVariable, Strength,
 };
-use icu_provider::DataError;
 use std::alloc::Global;
 use std::cmp::Ordering;
 use std::process::Abort;

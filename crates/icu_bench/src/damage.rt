@@ -1,10 +1,9 @@
 //! Mini and its variants with things wrong, and what they are refused with.
 use icu_checks::{CheckedTables, TableSet};
+use icu_data::{CodePointTable, CollationData, ContextTable};
+use icu_entries::{DataError, DataErrorKind, DataTable};
 use icu_mini::mini::Mini;
 use icu_mini::table_data::TableData;
-use icu_provider::{
-    CodePointTable, CollationData, ContextTable, DataError, DataErrorKind, DataTable,
-};
 use std::alloc::{AllocError, Global};
 
 /// Mini, or a variant of it.

@@ -1,7 +1,7 @@
 //! Tables with one thing wrong: lengths, places, entries and contexts.
 use crate::damage::{Base, Case, Damage, damaged, refusal_alone, refusal_together};
+use icu_entries::{DataErrorKind, DataTable};
 use icu_mini::mini::Mini;
-use icu_provider::{DataErrorKind, DataTable};
 use std::process::Abort;
 use std::test::Fail;
 

@@ -1,6 +1,6 @@
 //! Tables with one thing wrong: elements and weights, and entries of jamo.
 use crate::damage::{Base, Case, Damage, damaged, refusal_alone, refusal_together};
-use icu_provider::{DataErrorKind, DataTable};
+use icu_entries::{DataErrorKind, DataTable};
 use std::process::Abort;
 use std::test::Fail;
 

@@ -3,9 +3,9 @@ ghost use Rattle.icu_elements.specs.CollationElements.{CanGive};
 
 use icu_comparison::Collator;
 use icu_elements::CollationElements;
+use icu_entries::{CollationElement, CollationElement32, NonPrimary, Tag};
 use icu_mini::mini::Mini;
 use icu_options::{CollatorOptions, CollatorPreferences};
-use icu_provider::{CollationElement, CollationElement32, NonPrimary, Tag};
 use std::process::Abort;
 use std::test::Fail;
 

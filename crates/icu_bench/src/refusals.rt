@@ -1,8 +1,8 @@
 //! Tables that are refused: the test table Mini with one thing wrong.
 use icu_comparison::Collator;
+use icu_entries::{DataError, DataErrorKind, DataTable};
 use icu_mini::mini::Mini;
 use icu_options::{CollatorOptions, CollatorPreferences};
-use icu_provider::{DataError, DataErrorKind, DataTable};
 use std::alloc::Global;
 use std::process::Abort;
 use std::test::Fail;

@@ -3,8 +3,8 @@
 use crate::damage::{Base, lend_all};
 use icu_checks::CheckedTables;
 use icu_comparison::Collator;
+use icu_entries::{DataError, DataErrorKind};
 use icu_options::{CollatorOptions, CollatorPreferences};
-use icu_provider::{DataError, DataErrorKind};
 use std::process::Abort;
 use std::test::Fail;
 

@@ -5,13 +5,14 @@ ghost use Rattle.icu_mini.specs.Provider.{loads_of};
 ghost use Rattle.icu_provider.specs.Requests.{request_of};
 
 use icu_comparison::Collator;
+use icu_data::CollationData;
+use icu_entries::{DataError, DataErrorKind, DataTable};
 use icu_mini::mini::Mini;
 use icu_mini::provider::MiniProvider;
 use icu_options::{CollatorOptions, CollatorPreferences};
 use icu_provider::{
-    CollationData, CollationDiacritics, CollationJamo, CollationMetadata, CollationProvider,
-    CollationReordering, CollationSpecialPrimaries, DataError, DataErrorKind, DataRequest,
-    DataTable,
+    CollationDiacritics, CollationJamo, CollationMetadata, CollationProvider, CollationReordering,
+    CollationSpecialPrimaries, DataRequest,
 };
 use std::alloc::Global;
 use std::cmp::Ordering;

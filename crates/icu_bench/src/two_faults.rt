@@ -1,6 +1,6 @@
 //! Tables with two things wrong: the earlier condition is named, then the earlier kind, then the earlier table.
 use crate::damage::{Base, Case, Damage, damaged, refusal_alone, refusal_together};
-use icu_provider::{DataErrorKind, DataTable};
+use icu_entries::{DataErrorKind, DataTable};
 use std::process::Abort;
 use std::test::Fail;
 

@@ -4,16 +4,18 @@ use Rattle.std.proofs.lemmas.Bool.{cases_eq}
 use Rattle.std.proofs.lemmas.Bool.Decides.{nat_tests}
 use Rattle.std.proofs.lemmas.List.Elements.{Contains-append_left, Contains-append_right, Contains-append_cases}
 use Rattle.std.specs.List.{Contains}
-use Rattle.icu_provider.specs.declared.data.CollationData.{CollationData}
-use Rattle.icu_provider.specs.declared.error.DataTable.TheVariants.{Root, Jamo, SpecialPrimaries, Metadata, Tailoring, Reordering, Diacritics}
-use Rattle.icu_provider.specs.Elements.{accent_element}
-use Rattle.icu_provider.specs.EntryConditions.{is_readable}
-use Rattle.icu_provider.specs.Final.{final_elements}
-use Rattle.icu_provider.specs.Tables.{Data, homed, is_jamo}
-use Rattle.icu_provider.specs.Live.{live_from, live_at}
-use Rattle.icu_provider.specs.LiveWeights.{IsWeightAmong, IsLiveWeight}
-use Rattle.icu_provider.specs.Accents.{is_replaced_place}
-use Rattle.icu_provider.specs.Stored.{data_of, jamo_of, accents_of}
+use Rattle.icu_data.specs.declared.data.CollationData.{CollationData}
+use Rattle.icu_entries.specs.declared.error.DataTable.TheVariants.{Root, Jamo, SpecialPrimaries, Metadata, Tailoring, Reordering, Diacritics}
+use Rattle.icu_entries.specs.Elements.{accent_element}
+use Rattle.icu_data.specs.DataConditions.{is_readable}
+use Rattle.icu_data.specs.Final.{final_elements}
+use Rattle.icu_data.specs.Data.{Data, homed}
+use Rattle.icu_provider.specs.Tables.{is_jamo}
+use Rattle.icu_data.specs.Live.{live_from, live_at}
+use Rattle.icu_data.specs.LiveWeights.{IsWeightAmong, IsLiveWeight}
+use Rattle.icu_provider.specs.Diacritics.{is_replaced_place}
+use Rattle.icu_data.specs.StoredData.{data_of}
+use Rattle.icu_provider.specs.StoredTables.{jamo_of, accents_of}
 use Rattle.icu_checks.specs.declared.table_set.TableSet.{TableSet}
 use Rattle.icu_checks.specs.declared.weights.Level.{Level}
 use Rattle.icu_checks.specs.CollatorTables.{CollatorTables}

@@ -2,18 +2,19 @@
 use Rattle.std.proofs.Common.{◌≡◌, ℕ, Bool, true, false, not, ◌&&◌, List, [], ◌∷◌, Option, Some, None, IfSome, IsTrue, if◌then◌else◌, fold, option_map, length, refl}
 use Rattle.std.proofs.lemmas.Bool.{and_parts}
 use Rattle.std.specs.List.{AllByRecursion, Contains}
-use Rattle.icu_provider.specs.declared.error.DataTable.{DataTable}
-use Rattle.icu_provider.specs.declared.error.DataTable.TheVariants.{Root, Jamo, SpecialPrimaries, Metadata, Tailoring, Reordering, Diacritics}
-use Rattle.icu_provider.specs.declared.live_condition.LiveCondition.{LiveCondition}
-use Rattle.icu_provider.specs.declared.live_condition.LiveCondition.TheVariants as live
-use Rattle.icu_provider.specs.Elements.{Element}
-use Rattle.icu_provider.specs.Tables.{Data, homed}
-use Rattle.icu_provider.specs.Final.{final_elements}
-use Rattle.icu_provider.specs.EntryConditions.{is_inside, has_known_byte, has_known_members, fits_offset, avoids_diacritics, is_readable}
-use Rattle.icu_provider.specs.Faults.{earlier}
-use Rattle.icu_provider.specs.LiveConditions.{meets, first_failing}
-use Rattle.icu_provider.proofs.FaultLemmas.{find_passes, find_none, not_false, not_true, weaker_some, passes_meets, failing_fails, earlier-none, earlier-keeps}
-use Rattle.icu_provider.proofs.ListLemmas.{weaker, all_members}
+use Rattle.icu_entries.specs.declared.error.DataTable.{DataTable}
+use Rattle.icu_entries.specs.declared.error.DataTable.TheVariants.{Root, Jamo, SpecialPrimaries, Metadata, Tailoring, Reordering, Diacritics}
+use Rattle.icu_data.specs.declared.live_condition.LiveCondition.{LiveCondition}
+use Rattle.icu_data.specs.declared.live_condition.LiveCondition.TheVariants as live
+use Rattle.icu_entries.specs.Elements.{Element}
+use Rattle.icu_data.specs.Data.{Data, homed}
+use Rattle.icu_data.specs.Final.{final_elements}
+use Rattle.icu_data.specs.DataConditions.{is_inside, has_known_members, fits_offset, avoids_diacritics, is_readable}
+use Rattle.icu_entries.specs.EntryConditions.{has_known_byte}
+use Rattle.icu_data.specs.Faults.{earlier}
+use Rattle.icu_data.specs.LiveConditions.{meets, first_failing}
+use Rattle.icu_data.proofs.FaultLemmas.{find_passes, find_none, not_false, not_true, weaker_some, passes_meets, failing_fails, earlier-none, earlier-keeps}
+use Rattle.icu_data.proofs.ListLemmas.{weaker, all_members}
 use Rattle.icu_checks.specs.declared.condition.Condition.TheVariants as conditions
 use Rattle.icu_checks.specs.declared.condition.ElementCondition.{ElementCondition}
 use Rattle.icu_checks.specs.declared.condition.ElementCondition.TheVariants.{Width, BackwardLead, LoneTertiary, MiddleLead, ImplicitLength, NumericLead, SharedLead, SecondByte}

@@ -1,7 +1,7 @@
 -- The earlier of two faults.
 use Rattle.std.proofs.Common.{◌≡◌, Option, None, Result, Ok, Err, IfOk, IfSome, sym, ◌∙◌, subst}
-use Rattle.icu_provider.specs.Faults.{earlier}
-use Rattle.icu_provider.proofs.FaultLemmas.{earlier-none, earlier-keeps}
+use Rattle.icu_data.specs.Faults.{earlier}
+use Rattle.icu_data.proofs.FaultLemmas.{earlier-none, earlier-keeps}
 use Rattle.icu_checks.specs.declared.fault.Fault.{Fault}
 use Rattle.icu_checks.specs.CollatorTables.{CollatorTables}
 use Rattle.icu_checks.specs.Faults.{fault_rank}

@@ -1,9 +1,9 @@
 -- What each condition says of one table, and of all.
 use Rattle.std.proofs.Common.{◌≡◌, inl, inr}
-use Rattle.icu_provider.specs.declared.error.DataError.{DataError}
-use Rattle.icu_provider.specs.declared.error.DataErrorKind.{DataErrorKind}
-use Rattle.icu_provider.specs.declared.error.DataErrorKind.TheVariants as kinds
-use Rattle.icu_provider.specs.declared.error.DataTable.{DataTable}
+use Rattle.icu_entries.specs.declared.error.DataError.{DataError}
+use Rattle.icu_entries.specs.declared.error.DataErrorKind.{DataErrorKind}
+use Rattle.icu_entries.specs.declared.error.DataErrorKind.TheVariants as kinds
+use Rattle.icu_entries.specs.declared.error.DataTable.{DataTable}
 use Rattle.icu_checks.specs.declared.condition.Condition.{Condition}
 use Rattle.icu_checks.specs.declared.condition.Condition.TheVariants as conditions
 use Rattle.icu_checks.specs.CollatorTables.{CollatorTables}

@@ -1,19 +1,19 @@
 -- Implicit weights: none of them is collected, and they meet every condition where reordering takes them to a lead byte of their own.
 use Rattle.std.proofs.Common.{◌≡◌, ◌≢◌, ℕ, ◌+◌, ◌*◌, ◌/◌, ◌%◌, ◌^◌, ◌<◌, ◌≤◌, Bool, true, false, not, ◌==◌, ◌&&◌, ◌||◌, nat_eq, nat_le, nat_lt, List, [], ◌∷◌, Option, Some, None, IsTrue, if◌then◌else◌, fold, refl, sym, ap, ◌∙◌, subst, arith}
 use Rattle.std.proofs.lemmas.Bool.Decides.{nat_tests}
-use Rattle.icu_provider.specs.declared.error.DataTable.{DataTable}
-use Rattle.icu_provider.specs.Elements.{Element, of_primary}
-use Rattle.icu_provider.specs.declared.entry.EntryKind.TheVariants.{Implicit}
-use Rattle.icu_provider.specs.Entries.{kind_of}
-use Rattle.icu_provider.specs.EntryConditions.{avoids_diacritics}
-use Rattle.icu_provider.specs.Faults.{earlier}
-use Rattle.icu_provider.specs.Final.{final_elements}
+use Rattle.icu_entries.specs.declared.error.DataTable.{DataTable}
+use Rattle.icu_entries.specs.Elements.{Element, of_primary}
+use Rattle.icu_entries.specs.declared.entry.EntryKind.TheVariants.{Implicit}
+use Rattle.icu_entries.specs.Entries.{kind_of}
+use Rattle.icu_data.specs.DataConditions.{avoids_diacritics}
+use Rattle.icu_data.specs.Faults.{earlier}
+use Rattle.icu_data.specs.Final.{final_elements}
 use Rattle.icu_provider.specs.Reorderings.{lead_byte}
 use Rattle.icu_provider.specs.SpecialPrimaries.{is_compressible}
-use Rattle.icu_provider.specs.Tables.{Data}
-use Rattle.icu_provider.specs.Weights.{weight, implicit_weight}
-use Rattle.icu_provider.proofs.FaultLemmas.{none_found, negated}
-use Rattle.icu_provider.proofs.ImplicitLemmas.{implicit_passes}
+use Rattle.icu_data.specs.Data.{Data}
+use Rattle.icu_entries.specs.Weights.{weight, implicit_weight}
+use Rattle.icu_data.proofs.FaultLemmas.{none_found, negated}
+use Rattle.icu_data.proofs.ImplicitLemmas.{implicit_passes}
 use Rattle.icu_checks.specs.declared.condition.ElementCondition.{ElementCondition}
 use Rattle.icu_checks.specs.declared.condition.ElementCondition.TheVariants.{Width, BackwardLead, LoneTertiary, MiddleLead, ImplicitLength, NumericLead, SharedLead, SecondByte}
 use Rattle.icu_checks.specs.declared.fault.Fault.{Fault}

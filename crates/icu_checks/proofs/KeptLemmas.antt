@@ -1,6 +1,7 @@
 -- Copies of tables say what the tables say.
 use Rattle.std.proofs.Common.{◌≡◌, Result, Ok, IfOk, Option, option_map, refl, subst}
-use Rattle.icu_provider.specs.Stored.{data_of, jamo_of, accents_of, special_of, reordering_of}
+use Rattle.icu_data.specs.StoredData.{data_of}
+use Rattle.icu_provider.specs.StoredTables.{jamo_of, accents_of, special_of, reordering_of}
 use Rattle.icu_checks.specs.declared.kept_data.KeptData.{KeptData}
 use Rattle.icu_checks.specs.declared.kept_tables.KeptDiacritics.{KeptDiacritics}
 use Rattle.icu_checks.specs.declared.kept_tables.KeptJamo.{KeptJamo}

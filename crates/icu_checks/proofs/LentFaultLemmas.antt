@@ -3,20 +3,21 @@ use Rattle.std.proofs.Common.{◌≡◌, ◌⊎◌, ℕ, ◌+◌, ◌-◌, ◌<�
 use Rattle.std.proofs.lemmas.Bool.{cases_eq}
 use Rattle.std.proofs.lemmas.Bool.Decides.{nat_tests}
 use Rattle.std.specs.List.{AllByRecursion}
-use Rattle.icu_provider.specs.declared.data.CollationData.{CollationData}
-use Rattle.icu_provider.specs.declared.error.DataTable.TheVariants.{Root, Jamo, Tailoring, Diacritics}
+use Rattle.icu_data.specs.declared.data.CollationData.{CollationData}
+use Rattle.icu_entries.specs.declared.error.DataTable.TheVariants.{Root, Jamo, Tailoring, Diacritics}
 use Rattle.icu_provider.specs.Tables.{is_jamo}
-use Rattle.icu_provider.specs.Live.{live_from, EachLive}
-use Rattle.icu_provider.specs.Accents.{is_replaced_place}
-use Rattle.icu_provider.specs.Elements.{Element, accent_element}
-use Rattle.icu_provider.specs.Stored.{data_of, jamo_of, accents_of}
-use Rattle.icu_provider.specs.Faults.{IsFaultAmong, IsLiveFault}
-use Rattle.icu_provider.proofs.FaultLemmas.{weaker_some, not_before, earlier-none}
+use Rattle.icu_data.specs.Live.{live_from, EachLive}
+use Rattle.icu_provider.specs.Diacritics.{is_replaced_place}
+use Rattle.icu_entries.specs.Elements.{Element, accent_element}
+use Rattle.icu_data.specs.StoredData.{data_of}
+use Rattle.icu_provider.specs.StoredTables.{jamo_of, accents_of}
+use Rattle.icu_data.specs.Faults.{IsFaultAmong, IsLiveFault}
+use Rattle.icu_data.proofs.FaultLemmas.{weaker_some, not_before, earlier-none}
 use Rattle.icu_checks.specs.declared.condition.ElementCondition.{ElementCondition}
 use Rattle.icu_checks.specs.declared.fault.Fault.{Fault}
 use Rattle.icu_checks.specs.declared.table_set.TableSet.{TableSet}
 use Rattle.icu_checks.specs.TableSets.{tables_in}
-use Rattle.icu_provider.specs.Faults.{earlier}
+use Rattle.icu_data.specs.Faults.{earlier}
 use Rattle.icu_checks.specs.Faults.{fault_rank, IsTrueFault}
 use Rattle.icu_checks.specs.ElementConditions.{element_meets}
 use Rattle.icu_checks.specs.EntryFaults.{of_element, element_fault, entry_fault, JamoPasses, AccentMeets, MeetsIn}

@@ -8,14 +8,14 @@ use Rattle.std.proofs.lemmas.Nat.{and_le_r}
 use Rattle.std.specs.Prelude.{slice_index}
 use Rattle.icu_levels.specs.WeightBytes.{weight_bytes}
 use Rattle.icu_levels.specs.Premises.{IsPrefixFree}
-use Rattle.icu_provider.specs.declared.error.DataTable.{DataTable}
-use Rattle.icu_provider.specs.declared.error.DataTable.TheVariants.{Root, Jamo, SpecialPrimaries, Metadata, Tailoring, Reordering, Diacritics}
-use Rattle.icu_provider.specs.declared.live_condition.LiveCondition.TheVariants as live
-use Rattle.icu_provider.specs.Accents.{is_replaced_place, is_accent}
-use Rattle.icu_provider.specs.Elements.{Element, common, accent_element}
-use Rattle.icu_provider.specs.ElementConditions.{tertiary_of, has_shape, has_leads, has_secondary_lead, has_tertiary_lead}
-use Rattle.icu_provider.specs.Final.{final_elements}
-use Rattle.icu_provider.specs.Tables.{homed}
+use Rattle.icu_entries.specs.declared.error.DataTable.{DataTable}
+use Rattle.icu_entries.specs.declared.error.DataTable.TheVariants.{Root, Jamo, SpecialPrimaries, Metadata, Tailoring, Reordering, Diacritics}
+use Rattle.icu_data.specs.declared.live_condition.LiveCondition.TheVariants as live
+use Rattle.icu_provider.specs.Diacritics.{is_replaced_place, is_accent}
+use Rattle.icu_entries.specs.Elements.{Element, common, accent_element}
+use Rattle.icu_entries.specs.ElementConditions.{tertiary_of, has_shape, has_leads, has_secondary_lead, has_tertiary_lead}
+use Rattle.icu_data.specs.Final.{final_elements}
+use Rattle.icu_data.specs.Data.{homed}
 use Rattle.icu_checks.specs.declared.condition.Condition.TheVariants as conditions
 use Rattle.icu_checks.specs.declared.condition.ElementCondition.TheVariants as of_element
 use Rattle.icu_checks.specs.declared.condition.PairCondition.TheVariants as of_pair

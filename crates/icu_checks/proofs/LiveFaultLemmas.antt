@@ -1,15 +1,16 @@
 -- The faults of all that is live by one table.
 use Rattle.std.proofs.Common.{◌≡◌, ℕ, false, true, Option, Some, None, IfSome, IsTrue, refl, sym, subst}
 use Rattle.std.specs.List.{AllByRecursion, Contains}
-use Rattle.icu_provider.specs.declared.error.DataTable.{DataTable}
-use Rattle.icu_provider.specs.declared.error.DataTable.TheVariants.{Root, Jamo, Tailoring}
-use Rattle.icu_provider.specs.Elements.{Element}
-use Rattle.icu_provider.specs.Tables.{Data, homed, is_jamo}
-use Rattle.icu_provider.specs.Final.{final_elements}
-use Rattle.icu_provider.specs.Live.{live_from, live_at, EachLive}
+use Rattle.icu_entries.specs.declared.error.DataTable.{DataTable}
+use Rattle.icu_entries.specs.declared.error.DataTable.TheVariants.{Root, Jamo, Tailoring}
+use Rattle.icu_entries.specs.Elements.{Element}
+use Rattle.icu_data.specs.Data.{Data, homed}
+use Rattle.icu_provider.specs.Tables.{is_jamo}
+use Rattle.icu_data.specs.Final.{final_elements}
+use Rattle.icu_data.specs.Live.{live_from, live_at, EachLive}
 use Rattle.icu_provider.specs.LiveTables.{jamo_entry}
-use Rattle.icu_provider.specs.Faults.{IsFaultAmong, IsLiveFault}
-use Rattle.icu_provider.proofs.ListLemmas.{of_member}
+use Rattle.icu_data.specs.Faults.{IsFaultAmong, IsLiveFault}
+use Rattle.icu_data.proofs.ListLemmas.{of_member}
 use Rattle.icu_checks.specs.declared.condition.ElementCondition.{ElementCondition}
 use Rattle.icu_checks.specs.declared.fault.Fault.{Fault}
 use Rattle.icu_checks.specs.CollatorTables.{CollatorTables}

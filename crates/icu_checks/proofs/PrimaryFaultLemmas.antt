@@ -4,12 +4,12 @@ use Rattle.std.specs.List.{Contains}
 use Rattle.icu_levels.specs.Premises.{IsPrefixFree}
 use Rattle.icu_levels.specs.ListOrder.{IsBeginning}
 use Rattle.icu_levels.specs.WeightBytes.{weight_bytes}
-use Rattle.icu_provider.specs.declared.error.DataTable.{DataTable}
-use Rattle.icu_provider.specs.declared.error.DataTable.TheVariants.{Root, Jamo, Tailoring, Reordering, Diacritics}
+use Rattle.icu_entries.specs.declared.error.DataTable.{DataTable}
+use Rattle.icu_entries.specs.declared.error.DataTable.TheVariants.{Root, Jamo, Tailoring, Reordering, Diacritics}
 use Rattle.icu_provider.specs.declared.reordering.CollationReordering.{CollationReordering}
 use Rattle.icu_provider.specs.Reorderings.{reordered, lead_byte}
 use Rattle.icu_provider.specs.SpecialPrimaries.{is_compressible}
-use Rattle.icu_provider.specs.Stored.{reordering_of, special_of}
+use Rattle.icu_provider.specs.StoredTables.{reordering_of, special_of}
 use Rattle.icu_checks.specs.declared.condition.Condition.TheVariants as conditions
 use Rattle.icu_checks.specs.declared.condition.PairCondition.TheVariants.{Primaries, Compression}
 use Rattle.icu_checks.specs.declared.table_set.TableSet.{TableSet}

@@ -6,16 +6,16 @@ use Rattle.std.proofs.lemmas.Bool.{cases_eq, and_parts}
 use Rattle.std.proofs.lemmas.Bool.Decides.{nat_tests}
 use Rattle.icu_levels.specs.WeightBytes.{weight_bytes}
 use Rattle.icu_levels.specs.Premises.{IsPrefixFree}
-use Rattle.icu_provider.specs.declared.error.DataTable.{DataTable}
-use Rattle.icu_provider.specs.declared.error.DataTable.TheVariants.{Root, Jamo, SpecialPrimaries, Metadata, Tailoring, Diacritics}
-use Rattle.icu_provider.specs.declared.error.DataTable.TheVariants as tables
-use Rattle.icu_provider.specs.declared.live_condition.LiveCondition.TheVariants as live
-use Rattle.icu_provider.specs.Elements.{Element, common}
-use Rattle.icu_provider.specs.ElementConditions.{separator_primary, is_separator, has_primary_lead}
-use Rattle.icu_provider.specs.Final.{final_elements}
+use Rattle.icu_entries.specs.declared.error.DataTable.{DataTable}
+use Rattle.icu_entries.specs.declared.error.DataTable.TheVariants.{Root, Jamo, SpecialPrimaries, Metadata, Tailoring, Diacritics}
+use Rattle.icu_entries.specs.declared.error.DataTable.TheVariants as tables
+use Rattle.icu_data.specs.declared.live_condition.LiveCondition.TheVariants as live
+use Rattle.icu_entries.specs.Elements.{Element, common}
+use Rattle.icu_entries.specs.ElementConditions.{separator_primary, is_separator, has_primary_lead}
+use Rattle.icu_data.specs.Final.{final_elements}
 use Rattle.icu_provider.specs.Reorderings.{Reordering, lead_byte}
 use Rattle.icu_provider.specs.SpecialPrimaries.{is_compressible}
-use Rattle.icu_provider.specs.Tables.{homed}
+use Rattle.icu_data.specs.Data.{homed}
 use Rattle.icu_checks.specs.declared.condition.Condition.TheVariants as conditions
 use Rattle.icu_checks.specs.declared.condition.ElementCondition.TheVariants.{Width, MiddleLead, ImplicitLength, SharedLead}
 use Rattle.icu_checks.specs.declared.condition.LeadCondition.TheVariants.{ImplicitLead, Separator, HighLead}

@@ -2,8 +2,8 @@
 use Rattle.std.proofs.Common.{◌≡◌, ◌↔◌, ℕ, ◌<◌, ◌^◌, List, [], length, get_or, Option, Result, Ok, Err, OnOk, IfOk, refl, subst, inl, inr, arith}
 use Rattle.std.specs.List.{Contains}
 use Rattle.icu_levels.specs.WeightBytes.{weight_bytes}
-use Rattle.icu_provider.specs.declared.error.DataTable.{DataTable}
-use Rattle.icu_provider.specs.declared.error.DataTable.TheVariants.{Root, Jamo, SpecialPrimaries, Metadata, Tailoring, Reordering, Diacritics}
+use Rattle.icu_entries.specs.declared.error.DataTable.{DataTable}
+use Rattle.icu_entries.specs.declared.error.DataTable.TheVariants.{Root, Jamo, SpecialPrimaries, Metadata, Tailoring, Reordering, Diacritics}
 use Rattle.icu_checks.specs.declared.condition.PairCondition.{PairCondition}
 use Rattle.icu_checks.specs.declared.condition.Condition.TheVariants as conditions
 use Rattle.icu_checks.specs.declared.fault.Fault.{Fault}

@@ -1,7 +1,7 @@
 -- The conditions on one live element that depend on other tables than its own.
 use Rattle.std.specs.Prelude.{ℕ, ◌/◌, ◌%◌, ◌^◌, Bool, true, not, ◌&&◌, ◌||◌, ◌==◌, nat_le, nat_lt, bit_and, List, [], ◌∷◌}
-use Rattle.icu_provider.specs.Elements.{Element, common, case_mask}
-use Rattle.icu_provider.specs.ElementConditions.{tertiary_of}
+use Rattle.icu_entries.specs.Elements.{Element, common, case_mask}
+use Rattle.icu_entries.specs.ElementConditions.{tertiary_of}
 use Rattle.icu_provider.specs.Reorderings.{lead_byte}
 use Rattle.icu_provider.specs.SpecialPrimaries.{is_compressible}
 use Rattle.icu_checks.specs.declared.condition.ElementCondition.{ElementCondition}

@@ -1,18 +1,18 @@
 -- The faults of entries and of elements, as a check names them.
 use Rattle.std.specs.Prelude.{ℕ, ◌+◌, not, find, fold, length, Option, Some, None, option_map, ◌≡◌, false, slice_index, if◌then◌else◌, IsTrue}
 use Rattle.std.specs.List.{AllByRecursion}
-use Rattle.icu_provider.specs.declared.error.DataTable.{DataTable}
-use Rattle.icu_provider.specs.declared.error.DataTable.TheVariants as tables
-use Rattle.icu_provider.specs.declared.live_condition.LiveCondition.{LiveCondition}
-use Rattle.icu_provider.specs.Accents.{is_replaced_place}
-use Rattle.icu_provider.specs.Elements.{Element, of_primary, accent_element}
-use Rattle.icu_provider.specs.Weights.{implicit_weight}
-use Rattle.icu_provider.specs.Tables.{Data, homed}
-use Rattle.icu_provider.specs.Final.{final_elements}
-use Rattle.icu_provider.specs.Live.{live_from}
-use Rattle.icu_provider.specs.EntryConditions.{avoids_diacritics, is_readable}
-use Rattle.icu_provider.specs.Faults.{earlier}
-use Rattle.icu_provider.specs.LiveConditions.{first_failing}
+use Rattle.icu_entries.specs.declared.error.DataTable.{DataTable}
+use Rattle.icu_entries.specs.declared.error.DataTable.TheVariants as tables
+use Rattle.icu_data.specs.declared.live_condition.LiveCondition.{LiveCondition}
+use Rattle.icu_provider.specs.Diacritics.{is_replaced_place}
+use Rattle.icu_entries.specs.Elements.{Element, of_primary, accent_element}
+use Rattle.icu_entries.specs.Weights.{implicit_weight}
+use Rattle.icu_data.specs.Data.{Data, homed}
+use Rattle.icu_data.specs.Final.{final_elements}
+use Rattle.icu_data.specs.Live.{live_from}
+use Rattle.icu_data.specs.DataConditions.{avoids_diacritics, is_readable}
+use Rattle.icu_data.specs.Faults.{earlier}
+use Rattle.icu_data.specs.LiveConditions.{first_failing}
 use Rattle.icu_checks.specs.declared.condition.Condition.TheVariants as conditions
 use Rattle.icu_checks.specs.declared.condition.ElementCondition.{ElementCondition}
 use Rattle.icu_checks.specs.declared.fault.Fault.{Fault}

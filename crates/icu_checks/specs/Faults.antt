@@ -1,6 +1,6 @@
 -- Which of the conditions that fail is named.
 use Rattle.std.specs.Prelude.{ℕ, ◌+◌, ◌*◌}
-use Rattle.icu_provider.specs.Faults.{condition_rank}
+use Rattle.icu_data.specs.Faults.{condition_rank}
 use Rattle.icu_checks.specs.declared.condition.Condition.{Condition}
 use Rattle.icu_checks.specs.declared.condition.Condition.TheVariants as conditions
 use Rattle.icu_checks.specs.declared.condition.ElementCondition.{ElementCondition}

@@ -1,6 +1,6 @@
 -- That tables meet the conditions is a proposition.
 use Rattle.std.proofs.Props.{props}
-use Rattle.icu_provider.specs.Elements.{Element}
+use Rattle.icu_entries.specs.Elements.{Element}
 use Rattle.icu_checks.specs.declared.condition.Condition.{Condition}
 use Rattle.icu_checks.specs.declared.condition.Condition.TheVariants as conditions
 use Rattle.icu_checks.specs.declared.condition.PairCondition.{PairCondition}

@@ -1,18 +1,19 @@
 -- The conditions on all tables of a collator together, and what a refusal says.
 use Rattle.std.specs.Prelude.{ℕ, ◌≡◌, ◌⊎◌, ◌<◌, nat_lt, length, All, ◌==◌, ◌||◌, IsTrue, if◌then◌else◌}
 use Rattle.std.specs.Option.{ForSome}
-use Rattle.icu_provider.specs.declared.error.DataError.{DataError}
-use Rattle.icu_provider.specs.declared.error.DataErrorKind.{DataErrorKind}
-use Rattle.icu_provider.specs.declared.error.DataErrorKind.TheVariants as kinds
-use Rattle.icu_provider.specs.declared.error.DataTable.{DataTable}
-use Rattle.icu_provider.specs.declared.error.DataTable.TheVariants as tables
-use Rattle.icu_provider.specs.declared.live_condition.LiveCondition.{LiveCondition}
-use Rattle.icu_provider.specs.Elements.{Element}
-use Rattle.icu_provider.specs.Tables.{Context, Data}
-use Rattle.icu_provider.specs.Contexts.{has_ascending_rows}
-use Rattle.icu_provider.specs.Accents.{IsDiacritics, IsJamo}
-use Rattle.icu_provider.specs.EntryConditions.{avoids_diacritics}
-use Rattle.icu_provider.specs.LiveConditions.{meets, kind_for}
+use Rattle.icu_entries.specs.declared.error.DataError.{DataError}
+use Rattle.icu_entries.specs.declared.error.DataErrorKind.{DataErrorKind}
+use Rattle.icu_entries.specs.declared.error.DataErrorKind.TheVariants as kinds
+use Rattle.icu_entries.specs.declared.error.DataTable.{DataTable}
+use Rattle.icu_entries.specs.declared.error.DataTable.TheVariants as tables
+use Rattle.icu_data.specs.declared.live_condition.LiveCondition.{LiveCondition}
+use Rattle.icu_entries.specs.Elements.{Element}
+use Rattle.icu_data.specs.Data.{Context, Data}
+use Rattle.icu_data.specs.Contexts.{has_ascending_rows}
+use Rattle.icu_provider.specs.Diacritics.{IsDiacritics}
+use Rattle.icu_provider.specs.Jamo.{IsJamo}
+use Rattle.icu_data.specs.DataConditions.{avoids_diacritics}
+use Rattle.icu_data.specs.LiveConditions.{meets, kind_for}
 use Rattle.icu_provider.specs.Metadata.{has_tailored_diacritics}
 use Rattle.icu_provider.specs.Reorderings.{Reordering}
 use Rattle.icu_provider.specs.SpecialPrimaries.{IsSpecialPrimaries}

@@ -5,13 +5,13 @@ use Rattle.icu_checks.specs.declared.kept_tables.KeptDiacritics.{KeptDiacritics}
 use Rattle.icu_checks.specs.declared.kept_tables.KeptJamo.{KeptJamo}
 use Rattle.icu_checks.specs.declared.kept_tables.KeptReordering.{KeptReordering}
 use Rattle.icu_checks.specs.declared.kept_tables.KeptSpecialPrimaries.{KeptSpecialPrimaries}
-use Rattle.icu_provider.specs.Elements.{element_of}
-use Rattle.icu_provider.specs.CodePointTables.{stored_value}
-use Rattle.icu_provider.specs.Contexts.{stored_contexts}
+use Rattle.icu_entries.specs.Elements.{element_of}
+use Rattle.icu_data.specs.CodePointTables.{stored_value}
+use Rattle.icu_data.specs.Contexts.{stored_contexts}
 use Rattle.icu_provider.specs.Reorderings.{Reordering}
 use Rattle.icu_provider.specs.SpecialPrimaries.{SpecialPrimaries}
 use Rattle.icu_provider.specs.declared.metadata.CollationMetadata.{CollationMetadata}
-use Rattle.icu_provider.specs.Tables.{Data}
+use Rattle.icu_data.specs.Data.{Data}
 use Rattle.icu_checks.specs.CollatorTables.{CollatorTables}
 
 -- a root or a tailoring

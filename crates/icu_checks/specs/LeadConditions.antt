@@ -1,6 +1,6 @@
 -- The conditions on what reordering makes of whole lead bytes.
 use Rattle.std.specs.Prelude.{ℕ, ◌≡◌, ◌≢◌, ◌^◌, ◌<◌, false, Option, IsTrue}
-use Rattle.icu_provider.specs.ElementConditions.{separator_primary}
+use Rattle.icu_entries.specs.ElementConditions.{separator_primary}
 use Rattle.icu_provider.specs.Reorderings.{Reordering, lead_byte}
 use Rattle.icu_provider.specs.SpecialPrimaries.{is_compressible}
 use Rattle.icu_checks.specs.declared.condition.LeadCondition.{LeadCondition}

@@ -1,12 +1,13 @@
 -- What is live in each table of a collator: pairs of a character and an entry, and elements.
 use Rattle.std.specs.Prelude.{ℕ, ◌≡◌, ◌<◌, false, List, length, slice_index}
 use Rattle.std.specs.List.{Contains}
-use Rattle.icu_provider.specs.declared.error.DataTable.{DataTable}
-use Rattle.icu_provider.specs.declared.error.DataTable.TheVariants.{Root, Jamo, Tailoring, Diacritics}
-use Rattle.icu_provider.specs.Elements.{Element, accent_element}
-use Rattle.icu_provider.specs.Tables.{Data, Tables, homed}
-use Rattle.icu_provider.specs.Final.{final_elements}
-use Rattle.icu_provider.specs.Accents.{is_replaced_place}
+use Rattle.icu_entries.specs.declared.error.DataTable.{DataTable}
+use Rattle.icu_entries.specs.declared.error.DataTable.TheVariants.{Root, Jamo, Tailoring, Diacritics}
+use Rattle.icu_entries.specs.Elements.{Element, accent_element}
+use Rattle.icu_data.specs.Data.{Data, homed}
+use Rattle.icu_provider.specs.Tables.{Tables}
+use Rattle.icu_data.specs.Final.{final_elements}
+use Rattle.icu_provider.specs.Diacritics.{is_replaced_place}
 use Rattle.icu_provider.specs.LiveTables.{IsLiveInRoot, IsLiveInJamo, IsLiveInTailoring}
 
 -- the entry, whose lists stand in this home, is live with the character by a table

@@ -1,6 +1,6 @@
 -- The tables that a provider lends for a collation, and the order in which it is asked.
 use Rattle.std.specs.Prelude.{ℕ, Bool, true, false, Option, Some, None, Result, Ok, Err, if◌then◌else◌}
-use Rattle.icu_provider.specs.declared.error.DataError.{DataError}
+use Rattle.icu_entries.specs.declared.error.DataError.{DataError}
 use Rattle.icu_provider.specs.Loads.{Loads, answer}
 use Rattle.icu_provider.specs.Metadata.{is_tailored, has_tailored_diacritics, has_reordering}
 use Rattle.icu_provider.specs.Requests.{Request, empty_request, without_type}

@@ -2,8 +2,8 @@
 use Rattle.std.specs.Prelude.{ℕ, ◌≡◌, ◌≢◌, ◌<◌, List, IsTrue}
 use Rattle.icu_levels.specs.WeightBytes.{weight_bytes}
 use Rattle.icu_levels.specs.ListOrder.{IsBeginning}
-use Rattle.icu_provider.specs.Elements.{Element}
-use Rattle.icu_provider.specs.ElementConditions.{tertiary_of}
+use Rattle.icu_entries.specs.Elements.{Element}
+use Rattle.icu_entries.specs.ElementConditions.{tertiary_of}
 use Rattle.icu_provider.specs.Reorderings.{lead_byte}
 use Rattle.icu_provider.specs.SpecialPrimaries.{is_compressible}
 use Rattle.icu_checks.specs.declared.condition.PairCondition.{PairCondition}

@@ -4,7 +4,7 @@ use Rattle.std.specs.List.{Contains}
 use Rattle.icu_levels.specs.ListOrder.{IsBeginning}
 use Rattle.icu_levels.specs.Premises.{IsPrefixFree}
 use Rattle.icu_levels.specs.WeightBytes.{weight_bytes}
-use Rattle.icu_provider.specs.declared.error.DataTable.{DataTable}
+use Rattle.icu_entries.specs.declared.error.DataTable.{DataTable}
 use Rattle.icu_provider.specs.Reorderings.{lead_byte}
 use Rattle.icu_provider.specs.SpecialPrimaries.{is_compressible}
 use Rattle.icu_provider.specs.Tables.{Tables}

@@ -1,12 +1,13 @@
 -- The tables that are lent to a check.
 use Rattle.std.specs.Prelude.{Option, option_map}
-use Rattle.icu_provider.specs.declared.data.CollationData.{CollationData}
+use Rattle.icu_data.specs.declared.data.CollationData.{CollationData}
 use Rattle.icu_provider.specs.declared.diacritics.CollationDiacritics.{CollationDiacritics}
 use Rattle.icu_provider.specs.declared.jamo.CollationJamo.{CollationJamo}
 use Rattle.icu_provider.specs.declared.metadata.CollationMetadata.{CollationMetadata}
 use Rattle.icu_provider.specs.declared.reordering.CollationReordering.{CollationReordering}
 use Rattle.icu_provider.specs.declared.special_primaries.CollationSpecialPrimaries.{CollationSpecialPrimaries}
-use Rattle.icu_provider.specs.Stored.{data_of, jamo_of, accents_of, special_of, reordering_of}
+use Rattle.icu_data.specs.StoredData.{data_of}
+use Rattle.icu_provider.specs.StoredTables.{jamo_of, accents_of, special_of, reordering_of}
 use Rattle.icu_checks.specs.declared.table_set.TableSet.{TableSet}
 use Rattle.icu_checks.specs.CollatorTables.{CollatorTables}
 

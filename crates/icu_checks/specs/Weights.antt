@@ -1,17 +1,18 @@
 -- The weights of live elements that are compared with one another, and how they stand in four bytes.
 use Rattle.std.specs.Prelude.{ℕ, ◌≡◌, ◌↔◌, ◌⊎◌, ◌<◌, ◌+◌, ◌*◌, ◌^◌, false, ◌||◌, ◌==◌, List, slice_index, Option, Some, None, IsTrue, if◌then◌else◌}
 use Rattle.std.specs.List.{Contains}
-use Rattle.icu_provider.specs.declared.error.DataTable.{DataTable}
-use Rattle.icu_provider.specs.declared.error.DataTable.TheVariants.{Diacritics}
-use Rattle.icu_provider.specs.Accents.{is_replaced_place}
-use Rattle.icu_provider.specs.Elements.{Element, common, accent_element}
-use Rattle.icu_provider.specs.ElementConditions.{tertiary_of}
-use Rattle.icu_provider.specs.EntryConditions.{is_readable}
-use Rattle.icu_provider.specs.Final.{final_elements}
-use Rattle.icu_provider.specs.Live.{live_from}
-use Rattle.icu_provider.specs.LiveWeights.{IsWeightAmong}
+use Rattle.icu_entries.specs.declared.error.DataTable.{DataTable}
+use Rattle.icu_entries.specs.declared.error.DataTable.TheVariants.{Diacritics}
+use Rattle.icu_provider.specs.Diacritics.{is_replaced_place}
+use Rattle.icu_entries.specs.Elements.{Element, common, accent_element}
+use Rattle.icu_entries.specs.ElementConditions.{tertiary_of}
+use Rattle.icu_data.specs.DataConditions.{is_readable}
+use Rattle.icu_data.specs.Final.{final_elements}
+use Rattle.icu_data.specs.Live.{live_from}
+use Rattle.icu_data.specs.LiveWeights.{IsWeightAmong}
 use Rattle.icu_provider.specs.Reorderings.{lead_byte}
-use Rattle.icu_provider.specs.Tables.{Data, Tables, homed}
+use Rattle.icu_data.specs.Data.{Data, homed}
+use Rattle.icu_provider.specs.Tables.{Tables}
 use Rattle.icu_checks.specs.declared.weights.Level.{Level}
 use Rattle.icu_checks.specs.declared.weights.Level.TheVariants.{Primary, Secondary, Tertiary, Lone, Beside}
 use Rattle.icu_checks.specs.CollatorTables.{CollatorTables}

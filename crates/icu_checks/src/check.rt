@@ -1,7 +1,8 @@
 //! The check of all tables of a collator.
 ghost use Rattle.std.specs.Prelude.{◌≡◌, None, IfSome, IfOk, option_map};
 ghost use Rattle.std.specs.Option.{ForSome};
-ghost use Rattle.icu_provider.specs.Stored.{data_of, reordering_of};
+ghost use Rattle.icu_data.specs.StoredData.{data_of};
+ghost use Rattle.icu_provider.specs.StoredTables.{reordering_of};
 ghost use Rattle.icu_checks.specs.TableSets.{tables_in};
 ghost use Rattle.icu_checks.specs.Faults.{IsTrueFault};
 ghost use Rattle.icu_checks.specs.GoodTables.{HasAscendingContexts, IsReordering, AreTables, HasDiacriticCount, IsGoodTables};
@@ -17,8 +18,10 @@ use crate::overlap_faults::overlap_fault;
 use crate::primary_faults::primary_fault;
 use crate::table_set::TableSet;
 use crate::weights::Level;
-use icu_provider::fault::earlier;
-use icu_provider::{CollationData, CollationReordering, DataTable};
+use icu_data::CollationData;
+use icu_data::fault::earlier;
+use icu_entries::DataTable;
+use icu_provider::CollationReordering;
 use std::alloc::{AllocError, Global};
 
 /// The fault of a condition on lead bytes.

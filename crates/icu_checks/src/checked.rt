@@ -1,5 +1,6 @@
 ghost use Rattle.std.specs.Prelude.{◌≡◌, Ok, IsOk, IfOk, IfErr, option_map};
-ghost use Rattle.icu_provider.specs.Stored.{data_of, jamo_of, special_of, reordering_of, accents_of};
+ghost use Rattle.icu_data.specs.StoredData.{data_of};
+ghost use Rattle.icu_provider.specs.StoredTables.{jamo_of, special_of, reordering_of, accents_of};
 ghost use Rattle.icu_checks.specs.TableSets.{tables_in, tables_of};
 ghost use Rattle.icu_checks.specs.Kept.{kept_data, kept_reordering, kept_tables};
 ghost use Rattle.icu_checks.specs.GoodTables.{IsGoodTables, IsTrueRefusal};
@@ -9,9 +10,11 @@ use crate::check::first_fault;
 use crate::kept_data::KeptData;
 use crate::kept_tables::{KeptDiacritics, KeptJamo, KeptReordering, KeptSpecialPrimaries};
 use crate::table_set::TableSet;
+use icu_data::CollationData;
+use icu_entries::{DataError, DataErrorKind, DataTable};
 use icu_provider::{
-    CollationData, CollationDiacritics, CollationJamo, CollationMetadata, CollationReordering,
-    CollationSpecialPrimaries, DataError, DataErrorKind, DataTable,
+    CollationDiacritics, CollationJamo, CollationMetadata, CollationReordering,
+    CollationSpecialPrimaries,
 };
 use std::alloc::{AllocError, Global};
 

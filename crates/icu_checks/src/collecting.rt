@@ -1,14 +1,14 @@
 //! The weights that are compared with one another, collected table by table.
 ghost use Rattle.std.specs.Prelude.{◌≡◌, ◌<◌, OnOk, length, slice_index};
-ghost use Rattle.icu_provider.specs.Stored.{jamo_of, accents_of};
+ghost use Rattle.icu_provider.specs.StoredTables.{jamo_of, accents_of};
 ghost use Rattle.icu_checks.specs.TableSets.{tables_in};
 ghost use Rattle.icu_checks.specs.Weights.{Adds, IsWeightBy, IsJamoWeight, IsAccentWeight};
 
 use crate::table_set::{TableSet, jamo_char};
 use crate::weights::Level;
+use icu_data::live_weights::{Weigh, collect_weights, collect_weights_from};
+use icu_entries::{CollationElement, CollationElement32, DataTable};
 use icu_provider::diacritics::is_replaced_place;
-use icu_provider::live_weights::{Weigh, collect_weights, collect_weights_from};
-use icu_provider::{CollationElement, CollationElement32, DataTable};
 use std::alloc::AllocError;
 
 fn collect_root(

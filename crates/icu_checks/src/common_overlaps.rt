@@ -12,7 +12,8 @@ use crate::overlap::first_common_overlap;
 use crate::table_set::TableSet;
 use crate::weight_list::{contains, sort_and_dedup};
 use crate::weights::Level;
-use icu_provider::{CollationReordering, DataTable};
+use icu_entries::DataTable;
+use icu_provider::CollationReordering;
 use std::alloc::{AllocError, Global};
 
 /// Whether a primary weight is live by a table.

@@ -1,4 +1,4 @@
-use icu_provider::live_condition::LiveCondition;
+use icu_data::live_condition::LiveCondition;
 
 /// A condition on one element that is live, beside what other tables say.
 #[derive(Debug, Clone, Copy, PartialEq, Eq)]

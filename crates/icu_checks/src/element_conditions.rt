@@ -1,5 +1,5 @@
 ghost use Rattle.std.specs.Prelude.{◌≡◌};
-ghost use Rattle.icu_provider.specs.Elements.{Element};
+ghost use Rattle.icu_entries.specs.Elements.{Element};
 ghost use Rattle.icu_checks.specs.Leads.{is_middle};
 ghost use Rattle.icu_checks.specs.TableSets.{tables_in};
 ghost use Rattle.icu_checks.specs.ElementConditions.{is_lone, is_high_lone, has_low_bytes, has_second_byte, primary_meets, element_meets};
@@ -7,7 +7,7 @@ ghost use Rattle.icu_checks.specs.ElementConditions.{is_lone, is_high_lone, has_
 use crate::condition::ElementCondition;
 use crate::leads::is_middle;
 use crate::table_set::{TableSet, lead_byte};
-use icu_provider::CollationElement;
+use icu_entries::CollationElement;
 
 /// The lead byte of implicit weights.
 pub(crate) const IMPLICIT_LEAD: u8 = 0xFE;

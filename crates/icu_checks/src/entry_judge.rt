@@ -1,10 +1,10 @@
 //! The faults of what is live in one table.
 ghost use Rattle.std.specs.Prelude.{◌≡◌, true, Option, IsTrue};
 ghost use Rattle.icu_checks.specs.declared.fault.Fault.{Fault};
-ghost use Rattle.icu_provider.specs.declared.error.DataTable.{DataTable};
-ghost use Rattle.icu_provider.specs.Elements.{Element};
-ghost use Rattle.icu_provider.specs.EntryConditions.{is_readable};
-ghost use Rattle.icu_provider.specs.Stored.{data_of};
+ghost use Rattle.icu_entries.specs.declared.error.DataTable.{DataTable};
+ghost use Rattle.icu_entries.specs.Elements.{Element};
+ghost use Rattle.icu_data.specs.DataConditions.{is_readable};
+ghost use Rattle.icu_data.specs.StoredData.{data_of};
 ghost use Rattle.icu_checks.specs.CollatorTables.{CollatorTables};
 ghost use Rattle.icu_checks.specs.TableSets.{tables_in};
 ghost use Rattle.icu_checks.specs.EntryFaults.{first_failing_element, element_fault, after_element, judged_element, elements_fault, rows_fault, entry_fault, ImplicitPasses};
@@ -12,9 +12,10 @@ ghost use Rattle.icu_checks.specs.EntryFaults.{first_failing_element, element_fa
 use crate::condition::{Condition, ElementCondition, LeadCondition};
 use crate::fault::{Fault, later};
 use crate::table_set::TableSet;
-use icu_provider::element_walk::{VisitElement, visit_elements};
-use icu_provider::fault::{Judge, earlier};
-use icu_provider::{CollationData, CollationElement, CollationElement32, DataTable};
+use icu_data::CollationData;
+use icu_data::element_walk::{VisitElement, visit_elements};
+use icu_data::fault::{Judge, earlier};
+use icu_entries::{CollationElement, CollationElement32, DataTable};
 use std::convert::Infallible;
 
 /// The first condition that an element fails, in the order in which a refusal names them.

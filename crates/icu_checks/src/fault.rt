@@ -3,8 +3,8 @@ ghost use Rattle.icu_checks.specs.Faults.{element_rank, pair_rank, lead_rank, ra
 ghost use Rattle.icu_checks.specs.GoodTables.{table_rank, kind_of, later, table_of_element, table_of_lead};
 
 use crate::condition::{Condition, ElementCondition, LeadCondition, PairCondition};
-use icu_provider::fault::Ranked;
-use icu_provider::{DataError, DataErrorKind, DataTable};
+use icu_data::fault::Ranked;
+use icu_entries::{DataError, DataErrorKind, DataTable};
 
 /// A condition that fails, and the table by which it is named.
 #[derive(Debug, Clone, Copy, PartialEq, Eq)]

@@ -1,9 +1,9 @@
 ghost use Rattle.std.specs.Prelude.{◌≡◌, IfOk};
-ghost use Rattle.icu_provider.specs.CodePointTables.{IsCodePointTable};
-ghost use Rattle.icu_provider.specs.Contexts.{IsContextTable};
-ghost use Rattle.icu_provider.specs.Stored.{data_of};
+ghost use Rattle.icu_data.specs.CodePointTables.{IsCodePointTable};
+ghost use Rattle.icu_data.specs.Contexts.{IsContextTable};
+ghost use Rattle.icu_data.specs.StoredData.{data_of};
 
-use icu_provider::{CodePointTable, CollationData, Context, ContextRow, ContextTable};
+use icu_data::{CodePointTable, CollationData, Context, ContextRow, ContextTable};
 use std::alloc::{AllocError, Global};
 
 /// A root or a tailoring in vectors of its own.

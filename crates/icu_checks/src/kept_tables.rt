@@ -1,7 +1,8 @@
 ghost use Rattle.std.specs.Prelude.{◌≡◌, IfOk, length};
-ghost use Rattle.icu_provider.specs.Accents.{IsDiacritics, IsJamo};
+ghost use Rattle.icu_provider.specs.Diacritics.{IsDiacritics};
+ghost use Rattle.icu_provider.specs.Jamo.{IsJamo};
 ghost use Rattle.icu_provider.specs.SpecialPrimaries.{IsSpecialPrimaries};
-ghost use Rattle.icu_provider.specs.Stored.{accents_of, jamo_of, reordering_of, special_of};
+ghost use Rattle.icu_provider.specs.StoredTables.{accents_of, jamo_of, reordering_of, special_of};
 
 use icu_provider::{
     CollationDiacritics, CollationJamo, CollationReordering, CollationSpecialPrimaries,

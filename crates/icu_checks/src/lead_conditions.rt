@@ -1,7 +1,7 @@
 ghost use Rattle.std.specs.Prelude.{◌≡◌, ◌≤◌, ◌↔◌, IsTrue, option_map};
-ghost use Rattle.icu_provider.specs.ElementConditions.{separator_primary};
+ghost use Rattle.icu_entries.specs.ElementConditions.{separator_primary};
 ghost use Rattle.icu_provider.specs.SpecialPrimaries.{is_compressible};
-ghost use Rattle.icu_provider.specs.Stored.{reordering_of};
+ghost use Rattle.icu_provider.specs.StoredTables.{reordering_of};
 ghost use Rattle.icu_checks.specs.CollatorTables.{new_lead};
 ghost use Rattle.icu_checks.specs.TableSets.{tables_in};
 ghost use Rattle.icu_checks.specs.LeadConditions.{TakesLeadBy, TakesLead, TakesTogether, LeadMeets};

@@ -1,5 +1,5 @@
 ghost use Rattle.std.specs.Prelude.{◌≡◌, ◌≤◌, ◌↔◌, ◌==◌, IsTrue};
-ghost use Rattle.icu_provider.specs.Stored.{reordering_of};
+ghost use Rattle.icu_provider.specs.StoredTables.{reordering_of};
 ghost use Rattle.icu_checks.specs.Leads.{TakesLead, TakesBlock, reordered_lead, is_middle};
 
 use icu_provider::CollationReordering;

@@ -1,6 +1,6 @@
 //! The first fault of all that is live in a collator's tables.
 ghost use Rattle.std.specs.Prelude.{◌≡◌, ◌+◌, ◌<◌, None, Some, IfSome, slice_index, length};
-ghost use Rattle.icu_provider.specs.Stored.{jamo_of, accents_of};
+ghost use Rattle.icu_provider.specs.StoredTables.{jamo_of, accents_of};
 ghost use Rattle.icu_checks.specs.TableSets.{tables_in};
 ghost use Rattle.icu_checks.specs.Faults.{IsTrueFault};
 ghost use Rattle.icu_checks.specs.EntryFaults.{JamoPasses, MeetsIn, AccentMeets, LiveMeets};
@@ -8,9 +8,9 @@ ghost use Rattle.icu_checks.specs.EntryFaults.{JamoPasses, MeetsIn, AccentMeets,
 use crate::entry_judge::{EntryJudge, element_fault, implicit_passes};
 use crate::fault::Fault;
 use crate::table_set::{TableSet, jamo_char};
+use icu_data::fault::{earlier, first_fault, first_fault_from};
+use icu_entries::{CollationElement, CollationElement32, DataTable};
 use icu_provider::diacritics::is_replaced_place;
-use icu_provider::fault::{earlier, first_fault, first_fault_from};
-use icu_provider::{CollationElement, CollationElement32, DataTable};
 
 fn root_fault(tables: TableSet<'_>) -> Option<Fault>
     ensures none { result ≡ None → MeetsIn DataTable.Root (tables_in tables.entry) }

@@ -3,14 +3,16 @@ ghost use Rattle.std.specs.Prelude.{◌≡◌, Some, option_map};
 ghost use Rattle.icu_provider.specs.Loads.{answer};
 ghost use Rattle.icu_provider.specs.Metadata.{has_reordering, is_tailored};
 ghost use Rattle.icu_provider.specs.Requests.{request_of, without_type};
-ghost use Rattle.icu_provider.specs.Stored.{accents_of, data_of, reordering_of};
+ghost use Rattle.icu_provider.specs.StoredTables.{accents_of, reordering_of};
+ghost use Rattle.icu_data.specs.StoredData.{data_of};
 ghost use Rattle.icu_checks.specs.Loads.{diacritics_request, if_named, lent_tables, typed_first};
 ghost use Rattle.icu_checks.specs.TableSets.{tables_in};
 
 use crate::table_set::TableSet;
+use icu_data::CollationData;
+use icu_entries::DataError;
 use icu_provider::{
-    CollationData, CollationDiacritics, CollationMetadata, CollationProvider, CollationReordering,
-    DataError, DataRequest,
+    CollationDiacritics, CollationMetadata, CollationProvider, CollationReordering, DataRequest,
 };
 
 /// The request for the locale alone.

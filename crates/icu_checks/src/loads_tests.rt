@@ -2,14 +2,16 @@
 ghost use Rattle.std.specs.Prelude.{◌≡◌};
 ghost use Rattle.icu_provider.specs.Loads.{answer};
 ghost use Rattle.icu_provider.specs.Requests.{request_of};
-ghost use Rattle.icu_provider.specs.Stored.{accents_of, data_of, jamo_of, reordering_of, special_of};
+ghost use Rattle.icu_provider.specs.StoredTables.{accents_of, jamo_of, reordering_of, special_of};
+ghost use Rattle.icu_data.specs.StoredData.{data_of};
 ghost use Rattle.icu_checks.specs.WorkedLoads.{by_request};
 
 use crate::loads::load_tables;
+use icu_data::{CodePointTable, CollationData, ContextTable};
+use icu_entries::{DataError, DataErrorKind, DataTable};
 use icu_provider::{
-    CodePointTable, CollationData, CollationDiacritics, CollationJamo, CollationMetadata,
-    CollationProvider, CollationReordering, CollationSpecialPrimaries, ContextTable, DataError,
-    DataErrorKind, DataRequest, DataTable,
+    CollationDiacritics, CollationJamo, CollationMetadata, CollationProvider, CollationReordering,
+    CollationSpecialPrimaries, DataRequest,
 };
 use std::alloc::Global;
 use std::cell::RefCell;

@@ -11,7 +11,7 @@ use crate::fault::{Fault, later};
 use crate::table_set::TableSet;
 use crate::weight_list::{greatest, least};
 use crate::weights::Level;
-use icu_provider::DataTable;
+use icu_entries::DataTable;
 use std::alloc::{AllocError, Global};
 
 /// A weight, and the table by which it is live.

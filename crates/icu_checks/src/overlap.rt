@@ -10,7 +10,7 @@ ghost use Rattle.icu_levels.specs.ListOrder.{IsBeginning};
 ghost use Rattle.icu_levels.specs.WeightBytes.{weight_bytes};
 ghost use Rattle.icu_levels.specs.Premises.{IsPrefixFree};
 ghost use Rattle.icu_provider.specs.Reorderings.{reordered};
-ghost use Rattle.icu_provider.specs.Stored.{reordering_of};
+ghost use Rattle.icu_provider.specs.StoredTables.{reordering_of};
 ghost use Rattle.icu_checks.specs.Overlaps.{reordered_bytes, NeighbourBegins, Overlaps, HasOverlap};
 
 use icu_provider::CollationReordering;

@@ -11,7 +11,7 @@ use crate::overlap::first_overlap;
 use crate::table_set::TableSet;
 use crate::weight_list::sort_and_dedup;
 use crate::weights::Level;
-use icu_provider::DataTable;
+use icu_entries::DataTable;
 use std::alloc::{AllocError, Global};
 
 /// Adds the weights of a table to those of the tables before it, none of which begins another, and looks for one that does now.

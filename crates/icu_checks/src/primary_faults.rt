@@ -15,8 +15,9 @@ use crate::overlap_faults::overlap_fault;
 use crate::table_set::TableSet;
 use crate::weight_list::sort_and_dedup;
 use crate::weights::Level;
-use icu_provider::fault::earlier;
-use icu_provider::{CollationReordering, DataTable};
+use icu_data::fault::earlier;
+use icu_entries::DataTable;
+use icu_provider::CollationReordering;
 use std::alloc::{AllocError, Global};
 
 /// The weights of a level, in ascending order, each once.

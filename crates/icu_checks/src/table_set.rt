@@ -3,8 +3,9 @@ ghost use Rattle.icu_provider.specs.Reorderings.{lead_byte};
 ghost use Rattle.icu_checks.specs.CollatorTables.{is_forward, reorder, new_lead};
 ghost use Rattle.icu_checks.specs.ElementConditions.{is_apart};
 
+use icu_data::CollationData;
 use icu_provider::{
-    CollationData, CollationDiacritics, CollationJamo, CollationMetadata, CollationReordering,
+    CollationDiacritics, CollationJamo, CollationMetadata, CollationReordering,
     CollationSpecialPrimaries,
 };
 

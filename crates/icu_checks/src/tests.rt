@@ -1,10 +1,10 @@
 //! Each kept table is lent as it was.
 use crate::kept_data::KeptData;
 use crate::kept_tables::{KeptDiacritics, KeptJamo, KeptReordering, KeptSpecialPrimaries};
+use icu_data::{CodePointTable, CollationData, Context, ContextRow, ContextTable};
 use icu_options::MaxVariable;
 use icu_provider::{
-    CodePointTable, CollationData, CollationDiacritics, CollationJamo, CollationReordering,
-    CollationSpecialPrimaries, Context, ContextRow, ContextTable,
+    CollationDiacritics, CollationJamo, CollationReordering, CollationSpecialPrimaries,
 };
 use std::process::Abort;
 use std::test::Fail;

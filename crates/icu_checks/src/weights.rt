@@ -4,8 +4,8 @@ ghost use Rattle.icu_checks.specs.Weights.{left_aligned, plain_primary, uncommon
 
 use crate::element_conditions::{IMPLICIT_LEAD, is_lone};
 use crate::table_set::lead_byte;
-use icu_provider::CollationElement;
-use icu_provider::live_weights::Weigh;
+use icu_data::live_weights::Weigh;
+use icu_entries::CollationElement;
 
 /// Which weights are compared with one another.
 #[derive(Debug, Clone, Copy, PartialEq, Eq)]

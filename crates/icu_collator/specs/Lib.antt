@@ -1,7 +1,9 @@
 pub use Rattle.icu_options.specs.Settings
 pub use Rattle.icu_options.specs.Merge
+pub use Rattle.icu_data.specs.Data
 pub use Rattle.icu_provider.specs.Tables
-pub use Rattle.icu_provider.specs.Stored
+pub use Rattle.icu_data.specs.StoredData
+pub use Rattle.icu_provider.specs.StoredTables
 pub use Rattle.icu_checks.specs.CollatorTables
 pub use Rattle.icu_checks.specs.GoodTables
 pub use Rattle.icu_checks.specs.Loads

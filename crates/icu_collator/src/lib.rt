@@ -14,10 +14,11 @@ pub use icu_options::CollatorPreferences;
 /// Where the tables of collators come from, and the check that they pass.
 pub mod provider {
     pub use icu_checks::{CheckedTables, TableSet, load_tables};
+    pub use icu_data::{CodePointTable, CollationData, Context, ContextRow, ContextTable};
+    pub use icu_entries::{DataError, DataErrorKind, DataTable};
     pub use icu_provider::{
-        CodePointTable, CollationData, CollationDiacritics, CollationJamo, CollationMetadata,
-        CollationProvider, CollationReordering, CollationSpecialPrimaries, Context, ContextRow,
-        ContextTable, DataError, DataErrorKind, DataRequest, DataTable,
+        CollationDiacritics, CollationJamo, CollationMetadata, CollationProvider,
+        CollationReordering, CollationSpecialPrimaries, DataRequest,
     };
 }
 

@@ -6,14 +6,14 @@ use Rattle.std.proofs.lemmas.Bool.{and_parts}
 use Rattle.std.proofs.lemmas.Bool.Decides.{nat_tests}
 use Rattle.std.proofs.lemmas.List.Elements.{All-contains}
 use Rattle.std.proofs.lemmas.List.Sums.{AllPass-from_list_all}
-use Rattle.icu_provider.specs.declared.error.DataTable.{DataTable}
-use Rattle.icu_provider.specs.declared.error.DataTable.TheVariants.{Root, Jamo, SpecialPrimaries, Metadata, Tailoring, Reordering, Diacritics}
-use Rattle.icu_provider.specs.declared.live_condition.LiveCondition.TheVariants.{Shapes, Leads, Primaries}
-use Rattle.icu_provider.specs.Elements.{Element, accent_element}
-use Rattle.icu_provider.specs.ElementConditions.{has_shape, has_leads, has_primary_lead}
-use Rattle.icu_provider.specs.Accents.{is_replaced_place, is_accent}
-use Rattle.icu_provider.specs.Tables.{homed}
-use Rattle.icu_provider.specs.Final.{final_elements}
+use Rattle.icu_entries.specs.declared.error.DataTable.{DataTable}
+use Rattle.icu_entries.specs.declared.error.DataTable.TheVariants.{Root, Jamo, SpecialPrimaries, Metadata, Tailoring, Reordering, Diacritics}
+use Rattle.icu_data.specs.declared.live_condition.LiveCondition.TheVariants.{Shapes, Leads, Primaries}
+use Rattle.icu_entries.specs.Elements.{Element, accent_element}
+use Rattle.icu_entries.specs.ElementConditions.{has_shape, has_leads, has_primary_lead}
+use Rattle.icu_provider.specs.Diacritics.{is_replaced_place, is_accent}
+use Rattle.icu_data.specs.Data.{homed}
+use Rattle.icu_data.specs.Final.{final_elements}
 use Rattle.icu_checks.specs.declared.condition.Condition.TheVariants as conditions
 use Rattle.icu_checks.specs.CollatorTables.{CollatorTables}
 use Rattle.icu_checks.specs.LiveElements.{IsOfEntryBy, IsOfAccent, IsElementBy}

@@ -7,8 +7,8 @@ use Rattle.icu_levels.specs.ListOrder.{IsBeginning}
 use Rattle.icu_levels.specs.WeightBytes.{weight_bytes}
 use Rattle.icu_levels.specs.Primaries.{lead, second_byte}
 use Rattle.icu_levels.specs.Premises.{ArePrimaries, AreShifted}
-use Rattle.icu_provider.specs.Elements.{Element}
-use Rattle.icu_provider.specs.ElementConditions.{has_primary_lead, separator_primary}
+use Rattle.icu_entries.specs.Elements.{Element}
+use Rattle.icu_entries.specs.ElementConditions.{has_primary_lead, separator_primary}
 use Rattle.icu_provider.specs.Reorderings.{Reordering, lead_byte}
 use Rattle.icu_provider.specs.SpecialPrimaries.{is_compressible}
 use Rattle.icu_checks.specs.declared.condition.Condition.TheVariants as conditions

@@ -11,9 +11,9 @@ use Rattle.icu_levels.specs.Tertiaries.{TertiaryForm, plain, lower_first, upper_
 use Rattle.icu_levels.specs.Premises.{AreTertiaries, IsPrefixFree, least_tertiary_lead, greatest_tertiary_lead}
 use Rattle.icu_levels.proofs.MovedWeights.{begins_lead}
 use Rattle.icu_levels.proofs.CasedTertiaries.{lower_cased, upper_cased}
-use Rattle.icu_provider.specs.declared.error.DataTable.{DataTable}
-use Rattle.icu_provider.specs.Elements.{Element, common, case_mask, tertiary_mask}
-use Rattle.icu_provider.specs.ElementConditions.{has_shape, has_whole_weights, has_weights_below, has_lower_half, has_secondary_lead, has_tertiary_lead, tertiary_of}
+use Rattle.icu_entries.specs.declared.error.DataTable.{DataTable}
+use Rattle.icu_entries.specs.Elements.{Element, common, case_mask, tertiary_mask}
+use Rattle.icu_entries.specs.ElementConditions.{has_shape, has_whole_weights, has_weights_below, has_lower_half, has_secondary_lead, has_tertiary_lead, tertiary_of}
 use Rattle.icu_checks.specs.declared.condition.Condition.TheVariants as conditions
 use Rattle.icu_checks.specs.declared.condition.ElementCondition.TheVariants.{Width, LoneTertiary}
 use Rattle.icu_checks.specs.declared.condition.PairCondition.TheVariants.{Tertiaries}

@@ -1,8 +1,8 @@
 -- Tertiaries of a few elements in each form, and a live secondary.
 use Rattle.std.proofs.Common.{◌≡◌, ℕ, [], ◌∷◌, None, refl, inr, arith, lit<}
 use Rattle.icu_levels.specs.Tertiaries.{plain, lower_first, upper_first}
-use Rattle.icu_provider.specs.declared.error.DataTable.TheVariants.{Diacritics}
-use Rattle.icu_provider.specs.Elements.{Element, accent_element}
+use Rattle.icu_entries.specs.declared.error.DataTable.TheVariants.{Diacritics}
+use Rattle.icu_entries.specs.Elements.{Element, accent_element}
 use Rattle.icu_checks.specs.CollatorTables.{CollatorTables}
 use Rattle.icu_comparison.specs.LiveWeights.{tertiary_in, least_secondary_lead, IsLiveSecondary}
 

@@ -5,7 +5,7 @@ use Rattle.icu_options.specs.declared.options.CollatorPreferences.{CollatorPrefe
 use Rattle.icu_options.specs.declared.settings.Strength.{Strength}
 use Rattle.icu_options.specs.declared.settings.AlternateHandling.TheVariants.{NonIgnorable}
 use Rattle.icu_options.specs.declared.settings.CollationCaseFirst.TheVariants as case_first
-use Rattle.icu_provider.specs.declared.error.DataError.{DataError}
+use Rattle.icu_entries.specs.declared.error.DataError.{DataError}
 use Rattle.icu_provider.specs.Loads.{Loads}
 use Rattle.icu_provider.specs.Metadata.{is_lithuanian}
 use Rattle.icu_provider.specs.Requests.{Request}

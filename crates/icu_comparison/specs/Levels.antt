@@ -1,6 +1,6 @@
 -- The lists of weights that two texts are compared by, level by level (UTS #10, section 7.3).
 use Rattle.std.specs.Prelude.{ℕ, Bool, not, ◌==◌, List, filter, map, bit_and}
-use Rattle.icu_provider.specs.Elements.{Element, tertiary_mask}
+use Rattle.icu_entries.specs.Elements.{Element, tertiary_mask}
 
 abbrev pub is_nonzero : ℕ → Bool
 is_nonzero w = not (w == 0)

@@ -1,5 +1,7 @@
 pub use Rattle.icu_levels.specs.ListOrder
-pub use Rattle.icu_provider.specs.Stored
+pub use Rattle.icu_data.specs.StoredData
+pub use Rattle.icu_provider.specs.StoredTables
+pub use Rattle.icu_data.specs.Data
 pub use Rattle.icu_provider.specs.Tables
 pub use Rattle.icu_elements.specs.TextElements
 pub use Rattle.icu_elements.specs.Reading

@@ -4,8 +4,8 @@ use Rattle.std.specs.Prelude.{ℕ, ◌+◌, ◌≡◌, ◌≢◌, ◌⊎◌, ◌
 use Rattle.icu_levels.specs.Primaries.{Compression}
 use Rattle.icu_levels.specs.Tertiaries.{TertiaryForm, plain, lower_first, upper_first, tertiary_row}
 use Rattle.icu_levels.specs.Premises.{ArePrimaries, AreSecondaries, AreTertiaries, AreShifted, forward_least, backward_least}
-use Rattle.icu_provider.specs.declared.error.DataTable.{DataTable}
-use Rattle.icu_provider.specs.Elements.{Element, common, case_mask, tertiary_mask}
+use Rattle.icu_entries.specs.declared.error.DataTable.{DataTable}
+use Rattle.icu_entries.specs.Elements.{Element, common, case_mask, tertiary_mask}
 use Rattle.icu_provider.specs.SpecialPrimaries.{is_compressible}
 use Rattle.icu_checks.specs.CollatorTables.{CollatorTables, is_forward, reorder}
 use Rattle.icu_checks.specs.LiveElements.{IsElementBy}

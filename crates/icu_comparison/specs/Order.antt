@@ -7,7 +7,7 @@ use Rattle.unicode_normalization.specs.Forms.{nfd}
 use Rattle.icu_options.specs.declared.settings.Strength.{Strength}
 use Rattle.icu_options.specs.declared.settings.Strength.TheVariants.{Primary, Secondary, Quaternary, Identical}
 use Rattle.icu_levels.specs.ListOrder.{list_order}
-use Rattle.icu_provider.specs.Elements.{Element}
+use Rattle.icu_entries.specs.Elements.{Element}
 use Rattle.icu_elements.specs.TextElements.{Reading, elements_of}
 use Rattle.icu_comparison.specs.Levels.{primaries, secondaries, tertiaries}
 

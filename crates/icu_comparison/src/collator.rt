@@ -2,7 +2,7 @@ ghost use Rattle.std.specs.Prelude.{◌≡◌, Err, Ok, Some, None, IfErr, IfOk,
 ghost use Rattle.icu_options.specs.Conversions.{resolved_of};
 ghost use Rattle.icu_options.specs.Merge.{merge};
 ghost use Rattle.icu_options.specs.Metadata.{metadata_settings};
-ghost use Rattle.icu_provider.specs.declared.error.DataErrorKind.TheVariants.{NoMemory};
+ghost use Rattle.icu_entries.specs.declared.error.DataErrorKind.TheVariants.{NoMemory};
 ghost use Rattle.icu_checks.specs.GoodTables.{IsGoodTables, IsTrueRefusal};
 ghost use Rattle.icu_elements.specs.Plain.{IsPlain};
 ghost use Rattle.icu_elements.specs.Reading.{tables_of};
@@ -13,11 +13,12 @@ ghost use Rattle.unicode_normalization.specs.Forms.{nfd};
 use crate::order::compare_elements;
 use icu_checks::{CheckedTables, load_tables};
 use icu_elements::{ElementTables, all_elements};
+use icu_entries::{CollationElement, DataError};
 use icu_options::{
     CollatorOptions, CollatorOptionsBitField, CollatorPreferences, ResolvedCollatorOptions,
     merged_options,
 };
-use icu_provider::{CollationElement, CollationProvider, DataError};
+use icu_provider::CollationProvider;
 use std::alloc::{AllocError, Global};
 use std::cmp::Ordering;
 

@@ -2,7 +2,7 @@ ghost use Rattle.std.specs.Prelude.{◌≡◌, IfOk};
 ghost use Rattle.icu_comparison.specs.Levels.{primaries, secondaries, tertiaries};
 ghost use Rattle.icu_levels.specs.ListOrder.{list_order};
 
-use icu_provider::CollationElement;
+use icu_entries::CollationElement;
 use std::alloc::{AllocError, Global};
 use std::cmp::Ordering;
 

@@ -2,8 +2,8 @@ ghost use Rattle.std.specs.Prelude.{◌≡◌, IfOk};
 ghost use Rattle.icu_comparison.specs.Order.{order_of_elements, has_secondaries, has_tertiaries};
 
 use crate::levels::{compare_primaries, compare_secondaries, compare_tertiaries};
+use icu_entries::CollationElement;
 use icu_options::Strength;
-use icu_provider::CollationElement;
 use std::alloc::{AllocError, Global};
 use std::cmp::Ordering;
 

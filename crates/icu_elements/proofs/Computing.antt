@@ -1,8 +1,9 @@
 use Rattle.unicode_normalization.proofs.Computing.{unicode_normalization}
-use Rattle.icu_provider.specs.Entries.{kind_of, self_contained}
-use Rattle.icu_provider.specs.Weights.{implicit_weight, place_of, weight_at, offset_place, offset_weight}
-use Rattle.icu_provider.specs.Tables.{entry_of, diacritic_of, row_entry, longest_from}
-use Rattle.icu_provider.specs.Final.{final_elements}
+use Rattle.icu_entries.specs.Entries.{kind_of, self_contained}
+use Rattle.icu_entries.specs.Weights.{implicit_weight, place_of, weight_at, offset_place, offset_weight}
+use Rattle.icu_provider.specs.Tables.{entry_of, diacritic_of}
+use Rattle.icu_data.specs.Data.{row_entry, longest_from}
+use Rattle.icu_data.specs.Final.{final_elements}
 use Rattle.icu_levels.specs.Numbers.{pair_count}
 use Rattle.icu_elements.specs.Matches.{after_prefix, is_blocked, with_marks, contracted, match_from}
 use Rattle.icu_elements.specs.TextElements.{number_step, entry_step, matched_step, elements_along, elements_after}

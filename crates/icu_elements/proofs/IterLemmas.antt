@@ -2,7 +2,7 @@
 use Rattle.std.proofs.Common.{◌≡◌, ℕ, List, drop, Option, sym, subst}
 use Rattle.std.specs.Iterator.{Count}
 use Rattle.unicode_normalization.specs.Decompositions.{CanDecompose}
-use Rattle.icu_provider.specs.Elements.{Element}
+use Rattle.icu_entries.specs.Elements.{Element}
 use Rattle.icu_elements.specs.declared.iter.Progress.TheVariants.{Unread, Read, Refused}
 use Rattle.icu_elements.specs.declared.iter.CollationElements.{CollationElements}
 use Rattle.icu_elements.specs.CollationElements.{HasUnread, GivesAt, StillGives, IsReadyAt, CanGive}

@@ -3,12 +3,12 @@ use Rattle.std.proofs.Common.{ℕ, Bool, true, false, List, [], ◌∷◌, ◌++
 use Rattle.std.specs.List.{AllByRecursion}
 use Rattle.std.specs.Prelude.{bytes_eq}
 use Rattle.unicode_normalization.specs.Order.{is_starter}
-use Rattle.icu_provider.specs.declared.entry.EntryKind.{EntryKind}
-use Rattle.icu_provider.specs.declared.entry.EntryKind.TheVariants.{Prefix, Contraction}
-use Rattle.icu_provider.specs.Entries.{kind_of}
-use Rattle.icu_provider.specs.Tables.{Row, Context, Data, HomedEntry, homed, context_of, row_entry, better, longest_from, longest_row}
-use Rattle.icu_provider.specs.Live.{context_entries, named_entries, live_digit, live_contraction, live_from}
-use Rattle.icu_provider.proofs.ListLemmas.{all_append, all_first, all_second}
+use Rattle.icu_entries.specs.declared.entry.EntryKind.{EntryKind}
+use Rattle.icu_entries.specs.declared.entry.EntryKind.TheVariants.{Prefix, Contraction}
+use Rattle.icu_entries.specs.Entries.{kind_of}
+use Rattle.icu_data.specs.Data.{Row, Context, Data, HomedEntry, homed, context_of, row_entry, better, longest_from, longest_row}
+use Rattle.icu_data.specs.Live.{context_entries, named_entries, live_digit, live_contraction, live_from}
+use Rattle.icu_data.proofs.ListLemmas.{all_append, all_first, all_second}
 use Rattle.icu_elements.specs.Matches.{Match, after_prefix, is_blocked, with_marks, contracted, match_from, match_of}
 
 -- ---- lists

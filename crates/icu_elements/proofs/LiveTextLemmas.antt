@@ -6,13 +6,14 @@ use Rattle.std.specs.Char.{IsScalar}
 use Rattle.std.specs.List.{AllByRecursion, Contains}
 use Rattle.unicode_normalization.specs.Forms.{nfd}
 use Rattle.icu_levels.specs.Numbers.{run_weights}
-use Rattle.icu_provider.specs.declared.error.DataTable.TheVariants.{Root, Jamo, Tailoring, Diacritics}
-use Rattle.icu_provider.specs.Accents.{is_replaced_place}
-use Rattle.icu_provider.specs.Elements.{Element, of_primary, accent_element}
+use Rattle.icu_entries.specs.declared.error.DataTable.TheVariants.{Root, Jamo, Tailoring, Diacritics}
+use Rattle.icu_provider.specs.Diacritics.{is_replaced_place}
+use Rattle.icu_entries.specs.Elements.{Element, of_primary, accent_element}
 use Rattle.icu_provider.specs.LiveTables.{IsLive}
-use Rattle.icu_provider.specs.Tables.{Data, Tables, homed, diacritic_of}
-use Rattle.icu_provider.specs.Final.{final_elements}
-use Rattle.icu_provider.proofs.ListLemmas.{all_members, of_member, weaker}
+use Rattle.icu_data.specs.Data.{Data, homed}
+use Rattle.icu_provider.specs.Tables.{Tables, diacritic_of}
+use Rattle.icu_data.specs.Final.{final_elements}
+use Rattle.icu_data.proofs.ListLemmas.{all_members, of_member, weaker}
 use Rattle.icu_checks.specs.CollatorTables.{CollatorTables}
 use Rattle.icu_checks.specs.GoodTables.{IsGoodTables}
 use Rattle.icu_elements.specs.TextElements.{Reading, elements_of}

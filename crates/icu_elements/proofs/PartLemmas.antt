@@ -6,15 +6,16 @@ use Rattle.std.specs.Prelude.{nat_le}
 use Rattle.std.proofs.lemmas.List.Sums.{take_while-cons}
 use Rattle.std.proofs.lemmas.Bool.{and_parts, and_from}
 use Rattle.std.proofs.lemmas.Bool.Decides.{nat_tests}
-use Rattle.icu_provider.specs.declared.entry.EntryKind.{EntryKind}
-use Rattle.icu_provider.specs.declared.entry.EntryKind.TheVariants.{Prefix, Contraction, Digit}
-use Rattle.icu_provider.specs.Elements.{Element, accent_element}
-use Rattle.icu_provider.specs.Entries.{kind_of, digit_value}
-use Rattle.icu_provider.specs.EntryConditions.{has_digit}
-use Rattle.icu_provider.specs.Tables.{Data, Tables, HomedEntry, homed, plain_of, is_jamo, tailored_entry, entry_of, diacritic_of}
-use Rattle.icu_provider.specs.Final.{final_elements}
-use Rattle.icu_provider.specs.Live.{live_digit, live_contraction, live_from, EachLive}
-use Rattle.icu_provider.proofs.ListLemmas.{weaker}
+use Rattle.icu_entries.specs.declared.entry.EntryKind.{EntryKind}
+use Rattle.icu_entries.specs.declared.entry.EntryKind.TheVariants.{Prefix, Contraction, Digit}
+use Rattle.icu_entries.specs.Elements.{Element, accent_element}
+use Rattle.icu_entries.specs.Entries.{kind_of, digit_value}
+use Rattle.icu_entries.specs.EntryConditions.{has_digit}
+use Rattle.icu_data.specs.Data.{Data, HomedEntry, homed, plain_of}
+use Rattle.icu_provider.specs.Tables.{Tables, is_jamo, tailored_entry, entry_of, diacritic_of}
+use Rattle.icu_data.specs.Final.{final_elements}
+use Rattle.icu_data.specs.Live.{live_digit, live_contraction, live_from, EachLive}
+use Rattle.icu_data.proofs.ListLemmas.{weaker}
 use Rattle.icu_elements.specs.Matches.{Match, match_of}
 use Rattle.icu_elements.specs.TextElements.{Reading, Step, is_silent_dot, goes_on, begins_with_mark, digit_of, number_elements, number_step, entry_step, diacritic_step, matched_step, step, taken, last_two, elements_along, elements_after, elements_of}
 use Rattle.icu_provider.specs.LiveTables.{jamo_entry, AllLive, HasDigits}

@@ -3,12 +3,13 @@ use Rattle.std.proofs.Common.{◌≡◌, ℕ, ◌≤◌, true, List, [], ◌∷�
 use Rattle.std.specs.Char.{IsScalar}
 use Rattle.std.specs.List.{AllByRecursion, push}
 use Rattle.std.proofs.lemmas.List.Elements.{recursion_from_All}
-use Rattle.icu_provider.specs.Elements.{Element, accent_element}
-use Rattle.icu_provider.specs.declared.entry.EntryKind.{EntryKind}
-use Rattle.icu_provider.specs.declared.entry.EntryKind.TheVariants.{Prefix, Contraction, Digit}
-use Rattle.icu_provider.specs.Entries.{kind_of}
-use Rattle.icu_provider.specs.Tables.{Data, Tables, HomedEntry, homed, entry_of, diacritic_of}
-use Rattle.icu_provider.specs.Final.{final_elements}
+use Rattle.icu_entries.specs.Elements.{Element, accent_element}
+use Rattle.icu_entries.specs.declared.entry.EntryKind.{EntryKind}
+use Rattle.icu_entries.specs.declared.entry.EntryKind.TheVariants.{Prefix, Contraction, Digit}
+use Rattle.icu_entries.specs.Entries.{kind_of}
+use Rattle.icu_data.specs.Data.{Data, HomedEntry, homed}
+use Rattle.icu_provider.specs.Tables.{Tables, entry_of, diacritic_of}
+use Rattle.icu_data.specs.Final.{final_elements}
 use Rattle.icu_elements.specs.Matches.{Match, after_prefix, match_from, match_of}
 use Rattle.icu_elements.specs.TextElements.{Reading, Step, entry_step, matched_step, step, elements_along, elements_after, elements_of}
 use Rattle.icu_provider.specs.LiveTables.{AllLive, IsLive}

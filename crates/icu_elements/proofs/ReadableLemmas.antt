@@ -4,22 +4,25 @@ use Rattle.std.proofs.lemmas.Bool.{and_parts, and_from}
 use Rattle.std.proofs.lemmas.Bool.Decides.{nat_tests}
 use Rattle.std.specs.Char.{IsScalar}
 use Rattle.std.specs.List.{AllByRecursion, Contains}
-use Rattle.icu_provider.specs.declared.data.CollationData.{CollationData}
+use Rattle.icu_data.specs.declared.data.CollationData.{CollationData}
 use Rattle.icu_provider.specs.declared.diacritics.CollationDiacritics.{CollationDiacritics}
-use Rattle.icu_provider.specs.declared.error.DataTable.TheVariants.{Root, Jamo, Tailoring}
+use Rattle.icu_entries.specs.declared.error.DataTable.TheVariants.{Root, Jamo, Tailoring}
 use Rattle.icu_provider.specs.declared.jamo.CollationJamo.{CollationJamo}
-use Rattle.icu_provider.specs.declared.live_condition.LiveCondition.{LiveCondition}
-use Rattle.icu_provider.specs.declared.live_condition.LiveCondition.TheVariants.{Places, Digits, Bytes, Offsets}
-use Rattle.icu_provider.specs.declared.entry.EntryKind.{EntryKind}
-use Rattle.icu_provider.specs.declared.entry.EntryKind.TheVariants.{Expansion32, Expansion, Prefix, Contraction, Digit, Offset}
-use Rattle.icu_provider.specs.Entries.{kind_of, entry_index}
-use Rattle.icu_provider.specs.EntryConditions.{is_inside, has_digit, is_readable}
-use Rattle.icu_provider.specs.Live.{live_digit, live_contraction, live_from}
-use Rattle.icu_provider.specs.LiveConditions.{meets}
+use Rattle.icu_data.specs.declared.live_condition.LiveCondition.{LiveCondition}
+use Rattle.icu_data.specs.declared.live_condition.LiveCondition.TheVariants.{Places, Digits, Bytes, Offsets}
+use Rattle.icu_entries.specs.declared.entry.EntryKind.{EntryKind}
+use Rattle.icu_entries.specs.declared.entry.EntryKind.TheVariants.{Expansion32, Expansion, Prefix, Contraction, Digit, Offset}
+use Rattle.icu_entries.specs.Entries.{kind_of, entry_index}
+use Rattle.icu_data.specs.DataConditions.{is_inside, is_readable}
+use Rattle.icu_entries.specs.EntryConditions.{has_digit}
+use Rattle.icu_data.specs.Live.{live_digit, live_contraction, live_from}
+use Rattle.icu_data.specs.LiveConditions.{meets}
 use Rattle.icu_provider.specs.LiveTables.{HasDigits, IsLive}
-use Rattle.icu_provider.specs.Stored.{data_of, jamo_of, accents_of}
-use Rattle.icu_provider.specs.Tables.{Data, Tables, HomedEntry, homed, plain_of, entry_of}
-use Rattle.icu_provider.proofs.ListLemmas.{all_members, of_member}
+use Rattle.icu_data.specs.StoredData.{data_of}
+use Rattle.icu_provider.specs.StoredTables.{jamo_of, accents_of}
+use Rattle.icu_data.specs.Data.{Data, HomedEntry, homed, plain_of}
+use Rattle.icu_provider.specs.Tables.{Tables, entry_of}
+use Rattle.icu_data.proofs.ListLemmas.{all_members, of_member}
 use Rattle.icu_checks.specs.declared.condition.Condition.TheVariants as conditions
 use Rattle.icu_checks.specs.CollatorTables.{CollatorTables}
 use Rattle.icu_checks.specs.GoodTables.{IsGoodTables}

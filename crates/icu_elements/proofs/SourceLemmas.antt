@@ -3,11 +3,12 @@ use Rattle.std.proofs.Common.{◌≡◌, ℕ, true, false, List, [], ◌∷◌, 
 use Rattle.std.specs.Char.{IsScalar}
 use Rattle.std.specs.List.{AllByRecursion, Contains}
 use Rattle.unicode_normalization.specs.Forms.{nfd}
-use Rattle.icu_provider.specs.Elements.{accent_element}
-use Rattle.icu_provider.specs.Tables.{Data, Tables, homed, diacritic_of}
-use Rattle.icu_provider.specs.Final.{final_elements}
-use Rattle.icu_provider.specs.Live.{live_from, live_at, EachLive}
-use Rattle.icu_provider.proofs.ListLemmas.{all_append, of_member}
+use Rattle.icu_entries.specs.Elements.{accent_element}
+use Rattle.icu_data.specs.Data.{Data, homed}
+use Rattle.icu_provider.specs.Tables.{Tables, diacritic_of}
+use Rattle.icu_data.specs.Final.{final_elements}
+use Rattle.icu_data.specs.Live.{live_from, live_at, EachLive}
+use Rattle.icu_data.proofs.ListLemmas.{all_append, of_member}
 use Rattle.icu_elements.specs.TextElements.{Reading, number_elements, elements_of}
 use Rattle.icu_provider.specs.LiveTables.{jamo_entry, AllLive, HasDigits, IsLive}
 use Rattle.icu_elements.specs.TextParts.{IsDecomposed, GoodNumbers, IsTextElement}

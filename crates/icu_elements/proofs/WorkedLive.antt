@@ -1,8 +1,8 @@
 -- Live entries of small tables, computed.
 use Rattle.std.proofs.Common.{◌≡◌, [], ◌∷◌, refl}
-use Rattle.icu_provider.specs.Entries.{kind_of}
-use Rattle.icu_provider.specs.Tables.{Data}
-use Rattle.icu_provider.specs.Live.{live_digit, live_contraction, live_from}
+use Rattle.icu_entries.specs.Entries.{kind_of}
+use Rattle.icu_data.specs.Data.{Data}
+use Rattle.icu_data.specs.Live.{live_digit, live_contraction, live_from}
 
 -- The first context is a contraction's, with a row that comes to a digit. The second is a prefix's: its default is that contraction,
 -- and its row comes to a prefix.

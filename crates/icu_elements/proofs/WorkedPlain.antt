@@ -1,10 +1,11 @@
 -- Worked texts, character by character.
 use Rattle.std.proofs.Common.{◌≡◌, ℕ, refl, Bool, true, false, List, [], ◌∷◌, map, Some, if◌then◌else◌, ◌==◌, IsTrue, inr, arith}
 use Rattle.std.specs.List.{AllByRecursion}
-use Rattle.icu_provider.specs.Elements.{Element, element_of, of_primary, accent_element}
-use Rattle.icu_provider.specs.Entries.{kind_of}
-use Rattle.icu_provider.specs.Live.{live_digit, live_contraction, live_from}
-use Rattle.icu_provider.specs.Tables.{Data, Tables}
+use Rattle.icu_entries.specs.Elements.{Element, element_of, of_primary, accent_element}
+use Rattle.icu_entries.specs.Entries.{kind_of}
+use Rattle.icu_data.specs.Live.{live_digit, live_contraction, live_from}
+use Rattle.icu_data.specs.Data.{Data}
+use Rattle.icu_provider.specs.Tables.{Tables}
 use Rattle.icu_elements.specs.Plain.{plain_reading, plain_entry, elements_of_char, elements_by_char, names_no_context, IsPlain}
 use Rattle.icu_elements.proofs.PlainLemmas.{IsPlain-from_each}
 use Rattle.icu_elements.proofs.Computing.{icu_elements}

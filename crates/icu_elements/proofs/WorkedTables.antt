@@ -1,8 +1,9 @@
 -- The test table Mini and its variants, as functions: small tables that worked texts are computed by.
 use Rattle.std.proofs.Common.{ℕ, ◌+◌, ◌-◌, ◌*◌, ◌/◌, ◌%◌, List, [], ◌∷◌, ◌++◌, Some, None, Bool, true, false, map, if◌then◌else◌, nat_le, ◌==◌, ◌&&◌}
 use Rattle.std.specs.List.{range_with_len}
-use Rattle.icu_provider.specs.Elements.{Element, element_of}
-use Rattle.icu_provider.specs.Tables.{Context, Data, Tables}
+use Rattle.icu_entries.specs.Elements.{Element, element_of}
+use Rattle.icu_data.specs.Data.{Context, Data}
+use Rattle.icu_provider.specs.Tables.{Tables}
 use Rattle.icu_elements.specs.TextElements.{Reading}
 
 abbrev between : ℕ → ℕ → ℕ → Bool

@@ -4,7 +4,7 @@ use Rattle.std.specs.Char.{IsScalar}
 use Rattle.std.specs.Iterator.{Count}
 use Rattle.unicode_normalization.specs.Decompositions.{DecomposesTo, CanDecompose}
 use Rattle.unicode_normalization.specs.declared.decompose.Decompositions.{Decompositions}
-use Rattle.icu_provider.specs.Elements.{Element, end_element}
+use Rattle.icu_entries.specs.Elements.{Element, end_element}
 use Rattle.icu_elements.specs.declared.iter.Progress.{Progress}
 use Rattle.icu_elements.specs.declared.iter.Progress.TheVariants.{Unread, Read, Refused}
 use Rattle.icu_elements.specs.declared.iter.CollationElements.{CollationElements}

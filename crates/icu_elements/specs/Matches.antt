@@ -4,9 +4,9 @@ use Rattle.std.specs.Prelude.{ℕ, Bool, nat_le, List, [], ◌∷◌, ◌++◌, 
 use Rattle.std.specs.List.{list_any}
 use Rattle.ucd_normal.specs.CanonicalCombiningClass.{canonical_combining_class as class_of}
 use Rattle.unicode_normalization.specs.Order.{is_starter}
-use Rattle.icu_provider.specs.declared.entry.EntryKind.TheVariants.{Prefix, Contraction}
-use Rattle.icu_provider.specs.Entries.{kind_of}
-use Rattle.icu_provider.specs.Tables.{Row, Context, Data, HomedEntry, homed, context_of, row_entry, longest_row}
+use Rattle.icu_entries.specs.declared.entry.EntryKind.TheVariants.{Prefix, Contraction}
+use Rattle.icu_entries.specs.Entries.{kind_of}
+use Rattle.icu_data.specs.Data.{Row, Context, Data, HomedEntry, homed, context_of, row_entry, longest_row}
 
 -- the entry that a match comes to, the characters that it takes after its first, and the text that it leaves
 pub record Match : Type 0 where

@@ -1,11 +1,12 @@
 -- Elements character by character, and where they are a text's elements.
 use Rattle.std.specs.Prelude.{ℕ, ◌≡◌, Bool, true, false, List, [], ◌∷◌, Some, None, flat_map, IsTrue}
-use Rattle.icu_provider.specs.Elements.{Element, accent_element}
-use Rattle.icu_provider.specs.declared.entry.EntryKind.{EntryKind}
-use Rattle.icu_provider.specs.declared.entry.EntryKind.TheVariants.{Prefix, Contraction, Digit}
-use Rattle.icu_provider.specs.Entries.{kind_of}
-use Rattle.icu_provider.specs.Tables.{Data, Tables, HomedEntry, homed, plain_of, entry_of, diacritic_of}
-use Rattle.icu_provider.specs.Final.{final_elements}
+use Rattle.icu_entries.specs.Elements.{Element, accent_element}
+use Rattle.icu_entries.specs.declared.entry.EntryKind.{EntryKind}
+use Rattle.icu_entries.specs.declared.entry.EntryKind.TheVariants.{Prefix, Contraction, Digit}
+use Rattle.icu_entries.specs.Entries.{kind_of}
+use Rattle.icu_data.specs.Data.{Data, HomedEntry, homed, plain_of}
+use Rattle.icu_provider.specs.Tables.{Tables, entry_of, diacritic_of}
+use Rattle.icu_data.specs.Final.{final_elements}
 use Rattle.icu_provider.specs.LiveTables.{IsLive}
 use Rattle.icu_elements.specs.TextElements.{Reading}
 

@@ -1,15 +1,17 @@
 -- What reading texts asks of tables.
 use Rattle.std.specs.Prelude.{ℕ, ◌≡◌, length, Option, option_map, IsTrue}
 use Rattle.std.specs.List.{Contains}
-use Rattle.icu_provider.specs.declared.data.CollationData.{CollationData}
+use Rattle.icu_data.specs.declared.data.CollationData.{CollationData}
 use Rattle.icu_provider.specs.declared.diacritics.CollationDiacritics.{CollationDiacritics}
 use Rattle.icu_provider.specs.declared.jamo.CollationJamo.{CollationJamo}
-use Rattle.icu_provider.specs.declared.live_condition.LiveCondition.{LiveCondition}
-use Rattle.icu_provider.specs.Live.{live_from}
-use Rattle.icu_provider.specs.LiveConditions.{meets}
+use Rattle.icu_data.specs.declared.live_condition.LiveCondition.{LiveCondition}
+use Rattle.icu_data.specs.Live.{live_from}
+use Rattle.icu_data.specs.LiveConditions.{meets}
 use Rattle.icu_provider.specs.LiveTables.{IsLive}
-use Rattle.icu_provider.specs.Stored.{data_of, jamo_of, accents_of}
-use Rattle.icu_provider.specs.Tables.{Data, Tables}
+use Rattle.icu_data.specs.StoredData.{data_of}
+use Rattle.icu_provider.specs.StoredTables.{jamo_of, accents_of}
+use Rattle.icu_data.specs.Data.{Data}
+use Rattle.icu_provider.specs.Tables.{Tables}
 
 -- each conjoining jamo has an entry, and each entry that is live meets each condition on entries
 pub record AreReadable (tables : Tables) : Type 0 where

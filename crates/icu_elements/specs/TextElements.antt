@@ -2,12 +2,13 @@
 use Rattle.std.specs.Prelude.{ℕ, Bool, true, false, not, ◌&&◌, ◌||◌, ◌==◌, List, [], ◌∷◌, ◌++◌, Option, Some, None, if◌then◌else◌, take, drop, length, map, reverse, is_some, take_while}
 use Rattle.unicode_normalization.specs.Order.{is_nonstarter}
 use Rattle.icu_levels.specs.Numbers.{run_weights}
-use Rattle.icu_provider.specs.Elements.{Element, of_primary, accent_element}
-use Rattle.icu_provider.specs.declared.entry.EntryKind.{EntryKind}
-use Rattle.icu_provider.specs.declared.entry.EntryKind.TheVariants.{Digit}
-use Rattle.icu_provider.specs.Entries.{kind_of, digit_value}
-use Rattle.icu_provider.specs.Tables.{Data, Tables, homed, plain_of, entry_of, diacritic_of}
-use Rattle.icu_provider.specs.Final.{final_elements}
+use Rattle.icu_entries.specs.Elements.{Element, of_primary, accent_element}
+use Rattle.icu_entries.specs.declared.entry.EntryKind.{EntryKind}
+use Rattle.icu_entries.specs.declared.entry.EntryKind.TheVariants.{Digit}
+use Rattle.icu_entries.specs.Entries.{kind_of, digit_value}
+use Rattle.icu_data.specs.Data.{Data, homed, plain_of}
+use Rattle.icu_provider.specs.Tables.{Tables, entry_of, diacritic_of}
+use Rattle.icu_data.specs.Final.{final_elements}
 use Rattle.icu_elements.specs.Matches.{Match, match_of}
 
 -- How a text is read: the tables, the lead byte of numbers where digits are read as numbers, and whether U+0307 before an

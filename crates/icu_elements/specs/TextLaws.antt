@@ -3,7 +3,7 @@ use Rattle.std.specs.Prelude.{ℕ, Bool, List, IsTrue}
 use Rattle.std.specs.Char.{IsScalar}
 use Rattle.std.specs.List.{AllByRecursion}
 use Rattle.unicode_normalization.specs.Forms.{nfd}
-use Rattle.icu_provider.specs.Elements.{Element}
+use Rattle.icu_entries.specs.Elements.{Element}
 use Rattle.icu_elements.specs.TextElements.{Reading, elements_of}
 use Rattle.icu_provider.specs.LiveTables.{HasDigits}
 use Rattle.icu_elements.specs.TextParts.{IsDecomposedText, HasGoodParts, EachPasses, PartsPass, IsTextElement}

@@ -2,9 +2,10 @@
 use Rattle.std.specs.Prelude.{ℕ, ◌≡◌, ◌⊎◌, ◌<◌, Bool, not, ◌||◌, ◌==◌, List, [], ◌∷◌, ◌++◌, Option, Some, IfSome, IsTrue}
 use Rattle.std.specs.Char.{IsScalar}
 use Rattle.std.specs.List.{AllByRecursion, Contains, list_all}
-use Rattle.icu_provider.specs.Elements.{Element, accent_element}
-use Rattle.icu_provider.specs.Tables.{Data, Tables, homed, diacritic_of}
-use Rattle.icu_provider.specs.Final.{final_elements}
+use Rattle.icu_entries.specs.Elements.{Element, accent_element}
+use Rattle.icu_data.specs.Data.{Data, homed}
+use Rattle.icu_provider.specs.Tables.{Tables, diacritic_of}
+use Rattle.icu_data.specs.Final.{final_elements}
 use Rattle.icu_elements.specs.TextElements.{Reading, number_elements}
 use Rattle.icu_provider.specs.LiveTables.{AllLive, HasDigits, IsLive}
 

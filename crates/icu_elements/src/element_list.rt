@@ -1,9 +1,9 @@
 ghost use Rattle.std.specs.Prelude.{List};
 ghost use Rattle.std.specs.List.{push};
-ghost use Rattle.icu_provider.specs.Elements.{Element};
+ghost use Rattle.icu_entries.specs.Elements.{Element};
 
-use icu_provider::CollationElement;
-use icu_provider::element_walk::VisitElement;
+use icu_data::element_walk::VisitElement;
+use icu_entries::CollationElement;
 use std::alloc::AllocError;
 
 /// The elements that were read so far.

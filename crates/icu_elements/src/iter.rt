@@ -1,6 +1,6 @@
 ghost use Rattle.std.specs.Prelude.{◌≡◌, ℕ, List, IsErr, IfOk, OnOk, OnErr, drop};
 ghost use Rattle.std.specs.Iterator.{IsFinite};
-ghost use Rattle.icu_provider.specs.Elements.{Element};
+ghost use Rattle.icu_entries.specs.Elements.{Element};
 ghost use Rattle.unicode_normalization.specs.Decompositions.{CanDecompose};
 ghost use Rattle.unicode_normalization.specs.Forms.{nfd};
 ghost use Rattle.unicode_normalization.specs.Iter.{Spells};
@@ -8,7 +8,7 @@ ghost use Rattle.unicode_normalization.specs.Iter.{Spells};
 use crate::plain::elements_of_text;
 use crate::read::whole_text;
 use crate::tables::ElementTables;
-use icu_provider::CollationElement;
+use icu_entries::CollationElement;
 use std::alloc::AllocError;
 use unicode_normalization::Decompositions;
 

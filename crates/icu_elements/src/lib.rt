@@ -9,7 +9,7 @@ mod read;
 pub mod tables;
 pub mod whole;
 
-pub use icu_provider::{CollationElement, CollationElement32, NonPrimary, Tag};
+pub use icu_entries::{CollationElement, CollationElement32, NonPrimary, Tag};
 pub use iter::CollationElements;
 pub use tables::ElementTables;
 pub use whole::all_elements;

@@ -1,16 +1,17 @@
 ghost use Rattle.std.specs.Prelude.{◌≡◌, ◌++◌, All, IsTrue, OnOk, IfOk};
 ghost use Rattle.std.specs.Char.{IsScalar};
-ghost use Rattle.icu_provider.specs.Tables.{homed};
-ghost use Rattle.icu_provider.specs.EntryConditions.{is_readable};
-ghost use Rattle.icu_provider.specs.Stored.{data_of};
+ghost use Rattle.icu_data.specs.Data.{homed};
+ghost use Rattle.icu_data.specs.DataConditions.{is_readable};
+ghost use Rattle.icu_data.specs.StoredData.{data_of};
 ghost use Rattle.icu_elements.specs.Plain.{plain_entry, elements_of_char, elements_by_char};
 ghost use Rattle.icu_elements.specs.Readable.{IsGoodFrom};
 ghost use Rattle.icu_elements.specs.Reading.{tables_of};
 
 use crate::element_list::ElementList;
 use crate::tables::ElementTables;
-use icu_provider::element_walk::visit_elements;
-use icu_provider::{CollationData, CollationElement, CollationElement32, EntryKind};
+use icu_data::CollationData;
+use icu_data::element_walk::visit_elements;
+use icu_entries::{CollationElement, CollationElement32, EntryKind};
 use std::alloc::{AllocError, Global};
 
 /// A digit's plain entry, and any other as it is.

@@ -1,11 +1,14 @@
 ghost use Rattle.std.specs.Prelude.{◌≡◌};
-ghost use Rattle.icu_provider.specs.Tables.{entry_of, diacritic_of, homed};
-ghost use Rattle.icu_provider.specs.Stored.{data_of};
+ghost use Rattle.icu_provider.specs.Tables.{entry_of, diacritic_of};
+ghost use Rattle.icu_data.specs.Data.{homed};
+ghost use Rattle.icu_data.specs.StoredData.{data_of};
 ghost use Rattle.icu_checks.specs.Checked.{checked_tables};
 ghost use Rattle.icu_elements.specs.Readable.{AreReadable, IsGoodFrom, lent_tables};
 
 use icu_checks::CheckedTables;
-use icu_provider::{CollationData, CollationDiacritics, CollationElement32, CollationJamo};
+use icu_data::CollationData;
+use icu_entries::CollationElement32;
+use icu_provider::{CollationDiacritics, CollationJamo};
 use std::alloc::Global;
 
 /// The tables that elements are read from: root, tailoring, jamo and diacritics, checked together.

@@ -9,7 +9,7 @@ ghost use Rattle.icu_elements.specs.Reading.{tables_of, reading_of};
 use crate::plain::elements_of_text;
 use crate::read::whole_text;
 use crate::tables::ElementTables;
-use icu_provider::CollationElement;
+use icu_entries::CollationElement;
 use std::alloc::AllocError;
 use unicode_normalization::Decompositions;
 

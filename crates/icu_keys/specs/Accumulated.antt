@@ -1,6 +1,6 @@
 -- Quaternary bits of collation elements
 use Rattle.std.specs.Prelude.{Bool, not, bit_and, ◌==◌}
-use Rattle.icu_provider.specs.Elements.{NonPrimaryWeights, quaternary_mask}
+use Rattle.icu_entries.specs.Elements.{NonPrimaryWeights, quaternary_mask}
 
 -- bit 7 or 6 is set
 abbrev pub has_quaternary_bits : NonPrimaryWeights → Bool

@@ -3,7 +3,7 @@
 ghost use Rattle.std.specs.Prelude.{◌≡◌, false, ◌||◌};
 ghost use Rattle.icu_keys.specs.Accumulated.{has_quaternary_bits};
 
-use icu_provider::NonPrimary;
+use icu_entries::NonPrimary;
 use std::marker::Model;
 
 /// Accumulates the lower halves of collation elements, and says whether any had quaternary bits (bits 7 and 6). Seen as

@@ -4,10 +4,10 @@ use Rattle.std.specs.Prelude.{All}
 use Rattle.std.proofs.Math.Seq.{take-length, drop-append_seam}
 use Rattle.std.proofs.lemmas.List.{take-append-le, drop-append-le, map-append, length-map, take_more}
 use Rattle.std.proofs.lemmas.List.Elements.{All-nil, All-head, All-tail, All-push, All-take, All-drop, All-weaker}
-use Rattle.icu_provider.specs.declared.context.Context.{Context as StoredContext}
-use Rattle.icu_provider.specs.declared.context.ContextRow.{ContextRow}
-use Rattle.icu_provider.specs.Contexts.{HasCharsInside, HasRowsInside, HasRangesInside, row_of, rows_of, stored_context, stored_contexts}
-use Rattle.icu_provider.specs.Tables.{Row}
+use Rattle.icu_data.specs.declared.context.Context.{Context as StoredContext}
+use Rattle.icu_data.specs.declared.context.ContextRow.{ContextRow}
+use Rattle.icu_data.specs.Contexts.{HasCharsInside, HasRowsInside, HasRangesInside, row_of, rows_of, stored_context, stored_contexts}
+use Rattle.icu_data.specs.Data.{Row}
 use Rattle.icu_mini.specs.AddedContext.{AddsRows}
 
 -- two functions that agree on each element of a list

@@ -4,7 +4,7 @@ use Rattle.std.proofs.Math.ListN.{set, get_or-append}
 use Rattle.std.proofs.lemmas.Bool.{cases_eq}
 use Rattle.std.proofs.lemmas.List.{length-set, length-take-le, get_or-take, get_or-drop, get_or-append-add}
 use Rattle.std.proofs.lemmas.List.Elements.{All-get_or, All-from_get_or}
-use Rattle.icu_provider.specs.CodePointTables.{IsCodePointTable}
+use Rattle.icu_data.specs.CodePointTables.{IsCodePointTable}
 use Rattle.icu_mini.specs.OwnBlock.{IsOwnBlock, KeepsValues}
 
 -- the block of a place lies inside the values

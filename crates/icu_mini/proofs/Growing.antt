@@ -4,7 +4,7 @@ use Rattle.std.proofs.Math.ListN.{get_or-append}
 use Rattle.std.proofs.lemmas.List.Elements.{All-from_get_or}
 use Rattle.std.proofs.Math.Seq.{get_or-append_seam}
 use Rattle.icu_mini.specs.EntryRange.{Row, entry_among}
-use Rattle.icu_provider.specs.CodePointTables.{IsCodePointTable}
+use Rattle.icu_data.specs.CodePointTables.{IsCodePointTable}
 use Rattle.icu_mini.specs.CharacterTable.{BeginsBlank, HoldsBlock, entries_from}
 use Rattle.icu_mini.proofs.Blocks.{length-entries_from, get_or-entries_from}
 

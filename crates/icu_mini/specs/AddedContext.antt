@@ -1,9 +1,9 @@
 -- How a context is added to those of a table.
 use Rattle.std.specs.Prelude.{◌≡◌, ℕ, List, ◌++◌, length, map, All}
 use Rattle.std.specs.Borrow.{Bor}
-use Rattle.icu_provider.specs.declared.context.ContextRow.{ContextRow}
-use Rattle.icu_provider.specs.Contexts.{HasCharsInside, rows_of}
-use Rattle.icu_provider.specs.Tables.{Row, Context}
+use Rattle.icu_data.specs.declared.context.ContextRow.{ContextRow}
+use Rattle.icu_data.specs.Contexts.{HasCharsInside, rows_of}
+use Rattle.icu_data.specs.Data.{Row, Context}
 
 -- a row as it is given: its characters and its entry
 abbrev pub given_row : Bor (List ℕ) × ℕ → Row

@@ -1,6 +1,6 @@
 -- A block of a code point table that one place alone has.
 use Rattle.std.specs.Prelude.{◌≡◌, ◌≢◌, ℕ, ◌<◌, List, length, slice_index}
-use Rattle.icu_provider.specs.CodePointTables.{IsCodePointTable, stored_value}
+use Rattle.icu_data.specs.CodePointTables.{IsCodePointTable, stored_value}
 
 -- the table is whole, the place has this block, and no other place has it
 pub record IsOwnBlock (blocks values : List ℕ) (place block : ℕ) : Type 0 where

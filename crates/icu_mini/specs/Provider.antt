@@ -1,14 +1,16 @@
 -- What the tables of Mini, or of a variant, lend as a provider: to each request the same.
 use Rattle.std.specs.Prelude.{◌≡◌, ◌↔◌, Option, Some, None, IsOk, IfOk, IfErr, Result}
-use Rattle.icu_provider.specs.declared.error.DataError.{DataError}
-use Rattle.icu_provider.specs.declared.error.DataErrorKind.{DataErrorKind}
-use Rattle.icu_provider.specs.declared.error.DataErrorKind.TheVariants as kinds
-use Rattle.icu_provider.specs.declared.error.DataTable.{DataTable}
-use Rattle.icu_provider.specs.declared.error.DataTable.TheVariants as tables
-use Rattle.icu_provider.specs.Accents.{IsDiacritics, IsJamo, FailsDiacritics, FailsJamo}
+use Rattle.icu_entries.specs.declared.error.DataError.{DataError}
+use Rattle.icu_entries.specs.declared.error.DataErrorKind.{DataErrorKind}
+use Rattle.icu_entries.specs.declared.error.DataErrorKind.TheVariants as kinds
+use Rattle.icu_entries.specs.declared.error.DataTable.{DataTable}
+use Rattle.icu_entries.specs.declared.error.DataTable.TheVariants as tables
+use Rattle.icu_provider.specs.Diacritics.{IsDiacritics, FailsDiacritics}
+use Rattle.icu_provider.specs.Jamo.{IsJamo, FailsJamo}
 use Rattle.icu_provider.specs.Loads.{Loads, answer}
 use Rattle.icu_provider.specs.SpecialPrimaries.{IsSpecialPrimaries, FailsSpecial}
-use Rattle.icu_provider.specs.Stored.{accents_of, data_of, jamo_of, reordering_of, special_of}
+use Rattle.icu_provider.specs.StoredTables.{accents_of, jamo_of, reordering_of, special_of}
+use Rattle.icu_data.specs.StoredData.{data_of}
 use Rattle.icu_mini.specs.declared.mini.Mini.{Mini}
 use Rattle.icu_mini.specs.declared.provider.MiniProvider.{MiniProvider}
 use Rattle.icu_mini.specs.Mini.{special_held}

@@ -1,11 +1,11 @@
 -- What a root or a tailoring says that is kept in vectors.
 use Rattle.std.specs.Prelude.{◌≡◌, ◌⊎◌, ℕ, ◌<◌, ◌==◌, if◌then◌else◌, true, List, [], map}
-use Rattle.icu_provider.specs.declared.error.DataErrorKind.{DataErrorKind}
-use Rattle.icu_provider.specs.CodePointTables.{IsCodePointTable, FailsBlocks, stored_value}
-use Rattle.icu_provider.specs.Contexts.{HasRangesInside, IsContextTable, FailsContexts, stored_contexts}
-use Rattle.icu_provider.specs.Elements.{element_of}
-use Rattle.icu_provider.specs.LiveConditions.{IsGoodData, FailsData}
-use Rattle.icu_provider.specs.Tables.{Context, Data}
+use Rattle.icu_entries.specs.declared.error.DataErrorKind.{DataErrorKind}
+use Rattle.icu_data.specs.CodePointTables.{IsCodePointTable, FailsBlocks, stored_value}
+use Rattle.icu_data.specs.Contexts.{HasRangesInside, IsContextTable, FailsContexts, stored_contexts}
+use Rattle.icu_entries.specs.Elements.{element_of}
+use Rattle.icu_data.specs.LiveConditions.{IsGoodData, FailsData}
+use Rattle.icu_data.specs.Data.{Context, Data}
 use Rattle.icu_mini.specs.declared.table_data.TableData.{TableData}
 use Rattle.icu_mini.specs.EntryRange.{Row}
 use Rattle.icu_mini.specs.CharacterTable.{IsTableOf}

@@ -1,6 +1,6 @@
 -- The variants of the test table Mini, each with one thing that Mini lacks.
 use Rattle.std.specs.Prelude.{ℕ, List, [], ◌∷◌, Some, replicate, slice_set}
-use Rattle.icu_provider.specs.Tables.{Row as ContextRow, Context}
+use Rattle.icu_data.specs.Data.{Row as ContextRow, Context}
 use Rattle.icu_mini.specs.Mini.{Contents, fallback_entry, mini, mini_with, special_with}
 use Rattle.icu_mini.specs.Runs.{one, rising, run}
 use Rattle.icu_mini.specs.TableData.{Wanted, plain}

@@ -1,9 +1,9 @@
 ghost use Rattle.std.specs.Prelude.{◌≡◌, ◌++◌, ◌∷◌, [], List, length, map, IfOk, OnOk, OnErr};
-ghost use Rattle.icu_provider.specs.Contexts.{HasRangesInside, stored_contexts};
-ghost use Rattle.icu_provider.specs.Tables.{Row};
+ghost use Rattle.icu_data.specs.Contexts.{HasRangesInside, stored_contexts};
+ghost use Rattle.icu_data.specs.Data.{Row};
 ghost use Rattle.icu_mini.specs.AddedContext.{AddsRows, given_context, given_row};
 
-use icu_provider::{Context, ContextRow};
+use icu_data::{Context, ContextRow};
 use std::alloc::AllocError;
 
 /// Adds a context with its rows, each a list of characters and its entry, after those that are there. An `Err`, for want of

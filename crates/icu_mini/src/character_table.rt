@@ -1,5 +1,5 @@
 ghost use Rattle.std.specs.Prelude.{◌≡◌, ℕ, ◌+◌, ◌*◌, ◌%◌, ◌<◌, ◌≤◌, ◌++◌, IfOk, OnOk, length, false};
-ghost use Rattle.icu_provider.specs.CodePointTables.{IsCodePointTable, stored_value};
+ghost use Rattle.icu_data.specs.CodePointTables.{IsCodePointTable, stored_value};
 ghost use Rattle.icu_mini.specs.CharacterTable.{IsTableOf, BeginsBlank, HoldsBlock, entries_from};
 ghost use Rattle.icu_mini.specs.EntryRange.{entry_among};
 

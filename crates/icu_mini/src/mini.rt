@@ -1,16 +1,20 @@
 ghost use Rattle.std.specs.Prelude.{◌≡◌, ◌↔◌, ◌+◌, ◌*◌, ◌^◌, ◌<◌, ◌++◌, IsOk, IfOk, IfErr, IfSome, OnOk};
 ghost use Rattle.std.specs.Option.{option_map};
-ghost use Rattle.icu_provider.specs.Accents.{IsDiacritics, IsJamo, FailsDiacritics, FailsJamo};
+ghost use Rattle.icu_provider.specs.Diacritics.{IsDiacritics, FailsDiacritics};
+ghost use Rattle.icu_provider.specs.Jamo.{IsJamo, FailsJamo};
 ghost use Rattle.icu_provider.specs.SpecialPrimaries.{IsSpecialPrimaries, FailsSpecial};
-ghost use Rattle.icu_provider.specs.Stored.{accents_of, data_of, jamo_of, reordering_of, special_of};
+ghost use Rattle.icu_provider.specs.StoredTables.{accents_of, jamo_of, reordering_of, special_of};
+ghost use Rattle.icu_data.specs.StoredData.{data_of};
 ghost use Rattle.icu_mini.specs.Runs.{mini_rows, run};
 
 use crate::entry_range::EntryRange;
 use crate::reordering_data::ReorderingData;
 use crate::table_data::TableData;
+use icu_data::CollationData;
+use icu_entries::DataErrorKind;
 use icu_provider::{
-    CollationData, CollationDiacritics, CollationJamo, CollationMetadata, CollationReordering,
-    CollationSpecialPrimaries, DataErrorKind,
+    CollationDiacritics, CollationJamo, CollationMetadata, CollationReordering,
+    CollationSpecialPrimaries,
 };
 use std::alloc::{AllocError, Global};
 

@@ -1,5 +1,5 @@
 ghost use Rattle.std.specs.Prelude.{◌≡◌, ◌≢◌, ℕ, ◌+◌, ◌*◌, ◌/◌, ◌<◌, ◌≤◌, ◌++◌, IfOk, OnOk, OnErr, length, slice_index, take, drop, false};
-ghost use Rattle.icu_provider.specs.CodePointTables.{IsCodePointTable};
+ghost use Rattle.icu_data.specs.CodePointTables.{IsCodePointTable};
 ghost use Rattle.icu_mini.specs.OwnBlock.{IsOwnBlock, KeepsValues};
 
 use crate::character_table::BLOCK_COUNT;

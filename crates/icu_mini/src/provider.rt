@@ -1,14 +1,17 @@
 //! Mini's tables as a provider lends them.
 ghost use Rattle.std.specs.Prelude.{◌≡◌};
-ghost use Rattle.icu_provider.specs.Accents.{FailsDiacritics, FailsJamo, IsDiacritics, IsJamo};
+ghost use Rattle.icu_provider.specs.Diacritics.{FailsDiacritics, IsDiacritics};
+ghost use Rattle.icu_provider.specs.Jamo.{FailsJamo, IsJamo};
 ghost use Rattle.icu_provider.specs.SpecialPrimaries.{FailsSpecial, IsSpecialPrimaries};
-ghost use Rattle.icu_provider.specs.Stored.{accents_of, data_of, jamo_of, reordering_of, special_of};
+ghost use Rattle.icu_provider.specs.StoredTables.{accents_of, jamo_of, reordering_of, special_of};
+ghost use Rattle.icu_data.specs.StoredData.{data_of};
 
 use crate::mini::Mini;
+use icu_data::CollationData;
+use icu_entries::{DataError, DataErrorKind, DataTable};
 use icu_provider::{
-    CollationData, CollationDiacritics, CollationJamo, CollationMetadata, CollationProvider,
-    CollationReordering, CollationSpecialPrimaries, DataError, DataErrorKind, DataRequest,
-    DataTable,
+    CollationDiacritics, CollationJamo, CollationMetadata, CollationProvider, CollationReordering,
+    CollationSpecialPrimaries, DataRequest,
 };
 
 /// A provider that answers every locale and type alike. The fields are public, so that a test may have it refuse a table, or lend

@@ -1,6 +1,7 @@
 ghost use Rattle.std.specs.Prelude.{◌≡◌, ◌↔◌, IsOk, IfOk, IfErr};
 
-use icu_provider::{CollationReordering, DataErrorKind};
+use icu_entries::DataErrorKind;
+use icu_provider::CollationReordering;
 
 /// A reordering of scripts in vectors of its own. The fields are public, so that a test may damage it.
 #[derive(Debug, Drop)]
@@ -14,7 +15,7 @@ pub struct ReorderingData {
 }
 
 impl ReorderingData {
-    ghost use Rattle.icu_provider.specs.Stored.{reordering_of};
+    ghost use Rattle.icu_provider.specs.StoredTables.{reordering_of};
     ghost use Rattle.icu_mini.specs.ReorderingData.{reordering_held, HasAllLeads};
 
     /// The reordering as a collator takes it, or the kind of a condition that it fails.

@@ -4,9 +4,8 @@ use crate::added_context::add_context;
 use crate::character_table::CharacterTable;
 use crate::entry_range::EntryRange;
 use crate::own_block::own_block;
-use icu_provider::{
-    CodePointTable, CollationData, Context, ContextRow, ContextTable, DataErrorKind,
-};
+use icu_data::{CodePointTable, CollationData, Context, ContextRow, ContextTable};
+use icu_entries::DataErrorKind;
 use std::alloc::{AllocError, Global};
 
 /// The entry of a tailoring for a character that it leaves to the root.
@@ -36,7 +35,7 @@ pub struct TableData {
 }
 
 impl TableData {
-    ghost use Rattle.icu_provider.specs.Stored.{data_of};
+    ghost use Rattle.icu_data.specs.StoredData.{data_of};
     ghost use Rattle.icu_mini.specs.TableData.{data_held, value_held, IsWhole, IsAccepted, FailsTable, SetsEntry, HasRanges, KeepsCharacters, KeepsLists, KeepsContexts, contexts_held, Says, plain};
     ghost use Rattle.icu_mini.specs.AddedContext.{given_context};
 
@@ -68,7 +67,7 @@ impl TableData {
     }
 
     /// The table as a collator takes it, or the kind of a condition that it fails.
-    #[tactic(auto, unfolding(icu_provider::specs::Stored::data_of))]
+    #[tactic(auto, unfolding(icu_data::specs::StoredData::data_of))]
     pub fn lend(&self) -> Result<CollationData<'_>, DataErrorKind>
         ensures accepts { IsOk result ↔ IsAccepted self.now }
         ensures kind { IfErr result (FailsTable self.now) }

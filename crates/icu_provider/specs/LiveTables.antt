@@ -2,9 +2,10 @@
 use Rattle.std.specs.Prelude.{ℕ, ◌-◌, ◌≡◌, ◌⊎◌, true, false, slice_index, Some, IfSome, IsTrue}
 use Rattle.std.specs.Char.{IsScalar}
 use Rattle.std.specs.List.{AllByRecursion, Contains}
-use Rattle.icu_provider.specs.Tables.{Data, Tables, is_jamo}
-use Rattle.icu_provider.specs.EntryConditions.{has_digit}
-use Rattle.icu_provider.specs.Live.{live_from, live_at, EachLive}
+use Rattle.icu_data.specs.Data.{Data}
+use Rattle.icu_provider.specs.Tables.{Tables, is_jamo}
+use Rattle.icu_entries.specs.EntryConditions.{has_digit}
+use Rattle.icu_data.specs.Live.{live_from, live_at, EachLive}
 
 -- the entry of a conjoining jamo
 abbrev pub jamo_entry : Tables → ℕ → ℕ

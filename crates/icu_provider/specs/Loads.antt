@@ -1,8 +1,8 @@
 -- What a provider of tables answers.
 use Rattle.std.specs.Prelude.{ℕ, List, Result, Ok, Err}
-use Rattle.icu_provider.specs.declared.error.DataError.{DataError}
+use Rattle.icu_entries.specs.declared.error.DataError.{DataError}
 use Rattle.icu_provider.specs.Requests.{Request}
-use Rattle.icu_provider.specs.Tables.{Data}
+use Rattle.icu_data.specs.Data.{Data}
 use Rattle.icu_provider.specs.Reorderings.{Reordering}
 use Rattle.icu_provider.specs.SpecialPrimaries.{SpecialPrimaries}
 

@@ -3,9 +3,9 @@
 use Rattle.std.specs.Prelude.{ℕ, ◌+◌, ◌-◌, ◌*◌, ◌/◌, ◌%◌, ◌≤◌, Bool, ◌&&◌, ◌||◌, ◌==◌, nat_le, List, length, take, slice_index, All, IsTrue, if◌then◌else◌}
 use Rattle.icu_options.specs.declared.settings.MaxVariable.{MaxVariable}
 use Rattle.icu_options.specs.declared.settings.MaxVariable.TheVariants.{Space, Punctuation, Symbol, Currency}
-use Rattle.icu_provider.specs.declared.error.DataErrorKind.{DataErrorKind}
-use Rattle.icu_provider.specs.declared.error.DataErrorKind.TheVariants as kinds
-use Rattle.icu_provider.specs.Entries.{has_bit}
+use Rattle.icu_entries.specs.declared.error.DataErrorKind.{DataErrorKind}
+use Rattle.icu_entries.specs.declared.error.DataErrorKind.TheVariants as kinds
+use Rattle.icu_entries.specs.Entries.{has_bit}
 
 -- The two highest bytes of the first primary weight after each of the four variable groups, and then, if there are 20 numbers, the
 -- compressible lead bytes, a bit for each.

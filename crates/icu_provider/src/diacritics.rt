@@ -1,8 +1,7 @@
 ghost use Rattle.std.specs.Prelude.{◌≡◌, ◌↔◌, true, IsOk, IfOk, IfErr};
-ghost use Rattle.icu_provider.specs.Accents.{is_replaced_place, is_accent, IsDiacritics, FailsDiacritics};
+ghost use Rattle.icu_provider.specs.Diacritics.{is_replaced_place, is_accent, IsDiacritics, FailsDiacritics};
 
-use crate::element::CollationElement;
-use crate::error::DataErrorKind;
+use icu_entries::{CollationElement, DataErrorKind};
 
 /// The secondary weights of combining diacritics: of U+0300 and the characters after it, at most 79.
 #[derive(Debug, Clone, Copy, PartialEq)]
@@ -18,7 +17,7 @@ pub fn is_replaced_place(place: usize) -> bool
     place == 0x40 || place == 0x41 || place == 0x43 || place == 0x44
 }
 
-#[tactic(auto, unfolding(crate::specs::Accents::is_accent))]
+#[tactic(auto, unfolding(crate::specs::Diacritics::is_accent))]
 fn is_accent(secondary: u16) -> bool
     ensures { result ≡ is_accent true secondary }
 {
@@ -27,7 +26,7 @@ fn is_accent(secondary: u16) -> bool
 }
 
 impl<'d> CollationDiacritics<'d> {
-    ghost use Rattle.icu_provider.specs.Stored.{accents_of};
+    ghost use Rattle.icu_provider.specs.StoredTables.{accents_of};
 
     /// Borrows the secondary weights. Refuses with `Length` if there are more than 79, and with `Element` if a weight is 0, has a
     /// nonzero byte after a zero byte, or has a lead byte that secondary weights may not have (they may have 02 to 04, 46 to FF,

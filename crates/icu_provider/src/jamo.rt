@@ -1,8 +1,7 @@
 ghost use Rattle.std.specs.Prelude.{◌≡◌, ◌↔◌, IsOk, IfOk, IfErr};
-ghost use Rattle.icu_provider.specs.Accents.{IsJamo, FailsJamo};
+ghost use Rattle.icu_provider.specs.Jamo.{IsJamo, FailsJamo};
 
-use crate::entry::CollationElement32;
-use crate::error::DataErrorKind;
+use icu_entries::{CollationElement32, DataErrorKind};
 
 /// The entries of the 256 characters from U+1100 on, the conjoining jamo. They name lists and contexts of the root.
 #[derive(Debug, Clone, Copy, PartialEq)]
@@ -12,7 +11,7 @@ pub struct CollationJamo<'d> {
 }
 
 impl<'d> CollationJamo<'d> {
-    ghost use Rattle.icu_provider.specs.Stored.{jamo_of};
+    ghost use Rattle.icu_provider.specs.StoredTables.{jamo_of};
 
     /// Borrows the entries. Refuses with `Length` if there are not 256, with `Digit` if a digit entry holds a digit above 9, and
     /// with `Tag` if the low byte of an entry has no meaning, or is that of fallback.

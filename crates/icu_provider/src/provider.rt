@@ -2,16 +2,17 @@
 ghost use Rattle.std.specs.Prelude.{◌≡◌};
 ghost use Rattle.icu_provider.specs.Loads.{Loads, answer};
 ghost use Rattle.icu_provider.specs.Requests.{request_of};
-ghost use Rattle.icu_provider.specs.Stored.{accents_of, data_of, jamo_of, reordering_of, special_of};
+ghost use Rattle.icu_provider.specs.StoredTables.{accents_of, jamo_of, reordering_of, special_of};
+ghost use Rattle.icu_data.specs.StoredData.{data_of};
 
-use crate::data::CollationData;
 use crate::diacritics::CollationDiacritics;
-use crate::error::DataError;
 use crate::jamo::CollationJamo;
 use crate::metadata::CollationMetadata;
 use crate::reordering::CollationReordering;
 use crate::request::DataRequest;
 use crate::special_primaries::CollationSpecialPrimaries;
+use icu_data::CollationData;
+use icu_entries::DataError;
 
 /// What lends the tables that collators are made from (UTS #35 part 5).
 ///

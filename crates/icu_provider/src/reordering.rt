@@ -1,7 +1,7 @@
 ghost use Rattle.std.specs.Prelude.{◌≡◌, ◌<◌, ◌%◌, ◌^◌, ◌↔◌, IsOk, IfOk, IfErr, length, find, All};
 ghost use Rattle.icu_provider.specs.Reorderings.{with_lead, lies_below, moved, reordered};
 
-use crate::error::DataErrorKind;
+use icu_entries::DataErrorKind;
 
 /// A reordering of scripts: where the lead bytes of primary weights go (UTS #35 part 5, section 3.9 "Collation Reordering").
 #[derive(Debug, Clone, Copy, PartialEq)]
@@ -53,7 +53,7 @@ fn are_bytes(bytes: &[u8])
 
 impl<'d> CollationReordering<'d> {
     ghost use Rattle.icu_provider.specs.Reorderings.{Reordering};
-    ghost use Rattle.icu_provider.specs.Stored.{reordering_of};
+    ghost use Rattle.icu_provider.specs.StoredTables.{reordering_of};
 
     /// Borrows the new lead byte for each lead byte, and the ranges by which weights move whose lead byte has a zero there; of
     /// those, weights from `min_high_no_reorder` on stay. Refuses with `Length` if there are not 256 lead bytes.

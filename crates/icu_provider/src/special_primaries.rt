@@ -1,7 +1,7 @@
 ghost use Rattle.std.specs.Prelude.{◌≡◌, ◌≤◌, ◌↔◌, IsOk, IfOk, IfErr, IsTrue, All, length};
 ghost use Rattle.icu_provider.specs.SpecialPrimaries.{group_place, last_primary, is_compressible, is_numeric_lead, ends_below, HasGroupEnds, IsSpecialPrimaries, FailsSpecial};
 
-use crate::error::DataErrorKind;
+use icu_entries::DataErrorKind;
 use icu_options::MaxVariable;
 
 /// Primary weights that mean more than an order: where the variable groups end, the lead byte of numbers, and the lead bytes
@@ -53,7 +53,7 @@ fn has_group_ends(last_primaries: &[u16], numeric: u8) -> bool
 }
 
 impl<'d> CollationSpecialPrimaries<'d> {
-    ghost use Rattle.icu_provider.specs.Stored.{special_of};
+    ghost use Rattle.icu_provider.specs.StoredTables.{special_of};
 
     /// Borrows the numbers: the two highest bytes of the first primary weight after each of the four variable groups, and then,
     /// if there are 20 in all, bits for the compressible lead bytes. Refuses with `Length` if there are fewer than four, and with

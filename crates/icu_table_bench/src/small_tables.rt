@@ -1,9 +1,10 @@
 //! The small tables: diacritics, jamo, reorderings, special primaries and metadata, at both sides of each limit; the
 //! request for a table, and the error that refuses one.
+use icu_entries::{DataError, DataErrorKind, DataTable};
 use icu_options::{CollationCaseFirst, MaxVariable};
 use icu_provider::{
     CollationDiacritics, CollationJamo, CollationMetadata, CollationReordering,
-    CollationSpecialPrimaries, DataError, DataErrorKind, DataRequest, DataTable,
+    CollationSpecialPrimaries, DataRequest,
 };
 use std::process::Abort;
 use std::test::Fail;

@@ -1,9 +1,7 @@
 //! The tables of a root or a tailoring: what their constructors refuse, at both sides of each limit, and what look-ups
 //! answer.
-use icu_provider::{
-    CodePointTable, CollationData, CollationElement32, Context, ContextRow, ContextTable,
-    DataErrorKind,
-};
+use icu_data::{CodePointTable, CollationData, Context, ContextRow, ContextTable};
+use icu_entries::{CollationElement32, DataErrorKind};
 use std::alloc::Global;
 use std::process::Abort;
 use std::test::Fail;

@@ -1,15 +1,13 @@
 //! Walks over live entries: the fault that a judge of this file's own names, and the weights that are collected.
 ghost use Rattle.std.specs.Prelude.{ℕ, ◌-◌, Bool, ◌==◌, ◌/◌, Option, Some, None, if◌then◌else◌};
-ghost use Rattle.icu_provider.specs.declared.entry.EntryKind.TheVariants.{Contraction};
-ghost use Rattle.icu_provider.specs.Entries.{kind_of};
+ghost use Rattle.icu_entries.specs.declared.entry.EntryKind.TheVariants.{Contraction};
+ghost use Rattle.icu_entries.specs.Entries.{kind_of};
 
 use crate::tables::Stored;
-use icu_provider::fault::{Judge, Ranked, first_fault, first_fault_from};
-use icu_provider::live_weights::{Weigh, collect_weights, collect_weights_from};
-use icu_provider::{
-    CodePointTable, CollationData, CollationElement, CollationElement32, Context, ContextRow,
-    ContextTable, DataErrorKind, EntryKind,
-};
+use icu_data::fault::{Judge, Ranked, first_fault, first_fault_from};
+use icu_data::live_weights::{Weigh, collect_weights, collect_weights_from};
+use icu_data::{CodePointTable, CollationData, Context, ContextRow, ContextTable};
+use icu_entries::{CollationElement, CollationElement32, DataErrorKind, EntryKind};
 use std::alloc::Global;
 use std::process::Abort;
 use std::test::Fail;

@@ -1,6 +1,6 @@
 use crate::mini::Mini;
+use icu_entries::{CollationElement32, DataErrorKind};
 use icu_options::MaxVariable;
-use icu_provider::{CollationElement32, DataErrorKind};
 use std::process::Abort;
 use std::test::Fail;
 

@@ -1,5 +1,6 @@
 use crate::table_data::{FALLBACK_ENTRY, TableData};
-use icu_provider::{CollationElement32, Context, ContextRow, DataErrorKind};
+use icu_data::{Context, ContextRow};
+use icu_entries::{CollationElement32, DataErrorKind};
 use std::process::Abort;
 use std::test::Fail;
 

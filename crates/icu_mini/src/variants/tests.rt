@@ -1,5 +1,6 @@
 use crate::mini::Mini;
-use icu_provider::{CollationData, CollationElement32};
+use icu_data::CollationData;
+use icu_entries::CollationElement32;
 use std::process::Abort;
 use std::test::Fail;
 

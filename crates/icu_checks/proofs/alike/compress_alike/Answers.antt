@@ -1,6 +1,6 @@
 use Rattle.std.proofs.Common.{◌≡◌, true, arith}
 use Rattle.std.proofs.lemmas.Grind.{common_steps}
-use Rattle.icu_provider.specs.Stored.{reordering_of, special_of}
+use Rattle.icu_provider.specs.StoredTables.{reordering_of, special_of}
 use Rattle.icu_checks.proofs.AlikeLemmas.{apart_from, decided}
 use Rattle.icu_checks.proofs.alike.compress_alike.Goals as goal
 

@@ -1,5 +1,5 @@
 use Rattle.std.proofs.Common.{sym, ap, ◌∙◌}
-use Rattle.icu_provider.specs.Elements.{accent_element}
+use Rattle.icu_entries.specs.Elements.{accent_element}
 use Rattle.icu_checks.specs.Weights.{weight_at}
 use Rattle.icu_checks.proofs.CollectLemmas.{lent_accent, lent_no_accent}
 use Rattle.icu_checks.proofs.collecting.collect_accent.Goals as goal

@@ -1,5 +1,5 @@
 use Rattle.std.proofs.Common.{◌+◌, ◌*◌, refl, arith, below_more}
-use Rattle.icu_provider.specs.Stored.{reordering_of}
+use Rattle.icu_provider.specs.StoredTables.{reordering_of}
 use Rattle.icu_checks.specs.Leads.{TakesLead, TakesBlock}
 use Rattle.icu_checks.proofs.LeadLemmas.{takes_lead}
 use Rattle.icu_checks.proofs.leads.takes_lead.Goals as goal

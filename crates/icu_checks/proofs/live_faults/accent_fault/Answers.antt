@@ -1,5 +1,5 @@
 use Rattle.std.proofs.Common.{IfSome, sym, ap, ◌∙◌, subst}
-use Rattle.icu_provider.specs.Elements.{accent_element}
+use Rattle.icu_entries.specs.Elements.{accent_element}
 use Rattle.icu_checks.specs.TableSets.{tables_in}
 use Rattle.icu_checks.specs.Faults.{IsTrueFault}
 use Rattle.icu_checks.proofs.LentFaultLemmas.{lent_accent, lent_accent_true}

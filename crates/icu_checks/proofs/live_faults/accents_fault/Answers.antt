@@ -1,5 +1,5 @@
 use Rattle.std.proofs.Common.{◌≡◌, ℕ, ◌<◌, ◌≤◌, List, length, IfSome, sym, ap, subst, arith}
-use Rattle.icu_provider.proofs.FaultLemmas.{earlier-keeps}
+use Rattle.icu_data.proofs.FaultLemmas.{earlier-keeps}
 use Rattle.icu_checks.specs.TableSets.{tables_in}
 use Rattle.icu_checks.specs.Faults.{fault_rank, IsTrueFault}
 use Rattle.icu_checks.specs.EntryFaults.{AccentMeets}

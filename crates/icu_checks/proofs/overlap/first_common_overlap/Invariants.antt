@@ -1,6 +1,6 @@
 use Rattle.std.proofs.Common.{ℕ, ◌+◌, ◌<◌}
 use Rattle.icu_levels.specs.WeightBytes.{weight_bytes}
-use Rattle.icu_provider.specs.Stored.{reordering_of}
+use Rattle.icu_provider.specs.StoredTables.{reordering_of}
 use Rattle.icu_checks.specs.Overlaps.{reordered_bytes, NeighbourBegins}
 use Rattle.icu_checks.proofs.overlap.first_common_overlap.Given as goal
 

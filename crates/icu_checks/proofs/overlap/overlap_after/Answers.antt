@@ -1,6 +1,6 @@
 use Rattle.std.proofs.Common.{List, ℕ, map, sym, ◌∙◌, subst, IsPermutation}
 use Rattle.icu_provider.specs.Reorderings.{reordered}
-use Rattle.icu_provider.specs.Stored.{reordering_of}
+use Rattle.icu_provider.specs.StoredTables.{reordering_of}
 use Rattle.icu_checks.proofs.OverlapLemmas.{nothing_begins, place_found, free_from_sorted, overlap_from_sorted}
 use Rattle.icu_checks.proofs.overlap.overlap_after.Goals as goal
 

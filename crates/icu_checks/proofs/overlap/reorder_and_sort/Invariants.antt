@@ -1,6 +1,6 @@
 use Rattle.std.proofs.Common.{◌≡◌, map, take, drop, ◌++◌}
 use Rattle.icu_provider.specs.Reorderings.{reordered}
-use Rattle.icu_provider.specs.Stored.{reordering_of}
+use Rattle.icu_provider.specs.StoredTables.{reordering_of}
 use Rattle.icu_checks.proofs.overlap.reorder_and_sort.Given as goal
 
 abbrev pub invariant-loop-weight : goal.invariant-loop-weight

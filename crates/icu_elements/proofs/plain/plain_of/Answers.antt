@@ -1,5 +1,5 @@
 use Rattle.std.proofs.Common.{rules}
-use Rattle.icu_provider.specs.Stored.{data_of}
+use Rattle.icu_data.specs.StoredData.{data_of}
 use Rattle.icu_elements.proofs.PlainLemmas.{plain_entry-other}
 use Rattle.icu_elements.proofs.ReadableLemmas.{plain_inside, readable_plain, readable_itself}
 use Rattle.icu_elements.proofs.plain.plain_of.Goals as goal

@@ -1,5 +1,6 @@
 use Rattle.std.proofs.Common.{◌≡◌, option_map, sym, subst}
-use Rattle.icu_provider.specs.Stored.{data_of, jamo_of, accents_of, special_of, reordering_of}
+use Rattle.icu_data.specs.StoredData.{data_of}
+use Rattle.icu_provider.specs.StoredTables.{jamo_of, accents_of, special_of, reordering_of}
 use Rattle.icu_checks.specs.Kept.{kept_data, kept_jamo, kept_accents, kept_reordering, kept_special}
 use Rattle.icu_checks.specs.GoodTables.{IsGoodTables}
 use Rattle.icu_checks.proofs.KeptLemmas.{held, same_tables}

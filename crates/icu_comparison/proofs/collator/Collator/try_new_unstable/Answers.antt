@@ -1,8 +1,8 @@
 -- The tables that were lent are those that were refused.
 use Rattle.std.proofs.Common.{◌≡◌, Result, Ok, Err, sym, subst, IfErr, IfOk}
 use Rattle.std.specs.Result.{IsErrAnd}
-use Rattle.icu_provider.specs.declared.error.DataError.{DataError}
-use Rattle.icu_provider.specs.declared.error.DataErrorKind.TheVariants.{NoMemory}
+use Rattle.icu_entries.specs.declared.error.DataError.{DataError}
+use Rattle.icu_entries.specs.declared.error.DataErrorKind.TheVariants.{NoMemory}
 use Rattle.icu_checks.specs.CollatorTables.{CollatorTables}
 use Rattle.icu_checks.specs.GoodTables.{IsGoodTables}
 use Rattle.icu_checks.specs.TableSets.{tables_in}

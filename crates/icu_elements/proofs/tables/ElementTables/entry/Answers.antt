@@ -1,4 +1,4 @@
-use Rattle.icu_provider.specs.Stored.{data_of}
+use Rattle.icu_data.specs.StoredData.{data_of}
 use Rattle.icu_elements.proofs.ReadableLemmas.{good_found}
 use Rattle.icu_elements.proofs.tables.ElementTables.entry.Goals as goal
 

@@ -1,0 +1,102 @@
+-- Implicit weights meet every condition, so that entries for them need no look at the weight.
+use Rattle.std.proofs.Common.{◌≡◌, ℕ, ◌<◌, ◌≤◌, Bool, true, false, not, ◌&&◌, nat_eq, nat_le, List, [], ◌∷◌, Option, None, refl, ap, arith, IsTrue}
+use Rattle.std.specs.Prelude.{◌||◌}
+use Rattle.std.proofs.lemmas.Bool.Decides.{nat_tests}
+use Rattle.std.specs.Int.{byte_at}
+use Rattle.icu_data.specs.declared.live_condition.LiveCondition.{LiveCondition}
+use Rattle.icu_data.specs.declared.live_condition.LiveCondition.TheVariants.{Places, PrefixRows, Chains, Digits, Bytes, Offsets, Shapes, Leads, Primaries}
+use Rattle.icu_entries.specs.Elements.{Element, of_primary}
+use Rattle.icu_entries.specs.Weights.{weight, implicit_weight}
+use Rattle.icu_entries.specs.declared.entry.EntryKind.TheVariants.{Implicit}
+use Rattle.icu_entries.specs.Entries.{kind_of}
+use Rattle.icu_data.specs.Data.{Data}
+use Rattle.icu_data.specs.Final.{final_elements}
+use Rattle.icu_entries.specs.ElementConditions.{four_bytes, ends_at_zero, has_shape, has_secondary_lead, has_tertiary_lead, has_primary_lead, is_separator}
+use Rattle.icu_data.specs.DataConditions.{is_inside, has_short_rows, leads_on, has_known_members, fits_offset}
+use Rattle.icu_entries.specs.EntryConditions.{has_digit, has_known_byte}
+use Rattle.icu_data.specs.LiveConditions.{meets, first_failing}
+use Rattle.icu_data.specs.LiveWeights.{given_elements, collected_at}
+use Rattle.icu_data.proofs.FaultLemmas.{meets_passes, meets_readable}
+
+or_true : (b : Bool) → (b || true) ≡ true
+or_true true = refl
+or_true false = refl
+
+true_or : (a b : Bool) → a ≡ true → (a || b) ≡ true
+true_or true b h = refl
+true_or false b h = cc
+
+or_right : (a b c : Bool) → b ≡ true → (a || b || c) ≡ true
+or_right true b c h = refl
+or_right false true c h = refl
+or_right false false c h = cc
+
+isnt_zero : (b : ℕ) → 1 ≤ b → nat_eq b 0 ≡ false
+isnt_zero b h = grind (arith, nat_tests)
+
+may : (b next : ℕ) → 1 ≤ b → (not (nat_eq b 0) || nat_eq next 0) ≡ true
+may b next h = ap (λ t. not t || nat_eq next 0) (isnt_zero b h)
+
+-- three nonzero bytes, and any fourth one
+ends : (a b c d : ℕ) → 1 ≤ a → 1 ≤ b → 1 ≤ c → ends_at_zero (a ∷ b ∷ c ∷ d ∷ []) ≡ true
+unfolding ends_at_zero
+ends a b c d p q r =
+    rw (may a b p, may b c q, may c d r) refl
+
+module _ (b2 b3 b4 : ℕ) (low2 : 1 ≤ b2) (high2 : b2 < 256) (low3 : 1 ≤ b3) (high3 : b3 < 256) (high4 : b4 < 256) where
+  first : 1 ≤ byte_at 3 (weight 0xFE b2 b3 b4)
+  first = omega arith
+
+  second : 1 ≤ byte_at 2 (weight 0xFE b2 b3 b4)
+  second = omega arith
+
+  third : 1 ≤ byte_at 1 (weight 0xFE b2 b3 b4)
+  third = omega arith
+
+  four_end : ends_at_zero (four_bytes (weight 0xFE b2 b3 b4)) ≡ true
+  four_end = ends _ _ _ _ first second third
+
+  shape : has_shape (of_primary (weight 0xFE b2 b3 b4)) ≡ true
+  unfolding has_shape ends_at_zero
+  shape = rw (four_end, or_true (nat_eq (weight 0xFE b2 b3 b4) 0)) refl
+
+  is_high : nat_le 0x03000000 (weight 0xFE b2 b3 b4) ≡ true
+  is_high = grind (arith, nat_tests)
+
+  lead : has_primary_lead (of_primary (weight 0xFE b2 b3 b4)) ≡ true
+  unfolding has_primary_lead
+  lead = or_right (nat_eq (weight 0xFE b2 b3 b4) 0) _ (is_separator (of_primary (weight 0xFE b2 b3 b4))) is_high
+
+implicit_shape : (c : ℕ) → has_shape (of_primary (implicit_weight c)) ≡ true
+unfolding implicit_weight
+implicit_shape c = shape _ _ _ (omega arith) (omega arith) (omega arith) (omega arith) (omega arith)
+
+implicit_lead : (c : ℕ) → has_primary_lead (of_primary (implicit_weight c)) ≡ true
+unfolding implicit_weight
+implicit_lead c = lead _ _ _ (omega arith) (omega arith) (omega arith) (omega arith) (omega arith)
+
+and_true : (a : Bool) → a ≡ true → (a && true) ≡ true
+and_true true h = refl
+and_true false h = cc
+
+implicit_meets : (home : Data) (c e : ℕ) → kind_of e ≡ Implicit → (condition : LiveCondition) → IsTrue (meets condition home c e)
+unfolding is_inside has_short_rows leads_on has_digit has_known_byte has_known_members fits_offset final_elements has_secondary_lead has_tertiary_lead
+implicit_meets home c e is Places = rw (is, is_inside) refl
+implicit_meets home c e is PrefixRows = rw (is, has_short_rows) refl
+implicit_meets home c e is Chains = rw (is, leads_on) refl
+implicit_meets home c e is Digits = rw (is, has_digit) refl
+implicit_meets home c e is Bytes = rw (is, has_known_byte, has_known_members) refl
+implicit_meets home c e is Offsets = rw (is, fits_offset) refl
+implicit_meets home c e is Shapes = rw (is, final_elements) (and_true _ (implicit_shape c))
+implicit_meets home c e is Leads = rw (is, final_elements) refl
+implicit_meets home c e is Primaries = rw (is, final_elements) (and_true _ (implicit_lead c))
+
+-- an entry for an implicit weight fails no condition
+pub implicit_passes : (home : Data) (c e : ℕ) → kind_of e ≡ Implicit → first_failing home c e ≡ None
+implicit_passes home c e is = meets_passes home c e (implicit_meets home c e is)
+
+-- where no implicit weight is collected, nothing is of an entry for one
+pub collects_nothing : {W : Type 0} (weight : W → Element → Option ℕ) (w : W) (ws : List ℕ) (home : Data) (c e : ℕ) → kind_of e ≡ Implicit → weight w (of_primary (implicit_weight c)) ≡ None
+    → collected_at weight (w, ws) home c e ≡ (w, ws)
+unfolding given_elements final_elements
+collects_nothing weight w ws home c e is none = rw (meets_readable home c e (implicit_meets home c e is), is, final_elements, none) refl

@@ -1,0 +1,10 @@
+pub mod ListLemmas
+pub mod CharLemmas
+pub mod EntryLemmas
+pub mod ElementLemmas
+pub mod ContextLemmas
+pub mod WalkLemmas
+pub mod FaultLemmas
+pub mod WeightLemmas
+pub mod ImplicitLemmas
+mod WorkedData

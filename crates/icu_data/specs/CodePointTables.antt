@@ -1,0 +1,27 @@
+-- A function from characters to values, in blocks of 64 code points that may be shared.
+use Rattle.std.specs.Prelude.{◌≡◌, ℕ, ◌+◌, ◌*◌, ◌/◌, ◌%◌, ◌≤◌, List, length, slice_index, All}
+use Rattle.icu_entries.specs.declared.error.DataErrorKind.{DataErrorKind}
+use Rattle.icu_entries.specs.declared.error.DataErrorKind.TheVariants.{Length, Index}
+
+-- there is a block for each 64 code points, the values come in whole blocks
+pub record HasWholeBlocks (blocks values : List ℕ) : Type 0 where
+  pub count : length blocks ≡ 17408
+  pub whole : length values % 64 ≡ 0
+
+-- each block number names one of them
+abbrev pub HasBlocksInside : List ℕ → List ℕ → Type 0
+HasBlocksInside blocks values = All (λ b. 64 * b + 64 ≤ length values) blocks
+
+pub record IsCodePointTable (blocks values : List ℕ) : Type 0 where
+  pub whole_blocks : HasWholeBlocks blocks values
+  pub inside : HasBlocksInside blocks values
+
+-- the value of a character
+abbrev pub stored_value : List ℕ → List ℕ → ℕ → ℕ
+stored_value blocks values c = slice_index values (64 * slice_index blocks (c / 64) + c % 64)
+
+-- a condition of this kind fails
+abbrev pub FailsBlocks : List ℕ → List ℕ → DataErrorKind → Type 0
+FailsBlocks blocks values Length = ¬ (HasWholeBlocks blocks values)
+FailsBlocks blocks values Index = ¬ (HasBlocksInside blocks values)
+FailsBlocks blocks values _ = ⊥

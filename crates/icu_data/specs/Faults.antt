@@ -1,0 +1,46 @@
+-- Which of the faults that are found is named.
+use Rattle.std.specs.Prelude.{ℕ, ◌≡◌, ◌≤◌, Bool, nat_lt, List, Option, Some, None, IfSome, if◌then◌else◌}
+use Rattle.std.specs.Char.{IsScalar}
+use Rattle.std.specs.List.{Contains}
+use Rattle.icu_data.specs.declared.live_condition.LiveCondition.{LiveCondition}
+use Rattle.icu_data.specs.declared.live_condition.LiveCondition.TheVariants.{Places, PrefixRows, Chains, Digits, Bytes, Offsets, Shapes, Leads, Primaries}
+use Rattle.icu_data.specs.Data.{Data}
+use Rattle.icu_data.specs.Live.{live_at}
+
+-- with room between them for conditions on several tables
+abbrev pub condition_rank : LiveCondition → ℕ
+condition_rank Places = 20
+condition_rank PrefixRows = 30
+condition_rank Chains = 40
+condition_rank Digits = 50
+condition_rank Bytes = 51
+condition_rank Offsets = 60
+condition_rank Shapes = 70
+condition_rank Leads = 80
+condition_rank Primaries = 110
+
+-- the fault with the lesser rank
+unfoldable pub earlier : {F : Type 0} → (F → ℕ) → Option F → Option F → Option F
+earlier rank None found = found
+earlier rank (Some a) None = Some a
+earlier rank (Some a) (Some b) = if nat_lt (rank b) (rank a) then Some b else Some a
+
+-- a judge and the first fault so far, after one more entry
+abbrev pub judged : {J F : Type 0} → (F → ℕ) → (J → Data → ℕ → ℕ → Option F) → J × Option F → Data → ℕ → ℕ → J × Option F
+judged rank fault s home c e = (s.0, earlier rank s.1 (fault s.0 home c e))
+
+-- the fault has no greater rank than this one, if it is one
+abbrev pub ComesFirst : {F : Type 0} → (F → ℕ) → F → Option F → Type 0
+ComesFirst rank f found = IfSome found (λ g. rank f ≤ rank g)
+
+-- the fault, by a judge of entries with characters, of one of these entries with this character
+pub record IsFaultAmong {F : Type 0} (fault : Data → ℕ → ℕ → Option F) (home : Data) (c : ℕ) (es : List ℕ) (f : F) : Type 0 where
+  pub e : ℕ
+  pub live : Contains es e
+  pub found : fault home c e ≡ Some f
+
+-- the fault of an entry that is live with a character
+pub record IsLiveFault {F : Type 0} (fault : Data → ℕ → ℕ → Option F) (falls_back : Bool) (home : Data) (f : F) : Type 0 where
+  pub c : ℕ
+  pub scalar : IsScalar c
+  pub among : IsFaultAmong fault home c (live_at falls_back home c) f

@@ -1,0 +1,11 @@
+pub mod Data
+pub mod Final
+pub mod Live
+pub mod DataConditions
+pub mod LiveConditions
+pub mod Walks
+pub mod Faults
+pub mod LiveWeights
+pub mod CodePointTables
+pub mod Contexts
+pub mod StoredData

@@ -1,0 +1,39 @@
+-- The entries that reading a text may come to from an entry. Prefixes lead to contractions, those to digits, and digits to final
+-- entries, so there are three layers. Where an entry leads to one that it may not lead to, that one is live, and opens nothing. A place
+-- outside its table reads as the empty context, or as entry 0, as it does where texts are read.
+use Rattle.std.specs.Prelude.{ℕ, Bool, ◌&&◌, ◌==◌, List, [], ◌∷◌, map, flat_map, if◌then◌else◌}
+use Rattle.std.specs.Char.{IsScalar}
+use Rattle.std.specs.List.{AllByRecursion}
+use Rattle.icu_entries.specs.declared.entry.EntryKind.TheVariants.{Prefix, Contraction, Digit}
+use Rattle.icu_entries.specs.Entries.{kind_of}
+use Rattle.icu_data.specs.Data.{Row, Context, Data, homed, context_of, plain_of}
+
+-- what a context leads to
+abbrev pub context_entries : Context → List ℕ
+context_entries context = context.default ∷ map (λ (row : Row). row.entry) context.rows
+
+abbrev pub named_entries : Data → ℕ → List ℕ
+named_entries home e = context_entries (context_of (homed home e))
+
+-- from an entry that a contraction leads to: the entry itself, and the plain entry of a digit
+unfoldable pub live_digit : Data → ℕ → List ℕ
+live_digit home e = elim (kind_of e) [ Digit ↦ e ∷ plain_of home e ∷ [] | _ ↦ e ∷ [] ]
+
+-- from an entry that a prefix leads to: also what a contraction leads to
+unfoldable pub live_contraction : Data → ℕ → List ℕ
+live_contraction home e =
+    elim (kind_of e) [ Contraction ↦ e ∷ flat_map (live_digit home) (named_entries home e) | _ ↦ live_digit home e ]
+
+-- from the entry of a character: also what a prefix leads to
+unfoldable pub live_from : Data → ℕ → List ℕ
+live_from home e =
+    elim (kind_of e) [ Prefix ↦ e ∷ flat_map (live_contraction home) (named_entries home e) | _ ↦ live_contraction home e ]
+
+-- The entries that are live with a character of a code point table. A tailoring falls back: where its entry is fallback, the root's
+-- stands for it, and it has none.
+abbrev pub live_at : Bool → Data → ℕ → List ℕ
+live_at falls_back home c = if falls_back && home.value c == 0xC0 then [] else live_from home (home.value c)
+
+-- what holds of each pair of a character and an entry that is live with it
+abbrev pub EachLive : (ℕ → ℕ → Type 0) → Bool → Data → Type 0
+EachLive P falls_back home = (c : ℕ) → IsScalar c → AllByRecursion (P c) (live_at falls_back home c)

@@ -1,0 +1,60 @@
+-- The conditions on entries that are live in a root or a tailoring.
+use Rattle.std.specs.Prelude.{ℕ, ◌≡◌, Bool, not, ◌&&◌, List, [], ◌∷◌, find, Option, IsTrue}
+use Rattle.std.specs.List.{list_all}
+use Rattle.icu_entries.specs.declared.error.DataErrorKind.{DataErrorKind}
+use Rattle.icu_entries.specs.declared.error.DataErrorKind.TheVariants as kinds
+use Rattle.icu_data.specs.declared.live_condition.LiveCondition.{LiveCondition}
+use Rattle.icu_data.specs.declared.live_condition.LiveCondition.TheVariants.{Places, PrefixRows, Chains, Digits, Bytes, Offsets, Shapes, Leads, Primaries}
+use Rattle.icu_entries.specs.declared.element_conditions.ElementCondition.TheVariants as of_element
+use Rattle.icu_entries.specs.ElementConditions.{element_meets}
+use Rattle.icu_data.specs.DataConditions.{is_inside, has_short_rows, leads_on, has_known_members, fits_offset}
+use Rattle.icu_entries.specs.EntryConditions.{has_digit, has_known_byte}
+use Rattle.icu_data.specs.Data.{Data, homed}
+use Rattle.icu_data.specs.Final.{final_elements}
+use Rattle.icu_data.specs.Live.{EachLive}
+
+-- an entry of this home meets the condition where it is live with this character
+abbrev pub meets : LiveCondition → Data → ℕ → ℕ → Bool
+meets Places home c e = is_inside home e
+meets PrefixRows home c e = has_short_rows home e
+meets Chains home c e = leads_on home e
+meets Digits home c e = has_digit e
+meets Bytes home c e = has_known_byte e && has_known_members home e
+meets Offsets home c e = fits_offset home c e
+meets Shapes home c e = list_all (element_meets of_element.Shape) (final_elements (homed home e) c)
+meets Leads home c e = list_all (element_meets of_element.Leads) (final_elements (homed home e) c)
+meets Primaries home c e = list_all (element_meets of_element.Primary) (final_elements (homed home e) c)
+
+-- all of them, in the order in which a refusal names them
+abbrev pub live_conditions : List LiveCondition
+live_conditions = Places ∷ PrefixRows ∷ Chains ∷ Digits ∷ Bytes ∷ Offsets ∷ Shapes ∷ Leads ∷ Primaries ∷ []
+
+-- the first condition that the entry fails
+unfoldable pub first_failing : Data → ℕ → ℕ → Option LiveCondition
+first_failing home c e = find (λ condition. not (meets condition home c e)) live_conditions
+
+-- the kind of a refusal for a condition
+abbrev pub kind_for : LiveCondition → DataErrorKind
+kind_for Places = kinds.Index
+kind_for PrefixRows = kinds.Context
+kind_for Chains = kinds.Chain
+kind_for Digits = kinds.Digit
+kind_for Bytes = kinds.Tag
+kind_for Offsets = kinds.Element
+kind_for Shapes = kinds.Element
+kind_for Leads = kinds.Element
+kind_for Primaries = kinds.Element
+
+-- each entry that is live with a character of the code point table meets the condition
+abbrev pub EachMeets : LiveCondition → Bool → Data → Type 0
+EachMeets condition falls_back home = EachLive (λ c e. IsTrue (meets condition home c e)) falls_back home
+
+-- each meets each condition
+pub record IsGoodData (falls_back : Bool) (home : Data) : Type 0 where
+  pub each : (condition : LiveCondition) → EachMeets condition falls_back home
+
+-- a condition of this kind fails
+pub record FailsData (falls_back : Bool) (home : Data) (kind : DataErrorKind) : Type 0 where
+  pub condition : LiveCondition
+  pub of_kind : kind_for condition ≡ kind
+  pub fails : ¬ (EachMeets condition falls_back home)

@@ -1,0 +1,33 @@
+-- What a root or a tailoring says, as it is stored.
+use Rattle.std.specs.Prelude.{ℕ, List, map}
+use Rattle.icu_data.specs.declared.code_point_table.CodePointTable.{CodePointTable}
+use Rattle.icu_data.specs.declared.context.ContextTable.{ContextTable}
+use Rattle.icu_data.specs.declared.context.FoundContext.{FoundContext}
+use Rattle.icu_data.specs.declared.context.FoundRow.{FoundRow}
+use Rattle.icu_data.specs.declared.data.CollationData.{CollationData}
+use Rattle.icu_entries.specs.Elements.{element_of}
+use Rattle.icu_data.specs.CodePointTables.{stored_value}
+use Rattle.icu_data.specs.Data.{Row, Context, Data}
+use Rattle.icu_data.specs.Contexts.{rows_of, stored_contexts}
+
+-- the function from characters to values that a code point table is
+abbrev pub table_value : CodePointTable → ℕ → ℕ
+table_value t = stored_value t.blocks.now t.values.now
+
+-- the contexts of a context table, one that was looked up, and a row of one
+abbrev pub contexts_of : ContextTable → List Context
+contexts_of t = stored_contexts t.contexts.now t.rows.now t.chars.now
+
+abbrev pub found_context : FoundContext → Context
+found_context f = record { default = f.default; rows = rows_of f.chars.now f.rows.now }
+
+abbrev pub found_row : FoundRow → Row
+found_row r = record { chars = r.chars.now; entry = r.entry }
+
+-- a root or a tailoring by its code point table, its lists of elements and of entries, and its contexts
+abbrev pub data_by : CodePointTable → List ℕ → List ℕ → ContextTable → Data
+data_by trie ces ce32s contexts =
+    record { value = table_value trie; elements = map element_of ces; entries = ce32s; contexts = contexts_of contexts }
+
+unfoldable pub data_of : CollationData → Data
+data_of d = data_by d.trie d.ces.now d.ce32s.now d.contexts

@@ -1,0 +1,214 @@
+ghost use Rattle.std.specs.Prelude.{◌≡◌, ◌+◌, ◌<◌, ◌≤◌, length, slice_index, slice_index_or, take, drop, map, IsTrue, All, IsOk, IfOk, IfErr, true, ◌↔◌, ◌∷◌, []};
+ghost use Rattle.icu_data.specs.Contexts.{has_ascending_rows};
+ghost use Rattle.icu_entries.specs.Elements.{element_of, end_element};
+ghost use Rattle.icu_entries.specs.Entries.{kind_of, has_index, entry_index};
+ghost use Rattle.icu_entries.specs.Weights.{place_of_weight, offset_compressible, offset_place};
+ghost use Rattle.icu_data.specs.Final.{final_elements};
+ghost use Rattle.icu_data.specs.DataConditions.{is_inside, fits_offset};
+ghost use Rattle.icu_data.specs.LiveConditions.{IsGoodData, FailsData};
+ghost use Rattle.icu_data.specs.Data.{homed, no_context, context_of, plain_of};
+
+use crate::code_point_table::CodePointTable;
+use crate::context::{ContextTable, FoundContext};
+use crate::fault::first_fault;
+use crate::live_condition::EntryJudge;
+use icu_entries::{CollationElement, CollationElement32, DataErrorKind, EntryKind};
+
+/// A root or a tailoring: a table of entries by character, and the lists and contexts that entries name.
+#[derive(Debug, Clone, Copy, PartialEq)]
+pub struct CollationData<'d> {
+    trie: CodePointTable<'d>,
+    ces: &'d [u64],
+    ce32s: &'d [u32],
+    contexts: ContextTable<'d>,
+}
+
+impl<'d> CollationData<'d> {
+    ghost use Rattle.icu_data.specs.StoredData.{data_of, data_by, found_context};
+
+    /// Borrows a root or a tailoring without a check of its entries. Its look-ups ask their callers for what they need.
+    #[tactic(auto, unfolding(crate::specs::StoredData::data_of))]
+    pub fn from_parts(
+        trie: CodePointTable<'d>,
+        ces: &'d [u64],
+        ce32s: &'d [u32],
+        contexts: ContextTable<'d>,
+    ) -> CollationData<'d>
+        ensures { data_of result ≡ data_by trie.entry ces.entry.now ce32s.entry.now contexts.entry }
+    {
+        CollationData {
+            trie,
+            ces,
+            ce32s,
+            contexts,
+        }
+    }
+
+    /// Borrows a root or a tailoring, which may have fallback entries in its code point table. It is refused if an entry that a text
+    /// may come to fails a condition: with `Index` if what it names is not there, or a list has no member; `Context` if a row of a
+    /// prefix has not one character or two; `Chain` if it leads to an entry that it may not lead to; `Digit` if a digit is above 9;
+    /// `Tag` if its low byte, or that of a list's member, has no meaning where it stands; `Element` if a character has no weight by
+    /// its offset data, or an element is malformed, or a weight has a lead byte that it may not have. Secondary weights may lead
+    /// with 02.
+    pub fn new(
+        trie: CodePointTable<'d>,
+        ces: &'d [u64],
+        ce32s: &'d [u32],
+        contexts: ContextTable<'d>,
+    ) -> Result<CollationData<'d>, DataErrorKind>
+        ensures accepts { IsOk result ↔ IsGoodData true (data_by trie.entry ces.entry.now ce32s.entry.now contexts.entry) }
+        ensures kind { IfErr result (FailsData true (data_by trie.entry ces.entry.now ce32s.entry.now contexts.entry)) }
+        ensures keeps { IfOk result (λ d. data_of d ≡ data_by trie.entry ces.entry.now ce32s.entry.now contexts.entry) }
+    {
+        let data = CollationData::from_parts(trie, ces, ce32s, contexts);
+        data.check()?;
+        Ok(data)
+    }
+
+    /// Whether each entry that a text may come to meets each condition.
+    fn check(self) -> Result<(), DataErrorKind>
+        ensures accepts { IsOk result ↔ IsGoodData true (data_of self.entry) }
+        ensures kind { IfErr result (FailsData true (data_of self.entry)) }
+    {
+        match first_fault(&EntryJudge, None, self, true) {
+            None => Ok(()),
+            Some(condition) => Err(condition.kind()),
+        }
+    }
+
+    /// The code point table, the bits of the elements, the entries, and the contexts, as `new` takes them. In each context the rows
+    /// ascend by the numbers of their characters.
+    #[tactic(auto, using(crate::proofs::ContextLemmas::ascending_rows), unfolding(crate::specs::StoredData::data_of))]
+    pub fn parts(self) -> (CodePointTable<'d>, &'d [u64], &'d [u32], ContextTable<'d>)
+        ensures value { data_by result.0 result.1.now result.2.now result.3 ≡ data_of self.entry }
+        ensures ascending { All (λ x. IsTrue (has_ascending_rows x)) (data_of self.entry).contexts }
+    {
+        (self.trie, self.ces, self.ce32s, self.contexts)
+    }
+
+    /// The entry of a character.
+    #[tactic(auto, unfolding(crate::specs::StoredData::data_of))]
+    pub fn ce32_for_char(self, c: char) -> CollationElement32
+        ensures { result ≡ (data_of self.entry).value c }
+    {
+        CollationElement32::new(self.trie.get(c))
+    }
+
+    /// The entry at a place of the list of entries.
+    #[tactic(auto, unfolding(crate::specs::StoredData::data_of))]
+    pub fn get_ce32(self, index: usize) -> CollationElement32
+        requires { index < length (data_of self).entries }
+        ensures { result ≡ slice_index (data_of self.entry).entries index }
+    {
+        CollationElement32::new(self.ce32s[index])
+    }
+
+    /// `len` entries from a place on.
+    #[tactic(auto, unfolding(crate::specs::StoredData::data_of))]
+    pub fn get_ce32s(self, index: usize, len: usize) -> &'d [u32]
+        requires { index + len ≤ length (data_of self).entries }
+        ensures { result.now ≡ take len (drop index (data_of self.entry).entries) }
+    {
+        &self.ce32s[index..index + len]
+    }
+
+    /// The bits of `len` elements from a place on.
+    #[tactic(auto, using(crate::proofs::ListLemmas::map_taken), unfolding(crate::specs::StoredData::data_of))]
+    pub fn get_ces(self, index: usize, len: usize) -> &'d [u64]
+        requires { index + len ≤ length (data_of self).elements }
+        ensures { map element_of result.now ≡ take len (drop index (data_of self.entry).elements) }
+    {
+        &self.ces[index..index + len]
+    }
+
+    /// The entry for all texts of the context at a place, but those of its rows.
+    #[tactic(auto, unfolding(crate::specs::StoredData::data_of))]
+    pub fn get_default(self, index: usize) -> CollationElement32
+        requires { index < length (data_of self).contexts }
+        ensures { result ≡ (slice_index_or (data_of self.entry).contexts index no_context).default }
+    {
+        self.get_context(index).default()
+    }
+
+    /// The context at a place, its entry for all texts and its rows.
+    #[tactic(auto, unfolding(crate::specs::StoredData::data_of))]
+    pub fn get_context(self, index: usize) -> FoundContext<'d>
+        requires { index < length (data_of self).contexts }
+        ensures { found_context result ≡ slice_index_or (data_of self.entry).contexts index no_context }
+    {
+        self.contexts.get(index)
+    }
+
+    /// The context that an entry names, or an empty one where there is none at that place.
+    #[tactic(auto, unfolding(crate::specs::StoredData::data_of))]
+    pub(crate) fn context_of(self, entry: CollationElement32) -> FoundContext<'d>
+        requires { IsTrue (has_index (kind_of entry)) }
+        ensures { found_context result ≡ context_of (homed (data_of self.entry) entry) }
+    {
+        self.contexts.get_or_empty(entry.index())
+    }
+
+    /// The data that an offset entry names.
+    #[tactic(auto, unfolding(crate::specs::StoredData::data_of, crate::specs::DataConditions::is_inside))]
+    pub(crate) fn offset_data(self, entry: CollationElement32) -> CollationElement
+        requires offset { kind_of entry ≡ EntryKind.Offset }
+        requires inside { IsTrue (is_inside (data_of self) entry) }
+        ensures taken { take 1 (drop (entry_index entry) (data_of self.entry).elements) ≡ result ∷ [] }
+        ensures value { result ≡ slice_index_or (data_of self.entry).elements (entry_index entry) end_element }
+    {
+        CollationElement::new(self.ces[entry.index()])
+    }
+
+    /// The element of a character by an offset entry. Its primary weight, of three bytes, stands as many places after that of the
+    /// entry's data as the step says for each character from the base on.
+    #[tactic(auto, unfolding(crate::specs::Final::final_elements, crate::specs::DataConditions::fits_offset))]
+    pub fn ce_from_offset_ce32(self, c: char, entry: CollationElement32) -> CollationElement
+        requires offset { kind_of entry ≡ EntryKind.Offset }
+        requires inside { IsTrue (is_inside (data_of self) entry) }
+        requires fits { IsTrue (fits_offset (data_of self) c entry) }
+        ensures value { final_elements (homed (data_of self.entry) entry) c ≡ result ∷ [] }
+        ensures place { let d = slice_index_or (data_of self.entry).elements (entry_index entry) end_element in place_of_weight (offset_compressible d) result.primary ≡ offset_place d c }
+    {
+        self.offset_data(entry).offset_element(c)
+    }
+
+    #[tactic(auto, unfolding(crate::specs::StoredData::data_of))]
+    pub(crate) fn context_count(self) -> usize
+        ensures { result ≡ length (data_of self.entry).contexts }
+    {
+        self.contexts.len()
+    }
+
+    #[tactic(auto, unfolding(crate::specs::StoredData::data_of))]
+    pub(crate) fn entries(self) -> &'d [u32]
+        ensures { result.now ≡ (data_of self.entry).entries }
+    {
+        self.ce32s
+    }
+
+    #[tactic(auto, unfolding(crate::specs::StoredData::data_of))]
+    pub(crate) fn entry_count(self) -> usize
+        ensures { result ≡ length (data_of self.entry).entries }
+    {
+        self.ce32s.len()
+    }
+
+    #[tactic(auto, unfolding(crate::specs::StoredData::data_of))]
+    pub(crate) fn element_count(self) -> usize
+        ensures { result ≡ length (data_of self.entry).elements }
+    {
+        self.ces.len()
+    }
+
+    /// The plain entry of a digit entry, or 0 where the list of entries is too short.
+    #[tactic(auto, unfolding(crate::specs::StoredData::data_of))]
+    pub(crate) fn plain_entry(self, entry: CollationElement32) -> CollationElement32
+        requires { kind_of entry ≡ EntryKind.Digit }
+        ensures { result ≡ plain_of (data_of self.entry) entry }
+    {
+        match self.ce32s.get(entry.index()) {
+            Some(plain) => CollationElement32::new(*plain),
+            None => CollationElement32::new(0),
+        }
+    }
+}

@@ -1,0 +1,175 @@
+ghost use Rattle.std.specs.Prelude.{◌≡◌, Bool, IsTrue};
+ghost use Rattle.std.specs.List.{list_all};
+ghost use Rattle.icu_entries.specs.Entries.{is_self_contained, kind_of};
+ghost use Rattle.icu_data.specs.Data.{homed};
+ghost use Rattle.icu_data.specs.Final.{listed, final_elements};
+ghost use Rattle.icu_entries.specs.ElementConditions.{element_meets, all_meet};
+ghost use Rattle.icu_data.specs.LiveConditions.{first_failing};
+ghost use Rattle.icu_data.specs.StoredData.{data_of};
+ghost use Rattle.icu_data.specs.DataConditions.{is_inside, has_short_rows, leads_on, has_known_members, fits_offset, is_readable};
+
+use crate::data::CollationData;
+use crate::element_walk::{VisitElement, visit_elements};
+use crate::live_condition::LiveCondition;
+use icu_entries::element_conditions::ElementCondition;
+use icu_entries::{CollationElement, CollationElement32, EntryKind};
+use std::convert::Infallible;
+
+impl<'d> CollationData<'d> {
+    /// Whether what the entry names is there.
+    #[tactic(auto, unfolding(crate::specs::DataConditions::is_inside))]
+    pub(crate) fn is_inside(self, entry: CollationElement32) -> bool
+        ensures { result ≡ is_inside (data_of self.entry) entry }
+    {
+        match entry.kind() {
+            EntryKind::Expansion32 => entry.is_listed(self.entry_count()),
+            EntryKind::Expansion => entry.is_listed(self.element_count()),
+            EntryKind::Prefix | EntryKind::Contraction => entry.index() < self.context_count(),
+            EntryKind::Digit => entry.index() < self.entry_count(),
+            EntryKind::Offset => entry.index() < self.element_count(),
+            _ => true,
+        }
+    }
+
+    /// Whether the rows of a prefix have one character or two.
+    #[tactic(auto, unfolding(crate::specs::DataConditions::has_short_rows))]
+    pub(crate) fn has_short_rows(self, entry: CollationElement32) -> bool
+        ensures { result ≡ has_short_rows (data_of self.entry) entry }
+    {
+        match entry.kind() {
+            EntryKind::Prefix => self.context_of(entry).has_short_rows(),
+            _ => true,
+        }
+    }
+
+    /// Whether the entry leads only to entries that it may lead to.
+    #[tactic(auto, unfolding(crate::specs::DataConditions::leads_on))]
+    pub(crate) fn leads_on(self, entry: CollationElement32) -> bool
+        ensures { result ≡ leads_on (data_of self.entry) entry }
+    {
+        match entry.kind() {
+            EntryKind::Prefix => self.context_of(entry).may_follow_prefix(),
+            EntryKind::Contraction => self.context_of(entry).may_follow_contraction(),
+            EntryKind::Digit => self.plain_entry(entry).kind().is_final(),
+            _ => true,
+        }
+    }
+
+    /// Whether the members of a list of entries, as far as the table goes, have one element each.
+    #[tactic(auto, unfolding(crate::specs::DataConditions::has_known_members))]
+    pub(crate) fn has_known_members(self, entry: CollationElement32) -> bool
+        ensures { result ≡ has_known_members (data_of self.entry) entry }
+    {
+        match entry.kind() {
+            EntryKind::Expansion32 => self.members_are_self_contained(entry),
+            _ => true,
+        }
+    }
+
+    pub(crate) fn members_are_self_contained(self, entry: CollationElement32) -> bool
+        requires { kind_of entry ≡ EntryKind.Expansion32 }
+        ensures { result ≡ list_all is_self_contained (listed entry (data_of self.entry).entries) }
+    {
+        self.entries()
+            .iter()
+            .skip(entry.index())
+            .take(entry.len())
+            .all(|member| CollationElement32::new(*member).is_self_contained())
+    }
+
+    /// Whether a character has a weight by the data of an offset entry.
+    #[tactic(auto, unfolding(crate::specs::DataConditions::fits_offset, crate::specs::DataConditions::is_inside))]
+    pub(crate) fn fits_offset(self, c: char, entry: CollationElement32) -> bool
+        requires { IsTrue (is_inside (data_of self) entry) }
+        ensures { result ≡ fits_offset (data_of self.entry) c entry }
+    {
+        match entry.kind() {
+            EntryKind::Offset => self.offset_data(entry).has_offset_weight(c),
+            _ => true,
+        }
+    }
+
+    /// Whether the elements of the entry with the character can be read, if it is final: what it names is there, the members of its
+    /// list have one element each, and the character has a weight by its offset data.
+    #[tactic(auto, unfolding(crate::specs::DataConditions::is_readable))]
+    pub fn is_readable(self, c: char, entry: CollationElement32) -> bool
+        ensures { result ≡ is_readable (data_of self.entry) c entry }
+    {
+        self.is_inside(entry) && self.has_known_members(entry) && self.fits_offset(c, entry)
+    }
+
+    /// Whether each element that the entry gives with the character meets the condition.
+    #[tactic(auto, unfolding(crate::specs::DataConditions::is_readable))]
+    pub(crate) fn elements_meet(
+        self,
+        condition: ElementCondition,
+        c: char,
+        entry: CollationElement32,
+    ) -> bool
+        requires inside { IsTrue (is_inside (data_of self) entry) }
+        requires members { IsTrue (has_known_members (data_of self) entry) }
+        requires offset { IsTrue (fits_offset (data_of self) c entry) }
+        ensures { result ≡ list_all (element_meets condition) (final_elements (homed (data_of self.entry) entry) c) }
+    {
+        let mut visitor = AllMeet {
+            condition,
+            all: true,
+        };
+        match visit_elements(&mut visitor, self, c, entry) {
+            Ok(()) => visitor.all,
+            Err(never) => match never {},
+        }
+    }
+
+    /// The first condition that a live entry fails with a character.
+    #[tactic(auto, unfolding(crate::specs::LiveConditions::first_failing))]
+    pub fn first_failing(self, c: char, entry: CollationElement32) -> Option<LiveCondition>
+        ensures { result ≡ first_failing (data_of self.entry) c entry }
+    {
+        if !self.is_inside(entry) {
+            Some(LiveCondition::Places)
+        } else if !self.has_short_rows(entry) {
+            Some(LiveCondition::PrefixRows)
+        } else if !self.leads_on(entry) {
+            Some(LiveCondition::Chains)
+        } else if !entry.has_digit() {
+            Some(LiveCondition::Digits)
+        } else if !(entry.has_known_byte() && self.has_known_members(entry)) {
+            Some(LiveCondition::Bytes)
+        } else if !self.fits_offset(c, entry) {
+            Some(LiveCondition::Offsets)
+        } else if !self.elements_meet(ElementCondition::Shape, c, entry) {
+            Some(LiveCondition::Shapes)
+        } else if !self.elements_meet(ElementCondition::Leads, c, entry) {
+            Some(LiveCondition::Leads)
+        } else if !self.elements_meet(ElementCondition::Primary, c, entry) {
+            Some(LiveCondition::Primaries)
+        } else {
+            None
+        }
+    }
+}
+
+/// Whether each element so far meets a condition.
+#[derive(Drop)]
+struct AllMeet {
+    condition: ElementCondition,
+    all: bool,
+}
+
+impl VisitElement for AllMeet {
+    ghost use Rattle.icu_entries.specs.declared.element_conditions.ElementCondition.{ElementCondition};
+
+    type Refusal = Infallible;
+
+    ghost Seen = { ElementCondition × Bool };
+
+    ghost seen = { λ v. (v.condition, v.all) };
+
+    ghost after = { all_meet };
+
+    fn visit(&mut self, element: CollationElement) -> Result<(), Infallible> {
+        self.all = self.all && self.condition.holds(element);
+        Ok(())
+    }
+}

@@ -1,0 +1,19 @@
+//! Roots and tailorings: entries by character, with the lists and contexts that they refer to, the entries that are live in them,
+//! and the conditions that these meet.
+#![tactic(auto)]
+
+pub mod code_point_table;
+pub mod context;
+mod context_conditions;
+pub mod data;
+mod data_conditions;
+pub mod element_walk;
+pub mod fault;
+pub mod live_condition;
+pub mod live_weights;
+mod prefix_rows;
+pub mod walk;
+
+pub use code_point_table::CodePointTable;
+pub use context::{Context, ContextRow, ContextTable, FoundContext, FoundRow};
+pub use data::CollationData;

@@ -1,0 +1,95 @@
+ghost use Rattle.std.specs.Prelude.{◌≡◌, ◌<◌};
+ghost use Rattle.icu_data.specs.LiveConditions.{kind_for, first_failing};
+ghost use Rattle.icu_data.specs.Faults.{condition_rank};
+
+use crate::data::CollationData;
+use crate::fault::{Judge, Ranked};
+use icu_entries::{CollationElement32, DataErrorKind};
+
+/// A condition on an entry that is live in a root or a tailoring, in the order in which a refusal names them.
+#[derive(Debug, Clone, Copy, PartialEq, Eq)]
+pub enum LiveCondition {
+    /// What the entry names is there.
+    Places,
+    /// The rows of a prefix have one character or two.
+    PrefixRows,
+    /// The entry leads only to entries that it may lead to.
+    Chains,
+    /// A digit is at most 9.
+    Digits,
+    /// The low byte is known, and so are those of a list's members.
+    Bytes,
+    /// The character has a weight by the offset data.
+    Offsets,
+    /// The weights of the elements are well formed.
+    Shapes,
+    /// Their secondary and tertiary weights have lead bytes that they may have.
+    Leads,
+    /// So have their primary weights.
+    Primaries,
+}
+
+impl LiveCondition {
+    /// The kind of a refusal for this condition.
+    pub fn kind(self) -> DataErrorKind
+        ensures { result ≡ kind_for self }
+    {
+        match self {
+            LiveCondition::Places => DataErrorKind::Index,
+            LiveCondition::PrefixRows => DataErrorKind::Context,
+            LiveCondition::Chains => DataErrorKind::Chain,
+            LiveCondition::Digits => DataErrorKind::Digit,
+            LiveCondition::Bytes => DataErrorKind::Tag,
+            LiveCondition::Offsets
+            | LiveCondition::Shapes
+            | LiveCondition::Leads
+            | LiveCondition::Primaries => DataErrorKind::Element,
+        }
+    }
+}
+
+impl Ranked for LiveCondition {
+    ghost rank = { condition_rank };
+
+    /// Its place among all conditions.
+    fn rank(self) -> u32
+        ensures value { result ≡ condition_rank self }
+        ensures bound { result < 256 }
+    {
+        match self {
+            LiveCondition::Places => 20,
+            LiveCondition::PrefixRows => 30,
+            LiveCondition::Chains => 40,
+            LiveCondition::Digits => 50,
+            LiveCondition::Bytes => 51,
+            LiveCondition::Offsets => 60,
+            LiveCondition::Shapes => 70,
+            LiveCondition::Leads => 80,
+            LiveCondition::Primaries => 110,
+        }
+    }
+}
+
+/// The judge of a root or a tailoring alone: the first condition that an entry fails.
+#[derive(Debug, Clone, Copy, PartialEq)]
+pub struct EntryJudge;
+
+impl Judge for EntryJudge {
+    type Fault = LiveCondition;
+
+    ghost fault = { λ j home c e. first_failing home c e };
+
+    fn fault(
+        &self,
+        home: CollationData<'_>,
+        c: char,
+        entry: CollationElement32,
+    ) -> Option<LiveCondition> {
+        home.first_failing(c, entry)
+    }
+
+    #[tactic(auto, using(crate::proofs::ImplicitLemmas::implicit_passes))]
+    fn passes_implicit(&self) -> bool {
+        true
+    }
+}

@@ -1,0 +1,152 @@
+//! The weights of the elements of live entries, collected.
+ghost use Rattle.std.specs.Prelude.{◌≡◌, ◌↔◌, ◌⊎◌, ℕ, true, List, Option, None, OnOk};
+ghost use Rattle.std.specs.List.{Contains};
+ghost use Rattle.icu_entries.specs.Elements.{Element, of_primary};
+ghost use Rattle.icu_entries.specs.Weights.{implicit_weight};
+ghost use Rattle.icu_data.specs.Live.{live_from};
+ghost use Rattle.icu_data.specs.StoredData.{data_of};
+ghost use Rattle.icu_data.specs.LiveWeights.{is_last, with_weight, collected, collected_at, IsWeightAmong, IsLiveWeight};
+
+use crate::data::CollationData;
+use crate::element_walk::{VisitElement, visit_elements};
+use crate::walk::{Visit, visit_chars, visit_from};
+use icu_entries::{CollationElement, CollationElement32};
+use std::alloc::AllocError;
+use std::mem::replace;
+
+/// Which weight of an element is collected.
+pub trait Weigh {
+    /// The weight of an element, if it is collected.
+    ghost weight: { Self → Element → Option ℕ };
+
+    /// The weight of an element, if it is collected.
+    fn weight(&self, element: CollationElement) -> Option<u32>
+        ensures { result ≡ weight self.now element };
+
+    /// Whether no weight of an implicit element (UTS #10, section 10.1) is collected, so that a walk may pass over the million entries
+    /// that have one. `false` leaves that open.
+    fn skips_implicit(&self) -> bool
+        ensures { result ≡ true → (c : ℕ) → weight self.now (of_primary (implicit_weight c)) ≡ None }
+    {
+        false
+    }
+}
+
+#[tactic(auto, unfolding(crate::specs::LiveWeights::is_last))]
+fn is_last(weights: &[u32], weight: u32) -> bool
+    ensures { result ≡ is_last weights.now weight }
+{
+    match weights.last() {
+        Some(last) => *last == weight,
+        None => false,
+    }
+}
+
+#[tactic(auto, unfolding(crate::specs::LiveWeights::with_weight))]
+fn add_weight(weights: &mut Vec<u32>, weight: u32) -> Result<(), AllocError>
+    ensures { OnOk result (weights.new.items ≡ with_weight weights.old.items weight) }
+{
+    if !is_last(weights, weight) {
+        weights.push(weight)?;
+    }
+    Ok(())
+}
+
+/// A visitor that collects weights.
+#[derive(Drop)]
+struct Collector<'w, W> {
+    weigh: &'w W,
+    weights: Vec<u32>,
+}
+
+impl<'w, W: Weigh> Collector<'w, W> {
+    /// A collector that goes on with a list, which is left empty.
+    fn over(weigh: &'w W, weights: &mut Vec<u32>) -> Collector<'w, W>
+        ensures weigh { result.weigh.now ≡ weigh.now }
+        ensures weights { result.weights.items ≡ weights.old.items }
+    {
+        let none = Vec::new(*weights.allocator());
+        Collector {
+            weigh,
+            weights: replace(weights, none),
+        }
+    }
+}
+
+impl<'w, W: Weigh> VisitElement for Collector<'w, W> {
+    type Refusal = AllocError;
+
+    ghost Seen = { W × List ℕ };
+
+    ghost seen = { λ v. (v.weigh.now, v.weights.items) };
+
+    ghost after = { collected W.weight };
+
+    fn visit(&mut self, element: CollationElement) -> Result<(), AllocError> {
+        match self.weigh.weight(element) {
+            Some(weight) => add_weight(&mut self.weights, weight),
+            None => Ok(()),
+        }
+    }
+}
+
+impl<'w, W: Weigh> Visit for Collector<'w, W> {
+    type Refusal = AllocError;
+
+    ghost Seen = { W × List ℕ };
+
+    ghost seen = { λ v. (v.weigh.now, v.weights.items) };
+
+    ghost after = { collected_at W.weight };
+
+    #[tactic(auto, unfolding(crate::specs::LiveWeights::given_elements))]
+    fn visit(
+        &mut self,
+        home: CollationData<'_>,
+        c: char,
+        entry: CollationElement32,
+    ) -> Result<(), AllocError> {
+        if home.is_readable(c, entry) {
+            visit_elements(self, home, c, entry)
+        } else {
+            Ok(())
+        }
+    }
+
+    fn passes_implicit(&self) -> bool {
+        self.weigh.skips_implicit()
+    }
+}
+
+/// Adds to a list the weights that are collected of the elements of all entries that are live in a root or a tailoring, in any
+/// order, with or without repetition. A tailoring falls back: a fallback entry of its code point table is none. An entry whose
+/// elements can't be read, and one that is not final, gives none. Where memory is refused, nothing is said of the list.
+pub fn collect_weights<W: Weigh>(
+    weights: &mut Vec<u32>,
+    weigh: &W,
+    home: CollationData<'_>,
+    falls_back: bool,
+) -> Result<(), AllocError>
+    ensures { OnOk result ((w : ℕ) → Contains weights.new.items w ↔ (Contains weights.old.items w ⊎ IsLiveWeight (W.weight weigh.now) falls_back (data_of home.entry) w)) }
+{
+    let mut collector = Collector::over(weigh, weights);
+    let outcome = visit_chars(&mut collector, home, falls_back);
+    *weights = collector.weights;
+    outcome
+}
+
+/// The same of the entries that are live with a character from one entry on.
+pub fn collect_weights_from<W: Weigh>(
+    weights: &mut Vec<u32>,
+    weigh: &W,
+    home: CollationData<'_>,
+    c: char,
+    entry: CollationElement32,
+) -> Result<(), AllocError>
+    ensures { OnOk result ((w : ℕ) → Contains weights.new.items w ↔ (Contains weights.old.items w ⊎ IsWeightAmong (W.weight weigh.now) (data_of home.entry) c (live_from (data_of home.entry) entry) w)) }
+{
+    let mut collector = Collector::over(weigh, weights);
+    let outcome = visit_from(&mut collector, home, c, entry);
+    *weights = collector.weights;
+    outcome
+}

@@ -1,0 +1,168 @@
+//! A walk over the entries that are live with characters: one for all that is asked of them.
+ghost use Rattle.std.specs.Prelude.{◌≡◌, ℕ, ◌<◌, true, OnOk};
+ghost use Rattle.icu_entries.specs.Entries.{kind_of};
+ghost use Rattle.icu_data.specs.Data.{Data};
+ghost use Rattle.icu_data.specs.Live.{live_digit, live_contraction, live_from, live_at};
+ghost use Rattle.icu_data.specs.StoredData.{data_of, found_context};
+ghost use Rattle.icu_data.specs.Walks.{after_all, after_rows, after_chars, chars_below};
+
+use crate::context::FoundContext;
+use crate::data::CollationData;
+use icu_entries::{CollationElement32, EntryKind};
+
+/// What is told of each live entry.
+pub trait Visit {
+    /// Why a visit ends the walk, as for want of memory. `Infallible` where none does.
+    type Refusal;
+
+    /// What visits add up to.
+    ghost Seen: { Type 0 };
+
+    /// What the visits so far came to.
+    ghost seen: { Self → Seen };
+
+    /// What it is after one more entry, by the entry's home, the character, and the entry.
+    ghost after: { Seen → Data → ℕ → ℕ → Seen };
+
+    /// Tells of an entry that is live with a character, and of the entry's home.
+    fn visit(
+        &mut self,
+        home: CollationData<'_>,
+        c: char,
+        entry: CollationElement32,
+    ) -> Result<(), Self::Refusal>
+        ensures { OnOk result (seen self.new ≡ after (seen self.old) (data_of home.entry) c entry) };
+
+    /// Whether a visit of an entry for an implicit weight (UTS #10, section 10.1) changes nothing, so that a walk may pass over the
+    /// million characters that have one. `false` leaves that open.
+    fn passes_implicit(&self) -> bool
+        ensures { result ≡ true → (home : Data) (c e : ℕ) → kind_of e ≡ EntryKind.Implicit → after (seen self.now) home c e ≡ seen self.now }
+    {
+        false
+    }
+}
+
+#[tactic(auto, unfolding(crate::specs::Live::live_digit))]
+fn visit_digit<V: Visit>(
+    visitor: &mut V,
+    home: CollationData<'_>,
+    c: char,
+    entry: CollationElement32,
+) -> Result<(), V::Refusal>
+    ensures { OnOk result (V.seen visitor.new ≡ after_all V.after (V.seen visitor.old) (data_of home.entry) c (live_digit (data_of home.entry) entry)) }
+{
+    visitor.visit(home, c, entry)?;
+    if entry.kind() == EntryKind::Digit {
+        visitor.visit(home, c, home.plain_entry(entry))?;
+    }
+    Ok(())
+}
+
+fn visit_digit_rows<V: Visit>(
+    visitor: &mut V,
+    home: CollationData<'_>,
+    c: char,
+    context: FoundContext<'_>,
+) -> Result<(), V::Refusal>
+    ensures { OnOk result (V.seen visitor.new ≡ after_rows V.after (live_digit (data_of home.entry)) (data_of home.entry) c (found_context context.entry).rows (V.seen visitor.old)) }
+{
+    let rows = context.rows;
+    for row in rows {
+        visit_digit(visitor, home, c, CollationElement32::new(row.entry))?;
+    }
+    Ok(())
+}
+
+#[tactic(auto, unfolding(crate::specs::Live::live_contraction))]
+fn visit_contraction<V: Visit>(
+    visitor: &mut V,
+    home: CollationData<'_>,
+    c: char,
+    entry: CollationElement32,
+) -> Result<(), V::Refusal>
+    ensures { OnOk result (V.seen visitor.new ≡ after_all V.after (V.seen visitor.old) (data_of home.entry) c (live_contraction (data_of home.entry) entry)) }
+{
+    if entry.kind() == EntryKind::Contraction {
+        visitor.visit(home, c, entry)?;
+        let context = home.context_of(entry);
+        visit_digit(visitor, home, c, context.default())?;
+        visit_digit_rows(visitor, home, c, context)
+    } else {
+        visit_digit(visitor, home, c, entry)
+    }
+}
+
+fn visit_contraction_rows<V: Visit>(
+    visitor: &mut V,
+    home: CollationData<'_>,
+    c: char,
+    context: FoundContext<'_>,
+) -> Result<(), V::Refusal>
+    ensures { OnOk result (V.seen visitor.new ≡ after_rows V.after (live_contraction (data_of home.entry)) (data_of home.entry) c (found_context context.entry).rows (V.seen visitor.old)) }
+{
+    let rows = context.rows;
+    for row in rows {
+        visit_contraction(visitor, home, c, CollationElement32::new(row.entry))?;
+    }
+    Ok(())
+}
+
+/// Tells a visitor of each entry that is live from this one.
+#[tactic(auto, unfolding(crate::specs::Live::live_from))]
+pub fn visit_from<V: Visit>(
+    visitor: &mut V,
+    home: CollationData<'_>,
+    c: char,
+    entry: CollationElement32,
+) -> Result<(), V::Refusal>
+    ensures { OnOk result (V.seen visitor.new ≡ after_all V.after (V.seen visitor.old) (data_of home.entry) c (live_from (data_of home.entry) entry)) }
+{
+    if entry.kind() == EntryKind::Prefix {
+        visitor.visit(home, c, entry)?;
+        let context = home.context_of(entry);
+        visit_contraction(visitor, home, c, context.default())?;
+        visit_contraction_rows(visitor, home, c, context)
+    } else {
+        visit_contraction(visitor, home, c, entry)
+    }
+}
+
+/// Tells a visitor of each entry that is live with a character of the code point table. In a tailoring, which falls back, a
+/// fallback entry is none.
+fn visit_char<V: Visit>(
+    visitor: &mut V,
+    home: CollationData<'_>,
+    c: char,
+    falls_back: bool,
+) -> Result<(), V::Refusal>
+    ensures { OnOk result (V.seen visitor.new ≡ after_all V.after (V.seen visitor.old) (data_of home.entry) c (live_at falls_back (data_of home.entry) c)) }
+{
+    let entry = home.ce32_for_char(c);
+    // nearly all entries of a root, which lead to nothing else
+    if entry.is_implicit() {
+        if visitor.passes_implicit() {
+            return Ok(());
+        }
+        return visitor.visit(home, c, entry);
+    }
+    if falls_back && entry.is_fallback() {
+        return Ok(());
+    }
+    visit_from(visitor, home, c, entry)
+}
+
+/// Tells a visitor of each entry that is live with each character.
+pub fn visit_chars<V: Visit>(
+    visitor: &mut V,
+    home: CollationData<'_>,
+    falls_back: bool,
+) -> Result<(), V::Refusal>
+    ensures { OnOk result (V.seen visitor.new ≡ after_chars V.after falls_back (V.seen visitor.old) (data_of home.entry) (chars_below 0x110000)) }
+{
+    for code in 0..0x110000u32 {
+        if let Some(c) = char::from_u32(code) {
+            visit_char(visitor, home, c, falls_back)?;
+        }
+    }
+    Ok(())
+}

@@ -1,0 +1,5 @@
+pub mod Elements
+pub mod Entries
+pub mod Weights
+pub mod ElementConditions
+pub mod EntryConditions

@@ -1,0 +1,15 @@
+//! Entries and collation elements, with the conditions on each, and the refusal of a table.
+#![tactic(auto)]
+
+pub mod element;
+pub mod element_conditions;
+pub mod entry;
+mod entry_conditions;
+pub mod error;
+pub mod non_primary;
+mod offset;
+
+pub use element::CollationElement;
+pub use entry::{CollationElement32, EntryKind, Tag};
+pub use error::{DataError, DataErrorKind, DataTable};
+pub use non_primary::NonPrimary;
