@@ -1,9 +1,9 @@
 //! Changes of tables, each a word that names it and words that follow.
 use crate::lists::{put, resize};
 use crate::notation::{character, index, number, number8, number16, number32, numbers, text};
+use icu_data::{Context, ContextRow};
 use icu_mini::mini::Mini;
 use icu_mini::table_data::TableData;
-use icu_provider::{Context, ContextRow};
 use std::alloc::Global;
 
 /// Makes one change, if the words are one.

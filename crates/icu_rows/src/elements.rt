@@ -3,10 +3,10 @@ ghost use Rattle.icu_elements.specs.CollationElements.{CanGive};
 
 use crate::base::tables;
 use crate::notation::text;
-use icu_comparison::{Collator, CollatorBorrowed};
+use icu_comparison::Collator;
 use icu_elements::{CollationElements, all_elements};
+use icu_entries::CollationElement;
 use icu_options::{CollatorOptions, CollatorPreferences};
-use icu_provider::CollationElement;
 use std::alloc::Global;
 
 /// A row is tables and a text. Its elements are printed in hexadecimal, of equal ones in a row the first and how many there
@@ -72,8 +72,7 @@ fn push_element(printed: &mut String, element: CollationElement, count: u64) -> 
     if !printed.is_empty() {
         printed.push(' ').ok()?;
     }
-    let rest = element.non_primary();
-    let lower = rest.case_quaternary() | rest.tertiary();
+    let lower = element.non_primary().bits() & 0xFFFF;
     write!(
         printed,
         "{:08X}.{:04X}.{:04X}",

@@ -1,4 +1,4 @@
-//! Worked rows: tables and what they are refused with, texts and their order, texts and their elements. The rows stand in
+//! Worked rows: tables and what they are refused with, texts and their order and elements, values of tables. The rows stand in
 //! files, each with what is expected at its end; the program prints the rows that don't hold, and how many do.
 #![tactic(auto)]
 
@@ -9,6 +9,7 @@ mod lists;
 mod notation;
 mod order;
 mod refusals;
+mod values;
 
 use std::alloc::Global;
 use std::{fs, io};
@@ -19,6 +20,7 @@ enum Subject {
     Refusals,
     Order,
     Elements,
+    Values,
 }
 
 impl Subject {
@@ -27,6 +29,7 @@ impl Subject {
             Subject::Refusals => "refusals.txt",
             Subject::Order => "order.txt",
             Subject::Elements => "elements.txt",
+            Subject::Values => "values.txt",
         }
     }
 
@@ -36,6 +39,7 @@ impl Subject {
             Subject::Refusals => refusals::refusals(alloc, input),
             Subject::Order => order::order(alloc, input),
             Subject::Elements => elements::elements(alloc, input),
+            Subject::Values => values::value(alloc, input),
         }
     }
 }
@@ -72,5 +76,6 @@ fn check_rows(rt: &HostRuntime, subject: Subject) -> io::Result<()> {
 fn main(rt: HostRuntime) -> io::Result<()> {
     check_rows(&rt, Subject::Refusals)?;
     check_rows(&rt, Subject::Order)?;
-    check_rows(&rt, Subject::Elements)
+    check_rows(&rt, Subject::Elements)?;
+    check_rows(&rt, Subject::Values)
 }

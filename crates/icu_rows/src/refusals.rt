@@ -1,11 +1,10 @@
 //! What tables are refused with.
 use crate::base::tables;
 use icu_checks::{CheckedTables, TableSet};
+use icu_data::{CodePointTable, CollationData, ContextTable};
+use icu_entries::{DataError, DataErrorKind, DataTable};
 use icu_mini::mini::Mini;
 use icu_mini::table_data::TableData;
-use icu_provider::{
-    CodePointTable, CollationData, ContextTable, DataError, DataErrorKind, DataTable,
-};
 use std::alloc::Global;
 
 /// A row is a name and tables. What they are refused with stands in two parts: by the constructors of single tables, the
