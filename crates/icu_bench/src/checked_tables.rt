@@ -1,59 +1,23 @@
 //! Tables that are accepted together, and what checked tables lend.
-use crate::damage::lend_all;
-use icu_checks::CheckedTables;
+use icu_checks::{CheckedTables, TableSet};
 use icu_data::CollationData;
-use icu_entries::CollationElement32;
+use icu_entries::{CollationElement32, DataErrorKind};
 use icu_mini::mini::Mini;
 use icu_options::MaxVariable;
-use std::alloc::{AllocError, Global};
 use std::process::Abort;
 use std::test::Fail;
 
-/// Mini and each of its variants, with a name.
-fn all_tables(alloc: Global) -> Result<Vec<(&'static str, Mini)>, AllocError> {
-    let mut all = Vec::new(alloc);
-    all.push(("Mini", Mini::new(alloc)?))?;
-    all.push(("backward", Mini::with_backward_second_level(alloc)?))?;
-    all.push(("Lithuanian", Mini::lithuanian(alloc)?))?;
-    all.push(("a with ring", Mini::with_a_ring(alloc)?))?;
-    all.push(("double l", Mini::with_double_l(alloc)?))?;
-    all.push(("b after a", Mini::with_b_after_a(alloc)?))?;
-    all.push(("offsets", Mini::with_offsets(alloc)?))?;
-    all.push(("swapped leads", Mini::with_swapped_leads(alloc)?))?;
-    all.push(("sharp s", Mini::with_sharp_s(alloc)?))?;
-    all.push(("two rows", Mini::with_two_rows(alloc)?))?;
-    all.push(("c after ab", Mini::with_c_after_ab(alloc)?))?;
-    all.push(("jamo list", Mini::with_jamo_list(alloc)?))?;
-    all.push(("kana", Mini::with_kana(alloc)?))?;
-    all.push(("high currency", Mini::with_high_currency(alloc)?))?;
-    all.push(("secondary alone", Mini::with_secondary_alone(alloc)?))?;
-    all.push(("tertiary alone", Mini::with_tertiary_alone(alloc)?))?;
-    all.push(("split lead", Mini::with_split_lead(alloc)?))?;
-    Ok(all)
-}
-
-#[test]
-fn mini_and_all_variants_are_accepted(rt: HostRuntime) -> Result<(), Fail> {
-    let all = all_tables(rt.alloc())?;
-    assert_eq!(rt; all.len(), 17);
-    for (name, mini) in all.iter() {
-        let set = lend_all(mini)?;
-        let refusal = CheckedTables::from_set(rt.alloc(), set).err();
-        assert_eq!(rt; refusal, None, "{name}, in a set");
-        let refusal = CheckedTables::new(
-            rt.alloc(),
-            set.root,
-            set.jamo,
-            set.special,
-            set.metadata,
-            set.tailoring,
-            set.reordering,
-            set.diacritics,
-        )
-        .err();
-        assert_eq!(rt; refusal, None, "{name}, one by one");
-    }
-    Ok(())
+/// The tables as they are lent, each checked by itself.
+fn lend_all(mini: &Mini) -> Result<TableSet<'_>, DataErrorKind> {
+    Ok(TableSet {
+        root: mini.lend_root()?,
+        jamo: mini.lend_jamo()?,
+        special: mini.lend_special_primaries()?,
+        metadata: mini.metadata,
+        tailoring: mini.lend_tailoring()?,
+        reordering: mini.lend_reordering()?,
+        diacritics: mini.lend_diacritics()?,
+    })
 }
 
 /// The lengths of the lists of elements and of entries, and the number of contexts.

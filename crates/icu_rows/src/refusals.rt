@@ -75,10 +75,19 @@ fn lend_all(mini: &Mini) -> Result<TableSet<'_>, DataError> {
 
 /// The tables checked together, the entries of the root and the tailoring not by themselves before.
 fn checked(alloc: Global, mini: &Mini) -> Result<CheckedTables, DataError> {
-    let lent = set(
+    let set = set(
         mini,
         lend_unchecked(&mini.root),
         lend_tailoring_unchecked(mini),
     )?;
-    CheckedTables::from_set(alloc, lent)
+    CheckedTables::new(
+        alloc,
+        set.root,
+        set.jamo,
+        set.special,
+        set.metadata,
+        set.tailoring,
+        set.reordering,
+        set.diacritics,
+    )
 }

@@ -1,10 +1,12 @@
-//! Tests of settings and of single tables: worked rows and outside vectors.
+//! Tests of settings, entries and single tables: worked rows and outside vectors.
 #![tactic(auto)]
 
 #[cfg(test)]
+mod elements;
+#[cfg(test)]
 mod options;
 #[cfg(test)]
-mod small_tables;
+mod requests;
 #[cfg(test)]
 mod tables;
 #[cfg(test)]

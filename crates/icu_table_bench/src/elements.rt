@@ -1,13 +1,6 @@
-//! Entries, elements and the elements of texts over the test table Mini.
-ghost use Rattle.icu_elements.specs.CollationElements.{CanGive};
-
-use icu_comparison::Collator;
-use icu_elements::CollationElements;
+//! Entries and elements, and their parts.
 use icu_entries::{CollationElement, CollationElement32, NonPrimary, Tag};
-use icu_mini::mini::Mini;
-use icu_options::{CollatorOptions, CollatorPreferences};
 use std::process::Abort;
-use std::test::Fail;
 
 #[test]
 fn entries_have_their_elements(rt: HostRuntime) {
@@ -71,40 +64,4 @@ fn elements_have_their_fields(rt: HostRuntime) {
         CollationElement::default(),
         CollationElement::new(0x0000_0001_0100_0100)
     );
-}
-
-/// Asserts that the next elements are those of the given bits.
-fn assert_gives<I: Iterator<Item = char> + Drop>(
-    rt: &impl Abort,
-    mut elements: CollationElements<'_, I>,
-    expected: &[u64],
-) -> Result<(), Fail>
-    requires { CanGive I.can_next I.remaining elements }
-{
-    for bits in expected {
-        assert_eq!(rt; elements.next()?, CollationElement::new(*bits), "{bits}");
-    }
-    Ok(())
-}
-
-#[test]
-fn elements_come_one_by_one_and_then_the_end(rt: HostRuntime) -> Result<(), Fail> {
-    let mini = Mini::new(rt.alloc())?;
-    let collator = Collator::try_new_unstable(
-        rt.alloc(),
-        &mini.provider(),
-        CollatorPreferences::default(),
-        CollatorOptions::default(),
-    )?;
-    let tables = collator.as_borrowed().tables();
-    let elements = CollationElements::new("áb7".chars(), tables, None, false);
-    let expected = [
-        0x6110_0000_0500_0500,
-        0x4700_0500,
-        0x6114_0000_0500_0500,
-        0x142C_0000_0500_0500,
-        0x0000_0001_0100_0100,
-        0x0000_0001_0100_0100,
-    ];
-    assert_gives(&rt, elements, &expected)
 }
