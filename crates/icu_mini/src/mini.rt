@@ -193,6 +193,3 @@ fn diacritics(alloc: Global) -> Result<Vec<u16>, AllocError>
     }
     Ok(weights)
 }
-
-#[cfg(test)]
-mod tests;

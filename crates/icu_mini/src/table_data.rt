@@ -126,6 +126,3 @@ impl TableData {
         )
     }
 }
-
-#[cfg(test)]
-mod tests;

@@ -247,6 +247,3 @@ fn all_leads(alloc: Global) -> Result<Vec<u8>, AllocError>
     }
     Ok(leads)
 }
-
-#[cfg(test)]
-mod tests;
