@@ -1,4 +1,4 @@
-//! Worked rows: tables and what they are refused with, texts and their order and elements, values of tables. The rows stand in
+//! Worked rows: tables and what they are refused with, texts and their order and elements, values of tables, settings. The rows stand in
 //! files, each with what is expected at its end; the program prints the rows that don't hold, and how many do.
 #![tactic(auto)]
 
@@ -9,6 +9,7 @@ mod lists;
 mod notation;
 mod order;
 mod refusals;
+mod settings;
 mod values;
 
 use std::alloc::Global;
@@ -21,6 +22,7 @@ enum Subject {
     Order,
     Elements,
     Values,
+    Settings,
 }
 
 impl Subject {
@@ -30,6 +32,7 @@ impl Subject {
             Subject::Order => "order.txt",
             Subject::Elements => "elements.txt",
             Subject::Values => "values.txt",
+            Subject::Settings => "settings.txt",
         }
     }
 
@@ -40,6 +43,7 @@ impl Subject {
             Subject::Order => order::order(alloc, input),
             Subject::Elements => elements::elements(alloc, input),
             Subject::Values => values::value(alloc, input),
+            Subject::Settings => settings::settings(alloc, input),
         }
     }
 }
@@ -77,5 +81,6 @@ fn main(rt: HostRuntime) -> io::Result<()> {
     check_rows(&rt, Subject::Refusals)?;
     check_rows(&rt, Subject::Order)?;
     check_rows(&rt, Subject::Elements)?;
-    check_rows(&rt, Subject::Values)
+    check_rows(&rt, Subject::Values)?;
+    check_rows(&rt, Subject::Settings)
 }

@@ -1,10 +1,10 @@
 //! Single values of tables.
 use crate::base::tables;
 use crate::notation::{character, index, number8, number32};
+use crate::settings::variable_group;
 use icu_data::CodePointTable;
 use icu_mini::mini::Mini;
 use icu_mini::table_data::TableData;
-use icu_options::MaxVariable;
 use icu_provider::CollationMetadata;
 use std::alloc::Global;
 
@@ -80,16 +80,6 @@ fn special_value(alloc: Global, mini: &Mini, words: &[&str]) -> Option<String> {
             let last = special.last_primary_for_group(variable_group(group)?);
             format!(in alloc; "{last:08X}").ok()
         }
-        _ => None,
-    }
-}
-
-fn variable_group(name: &str) -> Option<MaxVariable> {
-    match name {
-        "space" => Some(MaxVariable::Space),
-        "punctuation" => Some(MaxVariable::Punctuation),
-        "symbol" => Some(MaxVariable::Symbol),
-        "currency" => Some(MaxVariable::Currency),
         _ => None,
     }
 }
