@@ -2,6 +2,7 @@ ghost use Rattle.std.specs.Prelude.{◌≡◌, ◌↔◌, true, IsOk, IfOk, IfEr
 ghost use Rattle.icu_provider.specs.Diacritics.{is_replaced_place, is_accent, IsDiacritics, FailsDiacritics};
 
 use icu_entries::{CollationElement, DataErrorKind};
+use std::alloc::{AllocError, Global};
 
 /// The secondary weights of combining diacritics: of U+0300 and the characters after it, at most 79.
 #[derive(Debug, Clone, Copy, PartialEq)]
@@ -62,5 +63,38 @@ impl<'d> CollationDiacritics<'d> {
         ensures diacritics { IsDiacritics (accents_of self.entry) }
     {
         self.secondaries
+    }
+}
+
+/// The secondary weights of diacritics in a vector of their own.
+#[derive(Debug, Drop)]
+pub struct OwnedDiacritics {
+    secondaries: Vec<u16>,
+    ghost is_diacritics: { IsDiacritics secondaries.items },
+}
+
+impl OwnedDiacritics {
+    ghost use Rattle.icu_provider.specs.StoredTables.{accents_of};
+    ghost use Rattle.icu_provider.specs.OwnedTables.{owned_diacritics};
+
+    /// Copies the weights.
+    #[tactic(auto, unfolding(crate::specs::OwnedTables::owned_diacritics))]
+    pub fn copy(
+        alloc: Global,
+        diacritics: CollationDiacritics<'_>,
+    ) -> Result<OwnedDiacritics, AllocError>
+        ensures { IfOk result (λ o. owned_diacritics o ≡ accents_of diacritics.entry) }
+    {
+        Ok(OwnedDiacritics {
+            secondaries: Vec::from_slice(alloc, diacritics.secondaries())?,
+        })
+    }
+
+    /// The table, without a check.
+    #[tactic(auto, unfolding(crate::specs::OwnedTables::owned_diacritics))]
+    pub fn as_diacritics(&self) -> CollationDiacritics<'_>
+        ensures { accents_of result ≡ owned_diacritics self.now }
+    {
+        CollationDiacritics::from_parts(self.secondaries.as_slice())
     }
 }

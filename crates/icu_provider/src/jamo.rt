@@ -2,6 +2,7 @@ ghost use Rattle.std.specs.Prelude.{◌≡◌, ◌↔◌, IsOk, IfOk, IfErr};
 ghost use Rattle.icu_provider.specs.Jamo.{IsJamo, FailsJamo};
 
 use icu_entries::{CollationElement32, DataErrorKind};
+use std::alloc::{AllocError, Global};
 
 /// The entries of the 256 characters from U+1100 on, the conjoining jamo. They name lists and contexts of the root.
 #[derive(Debug, Clone, Copy, PartialEq)]
@@ -52,5 +53,35 @@ impl<'d> CollationJamo<'d> {
         ensures jamo { IsJamo (jamo_of self.entry) }
     {
         self.ce32s
+    }
+}
+
+/// The entries of the conjoining jamo in a vector of their own.
+#[derive(Debug, Drop)]
+pub struct OwnedJamo {
+    ce32s: Vec<u32>,
+    ghost is_jamo: { IsJamo ce32s.items },
+}
+
+impl OwnedJamo {
+    ghost use Rattle.icu_provider.specs.StoredTables.{jamo_of};
+    ghost use Rattle.icu_provider.specs.OwnedTables.{owned_jamo};
+
+    /// Copies the entries.
+    #[tactic(auto, unfolding(crate::specs::OwnedTables::owned_jamo))]
+    pub fn copy(alloc: Global, jamo: CollationJamo<'_>) -> Result<OwnedJamo, AllocError>
+        ensures { IfOk result (λ o. owned_jamo o ≡ jamo_of jamo.entry) }
+    {
+        Ok(OwnedJamo {
+            ce32s: Vec::from_slice(alloc, jamo.ce32s())?,
+        })
+    }
+
+    /// The table, without a check.
+    #[tactic(auto, unfolding(crate::specs::OwnedTables::owned_jamo))]
+    pub fn as_jamo(&self) -> CollationJamo<'_>
+        ensures { jamo_of result ≡ owned_jamo self.now }
+    {
+        CollationJamo::from_parts(self.ce32s.as_slice())
     }
 }

@@ -3,6 +3,7 @@ ghost use Rattle.icu_provider.specs.SpecialPrimaries.{group_place, last_primary,
 
 use icu_entries::DataErrorKind;
 use icu_options::MaxVariable;
+use std::alloc::{AllocError, Global};
 
 /// Primary weights that mean more than an order: where the variable groups end, the lead byte of numbers, and the lead bytes
 /// whose weights are written shorter in sort keys.
@@ -125,5 +126,40 @@ impl<'d> CollationSpecialPrimaries<'d> {
         } else {
             lead >= 0x61 && lead <= 0x80 || lead == 0xFE
         }
+    }
+}
+
+/// The special primary weights in a vector of their own.
+#[derive(Debug, Drop)]
+pub struct OwnedSpecialPrimaries {
+    last_primaries: Vec<u16>,
+    numeric_primary: u8,
+    ghost is_special: { IsSpecialPrimaries last_primaries.items numeric_primary },
+}
+
+impl OwnedSpecialPrimaries {
+    ghost use Rattle.icu_provider.specs.StoredTables.{special_of};
+    ghost use Rattle.icu_provider.specs.OwnedTables.{owned_special};
+
+    /// Copies the numbers.
+    #[tactic(auto, unfolding(crate::specs::OwnedTables::owned_special))]
+    pub fn copy(
+        alloc: Global,
+        special: CollationSpecialPrimaries<'_>,
+    ) -> Result<OwnedSpecialPrimaries, AllocError>
+        ensures { IfOk result (λ o. owned_special o ≡ special_of special.entry) }
+    {
+        Ok(OwnedSpecialPrimaries {
+            last_primaries: Vec::from_slice(alloc, special.last_primaries())?,
+            numeric_primary: special.numeric_primary(),
+        })
+    }
+
+    /// The weights, without a check.
+    #[tactic(auto, unfolding(crate::specs::OwnedTables::owned_special))]
+    pub fn as_special_primaries(&self) -> CollationSpecialPrimaries<'_>
+        ensures { special_of result ≡ owned_special self.now }
+    {
+        CollationSpecialPrimaries::from_parts(self.last_primaries.as_slice(), self.numeric_primary)
     }
 }
