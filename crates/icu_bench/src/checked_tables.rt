@@ -1,23 +1,26 @@
 //! Tables that are accepted together, and what checked tables lend.
-use icu_checks::{CheckedTables, TableSet};
+use icu_checks::CheckedTables;
 use icu_data::CollationData;
-use icu_entries::{CollationElement32, DataErrorKind};
+use icu_entries::CollationElement32;
 use icu_mini::mini::Mini;
 use icu_options::MaxVariable;
+use std::alloc::Global;
 use std::process::Abort;
 use std::test::Fail;
 
-/// The tables as they are lent, each checked by itself.
-fn lend_all(mini: &Mini) -> Result<TableSet<'_>, DataErrorKind> {
-    Ok(TableSet {
-        root: mini.lend_root()?,
-        jamo: mini.lend_jamo()?,
-        special: mini.lend_special_primaries()?,
-        metadata: mini.metadata,
-        tailoring: mini.lend_tailoring()?,
-        reordering: mini.lend_reordering()?,
-        diacritics: mini.lend_diacritics()?,
-    })
+/// The tables, checked together.
+fn checked(alloc: Global, mini: &Mini) -> Result<CheckedTables, Fail> {
+    let tables = CheckedTables::new(
+        alloc,
+        mini.lend_root()?,
+        mini.lend_jamo()?,
+        mini.lend_special_primaries()?,
+        mini.metadata,
+        mini.lend_tailoring()?,
+        mini.lend_reordering()?,
+        mini.lend_diacritics()?,
+    )?;
+    Ok(tables)
 }
 
 /// The lengths of the lists of elements and of entries, and the number of contexts.
@@ -29,7 +32,7 @@ fn lengths(data: CollationData<'_>) -> (usize, usize, usize) {
 #[test]
 fn a_root_and_its_companions_are_lent_as_they_came(rt: HostRuntime) -> Result<(), Fail> {
     let mini = Mini::with_high_currency(rt.alloc())?;
-    let tables = CheckedTables::from_set(rt.alloc(), lend_all(&mini)?)?;
+    let tables = checked(rt.alloc(), &mini)?;
     for (c, entry) in [
         ('$', 0x1E10_0505),
         ('a', 0x6110_0505),
@@ -83,7 +86,7 @@ fn a_root_and_its_companions_are_lent_as_they_came(rt: HostRuntime) -> Result<()
 #[test]
 fn a_tailoring_and_a_reordering_are_lent_as_they_came(rt: HostRuntime) -> Result<(), Fail> {
     let mini = Mini::with_swapped_leads(rt.alloc())?;
-    let tables = CheckedTables::from_set(rt.alloc(), lend_all(&mini)?)?;
+    let tables = checked(rt.alloc(), &mini)?;
     assert_eq!(rt; tables.metadata().bits, 0x29);
     let Some(tailoring) = tables.tailoring() else {
         return Err(Fail::from("no tailoring"));
@@ -116,12 +119,12 @@ fn a_tailoring_and_a_reordering_are_lent_as_they_came(rt: HostRuntime) -> Result
 #[test]
 fn lists_and_ranges_are_lent_as_they_came(rt: HostRuntime) -> Result<(), Fail> {
     let kana = Mini::with_kana(rt.alloc())?;
-    let tables = CheckedTables::from_set(rt.alloc(), lend_all(&kana)?)?;
+    let tables = checked(rt.alloc(), &kana)?;
     let (_trie, ces, _ce32s, _contexts) = tables.root().parts();
     assert!(rt; ces == [0x6710_0000_0500_0500, 0x6710_0000_0500_0540].as_slice());
 
     let split = Mini::with_split_lead(rt.alloc())?;
-    let tables = CheckedTables::from_set(rt.alloc(), lend_all(&split)?)?;
+    let tables = checked(rt.alloc(), &split)?;
     let Some(reordering) = tables.reordering() else {
         return Err(Fail::from("no reordering"));
     };

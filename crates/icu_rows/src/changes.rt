@@ -1,9 +1,8 @@
 //! Changes of tables, each a word that names it and words that follow.
 use crate::lists::{put, resize};
 use crate::notation::{character, index, number, number8, number16, number32, numbers, text};
-use icu_data::{Context, ContextRow};
+use icu_data::{Context, ContextRow, DataBuilder, DataVectors};
 use icu_mini::mini::Mini;
-use icu_mini::table_data::TableData;
 use std::alloc::Global;
 
 /// Makes one change, if the words are one.
@@ -74,18 +73,39 @@ fn change_reordering(alloc: Global, mini: &mut Mini, words: &[&str]) -> Option<(
     }
 }
 
-fn change_data(alloc: Global, data: &mut TableData, words: &[&str]) -> Option<()> {
+fn change_data(alloc: Global, data: &mut DataVectors, words: &[&str]) -> Option<()> {
     match words {
         ["all", entry] => {
-            *data = TableData::new(alloc, number32(entry)?).ok()?;
+            *data = DataBuilder::new(alloc, number32(entry)?)
+                .ok()?
+                .build()
+                .ok()?;
             Some(())
         }
-        ["entry", c, entry] => data.set_entry(character(alloc, c)?, number32(entry)?).ok(),
+        ["entry", c, entry] => set_entry(data, character(alloc, c)?, number32(entry)?),
         ["blocks", len] => resize(&mut data.blocks, index(len)?, 0).ok(),
         ["block", at, number] => put(data.blocks.as_mut_slice(), index(at)?, number16(number)?),
         ["values", len] => resize(&mut data.values, index(len)?, 0xCF).ok(),
         _ => change_lists(alloc, data, words),
     }
+}
+
+/// Gives a character another entry: its block is copied, in case others share it.
+fn set_entry(data: &mut DataVectors, c: char, entry: u32) -> Option<()> {
+    let code = usize::try_from(c as u32).ok()?;
+    let number = *data.blocks.get(code / 64)?;
+    let start = usize::from(number) * 64;
+    let new_number = u16::try_from(data.values.len() / 64).ok()?;
+    for i in start..start + 64 {
+        let value = *data.values.get(i)?;
+        data.values.push(value).ok()?;
+    }
+    put(data.blocks.as_mut_slice(), code / 64, new_number)?;
+    put(
+        data.values.as_mut_slice(),
+        usize::from(new_number) * 64 + code % 64,
+        entry,
+    )
 }
 
 /// The entry that refers to so many members of a list, from an index on.
@@ -95,19 +115,19 @@ fn list_entry(start: usize, len: usize, low_byte: u32) -> Option<u32> {
     Some((start << 13) | (len << 8) | low_byte)
 }
 
-fn change_lists(alloc: Global, data: &mut TableData, words: &[&str]) -> Option<()> {
+fn change_lists(alloc: Global, data: &mut DataVectors, words: &[&str]) -> Option<()> {
     match words {
         ["elements", c, words @ ..] => {
             let elements = numbers(alloc, words)?;
             let entry = list_entry(data.ces.len(), elements.len(), 0xC6)?;
             data.ces.extend_from_slice(elements.as_slice()).ok()?;
-            data.set_entry(character(alloc, c)?, entry).ok()
+            set_entry(data, character(alloc, c)?, entry)
         }
         ["entries", c, words @ ..] => {
             let entries = numbers(alloc, words)?;
             let entry = list_entry(data.ce32s.len(), entries.len(), 0xC5)?;
             push_numbers(&mut data.ce32s, entries.as_slice())?;
-            data.set_entry(character(alloc, c)?, entry).ok()
+            set_entry(data, character(alloc, c)?, entry)
         }
         ["ces", words @ ..] => {
             let elements = numbers(alloc, words)?;
@@ -130,7 +150,7 @@ fn push_numbers(list: &mut Vec<u32>, numbers: &[u64]) -> Option<()> {
     Some(())
 }
 
-fn change_contexts(alloc: Global, data: &mut TableData, words: &[&str]) -> Option<()> {
+fn change_contexts(alloc: Global, data: &mut DataVectors, words: &[&str]) -> Option<()> {
     match words {
         ["context", default, rows @ ..] => push_context(alloc, data, default, rows),
         ["stored-context", default, start, len] => {
@@ -154,7 +174,7 @@ fn change_contexts(alloc: Global, data: &mut TableData, words: &[&str]) -> Optio
     }
 }
 
-fn push_chars(alloc: Global, data: &mut TableData, written: &str) -> Option<()> {
+fn push_chars(alloc: Global, data: &mut DataVectors, written: &str) -> Option<()> {
     let text = text(alloc, written)?;
     for c in text.as_str().chars() {
         data.chars.push(c).ok()?;
@@ -163,7 +183,7 @@ fn push_chars(alloc: Global, data: &mut TableData, written: &str) -> Option<()> 
 }
 
 /// Appends a context with its rows, each characters, a colon and an entry.
-fn push_context(alloc: Global, data: &mut TableData, default: &str, rows: &[&str]) -> Option<()> {
+fn push_context(alloc: Global, data: &mut DataVectors, default: &str, rows: &[&str]) -> Option<()> {
     let context = Context {
         default: number32(default)?,
         rows_start: u32::try_from(data.rows.len()).ok()?,
@@ -175,7 +195,7 @@ fn push_context(alloc: Global, data: &mut TableData, default: &str, rows: &[&str
     data.contexts.push(context).ok()
 }
 
-fn push_row(alloc: Global, data: &mut TableData, row: &str) -> Option<()> {
+fn push_row(alloc: Global, data: &mut DataVectors, row: &str) -> Option<()> {
     let (chars, entry) = row.split_once(':')?;
     let start = data.chars.len();
     push_chars(alloc, data, chars)?;

@@ -1,10 +1,10 @@
 //! What tables are refused with.
 use crate::base::tables;
-use icu_checks::{CheckedTables, TableSet};
-use icu_data::{CodePointTable, CollationData, ContextTable};
+use icu_checks::CheckedTables;
+use icu_data::{CodePointTable, CollationData, ContextTable, DataVectors};
 use icu_entries::{DataError, DataErrorKind, DataTable};
 use icu_mini::mini::Mini;
-use icu_mini::table_data::TableData;
+use icu_provider::TableSet;
 use std::alloc::Global;
 
 /// A row is a name and tables. What they are refused with stands in two parts: by the constructors of single tables, the
@@ -34,7 +34,7 @@ fn of_table<T>(table: DataTable, lent: Result<T, DataErrorKind>) -> Result<T, Da
 }
 
 /// A root or a tailoring without the check of its entries.
-fn lend_unchecked(held: &TableData) -> Result<CollationData<'_>, DataErrorKind> {
+fn lend_unchecked(held: &DataVectors) -> Result<CollationData<'_>, DataErrorKind> {
     let trie = CodePointTable::new(held.blocks.as_slice(), held.values.as_slice())?;
     let contexts = ContextTable::new(
         held.contexts.as_slice(),

@@ -2,9 +2,8 @@
 use crate::base::tables;
 use crate::notation::{character, index, number8, number32};
 use crate::settings::variable_group;
-use icu_data::CodePointTable;
+use icu_data::{CodePointTable, DataVectors};
 use icu_mini::mini::Mini;
-use icu_mini::table_data::TableData;
 use icu_provider::CollationMetadata;
 use std::alloc::Global;
 
@@ -24,7 +23,7 @@ pub(crate) fn value(alloc: Global, row: &str) -> Option<String> {
     }
 }
 
-fn value_of_data(alloc: Global, data: &TableData, words: &[&str]) -> Option<String> {
+fn value_of_data(alloc: Global, data: &DataVectors, words: &[&str]) -> Option<String> {
     match words {
         ["entry", c] => {
             let table = CodePointTable::new(data.blocks.as_slice(), data.values.as_slice()).ok()?;
@@ -44,7 +43,7 @@ fn value_of_data(alloc: Global, data: &TableData, words: &[&str]) -> Option<Stri
 }
 
 /// A context: its default, and its rows.
-fn context(alloc: Global, data: &TableData, at: usize) -> Option<String> {
+fn context(alloc: Global, data: &DataVectors, at: usize) -> Option<String> {
     let context = data.contexts.get(at)?;
     let rows = part(data.rows.as_slice(), context.rows_start, context.rows_len)?;
     let mut printed = format!(in alloc; "{:08X}", context.default).ok()?;
