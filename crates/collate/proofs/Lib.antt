@@ -1,3 +1,5 @@
 pub mod WritingLemmas
 pub mod MiniLemmas
 pub mod SettingLemmas
+pub mod RefusalLemmas
+pub mod RunLemmas

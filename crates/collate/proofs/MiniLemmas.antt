@@ -1,5 +1,6 @@
 -- What Mini lends: its tables say what they are to say, and none of their live entries looks at a context.
-use Rattle.std.proofs.Common.{◌≡◌, ℕ, ◌+◌, ◌-◌, ◌*◌, ◌/◌, ◌%◌, ◌<◌, Bool, true, false, List, [], ◌∷◌, ◌++◌, map, Option, Some, None, Result, Ok, Err, IfOk, slice_index, refl, sym, ap, ◌∙◌, subst, suc, zero, arith, inl, inr, if◌then◌else◌}
+use Rattle.std.proofs.Common.{◌≡◌, ℕ, ◌+◌, ◌-◌, ◌*◌, ◌/◌, ◌%◌, ◌<◌, Bool, true, false, List, [], ◌∷◌, ◌++◌, map, Option, Some, None, Result, Ok, Err, IfOk, slice_index, refl, sym, ap, ◌∙◌, subst, suc, zero, arith, inl, inr, if◌then◌else◌, ◌&&◌, nat_le}
+use Rattle.std.proofs.lemmas.Bool.{and_parts}
 use Rattle.std.proofs.Math.Utf8.{scalar_cases}
 use Rattle.std.specs.Option.{option_map}
 use Rattle.std.specs.Char.{IsScalar}
@@ -16,16 +17,16 @@ use Rattle.icu_provider.specs.SpecialPrimaries.{SpecialPrimaries}
 use Rattle.icu_data.specs.Data.{Data, plain_of}
 use Rattle.icu_provider.specs.CollatorTables.{CollatorTables}
 use Rattle.icu_checks.specs.Loads.{and_then, or_else, typed_first, if_named, diacritics_request, lent_tables}
-use Rattle.icu_elements.specs.Plain.{plain_reading, names_no_context, IsPlain}
-use Rattle.icu_elements.proofs.PlainLemmas.{IsPlain-from_each}
+use Rattle.icu_elements.specs.ByCharacter.{non_numeric_reading, needs_no_context, IsContextFree}
+use Rattle.icu_elements.proofs.ByCharacterLemmas.{IsContextFree-from_each}
 use Rattle.icu_mini.specs.declared.mini.Mini.{Mini}
 use Rattle.icu_mini.specs.declared.provider.MiniProvider.{MiniProvider}
-use Rattle.icu_mini.specs.declared.table_data.TableData.{TableData}
-use Rattle.icu_mini.specs.EntryRange.{Row, covers, entry_at, entry_among}
+use Rattle.icu_data.specs.declared.data_vectors.DataVectors.{DataVectors}
+use Rattle.icu_data.specs.Building.{with_entries}
+use Rattle.icu_data.specs.OwnedData.{vectors_data}
 use Rattle.icu_mini.specs.Mini.{IsMini, collator_tables, special_held, SaysAny}
 use Rattle.icu_mini.specs.Provider.{LendsMini, loads_of}
-use Rattle.icu_mini.specs.Runs.{mini_rows, run}
-use Rattle.icu_mini.specs.TableData.{data_held}
+use Rattle.icu_mini.specs.Characters.{with_characters, mini_characters, run}
 
 -- ---- what is lent
 
@@ -64,7 +65,7 @@ from_bits loads r root jamo special bits =
       reordering = reordering;
     }))))
 
-no_tailoring : (tailoring : Option TableData) → SaysAny None tailoring → option_map data_held tailoring ≡ None
+no_tailoring : (tailoring : Option DataVectors) → SaysAny None tailoring → option_map vectors_data tailoring ≡ None
 no_tailoring None is = refl
 no_tailoring (Some d) is = absurd is
 
@@ -93,23 +94,23 @@ mini-lent m p r all mini lends h =
     subst (λ b. from_bits (loads_of p) r root.value jamo.value special.value b ≡ Ok all) bits metadata.then_next in
     let diacritics = follows _ _ all rest in
     let made : made_of root.value None jamo.value diacritics.value special.value ≡ all = cc (diacritics.then_next) in
-    let first : root.value ≡ data_held m.root = said _ p.root _ _ lends.root.lends root.first in
+    let first : root.value ≡ vectors_data m.root = said _ p.root _ _ lends.root.lends root.first in
     let second : jamo.value ≡ m.jamo.items = said _ p.jamo _ _ lends.jamo.lends jamo.first in
     let third : special.value ≡ special_held m = said _ p.special _ _ lends.special.lends special.first in
     let fourth : diacritics.value ≡ m.diacritics.items = said _ p.diacritics _ _ lends.diacritics.lends diacritics.first in
     let none = no_tailoring m.tailoring mini.tailoring in
     sym made
     ∙ ap (λ x. made_of x None jamo.value diacritics.value special.value) first
-    ∙ ap (λ x. made_of (data_held m.root) None x diacritics.value special.value) second
-    ∙ ap (λ x. made_of (data_held m.root) None m.jamo.items x special.value) fourth
-    ∙ ap (λ x. made_of (data_held m.root) None m.jamo.items m.diacritics.items x) third
-    ∙ ap (λ x. made_of (data_held m.root) x m.jamo.items m.diacritics.items (special_held m)) (sym none)
+    ∙ ap (λ x. made_of (vectors_data m.root) None x diacritics.value special.value) second
+    ∙ ap (λ x. made_of (vectors_data m.root) None m.jamo.items x special.value) fourth
+    ∙ ap (λ x. made_of (vectors_data m.root) None m.jamo.items m.diacritics.items x) third
+    ∙ ap (λ x. made_of (vectors_data m.root) x m.jamo.items m.diacritics.items (special_held m)) (sym none)
 
 -- ---- no entry looks at a context
 
 -- an entry that looks at no context
 NamesNone : ℕ → Type 0
-NamesNone e = names_no_context (kind_of e) ≡ true
+NamesNone e = needs_no_context (kind_of e) ≡ true
 
 -- which the lowest byte alone says
 of_byte : (b e : ℕ) → e % 256 ≡ b → b < 256 → NamesNone b → NamesNone e
@@ -131,12 +132,12 @@ at_digit : (k : EntryKind) (e plain : ℕ) → NamesNone e → NamesNone plain �
 at_digit Digit e plain h p = (h, (p, tt))
 at_digit _ e plain h p = (h, tt)
 
-at_contraction : (k : EntryKind) (xs ys : List ℕ) → names_no_context k ≡ true → AllByRecursion NamesNone ys
+at_contraction : (k : EntryKind) (xs ys : List ℕ) → needs_no_context k ≡ true → AllByRecursion NamesNone ys
     → AllByRecursion NamesNone (elim k [ Contraction ↦ xs | _ ↦ ys ])
 at_contraction Contraction xs ys is h = absurd (cc)
 at_contraction _ xs ys is h = h
 
-at_prefix : (k : EntryKind) (xs ys : List ℕ) → names_no_context k ≡ true → AllByRecursion NamesNone ys
+at_prefix : (k : EntryKind) (xs ys : List ℕ) → needs_no_context k ≡ true → AllByRecursion NamesNone ys
     → AllByRecursion NamesNone (elim k [ Prefix ↦ xs | _ ↦ ys ])
 at_prefix Prefix xs ys is h = absurd (cc)
 at_prefix _ xs ys is h = h
@@ -173,51 +174,25 @@ jamo_entries =
     (each (λ i. 0x66100505 + 0x10000 * i) (range_with_len 0 128) (λ i. simple (0x66100505 + 0x10000 * i) (omega arith)))
 
 -- the characters
-RowNamesNone : Row → Type 0
-RowNamesNone row = (i : ℕ) → NamesNone (row.entry + row.step * i)
+all_name_none : List (ℕ × ℕ) → Bool
+all_name_none [] = true
+all_name_none (x ∷ xs) = names_no_context (kind_of x.1) && all_name_none xs
 
 either : (b : Bool) (x y : ℕ) → NamesNone x → NamesNone y → NamesNone (if b then x else y)
 either true x y h k = h
 either false x y h k = k
 
-among : (rows : List Row) (others c : ℕ) → AllByRecursion RowNamesNone rows → NamesNone others → NamesNone (entry_among rows others c)
-unfolding RowNamesNone
-among [] others c all h = h
-among (row ∷ rows) others c all h = either (covers row c) (entry_at row c) (entry_among rows others c) (all.0 (c - row.first)) (among rows others c all.1 h)
+among : (xs : List (ℕ × ℕ)) (value : ℕ → ℕ) → all_name_none xs ≡ true → ((c : ℕ) → NamesNone (value c))
+    → (c : ℕ) → NamesNone (with_characters xs value c)
+unfolding all_name_none with_characters NamesNone
+among [] value all h c = h c
+among (x ∷ xs) value all h c =
+    let parts = and_parts (names_no_context (kind_of x.1)) (all_name_none xs) all in
+    among xs (with_entries x.0 x.0 x.1 value) parts.1 (λ k. either (nat_le x.0 k && nat_le k x.0) x.1 (value k) parts.0 (h k)) c
 
-rows_name_none : AllByRecursion RowNamesNone mini_rows
-unfolding RowNamesNone NamesNone kind_of
-rows_name_none = (
-  λ i. of_byte 0 (0 + 0 * i) (omega arith) (omega arith) refl,
-  (
-    λ i. of_byte 5 (0x02000505 + 0 * i) (omega arith) (omega arith) refl,
-    (
-      λ i. of_byte 5 (0xFFFD0505 + 0 * i) (omega arith) (omega arith) refl,
-      (
-        λ i. of_byte 5 (0x03100505 + 0 * i) (omega arith) (omega arith) refl,
-        (
-          λ i. of_byte 5 (0x04100505 + 0 * i) (omega arith) (omega arith) refl,
-          (
-            λ i. of_byte 5 (0x04200505 + 0 * i) (omega arith) (omega arith) refl,
-            (
-              λ i. of_byte 0xCA (0xCA + 0x2100 * i) (omega arith) (omega arith) refl,
-              (
-                λ i. of_byte 5 (0x61100505 + 0x40000 * i) (omega arith) (omega arith) refl,
-                (
-                  λ i. of_byte 0x9C (0x6110059C + 0x40000 * i) (omega arith) (omega arith) refl,
-                  (
-                    λ i. of_byte 0x9D (0x6110059D + 0 * i) (omega arith) (omega arith) refl,
-                    tt,
-                  ),
-                ),
-              ),
-            ),
-          ),
-        ),
-      ),
-    ),
-  ),
-)
+characters_name_none : all_name_none mini_characters ≡ true
+unfolding all_name_none mini_characters kind_of
+characters_name_none = refl
 
 other : NamesNone 0xCF
 unfolding NamesNone kind_of
@@ -227,20 +202,25 @@ below : (c : ℕ) → IsScalar c → c < 0x110000
 below c scalar = elim (scalar_cases c scalar) [ inl low ↦ omega arith | inr high ↦ omega (arith, high.1) ]
 
 module _ (m : Mini) (mini : IsMini m) where
-  root_value : (c : ℕ) → IsScalar c → NamesNone ((data_held m.root).value c)
+  root_wanted : (c : ℕ) → NamesNone (with_characters [] (with_characters mini_characters (λ k. 0xCF)) c)
+  root_wanted c =
+      among [] (with_characters mini_characters (λ k. 0xCF)) refl
+      (among mini_characters (λ k. 0xCF) characters_name_none (λ k. other)) c
+
+  root_value : (c : ℕ) → IsScalar c → NamesNone ((vectors_data m.root).value c)
   root_value c scalar =
-      subst NamesNone (sym (mini.root.characters c (below c scalar))) (among mini_rows 0xCF c rows_name_none other)
+      subst NamesNone (sym (mini.root.value c (below c scalar))) (root_wanted c)
 
   jamo_value : (k : ℕ) → NamesNone (slice_index m.jamo.items k)
   jamo_value k = rw mini.jamo (at_or _ jamo_entries k)
 
-  plain_value : (e : ℕ) → NamesNone (plain_of (data_held m.root) e)
+  plain_value : (e : ℕ) → NamesNone (plain_of (vectors_data m.root) e)
   plain_value e = rw mini.root.entries (at_or _ plain_entries (e / 8192))
 
-  pub mini-plain : IsPlain (plain_reading (collator_tables m))
+  pub mini-plain : IsContextFree (non_numeric_reading (collator_tables m))
   unfolding NamesNone
-  mini-plain = IsPlain-from_each (collator_tables m) (record {
-    root = λ c scalar. live (data_held m.root) _ (root_value c scalar) (plain_value _);
-    jamo = λ c is. live (data_held m.root) _ (jamo_value (c - 0x1100)) (plain_value _);
+  mini-plain = IsContextFree-from_each (collator_tables m) (record {
+    root = λ c scalar. live (vectors_data m.root) _ (root_value c scalar) (plain_value _);
+    jamo = λ c is. live (vectors_data m.root) _ (jamo_value (c - 0x1100)) (plain_value _);
     tailoring = rw (no_tailoring m.tailoring mini.tailoring) tt;
   })

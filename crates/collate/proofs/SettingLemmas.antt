@@ -1,7 +1,7 @@
--- The settings of a collator by Mini's metadata, where a strength is named and nothing else.
+-- The settings of a collator by Mini's metadata, where a strength is set and nothing else.
 use Rattle.std.proofs.Common.{◌≡◌, false, Option, Some, None, IsTrue, refl, sym, ap, ◌∙◌, subst, unwrap_or, option_map}
-use Rattle.icu_options.specs.Settings.{Settings, named, named_or}
-use Rattle.icu_options.specs.Conversions.{NameNothing, is_numeric}
+use Rattle.icu_options.specs.Settings.{Settings}
+use Rattle.icu_options.specs.Conversions.{SetNothing, is_numeric}
 use Rattle.icu_options.specs.Merge.{merge}
 use Rattle.icu_options.specs.Metadata.{metadata_settings}
 use Rattle.icu_options.specs.declared.options.CollatorOptions.{CollatorOptions}
@@ -19,23 +19,23 @@ use Rattle.icu_mini.specs.Mini.{IsMini, collator_tables}
 use Rattle.collate.specs.Answers.{ComparesBy}
 use Rattle.collate.proofs.MiniLemmas.{all_tables, mini-plain}
 
--- options that name a strength alone
+-- options that set a strength alone
 abbrev pub at_strength : Strength → CollatorOptions
 at_strength strength = record { strength = Some strength; alternate_handling = None; max_variable = None; case_level = None }
 
--- the settings by what the preferences name
+-- the settings by what the preferences set
 settings_by : Strength → Option CollationCaseFirst → Option CollationNumericOrdering → Settings
 settings_by strength first numeric = record {
-  strength = named strength;
-  max_variable = named Punctuation;
-  alternate_handling = named NonIgnorable;
-  case_level = named_or None false;
-  case_first = named (unwrap_or first case_first.False);
-  backward_second_level = named false;
-  numeric = named_or (option_map is_numeric numeric) false;
+  strength = strength;
+  max_variable = Punctuation;
+  alternate_handling = NonIgnorable;
+  case_level = false;
+  case_first = unwrap_or first case_first.False;
+  backward_second_level = false;
+  numeric = unwrap_or (option_map is_numeric numeric) false;
 }
 
-merged : (strength : Strength) (p : CollatorPreferences) → NameNothing p → merge (at_strength strength) p (metadata_settings 1) ≡ settings_by strength None None
+merged : (strength : Strength) (p : CollatorPreferences) → SetNothing p → merge (at_strength strength) p (metadata_settings 1) ≡ settings_by strength None None
 unfolding settings_by
 merged strength p is =
     ap (λ c. settings_by strength c p.numeric_ordering) is.case_first ∙ ap (λ n. settings_by strength None n) is.numeric_ordering
@@ -57,11 +57,11 @@ module _ (m : Mini) (mini : IsMini m) (strength : Strength) (few : IsTrue (is_at
   }
 
   pub mini-compares : (all : CollatorTables) (settings : Settings) (options : CollatorOptions) (p : CollatorPreferences) → all ≡ all_tables m
-      → options ≡ at_strength strength → NameNothing p → settings ≡ merge options p (metadata_settings all.bits)
+      → options ≡ at_strength strength → SetNothing p → settings ≡ merge options p (metadata_settings all.bits)
       → ComparesBy strength (collator_tables m) all settings
-  mini-compares all settings options p is named_strength none merged_is =
+  mini-compares all settings options p is at_this_strength none merged_is =
       let same : settings ≡ settings_by strength None None =
       merged_is ∙ ap (λ (a : CollatorTables). merge options p (metadata_settings a.bits)) is
-      ∙ ap (λ o. merge o p (metadata_settings 1)) named_strength ∙ merged strength p none in
+      ∙ ap (λ o. merge o p (metadata_settings 1)) at_this_strength ∙ merged strength p none in
       subst (λ a. ComparesBy strength (collator_tables m) a settings) (sym is)
       (subst (ComparesBy strength (collator_tables m) (all_tables m)) (sym same) by_settings)

@@ -7,7 +7,7 @@ use Rattle.icu_options.specs.Settings.{Settings}
 use Rattle.icu_options.specs.declared.settings.Strength.{Strength}
 use Rattle.icu_provider.specs.Tables.{Tables}
 use Rattle.icu_provider.specs.CollatorTables.{CollatorTables}
-use Rattle.icu_comparison.specs.Collators.{IsPlainComparison, comparison_by, plain_comparison}
+use Rattle.icu_comparison.specs.Collators.{IsSupportedComparison, comparison_by, non_numeric_comparison}
 use Rattle.icu_mini.specs.declared.mini.Mini.{Mini}
 use Rattle.icu_mini.specs.Mini.{IsMini, collator_tables}
 use Rattle.collate.specs.Commands.{Comparing}
@@ -20,7 +20,7 @@ sign_of Greater = codes ">"
 
 -- the order of the two texts by these tables
 abbrev pub order_asked : Mini → Comparing → Ordering
-order_asked tables asked = order_of (plain_comparison asked.strength (collator_tables tables)) (chars asked.left) (chars asked.right)
+order_asked tables asked = order_of (non_numeric_comparison asked.strength (collator_tables tables)) (chars asked.left) (chars asked.right)
 
 -- The line is the sign of the order of the two texts by Mini's tables, and a line feed.
 abbrev pub IsAnswer : Comparing → List ℕ → Type 0
@@ -28,5 +28,5 @@ IsAnswer asked line = (tables : Mini) × IsMini tables × (line ≡ sign_of (ord
 
 -- tables and settings by which texts are compared as by these tables at this strength
 pub record ComparesBy (strength : Strength) (tables : Tables) (all : CollatorTables) (settings : Settings) : Type 0 where
-  pub plain : IsPlainComparison all settings
-  pub same : comparison_by all settings ≡ plain_comparison strength tables
+  pub plain : IsSupportedComparison all settings
+  pub same : comparison_by all settings ≡ non_numeric_comparison strength tables

@@ -1,59 +1,26 @@
 //! Tables that are accepted together, and what checked tables lend.
-use crate::damage::lend_all;
 use icu_checks::CheckedTables;
 use icu_data::CollationData;
 use icu_entries::CollationElement32;
 use icu_mini::mini::Mini;
 use icu_options::MaxVariable;
-use std::alloc::{AllocError, Global};
+use std::alloc::Global;
 use std::process::Abort;
 use std::test::Fail;
 
-/// Mini and each of its variants, with a name.
-fn all_tables(alloc: Global) -> Result<Vec<(&'static str, Mini)>, AllocError> {
-    let mut all = Vec::new(alloc);
-    all.push(("Mini", Mini::new(alloc)?))?;
-    all.push(("backward", Mini::with_backward_second_level(alloc)?))?;
-    all.push(("Lithuanian", Mini::lithuanian(alloc)?))?;
-    all.push(("a with ring", Mini::with_a_ring(alloc)?))?;
-    all.push(("double l", Mini::with_double_l(alloc)?))?;
-    all.push(("b after a", Mini::with_b_after_a(alloc)?))?;
-    all.push(("offsets", Mini::with_offsets(alloc)?))?;
-    all.push(("swapped leads", Mini::with_swapped_leads(alloc)?))?;
-    all.push(("sharp s", Mini::with_sharp_s(alloc)?))?;
-    all.push(("two rows", Mini::with_two_rows(alloc)?))?;
-    all.push(("c after ab", Mini::with_c_after_ab(alloc)?))?;
-    all.push(("jamo list", Mini::with_jamo_list(alloc)?))?;
-    all.push(("kana", Mini::with_kana(alloc)?))?;
-    all.push(("high currency", Mini::with_high_currency(alloc)?))?;
-    all.push(("secondary alone", Mini::with_secondary_alone(alloc)?))?;
-    all.push(("tertiary alone", Mini::with_tertiary_alone(alloc)?))?;
-    all.push(("split lead", Mini::with_split_lead(alloc)?))?;
-    Ok(all)
-}
-
-#[test]
-fn mini_and_all_variants_are_accepted(rt: HostRuntime) -> Result<(), Fail> {
-    let all = all_tables(rt.alloc())?;
-    assert_eq!(rt; all.len(), 17);
-    for (name, mini) in all.iter() {
-        let set = lend_all(mini)?;
-        let refusal = CheckedTables::from_set(rt.alloc(), set).err();
-        assert_eq!(rt; refusal, None, "{name}, in a set");
-        let refusal = CheckedTables::new(
-            rt.alloc(),
-            set.root,
-            set.jamo,
-            set.special,
-            set.metadata,
-            set.tailoring,
-            set.reordering,
-            set.diacritics,
-        )
-        .err();
-        assert_eq!(rt; refusal, None, "{name}, one by one");
-    }
-    Ok(())
+/// The tables, checked together.
+fn checked(alloc: Global, mini: &Mini) -> Result<CheckedTables, Fail> {
+    let tables = CheckedTables::new(
+        alloc,
+        mini.lend_root()?,
+        mini.lend_jamo()?,
+        mini.lend_special_primaries()?,
+        mini.metadata,
+        mini.lend_tailoring()?,
+        mini.lend_reordering()?,
+        mini.lend_diacritics()?,
+    )?;
+    Ok(tables)
 }
 
 /// The lengths of the lists of elements and of entries, and the number of contexts.
@@ -65,7 +32,7 @@ fn lengths(data: CollationData<'_>) -> (usize, usize, usize) {
 #[test]
 fn a_root_and_its_companions_are_lent_as_they_came(rt: HostRuntime) -> Result<(), Fail> {
     let mini = Mini::with_high_currency(rt.alloc())?;
-    let tables = CheckedTables::from_set(rt.alloc(), lend_all(&mini)?)?;
+    let tables = checked(rt.alloc(), &mini)?;
     for (c, entry) in [
         ('$', 0x1E10_0505),
         ('a', 0x6110_0505),
@@ -119,7 +86,7 @@ fn a_root_and_its_companions_are_lent_as_they_came(rt: HostRuntime) -> Result<()
 #[test]
 fn a_tailoring_and_a_reordering_are_lent_as_they_came(rt: HostRuntime) -> Result<(), Fail> {
     let mini = Mini::with_swapped_leads(rt.alloc())?;
-    let tables = CheckedTables::from_set(rt.alloc(), lend_all(&mini)?)?;
+    let tables = checked(rt.alloc(), &mini)?;
     assert_eq!(rt; tables.metadata().bits, 0x29);
     let Some(tailoring) = tables.tailoring() else {
         return Err(Fail::from("no tailoring"));
@@ -152,12 +119,12 @@ fn a_tailoring_and_a_reordering_are_lent_as_they_came(rt: HostRuntime) -> Result
 #[test]
 fn lists_and_ranges_are_lent_as_they_came(rt: HostRuntime) -> Result<(), Fail> {
     let kana = Mini::with_kana(rt.alloc())?;
-    let tables = CheckedTables::from_set(rt.alloc(), lend_all(&kana)?)?;
+    let tables = checked(rt.alloc(), &kana)?;
     let (_trie, ces, _ce32s, _contexts) = tables.root().parts();
     assert!(rt; ces == [0x6710_0000_0500_0500, 0x6710_0000_0500_0540].as_slice());
 
     let split = Mini::with_split_lead(rt.alloc())?;
-    let tables = CheckedTables::from_set(rt.alloc(), lend_all(&split)?)?;
+    let tables = checked(rt.alloc(), &split)?;
     let Some(reordering) = tables.reordering() else {
         return Err(Fail::from("no reordering"));
     };

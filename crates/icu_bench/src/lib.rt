@@ -1,31 +1,9 @@
-//! Tests over several crates: worked rows and outside vectors.
+//! Tests over several crates. Worked rows of texts and tables stand in `icu_rows`.
 #![tactic(auto)]
 
 #[cfg(test)]
 mod checked_tables;
 #[cfg(test)]
-mod comparison;
-#[cfg(test)]
-mod damage;
-#[cfg(test)]
-mod damaged_tables;
-#[cfg(test)]
-mod damaged_weights;
-#[cfg(test)]
-mod elements;
-#[cfg(test)]
-mod options;
-#[cfg(test)]
-mod refusals;
-#[cfg(test)]
-mod refused_memory;
-#[cfg(test)]
 mod requests;
 #[cfg(test)]
-mod small_tables;
-#[cfg(test)]
-mod tables;
-#[cfg(test)]
-mod two_faults;
-#[cfg(test)]
-mod walks;
+mod settings;

@@ -1,6 +1,8 @@
 -- What a collator is asked for, and what decides between two texts in it.
 use Rattle.std.specs.Prelude.{◌≡◌, false, Some, None, Result, option_map, IsTrue, if◌then◌else◌}
 use Rattle.icu_options.specs.Settings.{Settings}
+use Rattle.icu_options.specs.FlaggedSettings.{values_of}
+use Rattle.icu_options.specs.Metadata.{is_backward}
 use Rattle.icu_options.specs.declared.options.CollatorPreferences.{CollatorPreferences}
 use Rattle.icu_options.specs.declared.settings.Strength.{Strength}
 use Rattle.icu_options.specs.declared.settings.AlternateHandling.TheVariants.{NonIgnorable}
@@ -14,7 +16,8 @@ use Rattle.icu_checks.specs.Checked.{checked_tables}
 use Rattle.icu_provider.specs.CollatorTables.{CollatorTables}
 use Rattle.icu_checks.specs.Loads.{lent_tables}
 use Rattle.icu_elements.specs.TextElements.{Reading}
-use Rattle.icu_elements.specs.Plain.{IsPlain, plain_reading}
+use Rattle.icu_elements.specs.ByCharacter.{IsContextFree, non_numeric_reading}
+use Rattle.icu_elements.specs.LiveTexts.{collator_reading}
 use Rattle.icu_comparison.specs.declared.collator.Collator.{Collator}
 use Rattle.icu_comparison.specs.declared.collator.CollatorBorrowed.{CollatorBorrowed}
 use Rattle.icu_comparison.specs.Order.{Comparison, is_at_most_tertiary}
@@ -25,9 +28,9 @@ use Rattle.icu_comparison.specs.Order.{Comparison, is_at_most_tertiary}
 abbrev pub request_in : CollatorPreferences → Request
 request_in p = record { locale = p.locale.now; collation_type = option_map (λ t. t.now) p.collation_type }
 
--- the tables that a provider lends for them, or the first refusal that no further request mends
-abbrev pub lent_for : Loads → CollatorPreferences → Result CollatorTables DataError
-lent_for loads preferences = lent_tables loads (request_in preferences)
+-- the tables that a provider returns for them, or the first refusal that no further request mends
+abbrev pub loaded_for : Loads → CollatorPreferences → Result CollatorTables DataError
+loaded_for loads preferences = lent_tables loads (request_in preferences)
 
 -- ---- what a collator has
 
@@ -36,40 +39,37 @@ abbrev pub tables_kept : Collator → CollatorTables
 tables_kept c = checked_tables c.tables
 
 abbrev pub settings_kept : Collator → Settings
-settings_kept c = c.settings
+settings_kept c = values_of c.settings
 
 -- the same of a collator that borrows its tables
 abbrev pub tables_borrowed : CollatorBorrowed → CollatorTables
 tables_borrowed c = checked_tables c.tables.now
 
 abbrev pub settings_borrowed : CollatorBorrowed → Settings
-settings_borrowed c = c.settings
+settings_borrowed c = values_of c.settings
 
 -- ---- what decides between two texts
 
 -- how texts are read: digits as numbers where the settings say so, and silent dots where the metadata does
 abbrev pub reading_by : CollatorTables → Settings → Reading
-reading_by all settings = record {
-  tables = all.tables;
-  numeric = if settings.numeric.value then Some all.special.numeric else None;
-  lithuanian = is_lithuanian all.bits;
-}
+reading_by all settings =
+    collator_reading all (if settings.numeric then Some all.special.numeric else None) (is_lithuanian all.bits)
 
 abbrev pub comparison_by : CollatorTables → Settings → Comparison
-comparison_by all settings = record { strength = settings.strength.value; reading = reading_by all settings }
+comparison_by all settings = record { strength = settings.strength; reading = reading_by all settings }
 
 -- by tables whose digits are letters like others
-abbrev pub plain_comparison : Strength → Tables → Comparison
-plain_comparison strength tables = record { strength = strength; reading = plain_reading tables }
+abbrev pub non_numeric_comparison : Strength → Tables → Comparison
+non_numeric_comparison strength tables = record { strength = strength; reading = non_numeric_reading tables }
 
 -- The order needs no more than the primary, secondary and tertiary weights of each character by itself, as they are: the reading
--- needs no context, leads aren't reordered, the secondary level is compared from the front, variable elements are like others, and
--- neither case nor a level after the tertiary one counts.
-pub record IsPlainComparison (all : CollatorTables) (settings : Settings) : Type 0 where
-  pub reading : IsPlain (reading_by all settings)
+-- is free of contexts, leads aren't reordered, the secondary level is compared from the front, which the metadata says, variable
+-- elements are like others, and neither case nor a level after the tertiary one counts.
+pub record IsSupportedComparison (all : CollatorTables) (settings : Settings) : Type 0 where
+  pub reading : IsContextFree (reading_by all settings)
   pub reordering : all.reordering ≡ None
-  pub forward : settings.backward_second_level.value ≡ false
-  pub alternate_handling : settings.alternate_handling.value ≡ NonIgnorable
-  pub case_level : settings.case_level.value ≡ false
-  pub case_first : settings.case_first.value ≡ case_first.False
-  pub strength : IsTrue (is_at_most_tertiary settings.strength.value)
+  pub forward : is_backward all.bits ≡ false
+  pub alternate_handling : settings.alternate_handling ≡ NonIgnorable
+  pub case_level : settings.case_level ≡ false
+  pub case_first : settings.case_first ≡ case_first.False
+  pub strength : IsTrue (is_at_most_tertiary settings.strength)

@@ -1,15 +1,20 @@
--- The lists of weights that two texts are compared by, level by level (UTS #10, section 7.3).
-use Rattle.std.specs.Prelude.{ℕ, Bool, not, ◌==◌, List, filter, map, bit_and}
-use Rattle.icu_entries.specs.Elements.{Element, tertiary_mask}
+-- The lists of weights that two texts are compared by, level by level (UTS #10, section 7.3 "Form Sort Keys").
+use Rattle.std.specs.Prelude.{ℕ, ◌==◌, List, [], ◌∷◌, if◌then◌else◌}
+use Rattle.icu_entries.specs.Elements.{Element}
+use Rattle.icu_entries.specs.ElementConditions.{tertiary_of}
+use Rattle.icu_comparison.specs.LiveWeights.{primary_of, secondary_of}
 
-abbrev pub is_nonzero : ℕ → Bool
-is_nonzero w = not (w == 0)
+-- what a level has for each element that it reads something of
+unfoldable pub weights : (reads has : Element → ℕ) → List Element → List ℕ
+weights reads has [] = []
+weights reads has (x ∷ xs) = if reads x == 0 then weights reads has xs else has x ∷ weights reads has xs
 
+-- the nonzero weights of each level, as they stand in the tables
 abbrev pub primaries : List Element → List ℕ
-primaries es = filter is_nonzero (map (λ (e : Element). e.primary) es)
+primaries es = weights primary_of primary_of es
 
 abbrev pub secondaries : List Element → List ℕ
-secondaries es = filter is_nonzero (map (λ (e : Element). e.secondary) es)
+secondaries es = weights secondary_of secondary_of es
 
 abbrev pub tertiaries : List Element → List ℕ
-tertiaries es = filter is_nonzero (map (λ (e : Element). bit_and e.lower tertiary_mask) es)
+tertiaries es = weights tertiary_of tertiary_of es

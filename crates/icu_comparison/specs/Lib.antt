@@ -9,3 +9,4 @@ pub mod Levels
 pub mod Order
 pub mod Collators
 pub mod LiveWeights
+pub mod inner

@@ -21,7 +21,7 @@ is_at_most_tertiary Quaternary = false
 is_at_most_tertiary Identical = false
 is_at_most_tertiary _ = true
 
--- the levels that a strength takes in beside the primary one
+-- the levels that count at a strength, beside the primary one
 abbrev pub has_secondaries : Strength → Bool
 has_secondaries Primary = false
 has_secondaries _ = true
@@ -31,16 +31,16 @@ has_tertiaries Primary = false
 has_tertiaries Secondary = false
 has_tertiaries _ = true
 
--- a level's order counts where the strength takes it in
-abbrev pub where_taken : Bool → Ordering → Ordering
-where_taken taken order = if taken then order else Equal
+-- a level's order, where the level counts
+abbrev pub where_counted : Bool → Ordering → Ordering
+where_counted counts order = if counts then order else Equal
 
 -- the first level that differs decides
 unfoldable pub order_of_elements : Strength → List Element → List Element → Ordering
 order_of_elements strength xs ys =
     ordering_then (list_order (primaries xs) (primaries ys)) (
-    ordering_then (where_taken (has_secondaries strength) (list_order (secondaries xs) (secondaries ys)))
-    (where_taken (has_tertiaries strength) (list_order (tertiaries xs) (tertiaries ys))))
+    ordering_then (where_counted (has_secondaries strength) (list_order (secondaries xs) (secondaries ys)))
+    (where_counted (has_tertiaries strength) (list_order (tertiaries xs) (tertiaries ys))))
 
 -- the order of two texts
 abbrev pub order_of : Comparison → List ℕ → List ℕ → Ordering

@@ -1,11 +1,15 @@
-ghost use Rattle.std.specs.Prelude.{◌≡◌, Err, Ok, Some, None, IfErr, IfOk, chars, if◌then◌else◌};
+//! Collators: tables and settings, and the order of texts by them.
+
+ghost use Rattle.std.specs.Prelude.{◌≡◌, Err, Ok, IfErr, IfOk, chars};
 ghost use Rattle.icu_options.specs.Conversions.{resolved_of};
 ghost use Rattle.icu_options.specs.Merge.{merge};
-ghost use Rattle.icu_options.specs.Metadata.{metadata_settings};
+ghost use Rattle.icu_options.specs.FlaggedSettings.{values_of};
+ghost use Rattle.icu_options.specs.Metadata.{metadata_settings, is_backward};
 ghost use Rattle.icu_entries.specs.declared.error.DataErrorKind.TheVariants.{NoMemory};
+ghost use Rattle.icu_checks.specs.Checked.{checked_tables};
 ghost use Rattle.icu_checks.specs.GoodTables.{IsGoodTables, IsTrueRefusal};
-ghost use Rattle.icu_elements.specs.Plain.{IsPlain};
-ghost use Rattle.icu_elements.specs.Reading.{tables_of};
+ghost use Rattle.icu_elements.specs.ByCharacter.{IsContextFree};
+ghost use Rattle.icu_elements.specs.Reading.{element_tables};
 ghost use Rattle.icu_elements.specs.TextElements.{elements_of};
 ghost use Rattle.icu_comparison.specs.Order.{order_of};
 ghost use Rattle.unicode_normalization.specs.Forms.{nfd};
@@ -22,44 +26,56 @@ use icu_provider::CollationProvider;
 use std::alloc::{AllocError, Global};
 use std::cmp::Ordering;
 
-/// Compares texts by a language's rules (UTS #10). Owns copies of its tables, which were checked together, and its settings.
+/// Compares texts by a language's rules (UTS #10). Owns copies of its tables, which were checked
+/// together, and its settings.
 #[derive(Debug, Drop)]
 pub struct Collator {
     tables: CheckedTables,
     settings: CollatorOptionsBitField,
+    ghost backward: { (values_of settings).backward_second_level
+        ≡ is_backward (checked_tables tables).bits },
 }
 
 impl Collator {
-    ghost use Rattle.icu_comparison.specs.Collators.{lent_for, tables_kept, settings_kept, tables_borrowed, settings_borrowed};
+    ghost use Rattle.icu_comparison.specs.Collators.{loaded_for, tables_kept, settings_kept};
+    ghost use Rattle.icu_comparison.specs.Collators.{tables_borrowed, settings_borrowed};
 
-    /// A collator by the tables that a provider lends for the locale and the type of `preferences` (`load_tables` says which are
-    /// asked for, and in which order). They are checked together, and copied; nothing is kept that wasn't checked. Each setting is
-    /// that of the first source that names it: `options` or `preferences`, then the metadata that was lent, then the default
+    /// A collator by the tables that a provider returns for the locale and the type of `preferences`
+    /// (`load_tables` says which are asked for, and in which order). They are checked together, and
+    /// copied; nothing is kept that wasn't checked. Each setting is that of the first source that sets
+    /// it: `options` or `preferences`, then the metadata that the provider returned, then the default
     /// (`merged_options`).
     ///
-    /// Where a table isn't lent, the provider's last refusal of it is answered. Tables that don't meet the conditions together are
-    /// refused with the name of one that takes part in a condition that fails, and the condition's kind. `NoMemory` says that a
-    /// growth was refused.
+    /// Where the provider refuses a table, its last refusal of it is returned. Tables that don't meet
+    /// the conditions together are refused with the name of one that takes part in a condition that
+    /// fails, and the condition's kind. `NoMemory` says that an allocation failed.
     pub fn try_new_unstable<P: CollationProvider>(
         alloc: Global,
         provider: &P,
         preferences: CollatorPreferences<'_>,
         options: CollatorOptions,
     ) -> Result<Collator, DataError>
-        // What the provider lends, or its refusal.
-        ensures not_lent { IfErr (lent_for (P.loads provider.now) preferences.entry) (λ e. result ≡ Err e) }
-        ensures keeps { IfOk result (λ c. lent_for (P.loads provider.now) preferences.entry ≡ Ok (tables_kept c)) }
+        // What the provider returns, or its refusal.
+        ensures not_loaded { IfErr (loaded_for (P.loads provider.now) preferences.entry)
+            (λ e. result ≡ Err e) }
+        ensures keeps { IfOk result (λ c.
+            loaded_for (P.loads provider.now) preferences.entry ≡ Ok (tables_kept c)) }
 
-        // It is checked: memory aside, a collator is made of good tables, and only of them.
+        // It is checked: unless an allocation fails, a collator is made of good tables, and only
+        // of them.
         ensures good { IfOk result (λ c. IsGoodTables (tables_kept c)) }
-        ensures refusal { IfErr result (λ e. IfOk (lent_for (P.loads provider.now) preferences.entry) (λ all. IsTrueRefusal all e)) }
-        ensures exact { IfErr result (λ e. IfOk (lent_for (P.loads provider.now) preferences.entry) (λ all.
+        ensures refusal { IfErr result (λ e.
+            IfOk (loaded_for (P.loads provider.now) preferences.entry)
+            (λ all. IsTrueRefusal all e)) }
+        ensures exact { IfErr result (λ e.
+            IfOk (loaded_for (P.loads provider.now) preferences.entry) (λ all.
             (e.kind ≡ NoMemory → ⊥) → IsGoodTables all → ⊥)) }
 
-        ensures settings { IfOk result (λ c. settings_kept c ≡ merge options preferences.entry (metadata_settings (tables_kept c).bits)) }
+        ensures settings { IfOk result (λ c. settings_kept c
+            ≡ merge options preferences.entry (metadata_settings (tables_kept c).bits)) }
     {
-        let lent = load_tables(provider, preferences.locale, preferences.collation_type)?;
-        let tables = CheckedTables::from_set(alloc, lent)?;
+        let loaded = load_tables(provider, preferences.locale, preferences.collation_type)?;
+        let tables = CheckedTables::from_set(alloc, loaded)?;
         let settings = merged_options(options, preferences, tables.metadata().settings());
         Ok(Collator { tables, settings })
     }
@@ -81,10 +97,13 @@ impl Collator {
 pub struct CollatorBorrowed<'a> {
     tables: &'a CheckedTables,
     settings: CollatorOptionsBitField,
+    ghost backward: { (values_of settings).backward_second_level
+        ≡ is_backward (checked_tables tables.now).bits },
 }
 
 impl<'a> CollatorBorrowed<'a> {
-    ghost use Rattle.icu_comparison.specs.Collators.{IsPlainComparison, comparison_by, reading_by, tables_borrowed, settings_borrowed};
+    ghost use Rattle.icu_comparison.specs.Collators.{IsSupportedComparison, comparison_by};
+    ghost use Rattle.icu_comparison.specs.Collators.{reading_by, tables_borrowed, settings_borrowed};
 
     /// The settings that the collator works by.
     pub fn resolved_options(&self) -> ResolvedCollatorOptions
@@ -95,32 +114,32 @@ impl<'a> CollatorBorrowed<'a> {
 
     /// The tables that elements are read from.
     pub fn tables(&self) -> ElementTables<'a>
-        ensures { tables_of result ≡ (tables_borrowed self.now).tables }
+        ensures { element_tables result ≡ (tables_borrowed self.now).tables }
     {
         ElementTables::new(self.tables)
     }
 
-    /// The order of two texts (UTS #10, section 7.4), where their elements are plain and compared as they are
-    /// (`IsPlainComparison`). Elsewhere each character is read by itself, the weights are compared as they stand in the tables, and
-    /// levels after the tertiary one don't count. Refused only where a growth was.
+    /// The order of two texts (UTS #10, section 7.4), where their elements are those of their
+    /// characters and compared as they are (`IsSupportedComparison`). Elsewhere each character is read
+    /// by itself, the weights are compared as they stand in the tables, and levels after the tertiary
+    /// one don't count. Fails only where an allocation does.
     pub fn compare(&self, left: &str, right: &str) -> Result<Ordering, AllocError>
-        ensures { IsPlainComparison (tables_borrowed self.now) (settings_borrowed self.now)
-            → IfOk result (λ o. o ≡ order_of (comparison_by (tables_borrowed self.now) (settings_borrowed self.now)) (chars left.now) (chars right.now)) }
+        ensures { IsSupportedComparison (tables_borrowed self.now) (settings_borrowed self.now)
+            → IfOk result (λ o. o ≡ order_of
+            (comparison_by (tables_borrowed self.now) (settings_borrowed self.now))
+            (chars left.now) (chars right.now)) }
     {
         let left = self.elements(left)?;
         let right = self.elements(right)?;
-        compare_elements(
-            self.tables.allocator(),
-            self.settings.strength(),
-            left.as_slice(),
-            right.as_slice(),
-        )
+        let strength = self.settings.strength();
+        Ok(compare_elements(strength, left.as_slice(), right.as_slice()))
     }
 
     /// The elements of a text.
     fn elements(&self, text: &str) -> Result<Vec<CollationElement>, AllocError>
         ensures { let reading = reading_by (tables_borrowed self.now) (settings_borrowed self.now) in
-            IsPlain reading → IfOk result (λ es. es.items ≡ elements_of reading (nfd (chars text.now))) }
+            IsContextFree reading
+            → IfOk result (λ es. es.items ≡ elements_of reading (nfd (chars text.now))) }
     {
         all_elements(
             self.tables(),
@@ -132,7 +151,8 @@ impl<'a> CollatorBorrowed<'a> {
 
     /// The lead byte of numbers, where digits are read as numbers.
     fn numeric_primary(&self) -> Option<u8>
-        ensures { result ≡ (reading_by (tables_borrowed self.now) (settings_borrowed self.now)).numeric }
+        ensures { result
+            ≡ (reading_by (tables_borrowed self.now) (settings_borrowed self.now)).numeric }
     {
         if self.settings.numeric() {
             Some(self.tables.special_primaries().numeric_primary())

@@ -1,73 +1,86 @@
-ghost use Rattle.std.specs.Prelude.{◌≡◌, IfOk};
-ghost use Rattle.icu_comparison.specs.Levels.{primaries, secondaries, tertiaries};
+//! Levels, compared one by one.
+
+ghost use Rattle.std.specs.Prelude.{◌≡◌, ◌≢◌, ◌≤◌, ◌<◌, ◌==◌, [], ◌∷◌, if◌then◌else◌, length};
 ghost use Rattle.icu_levels.specs.ListOrder.{list_order};
+ghost use Rattle.icu_comparison.specs.inner.WeightsLeft.{weight_in, weights_in};
 
 use icu_entries::CollationElement;
-use std::alloc::{AllocError, Global};
 use std::cmp::Ordering;
 
-fn primary_weights(alloc: Global, elements: &[CollationElement]) -> Result<Vec<u32>, AllocError>
-    ensures { IfOk result (λ weights. weights.items ≡ primaries elements.now) }
-{
-    elements
-        .iter()
-        .map(|element| element.primary())
-        .filter(|weight| *weight != 0)
-        .collect(alloc)
+/// A level whose weights are compared as they stand in the tables.
+#[derive(Debug, Clone, Copy)]
+pub(crate) enum Level {
+    Primary,
+    Secondary,
+    Tertiary,
 }
 
-fn secondary_weights(alloc: Global, elements: &[CollationElement]) -> Result<Vec<u16>, AllocError>
-    ensures { IfOk result (λ weights. weights.items ≡ secondaries elements.now) }
-{
-    elements
-        .iter()
-        .map(|element| element.secondary())
-        .filter(|weight| *weight != 0)
-        .collect(alloc)
+impl Level {
+    /// What the level reads of an element: nothing if it is 0.
+    fn weight(self, element: CollationElement) -> u32
+        ensures { result ≡ weight_in self element }
+    {
+        match self {
+            Level::Primary => element.primary(),
+            Level::Secondary => u32::from(element.secondary()),
+            Level::Tertiary => u32::from(element.non_primary().tertiary()),
+        }
+    }
+
+    /// The order of two lists of elements on this level: the first pair of weights that differs
+    /// decides, and a prefix comes first.
+    pub(crate) fn compare(self, left: &[CollationElement], right: &[CollationElement]) -> Ordering
+        ensures { result ≡ list_order (weights_in self left.now) (weights_in self right.now) }
+    {
+        let mut left = WeightsLeft::new(self, left);
+        let mut right = WeightsLeft::new(self, right);
+        'pairs: loop {
+            let one = left.next();
+            let other = right.next();
+            if one == 0 || other == 0 {
+                return (one != 0).cmp(&(other != 0));
+            }
+            let order = one.cmp(&other);
+            if order != Ordering::Equal {
+                return order;
+            }
+        }
+    }
 }
 
-fn tertiary_weights(alloc: Global, elements: &[CollationElement]) -> Result<Vec<u16>, AllocError>
-    ensures { IfOk result (λ weights. weights.items ≡ tertiaries elements.now) }
-{
-    elements
-        .iter()
-        .map(|element| element.non_primary().tertiary())
-        .filter(|weight| *weight != 0)
-        .collect(alloc)
+/// The weights of one level that are left of a list of elements.
+#[derive(Debug, Clone, Copy)]
+struct WeightsLeft<'a> {
+    level: Level,
+    elements: &'a [CollationElement],
 }
 
-pub(crate) fn compare_primaries(
-    alloc: Global,
-    left: &[CollationElement],
-    right: &[CollationElement],
-) -> Result<Ordering, AllocError>
-    ensures { IfOk result (λ o. o ≡ list_order (primaries left.now) (primaries right.now)) }
-{
-    let left = primary_weights(alloc, left)?;
-    let right = primary_weights(alloc, right)?;
-    Ok(left.cmp(&right))
-}
+impl<'a> WeightsLeft<'a> {
+    ghost use Rattle.icu_comparison.specs.inner.WeightsLeft.{weights_left};
 
-pub(crate) fn compare_secondaries(
-    alloc: Global,
-    left: &[CollationElement],
-    right: &[CollationElement],
-) -> Result<Ordering, AllocError>
-    ensures { IfOk result (λ o. o ≡ list_order (secondaries left.now) (secondaries right.now)) }
-{
-    let left = secondary_weights(alloc, left)?;
-    let right = secondary_weights(alloc, right)?;
-    Ok(left.cmp(&right))
-}
+    fn new(level: Level, elements: &'a [CollationElement]) -> WeightsLeft<'a>
+        ensures { weights_left result ≡ weights_in level elements.entry.now }
+    {
+        WeightsLeft { level, elements }
+    }
 
-pub(crate) fn compare_tertiaries(
-    alloc: Global,
-    left: &[CollationElement],
-    right: &[CollationElement],
-) -> Result<Ordering, AllocError>
-    ensures { IfOk result (λ o. o ≡ list_order (tertiaries left.now) (tertiaries right.now)) }
-{
-    let left = tertiary_weights(alloc, left)?;
-    let right = tertiary_weights(alloc, right)?;
-    Ok(left.cmp(&right))
+    /// The next weight, or 0 after the last one.
+    #[tactic(auto, unfolding(crate::specs::Levels::weights))]
+    fn next(&mut self) -> u32
+        ensures level { self.new.level ≡ self.old.level }
+        ensures size { length self.new.elements.now ≤ length self.old.elements.now }
+        ensures smaller { result ≢ 0
+            → length self.new.elements.now < length self.old.elements.now }
+        ensures weight { weights_left self.old
+            ≡ (if result == 0 then [] else result ∷ weights_left self.new) }
+    {
+        'passing: while let [element, rest @ ..] = self.elements {
+            self.elements = rest;
+            let weight = self.level.weight(*element);
+            if weight != 0 {
+                return weight;
+            }
+        }
+        0
+    }
 }

@@ -1,13 +1,15 @@
 pub mod IterLemmas
+pub mod ChoiceLemmas
 pub mod LiveLemmas
 pub mod DecomposedLemmas
 pub mod PartLemmas
 pub mod SourceLemmas
 pub mod ReadableLemmas
-pub mod PlainLemmas
+pub mod ByCharacterLemmas
 pub mod LiveTextLemmas
+pub mod StepLemmas
 pub mod Computing
 pub mod WorkedTables
 mod WorkedTexts
-mod WorkedPlain
+mod WorkedByCharacter
 mod WorkedLive

@@ -9,6 +9,7 @@ use Rattle.icu_entries.specs.Entries.{kind_of}
 use Rattle.icu_data.specs.Data.{Row, Context, Data, HomedEntry, homed, context_of, row_entry, better, longest_from, longest_row}
 use Rattle.icu_data.specs.Live.{context_entries, named_entries, live_digit, live_contraction, live_from}
 use Rattle.icu_data.proofs.ListLemmas.{all_append, all_first, all_second}
+use Rattle.icu_elements.proofs.ChoiceLemmas.{either, maybe}
 use Rattle.icu_elements.specs.Matches.{Match, after_prefix, is_blocked, with_marks, contracted, match_from, match_of}
 
 -- ---- lists
@@ -53,14 +54,6 @@ row_entry-holds P (row ∷ rows) chars p = some_if P (bytes_eq row.chars chars) 
 pub record Holds (P R : ℕ → Type 0) (m : Match) : Type 0 where
   pub entry : P m.entry
   pub rest : AllByRecursion R m.rest
-
-either : (C : Match → Type 0) (b : Bool) (x y : Match) → C x → C y → C (if b then x else y)
-either C true x y p q = p
-either C false x y p q = q
-
-maybe : {A : Type 0} (Q : A → Type 0) (C : Match → Type 0) (o : Option A) (f : A → Match) (y : Match) → IfSome o Q → ((x : A) → Q x → C (f x)) → C y → C (elim o as (λ _. Match) [ Some x ↦ f x | None ↦ y ])
-maybe Q C (Some x) f y h p q = p x h
-maybe Q C None f y h p q = q
 
 module _ (P R : ℕ → Type 0) (rows : List Row) (hold : RowsHold P rows) where
   with_marks-holds : (entry : ℕ) (suffix passed text : List ℕ) → P entry → AllByRecursion R passed → AllByRecursion R text → Holds P R (with_marks rows entry suffix passed text)

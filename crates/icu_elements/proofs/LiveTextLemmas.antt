@@ -18,13 +18,14 @@ use Rattle.icu_provider.specs.CollatorTables.{CollatorTables}
 use Rattle.icu_checks.specs.GoodTables.{IsGoodTables}
 use Rattle.icu_elements.specs.TextElements.{Reading, elements_of}
 use Rattle.icu_elements.specs.TextParts.{is_replaced, IsOfDiacritic, IsOfNumber, IsTextElement}
-use Rattle.icu_elements.specs.LiveTexts.{IsLiveElement, IsNumberElement, IsLiveOrNumber, read_by}
+use Rattle.icu_elements.specs.LiveTexts.{IsLiveElement, IsNumberElement, IsLiveOrNumber, collator_reading}
 use Rattle.icu_elements.proofs.ReadableLemmas.{good_readable, readable_digits}
 use Rattle.icu_elements.proofs.SourceLemmas.{elements_of-sources}
 
 -- ---- entries
 
-live_entry : (tables : Tables) (x : Element) (home : Data) (c e : ℕ) → IsLive tables home c e → Contains (final_elements (homed home e) c) x → IsLiveElement tables x
+-- an entry that is live in the root, the table of jamo or the tailoring gives live elements
+pub live_entry : (tables : Tables) (x : Element) (home : Data) (c e : ℕ) → IsLive tables home c e → Contains (final_elements (homed home e) c) x → IsLiveElement tables x
 live_entry tables x home c e (inl live) member =
     record { table = Root; live = record { home = home; char = c; entry = e; live = live; member = member } }
 live_entry tables x home c e (inr (inl live)) member =
@@ -38,24 +39,24 @@ found : (b : Bool) (v s : ℕ) → (if b then Some v else None) ≡ Some s → (
 found true v s is = (refl, cc)
 found false v s is = cc
 
-place_inside : (c n : ℕ) → (nat_le 0x300 c && nat_lt (c - 0x300) n) ≡ true → c - 0x300 < n
-place_inside c n h = let parts = and_parts (nat_le 0x300 c) (nat_lt (c - 0x300) n) h in grind (arith, nat_tests)
+index_inside : (c n : ℕ) → (nat_le 0x300 c && nat_lt (c - 0x300) n) ≡ true → c - 0x300 < n
+index_inside c n h = let parts = and_parts (nat_le 0x300 c) (nat_lt (c - 0x300) n) h in grind (arith, nat_tests)
 
-kept_place : (c n : ℕ) → (nat_le 0x300 c && nat_lt (c - 0x300) n) ≡ true → IsTrue (not (is_replaced c)) → is_replaced_index (c - 0x300) ≡ false
-kept_place c n h kept = let parts = and_parts (nat_le 0x300 c) (nat_lt (c - 0x300) n) h in grind (arith, nat_tests)
+kept_index : (c n : ℕ) → (nat_le 0x300 c && nat_lt (c - 0x300) n) ≡ true → IsTrue (not (is_replaced c)) → is_replaced_index (c - 0x300) ≡ false
+kept_index c n h kept = let parts = and_parts (nat_le 0x300 c) (nat_lt (c - 0x300) n) h in grind (arith, nat_tests)
 
-live_accent : (tables : Tables) (x : Element) → IsOfDiacritic tables x → IsLiveElement tables x
+live_diacritic : (tables : Tables) (x : Element) → IsOfDiacritic tables x → IsLiveElement tables x
 unfolding diacritic_of
-live_accent tables x accent =
-    let c = accent.char in
-    let is = found (nat_le 0x300 c && nat_lt (c - 0x300) (length tables.diacritics)) (slice_index tables.diacritics (c - 0x300)) accent.secondary accent.in_table in
+live_diacritic tables x diacritic =
+    let c = diacritic.char in
+    let is = found (nat_le 0x300 c && nat_lt (c - 0x300) (length tables.diacritics)) (slice_index tables.diacritics (c - 0x300)) diacritic.secondary diacritic.in_table in
     record {
       table = Diacritics;
       live = record {
         place = c - 0x300;
-        inside = place_inside c _ is.0;
-        kept = kept_place c _ is.0 accent.decomposed.kept;
-        is = accent.element ∙ ap of_secondary (sym is.1);
+        inside = index_inside c _ is.0;
+        kept = kept_index c _ is.0 diacritic.decomposed.kept;
+        is = diacritic.element ∙ ap of_secondary (sym is.1);
       };
     }
 
@@ -83,11 +84,11 @@ number_element numeric x number =
 
 live_or_number : (reading : Reading) (x : Element) → IsTextElement reading x → IsLiveOrNumber reading x
 live_or_number reading x (inl entry) = inl (live_entry reading.tables x entry.home entry.char entry.entry entry.live entry.member)
-live_or_number reading x (inr (inl accent)) = inl (live_accent reading.tables x accent)
+live_or_number reading x (inr (inl diacritic)) = inl (live_diacritic reading.tables x diacritic)
 live_or_number reading x (inr (inr number)) = inr (number_element reading.numeric x number)
 
-pub good_tables_live : (all : CollatorTables) (numeric : Option ℕ) (lithuanian : Bool) → IsGoodTables all → (cs : List ℕ) → AllByRecursion IsScalar cs → AllByRecursion (IsLiveOrNumber (read_by all numeric lithuanian)) (elements_of (read_by all numeric lithuanian) (nfd cs))
+pub good_tables_live : (all : CollatorTables) (numeric : Option ℕ) (lithuanian : Bool) → IsGoodTables all → (cs : List ℕ) → AllByRecursion IsScalar cs → AllByRecursion (IsLiveOrNumber (collator_reading all numeric lithuanian)) (elements_of (collator_reading all numeric lithuanian) (nfd cs))
 good_tables_live all numeric lithuanian good cs scalars =
-    let reading = read_by all numeric lithuanian in
+    let reading = collator_reading all numeric lithuanian in
     weaker (IsTextElement reading) (IsLiveOrNumber reading) (live_or_number reading) (elements_of reading (nfd cs))
     (elements_of-sources reading (readable_digits all.tables (good_readable all good)) cs scalars)

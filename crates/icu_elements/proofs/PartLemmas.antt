@@ -17,9 +17,10 @@ use Rattle.icu_data.specs.Final.{final_elements}
 use Rattle.icu_data.specs.Live.{live_digit, live_contraction, live_from, EachLive}
 use Rattle.icu_data.proofs.ListLemmas.{weaker}
 use Rattle.icu_elements.specs.Matches.{Match, match_of}
-use Rattle.icu_elements.specs.TextElements.{Reading, Step, is_silent_dot, goes_on, begins_with_mark, digit_of, number_elements, number_step, entry_step, diacritic_step, matched_step, step, taken, last_two, elements_along, elements_after, elements_of}
+use Rattle.icu_elements.specs.TextElements.{Reading, Step, is_silent_dot, continues_number, begins_with_mark, digit_of, number_elements, number_step, entry_step, diacritic_step, matched_step, step, consumed, last_two, elements_along, elements_after, elements_of}
 use Rattle.icu_provider.specs.LiveTables.{jamo_entry, AllLive, HasDigits}
 use Rattle.icu_elements.specs.TextParts.{IsDecomposed, IsDecomposedText, AreDigits, HasGoodParts, EachPasses, PartsPass}
+use Rattle.icu_elements.proofs.ChoiceLemmas.{either, maybe, at_nil}
 use Rattle.icu_elements.proofs.LiveLemmas.{match_of-live, all_drop}
 
 -- ---- an entry is among those that are live from it
@@ -90,9 +91,9 @@ digit_from_run _ false small h s = cc
 decimal : (d : ℕ) → nat_le d 9 ≡ true → d < 10
 decimal d h = grind (arith, nat_tests)
 
-goes_on-decimal : (tables : Tables) → HasDigits tables → (x : ℕ) → goes_on tables x ≡ true → IsDecomposed x → digit_of tables x < 10
+continues_number-decimal : (tables : Tables) → HasDigits tables → (x : ℕ) → continues_number tables x ≡ true → IsDecomposed x → digit_of tables x < 10
 unfolding has_digit
-goes_on-decimal tables live x on read =
+continues_number-decimal tables live x on read =
     let h = entry_of tables x in
     let head : IsTrue (has_digit h.entry) = live_from-head (λ e. IsTrue (has_digit e)) h.home h.entry (entry_of-live (λ home c e. IsTrue (has_digit e)) tables live x read.scalar) in
     decimal _ (digit_from_run (kind_of h.entry) _ _ on head)
@@ -104,18 +105,6 @@ record Gives (G : List Element → Type 0) (R : ℕ → Type 0) (s : Step) : Typ
   pub elements : G s.elements
   pub rest : AllByRecursion R s.rest
 
-step_if : (C : Step → Type 0) (b : Bool) (x y : Step) → C x → C y → C (if b then x else y)
-step_if C true x y p q = p
-step_if C false x y p q = q
-
-step_maybe : {A : Type 0} (Q : A → Type 0) (C : Step → Type 0) (o : Option A) (f : A → Step) (y : Step) → IfSome o Q → ((x : A) → Q x → C (f x)) → C y → C (elim o as (λ _. Step) [ Some x ↦ f x | None ↦ y ])
-step_maybe Q C (Some x) f y h p q = p x h
-step_maybe Q C None f y h p q = q
-
-step_nil : (C : Step → Type 0) (l : List ℕ) (x y : Step) → C x → C y → C (elim l as (λ _. Step) [ [] ↦ x | _ ∷ _ ↦ y ])
-step_nil C [] x y p q = p
-step_nil C (_ ∷ _) x y p q = q
-
 at_digit : (P : ℕ → Type 0) (C : Step → Type 0) (k : EntryKind) (e p : ℕ) (small : Bool) (a b : Step) → (P p → small ≡ true → C a) → (P e → C b) → AllByRecursion P (elim k as (λ _. List ℕ) [ Digit ↦ e ∷ p ∷ [] | _ ↦ e ∷ [] ]) → IsTrue (elim k as (λ _. Bool) [ Digit ↦ small | _ ↦ true ]) → C (elim k as (λ _. Step) [ Digit ↦ a | _ ↦ b ])
 at_digit P C Digit e p small a b f g live s = f live.1.0 s
 at_digit P C _ e p small a b f g live s = g live.0
@@ -125,13 +114,13 @@ module _ (G : List Element → Type 0) (reading : Reading) (parts : HasGoodParts
   unfolding number_step
   number_step-gives lead m good small rest =
       let tables = reading.tables in
-      let run = take_while (goes_on tables) m.rest in
+      let run = take_while (continues_number tables) m.rest in
       let alone : Step = record { elements = number_elements lead (digit_value m.entry ∷ []); suffix = m.suffix; rest = m.rest } in
       let together : Step = record { elements = number_elements lead (digit_value m.entry ∷ map (digit_of tables) run); suffix = run; rest = drop (length run) m.rest } in
       let by_itself : Gives G IsDecomposed alone = record { elements = good (digit_value m.entry ∷ []) (small, tt); rest = rest } in
-      let digits = all_run (goes_on tables) (digit_of tables) IsDecomposed (λ d. d < 10) (goes_on-decimal tables parts.digits) m.rest rest in
+      let digits = all_run (continues_number tables) (digit_of tables) IsDecomposed (λ d. d < 10) (continues_number-decimal tables parts.digits) m.rest rest in
       let with_run : Gives G IsDecomposed together = record { elements = good (digit_value m.entry ∷ map (digit_of tables) run) (small, digits); rest = all_drop IsDecomposed (length run) m.rest rest } in
-      step_nil (Gives G IsDecomposed) m.suffix _ alone (step_if (Gives G IsDecomposed) (begins_with_mark m.rest) alone together by_itself with_run) by_itself
+      at_nil (Gives G IsDecomposed) m.suffix _ alone (either (Gives G IsDecomposed) (begins_with_mark m.rest) alone together by_itself with_run) by_itself
 
   entry_step-gives : (home : Data) (c : ℕ) (m : Match) → AllByRecursion (λ e. G (final_elements (homed home e) c)) (live_digit home m.entry) → IsTrue (has_digit m.entry) → IsDecomposedText m.rest → Gives G IsDecomposed (entry_step reading home c m)
   unfolding entry_step live_digit has_digit
@@ -139,15 +128,15 @@ module _ (G : List Element → Type 0) (reading : Reading) (parts : HasGoodParts
       let P : ℕ → Type 0 = λ e. G (final_elements (homed home e) c) in
       at_digit P (Gives G IsDecomposed) (kind_of m.entry) m.entry (plain_of home m.entry) (nat_le (digit_value m.entry) 9) _ _
       (λ p s.
-      step_maybe (λ lead. (ds : List ℕ) → AreDigits ds → G (number_elements lead ds)) (Gives G IsDecomposed) reading.numeric _ _ parts.numbers
+      maybe (λ lead. (ds : List ℕ) → AreDigits ds → G (number_elements lead ds)) (Gives G IsDecomposed) reading.numeric _ _ parts.numbers
       (λ lead good. number_step-gives lead m good (decimal _ s) rest) (record { elements = p; rest = rest }))
       (λ p. record { elements = p; rest = rest }) live small
 
   diacritic_step-gives : (secondary c : ℕ) (text : List ℕ) → G (of_secondary secondary ∷ []) → IsDecomposedText text → Gives G IsDecomposed (diacritic_step reading secondary c text)
   diacritic_step-gives secondary c text good all =
       let silent : Step = record { elements = []; suffix = []; rest = text } in
-      let accent : Step = record { elements = of_secondary secondary ∷ []; suffix = []; rest = text } in
-      step_if (Gives G IsDecomposed) (is_silent_dot reading.lithuanian c text) silent accent
+      let sounding : Step = record { elements = of_secondary secondary ∷ []; suffix = []; rest = text } in
+      either (Gives G IsDecomposed) (is_silent_dot reading.lithuanian c text) silent sounding
       (record { elements = parts.none; rest = all }) (record { elements = good; rest = all })
 
   step-gives : (before : List ℕ) (c : ℕ) (text : List ℕ) → IsDecomposed c → IsDecomposedText text → Gives G IsDecomposed (step reading before c text)
@@ -159,7 +148,7 @@ module _ (G : List Element → Type 0) (reading : Reading) (parts : HasGoodParts
       let P : ℕ → Type 0 = λ e. G (final_elements (homed h.home e) c) in
       let finals = match_of-live P IsDecomposed h before text (entry_of-live (λ home c e. G (final_elements (homed home e) c)) reading.tables parts.entries c read.scalar) all in
       let smalls = match_of-live D IsDecomposed h before text (entry_of-live (λ home c e. IsTrue (has_digit e)) reading.tables parts.digits c read.scalar) all in
-      step_maybe (λ s. G (of_secondary s ∷ [])) (Gives G IsDecomposed) (diacritic_of reading.tables c) _ (entry_step reading h.home c m) (parts.accents c read)
+      maybe (λ s. G (of_secondary s ∷ [])) (Gives G IsDecomposed) (diacritic_of reading.tables c) _ (entry_step reading h.home c m) (parts.diacritics c read)
       (λ s good. diacritic_step-gives s c text good all)
       (entry_step-gives h.home c m finals.entry (live_digit-head D h.home m.entry smalls.entry) finals.rest)
 
@@ -170,7 +159,7 @@ module _ (G : List Element → Type 0) (reading : Reading) (parts : HasGoodParts
   elements_along-gives (_ ∷ along) before (c ∷ text) all =
       let s = step reading before c text in
       let gives = step-gives before c text all.0 all.1 in
-      parts.append s.elements _ gives.elements (elements_along-gives along (last_two before (taken c s)) s.rest gives.rest)
+      parts.append s.elements _ gives.elements (elements_along-gives along (last_two before (consumed c s)) s.rest gives.rest)
 
   -- the elements of each decomposed text
   pub elements_of-good : (text : List ℕ) → IsDecomposedText text → G (elements_of reading text)
@@ -184,9 +173,9 @@ passes_append test [] fs h k = k
 passes_append test (e ∷ es) fs h k =
     let parts = and_parts (test e) (list_all test es) h in and_from _ _ parts.0 (passes_append test es fs parts.1 k)
 
-accent_passes : (test : Element → Bool) (o : Option ℕ) → IfSome o (λ s. IsTrue (test (of_secondary s))) → IfSome o (λ s. EachPasses test (of_secondary s ∷ []))
-accent_passes test (Some s) h = and_from _ _ h refl
-accent_passes test None h = tt
+diacritic_passes : (test : Element → Bool) (o : Option ℕ) → IfSome o (λ s. IsTrue (test (of_secondary s))) → IfSome o (λ s. EachPasses test (of_secondary s ∷ []))
+diacritic_passes test (Some s) h = and_from _ _ h refl
+diacritic_passes test None h = tt
 
 pub elements_of-pass : (test : Element → Bool) (reading : Reading) → PartsPass test reading → (text : List ℕ) → IsDecomposedText text → EachPasses test (elements_of reading text)
 elements_of-pass test reading pass =
@@ -196,7 +185,7 @@ elements_of-pass test reading pass =
       append = passes_append test;
       digits = pass.digits;
       entries = pass.entries;
-      accents = λ c read. accent_passes test (diacritic_of reading.tables c) (pass.accents c read);
+      diacritics = λ c read. diacritic_passes test (diacritic_of reading.tables c) (pass.diacritics c read);
       numbers = pass.numbers;
     })
 

@@ -27,8 +27,8 @@ use Rattle.icu_checks.specs.declared.condition.Condition.TheVariants as conditio
 use Rattle.icu_provider.specs.CollatorTables.{CollatorTables}
 use Rattle.icu_checks.specs.GoodTables.{IsGoodTables}
 use Rattle.icu_elements.specs.declared.tables.ElementTables.{ElementTables}
-use Rattle.icu_elements.specs.Readable.{AreReadable, IsGoodFrom, lent_tables}
-use Rattle.icu_elements.specs.Reading.{tables_of}
+use Rattle.icu_elements.specs.inner.Readable.{AreReadable, IsGoodFrom, tables_from}
+use Rattle.icu_elements.specs.Reading.{element_tables}
 use Rattle.icu_elements.proofs.PartLemmas.{live_from-head, entry_of-live, AllLive-weaker}
 use Rattle.icu_elements.proofs.SourceLemmas.{all_live}
 
@@ -42,10 +42,10 @@ live_meets all good condition home c e (inr (inr live)) = good.each (conditions.
 pub good_readable : (all : CollatorTables) → IsGoodTables all → AreReadable all.tables
 good_readable all good = record { jamo_count = good.tables.jamo.count; each = live_meets all good }
 
--- so may the same tables be read where they are lent
-pub lent_readable : (all : CollatorTables) → IsGoodTables all → (root : CollationData) (tailoring : Option CollationData) (jamo : CollationJamo) (diacritics : CollationDiacritics) → data_of root ≡ all.tables.root → option_map data_of tailoring ≡ all.tables.tailoring → jamo_of jamo ≡ all.tables.jamo → diacritics_of diacritics ≡ all.tables.diacritics → AreReadable (lent_tables root tailoring jamo diacritics)
-unfolding lent_tables
-lent_readable all good root tailoring jamo diacritics r t j d = rw (r, t, j, d) (good_readable all good)
+-- so may the same tables be read part by part
+pub readable_from_parts : (all : CollatorTables) → IsGoodTables all → (root : CollationData) (tailoring : Option CollationData) (jamo : CollationJamo) (diacritics : CollationDiacritics) → data_of root ≡ all.tables.root → option_map data_of tailoring ≡ all.tables.tailoring → jamo_of jamo ≡ all.tables.jamo → diacritics_of diacritics ≡ all.tables.diacritics → AreReadable (tables_from root tailoring jamo diacritics)
+unfolding tables_from
+readable_from_parts all good root tailoring jamo diacritics r t j d = rw (r, t, j, d) (good_readable all good)
 
 pub readable_digits : (tables : Tables) → AreReadable tables → HasDigits tables
 readable_digits tables readable =
@@ -63,12 +63,12 @@ good_entry tables readable c scalar = λ condition f among.
     readable.each condition h.home c f (of_member (IsLive tables h.home c) (live_from h.home h.entry) f (entry_of-is_live tables c scalar) among)
 
 -- it meets the conditions, and so does what it leads to
-pub good_found : (t : ElementTables) (c : ℕ) → IsScalar c → (home : Data) (e : ℕ) → entry_of (tables_of t) c ≡ homed home e → IsGoodFrom home c e
-unfolding tables_of
+pub good_found : (t : ElementTables) (c : ℕ) → IsScalar c → (home : Data) (e : ℕ) → entry_of (element_tables t) c ≡ homed home e → IsGoodFrom home c e
+unfolding element_tables
 good_found t c scalar home e is =
-    subst (λ (h : HomedEntry). IsGoodFrom h.home c h.entry) is (good_entry (tables_of t) t.readable c scalar)
+    subst (λ (h : HomedEntry). IsGoodFrom h.home c h.entry) is (good_entry (element_tables t) t.readable c scalar)
 
--- ---- an entry that meets the conditions can be read, and so can a digit's plain entry
+-- ---- an entry that meets the conditions can be read, and so can a digit's other entry
 
 readable_from : (home : Data) (c e f : ℕ) → IsGoodFrom home c e → Contains (live_from home e) f → IsTrue (is_readable home c f)
 unfolding is_readable
@@ -85,13 +85,13 @@ second : (P : ℕ → Type 0) (k : EntryKind) (e f : ℕ) (xs ys zs : List ℕ) 
 second P Digit e f xs ys zs is all = all.1.0
 second P _ e f xs ys zs is all = cc
 
-plain_among : (home : Data) (e : ℕ) → kind_of e ≡ Digit → Contains (live_from home e) (plain_of home e)
+non_numeric_among : (home : Data) (e : ℕ) → kind_of e ≡ Digit → Contains (live_from home e) (plain_of home e)
 unfolding live_from live_contraction live_digit
-plain_among home e is =
+non_numeric_among home e is =
     second (Contains (live_from home e)) (kind_of e) e (plain_of home e) _ _ _ is (all_members (live_from home e))
 
-pub readable_plain : (home : Data) (c e : ℕ) → IsGoodFrom home c e → kind_of e ≡ Digit → IsTrue (is_readable home c (plain_of home e))
-readable_plain home c e good is = readable_from home c e (plain_of home e) good (plain_among home e is)
+pub readable_non_numeric : (home : Data) (c e : ℕ) → IsGoodFrom home c e → kind_of e ≡ Digit → IsTrue (is_readable home c (plain_of home e))
+readable_non_numeric home c e good is = readable_from home c e (plain_of home e) good (non_numeric_among home e is)
 
 at_digit : (k : EntryKind) (a b d f g h : Bool) → k ≡ Digit → IsTrue (elim k as (λ _. Bool) [ Expansion32 ↦ a | Expansion ↦ b | Prefix ↦ d | Contraction ↦ f | Digit ↦ g | Offset ↦ h | _ ↦ true ]) → IsTrue g
 at_digit Digit a b d f g h is t = t
@@ -100,9 +100,9 @@ at_digit _ a b d f g h is t = cc
 test_inside : (i n : ℕ) → IsTrue (nat_lt i n) → i < n
 test_inside i n h = grind (arith, nat_tests)
 
--- the plain entry of a digit is there
-pub plain_inside : (home : Data) (c e : ℕ) → IsGoodFrom home c e → kind_of e ≡ Digit → entry_index e < length home.entries
+-- the other entry of a digit is there
+pub non_numeric_inside : (home : Data) (c e : ℕ) → IsGoodFrom home c e → kind_of e ≡ Digit → entry_index e < length home.entries
 unfolding is_inside
-plain_inside home c e good is =
+non_numeric_inside home c e good is =
     let inside : IsTrue (is_inside home e) = good Indices e (itself home e) in
     test_inside _ _ (at_digit (kind_of e) _ _ _ _ _ _ is inside)

@@ -19,7 +19,7 @@ later : {X : Type 0} (x y : X) (xs : List X) → Contains xs y → Contains (x �
 later x y xs c = (suc c.0, omega arith, c.2)
 
 -- what holds of whatever a list contains
-all_contained : {X : Type 0} (P : X → Type 0) (xs : List X) → ((x : X) → Contains xs x → P x) → AllByRecursion P xs
+pub all_contained : {X : Type 0} (P : X → Type 0) (xs : List X) → ((x : X) → Contains xs x → P x) → AllByRecursion P xs
 all_contained P [] f = tt
 all_contained P (x ∷ xs) f = (f x (zero, omega arith, refl), all_contained P xs (λ y c. f y (later x y xs c)))
 
@@ -66,7 +66,7 @@ elements_of-sources reading digits cs scalars =
           AllLive-weaker (IsLive reading.tables) (λ home c e. AllByRecursion (IsTextElement reading) (final_elements (homed home e) c)) reading.tables
           (λ home c e live. all_contained (IsTextElement reading) (final_elements (homed home e) c) (λ x h. inl (record { home = home; char = c; entry = e; live = live; member = h })))
           (all_live reading.tables);
-      accents = λ c read. of_diacritic reading c read (diacritic_of reading.tables c) refl;
+      diacritics = λ c read. of_diacritic reading c read (diacritic_of reading.tables c) refl;
       numbers = of_number reading reading.numeric refl;
     })
     (nfd cs) (IsDecomposedText-nfd cs scalars)

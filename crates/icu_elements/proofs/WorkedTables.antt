@@ -93,9 +93,6 @@ two_marks = with_context 97 0xC9 (record {
 abbrev pub prefixed : Tables
 prefixed = with_context 99 0xC8 (record { default = 0x61180505; rows = record { chars = 98 ∷ 97 ∷ []; entry = 0x611E0505 } ∷ [] })
 
-abbrev pub plain : Tables → Reading
-plain tables = record { tables = tables; numeric = None; lithuanian = false }
-
 abbrev pub numeric : Tables → Reading
 numeric tables = record { tables = tables; numeric = Some 0x0F; lithuanian = false }
 

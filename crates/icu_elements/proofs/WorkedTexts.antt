@@ -4,8 +4,9 @@ use Rattle.std.specs.List.{range_with_len}
 use Rattle.unicode_normalization.specs.Forms.{nfd}
 use Rattle.icu_entries.specs.Elements.{Element, of_primary, of_secondary}
 use Rattle.icu_elements.specs.TextElements.{Reading, elements_of}
+use Rattle.icu_elements.specs.ByCharacter.{non_numeric_reading}
 use Rattle.icu_elements.proofs.Computing.{icu_elements}
-use Rattle.icu_elements.proofs.WorkedTables.{mini, sharp_s, kana, offsets, long_jamo, ring, hinted_ring, two_marks, prefixed, plain, numeric, lithuanian}
+use Rattle.icu_elements.proofs.WorkedTables.{mini, sharp_s, kana, offsets, long_jamo, ring, hinted_ring, two_marks, prefixed, numeric, lithuanian}
 
 abbrev elements_in : Reading → List ℕ → List Element
 elements_in reading text = elements_of reading (nfd text)
@@ -17,106 +18,106 @@ primaries_in reading text = filter (λ w. not (w == 0)) (map (λ (e : Element). 
 abbrev letter : ℕ → Element
 letter lead = of_primary lead
 
-abbrev accent : ℕ → Element
-accent s = of_secondary s
+abbrev diacritic : ℕ → Element
+diacritic s = of_secondary s
 
 -- á
-composed_acute : elements_in (plain mini) (0xE1 ∷ []) ≡ letter 0x61100000 ∷ accent 0x4700 ∷ []
+composed_acute : elements_in (non_numeric_reading mini) (0xE1 ∷ []) ≡ letter 0x61100000 ∷ diacritic 0x4700 ∷ []
 unfolding icu_elements
 composed_acute = refl
 
 -- the same, decomposed
-decomposed_acute : elements_in (plain mini) (97 ∷ 0x301 ∷ []) ≡ letter 0x61100000 ∷ accent 0x4700 ∷ []
+decomposed_acute : elements_in (non_numeric_reading mini) (97 ∷ 0x301 ∷ []) ≡ letter 0x61100000 ∷ diacritic 0x4700 ∷ []
 unfolding icu_elements
 decomposed_acute = refl
 
 -- a syllable, read as its jamo
-syllable : primaries_in (plain mini) (0xAC01 ∷ []) ≡ 0x65100000 ∷ 0x65710000 ∷ 0x66380000 ∷ []
+syllable : primaries_in (non_numeric_reading mini) (0xAC01 ∷ []) ≡ 0x65100000 ∷ 0x65710000 ∷ 0x66380000 ∷ []
 unfolding icu_elements
 syllable = refl
 
 -- its first jamo as a list of the root
-listed_jamo : primaries_in (plain long_jamo) (0xAC01 ∷ []) ≡ 0x65100000 ∷ 0x66900000 ∷ 0x65710000 ∷ 0x66380000 ∷ []
+listed_jamo : primaries_in (non_numeric_reading long_jamo) (0xAC01 ∷ []) ≡ 0x65100000 ∷ 0x66900000 ∷ 0x65710000 ∷ 0x66380000 ∷ []
 unfolding icu_elements
 listed_jamo = refl
 
 -- characters without an entry of their own
-implicit : primaries_in (plain mini) (1 ∷ 0x4E00 ∷ []) ≡ 0xFE04021E ∷ 0xFE085F64 ∷ []
+implicit : primaries_in (non_numeric_reading mini) (1 ∷ 0x4E00 ∷ []) ≡ 0xFE04021E ∷ 0xFE085F64 ∷ []
 unfolding icu_elements
 implicit = refl
 
 -- sharp s, a list of two entries, the second with a tertiary weight of its own
-listed_entries : elements_in (plain sharp_s) (0xDF ∷ []) ≡ letter 0x61580000 ∷ record { primary = 0x61580000; secondary = 0x500; lower = 0x600 } ∷ []
+listed_entries : elements_in (non_numeric_reading sharp_s) (0xDF ∷ []) ≡ letter 0x61580000 ∷ record { primary = 0x61580000; secondary = 0x500; lower = 0x600 } ∷ []
 unfolding icu_elements
 listed_entries = refl
 
 -- a list of elements
-listed_elements : primaries_in (plain kana) (0x3042 ∷ []) ≡ 0x67100000 ∷ []
+listed_elements : primaries_in (non_numeric_reading kana) (0x3042 ∷ []) ≡ 0x67100000 ∷ []
 unfolding icu_elements
 listed_elements = refl
 
 -- offset weights
-offset : primaries_in (plain offsets) (0x3B1 ∷ 0x3B2 ∷ []) ≡ 0x7010FE00 ∷ 0x70110400 ∷ []
+offset : primaries_in (non_numeric_reading offsets) (0x3B1 ∷ 0x3B2 ∷ []) ≡ 0x7010FE00 ∷ 0x70110400 ∷ []
 unfolding icu_elements
 offset = refl
 
 -- a ring that stands after another letter
-past_a_starter : elements_in (plain ring) (97 ∷ 98 ∷ 0x30A ∷ []) ≡ letter 0x61100000 ∷ letter 0x61140000 ∷ accent 0x5000 ∷ []
+past_a_starter : elements_in (non_numeric_reading ring) (97 ∷ 98 ∷ 0x30A ∷ []) ≡ letter 0x61100000 ∷ letter 0x61140000 ∷ diacritic 0x5000 ∷ []
 unfolding icu_elements
 past_a_starter = refl
 
 -- a ring past a dot below
-past_a_dot : elements_in (plain ring) (97 ∷ 0x323 ∷ 0x30A ∷ []) ≡ letter 0x62100000 ∷ accent 0x6900 ∷ []
+past_a_dot : elements_in (non_numeric_reading ring) (97 ∷ 0x323 ∷ 0x30A ∷ []) ≡ letter 0x62100000 ∷ diacritic 0x6900 ∷ []
 unfolding icu_elements
 past_a_dot = refl
 
 -- a ring that a diaeresis blocks
-blocked : elements_in (plain ring) (97 ∷ 0x308 ∷ 0x30A ∷ []) ≡ letter 0x61100000 ∷ accent 0x4E00 ∷ accent 0x5000 ∷ []
+blocked : elements_in (non_numeric_reading ring) (97 ∷ 0x308 ∷ 0x30A ∷ []) ≡ letter 0x61100000 ∷ diacritic 0x4E00 ∷ diacritic 0x5000 ∷ []
 unfolding icu_elements
 blocked = refl
 
 -- the hints of a contraction decide nothing
-hints_ignored : elements_in (plain hinted_ring) (97 ∷ 0x30A ∷ []) ≡ letter 0x62100000 ∷ []
+hints_ignored : elements_in (non_numeric_reading hinted_ring) (97 ∷ 0x30A ∷ []) ≡ letter 0x62100000 ∷ []
 unfolding icu_elements
 hints_ignored = refl
 
 -- a dot below and a ring, a row of two
-two_joined : elements_in (plain two_marks) (97 ∷ 0x323 ∷ 0x30A ∷ []) ≡ letter 0x62300000 ∷ []
+two_joined : elements_in (non_numeric_reading two_marks) (97 ∷ 0x323 ∷ 0x30A ∷ []) ≡ letter 0x62300000 ∷ []
 unfolding icu_elements
 two_joined = refl
 
--- each mark taken makes a row
-cedilla_first : elements_in (plain two_marks) (97 ∷ 0x327 ∷ 0x323 ∷ 0x30A ∷ []) ≡ letter 0x62100000 ∷ accent 0x6D00 ∷ accent 0x6900 ∷ []
+-- each mark consumed makes a row
+cedilla_first : elements_in (non_numeric_reading two_marks) (97 ∷ 0x327 ∷ 0x323 ∷ 0x30A ∷ []) ≡ letter 0x62100000 ∷ diacritic 0x6D00 ∷ diacritic 0x6900 ∷ []
 unfolding icu_elements
 cedilla_first = refl
 
 -- a dot below makes no row by itself
-dot_and_diaeresis : elements_in (plain two_marks) (97 ∷ 0x323 ∷ 0x308 ∷ 0x30A ∷ []) ≡ letter 0x61100000 ∷ accent 0x6900 ∷ accent 0x4E00 ∷ accent 0x5000 ∷ []
+dot_and_diaeresis : elements_in (non_numeric_reading two_marks) (97 ∷ 0x323 ∷ 0x308 ∷ 0x30A ∷ []) ≡ letter 0x61100000 ∷ diacritic 0x6900 ∷ diacritic 0x4E00 ∷ diacritic 0x5000 ∷ []
 unfolding icu_elements
 dot_and_diaeresis = refl
 
 -- c after "ab"
-after_prefix_row : primaries_in (plain prefixed) (97 ∷ 98 ∷ 99 ∷ []) ≡ 0x61100000 ∷ 0x61140000 ∷ 0x611E0000 ∷ []
+after_prefix_row : primaries_in (non_numeric_reading prefixed) (97 ∷ 98 ∷ 99 ∷ []) ≡ 0x61100000 ∷ 0x61140000 ∷ 0x611E0000 ∷ []
 unfolding icu_elements
 after_prefix_row = refl
 
 -- c after "xb"
-after_other : primaries_in (plain prefixed) (120 ∷ 98 ∷ 99 ∷ []) ≡ 0x616C0000 ∷ 0x61140000 ∷ 0x61180000 ∷ []
+after_other : primaries_in (non_numeric_reading prefixed) (120 ∷ 98 ∷ 99 ∷ []) ≡ 0x616C0000 ∷ 0x61140000 ∷ 0x61180000 ∷ []
 unfolding icu_elements
 after_other = refl
 
 -- c after "áb"
-after_accent : primaries_in (plain prefixed) (0xE1 ∷ 98 ∷ 99 ∷ []) ≡ 0x61100000 ∷ 0x61140000 ∷ 0x61180000 ∷ []
+after_diacritic : primaries_in (non_numeric_reading prefixed) (0xE1 ∷ 98 ∷ 99 ∷ []) ≡ 0x61100000 ∷ 0x61140000 ∷ 0x61180000 ∷ []
 unfolding icu_elements
-after_accent = refl
+after_diacritic = refl
 
 -- a dot above before an acute is silent in Lithuanian
-silent_dot : elements_in (lithuanian mini) (97 ∷ 0x307 ∷ 0x301 ∷ []) ≡ letter 0x61100000 ∷ accent 0x4700 ∷ []
+silent_dot : elements_in (lithuanian mini) (97 ∷ 0x307 ∷ 0x301 ∷ []) ≡ letter 0x61100000 ∷ diacritic 0x4700 ∷ []
 unfolding icu_elements
 silent_dot = refl
 
 -- and before a circumflex is not
-sounding_dot : elements_in (lithuanian mini) (97 ∷ 0x307 ∷ 0x302 ∷ []) ≡ letter 0x61100000 ∷ accent 0x4D00 ∷ accent 0x4800 ∷ []
+sounding_dot : elements_in (lithuanian mini) (97 ∷ 0x307 ∷ 0x302 ∷ []) ≡ letter 0x61100000 ∷ diacritic 0x4D00 ∷ diacritic 0x4800 ∷ []
 unfolding icu_elements
 sounding_dot = refl
 
@@ -196,7 +197,7 @@ unfolding icu_elements
 mark_between = refl
 
 -- digits that are letters like others
-digits_as_letters : primaries_in (plain mini) (49 ∷ 50 ∷ []) ≡ 0x14140000 ∷ 0x14180000 ∷ []
+digits_as_letters : primaries_in (non_numeric_reading mini) (49 ∷ 50 ∷ []) ≡ 0x14140000 ∷ 0x14180000 ∷ []
 unfolding icu_elements
 digits_as_letters = refl
 

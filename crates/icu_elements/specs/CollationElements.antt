@@ -1,34 +1,41 @@
 -- What an iterator of elements still gives, and that it may be called.
-use Rattle.std.specs.Prelude.{◌≡◌, ℕ, List, [], ◌∷◌, drop, Option, ⊤, All}
+use Rattle.std.specs.Prelude.{◌≡◌, ℕ, List, [], ◌∷◌, ◌++◌, drop, Option, ⊤, All}
 use Rattle.std.specs.Char.{IsScalar}
 use Rattle.std.specs.Iterator.{Count}
-use Rattle.unicode_normalization.specs.Decompositions.{DecomposesTo, CanDecompose}
-use Rattle.unicode_normalization.specs.declared.decompose.Decompositions.{Decompositions}
+use Rattle.unicode_normalization.specs.Decompositions.{CanDecompose}
 use Rattle.icu_entries.specs.Elements.{Element, end_element}
 use Rattle.icu_elements.specs.declared.iter.Progress.{Progress}
 use Rattle.icu_elements.specs.declared.iter.Progress.TheVariants.{Unread, Read, Refused}
 use Rattle.icu_elements.specs.declared.iter.CollationElements.{CollationElements}
-use Rattle.icu_elements.specs.Plain.{elements_by_char}
-use Rattle.icu_elements.specs.Reading.{tables_of}
+use Rattle.icu_elements.specs.ByCharacter.{elements_by_char}
+use Rattle.icu_elements.specs.Reading.{element_tables}
+use Rattle.icu_elements.specs.inner.Iterating.{StillReads}
 
--- these decomposed characters are still to come from the source, unless memory runs out
-abbrev pub StillReads : {I : Type 0} → (I → Option ℕ → I → Type 0) → Decompositions I → List ℕ → Type 0
-StillReads steps source cs = DecomposesTo steps source cs
+-- the elements that stand ready
+abbrev pub ready_elements : {I : Type 0} → CollationElements I → List Element
+ready_elements s = drop s.next s.ready.items
 
--- a text that is still to be read, and its elements, character by character; a text is of scalar values, as each char is one
-pub record HasUnread {I : Type 0} (steps : I → Option ℕ → I → Type 0) (s : CollationElements I) (es : List Element) : Type 0 where
-  pub text : List ℕ
-  pub source : StillReads steps s.source text
-  pub elements : All IsScalar text → es ≡ elements_by_char (tables_of s.tables) text
+-- no element stands ready yet, and these decomposed characters are still to come from the source
+pub record HasSource {I : Type 0} (steps : I → Option ℕ → I → Type 0) (s : CollationElements I) (cs : List ℕ) : Type 0 where
+  pub source : StillReads steps s.source cs
+  pub none_ready : ready_elements s ≡ []
 
-abbrev pub GivesAt : {I : Type 0} → Progress → (I → Option ℕ → I → Type 0) → CollationElements I → List Element → Type 0
-GivesAt Unread steps s es = HasUnread steps s es
-GivesAt Read steps s es = es ≡ drop s.next s.elements.items
-GivesAt Refused steps s es = es ≡ []
+-- the characters that are still to be read: all or none
+abbrev pub IsUnreadAt : {I : Type 0} → Progress → (I → Option ℕ → I → Type 0) → CollationElements I → List ℕ → Type 0
+IsUnreadAt Unread steps s cs = HasSource steps s cs
+IsUnreadAt Read steps s cs = cs ≡ []
+IsUnreadAt Refused steps s cs = cs ≡ []
 
--- these elements are still to come, and then the end element for ever, unless memory runs out
+-- These elements are left: those that stand ready, and those of the characters that are still to be read, each by itself. Each
+-- char is a scalar value.
+pub record IsLeft {I : Type 0} (steps : I → Option ℕ → I → Type 0) (s : CollationElements I) (es : List Element) : Type 0 where
+  pub unread : List ℕ
+  pub is_unread : IsUnreadAt s.progress steps s unread
+  pub elements : All IsScalar unread → es ≡ ready_elements s ++ elements_by_char (element_tables s.tables) unread
+
+-- these elements are still to come, and then the end element for ever, unless an allocation fails
 unfoldable pub StillGives : {I : Type 0} → (I → Option ℕ → I → Type 0) → CollationElements I → List Element → Type 0
-StillGives steps s es = GivesAt s.progress steps s es
+StillGives steps s es = IsLeft steps s es
 
 abbrev pub IsReadyAt : {I : Type 0} → Progress → (I → Type 0) → (I → Count) → CollationElements I → Type 0
 IsReadyAt Unread can left s = CanDecompose can left s.source
@@ -39,7 +46,7 @@ IsReadyAt Refused can left s = ⊤
 unfoldable pub CanGive : {I : Type 0} → (I → Type 0) → (I → Count) → CollationElements I → Type 0
 CanGive can left s = IsReadyAt s.progress can left s
 
--- a growth was refused
+-- an allocation failed
 abbrev pub IsRefused : {I : Type 0} → CollationElements I → Type 0
 IsRefused s = s.progress ≡ Refused
 
@@ -48,6 +55,7 @@ abbrev pub first_of : List Element → Element
 first_of [] = end_element
 first_of (e ∷ es) = e
 
+-- the elements after the first
 abbrev pub rest_of : List Element → List Element
 rest_of [] = []
 rest_of (e ∷ es) = es

@@ -33,12 +33,12 @@ abbrev pub IsLiveOrNumber : Reading → Element → Type 0
 IsLiveOrNumber reading x = IsLiveElement reading.tables x ⊎ IsNumberElement reading.numeric x
 
 -- how a text is read by the tables of a collator
-abbrev pub read_by : CollatorTables → Option ℕ → Bool → Reading
-read_by all numeric lithuanian = record { tables = all.tables; numeric = numeric; lithuanian = lithuanian }
+abbrev pub collator_reading : CollatorTables → Option ℕ → Bool → Reading
+collator_reading all numeric lithuanian = record { tables = all.tables; numeric = numeric; lithuanian = lithuanian }
 
 -- each element of each text is live by one of the tables, or of a number
 abbrev pub GoodTablesGiveLiveElements : Type 0
 GoodTablesGiveLiveElements =
     (all : CollatorTables) (numeric : Option ℕ) (lithuanian : Bool) → IsGoodTables all
     → (cs : List ℕ) → IsText cs
-    → AllByRecursion (IsLiveOrNumber (read_by all numeric lithuanian)) (elements_of (read_by all numeric lithuanian) (nfd cs))
+    → AllByRecursion (IsLiveOrNumber (collator_reading all numeric lithuanian)) (elements_of (collator_reading all numeric lithuanian) (nfd cs))

@@ -8,7 +8,7 @@ use Rattle.icu_entries.specs.declared.entry.EntryKind.TheVariants.{Prefix, Contr
 use Rattle.icu_entries.specs.Entries.{kind_of}
 use Rattle.icu_data.specs.Data.{Row, Context, Data, HomedEntry, homed, context_of, row_entry, longest_row}
 
--- the entry that a match comes to, the characters that it takes after its first, and the text that it leaves
+-- the entry that a match comes to, the characters that it consumes after its first, and the text that it leaves
 pub record Match : Type 0 where
   pub entry : ℕ
   pub suffix : List ℕ
@@ -52,6 +52,6 @@ match_from home entry text =
     let alone : Match = record { entry = entry; suffix = []; rest = text } in
     elim (kind_of entry) [ Contraction ↦ contracted (context_of (homed home entry)) text | _ ↦ alone ]
 
--- the match of an entry, after the characters that were taken, nearest first, and before a text
+-- the match of an entry, after the characters that were consumed, nearest first, and before a text
 abbrev pub match_of : HomedEntry → List ℕ → List ℕ → Match
 match_of h before text = match_from h.home (after_prefix h before) text

@@ -2,12 +2,12 @@
 use Rattle.std.specs.Prelude.{ℕ, Bool, Option}
 use Rattle.icu_provider.specs.Tables.{Tables}
 use Rattle.icu_elements.specs.declared.tables.ElementTables.{ElementTables}
-use Rattle.icu_elements.specs.Readable.{lent_tables}
+use Rattle.icu_elements.specs.inner.Readable.{tables_from}
 use Rattle.icu_elements.specs.TextElements.{Reading}
 
-unfoldable pub tables_of : ElementTables → Tables
-tables_of t = lent_tables t.root t.tailoring t.jamo t.diacritics
+unfoldable pub element_tables : ElementTables → Tables
+element_tables t = tables_from t.root t.tailoring t.jamo t.diacritics
 
 -- how a text is read by them
 abbrev pub reading_of : ElementTables → Option ℕ → Bool → Reading
-reading_of t numeric lithuanian = record { tables = tables_of t; numeric = numeric; lithuanian = lithuanian }
+reading_of t numeric lithuanian = record { tables = element_tables t; numeric = numeric; lithuanian = lithuanian }

@@ -12,13 +12,13 @@ use Rattle.icu_data.specs.Final.{final_elements}
 use Rattle.icu_elements.specs.Matches.{Match, match_of}
 
 -- How a text is read: the tables, the lead byte of numbers where digits are read as numbers, and whether U+0307 before an
--- accent above is silent, as in Lithuanian.
+-- diacritic above is silent, as in Lithuanian.
 pub record Reading : Type 0 where
   pub tables : Tables
   pub numeric : Option ℕ
   pub lithuanian : Bool
 
--- what reading at one character gives: elements, the characters taken after it, and the text that is left
+-- what reading at one character gives: elements, the characters consumed after it, and the text that is left
 pub record Step : Type 0 where
   pub elements : List Element
   pub suffix : List ℕ
@@ -28,17 +28,17 @@ abbrev pub is_digit_kind : EntryKind → Bool
 is_digit_kind Digit = true
 is_digit_kind _ = false
 
-abbrev pub is_accent_above : List ℕ → Bool
-is_accent_above [] = false
-is_accent_above (c ∷ cs) = c == 0x300 || c == 0x301 || c == 0x303
+abbrev pub is_diacritic_above : List ℕ → Bool
+is_diacritic_above [] = false
+is_diacritic_above (c ∷ cs) = c == 0x300 || c == 0x301 || c == 0x303
 
 -- U+0307 directly before U+0300, U+0301 or U+0303 gives nothing under the Lithuanian rule
 abbrev pub is_silent_dot : Bool → ℕ → List ℕ → Bool
-is_silent_dot lithuanian c text = lithuanian && c == 0x307 && is_accent_above text
+is_silent_dot lithuanian c text = lithuanian && c == 0x307 && is_diacritic_above text
 
 -- a character that goes on a number: no diacritic, and its own entry is a digit's
-abbrev pub goes_on : Tables → ℕ → Bool
-goes_on tables c = not (is_some (diacritic_of tables c)) && is_digit_kind (kind_of (entry_of tables c).entry)
+abbrev pub continues_number : Tables → ℕ → Bool
+continues_number tables c = not (is_some (diacritic_of tables c)) && is_digit_kind (kind_of (entry_of tables c).entry)
 
 abbrev pub begins_with_mark : List ℕ → Bool
 begins_with_mark [] = false
@@ -51,10 +51,10 @@ digit_of tables c = digit_value (entry_of tables c).entry
 abbrev pub number_elements : ℕ → List ℕ → List Element
 number_elements lead digits = map of_primary (run_weights lead digits)
 
--- A number: the digit with the run of digits after it, or the digit alone where its match took a suffix or a mark follows.
+-- A number: the digit with the run of digits after it, or the digit alone where its match consumed a suffix or a mark follows.
 unfoldable pub number_step : Tables → ℕ → Match → Step
 number_step tables lead m =
-    let run = take_while (goes_on tables) m.rest in
+    let run = take_while (continues_number tables) m.rest in
     let alone : Step = record { elements = number_elements lead (digit_value m.entry ∷ []); suffix = m.suffix; rest = m.rest } in
     let together : Step = record {
       elements = number_elements lead (digit_value m.entry ∷ map (digit_of tables) run);
@@ -63,23 +63,23 @@ number_step tables lead m =
     } in
     elim m.suffix [ [] ↦ if begins_with_mark m.rest then alone else together | _ ∷ _ ↦ alone ]
 
--- what a match takes and leaves, with the elements of a final entry
+-- what a match consumes and leaves, with the elements of a final entry
 abbrev pub final_step : Data → ℕ → ℕ → Match → Step
 final_step home c entry m = record { elements = final_elements (homed home entry) c; suffix = m.suffix; rest = m.rest }
 
--- what the entry that a match came to gives: a digit is a number, or its plain entry where digits aren't read as numbers
+-- what the entry that a match came to gives: a digit is a number, or its other entry where digits aren't read as numbers
 unfoldable pub entry_step : Reading → Data → ℕ → Match → Step
 entry_step reading home c m =
-    let plain : Step = final_step home c (plain_of home m.entry) m in
-    let numeric : Step = elim reading.numeric [ None ↦ plain | Some lead ↦ number_step reading.tables lead m ] in
+    let letter : Step = final_step home c (plain_of home m.entry) m in
+    let numeric : Step = elim reading.numeric [ None ↦ letter | Some lead ↦ number_step reading.tables lead m ] in
     elim (kind_of m.entry) [ Digit ↦ numeric | _ ↦ final_step home c m.entry m ]
 
--- what a diacritic gives before a text, where no match took it
+-- what a diacritic gives before a text, where no match consumed it
 abbrev pub diacritic_step : Reading → ℕ → ℕ → List ℕ → Step
 diacritic_step reading secondary c text =
     let silent : Step = record { elements = []; suffix = []; rest = text } in
-    let accent : Step = record { elements = of_secondary secondary ∷ []; suffix = []; rest = text } in
-    if is_silent_dot reading.lithuanian c text then silent else accent
+    let sounding : Step = record { elements = of_secondary secondary ∷ []; suffix = []; rest = text } in
+    if is_silent_dot reading.lithuanian c text then silent else sounding
 
 -- what a character gives before a text, with its match
 unfoldable pub matched_step : Reading → ℕ → List ℕ → Match → Step
@@ -89,15 +89,15 @@ matched_step reading c text m =
       | None ↦ entry_step reading (entry_of reading.tables c).home c m
     ]
 
--- the same, after the characters that were taken, nearest first
+-- the same, after the characters that were consumed, nearest first
 abbrev pub step : Reading → List ℕ → ℕ → List ℕ → Step
 step reading before c text = matched_step reading c text (match_of (entry_of reading.tables c) before text)
 
--- the characters that a step took, its own first
-abbrev pub taken : ℕ → Step → List ℕ
-taken c s = c ∷ s.suffix
+-- the characters that a step consumes, its own first
+abbrev pub consumed : ℕ → Step → List ℕ
+consumed c s = c ∷ s.suffix
 
--- the last two characters taken, nearest first: prefixes look no further back
+-- the last two characters consumed, nearest first: prefixes look no further back
 abbrev pub last_two : List ℕ → List ℕ → List ℕ
 last_two before chars = take 2 (reverse chars ++ before)
 
@@ -107,7 +107,7 @@ elements_along along reading before [] = []
 elements_along [] reading before (c ∷ text) = []
 elements_along (_ ∷ along) reading before (c ∷ text) =
     let s = step reading before c text in
-    s.elements ++ elements_along along reading (last_two before (taken c s)) s.rest
+    s.elements ++ elements_along along reading (last_two before (consumed c s)) s.rest
 
 -- the elements of a decomposed text that comes after a context
 unfoldable pub elements_after : Reading → List ℕ → List ℕ → List Element

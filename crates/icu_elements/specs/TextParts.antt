@@ -36,7 +36,7 @@ pub record HasGoodParts (IsGood : List Element → Type 0) (reading : Reading) :
   pub append : (es fs : List Element) → IsGood es → IsGood fs → IsGood (es ++ fs)
   pub digits : HasDigits reading.tables
   pub entries : AllLive (λ home c e. IsGood (final_elements (homed home e) c)) reading.tables
-  pub accents : (c : ℕ) → IsDecomposed c → IfSome (diacritic_of reading.tables c) (λ s. IsGood (of_secondary s ∷ []))
+  pub diacritics : (c : ℕ) → IsDecomposed c → IfSome (diacritic_of reading.tables c) (λ s. IsGood (of_secondary s ∷ []))
   pub numbers : GoodNumbers IsGood reading.numeric
 
 -- each element passes a test
@@ -47,7 +47,7 @@ EachPasses test es = IsTrue (list_all test es)
 pub record PartsPass (test : Element → Bool) (reading : Reading) : Type 0 where
   pub digits : HasDigits reading.tables
   pub entries : AllLive (λ home c e. EachPasses test (final_elements (homed home e) c)) reading.tables
-  pub accents : (c : ℕ) → IsDecomposed c → IfSome (diacritic_of reading.tables c) (λ s. IsTrue (test (of_secondary s)))
+  pub diacritics : (c : ℕ) → IsDecomposed c → IfSome (diacritic_of reading.tables c) (λ s. IsTrue (test (of_secondary s)))
   pub numbers : GoodNumbers (EachPasses test) reading.numeric
 
 -- ---- where an element of a text comes from

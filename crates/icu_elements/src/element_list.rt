@@ -1,3 +1,5 @@
+//! The elements of a text as they are read.
+
 ghost use Rattle.std.specs.Prelude.{List};
 ghost use Rattle.std.specs.List.{push};
 ghost use Rattle.icu_entries.specs.Elements.{Element};

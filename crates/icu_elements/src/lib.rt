@@ -1,10 +1,10 @@
 //! The collation elements of a text.
 #![tactic(auto)]
 
+mod by_character;
 mod element_list;
 pub mod iter;
 pub mod laws;
-mod plain;
 mod read;
 pub mod tables;
 pub mod whole;

@@ -1,9 +1,11 @@
+//! The tables that elements are read from.
+
 ghost use Rattle.std.specs.Prelude.{◌≡◌};
 ghost use Rattle.icu_provider.specs.Tables.{entry_of, diacritic_of};
 ghost use Rattle.icu_data.specs.Data.{homed};
 ghost use Rattle.icu_data.specs.StoredData.{data_of};
 ghost use Rattle.icu_checks.specs.Checked.{checked_tables};
-ghost use Rattle.icu_elements.specs.Readable.{AreReadable, IsGoodFrom, lent_tables};
+ghost use Rattle.icu_elements.specs.inner.Readable.{AreReadable, IsGoodFrom, tables_from};
 
 use icu_checks::CheckedTables;
 use icu_data::CollationData;
@@ -19,10 +21,10 @@ pub struct ElementTables<'d> {
     tailoring: Option<CollationData<'d>>,
     jamo: CollationJamo<'d>,
     diacritics: CollationDiacritics<'d>,
-    ghost readable: { AreReadable (lent_tables root tailoring jamo diacritics) },
+    ghost readable: { AreReadable (tables_from root tailoring jamo diacritics) },
 }
 
-/// An entry with the table whose lists and contexts it names.
+/// An entry with its home, the table whose lists and contexts it refers to.
 #[derive(Debug, Clone, Copy)]
 pub(crate) struct HomedEntry<'d> {
     pub(crate) home: CollationData<'d>,
@@ -30,12 +32,12 @@ pub(crate) struct HomedEntry<'d> {
 }
 
 impl<'d> ElementTables<'d> {
-    ghost use Rattle.icu_elements.specs.Reading.{tables_of};
+    ghost use Rattle.icu_elements.specs.Reading.{element_tables};
 
-    /// Lends the tables of a collator, without a second check. Takes no memory.
-    #[tactic(auto, unfolding(crate::specs::Reading::tables_of, crate::specs::Readable::lent_tables))]
+    /// The tables of a collator, borrowed without a second check. Does not allocate.
+    #[tactic(auto, unfolding(crate::specs::Reading::element_tables, crate::specs::inner::Readable::tables_from))]
     pub fn new(tables: &'d CheckedTables) -> ElementTables<'d>
-        ensures { tables_of result ≡ (checked_tables tables.entry.now).tables }
+        ensures { element_tables result ≡ (checked_tables tables.entry.now).tables }
     {
         tables.are_good();
         ElementTables {
@@ -53,9 +55,9 @@ impl<'d> ElementTables<'d> {
     }
 
     /// The secondary weight of a combining diacritic.
-    #[tactic(auto, unfolding(icu_provider::specs::Tables::diacritic_of, crate::specs::Reading::tables_of, crate::specs::Readable::lent_tables))]
+    #[tactic(auto, unfolding(icu_provider::specs::Tables::diacritic_of, crate::specs::Reading::element_tables, crate::specs::inner::Readable::tables_from))]
     pub(crate) fn diacritic(self, c: char) -> Option<u16>
-        ensures { result ≡ diacritic_of (tables_of self.entry) c }
+        ensures { result ≡ diacritic_of (element_tables self.entry) c }
     {
         let secondaries = self.diacritics.secondaries();
         let code = c as usize;
@@ -69,15 +71,15 @@ impl<'d> ElementTables<'d> {
     /// The entry of a character, with its home: that of a conjoining jamo by their table, whose home is the root, else the
     /// tailoring's, and where there is none, or it is fallback, the root's (UTS #35 part 5, section 3).
     pub(crate) fn entry(self, c: char) -> HomedEntry<'d>
-        ensures value { entry_of (tables_of self.entry) c ≡ homed (data_of result.home) result.ce32 }
+        ensures value { entry_of (element_tables self.entry) c ≡ homed (data_of result.home) result.ce32 }
         ensures good { IsGoodFrom (data_of result.home) c result.ce32 }
     {
         self.found(c)
     }
 
-    #[tactic(auto, unfolding(icu_provider::specs::Tables::entry_of, crate::specs::Reading::tables_of, crate::specs::Readable::lent_tables))]
+    #[tactic(auto, unfolding(icu_provider::specs::Tables::entry_of, crate::specs::Reading::element_tables, crate::specs::inner::Readable::tables_from))]
     fn found(self, c: char) -> HomedEntry<'d>
-        ensures { entry_of (tables_of self.entry) c ≡ homed (data_of result.home) result.ce32 }
+        ensures { entry_of (element_tables self.entry) c ≡ homed (data_of result.home) result.ce32 }
     {
         let code = c as usize;
         if code >= 0x1100 && code < 0x1200 {

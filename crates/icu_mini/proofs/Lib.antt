@@ -1,6 +1,3 @@
-pub mod AddedRows
-pub mod Blocks
-pub mod CopiedBlock
-pub mod Growing
+pub mod CharacterLemmas
 pub mod RunLemmas
 mod WorkedRows

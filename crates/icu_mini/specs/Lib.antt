@@ -1,10 +1,5 @@
-pub mod AddedContext
-pub mod CharacterTable
-pub mod EntryRange
+pub mod Characters
 pub mod Mini
-pub mod OwnBlock
 pub mod Provider
 pub mod ReorderingData
-pub mod Runs
-pub mod TableData
 pub mod Variants

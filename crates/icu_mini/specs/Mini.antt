@@ -1,21 +1,23 @@
 -- The test table Mini. It is made for tests: space, '-' and '.', digits and the letters a to z have weights of their own, and
 -- every other character has an implicit weight.
-use Rattle.std.specs.Prelude.{◌≡◌, ℕ, List, [], ◌∷◌, ◌++◌, Option, Some, None}
+use Rattle.std.specs.Prelude.{◌≡◌, ℕ, List, [], ◌∷◌, ◌++◌, Option, Some, None, map}
 use Rattle.std.specs.Option.{option_map}
+use Rattle.icu_data.specs.Building.{SaysOfCharacters}
+use Rattle.icu_data.specs.Data.{Context, Data}
+use Rattle.icu_data.specs.OwnedData.{vectors_data}
+use Rattle.icu_data.specs.declared.data_vectors.DataVectors.{DataVectors}
+use Rattle.icu_entries.specs.Elements.{element_of}
 use Rattle.icu_provider.specs.Reorderings.{Reordering}
 use Rattle.icu_provider.specs.SpecialPrimaries.{SpecialPrimaries}
 use Rattle.icu_provider.specs.Tables.{Tables}
 use Rattle.icu_mini.specs.declared.mini.Mini.{Mini}
-use Rattle.icu_mini.specs.declared.table_data.TableData.{TableData}
-use Rattle.icu_mini.specs.EntryRange.{Row}
+use Rattle.icu_mini.specs.Characters.{with_characters, mini_characters, run}
 use Rattle.icu_mini.specs.ReorderingData.{reordering_held}
-use Rattle.icu_mini.specs.Runs.{mini_rows, run}
-use Rattle.icu_mini.specs.TableData.{Wanted, Says, data_held}
 
 -- what a collator reads in the tables
 abbrev pub collator_tables : Mini → Tables
 collator_tables m =
-    record { root = data_held m.root; tailoring = option_map data_held m.tailoring; jamo = m.jamo.items; diacritics = m.diacritics.items }
+    record { root = vectors_data m.root; tailoring = option_map vectors_data m.tailoring; jamo = m.jamo.items; diacritics = m.diacritics.items }
 
 -- the special primary weights
 abbrev pub special_held : Mini → SpecialPrimaries
@@ -23,8 +25,8 @@ special_held m = record { last = m.last_primaries.items; numeric = m.numeric_pri
 
 -- What all tables are to say.
 pub record Contents : Type 0 where
-  pub root : Wanted
-  pub tailoring : Option Wanted
+  pub root : Data
+  pub tailoring : Option Data
   pub jamo : List ℕ
   pub diacritics : List ℕ
   pub special : SpecialPrimaries
@@ -32,14 +34,14 @@ pub record Contents : Type 0 where
   pub reordering : Option Reordering
 
 -- there is a tailoring exactly if one is wanted, and it says what it is to say
-abbrev pub SaysAny : Option Wanted → Option TableData → Type 0
+abbrev pub SaysAny : Option Data → Option DataVectors → Type 0
 SaysAny None None = Unit {0}
-SaysAny (Some wanted) (Some d) = Says wanted d
+SaysAny (Some wanted) (Some d) = SaysOfCharacters wanted (vectors_data d)
 SaysAny _ _ = ⊥
 
 -- they say just that
 pub record Holds (contents : Contents) (m : Mini) : Type 0 where
-  pub root : Says contents.root m.root
+  pub root : SaysOfCharacters contents.root (vectors_data m.root)
   pub tailoring : SaysAny contents.tailoring m.tailoring
   pub jamo : m.jamo.items ≡ contents.jamo
   pub diacritics : m.diacritics.items ≡ contents.diacritics
@@ -55,20 +57,33 @@ implicit_entry = 0xCF
 abbrev pub fallback_entry : ℕ
 fallback_entry = 0xC0
 
+-- Mini's root, where these characters too have entries of their own, with these elements, and with these entries after those of
+-- the digits
+abbrev pub mini_root : List (ℕ × ℕ) → List ℕ → List ℕ → Data
+mini_root characters elements entries = record {
+  value = with_characters characters (with_characters mini_characters (λ c. implicit_entry));
+  elements = map element_of elements;
+  entries = run 0x14100505 0x40000 10 ++ entries;
+  contexts = [];
+}
+
+-- a tailoring of these characters, with these elements and contexts
+abbrev pub mini_tailoring : List (ℕ × ℕ) → List ℕ → List Context → Data
+mini_tailoring characters elements contexts = record {
+  value = with_characters characters (λ c. fallback_entry);
+  elements = map element_of elements;
+  entries = [];
+  contexts = contexts;
+}
+
 -- the special primary weights, with the end of the last group and the lead byte of numbers
 abbrev pub special_with : ℕ → ℕ → SpecialPrimaries
 special_with currency numeric = record { last = 0x0400 ∷ 0x0600 ∷ 0x0900 ∷ currency ∷ []; numeric = numeric }
 
--- Mini, where these characters too have entries of their own, and these entries stand after those of the digits
-abbrev pub mini_with : List Row → List ℕ → Contents
-mini_with rows entries = record {
-  root = record {
-    rows = rows ++ mini_rows;
-    others = implicit_entry;
-    elements = [];
-    entries = run 0x14100505 0x40000 10 ++ entries;
-    contexts = [];
-  };
+-- Mini with this root
+abbrev pub mini_with : Data → Contents
+mini_with root = record {
+  root = root;
   tailoring = None;
   jamo = run 0x65100505 0x10000 128 ++ run 0x66100505 0x10000 128;
   diacritics = run 0x4600 0x100 79;
@@ -79,7 +94,7 @@ mini_with rows entries = record {
 
 -- Mini itself
 abbrev pub mini : Contents
-mini = mini_with [] []
+mini = mini_with (mini_root [] [] [])
 
 abbrev pub IsMini : Mini → Type 0
 IsMini = Holds mini

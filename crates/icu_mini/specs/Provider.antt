@@ -15,7 +15,7 @@ use Rattle.icu_mini.specs.declared.mini.Mini.{Mini}
 use Rattle.icu_mini.specs.declared.provider.MiniProvider.{MiniProvider}
 use Rattle.icu_mini.specs.Mini.{special_held}
 use Rattle.icu_mini.specs.ReorderingData.{reordering_held, HasAllLeads}
-use Rattle.icu_mini.specs.TableData.{data_held, IsAccepted, FailsTable}
+use Rattle.icu_data.specs.OwnedData.{vectors_data, MayBeData, FailsVectors}
 
 -- the locale and the type don't matter
 abbrev pub loads_of : MiniProvider → Loads
@@ -46,11 +46,11 @@ IsLentIfAny says held table Accepted Fails (Some d) r = IsLent says (held d) (Ac
 
 -- what Mini's tables lend
 pub record LendsMini (m : Mini) (p : MiniProvider) : Type 0 where
-  pub root : IsLent data_of (data_held m.root) (IsAccepted m.root) (Names tables.Root (FailsTable m.root)) p.root
+  pub root : IsLent data_of (vectors_data m.root) (MayBeData m.root) (Names tables.Root (FailsVectors m.root)) p.root
   pub jamo : IsLent jamo_of m.jamo.items (IsJamo m.jamo.items) (Names tables.Jamo (FailsJamo m.jamo.items)) p.jamo
   pub special : IsLent special_of (special_held m) (IsSpecialPrimaries m.last_primaries.items m.numeric_primary)
       (Names tables.SpecialPrimaries (FailsSpecial m.last_primaries.items m.numeric_primary)) p.special
   pub metadata : IfOk p.metadata (λ b. b.bits ≡ m.metadata.bits) × IsOk p.metadata
-  pub tailoring : IsLentIfAny data_of data_held tables.Tailoring IsAccepted FailsTable m.tailoring p.tailoring
+  pub tailoring : IsLentIfAny data_of vectors_data tables.Tailoring MayBeData FailsVectors m.tailoring p.tailoring
   pub reordering : IsLentIfAny reordering_of reordering_held tables.Reordering HasAllLeads (λ r k. k ≡ kinds.Length) m.reordering p.reordering
   pub diacritics : IsLent diacritics_of m.diacritics.items (IsDiacritics m.diacritics.items) (Names tables.Diacritics (FailsDiacritics m.diacritics.items)) p.diacritics

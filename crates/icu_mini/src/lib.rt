@@ -1,12 +1,9 @@
-//! Mini: a small collation for tests, its variants, and what such tables are built and damaged with.
+//! Mini: a small collation for tests, and its variants.
 #![tactic(auto)]
 
-mod added_context;
-mod character_table;
-mod entry_range;
+mod characters;
 pub mod mini;
-mod own_block;
+mod parts;
 pub mod provider;
 pub mod reordering_data;
-pub mod table_data;
 mod variants;

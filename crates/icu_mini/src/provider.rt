@@ -4,6 +4,7 @@ ghost use Rattle.icu_provider.specs.Diacritics.{FailsDiacritics, IsDiacritics};
 ghost use Rattle.icu_provider.specs.Jamo.{FailsJamo, IsJamo};
 ghost use Rattle.icu_provider.specs.SpecialPrimaries.{FailsSpecial, IsSpecialPrimaries};
 ghost use Rattle.icu_provider.specs.StoredTables.{diacritics_of, jamo_of, reordering_of, special_of};
+ghost use Rattle.icu_data.specs.OwnedData.{FailsVectors, MayBeData, vectors_data};
 ghost use Rattle.icu_data.specs.StoredData.{data_of};
 
 use crate::mini::Mini;
@@ -18,12 +19,19 @@ use icu_provider::{
 /// another one.
 #[derive(Debug, Clone, Copy)]
 pub struct MiniProvider<'m> {
+    /// The root.
     pub root: Result<CollationData<'m>, DataError>,
+    /// The entries of the jamo.
     pub jamo: Result<CollationJamo<'m>, DataError>,
+    /// The special primary weights.
     pub special: Result<CollationSpecialPrimaries<'m>, DataError>,
+    /// Which tables there are, and the settings.
     pub metadata: Result<CollationMetadata, DataError>,
+    /// The tailoring.
     pub tailoring: Result<CollationData<'m>, DataError>,
+    /// The reordering.
     pub reordering: Result<CollationReordering<'m>, DataError>,
+    /// The secondary weights of the diacritics.
     pub diacritics: Result<CollationDiacritics<'m>, DataError>,
 }
 
@@ -76,7 +84,6 @@ fn refusal(table: DataTable, kind: DataErrorKind) -> DataError
 
 impl Mini {
     ghost use Rattle.icu_mini.specs.Mini.{special_held};
-    ghost use Rattle.icu_mini.specs.TableData.{data_held, FailsTable, IsAccepted};
     ghost use Rattle.icu_mini.specs.ReorderingData.{reordering_held, HasAllLeads};
     ghost use Rattle.icu_mini.specs.Provider.{IsLent, IsLentIfAny, LendsMini, Names};
 
@@ -97,7 +104,7 @@ impl Mini {
     }
 
     fn named_root(&self) -> Result<CollationData<'_>, DataError>
-        ensures { IsLent data_of (data_held self.now.root) (IsAccepted self.now.root) (Names DataTable.Root (FailsTable self.now.root)) result }
+        ensures { IsLent data_of (vectors_data self.now.root) (MayBeData self.now.root) (Names DataTable.Root (FailsVectors self.now.root)) result }
     {
         match self.lend_root() {
             Ok(root) => Ok(root),
@@ -125,12 +132,12 @@ impl Mini {
     }
 
     fn named_tailoring(&self) -> Result<CollationData<'_>, DataError>
-        ensures { IsLentIfAny data_of data_held DataTable.Tailoring IsAccepted FailsTable self.now.tailoring result }
+        ensures { IsLentIfAny data_of vectors_data DataTable.Tailoring MayBeData FailsVectors self.now.tailoring result }
     {
         let Some(tailoring) = &self.tailoring else {
             return Err(refusal(DataTable::Tailoring, DataErrorKind::Absent));
         };
-        match tailoring.lend() {
+        match tailoring.as_data() {
             Ok(tailoring) => Ok(tailoring),
             Err(kind) => Err(refusal(DataTable::Tailoring, kind)),
         }

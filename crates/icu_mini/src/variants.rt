@@ -1,19 +1,18 @@
+//! The variants of Mini, each with one thing that Mini lacks.
 ghost use Rattle.std.specs.Prelude.{◌≡◌, ◌∷◌, [], IfOk, replicate, slice_set};
-ghost use Rattle.icu_mini.specs.AddedContext.{given_context};
-ghost use Rattle.icu_mini.specs.TableData.{Says, plain};
-ghost use Rattle.icu_mini.specs.Runs.{one, run};
+ghost use Rattle.icu_data.specs.AddedContexts.{given_context};
+ghost use Rattle.icu_mini.specs.Characters.{run};
 
-use crate::entry_range::EntryRange;
 use crate::mini::Mini;
+use crate::parts::{all_leads, in_context, tailoring};
 use crate::reordering_data::ReorderingData;
-use crate::table_data::{FALLBACK_ENTRY, TableData};
 use std::alloc::{AllocError, Global};
 
 /// The entry of a character that is looked up with those before it, by context 0.
-const PREFIX_ENTRY: u32 = 0xC8;
+const PREFIX_CE32: u32 = 0xC8;
 
 /// The entry of a character that is looked up with those after it, by context 0.
-const CONTRACTION_ENTRY: u32 = 0xC9;
+const CONTRACTION_CE32: u32 = 0xC9;
 
 /// The metadata of a tailored variant: the last variable group is punctuation, as Mini's.
 const TAILORED: u32 = 0x09;
@@ -21,6 +20,29 @@ const TAILORED: u32 = 0x09;
 impl Mini {
     ghost use Rattle.icu_mini.specs.Mini.{Holds};
     ghost use Rattle.icu_mini.specs.Variants as variants;
+
+    /// Mini where a tailoring gives one character a context.
+    fn in_context(
+        alloc: Global,
+        c: char,
+        entry: u32,
+        default: u32,
+        rows: &[(&[char], u32)],
+    ) -> Result<Mini, AllocError>
+        ensures { IfOk result (Holds (variants.in_context c entry (given_context default rows.now))) }
+    {
+        let mut mini = Mini::new(alloc)?;
+        mini.tailoring = Some(in_context(alloc, c, entry, default, rows)?);
+        mini.metadata.bits = TAILORED;
+        Ok(mini)
+    }
+
+    /// Mini where these characters too have entries of their own.
+    fn with_more(alloc: Global, characters: &[(char, u32)]) -> Result<Mini, AllocError>
+        ensures { IfOk result (Holds (variants.with_more characters.now)) }
+    {
+        Mini::with_root(alloc, characters, &[], &[])
+    }
 
     /// Mini whose second level is compared from the end, as in Canadian French.
     pub fn with_backward_second_level(alloc: Global) -> Result<Mini, AllocError>
@@ -44,33 +66,68 @@ impl Mini {
     pub fn with_a_ring(alloc: Global) -> Result<Mini, AllocError>
         ensures { IfOk result (Holds variants.mini_a_ring) }
     {
-        let rows: [(&[char], u32); 1] = [(&['\u{30A}'], 0x6210_0505)];
-        let mut mini = Mini::new(alloc)?;
-        mini.tailoring = Some(in_context(alloc, 'a', CONTRACTION_ENTRY, 0x6110_0505, &rows)?);
-        mini.metadata.bits = TAILORED;
-        Ok(mini)
+        Mini::in_context(
+            alloc,
+            'a',
+            CONTRACTION_CE32,
+            0x6110_0505,
+            &[(&['\u{30A}'], 0x6210_0505)],
+        )
     }
 
     /// Mini where "ll" is a letter after "l", as in traditional Spanish: a contraction that a starter ends.
     pub fn with_double_l(alloc: Global) -> Result<Mini, AllocError>
         ensures { IfOk result (Holds variants.mini_double_l) }
     {
-        let rows: [(&[char], u32); 1] = [(&['l'], 0x613E_0505)];
-        let mut mini = Mini::new(alloc)?;
-        mini.tailoring = Some(in_context(alloc, 'l', CONTRACTION_ENTRY, 0x613C_0505, &rows)?);
-        mini.metadata.bits = TAILORED;
-        Ok(mini)
+        Mini::in_context(
+            alloc,
+            'l',
+            CONTRACTION_CE32,
+            0x613C_0505,
+            &[(&['l'], 0x613E_0505)],
+        )
     }
 
     /// Mini where "b" after "a" comes before other "b"s: a prefix of one character.
     pub fn with_b_after_a(alloc: Global) -> Result<Mini, AllocError>
         ensures { IfOk result (Holds variants.mini_b_after_a) }
     {
-        let rows: [(&[char], u32); 1] = [(&['a'], 0x6112_0505)];
-        let mut mini = Mini::new(alloc)?;
-        mini.tailoring = Some(in_context(alloc, 'b', PREFIX_ENTRY, 0x6114_0505, &rows)?);
-        mini.metadata.bits = TAILORED;
-        Ok(mini)
+        Mini::in_context(
+            alloc,
+            'b',
+            PREFIX_CE32,
+            0x6114_0505,
+            &[(&['a'], 0x6112_0505)],
+        )
+    }
+
+    /// Mini where "a" has two contractions, with the ring above, and with the dot below and the ring above.
+    pub fn with_two_rows(alloc: Global) -> Result<Mini, AllocError>
+        ensures { IfOk result (Holds variants.mini_two_rows) }
+    {
+        Mini::in_context(
+            alloc,
+            'a',
+            CONTRACTION_CE32,
+            0x6110_0505,
+            &[
+                (&['\u{30A}'], 0x6210_0505),
+                (&['\u{323}', '\u{30A}'], 0x6230_0505),
+            ],
+        )
+    }
+
+    /// Mini where "c" after "ab" has a weight of its own: a prefix of two characters, the nearest first.
+    pub fn with_c_after_ab(alloc: Global) -> Result<Mini, AllocError>
+        ensures { IfOk result (Holds variants.mini_c_after_ab) }
+    {
+        Mini::in_context(
+            alloc,
+            'c',
+            PREFIX_CE32,
+            0x6118_0505,
+            &[(&['b', 'a'], 0x611E_0505)],
+        )
     }
 
     /// Mini where Greek alpha and beta, U+03B1 and U+03B2, have weights by offset: beta's is 4 places after alpha's, past the
@@ -78,11 +135,9 @@ impl Mini {
     pub fn with_offsets(alloc: Global) -> Result<Mini, AllocError>
         ensures { IfOk result (Holds variants.mini_offset) }
     {
-        let ranges = [EntryRange::new('\u{3B1}', '\u{3B2}', 0xCE, 0)];
-        let mut tailoring = TableData::of_ranges(alloc, &ranges, FALLBACK_ENTRY)?;
-        tailoring.ces = Vec::from_slice(alloc, &[0x7010_FE00_0003_B184])?;
+        let characters = [('\u{3B1}', 0xCE), ('\u{3B2}', 0xCE)];
         let mut mini = Mini::new(alloc)?;
-        mini.tailoring = Some(tailoring);
+        mini.tailoring = Some(tailoring(alloc, &characters, &[0x7010_FE00_0003_B184])?);
         mini.metadata.bits = TAILORED;
         Ok(mini)
     }
@@ -101,90 +156,6 @@ impl Mini {
         Ok(mini)
     }
 
-    /// Mini with U+00DF, the sharp s, whose entry is the list of the entry of "s" and of one that is greater on the third
-    /// level.
-    pub fn with_sharp_s(alloc: Global) -> Result<Mini, AllocError>
-        ensures { IfOk result (Holds variants.mini_sharp_s) }
-    {
-        let ranges = [EntryRange::of_character('ß', 0x0001_42C5)];
-        Mini::with(alloc, &ranges, &[0x6158_0505, 0x6158_0506])
-    }
-
-    /// Mini where "a" has two contractions, with the ring above, and with the dot below and the ring above.
-    pub fn with_two_rows(alloc: Global) -> Result<Mini, AllocError>
-        ensures { IfOk result (Holds variants.mini_two_rows) }
-    {
-        let rows: [(&[char], u32); 2] = [
-            (&['\u{30A}'], 0x6210_0505),
-            (&['\u{323}', '\u{30A}'], 0x6230_0505),
-        ];
-        let mut mini = Mini::new(alloc)?;
-        mini.tailoring = Some(in_context(alloc, 'a', CONTRACTION_ENTRY, 0x6110_0505, &rows)?);
-        mini.metadata.bits = TAILORED;
-        Ok(mini)
-    }
-
-    /// Mini where "c" after "ab" has a weight of its own: a prefix of two characters, the nearest first.
-    pub fn with_c_after_ab(alloc: Global) -> Result<Mini, AllocError>
-        ensures { IfOk result (Holds variants.mini_c_after_ab) }
-    {
-        let rows: [(&[char], u32); 1] = [(&['b', 'a'], 0x611E_0505)];
-        let mut mini = Mini::new(alloc)?;
-        mini.tailoring = Some(in_context(alloc, 'c', PREFIX_ENTRY, 0x6118_0505, &rows)?);
-        mini.metadata.bits = TAILORED;
-        Ok(mini)
-    }
-
-    #[tactic(auto, using(crate::proofs::RunLemmas::length_run))]
-    /// Mini where the jamo U+1100 is a list of two entries of the root.
-    pub fn with_jamo_list(alloc: Global) -> Result<Mini, AllocError>
-        ensures { IfOk result (Holds variants.mini_jamo_list) }
-    {
-        let mut mini = Mini::with(alloc, &[], &[0x6510_0505, 0x6690_0505])?;
-        mini.jamo[0] = 0x0001_42C5;
-        Ok(mini)
-    }
-
-    /// Mini where hiragana and katakana a, U+3042 and U+30A2, differ by the quaternary bits of their elements alone.
-    pub fn with_kana(alloc: Global) -> Result<Mini, AllocError>
-        ensures { IfOk result (Holds variants.mini_kana) }
-    {
-        let ranges = [
-            EntryRange::of_character('\u{3042}', 0x0000_01C6),
-            EntryRange::of_character('\u{30A2}', 0x0000_21C6),
-        ];
-        let mut mini = Mini::with(alloc, &ranges, &[])?;
-        mini.root.ces = Vec::from_slice(alloc, &[0x6710_0000_0500_0500, 0x6710_0000_0500_0540])?;
-        Ok(mini)
-    }
-
-    /// Mini where "$" is a currency whose primary weight has a lead byte above 1B, and numbers come later.
-    pub fn with_high_currency(alloc: Global) -> Result<Mini, AllocError>
-        ensures { IfOk result (Holds variants.mini_high_currency) }
-    {
-        let ranges = [EntryRange::of_character('$', 0x1E10_0505)];
-        let mut mini = Mini::with(alloc, &ranges, &[])?;
-        mini.last_primaries[3] = 0x2000;
-        mini.numeric_primary = 0x30;
-        Ok(mini)
-    }
-
-    /// Mini where the grapheme joiner, U+034F, has a secondary weight and no primary one.
-    pub fn with_secondary_alone(alloc: Global) -> Result<Mini, AllocError>
-        ensures { IfOk result (Holds variants.mini_secondary_alone) }
-    {
-        let ranges = [EntryRange::of_character('\u{34F}', 0x9600_05C2)];
-        Mini::with(alloc, &ranges, &[])
-    }
-
-    /// Mini where U+0001 has a tertiary weight and no other.
-    pub fn with_tertiary_alone(alloc: Global) -> Result<Mini, AllocError>
-        ensures { IfOk result (Holds variants.mini_tertiary_alone) }
-    {
-        let ranges = [EntryRange::of_character('\u{1}', 0x0000_00BF)];
-        Mini::with(alloc, &ranges, &[])
-    }
-
     /// Mini where the weights with lead byte 61 go two ways: those below 6140 move to lead byte 90, the others stay.
     pub fn with_split_lead(alloc: Global) -> Result<Mini, AllocError>
         ensures { IfOk result (Holds variants.mini_split_lead) }
@@ -198,25 +169,61 @@ impl Mini {
         mini.metadata.bits = 0x21;
         Ok(mini)
     }
+
+    /// Mini with U+00DF, the sharp s, whose entry is the list of the entry of "s" and of one that is greater on the third
+    /// level.
+    pub fn with_sharp_s(alloc: Global) -> Result<Mini, AllocError>
+        ensures { IfOk result (Holds variants.mini_sharp_s) }
+    {
+        let characters = [('ß', 0x0001_42C5)];
+        Mini::with_root(alloc, &characters, &[], &[0x6158_0505, 0x6158_0506])
+    }
+
+    /// Mini where the jamo U+1100 is a list of two entries of the root.
+    #[tactic(auto, using(crate::proofs::RunLemmas::length_run))]
+    pub fn with_jamo_list(alloc: Global) -> Result<Mini, AllocError>
+        ensures { IfOk result (Holds variants.mini_jamo_list) }
+    {
+        let mut mini = Mini::with_root(alloc, &[], &[], &[0x6510_0505, 0x6690_0505])?;
+        mini.jamo[0] = 0x0001_42C5;
+        Ok(mini)
+    }
+
+    /// Mini where hiragana and katakana a, U+3042 and U+30A2, differ by the quaternary bits of their elements alone.
+    pub fn with_kana(alloc: Global) -> Result<Mini, AllocError>
+        ensures { IfOk result (Holds variants.mini_kana) }
+    {
+        let characters = [('\u{3042}', 0x0000_01C6), ('\u{30A2}', 0x0000_21C6)];
+        let elements = [0x6710_0000_0500_0500, 0x6710_0000_0500_0540];
+        Mini::with_root(alloc, &characters, &elements, &[])
+    }
+
+    /// Mini where "$" is a currency whose primary weight has a lead byte above 1B, and numbers come later.
+    pub fn with_high_currency(alloc: Global) -> Result<Mini, AllocError>
+        ensures { IfOk result (Holds variants.mini_high_currency) }
+    {
+        let mut mini = Mini::with_more(alloc, &[('$', 0x1E10_0505)])?;
+        mini.last_primaries[3] = 0x2000;
+        mini.numeric_primary = 0x30;
+        Ok(mini)
+    }
+
+    /// Mini where the grapheme joiner, U+034F, has a secondary weight and no primary one.
+    pub fn with_secondary_alone(alloc: Global) -> Result<Mini, AllocError>
+        ensures { IfOk result (Holds variants.mini_secondary_alone) }
+    {
+        Mini::with_more(alloc, &[('\u{34F}', 0x9600_05C2)])
+    }
+
+    /// Mini where U+0001 has a tertiary weight and no other.
+    pub fn with_tertiary_alone(alloc: Global) -> Result<Mini, AllocError>
+        ensures { IfOk result (Holds variants.mini_tertiary_alone) }
+    {
+        Mini::with_more(alloc, &[('\u{1}', 0x0000_00BF)])
+    }
 }
 
-// The tailoring where a character has this entry, which names the one context.
-fn in_context(
-    alloc: Global,
-    character: char,
-    entry: u32,
-    default: u32,
-    rows: &[(&[char], u32)],
-) -> Result<TableData, AllocError>
-    ensures { IfOk result (Says (record (plain (one character entry ∷ []) FALLBACK_ENTRY) { contexts = given_context default rows.now ∷ [] })) }
-{
-    let ranges = [EntryRange::of_character(character, entry)];
-    let mut tailoring = TableData::of_ranges(alloc, &ranges, FALLBACK_ENTRY)?;
-    tailoring.add_context(default, rows)?;
-    Ok(tailoring)
-}
-
-// 61 and 62 change places, and every other lead byte has a 0.
+/// 61 and 62 change places, and every other lead byte has a 0.
 fn swapped_leads(alloc: Global) -> Result<Vec<u8>, AllocError>
     ensures { IfOk result (λ v. v.items ≡ slice_set (slice_set (replicate 256 0) 0x61 0x62) 0x62 0x61) }
 {
@@ -226,7 +233,7 @@ fn swapped_leads(alloc: Global) -> Result<Vec<u8>, AllocError>
     Ok(leads)
 }
 
-// Every lead byte stands for itself, but 61 has a 0.
+/// Every lead byte stands for itself, but 61 has a 0.
 #[tactic(auto, using(crate::proofs::RunLemmas::length_run))]
 fn split_leads(alloc: Global) -> Result<Vec<u8>, AllocError>
     ensures { IfOk result (λ v. v.items ≡ slice_set (run 0 1 256) 0x61 0) }
@@ -235,18 +242,3 @@ fn split_leads(alloc: Global) -> Result<Vec<u8>, AllocError>
     leads[0x61] = 0;
     Ok(leads)
 }
-
-// Each byte in turn.
-#[tactic(auto, using(crate::proofs::RunLemmas::run_more, crate::proofs::RunLemmas::run_none))]
-fn all_leads(alloc: Global) -> Result<Vec<u8>, AllocError>
-    ensures { IfOk result (λ v. v.items ≡ run 0 1 256) }
-{
-    let mut leads = Vec::new(alloc);
-    for lead in 0..256u32 {
-        leads.push(lead as u8)?;
-    }
-    Ok(leads)
-}
-
-#[cfg(test)]
-mod tests;

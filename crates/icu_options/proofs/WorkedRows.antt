@@ -1,6 +1,7 @@
 -- Worked rows of the definitions, computed.
 use Rattle.std.proofs.Common.{◌≡◌, None, Some, true, refl}
-use Rattle.icu_options.specs.Settings.{initial_settings, named, tertiary_mask}
+use Rattle.icu_options.specs.Settings.{mask_by}
+use Rattle.icu_options.specs.FlaggedSettings.{initial_settings, values_of}
 use Rattle.icu_options.specs.Conversions.{resolved_of, no_options}
 use Rattle.icu_options.specs.Metadata.{metadata_settings}
 use Rattle.icu_options.specs.Merge.{merge}
@@ -34,7 +35,7 @@ metadata_600 = refl
 
 -- a preference comes before metadata
 prefers_lower : (p : CollatorPreferences) → p.case_first ≡ Some Lower
-    → (merge no_options p (metadata_settings 0x600)).case_first ≡ named Lower
+    → (merge no_options p (metadata_settings 0x600)).case_first ≡ Lower
 prefers_lower p first = rw first refl
 
 -- bits 11 and 12 say nothing
@@ -42,17 +43,17 @@ metadata_1801 : metadata_settings 0x1801 ≡ metadata_settings 1
 metadata_1801 = refl
 
 -- no mask below Tertiary, and none with case as long as case first is not set
-mask_at_secondary : tertiary_mask (record initial_settings { strength = named Secondary }) ≡ None
+mask_at_secondary : mask_by (record (values_of initial_settings) { strength = Secondary }) ≡ None
 mask_at_secondary = refl
 
-mask_at_first : tertiary_mask initial_settings ≡ Some 0x3F3F
+mask_at_first : mask_by (values_of initial_settings) ≡ Some 0x3F3F
 mask_at_first = refl
 
 -- case first brings case in, unless case has a level of its own
-mask_upper_first : tertiary_mask (record initial_settings { case_first = named Upper }) ≡ Some 0xFF3F
+mask_upper_first : mask_by (record (values_of initial_settings) { case_first = Upper }) ≡ Some 0xFF3F
 mask_upper_first = refl
 
-mask_with_case_level : tertiary_mask
-    (record initial_settings { case_first = named Upper; case_level = named true })
+mask_with_case_level : mask_by
+    (record (values_of initial_settings) { case_first = Upper; case_level = true })
     ≡ Some 0x3F3F
 mask_with_case_level = refl

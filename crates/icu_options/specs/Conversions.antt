@@ -1,6 +1,7 @@
--- The conversions between the settings and what a caller hands in or is answered.
+-- The conversions between the settings and what a caller passes in or gets back.
 use Rattle.std.specs.Prelude.{◌≡◌, Bool, true, false, None, Some, option_map, []}
-use Rattle.icu_options.specs.Settings.{Settings, initial_settings, named_or}
+use Rattle.icu_options.specs.Settings.{Settings}
+use Rattle.icu_options.specs.FlaggedSettings.{FlaggedSettings, initial_settings, explicit_or}
 use Rattle.icu_options.specs.declared.settings.Strength.TheVariants.{Primary}
 use Rattle.icu_options.specs.declared.settings.MaxVariable.TheVariants.{Space}
 use Rattle.icu_options.specs.declared.settings.AlternateHandling.TheVariants.{NonIgnorable}
@@ -17,7 +18,7 @@ abbrev pub is_on : CaseLevel → Bool
 is_on Off = false
 is_on On = true
 
--- the case level as a caller is answered
+-- the case level as a caller gets it back
 abbrev pub case_level_of : Bool → CaseLevel
 case_level_of false = Off
 case_level_of true = On
@@ -27,39 +28,39 @@ abbrev pub is_numeric : CollationNumericOrdering → Bool
 is_numeric False = false
 is_numeric True = true
 
--- the numeric order as a caller is answered
+-- the numeric order as a caller gets it back
 abbrev pub numeric_of : Bool → CollationNumericOrdering
 numeric_of false = False
 numeric_of true = True
 
--- the settings that options name, and the rest as before any source names one
-abbrev pub settings_of : CollatorOptions → Settings
+-- the settings that options set, and the rest as before any source sets one
+abbrev pub settings_of : CollatorOptions → FlaggedSettings
 settings_of options =
     record initial_settings {
-      strength = named_or options.strength Primary;
-      max_variable = named_or options.max_variable Space;
-      alternate_handling = named_or options.alternate_handling NonIgnorable;
-      case_level = named_or (option_map is_on options.case_level) false;
+      strength = explicit_or options.strength Primary;
+      max_variable = explicit_or options.max_variable Space;
+      alternate_handling = explicit_or options.alternate_handling NonIgnorable;
+      case_level = explicit_or (option_map is_on options.case_level) false;
     }
 
--- the six settings that a caller is answered
+-- the six settings that a caller gets back
 abbrev pub resolved_of : Settings → ResolvedCollatorOptions
 resolved_of s =
     record {
-      strength = s.strength.value;
-      alternate_handling = s.alternate_handling.value;
-      case_first = s.case_first.value;
-      max_variable = s.max_variable.value;
-      case_level = case_level_of s.case_level.value;
-      numeric = numeric_of s.numeric.value;
+      strength = s.strength;
+      alternate_handling = s.alternate_handling;
+      case_first = s.case_first;
+      max_variable = s.max_variable;
+      case_level = case_level_of s.case_level;
+      numeric = numeric_of s.numeric;
     }
 
--- the options that name nothing
+-- the options that set nothing
 abbrev pub no_options : CollatorOptions
 no_options =
     record { strength = None; alternate_handling = None; max_variable = None; case_level = None }
 
--- the options that name what was resolved
+-- the options that set what was resolved
 abbrev pub options_of : ResolvedCollatorOptions → CollatorOptions
 options_of r =
     record {
@@ -69,15 +70,15 @@ options_of r =
       case_level = Some r.case_level;
     }
 
--- the preferences name what was resolved, and no language
+-- the preferences set what was resolved, and no language
 pub record ArePreferencesOf (r : ResolvedCollatorOptions) (p : CollatorPreferences) : Type 0 where
   pub locale : p.locale.now ≡ []
   pub collation_type : p.collation_type ≡ None
   pub case_first : p.case_first ≡ Some r.case_first
   pub numeric_ordering : p.numeric_ordering ≡ Some r.numeric
 
--- the preferences name no setting and no language
-pub record NameNothing (p : CollatorPreferences) : Type 0 where
+-- the preferences set nothing, and no language
+pub record SetNothing (p : CollatorPreferences) : Type 0 where
   pub locale : p.locale.now ≡ []
   pub collation_type : p.collation_type ≡ None
   pub case_first : p.case_first ≡ None

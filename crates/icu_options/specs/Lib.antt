@@ -1,4 +1,5 @@
 pub mod Settings
+pub mod FlaggedSettings
 pub mod Conversions
 pub mod Metadata
 pub mod Merge

@@ -1,7 +1,8 @@
-//! The settings of a collator, with a flag for each that says whether a source named it.
+//! The settings of a collator, with a flag for each that says whether a source has set it.
 ghost use Rattle.std.specs.Prelude.{◌≡◌, false, option_map};
-ghost use Rattle.icu_options.specs.Settings.{named_or, initial_settings, with_defaults};
-ghost use Rattle.icu_options.specs.Settings.{is_upper_first, tertiary_mask};
+ghost use Rattle.icu_options.specs.Settings.{is_upper_first, mask_by};
+ghost use Rattle.icu_options.specs.FlaggedSettings.{explicit_or, initial_settings};
+ghost use Rattle.icu_options.specs.FlaggedSettings.{with_defaults, values_of};
 ghost use Rattle.icu_options.specs.Conversions.{is_on, is_numeric, settings_of, resolved_of};
 ghost use Rattle.icu_options.specs.Merge.{settings_of_metadata};
 
@@ -20,10 +21,10 @@ const TERTIARY_BITS: u16 = 0x3F3F;
 /// The bits of an element's lower half that hold its case.
 const CASE_BITS: u16 = 0xC000;
 
-/// Seven settings, each a value and a flag that says whether a source named it.
+/// Seven settings, each a value and a flag that says whether it is explicit: a source has set it.
 ///
-/// A setter with `Some` puts the value and sets the flag: the setting is named. One with `None`
-/// puts the setting's first value and clears the flag. No call fails or takes memory.
+/// A setter with `Some` sets value and flag. One with `None` puts the setting's first value and
+/// clears the flag. No call fails or allocates.
 #[derive(Debug, Clone, Copy)]
 pub struct CollatorOptionsBitField {
     strength: Setting<Strength>,
@@ -36,9 +37,9 @@ pub struct CollatorOptionsBitField {
 }
 
 impl Model for CollatorOptionsBitField {
-    ghost use Rattle.icu_options.specs.Settings.{Settings};
+    ghost use Rattle.icu_options.specs.FlaggedSettings.{FlaggedSettings};
 
-    ghost Value = { Settings };
+    ghost Value = { FlaggedSettings };
 
     ghost view = { λ f. record {
       strength = f.strength;
@@ -64,16 +65,16 @@ impl Model for CollatorOptionsBitField {
 impl Default for CollatorOptionsBitField {
     ghost is_default = { λ s. s ≡ initial_settings };
 
-    /// Strength `Tertiary`, each other setting at its first value, and none named by a source.
+    /// Strength `Tertiary`, each other setting at its first value, and none explicit.
     fn default() -> Self {
         CollatorOptionsBitField {
-            strength: Setting::named_or(None, Strength::Tertiary),
-            max_variable: Setting::named_or(None, MaxVariable::Space),
-            alternate_handling: Setting::named_or(None, AlternateHandling::NonIgnorable),
-            case_level: Setting::named_or(None, false),
-            case_first: Setting::named_or(None, CollationCaseFirst::False),
-            backward_second_level: Setting::named_or(None, false),
-            numeric: Setting::named_or(None, false),
+            strength: Setting::explicit_or(None, Strength::Tertiary),
+            max_variable: Setting::explicit_or(None, MaxVariable::Space),
+            alternate_handling: Setting::explicit_or(None, AlternateHandling::NonIgnorable),
+            case_level: Setting::explicit_or(None, false),
+            case_first: Setting::explicit_or(None, CollationCaseFirst::False),
+            backward_second_level: Setting::explicit_or(None, false),
+            numeric: Setting::explicit_or(None, false),
         }
     }
 }
@@ -93,7 +94,7 @@ impl CollatorOptionsBitField {
         self.max_variable.value
     }
 
-    /// What becomes of variable elements.
+    /// How variable elements are weighted.
     pub fn alternate_handling(self) -> AlternateHandling
         ensures { result ≡ self.alternate_handling.value }
     {
@@ -107,7 +108,7 @@ impl CollatorOptionsBitField {
         self.case_level.value
     }
 
-    /// Whether case comes before other tertiary differences, and which case is less.
+    /// Whether case comes before other tertiary differences, and which case sorts first.
     pub fn case_first(self) -> CollationCaseFirst
         ensures { result ≡ self.case_first.value }
     {
@@ -128,7 +129,7 @@ impl CollatorOptionsBitField {
         self.numeric.value
     }
 
-    /// Whether upper case is less than lower case.
+    /// Whether upper case sorts before lower case.
     pub fn upper_first(self) -> bool
         ensures { result ≡ is_upper_first self.case_first.value }
     {
@@ -138,7 +139,7 @@ impl CollatorOptionsBitField {
     /// The part of an element's lower half that the tertiary level compares: FF3F, with case, where
     /// case first is set and the case level off, and else 3F3F. `None` below strength `Tertiary`.
     pub fn tertiary_mask(self) -> Option<u16>
-        ensures { result ≡ tertiary_mask self }
+        ensures { result ≡ mask_by (values_of self) }
     {
         if self.strength() < Strength::Tertiary {
             None
@@ -149,85 +150,85 @@ impl CollatorOptionsBitField {
         }
     }
 
-    /// Names the strength, or with `None` puts `Primary`, unnamed.
+    /// Sets the strength, or with `None` puts `Primary`, not explicit.
     pub fn set_strength(&mut self, strength: Option<Strength>)
-        ensures { self.new ≡ record self.old { strength = named_or strength Strength.Primary } }
+        ensures { self.new ≡ record self.old { strength = explicit_or strength Strength.Primary } }
     {
-        self.strength = Setting::named_or(strength, Strength::Primary);
+        self.strength = Setting::explicit_or(strength, Strength::Primary);
     }
 
-    /// Names the last variable group, or with `None` puts `Space`, unnamed.
+    /// Sets the last variable group, or with `None` puts `Space`, not explicit.
     pub fn set_max_variable(&mut self, max_variable: Option<MaxVariable>)
         ensures { self.new ≡ record self.old {
-          max_variable = named_or max_variable MaxVariable.Space;
+          max_variable = explicit_or max_variable MaxVariable.Space;
         } }
     {
-        self.max_variable = Setting::named_or(max_variable, MaxVariable::Space);
+        self.max_variable = Setting::explicit_or(max_variable, MaxVariable::Space);
     }
 
-    /// Names the alternate handling, or with `None` puts `NonIgnorable`, unnamed.
+    /// Sets the alternate handling, or with `None` puts `NonIgnorable`, not explicit.
     pub fn set_alternate_handling(&mut self, alternate_handling: Option<AlternateHandling>)
         ensures { self.new ≡ record self.old {
-          alternate_handling = named_or alternate_handling AlternateHandling.NonIgnorable;
+          alternate_handling = explicit_or alternate_handling AlternateHandling.NonIgnorable;
         } }
     {
-        self.alternate_handling = Setting::named_or(
+        self.alternate_handling = Setting::explicit_or(
             alternate_handling,
             AlternateHandling::NonIgnorable,
         );
     }
 
-    /// Names the case level, or with `None` puts it off, unnamed.
+    /// Sets the case level, or with `None` puts it off, not explicit.
     pub fn set_case_level(&mut self, case_level: Option<bool>)
-        ensures { self.new ≡ record self.old { case_level = named_or case_level false } }
+        ensures { self.new ≡ record self.old { case_level = explicit_or case_level false } }
     {
-        self.case_level = Setting::named_or(case_level, false);
+        self.case_level = Setting::explicit_or(case_level, false);
     }
 
-    /// Names the case level as `set_case_level` does, by the option's value.
+    /// Sets the case level as `set_case_level` does, by the option's value.
     pub fn set_case_level_from_enum(&mut self, case_level: Option<CaseLevel>)
         ensures { self.new ≡ record self.old {
-          case_level = named_or (option_map is_on case_level) false;
+          case_level = explicit_or (option_map is_on case_level) false;
         } }
     {
         self.set_case_level(case_level.map(|level| level == CaseLevel::On));
     }
 
-    /// Names which case is less, or with `None` puts `False`, unnamed.
+    /// Sets which case sorts first, or with `None` puts `False`, not explicit.
     pub fn set_case_first(&mut self, case_first: Option<CollationCaseFirst>)
         ensures { self.new ≡ record self.old {
-          case_first = named_or case_first CollationCaseFirst.False;
+          case_first = explicit_or case_first CollationCaseFirst.False;
         } }
     {
-        self.case_first = Setting::named_or(case_first, CollationCaseFirst::False);
+        self.case_first = Setting::explicit_or(case_first, CollationCaseFirst::False);
     }
 
-    /// Names the direction of the secondary level, or with `None` puts it forward, unnamed.
+    /// Sets the direction of the secondary level, or with `None` puts it forward, not explicit.
     pub fn set_backward_second_level(&mut self, backward_second_level: Option<bool>)
         ensures { self.new ≡ record self.old {
-          backward_second_level = named_or backward_second_level false;
+          backward_second_level = explicit_or backward_second_level false;
         } }
     {
-        self.backward_second_level = Setting::named_or(backward_second_level, false);
+        self.backward_second_level = Setting::explicit_or(backward_second_level, false);
     }
 
-    /// Names the numeric order, or with `None` puts it off, unnamed.
+    /// Sets the numeric order, or with `None` puts it off, not explicit.
     pub fn set_numeric(&mut self, numeric: Option<bool>)
-        ensures { self.new ≡ record self.old { numeric = named_or numeric false } }
+        ensures { self.new ≡ record self.old { numeric = explicit_or numeric false } }
     {
-        self.numeric = Setting::named_or(numeric, false);
+        self.numeric = Setting::explicit_or(numeric, false);
     }
 
-    /// Names the numeric order as `set_numeric` does, by the preference's value.
+    /// Sets the numeric order as `set_numeric` does, by the preference's value.
     pub fn set_numeric_from_enum(&mut self, numeric: Option<CollationNumericOrdering>)
         ensures { self.new ≡ record self.old {
-          numeric = named_or (option_map is_numeric numeric) false;
+          numeric = explicit_or (option_map is_numeric numeric) false;
         } }
     {
         self.set_numeric(numeric.map(|order| order == CollationNumericOrdering::True));
     }
 
-    /// Takes value and flag from `other` for each setting that no source named.
+    /// Takes value and flag from `other` for each setting that no source has set.
     pub fn set_defaults(&mut self, other: CollatorOptionsBitField)
         ensures { self.new ≡ with_defaults self.old other }
     {
@@ -246,7 +247,7 @@ impl CollatorOptionsBitField {
 impl From<CollatorOptions> for CollatorOptionsBitField {
     ghost from_gives = { λ o s. s ≡ settings_of o };
 
-    /// The settings that the options name. A strength that they do not name stands at `Primary`, as
+    /// The settings that the options set. A strength that they do not set stands at `Primary`, as
     /// `set_strength` puts it, until `set_defaults` takes another.
     fn from(options: CollatorOptions) -> Self {
         let mut settings = Self::default();
@@ -261,7 +262,7 @@ impl From<CollatorOptions> for CollatorOptionsBitField {
 impl From<MetadataSettings> for CollatorOptionsBitField {
     ghost from_gives = { λ m s. s ≡ settings_of_metadata m };
 
-    /// The four settings that metadata names, and the rest as in the default.
+    /// The four settings that metadata sets, and the rest as in the default.
     fn from(metadata: MetadataSettings) -> Self {
         let mut settings = Self::default();
         settings.set_max_variable(Some(metadata.max_variable));
@@ -273,9 +274,9 @@ impl From<MetadataSettings> for CollatorOptionsBitField {
 }
 
 impl From<CollatorOptionsBitField> for ResolvedCollatorOptions {
-    ghost from_gives = { λ s r. r ≡ resolved_of s };
+    ghost from_gives = { λ s r. r ≡ resolved_of (values_of s) };
 
-    /// The values of the six settings that a caller is answered.
+    /// The values of the six settings that a caller gets back.
     fn from(settings: CollatorOptionsBitField) -> Self {
         ResolvedCollatorOptions {
             strength: settings.strength(),

@@ -1,4 +1,4 @@
-//! The settings of a collator: what each can be, which sources name them, and how the sources
+//! The settings of a collator: what each can be, which sources set them, and how the sources
 //! are merged.
 #![tactic(auto)]
 

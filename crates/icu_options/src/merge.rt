@@ -1,14 +1,15 @@
 //! The merge of the sources of settings.
 ghost use Rattle.std.specs.Prelude.{◌≡◌};
 ghost use Rattle.icu_options.specs.Conversions.{resolved_of, options_of, ArePreferencesOf};
-ghost use Rattle.icu_options.specs.Merge.{merge};
+ghost use Rattle.icu_options.specs.FlaggedSettings.{values_of, flags_of};
+ghost use Rattle.icu_options.specs.Merge.{merge, merged_flags};
 ghost use Rattle.icu_options.specs.declared.options.ResolvedCollatorOptions.{ResolvedCollatorOptions};
 
 use crate::bit_field::CollatorOptionsBitField;
 use crate::metadata::MetadataSettings;
 use crate::options::{CollatorOptions, CollatorPreferences};
 
-/// The settings of a collator, each by the first source that names it.
+/// The settings of a collator, each by the first source that sets it.
 ///
 /// Strength and case level are those of `options`, else `Tertiary` and off. Alternate handling and
 /// the last variable group are those of `options`, else of `metadata`. Case first is that of
@@ -19,11 +20,12 @@ pub fn merged_options(
     preferences: CollatorPreferences<'_>,
     metadata: MetadataSettings,
 ) -> CollatorOptionsBitField
-    ensures merged { result ≡ merge options preferences.entry metadata }
+    ensures values { values_of result ≡ merge options preferences.entry metadata }
+    ensures flags { flags_of result ≡ merged_flags options preferences.entry }
 
     // What was resolved once resolves to itself, whatever the metadata.
     ensures again { (r : ResolvedCollatorOptions) → options ≡ options_of r
-        → ArePreferencesOf r preferences.entry → resolved_of result ≡ r }
+        → ArePreferencesOf r preferences.entry → resolved_of (values_of result) ≡ r }
 {
     let mut merged = CollatorOptionsBitField::from(options);
     merged.set_case_first(preferences.case_first);

@@ -1,18 +1,18 @@
 //! What the metadata of a collation says of the settings.
 ghost use Rattle.std.specs.Prelude.{◌≡◌, ◌<◌};
-ghost use Rattle.icu_options.specs.Metadata.{has_bit, max_variable_of};
+ghost use Rattle.icu_options.specs.Metadata.{is_bit_set, max_variable_of};
 ghost use Rattle.icu_options.specs.Metadata.{alternate_handling_of, case_first_of};
 
 use crate::settings::{AlternateHandling, CollationCaseFirst, MaxVariable};
 
-/// The settings that the metadata of a collation names: these four always, and no others.
+/// The settings that the metadata of a collation sets: these four always, and no others.
 #[derive(Debug, Clone, Copy)]
 pub struct MetadataSettings {
     /// The last variable group.
     pub max_variable: MaxVariable,
-    /// What becomes of variable elements.
+    /// How variable elements are weighted.
     pub alternate_handling: AlternateHandling,
-    /// Which case is less.
+    /// Which case sorts first.
     pub case_first: CollationCaseFirst,
     /// Whether the secondary level is compared from the end, as in Canadian French.
     pub backward_second_level: bool,
@@ -23,7 +23,7 @@ impl MetadataSettings {
 
     /// The settings of a metadata number. Bits 0 and 1 are the last variable group, from `Space` as
     /// 0 to `Currency` as 3, bit 7 is the backward second level, and bit 8 `Shifted`. Bit 9 says that
-    /// case first is set, and bit 10, which is read only with bit 9, that upper case is less. No
+    /// case first is set, and bit 10, which is read only with bit 9, that upper case sorts first. No
     /// other bit counts.
     pub fn from_bits(bits: u32) -> Self
         ensures { result ≡ metadata_settings bits }
@@ -37,11 +37,11 @@ impl MetadataSettings {
     }
 }
 
-fn has_bit(bits: u32, place: u32) -> bool
-    requires { place < 32 }
-    ensures { result ≡ has_bit bits place }
+fn has_bit(bits: u32, index: u32) -> bool
+    requires { index < 32 }
+    ensures { result ≡ is_bit_set bits index }
 {
-    bits >> place & 1 == 1
+    bits >> index & 1 == 1
 }
 
 fn max_variable(bits: u32) -> MaxVariable

@@ -1,4 +1,4 @@
-//! The settings that a caller hands in and those that a collator answers.
+//! The settings that a caller passes in and those that it gets back from a collator.
 ghost use Rattle.std.specs.Prelude.{◌≡◌};
 ghost use Rattle.icu_options.specs.Conversions.{no_options, options_of, ArePreferencesOf};
 
@@ -8,11 +8,14 @@ use crate::settings::{
 };
 
 /// The settings that a caller chooses in code. `None` leaves one to the other sources.
+///
+/// All four are merged and can be read back. Of the comparison only the strength is at work today:
+/// alternate handling, the last variable group and the case level change no answer yet.
 #[derive(Debug, Clone, Copy)]
 pub struct CollatorOptions {
     /// How many levels are compared.
     pub strength: Option<Strength>,
-    /// What becomes of variable elements.
+    /// How variable elements are weighted.
     pub alternate_handling: Option<AlternateHandling>,
     /// The last variable group.
     pub max_variable: Option<MaxVariable>,
@@ -23,7 +26,7 @@ pub struct CollatorOptions {
 impl Default for CollatorOptions {
     ghost is_default = { λ o. o ≡ no_options };
 
-    /// Options that name nothing.
+    /// Options that set nothing.
     fn default() -> Self {
         CollatorOptions {
             strength: None,
@@ -37,7 +40,7 @@ impl Default for CollatorOptions {
 impl From<ResolvedCollatorOptions> for CollatorOptions {
     ghost from_gives = { λ r o. o ≡ options_of r };
 
-    /// The options that name the four of these settings that options can name.
+    /// The options that set the four of these settings that options can set.
     fn from(resolved: ResolvedCollatorOptions) -> Self {
         CollatorOptions {
             strength: Some(resolved.strength),
@@ -50,24 +53,26 @@ impl From<ResolvedCollatorOptions> for CollatorOptions {
 
 /// What a user prefers: a language, and the settings that go with a language. `None` leaves a
 /// setting to the other sources.
+///
+/// Both settings are merged and can be read back. Neither changes an answer of the comparison yet.
 #[derive(Debug, Clone, Copy)]
 pub struct CollatorPreferences<'a> {
     /// The locale, as the provider of the tables names it; "" for the root.
     pub locale: &'a str,
     /// The type of the collation in that locale, such as "trad".
     pub collation_type: Option<&'a str>,
-    /// Which case is less.
+    /// Which case sorts first.
     pub case_first: Option<CollationCaseFirst>,
     /// Whether runs of decimal digits are compared by value.
     pub numeric_ordering: Option<CollationNumericOrdering>,
 }
 
 impl<'a> Default for CollatorPreferences<'a> {
-    ghost use Rattle.icu_options.specs.Conversions.{NameNothing};
+    ghost use Rattle.icu_options.specs.Conversions.{SetNothing};
 
-    ghost is_default = { NameNothing };
+    ghost is_default = { SetNothing };
 
-    /// The root, and no setting named.
+    /// The root, and nothing set.
     fn default() -> Self {
         CollatorPreferences {
             locale: "",
@@ -81,7 +86,7 @@ impl<'a> Default for CollatorPreferences<'a> {
 impl<'a> From<ResolvedCollatorOptions> for CollatorPreferences<'a> {
     ghost from_gives = { ArePreferencesOf };
 
-    /// The preferences that name the two of these settings that preferences can name, and the root.
+    /// The preferences that set the two of these settings that preferences can set, and the root.
     fn from(resolved: ResolvedCollatorOptions) -> Self {
         CollatorPreferences {
             locale: "",
@@ -98,9 +103,9 @@ impl<'a> From<ResolvedCollatorOptions> for CollatorPreferences<'a> {
 pub struct ResolvedCollatorOptions {
     /// How many levels are compared.
     pub strength: Strength,
-    /// What becomes of variable elements.
+    /// How variable elements are weighted.
     pub alternate_handling: AlternateHandling,
-    /// Which case is less.
+    /// Which case sorts first.
     pub case_first: CollationCaseFirst,
     /// The last variable group.
     pub max_variable: MaxVariable,

@@ -1,7 +1,8 @@
-//! One setting: a value, and whether a source named it.
+//! One setting: a value, and whether a source has set it.
 ghost use Rattle.std.specs.Prelude.{◌≡◌};
-ghost use Rattle.icu_options.specs.Settings.{named_or, or_default};
+ghost use Rattle.icu_options.specs.FlaggedSettings.{explicit_or, or_default};
 
+/// A value, and whether a source has set it.
 #[derive(Debug, Clone, Copy)]
 pub(crate) struct Setting<T> {
     pub(crate) value: T,
@@ -9,11 +10,11 @@ pub(crate) struct Setting<T> {
 }
 
 impl<T: Copy> Setting<T> {
-    // What a source names, or `standing` where it names nothing.
-    pub(crate) fn named_or(named: Option<T>, standing: T) -> Setting<T>
-        ensures { result ≡ named_or named standing }
+    /// What a source sets, or `standing` where it sets nothing.
+    pub(crate) fn explicit_or(value: Option<T>, standing: T) -> Setting<T>
+        ensures { result ≡ explicit_or value standing }
     {
-        match named {
+        match value {
             Some(value) => Setting {
                 value,
                 is_explicit: true,
@@ -25,7 +26,7 @@ impl<T: Copy> Setting<T> {
         }
     }
 
-    // This setting where a source named it, and else the other.
+    /// This setting where a source has set it, and else the other.
     pub(crate) fn or_default(self, other: Setting<T>) -> Setting<T>
         ensures { result ≡ or_default self other }
     {

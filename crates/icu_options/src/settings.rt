@@ -2,12 +2,13 @@
 
 /// How many levels are compared (UTS #10, "Multi-Level Comparison").
 ///
-/// The greater the strength, the more differences count. The numbers are those of ICU.
+/// The greater the strength, the more differences count. The numbers are those of ICU. Today the
+/// comparison stops after the tertiary level, whichever greater strength is set.
 #[derive(Debug, Clone, Copy, PartialEq, Eq, PartialOrd, Ord)]
 pub enum Strength {
     /// Base letters alone: "a" and "á" are equal.
     Primary = 0,
-    /// Accents too: "a" and "A" are equal.
+    /// Diacritics too: "a" and "A" are equal.
     Secondary = 1,
     /// Case and variants too. This is the default.
     Tertiary = 2,
@@ -17,7 +18,8 @@ pub enum Strength {
     Identical = 7,
 }
 
-/// What becomes of variable elements, such as spaces (UTS #10, "Variable Weighting").
+/// How variable elements, such as spaces, are weighted (UTS #10, "Variable Weighting"). Today the
+/// comparison weights them as other elements, whichever is set.
 #[derive(Debug, Clone, Copy, PartialEq, Eq, PartialOrd, Ord)]
 pub enum AlternateHandling {
     /// They count as other elements do.
@@ -40,6 +42,7 @@ pub enum MaxVariable {
 }
 
 /// Whether case is compared on a level of its own, between the secondary and the tertiary one.
+/// Today the comparison has no such level.
 #[derive(Debug, Clone, Copy, PartialEq, Eq)]
 pub enum CaseLevel {
     /// Case is compared on the tertiary level.
@@ -48,22 +51,24 @@ pub enum CaseLevel {
     On,
 }
 
-/// Whether case comes before other tertiary differences, and which case is less.
+/// Whether case comes before other tertiary differences, and which case sorts first. Today the
+/// comparison leaves case out, whichever is set.
 #[derive(Debug, Clone, Copy, PartialEq, Eq)]
 pub enum CollationCaseFirst {
     /// Case is one tertiary difference among others.
     False,
-    /// Lower case is less.
+    /// Lower case sorts first.
     Lower,
-    /// Upper case is less.
+    /// Upper case sorts first.
     Upper,
 }
 
-/// Whether a run of decimal digits is compared by its value.
+/// Whether a run of decimal digits is compared by its value. Today the comparison reads digits as
+/// letters, whichever is set.
 #[derive(Debug, Clone, Copy, PartialEq, Eq)]
 pub enum CollationNumericOrdering {
     /// Each digit counts by itself.
     False,
-    /// "2" is less than "10".
+    /// "2" sorts before "10".
     True,
 }

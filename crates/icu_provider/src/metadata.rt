@@ -1,6 +1,6 @@
 //! A collation's metadata.
 ghost use Rattle.std.specs.Prelude.{◌≡◌, ◌<◌};
-ghost use Rattle.icu_options.specs.Metadata.{has_bit, max_variable_of, case_first_of, is_backward, metadata_settings};
+ghost use Rattle.icu_options.specs.Metadata.{is_bit_set, max_variable_of, case_first_of, is_backward, metadata_settings};
 ghost use Rattle.icu_provider.specs.Metadata.{is_tailored, has_tailored_diacritics, has_reordering, is_lithuanian, is_shifted};
 
 use icu_options::{CollationCaseFirst, MaxVariable, MetadataSettings};
@@ -12,9 +12,9 @@ pub struct CollationMetadata {
     pub bits: u32,
 }
 
-fn has_bit(bits: u32, index: u32) -> bool
+fn is_bit_set(bits: u32, index: u32) -> bool
     requires { index < 32 }
-    ensures { result ≡ has_bit bits index }
+    ensures { result ≡ is_bit_set bits index }
 {
     bits >> index & 1 == 1
 }
@@ -38,28 +38,28 @@ impl CollationMetadata {
     pub fn tailored(self) -> bool
         ensures { result ≡ is_tailored self.bits }
     {
-        has_bit(self.bits, 3)
+        is_bit_set(self.bits, 3)
     }
 
     /// Whether the collation has diacritics of its own: bit 4.
     pub fn tailored_diacritics(self) -> bool
         ensures { result ≡ has_tailored_diacritics self.bits }
     {
-        has_bit(self.bits, 4)
+        is_bit_set(self.bits, 4)
     }
 
     /// Whether there is a reordering: bit 5.
     pub fn reordering(self) -> bool
         ensures { result ≡ has_reordering self.bits }
     {
-        has_bit(self.bits, 5)
+        is_bit_set(self.bits, 5)
     }
 
     /// Whether U+0307 is left out before U+0300, U+0301 and U+0303, as in Lithuanian: bit 6.
     pub fn lithuanian_dot_above(self) -> bool
         ensures { result ≡ is_lithuanian self.bits }
     {
-        has_bit(self.bits, 6)
+        is_bit_set(self.bits, 6)
     }
 
     /// Whether the secondary level is compared from the end: bit 7.
@@ -73,7 +73,7 @@ impl CollationMetadata {
     pub fn alternate_shifted(self) -> bool
         ensures { result ≡ is_shifted self.bits }
     {
-        has_bit(self.bits, 8)
+        is_bit_set(self.bits, 8)
     }
 
     /// Which case is less: bit 9 says that one is, and bit 10, which is read only then, that it is upper case.

@@ -3,18 +3,22 @@ use Rattle.std.proofs.Common.{IfSome, subst}
 use Rattle.std.specs.Io.KnownBytes.{Appends}
 use Rattle.collate.specs.Runs.{PrintsAnswer, PrintsBeginning}
 use Rattle.collate.specs.Writing.{AppendsBeginning}
+use Rattle.collate.proofs.WritingLemmas.{Keeps_same}
 use Rattle.collate.proofs.program.print_answer.Goals as goal
 
-pub returns-in-Ok-write_text-clause-ok : goal.returns-in-Ok-write_text-clause-ok
-returns-in-Ok-write_text-clause-ok g c =
+pub returns-in-Ok-clause-ok : goal.returns-in-Ok-clause-ok
+returns-in-Ok-clause-ok g c =
     let old = g.W.Write.contents c.args.output.now in
     let new = g.W.Write.contents c.write_text.new.writer in
-    let written = subst (Appends old new) c.as_bytes.ensures.value c.in-Ok-write_text.ensures.ok in
-    subst (λ o. IfSome o (PrintsAnswer old new)) c.in-Some.ensures (c.in-Ok.line.now, c.in-Ok.ensures, written)
+    let written = subst (Appends old new) c.as_bytes.ensures.value c.in-Ok.ensures.ok in
+    subst (λ o. IfSome o (PrintsAnswer old new)) c.in-Some.ensures (c.in_ok-line.line.now, c.in_ok-line.ensures.answer, written)
 
 pub returns-in-Err-clause-write_failed : goal.returns-in-Err-clause-write_failed
 returns-in-Err-clause-write_failed g c = λ _.
     let old = g.W.Write.contents c.args.output.now in
     let new = g.W.Write.contents c.write_text.new.writer in
     let written = subst (AppendsBeginning old new) c.as_bytes.ensures.value c.in-Err.ensures.err in
-    subst (λ o. IfSome o (PrintsBeginning old new)) c.in-Some.ensures (c.in-Ok.line.now, c.in-Ok.ensures, written)
+    subst (λ o. IfSome o (PrintsBeginning old new)) c.in-Some.ensures (c.in_ok-line.line.now, c.in_ok-line.ensures.answer, written)
+
+pub returns-in_err-line-clause-tables : goal.returns-in_err-line-clause-tables
+returns-in_err-line-clause-tables g c = λ _. Keeps_same (g.W.Write.contents c.args.output.now)

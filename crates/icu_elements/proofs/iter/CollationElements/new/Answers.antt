@@ -1,20 +1,19 @@
-use Rattle.std.proofs.Common.{refl}
-use Rattle.icu_elements.specs.CollationElements.{StillGives, CanGive}
+use Rattle.std.proofs.Common.{refl, rules}
+use Rattle.icu_elements.specs.CollationElements.{CanGive}
 use Rattle.unicode_normalization.specs.Forms.{nfd}
-use Rattle.icu_elements.proofs.PlainLemmas.{elements_of-plain}
+use Rattle.icu_elements.proofs.ByCharacterLemmas.{elements_of-by_char}
+use Rattle.icu_elements.proofs.IterLemmas.{StillGives-unread}
 use Rattle.icu_elements.proofs.iter.CollationElements.new.Goals as goal
 
 pub returns-clause-text : goal.returns-clause-text
-unfolding StillGives
-returns-clause-text g c = λ cs h. record { text = nfd cs; source = c.new_canonical.ensures.text cs h; elements = λ scalars. refl }
+returns-clause-text g c = λ cs h.
+    StillGives-unread _ _ _ refl (search rules)
+    (record { text = nfd cs; source = c.new_canonical.ensures.text cs h; elements = λ scalars. refl })
 
-pub returns-clause-plain : goal.returns-clause-plain
-unfolding StillGives
-returns-clause-plain g c = λ plain cs h. record {
-  text = nfd cs;
-  source = c.new_canonical.ensures.text cs h;
-  elements = elements_of-plain _ plain (nfd cs);
-}
+pub returns-clause-context_free : goal.returns-clause-context_free
+returns-clause-context_free g c = λ free cs h.
+    StillGives-unread _ _ _ refl (search rules)
+    (record { text = nfd cs; source = c.new_canonical.ensures.text cs h; elements = elements_of-by_char _ free (nfd cs) })
 
 pub returns-clause-ready : goal.returns-clause-ready
 unfolding CanGive

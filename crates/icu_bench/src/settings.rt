@@ -1,0 +1,34 @@
+//! The settings of a collator.
+use icu_comparison::Collator;
+use icu_mini::mini::Mini;
+use icu_options::{
+    AlternateHandling, CaseLevel, CollationCaseFirst, CollationNumericOrdering, CollatorOptions,
+    CollatorPreferences, MaxVariable, Strength,
+};
+use std::process::Abort;
+use std::test::Fail;
+
+#[test]
+fn settings_come_from_their_sources(rt: HostRuntime) -> Result<(), Fail> {
+    let mut mini = Mini::new(rt.alloc())?;
+    mini.metadata.bits = 0x701;
+    let preferences = CollatorPreferences {
+        case_first: Some(CollationCaseFirst::False),
+        numeric_ordering: Some(CollationNumericOrdering::True),
+        ..CollatorPreferences::default()
+    };
+    let collator = Collator::try_new_unstable(
+        rt.alloc(),
+        &mini.provider(),
+        preferences,
+        CollatorOptions::default(),
+    )?;
+    let settings = collator.as_borrowed().resolved_options();
+    assert!(rt; settings.strength == Strength::Tertiary);
+    assert!(rt; settings.alternate_handling == AlternateHandling::Shifted);
+    assert!(rt; settings.case_first == CollationCaseFirst::False);
+    assert!(rt; settings.max_variable == MaxVariable::Punctuation);
+    assert!(rt; settings.case_level == CaseLevel::Off);
+    assert!(rt; settings.numeric == CollationNumericOrdering::True);
+    Ok(())
+}

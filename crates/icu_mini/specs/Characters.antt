@@ -1,0 +1,32 @@
+-- Characters with their entries, and those of Mini.
+use Rattle.std.specs.Prelude.{ℕ, ◌+◌, ◌*◌, List, [], ◌∷◌, ◌++◌, map}
+use Rattle.std.specs.List.{range_with_len}
+use Rattle.icu_data.specs.Building.{with_entries}
+
+-- the characters of the list have the entries that it gives them, the last one of several, and others what they had
+unfoldable pub with_characters : List (ℕ × ℕ) → (ℕ → ℕ) → ℕ → ℕ
+with_characters [] value = value
+with_characters (x ∷ xs) value = with_characters xs (with_entries x.0 x.0 x.1 value)
+
+-- so many characters from one on, the first with this entry, and each next one with so much more
+abbrev pub rising : ℕ → ℕ → ℕ → ℕ → List (ℕ × ℕ)
+rising first entry step count = map (λ i. (first + i, entry + step * i)) (range_with_len 0 count)
+
+-- so many numbers, each with so much more than the one before
+unfoldable pub run : ℕ → ℕ → ℕ → List ℕ
+run first step count = map (λ i. first + step * i) (range_with_len 0 count)
+
+-- Mini's characters that have entries of their own
+unfoldable pub mini_characters : List (ℕ × ℕ)
+mini_characters =
+    (0, 0)  -- ignored
+    ∷ (0xFFFE, 0x02000505)  -- the separator of merged texts
+    ∷ (0xFFFD, 0xFFFD0505)
+    ∷ (0x20, 0x03100505)  -- space, '-', '.'
+    ∷ (0x2D, 0x04100505)
+    ∷ (0x2E, 0x04200505)
+    ∷ rising 0x30 0xCA 0x2100 10  -- digits, each with its value and the index of its plain entry
+    ++ rising 0x61 0x61100505 0x40000 26  -- 'a' to 'z'
+    ++ rising 0x41 0x6110059C 0x40000 26  -- 'A' to 'Z', upper case
+    ++ (0x24B6, 0x6110059D)  -- a circled 'A'
+    ∷ []

@@ -1,0 +1,88 @@
+//! The elements of a text.
+ghost use Rattle.icu_elements.specs.CollationElements.{CanGive};
+
+use crate::base::tables;
+use crate::notation::text;
+use icu_comparison::Collator;
+use icu_elements::{CollationElements, all_elements};
+use icu_entries::CollationElement;
+use icu_options::{CollatorOptions, CollatorPreferences};
+use std::alloc::Global;
+
+/// A row is tables and a text. Its elements are printed in hexadecimal, of equal ones in a row the first and how many there
+/// are. They are read as one list, and one by one until the end element has come twice.
+pub(crate) fn elements(alloc: Global, row: &str) -> Option<String> {
+    let (written, row) = row.split_once('|')?;
+    let mini = tables(alloc, written)?;
+    let collator = Collator::try_new_unstable(
+        alloc,
+        &mini.provider(),
+        CollatorPreferences::default(),
+        CollatorOptions::default(),
+    )
+    .ok()?;
+    let text = text(alloc, row.trim())?;
+    let tables = collator.as_borrowed().tables();
+    let all = all_elements(tables, text.as_str().chars(), None, false).ok()?;
+    let elements = CollationElements::new(text.as_str().chars(), tables, None, false);
+    if !gives(elements, all.as_slice())? {
+        return String::from_str(alloc, "another list one by one").ok();
+    }
+    printed(alloc, all.as_slice())
+}
+
+/// Whether these elements come one by one, and then the end element twice.
+fn gives<I: Iterator<Item = char> + Drop>(
+    mut elements: CollationElements<'_, I>,
+    expected: &[CollationElement],
+) -> Option<bool>
+    requires { CanGive I.can_next I.remaining elements }
+{
+    for element in expected {
+        if elements.next().ok()? != *element {
+            return Some(false);
+        }
+    }
+    let end = CollationElement::default();
+    Some(elements.next().ok()? == end && elements.next().ok()? == end)
+}
+
+/// Elements as they are printed.
+fn printed(alloc: Global, elements: &[CollationElement]) -> Option<String> {
+    let mut printed = String::new(alloc);
+    let mut count = 0u64;
+    let mut before = CollationElement::default();
+    for element in elements {
+        if count == 0 || *element == before {
+            count = count.saturating_add(1);
+        } else {
+            push_element(&mut printed, before, count)?;
+            count = 1;
+        }
+        before = *element;
+    }
+    if count != 0 {
+        push_element(&mut printed, before, count)?;
+    }
+    Some(printed)
+}
+
+/// Appends an element and how often it stands there, where that is more than once.
+fn push_element(printed: &mut String, element: CollationElement, count: u64) -> Option<()> {
+    if !printed.is_empty() {
+        printed.push(' ').ok()?;
+    }
+    let lower = element.non_primary().bits() & 0xFFFF;
+    write!(
+        printed,
+        "{:08X}.{:04X}.{:04X}",
+        element.primary(),
+        element.secondary(),
+        lower
+    )
+    .ok()?;
+    if count != 1 {
+        write!(printed, "*{count}").ok()?;
+    }
+    Some(())
+}

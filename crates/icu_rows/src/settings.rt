@@ -1,0 +1,140 @@
+//! The settings that sources come to.
+use crate::notation::number32;
+use icu_options::{
+    AlternateHandling, CaseLevel, CollationCaseFirst, CollationNumericOrdering, CollatorOptions,
+    CollatorPreferences, MaxVariable, MetadataSettings, ResolvedCollatorOptions, Strength,
+    merged_options,
+};
+use std::alloc::Global;
+
+/// What a row names.
+#[derive(Clone, Copy)]
+struct Sources {
+    metadata: u32,
+    options: CollatorOptions,
+    preferences: CollatorPreferences<'static>,
+}
+
+/// A row is what is named, with commas between: `metadata` and its bits, or a setting and its value. `resolved` takes what
+/// was named before it, resolved, for the options and the preferences.
+pub(crate) fn settings(alloc: Global, row: &str) -> Option<String> {
+    let mut sources = Sources {
+        metadata: 0,
+        options: CollatorOptions::default(),
+        preferences: CollatorPreferences::default(),
+    };
+    for written in row.split(',') {
+        let words: Vec<&str> = written.split_whitespace().collect(alloc).ok()?;
+        sources = with_source(sources, words.as_slice())?;
+    }
+    printed(alloc, sources)
+}
+
+fn resolved(sources: Sources) -> ResolvedCollatorOptions {
+    let metadata = MetadataSettings::from_bits(sources.metadata);
+    merged_options(sources.options, sources.preferences, metadata).into()
+}
+
+fn with_source(mut sources: Sources, words: &[&str]) -> Option<Sources> {
+    match words {
+        [] => {}
+        ["metadata", bits] => sources.metadata = number32(bits)?,
+        ["resolved"] => {
+            let resolved = resolved(sources);
+            sources.options = CollatorOptions::from(resolved);
+            sources.preferences = CollatorPreferences::from(resolved);
+        }
+        ["case-first", value] => sources.preferences.case_first = Some(case_first(value)?),
+        ["numeric", value] => sources.preferences.numeric_ordering = Some(numeric(value)?),
+        [name, value] => sources.options = with_option(sources.options, name, value)?,
+        _ => return None,
+    }
+    Some(sources)
+}
+
+fn with_option(mut options: CollatorOptions, name: &str, value: &str) -> Option<CollatorOptions> {
+    match name {
+        "strength" => options.strength = Some(strength(value)?),
+        "alternate" => options.alternate_handling = Some(alternate_handling(value)?),
+        "max-variable" => options.max_variable = Some(variable_group(value)?),
+        "case-level" => options.case_level = Some(case_level(value)?),
+        _ => return None,
+    }
+    Some(options)
+}
+
+fn printed(alloc: Global, sources: Sources) -> Option<String> {
+    let all = resolved(sources);
+    let (strength, alternate) = (all.strength, all.alternate_handling);
+    let (first, group) = (all.case_first, all.max_variable);
+    let (level, numeric) = (all.case_level, all.numeric);
+    let mut printed = format!(in alloc; "{strength:?} {alternate:?} {first:?} {group:?}").ok()?;
+    write!(printed, " {level:?} {numeric:?}").ok()?;
+    let metadata = MetadataSettings::from_bits(sources.metadata);
+    let settings = merged_options(sources.options, sources.preferences, metadata);
+    if settings.backward_second_level() {
+        write!(printed, " backward").ok()?;
+    }
+    if settings.upper_first() {
+        write!(printed, " upper first").ok()?;
+    }
+    if let Some(mask) = settings.tertiary_mask() {
+        write!(printed, " {mask:04X}").ok()?;
+    }
+    Some(printed)
+}
+
+fn strength(name: &str) -> Option<Strength> {
+    match name {
+        "Primary" => Some(Strength::Primary),
+        "Secondary" => Some(Strength::Secondary),
+        "Tertiary" => Some(Strength::Tertiary),
+        "Quaternary" => Some(Strength::Quaternary),
+        "Identical" => Some(Strength::Identical),
+        _ => None,
+    }
+}
+
+fn alternate_handling(name: &str) -> Option<AlternateHandling> {
+    match name {
+        "NonIgnorable" => Some(AlternateHandling::NonIgnorable),
+        "Shifted" => Some(AlternateHandling::Shifted),
+        _ => None,
+    }
+}
+
+/// The last variable group that a word names.
+pub(crate) fn variable_group(name: &str) -> Option<MaxVariable> {
+    match name {
+        "Space" => Some(MaxVariable::Space),
+        "Punctuation" => Some(MaxVariable::Punctuation),
+        "Symbol" => Some(MaxVariable::Symbol),
+        "Currency" => Some(MaxVariable::Currency),
+        _ => None,
+    }
+}
+
+fn case_level(name: &str) -> Option<CaseLevel> {
+    match name {
+        "Off" => Some(CaseLevel::Off),
+        "On" => Some(CaseLevel::On),
+        _ => None,
+    }
+}
+
+fn case_first(name: &str) -> Option<CollationCaseFirst> {
+    match name {
+        "False" => Some(CollationCaseFirst::False),
+        "Lower" => Some(CollationCaseFirst::Lower),
+        "Upper" => Some(CollationCaseFirst::Upper),
+        _ => None,
+    }
+}
+
+fn numeric(name: &str) -> Option<CollationNumericOrdering> {
+    match name {
+        "False" => Some(CollationNumericOrdering::False),
+        "True" => Some(CollationNumericOrdering::True),
+        _ => None,
+    }
+}

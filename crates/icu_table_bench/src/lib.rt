@@ -1,0 +1,13 @@
+//! Tests of settings, entries and single tables: worked rows and outside vectors.
+#![tactic(auto)]
+
+#[cfg(test)]
+mod elements;
+#[cfg(test)]
+mod options;
+#[cfg(test)]
+mod requests;
+#[cfg(test)]
+mod tables;
+#[cfg(test)]
+mod walks;

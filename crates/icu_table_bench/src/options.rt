@@ -1,0 +1,122 @@
+//! The settings: what setters put, the numbers and the order of strengths. Worked rows of the merge stand in `icu_rows`.
+use icu_options::{
+    AlternateHandling, CaseLevel, CollationCaseFirst, CollationNumericOrdering, CollatorOptions,
+    CollatorOptionsBitField, MaxVariable, Strength,
+};
+use std::process::Abort;
+
+/// What the seven settings read.
+type Values = (
+    Strength,
+    MaxVariable,
+    AlternateHandling,
+    bool,
+    CollationCaseFirst,
+    bool,
+    bool,
+);
+
+fn values_of(settings: CollatorOptionsBitField) -> Values {
+    (
+        settings.strength(),
+        settings.max_variable(),
+        settings.alternate_handling(),
+        settings.case_level(),
+        settings.case_first(),
+        settings.backward_second_level(),
+        settings.numeric(),
+    )
+}
+
+/// All settings, each at a value that isn't its first one.
+fn set_all(settings: &mut CollatorOptionsBitField) {
+    settings.set_strength(Some(Strength::Identical));
+    settings.set_max_variable(Some(MaxVariable::Currency));
+    settings.set_alternate_handling(Some(AlternateHandling::Shifted));
+    settings.set_case_level_from_enum(Some(CaseLevel::On));
+    settings.set_case_first(Some(CollationCaseFirst::Upper));
+    settings.set_backward_second_level(Some(true));
+    settings.set_numeric_from_enum(Some(CollationNumericOrdering::True));
+}
+
+const ALL: Values = (
+    Strength::Identical,
+    MaxVariable::Currency,
+    AlternateHandling::Shifted,
+    true,
+    CollationCaseFirst::Upper,
+    true,
+    true,
+);
+
+const NONE: Values = (
+    Strength::Primary,
+    MaxVariable::Space,
+    AlternateHandling::NonIgnorable,
+    false,
+    CollationCaseFirst::False,
+    false,
+    false,
+);
+
+#[test]
+fn settings_are_set_and_left_to_the_defaults(rt: HostRuntime) {
+    let mut settings = CollatorOptionsBitField::default();
+    set_all(&mut settings);
+    assert!(rt; values_of(settings) == ALL);
+    let others = settings;
+    settings.set_strength(None);
+    settings.set_max_variable(None);
+    settings.set_alternate_handling(None);
+    settings.set_case_level(None);
+    settings.set_case_first(None);
+    settings.set_backward_second_level(None);
+    settings.set_numeric(None);
+    assert!(rt; values_of(settings) == NONE, "none is set");
+    settings.set_defaults(others);
+    assert!(rt; values_of(settings) == ALL, "all are left to the defaults");
+}
+
+#[test]
+fn settings_that_are_set_stay(rt: HostRuntime) {
+    let mut settings = CollatorOptionsBitField::default();
+    settings.set_strength(Some(Strength::Primary));
+    settings.set_max_variable(Some(MaxVariable::Space));
+    settings.set_alternate_handling(Some(AlternateHandling::NonIgnorable));
+    settings.set_case_level(Some(false));
+    settings.set_case_first(Some(CollationCaseFirst::False));
+    settings.set_backward_second_level(Some(false));
+    settings.set_numeric(Some(false));
+    let mut others = CollatorOptionsBitField::default();
+    set_all(&mut others);
+    settings.set_defaults(others);
+    assert!(rt; values_of(settings) == NONE);
+}
+
+#[test]
+fn strengths_are_ordered_and_numbered(rt: HostRuntime) {
+    let strengths = [
+        (Strength::Primary, 0u8),
+        (Strength::Secondary, 1),
+        (Strength::Tertiary, 2),
+        (Strength::Quaternary, 3),
+        (Strength::Identical, 7),
+    ];
+    for (lower, number) in strengths {
+        assert_eq!(rt; lower as u8, number, "{lower:?}");
+        for (higher, above) in strengths {
+            assert_eq!(rt; lower < higher, number < above, "{lower:?} and {higher:?}");
+        }
+    }
+    assert!(rt; AlternateHandling::NonIgnorable < AlternateHandling::Shifted);
+}
+
+#[test]
+fn an_unnamed_strength_stands_at_primary(rt: HostRuntime) {
+    let settings = CollatorOptionsBitField::from(CollatorOptions::default());
+    assert_eq!(rt; settings.strength(), Strength::Primary);
+    assert_eq!(rt;
+        CollatorOptionsBitField::default().strength(),
+        Strength::Tertiary
+    );
+}
