@@ -10,7 +10,7 @@ use Rattle.icu_checks.specs.declared.condition.PairCondition.TheVariants as of_p
 use Rattle.icu_checks.specs.declared.condition.LeadCondition.{LeadCondition}
 use Rattle.icu_checks.specs.declared.condition.LeadCondition.TheVariants as of_lead
 use Rattle.icu_checks.specs.declared.fault.Fault.{Fault}
-use Rattle.icu_checks.specs.CollatorTables.{CollatorTables}
+use Rattle.icu_provider.specs.CollatorTables.{CollatorTables}
 use Rattle.icu_checks.specs.GoodTables.{table_rank, MeetsBy}
 
 abbrev pub element_rank : ElementCondition → ℕ

@@ -25,9 +25,10 @@ use Rattle.icu_checks.specs.declared.condition.PairCondition.{PairCondition}
 use Rattle.icu_checks.specs.declared.condition.PairCondition.TheVariants as of_pair
 use Rattle.icu_checks.specs.declared.condition.LeadCondition.{LeadCondition}
 use Rattle.icu_checks.specs.declared.condition.LeadCondition.TheVariants as of_lead
-use Rattle.icu_checks.specs.CollatorTables.{CollatorTables}
+use Rattle.icu_provider.specs.CollatorTables.{CollatorTables}
 use Rattle.icu_checks.specs.LiveElements.{IsLiveBy, IsElementBy}
 use Rattle.icu_checks.specs.ElementConditions.{element_meets}
+use Rattle.icu_checks.specs.Overlaps.{AreOverlapping}
 use Rattle.icu_checks.specs.PairConditions.{PairMeets}
 use Rattle.icu_checks.specs.LeadConditions.{LeadMeets}
 
@@ -133,11 +134,17 @@ abbrev pub table_of_lead : LeadCondition → DataTable
 table_of_lead of_lead.NumericWhole = tables.SpecialPrimaries
 table_of_lead _ = tables.Reordering
 
+-- The table by which an overlap of a primary weight of one table and one of another is named: the later one of the two where the
+-- weights overlap as they stand, and the reordering where they overlap only by it.
+pub record IsOverlapTable (first second : DataTable) (p q : ℕ) (table : DataTable) : Type 0 where
+  pub before : AreOverlapping p q → table ≡ later first second
+  pub after : (AreOverlapping p q → ⊥) → table ≡ tables.Reordering
+
 -- the table by which a condition on an element of one table and one of another is named
-abbrev pub IsNamedBy : PairCondition → DataTable → DataTable → DataTable → Type 0
-IsNamedBy of_pair.Compression first second table = table ≡ tables.Reordering
-IsNamedBy of_pair.Primaries first second table = (table ≡ later first second) ⊎ (table ≡ tables.Reordering)
-IsNamedBy _ first second table = table ≡ later first second
+abbrev pub IsNamedBy : PairCondition → DataTable → DataTable → Element → Element → DataTable → Type 0
+IsNamedBy of_pair.Compression first second x y table = table ≡ tables.Reordering
+IsNamedBy of_pair.Primaries first second x y table = IsOverlapTable first second x.primary y.primary table
+IsNamedBy _ first second x y table = table ≡ later first second
 
 -- the condition, as far as this table takes part in it
 abbrev pub MeetsBy : Condition → DataTable → CollatorTables → Type 0
@@ -147,7 +154,7 @@ MeetsBy conditions.PrefixRows table all = table ≡ tables.Diacritics → Meets 
 MeetsBy (conditions.Element condition) table all =
     (own : DataTable) → table ≡ later own (table_of_element condition) → EachElement (λ x. IsTrue (element_meets condition all x)) own all
 MeetsBy (conditions.Pair condition) table all =
-    (first second : DataTable) → IsNamedBy condition first second table → EachPair (PairMeets condition all) first second all
+    (first second : DataTable) → EachPair (λ x y. IsNamedBy condition first second x y table → PairMeets condition all x y) first second all
 MeetsBy (conditions.Lead condition) table all = table ≡ table_of_lead condition → LeadMeets condition all
 
 -- a condition of this kind fails, and this table takes part in it

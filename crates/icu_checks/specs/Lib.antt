@@ -1,5 +1,3 @@
-pub mod CollatorTables
-pub mod TableSets
 pub mod LiveElements
 pub mod ElementConditions
 pub mod PairConditions
@@ -10,11 +8,12 @@ pub mod Faults
 pub mod EntryFaults
 pub mod Weights
 pub mod PairFaults
+pub mod ImplicitOverlaps
 pub mod Checks
 pub mod Overlaps
+pub mod Levels
 pub mod Leads
 pub mod Alike
-pub mod Kept
 pub mod Checked
 pub mod Loads
 pub mod WorkedLoads

@@ -15,7 +15,7 @@ use Rattle.icu_provider.specs.Diacritics.{is_replaced_index, is_diacritic_weight
 use Rattle.icu_data.specs.Data.{homed}
 use Rattle.icu_data.specs.Final.{final_elements}
 use Rattle.icu_checks.specs.declared.condition.Condition.TheVariants as conditions
-use Rattle.icu_checks.specs.CollatorTables.{CollatorTables}
+use Rattle.icu_provider.specs.CollatorTables.{CollatorTables}
 use Rattle.icu_checks.specs.LiveElements.{IsOfEntryBy, IsOfAccent, IsElementBy}
 use Rattle.icu_checks.specs.GoodTables.{IsGoodTables}
 

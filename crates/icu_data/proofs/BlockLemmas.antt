@@ -7,7 +7,8 @@ use Rattle.std.proofs.lemmas.List.Elements.{All-from_get_or}
 use Rattle.std.proofs.lemmas.Bool.{cases_lt}
 use Rattle.std.proofs.lemmas.Grind.{common_steps}
 use Rattle.icu_data.specs.CodePointTables.{IsCodePointTable, stored_value}
-use Rattle.icu_data.specs.Blocks.{block_at, HoldsBlock, HasDistinctBlocks}
+use Rattle.icu_data.specs.Blocks.{block_at, HasDistinctBlocks}
+use Rattle.icu_data.specs.inner.AddedBlocks.{HoldsBlock}
 use Rattle.icu_data.proofs.AddedRows.{part_of_longer}
 
 -- a member of a part of a list

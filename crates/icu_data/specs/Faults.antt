@@ -25,10 +25,6 @@ earlier rank None found = found
 earlier rank (Some a) None = Some a
 earlier rank (Some a) (Some b) = if nat_lt (rank b) (rank a) then Some b else Some a
 
--- a judge and the first fault so far, after one more entry
-abbrev pub judged : {J F : Type 0} → (F → ℕ) → (J → Data → ℕ → ℕ → Option F) → J × Option F → Data → ℕ → ℕ → J × Option F
-judged rank fault s home c e = (s.0, earlier rank s.1 (fault s.0 home c e))
-
 -- the fault has no greater rank than this one, if it is one
 abbrev pub ComesFirst : {F : Type 0} → (F → ℕ) → F → Option F → Type 0
 ComesFirst rank f found = IfSome found (λ g. rank f ≤ rank g)
