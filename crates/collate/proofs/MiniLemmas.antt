@@ -203,6 +203,7 @@ below c scalar = elim (scalar_cases c scalar) [ inl low ↦ omega arith | inr hi
 
 module _ (m : Mini) (mini : IsMini m) where
   root_wanted : (c : ℕ) → NamesNone (with_characters [] (with_characters mini_characters (λ k. 0xCF)) c)
+  unfolding all_name_none
   root_wanted c =
       among [] (with_characters mini_characters (λ k. 0xCF)) refl
       (among mini_characters (λ k. 0xCF) characters_name_none (λ k. other)) c
