@@ -1,3 +1,4 @@
 pub mod WritingLemmas
 pub mod MiniLemmas
 pub mod SettingLemmas
+pub mod RefusalLemmas

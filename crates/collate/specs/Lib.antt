@@ -2,5 +2,6 @@ pub mod Commands
 pub mod Asked
 pub mod Answers
 pub mod Faults
+pub mod Refusals
 pub mod Writing
 pub mod Runs

@@ -1,12 +1,13 @@
 -- What a run leaves on standard output and standard error: each fact is about the bytes that a writer holds before and
 -- after, as far as the writer says what it holds.
-use Rattle.std.specs.Prelude.{ℕ, List, Option}
+use Rattle.std.specs.Prelude.{ℕ, List, Option, ◌⊎◌}
 use Rattle.std.specs.Io.KnownBytes.{Keeps, Appends}
 use Rattle.collate.specs.declared.fault.Fault.{Fault}
-use Rattle.collate.specs.declared.fault.Fault.TheVariants.{NoMemory, WriteFailed}
+use Rattle.collate.specs.declared.fault.Fault.TheVariants.{NoMemory, TablesRefused, WriteFailed}
 use Rattle.collate.specs.Commands.{Comparing}
 use Rattle.collate.specs.Answers.{IsAnswer}
 use Rattle.collate.specs.Faults.{line_of}
+use Rattle.collate.specs.Refusals.{TablesFail}
 use Rattle.collate.specs.Writing.{AppendsBeginning}
 
 -- the bytes that a writer holds, where they are known
@@ -30,7 +31,20 @@ pub record LacksMemory (old_output new_output old_faults new_faults : Known) : T
   pub nothing : Keeps old_output new_output
   pub said : Says NoMemory old_faults new_faults
 
+-- the run stopped since the program's own tables fail a condition, and printed nothing
+pub record RefusesTables (old_output new_output old_faults new_faults : Known) : Type 0 where
+  pub fail : TablesFail
+  pub nothing : Keeps old_output new_output
+  pub said : Says TablesRefused old_faults new_faults
+
 -- the run stopped where a write of the answer failed
 pub record FailsToWrite (asked : Comparing) (old_output new_output old_faults new_faults : Known) : Type 0 where
   pub beginning : PrintsBeginning old_output new_output asked
   pub said : Says WriteFailed old_faults new_faults
+
+-- a run that ends with status 1
+abbrev pub Fails : Comparing → Known → Known → Known → Known → Type 0
+Fails asked old_output new_output old_faults new_faults =
+    LacksMemory old_output new_output old_faults new_faults
+    ⊎ (RefusesTables old_output new_output old_faults new_faults
+    ⊎ FailsToWrite asked old_output new_output old_faults new_faults)

@@ -1,21 +1,25 @@
-ghost use Rattle.std.specs.Prelude.{◌≡◌, IfOk, IsTrue, ◌++◌, ◌∷◌, []};
+//! The answer to a command.
+ghost use Rattle.std.specs.Prelude.{◌≡◌, IfOk, IfErr, IsTrue, ◌++◌, ◌∷◌, []};
 ghost use Rattle.icu_comparison.specs.Order.{is_at_most_tertiary};
 ghost use Rattle.icu_comparison.specs.Collators.{settings_kept, tables_kept};
 ghost use Rattle.icu_mini.specs.Mini.{IsMini, collator_tables};
 ghost use Rattle.collate.specs.Answers.{ComparesBy, IsAnswer, sign_of};
 ghost use Rattle.collate.specs.Asked.{asked};
+ghost use Rattle.collate.specs.Refusals.{IsRefusal};
 
 use crate::command::Command;
+use crate::fault::Fault;
 use icu_comparison::Collator;
 use icu_mini::mini::Mini;
 use icu_options::{CollatorOptions, CollatorPreferences, Strength};
-use std::alloc::{AllocError, Global};
+use std::alloc::Global;
 use std::cmp::Ordering;
 
-// The collator by Mini's tables. They meet the conditions on tables, as tests show; so what is refused is memory.
-fn mini_collator(alloc: Global, strength: Strength) -> Result<Collator, AllocError>
+/// The collator by Mini's tables.
+fn mini_collator(alloc: Global, strength: Strength) -> Result<Collator, Fault>
     requires { IsTrue (is_at_most_tertiary strength) }
-    ensures { IfOk result (λ c. (tables : Mini) × IsMini tables × ComparesBy strength (collator_tables tables) (tables_kept c) (settings_kept c)) }
+    ensures refused { IfErr result IsRefusal }
+    ensures compares { IfOk result (λ c. (tables : Mini) × IsMini tables × ComparesBy strength (collator_tables tables) (tables_kept c) (settings_kept c)) }
 {
     let mini = Mini::new(alloc)?;
     let options = CollatorOptions {
@@ -29,11 +33,11 @@ fn mini_collator(alloc: Global, strength: Strength) -> Result<Collator, AllocErr
         options,
     ) {
         Ok(collator) => Ok(collator),
-        Err(_) => Err(AllocError),
+        Err(refusal) => Err(Fault::from(refusal)),
     }
 }
 
-// The sign of an order, and a line feed.
+/// The sign of an order, and a line feed.
 fn sign_line(order: Ordering) -> &'static str
     ensures { result.now ≡ sign_of order ++ 10 ∷ [] }
 {
@@ -45,8 +49,9 @@ fn sign_line(order: Ordering) -> &'static str
 }
 
 /// The line that answers a command.
-pub(crate) fn answer(alloc: Global, command: Command<'_>) -> Result<&'static str, AllocError>
-    ensures { IfOk result (λ line. IsAnswer (asked command.entry) line.now) }
+pub(crate) fn answer(alloc: Global, command: Command<'_>) -> Result<&'static str, Fault>
+    ensures refused { IfErr result IsRefusal }
+    ensures answer { IfOk result (λ line. IsAnswer (asked command.entry) line.now) }
 {
     let collator = mini_collator(alloc, command.strength)?;
     let order = collator.as_borrowed().compare(command.left, command.right)?;

@@ -1,3 +1,4 @@
+//! What the words of a command line ask for.
 ghost use Rattle.std.specs.Prelude.{◌≡◌, IfSome, IsTrue, map, string_bytes, option_map};
 ghost use Rattle.icu_comparison.specs.Order.{is_at_most_tertiary};
 ghost use Rattle.collate.specs.Commands.{command_of, strength_named};
@@ -13,7 +14,7 @@ pub(crate) struct Command<'a> {
     ghost few_levels: { IsTrue (is_at_most_tertiary strength) },
 }
 
-// The strength that a word names.
+/// The strength that a word names.
 fn strength_named(word: &str) -> Option<Strength>
     ensures value { result ≡ strength_named word.now }
     ensures few_levels { IfSome result (λ s. IsTrue (is_at_most_tertiary s)) }

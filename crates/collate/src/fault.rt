@@ -1,13 +1,19 @@
+//! What keeps the program from printing an answer.
 ghost use Rattle.std.specs.Prelude.{◌≡◌};
 
-/// What keeps the program from answering.
+use icu_entries::{DataError, DataErrorKind};
+use std::alloc::AllocError;
+
+/// What keeps the program from printing an answer.
 #[derive(Debug, Clone, Copy, PartialEq, Eq)]
 pub enum Fault {
     /// The words are no command.
     WrongWords,
-    /// A growth was refused.
+    /// An allocation failed.
     NoMemory,
-    /// Standard output took no more.
+    /// The program's own tables fail a condition. They don't, as each run shows; no proof says so.
+    TablesRefused,
+    /// A write to standard output failed.
     WriteFailed,
 }
 
@@ -20,7 +26,7 @@ impl Fault {
     {
         match self {
             Fault::WrongWords => 2,
-            Fault::NoMemory | Fault::WriteFailed => 1,
+            Fault::NoMemory | Fault::TablesRefused | Fault::WriteFailed => 1,
         }
     }
 
@@ -33,7 +39,29 @@ impl Fault {
                 "usage: collate compare STRENGTH A B | collate key STRENGTH TEXT | collate sort STRENGTH\n"
             }
             Fault::NoMemory => "collate: no memory\n",
+            Fault::TablesRefused => "collate: tables refused\n",
             Fault::WriteFailed => "collate: write failed\n",
+        }
+    }
+}
+
+impl From<AllocError> for Fault {
+    ghost from_gives = { λ _ fault. fault ≡ Fault.NoMemory };
+
+    fn from(_: AllocError) -> Fault {
+        Fault::NoMemory
+    }
+}
+
+impl From<DataError> for Fault {
+    ghost use Rattle.collate.specs.Faults.{fault_of};
+
+    ghost from_gives = { λ refusal fault. fault ≡ fault_of refusal.kind };
+
+    fn from(refusal: DataError) -> Fault {
+        match refusal.kind {
+            DataErrorKind::NoMemory => Fault::NoMemory,
+            _ => Fault::TablesRefused,
         }
     }
 }

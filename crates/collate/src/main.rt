@@ -9,20 +9,16 @@ mod writing;
 
 use fault::Fault;
 use program::{report, run};
-use std::alloc::AllocError;
 use std::process::ExitCode;
 use std::{env, io};
 
-// The words after the program's name. An argument that is not UTF-8 is no word of a command.
+/// The words after the program's name. An argument that is not UTF-8 is no word of a command.
 fn words(rt: &HostRuntime) -> Result<Vec<String>, Fault> {
     let arguments = env::args(rt).map_err(fault_of)?;
-    match arguments.skip(1).collect(rt.alloc()) {
-        Ok(words) => Ok(words),
-        Err(AllocError) => Err(Fault::NoMemory),
-    }
+    Ok(arguments.skip(1).collect(rt.alloc())?)
 }
 
-// What a failure to read the arguments is.
+/// What a failure to read the arguments is.
 fn fault_of(error: io::Error) -> Fault {
     match error.kind() {
         io::ErrorKind::InvalidData => Fault::WrongWords,

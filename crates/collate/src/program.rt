@@ -1,8 +1,10 @@
-ghost use Rattle.std.specs.Prelude.{◌≡◌, ◌≤◌, ◌↔◌, Err, None, IfSome, OnOk, map, string_bytes, ◌⊎◌};
+//! One run of the program.
+ghost use Rattle.std.specs.Prelude.{◌≡◌, ◌≤◌, ◌↔◌, Err, None, IfSome, OnOk, map, string_bytes};
 ghost use Rattle.std.specs.Io.KnownBytes.{Keeps};
 ghost use Rattle.collate.specs.Commands.{command_of};
 ghost use Rattle.collate.specs.Faults.{status_of};
-ghost use Rattle.collate.specs.Runs.{Says, PrintsAnswer, PrintsBeginning, LacksMemory, FailsToWrite};
+ghost use Rattle.collate.specs.Refusals.{TablesFail};
+ghost use Rattle.collate.specs.Runs.{Says, PrintsAnswer, PrintsBeginning, Fails};
 
 use crate::answer::answer;
 use crate::command::Command;
@@ -11,12 +13,11 @@ use crate::writing::write_text;
 use std::alloc::Global;
 use std::io::{Read, Write};
 
-/// Makes one run of the program `collate` over the words after its name, and answers the status that it ends with.
+/// Makes one run of the program `collate` over the words after its name, and returns the status that it ends with.
 ///
 /// - 0: the answer stands on `output`, and nothing on `faults`.
-/// - 1: memory was refused, and nothing stands on `output`; or a write failed, and a beginning of the answer stands
-///   there. `faults` says which. A refusal of the program's own tables would be answered as one of memory; tests show that they
-///   aren't refused.
+/// - 1: an allocation failed, or the program's own tables fail a condition, and nothing stands on `output`; or a write to
+///   `output` failed, or its flush, and a beginning of the answer stands there. `faults` says which.
 /// - 2: the words are no command. `faults` says what commands there are.
 ///
 /// A failed write to `faults` changes no status. No command reads `input` yet.
@@ -29,13 +30,15 @@ pub fn run<R: Read, W: Write, E: Write>(
 ) -> u8
     ensures statuses { result ≤ 2 }
     ensures wrong_words { (result ≡ 2) ↔ (command_of (map string_bytes words.now) ≡ None) }
-    ensures usage { result ≡ 2 → Says Fault.WrongWords (E.contents faults.old) (E.contents faults.new) }
+    ensures usage { result ≡ 2
+        → Says Fault.WrongWords (E.contents faults.old) (E.contents faults.new) }
     ensures nothing { result ≡ 2 → Keeps (W.contents output.old) (W.contents output.new) }
-    ensures answer { result ≡ 0 → IfSome (command_of (map string_bytes words.now)) (PrintsAnswer (W.contents output.old) (W.contents output.new)) }
+    ensures answer { result ≡ 0 → IfSome (command_of (map string_bytes words.now))
+        (PrintsAnswer (W.contents output.old) (W.contents output.new)) }
     ensures no_fault { result ≡ 0 → Keeps (E.contents faults.old) (E.contents faults.new) }
     ensures refused { result ≡ 1 → IfSome (command_of (map string_bytes words.now)) (λ asked.
-        LacksMemory (W.contents output.old) (W.contents output.new) (E.contents faults.old) (E.contents faults.new)
-        ⊎ FailsToWrite asked (W.contents output.old) (W.contents output.new) (E.contents faults.old) (E.contents faults.new)) }
+        Fails asked (W.contents output.old) (W.contents output.new)
+        (E.contents faults.old) (E.contents faults.new)) }
 {
     match print_answer(alloc, words, output) {
         Ok(()) => 0,
@@ -43,27 +46,34 @@ pub fn run<R: Read, W: Write, E: Write>(
     }
 }
 
-// Prints the answer, or says what keeps it from being printed.
+/// Prints the answer, or says what keeps it from being printed.
 fn print_answer<W: Write>(alloc: Global, words: &[String], output: &mut W) -> Result<(), Fault>
-    ensures ok { OnOk result (IfSome (command_of (map string_bytes words.now)) (PrintsAnswer (W.contents output.old) (W.contents output.new))) }
-    ensures wrong_words { (result ≡ Err Fault.WrongWords) ↔ (command_of (map string_bytes words.now) ≡ None) }
-    ensures nothing { result ≡ Err Fault.WrongWords → Keeps (W.contents output.old) (W.contents output.new) }
-    ensures no_memory { result ≡ Err Fault.NoMemory → Keeps (W.contents output.old) (W.contents output.new) }
-    ensures write_failed { result ≡ Err Fault.WriteFailed → IfSome (command_of (map string_bytes words.now)) (PrintsBeginning (W.contents output.old) (W.contents output.new)) }
+    ensures ok { OnOk result (IfSome (command_of (map string_bytes words.now))
+        (PrintsAnswer (W.contents output.old) (W.contents output.new))) }
+    ensures wrong_words { (result ≡ Err Fault.WrongWords)
+        ↔ (command_of (map string_bytes words.now) ≡ None) }
+    ensures nothing { result ≡ Err Fault.WrongWords
+        → Keeps (W.contents output.old) (W.contents output.new) }
+    ensures no_memory { result ≡ Err Fault.NoMemory
+        → Keeps (W.contents output.old) (W.contents output.new) }
+    ensures fail { result ≡ Err Fault.TablesRefused → TablesFail }
+    ensures tables { result ≡ Err Fault.TablesRefused
+        → Keeps (W.contents output.old) (W.contents output.new) }
+    ensures write_failed { result ≡ Err Fault.WriteFailed
+        → IfSome (command_of (map string_bytes words.now))
+        (PrintsBeginning (W.contents output.old) (W.contents output.new)) }
 {
     let Some(command) = Command::parse(words) else {
         return Err(Fault::WrongWords);
     };
-    let Ok(line) = answer(alloc, command) else {
-        return Err(Fault::NoMemory);
-    };
+    let line = answer(alloc, command)?;
     match write_text(output, line.as_bytes()) {
         Ok(()) => Ok(()),
         Err(_) => Err(Fault::WriteFailed),
     }
 }
 
-/// Says on standard error what kept the program from answering, and answers its status. That a write fails there
+/// Writes to standard error what kept the program from printing an answer, and returns its status. That a write fails there
 /// changes nothing.
 pub fn report<E: Write>(fault: Fault, faults: &mut E) -> u8
     ensures status { result ≡ status_of fault }

@@ -1,3 +1,4 @@
+//! How a text is written.
 ghost use Rattle.std.specs.Prelude.{OnOk, OnErr};
 ghost use Rattle.std.specs.Io.KnownBytes.{Appends, WriteAppends};
 ghost use Rattle.std.specs.Io.{WritesAtMost};
@@ -5,7 +6,7 @@ ghost use Rattle.collate.specs.Writing.{AppendsBeginning};
 
 use std::io::{Error, ErrorKind, Result, Write};
 
-/// Writes a text, or a beginning of it where a write fails.
+/// Writes a text and flushes it, or a beginning of it where a write or the flush fails.
 pub(crate) fn write_text<W: Write>(writer: &mut W, text: &[u8]) -> Result<()>
     ensures ok { OnOk result (Appends (W.contents writer.old) (W.contents writer.new) text.now) }
     ensures err { OnErr result (AppendsBeginning (W.contents writer.old) (W.contents writer.new) text.now) }
@@ -20,7 +21,7 @@ pub(crate) fn write_text<W: Write>(writer: &mut W, text: &[u8]) -> Result<()>
     Err(Error::from(ErrorKind::WriteZero))
 }
 
-// Writes a beginning of the text, which is empty where a signal came first, and says how long it is.
+/// Writes a beginning of the text, which is empty where a signal came first, and returns how long it is.
 fn write_some<W: Write>(writer: &mut W, text: &[u8]) -> Result<usize>
     ensures bound { WritesAtMost result text.now }
     ensures bytes { WriteAppends (W.contents writer.old) (W.contents writer.new) result text.now }

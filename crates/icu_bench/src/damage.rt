@@ -210,7 +210,7 @@ fn lend_unchecked(held: &TableData) -> Result<CollationData<'_>, DataErrorKind> 
         held.rows.as_slice(),
         held.chars.as_slice(),
     )?;
-    Ok(CollationData::from_parts(trie, held.ces.as_slice(), held.ce32s.as_slice(), contexts))
+    Ok(CollationData::new_unchecked(trie, held.ces.as_slice(), held.ce32s.as_slice(), contexts))
 }
 
 fn lend_tailoring_unchecked(mini: &Mini) -> Result<Option<CollationData<'_>>, DataErrorKind> {

@@ -6,16 +6,16 @@ use Rattle.std.proofs.lemmas.List.Elements.{Contains-append_left, Contains-appen
 use Rattle.std.specs.List.{Contains}
 use Rattle.icu_data.specs.declared.data.CollationData.{CollationData}
 use Rattle.icu_entries.specs.declared.error.DataTable.TheVariants.{Root, Jamo, SpecialPrimaries, Metadata, Tailoring, Reordering, Diacritics}
-use Rattle.icu_entries.specs.Elements.{accent_element}
+use Rattle.icu_entries.specs.Elements.{of_secondary}
 use Rattle.icu_data.specs.DataConditions.{is_readable}
 use Rattle.icu_data.specs.Final.{final_elements}
 use Rattle.icu_data.specs.Data.{Data, homed}
 use Rattle.icu_provider.specs.Tables.{is_jamo}
 use Rattle.icu_data.specs.Live.{live_from, live_at}
 use Rattle.icu_data.specs.LiveWeights.{IsWeightAmong, IsLiveWeight}
-use Rattle.icu_provider.specs.Diacritics.{is_replaced_place}
+use Rattle.icu_provider.specs.Diacritics.{is_replaced_index}
 use Rattle.icu_data.specs.StoredData.{data_of}
-use Rattle.icu_provider.specs.StoredTables.{jamo_of, accents_of}
+use Rattle.icu_provider.specs.StoredTables.{jamo_of, diacritics_of}
 use Rattle.icu_checks.specs.declared.table_set.TableSet.{TableSet}
 use Rattle.icu_checks.specs.declared.weights.Level.{Level}
 use Rattle.icu_checks.specs.CollatorTables.{CollatorTables}
@@ -181,7 +181,7 @@ module _ (level : Level) (all : CollatorTables) where
   pub accents_same : (n : ℕ) → n ≡ length all.tables.diacritics → (w : ℕ) → IsBelow (IsAccentWeight level all) n w ↔ IsWeightBy level Diacritics all.tables w
   accents_same n count w = (
     λ is. record {
-      x = accent_element (slice_index all.tables.diacritics is.place);
+      x = of_secondary (slice_index all.tables.diacritics is.place);
       read = record { place = is.place; inside = subst (λ n. is.place < n) count is.below; kept = is.is.kept; is = refl };
       weighs = is.is.weighs;
     },
@@ -237,7 +237,7 @@ module _ (s : TableSet) (level : Level) where
       adds_same (IsBelow (IsJamoWeight level (tables_in s)) 256) (IsWeightBy level Jamo (tables_in s).tables) old new (jamo_same level (tables_in s))
       (subst (λ n. Adds (IsBelow (IsJamoWeight level (tables_in s)) n) old new) count adds)
 
-  pub lent_accents : (n : ℕ) → n ≡ length (accents_of s.diacritics) → (old new : List ℕ) → Adds (IsBelow (IsAccentWeight level (tables_in s)) n) old new → Adds (IsWeightBy level Diacritics (tables_in s).tables) old new
+  pub lent_accents : (n : ℕ) → n ≡ length (diacritics_of s.diacritics) → (old new : List ℕ) → Adds (IsBelow (IsAccentWeight level (tables_in s)) n) old new → Adds (IsWeightBy level Diacritics (tables_in s).tables) old new
   unfolding tables_in
   lent_accents n count old new adds = adds_same (IsBelow (IsAccentWeight level (tables_in s)) n) (IsWeightBy level Diacritics (tables_in s).tables) old new (accents_same level (tables_in s) n count) adds
 
@@ -248,9 +248,9 @@ module _ (s : TableSet) (level : Level) where
   none_some_weight w h = cc
 
   abbrev accent_weight : ℕ → Option ℕ
-  accent_weight i = weight_at level (accent_element (slice_index (accents_of s.diacritics) i))
+  accent_weight i = weight_at level (of_secondary (slice_index (diacritics_of s.diacritics) i))
 
-  pub lent_accent : (i v : ℕ) → is_replaced_place i ≡ false → accent_weight i ≡ Some v → (old new : List ℕ) → new ≡ old ++ v ∷ [] → Adds (IsAccentWeight level (tables_in s) i) old new
+  pub lent_accent : (i v : ℕ) → is_replaced_index i ≡ false → accent_weight i ≡ Some v → (old new : List ℕ) → new ≡ old ++ v ∷ [] → Adds (IsAccentWeight level (tables_in s) i) old new
   unfolding tables_in
   lent_accent i v kept weighs old new is =
       adds_one (IsAccentWeight level (tables_in s) i) old new v is (record { kept = kept; weighs = weighs }) (λ w p. same_some_weight v w (sym weighs ∙ p.weighs))
@@ -263,5 +263,5 @@ module _ (s : TableSet) (level : Level) where
   true_false true h k = cc
   true_false false h k = cc
 
-  pub lent_replaced : (i : ℕ) → is_replaced_place i ≡ true → (old : List ℕ) → Adds (IsAccentWeight level (tables_in s) i) old old
+  pub lent_replaced : (i : ℕ) → is_replaced_index i ≡ true → (old : List ℕ) → Adds (IsAccentWeight level (tables_in s) i) old old
   lent_replaced i replaced old = adds_none (IsAccentWeight level (tables_in s) i) old old refl (λ w p. true_false _ replaced p.kept)

@@ -107,7 +107,7 @@ module _ (all : CollatorTables) where
 
   pub readable : (home : Data) (c e : ℕ) → ((condition : LiveCondition) → IsTrue (meets condition home c e)) → IsTrue (is_readable home c e)
   unfolding is_readable
-  readable home c e own = all_three (is_inside home e) (has_known_members home e) (fits_offset home c e) (own live.Places) (and_parts (has_known_byte e) (has_known_members home e) (own live.Bytes)).1 (own live.Offsets)
+  readable home c e own = all_three (is_inside home e) (has_known_members home e) (fits_offset home c e) (own live.Indices) (and_parts (has_known_byte e) (has_known_members home e) (own live.Bytes)).1 (own live.Offsets)
 
   pub entry_none : (table : DataTable) (home : Data) (c e : ℕ) → entry_fault all table home c e ≡ None → EntryPasses home c e
   unfolding entry_fault

@@ -1,7 +1,7 @@
 -- Copies of tables say what the tables say.
 use Rattle.std.proofs.Common.{◌≡◌, Result, Ok, IfOk, Option, option_map, refl, subst}
 use Rattle.icu_data.specs.StoredData.{data_of}
-use Rattle.icu_provider.specs.StoredTables.{jamo_of, accents_of, special_of, reordering_of}
+use Rattle.icu_provider.specs.StoredTables.{jamo_of, diacritics_of, special_of, reordering_of}
 use Rattle.icu_checks.specs.declared.kept_data.KeptData.{KeptData}
 use Rattle.icu_checks.specs.declared.kept_tables.KeptDiacritics.{KeptDiacritics}
 use Rattle.icu_checks.specs.declared.kept_tables.KeptJamo.{KeptJamo}
@@ -17,7 +17,7 @@ held P r t is h = subst (λ r. IfOk r P) is h
 
 pub same_tables : (s : TableSet) (root : KeptData) (jamo : KeptJamo) (special : KeptSpecialPrimaries) (tailoring : Option KeptData) (reordering : Option KeptReordering) (diacritics : KeptDiacritics)
     → kept_data root ≡ data_of s.root → kept_jamo jamo ≡ jamo_of s.jamo → kept_special special ≡ special_of s.special
-    → option_map kept_data tailoring ≡ option_map data_of s.tailoring → option_map kept_reordering reordering ≡ option_map reordering_of s.reordering → kept_accents diacritics ≡ accents_of s.diacritics
+    → option_map kept_data tailoring ≡ option_map data_of s.tailoring → option_map kept_reordering reordering ≡ option_map reordering_of s.reordering → kept_accents diacritics ≡ diacritics_of s.diacritics
     → kept_tables root jamo special s.metadata tailoring reordering diacritics ≡ tables_in s
 unfolding kept_tables tables_in
 same_tables s root jamo special tailoring reordering diacritics a b c d e f = rw (a, b, c, d, e, f) refl

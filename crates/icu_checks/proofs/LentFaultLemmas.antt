@@ -7,10 +7,10 @@ use Rattle.icu_data.specs.declared.data.CollationData.{CollationData}
 use Rattle.icu_entries.specs.declared.error.DataTable.TheVariants.{Root, Jamo, Tailoring, Diacritics}
 use Rattle.icu_provider.specs.Tables.{is_jamo}
 use Rattle.icu_data.specs.Live.{live_from, EachLive}
-use Rattle.icu_provider.specs.Diacritics.{is_replaced_place}
-use Rattle.icu_entries.specs.Elements.{Element, accent_element}
+use Rattle.icu_provider.specs.Diacritics.{is_replaced_index}
+use Rattle.icu_entries.specs.Elements.{Element, of_secondary}
 use Rattle.icu_data.specs.StoredData.{data_of}
-use Rattle.icu_provider.specs.StoredTables.{jamo_of, accents_of}
+use Rattle.icu_provider.specs.StoredTables.{jamo_of, diacritics_of}
 use Rattle.icu_data.specs.Faults.{IsFaultAmong, IsLiveFault}
 use Rattle.icu_data.proofs.FaultLemmas.{weaker_some, not_before, earlier-none}
 use Rattle.icu_checks.specs.declared.condition.ElementCondition.{ElementCondition}
@@ -91,7 +91,7 @@ module _ (s : TableSet) where
 
 module _ (s : TableSet) where
   abbrev accent_at : ℕ → Element
-  accent_at i = accent_element (slice_index (accents_of s.diacritics) i)
+  accent_at i = of_secondary (slice_index (diacritics_of s.diacritics) i)
 
   no_fault : (o : Option ElementCondition) → option_map (of_element Diacritics) o ≡ None → o ≡ None
   no_fault None h = refl
@@ -101,7 +101,7 @@ module _ (s : TableSet) where
   unfolding tables_in
   lent_accent i x is none = λ kept. subst (λ x. (condition : ElementCondition) → IsTrue (element_meets condition (tables_in s) x)) is (passes_element (tables_in s) x (no_fault _ none))
 
-  pub lent_accents : ((i : ℕ) → i < length (accents_of s.diacritics) → AccentMeets (tables_in s) i) → MeetsIn Diacritics (tables_in s)
+  pub lent_accents : ((i : ℕ) → i < length (diacritics_of s.diacritics) → AccentMeets (tables_in s) i) → MeetsIn Diacritics (tables_in s)
   unfolding tables_in
   lent_accents each = record {
     entries = λ condition home c e is. absurd is;
@@ -109,7 +109,7 @@ module _ (s : TableSet) where
     elements = λ condition x is. subst (λ x. IsTrue (element_meets condition (tables_in s) x)) (sym is.is) (each is.place is.inside is.kept condition);
   }
 
-  pub lent_accent_true : (i : ℕ) → i < length (accents_of s.diacritics) → is_replaced_place i ≡ false → (x : Element) → x ≡ accent_element (slice_index (accents_of s.diacritics) i) → IfSome (element_fault (tables_in s) Diacritics x) (IsTrueFault (tables_in s))
+  pub lent_accent_true : (i : ℕ) → i < length (diacritics_of s.diacritics) → is_replaced_index i ≡ false → (x : Element) → x ≡ of_secondary (slice_index (diacritics_of s.diacritics) i) → IfSome (element_fault (tables_in s) Diacritics x) (IsTrueFault (tables_in s))
   unfolding tables_in
   lent_accent_true i inside kept x is = element_true (tables_in s) Diacritics x (record { place = i; inside = inside; kept = kept; is = is })
 

@@ -11,8 +11,8 @@ use Rattle.icu_levels.specs.Premises.{IsPrefixFree}
 use Rattle.icu_entries.specs.declared.error.DataTable.{DataTable}
 use Rattle.icu_entries.specs.declared.error.DataTable.TheVariants.{Root, Jamo, SpecialPrimaries, Metadata, Tailoring, Reordering, Diacritics}
 use Rattle.icu_data.specs.declared.live_condition.LiveCondition.TheVariants as live
-use Rattle.icu_provider.specs.Diacritics.{is_replaced_place, is_accent}
-use Rattle.icu_entries.specs.Elements.{Element, common, accent_element}
+use Rattle.icu_provider.specs.Diacritics.{is_replaced_index, is_diacritic_weight}
+use Rattle.icu_entries.specs.Elements.{Element, common, of_secondary}
 use Rattle.icu_entries.specs.ElementConditions.{tertiary_of, has_shape, has_leads, has_secondary_lead, has_tertiary_lead}
 use Rattle.icu_data.specs.Final.{final_elements}
 use Rattle.icu_data.specs.Data.{homed}
@@ -82,9 +82,9 @@ tertiary_common : (t : ℕ) → IsTrue (has_tertiary_lead t) → t ≢ 0 → t /
 unfolding has_tertiary_lead
 tertiary_common t h some lead = grind (arith, nat_tests)
 
-accent_leads : (s : ℕ) → IsTrue (is_accent true s) → IsTrue (has_leads true (accent_element s))
-unfolding is_accent
-accent_leads s h = third_of_three (not (s == 0)) (has_shape (accent_element s)) (has_leads true (accent_element s)) h
+accent_leads : (s : ℕ) → IsTrue (is_diacritic_weight true s) → IsTrue (has_leads true (of_secondary s))
+unfolding is_diacritic_weight
+accent_leads s h = third_of_three (not (s == 0)) (has_shape (of_secondary s)) (has_leads true (of_secondary s)) h
 
 secondary_weight : (x : Element) → weight_at Secondary x ≡ left_aligned x.secondary
 unfolding weight_at
@@ -117,7 +117,7 @@ module _ (all : CollatorTables) (met : LiveMeets all) (tables : AreTables all) w
   accent_has_leads x is =
       let s : ℕ = slice_index all.tables.diacritics is.place in
       subst (λ x. IsTrue (has_leads true x)) (sym is.is)
-      (accent_leads s (otherwise (is_replaced_place is.place) (is_accent true s) (tables.diacritics.accents is.place is.inside) is.kept))
+      (accent_leads s (otherwise (is_replaced_index is.place) (is_diacritic_weight true s) (tables.diacritics.weights is.place is.inside) is.kept))
 
   leads_of : (table : DataTable) (x : Element) → IsElementBy table all.tables x → IsTrue (has_leads true x)
   leads_of Root x is = entry_leads Root met.root x is

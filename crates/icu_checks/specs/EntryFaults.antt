@@ -4,8 +4,8 @@ use Rattle.std.specs.List.{AllByRecursion}
 use Rattle.icu_entries.specs.declared.error.DataTable.{DataTable}
 use Rattle.icu_entries.specs.declared.error.DataTable.TheVariants as tables
 use Rattle.icu_data.specs.declared.live_condition.LiveCondition.{LiveCondition}
-use Rattle.icu_provider.specs.Diacritics.{is_replaced_place}
-use Rattle.icu_entries.specs.Elements.{Element, of_primary, accent_element}
+use Rattle.icu_provider.specs.Diacritics.{is_replaced_index}
+use Rattle.icu_entries.specs.Elements.{Element, of_primary, of_secondary}
 use Rattle.icu_entries.specs.Weights.{implicit_weight}
 use Rattle.icu_data.specs.Data.{Data, homed}
 use Rattle.icu_data.specs.Final.{final_elements}
@@ -70,8 +70,8 @@ JamoPasses all i =
 -- the element of the diacritic at this place, if decomposed texts have it, meets the conditions on elements
 abbrev pub AccentMeets : CollatorTables → ℕ → Type 0
 AccentMeets all i =
-    is_replaced_place i ≡ false → (condition : ElementCondition)
-    → IsTrue (element_meets condition all (accent_element (slice_index all.tables.diacritics i)))
+    is_replaced_index i ≡ false → (condition : ElementCondition)
+    → IsTrue (element_meets condition all (of_secondary (slice_index all.tables.diacritics i)))
 
 -- what is live by a table meets the conditions on entries, and on elements
 pub record MeetsIn (table : DataTable) (all : CollatorTables) : Type 0 where

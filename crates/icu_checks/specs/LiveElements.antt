@@ -3,11 +3,11 @@ use Rattle.std.specs.Prelude.{ℕ, ◌≡◌, ◌<◌, false, List, length, slic
 use Rattle.std.specs.List.{Contains}
 use Rattle.icu_entries.specs.declared.error.DataTable.{DataTable}
 use Rattle.icu_entries.specs.declared.error.DataTable.TheVariants.{Root, Jamo, Tailoring, Diacritics}
-use Rattle.icu_entries.specs.Elements.{Element, accent_element}
+use Rattle.icu_entries.specs.Elements.{Element, of_secondary}
 use Rattle.icu_data.specs.Data.{Data, homed}
 use Rattle.icu_provider.specs.Tables.{Tables}
 use Rattle.icu_data.specs.Final.{final_elements}
-use Rattle.icu_provider.specs.Diacritics.{is_replaced_place}
+use Rattle.icu_provider.specs.Diacritics.{is_replaced_index}
 use Rattle.icu_provider.specs.LiveTables.{IsLiveInRoot, IsLiveInJamo, IsLiveInTailoring}
 
 -- the entry, whose lists stand in this home, is live with the character by a table
@@ -29,8 +29,8 @@ pub record IsOfEntryBy (table : DataTable) (tables : Tables) (x : Element) : Typ
 pub record IsOfAccent (secondaries : List ℕ) (x : Element) : Type 0 where
   pub place : ℕ
   pub inside : place < length secondaries
-  pub kept : is_replaced_place place ≡ false
-  pub is : x ≡ accent_element (slice_index secondaries place)
+  pub kept : is_replaced_index place ≡ false
+  pub is : x ≡ of_secondary (slice_index secondaries place)
 
 -- the element is live by a table
 abbrev pub IsElementBy : DataTable → Tables → Element → Type 0

@@ -7,7 +7,7 @@ use Rattle.icu_provider.specs.declared.metadata.CollationMetadata.{CollationMeta
 use Rattle.icu_provider.specs.declared.reordering.CollationReordering.{CollationReordering}
 use Rattle.icu_provider.specs.declared.special_primaries.CollationSpecialPrimaries.{CollationSpecialPrimaries}
 use Rattle.icu_data.specs.StoredData.{data_of}
-use Rattle.icu_provider.specs.StoredTables.{jamo_of, accents_of, special_of, reordering_of}
+use Rattle.icu_provider.specs.StoredTables.{jamo_of, diacritics_of, special_of, reordering_of}
 use Rattle.icu_checks.specs.declared.table_set.TableSet.{TableSet}
 use Rattle.icu_checks.specs.CollatorTables.{CollatorTables}
 
@@ -17,7 +17,7 @@ tables_in s = record {
     root = data_of s.root;
     tailoring = option_map data_of s.tailoring;
     jamo = jamo_of s.jamo;
-    diacritics = accents_of s.diacritics;
+    diacritics = diacritics_of s.diacritics;
   };
   special = special_of s.special;
   bits = s.metadata.bits;

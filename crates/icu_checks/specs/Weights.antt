@@ -3,8 +3,8 @@ use Rattle.std.specs.Prelude.{ℕ, ◌≡◌, ◌↔◌, ◌⊎◌, ◌<◌, ◌
 use Rattle.std.specs.List.{Contains}
 use Rattle.icu_entries.specs.declared.error.DataTable.{DataTable}
 use Rattle.icu_entries.specs.declared.error.DataTable.TheVariants.{Diacritics}
-use Rattle.icu_provider.specs.Diacritics.{is_replaced_place}
-use Rattle.icu_entries.specs.Elements.{Element, common, accent_element}
+use Rattle.icu_provider.specs.Diacritics.{is_replaced_index}
+use Rattle.icu_entries.specs.Elements.{Element, common, of_secondary}
 use Rattle.icu_entries.specs.ElementConditions.{tertiary_of}
 use Rattle.icu_data.specs.DataConditions.{is_readable}
 use Rattle.icu_data.specs.Final.{final_elements}
@@ -77,5 +77,5 @@ IsJamoWeight level all place w =
 
 -- the weight of the diacritic at a place
 pub record IsAccentWeight (level : Level) (all : CollatorTables) (place w : ℕ) : Type 0 where
-  pub kept : is_replaced_place place ≡ false
-  pub weighs : weight_at level (accent_element (slice_index all.tables.diacritics place)) ≡ Some w
+  pub kept : is_replaced_index place ≡ false
+  pub weighs : weight_at level (of_secondary (slice_index all.tables.diacritics place)) ≡ Some w

@@ -1,6 +1,6 @@
 ghost use Rattle.std.specs.Prelude.{◌≡◌, Ok, IsOk, IfOk, IfErr, option_map};
 ghost use Rattle.icu_data.specs.StoredData.{data_of};
-ghost use Rattle.icu_provider.specs.StoredTables.{jamo_of, special_of, reordering_of, accents_of};
+ghost use Rattle.icu_provider.specs.StoredTables.{jamo_of, special_of, reordering_of, diacritics_of};
 ghost use Rattle.icu_checks.specs.TableSets.{tables_in, tables_of};
 ghost use Rattle.icu_checks.specs.Kept.{kept_data, kept_reordering, kept_tables};
 ghost use Rattle.icu_checks.specs.GoodTables.{IsGoodTables, IsTrueRefusal};
@@ -242,7 +242,7 @@ impl CheckedTables {
     /// The secondary weights of the diacritics.
     #[tactic(auto, unfolding(crate::specs::Kept::kept_tables))]
     pub fn diacritics(&self) -> CollationDiacritics<'_>
-        ensures { accents_of result ≡ (checked_tables self.now).tables.diacritics }
+        ensures { diacritics_of result ≡ (checked_tables self.now).tables.diacritics }
     {
         self.diacritics.lend()
     }

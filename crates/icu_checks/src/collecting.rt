@@ -1,6 +1,6 @@
 //! The weights that are compared with one another, collected table by table.
 ghost use Rattle.std.specs.Prelude.{◌≡◌, ◌<◌, OnOk, length, slice_index};
-ghost use Rattle.icu_provider.specs.StoredTables.{jamo_of, accents_of};
+ghost use Rattle.icu_provider.specs.StoredTables.{jamo_of, diacritics_of};
 ghost use Rattle.icu_checks.specs.TableSets.{tables_in};
 ghost use Rattle.icu_checks.specs.Weights.{Adds, IsWeightBy, IsJamoWeight, IsAccentWeight};
 
@@ -8,7 +8,7 @@ use crate::table_set::{TableSet, jamo_char};
 use crate::weights::Level;
 use icu_data::live_weights::{Weigh, collect_weights, collect_weights_from};
 use icu_entries::{CollationElement, CollationElement32, DataTable};
-use icu_provider::diacritics::is_replaced_place;
+use icu_provider::diacritics::is_replaced_index;
 use std::alloc::AllocError;
 
 fn collect_root(
@@ -79,10 +79,10 @@ fn collect_accent(
     secondary: u16,
     weights: &mut Vec<u32>,
 ) -> Result<(), AllocError>
-    requires secondary { secondary ≡ slice_index (accents_of tables.diacritics) place }
+    requires secondary { secondary ≡ slice_index (diacritics_of tables.diacritics) place }
     ensures { OnOk result (Adds (IsAccentWeight level (tables_in tables.entry) place) weights.old.items weights.new.items) }
 {
-    if is_replaced_place(place) {
+    if is_replaced_index(place) {
         return Ok(());
     }
     if let Some(weight) = level.weight(CollationElement::new_from_secondary(secondary)) {

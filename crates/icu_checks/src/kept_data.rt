@@ -47,11 +47,11 @@ impl KeptData {
     pub(crate) fn lend(&self) -> CollationData<'_>
         ensures { data_of result ≡ kept_data self.now }
     {
-        CollationData::from_parts(
-            CodePointTable::from_parts(self.blocks.as_slice(), self.values.as_slice()),
+        CollationData::new_unchecked(
+            CodePointTable::new_unchecked(self.blocks.as_slice(), self.values.as_slice()),
             self.ces.as_slice(),
             self.ce32s.as_slice(),
-            ContextTable::from_parts(
+            ContextTable::new_unchecked(
                 self.contexts.as_slice(),
                 self.rows.as_slice(),
                 self.chars.as_slice(),

@@ -2,7 +2,7 @@ ghost use Rattle.std.specs.Prelude.{◌≡◌, IfOk, length};
 ghost use Rattle.icu_provider.specs.Diacritics.{IsDiacritics};
 ghost use Rattle.icu_provider.specs.Jamo.{IsJamo};
 ghost use Rattle.icu_provider.specs.SpecialPrimaries.{IsSpecialPrimaries};
-ghost use Rattle.icu_provider.specs.StoredTables.{accents_of, jamo_of, reordering_of, special_of};
+ghost use Rattle.icu_provider.specs.StoredTables.{diacritics_of, jamo_of, reordering_of, special_of};
 
 use icu_provider::{
     CollationDiacritics, CollationJamo, CollationReordering, CollationSpecialPrimaries,
@@ -58,7 +58,7 @@ impl KeptJamo {
     pub(crate) fn lend(&self) -> CollationJamo<'_>
         ensures { jamo_of result ≡ kept_jamo self.now }
     {
-        CollationJamo::from_parts(self.ce32s.as_slice())
+        CollationJamo::new_unchecked(self.ce32s.as_slice())
     }
 }
 
@@ -71,7 +71,7 @@ impl KeptDiacritics {
         alloc: Global,
         diacritics: CollationDiacritics<'_>,
     ) -> Result<KeptDiacritics, AllocError>
-        ensures { IfOk result (λ k. kept_accents k ≡ accents_of diacritics.entry) }
+        ensures { IfOk result (λ k. kept_accents k ≡ diacritics_of diacritics.entry) }
     {
         Ok(KeptDiacritics {
             secondaries: Vec::from_slice(alloc, diacritics.secondaries())?,
@@ -81,9 +81,9 @@ impl KeptDiacritics {
     /// Lends them as they were, without a check.
     #[tactic(auto, unfolding(crate::specs::Kept::kept_accents))]
     pub(crate) fn lend(&self) -> CollationDiacritics<'_>
-        ensures { accents_of result ≡ kept_accents self.now }
+        ensures { diacritics_of result ≡ kept_accents self.now }
     {
-        CollationDiacritics::from_parts(self.secondaries.as_slice())
+        CollationDiacritics::new_unchecked(self.secondaries.as_slice())
     }
 }
 
@@ -111,7 +111,7 @@ impl KeptReordering {
     pub(crate) fn lend(&self) -> CollationReordering<'_>
         ensures { reordering_of result ≡ kept_reordering self.now }
     {
-        CollationReordering::from_parts(
+        CollationReordering::new_unchecked(
             self.min_high_no_reorder,
             self.reorder_table.as_slice(),
             self.reorder_ranges.as_slice(),
@@ -141,6 +141,9 @@ impl KeptSpecialPrimaries {
     pub(crate) fn lend(&self) -> CollationSpecialPrimaries<'_>
         ensures { special_of result ≡ kept_special self.now }
     {
-        CollationSpecialPrimaries::from_parts(self.last_primaries.as_slice(), self.numeric_primary)
+        CollationSpecialPrimaries::new_unchecked(
+            self.last_primaries.as_slice(),
+            self.numeric_primary,
+        )
     }
 }

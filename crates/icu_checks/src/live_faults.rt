@@ -1,6 +1,6 @@
 //! The first fault of all that is live in a collator's tables.
 ghost use Rattle.std.specs.Prelude.{◌≡◌, ◌+◌, ◌<◌, None, Some, IfSome, slice_index, length};
-ghost use Rattle.icu_provider.specs.StoredTables.{jamo_of, accents_of};
+ghost use Rattle.icu_provider.specs.StoredTables.{jamo_of, diacritics_of};
 ghost use Rattle.icu_checks.specs.TableSets.{tables_in};
 ghost use Rattle.icu_checks.specs.Faults.{IsTrueFault};
 ghost use Rattle.icu_checks.specs.EntryFaults.{JamoPasses, MeetsIn, AccentMeets, LiveMeets};
@@ -10,7 +10,7 @@ use crate::fault::Fault;
 use crate::table_set::{TableSet, jamo_char};
 use icu_data::fault::{earlier, first_fault, first_fault_from};
 use icu_entries::{CollationElement, CollationElement32, DataTable};
-use icu_provider::diacritics::is_replaced_place;
+use icu_provider::diacritics::is_replaced_index;
 
 fn root_fault(tables: TableSet<'_>) -> Option<Fault>
     ensures none { result ≡ None → MeetsIn DataTable.Root (tables_in tables.entry) }
@@ -75,12 +75,12 @@ fn jamo_fault(tables: TableSet<'_>) -> Option<Fault>
 
 /// The fault of the element of a diacritic.
 fn accent_fault(tables: TableSet<'_>, place: usize, secondary: u16) -> Option<Fault>
-    requires inside { place < length (accents_of tables.diacritics) }
-    requires secondary { secondary ≡ slice_index (accents_of tables.diacritics) place }
+    requires inside { place < length (diacritics_of tables.diacritics) }
+    requires secondary { secondary ≡ slice_index (diacritics_of tables.diacritics) place }
     ensures none { result ≡ None → AccentMeets (tables_in tables.entry) place }
     ensures some { IfSome result (IsTrueFault (tables_in tables.entry)) }
 {
-    if is_replaced_place(place) {
+    if is_replaced_index(place) {
         None
     } else {
         let element = CollationElement::new_from_secondary(secondary);

@@ -3,7 +3,7 @@ ghost use Rattle.std.specs.Prelude.{◌≡◌, Some, option_map};
 ghost use Rattle.icu_provider.specs.Loads.{answer};
 ghost use Rattle.icu_provider.specs.Metadata.{has_reordering, is_tailored};
 ghost use Rattle.icu_provider.specs.Requests.{request_of, without_type};
-ghost use Rattle.icu_provider.specs.StoredTables.{accents_of, reordering_of};
+ghost use Rattle.icu_provider.specs.StoredTables.{diacritics_of, reordering_of};
 ghost use Rattle.icu_data.specs.StoredData.{data_of};
 ghost use Rattle.icu_checks.specs.Loads.{diacritics_request, if_named, lent_tables, typed_first};
 ghost use Rattle.icu_checks.specs.TableSets.{tables_in};
@@ -104,7 +104,7 @@ fn load_diacritics<'p, P: CollationProvider>(
     request: DataRequest<'_>,
     metadata: CollationMetadata,
 ) -> Result<CollationDiacritics<'p>, DataError>
-    ensures { answer accents_of result ≡ (P.loads provider.now).diacritics (diacritics_request metadata.bits (request_of request.entry)) }
+    ensures { answer diacritics_of result ≡ (P.loads provider.now).diacritics (diacritics_request metadata.bits (request_of request.entry)) }
 {
     if metadata.tailored_diacritics() {
         provider.load_diacritics(request)

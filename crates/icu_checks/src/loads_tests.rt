@@ -2,7 +2,7 @@
 ghost use Rattle.std.specs.Prelude.{◌≡◌};
 ghost use Rattle.icu_provider.specs.Loads.{answer};
 ghost use Rattle.icu_provider.specs.Requests.{request_of};
-ghost use Rattle.icu_provider.specs.StoredTables.{accents_of, jamo_of, reordering_of, special_of};
+ghost use Rattle.icu_provider.specs.StoredTables.{diacritics_of, jamo_of, reordering_of, special_of};
 ghost use Rattle.icu_data.specs.StoredData.{data_of};
 ghost use Rattle.icu_checks.specs.WorkedLoads.{by_request};
 
@@ -104,7 +104,7 @@ impl<'d> Lender<'d> {
 }
 
 impl<'d> CollationProvider for Lender<'d> {
-    ghost loads = { λ l. record { root = answer data_of l.root; jamo = answer jamo_of l.jamo; special = answer special_of l.special; metadata = λ r. answer (λ m. m.bits) (by_request l.metadata.typed l.metadata.local l.metadata.root r); tailoring = λ r. answer data_of (by_request l.tailoring.typed l.tailoring.local l.tailoring.root r); reordering = λ r. answer reordering_of (by_request l.reordering.typed l.reordering.local l.reordering.root r); diacritics = λ r. answer accents_of (by_request l.diacritics.typed l.diacritics.local l.diacritics.root r) } };
+    ghost loads = { λ l. record { root = answer data_of l.root; jamo = answer jamo_of l.jamo; special = answer special_of l.special; metadata = λ r. answer (λ m. m.bits) (by_request l.metadata.typed l.metadata.local l.metadata.root r); tailoring = λ r. answer data_of (by_request l.tailoring.typed l.tailoring.local l.tailoring.root r); reordering = λ r. answer reordering_of (by_request l.reordering.typed l.reordering.local l.reordering.root r); diacritics = λ r. answer diacritics_of (by_request l.diacritics.typed l.diacritics.local l.diacritics.root r) } };
 
     fn load_root(&self) -> Result<CollationData<'_>, DataError> {
         self.note(DataTable::Root, false);
@@ -170,7 +170,7 @@ impl Storage {
     /// A table that is told from others by its entries.
     fn data<'d>(&'d self, entries: &'d [u32]) -> Result<CollationData<'d>, Fail> {
         let trie = CodePointTable::new(self.blocks.as_slice(), self.values.as_slice())?;
-        Ok(CollationData::from_parts(trie, &[], entries, ContextTable::empty()))
+        Ok(CollationData::new_unchecked(trie, &[], entries, ContextTable::empty()))
     }
 
     /// A provider that lends all tables to all requests.

@@ -37,7 +37,7 @@ fn data_is_lent_as_it_was(rt: HostRuntime) -> Result<(), Fail> {
         },
     ];
     let chars = ['a', 'b', '\u{10FFFF}'];
-    let data = CollationData::from_parts(
+    let data = CollationData::new_unchecked(
         CodePointTable::new(blocks.as_slice(), values.as_slice())?,
         &[0x6110_0000_0500_0500, 0x6210_0000_0500_0500],
         &[0x6110_0505, 0x6210_0505, 0x6310_0505],
@@ -68,7 +68,7 @@ fn data_without_lists_is_kept(rt: HostRuntime) -> Result<(), Fail> {
     let blocks = vec![in rt.alloc(); 0u16; 17408]?;
     let values = vec![in rt.alloc(); 0xC0u32; 64]?;
     let trie = CodePointTable::new(blocks.as_slice(), values.as_slice())?;
-    let data = CollationData::from_parts(trie, &[], &[], ContextTable::empty());
+    let data = CollationData::new_unchecked(trie, &[], &[], ContextTable::empty());
     let kept = KeptData::copy(rt.alloc(), data)?;
     let (lent_trie, lent_ces, lent_ce32s, lent_table) = kept.lend().parts();
     assert_eq!(rt; lent_trie.get('a'), 0xC0);

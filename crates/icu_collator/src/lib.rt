@@ -2,14 +2,21 @@
 //! `icu_collator`.
 //!
 //! A `Collator` is made of the tables that a `CollationProvider` lends, which are checked together, and of settings;
-//! `as_borrowed` lends it, and `compare` answers the order of two texts.
+//! `as_borrowed` lends it, and `compare` returns the order of two texts. The crate `sort_names` is a program over these
+//! names alone.
 #![tactic(auto)]
 
-pub use icu_comparison as comparison;
-pub use icu_comparison::{Collator, CollatorBorrowed};
+pub use comparison::{CollationKeySink, Collator, CollatorBorrowed};
 pub use icu_elements as elements;
 pub use icu_options as options;
 pub use icu_options::CollatorPreferences;
+
+/// Collators, what they compare, and where the bytes of sort keys go.
+pub mod comparison {
+    pub use icu_comparison::{Collator, CollatorBorrowed, laws};
+    pub use icu_keys::accumulator::AnyQuaternaryAccumulator;
+    pub use icu_keys::{CollationKeySink, SortKeyError, TooSmall};
+}
 
 /// Where the tables of collators come from, and the check that they pass.
 pub mod provider {

@@ -4,3 +4,4 @@ pub mod LiveElementLemmas
 pub mod SecondaryWeights
 pub mod TertiaryWeights
 pub mod PrimaryWeights
+pub mod FormWeights

@@ -9,9 +9,9 @@ use Rattle.std.proofs.lemmas.List.Sums.{AllPass-from_list_all}
 use Rattle.icu_entries.specs.declared.error.DataTable.{DataTable}
 use Rattle.icu_entries.specs.declared.error.DataTable.TheVariants.{Root, Jamo, SpecialPrimaries, Metadata, Tailoring, Reordering, Diacritics}
 use Rattle.icu_data.specs.declared.live_condition.LiveCondition.TheVariants.{Shapes, Leads, Primaries}
-use Rattle.icu_entries.specs.Elements.{Element, accent_element}
+use Rattle.icu_entries.specs.Elements.{Element, of_secondary}
 use Rattle.icu_entries.specs.ElementConditions.{has_shape, has_leads, has_primary_lead}
-use Rattle.icu_provider.specs.Diacritics.{is_replaced_place, is_accent}
+use Rattle.icu_provider.specs.Diacritics.{is_replaced_index, is_diacritic_weight}
 use Rattle.icu_data.specs.Data.{homed}
 use Rattle.icu_data.specs.Final.{final_elements}
 use Rattle.icu_checks.specs.declared.condition.Condition.TheVariants as conditions
@@ -35,13 +35,13 @@ where_some n b h some = other_part (n == 0) b h (grind (arith, nat_tests))
 member_passes : (p : Element → Bool) (xs : List Element) (x : Element) → IsTrue (list_all p xs) → Contains xs x → p x ≡ true
 member_passes p xs x passes is = All-contains (λ x. p x ≡ true) xs x (AllPass-from_list_all p xs passes) is
 
-accent-passes : (s : ℕ) → is_accent true s ≡ true → (has_shape (accent_element s) ≡ true) × (has_leads true (accent_element s) ≡ true)
-unfolding is_accent
+accent-passes : (s : ℕ) → is_diacritic_weight true s ≡ true → (has_shape (of_secondary s) ≡ true) × (has_leads true (of_secondary s) ≡ true)
+unfolding is_diacritic_weight
 accent-passes s h =
-    let parts = and_parts (not (s == 0) && has_shape (accent_element s)) (has_leads true (accent_element s)) h in
-    ((and_parts (not (s == 0)) (has_shape (accent_element s)) parts.0).1, parts.1)
+    let parts = and_parts (not (s == 0) && has_shape (of_secondary s)) (has_leads true (of_secondary s)) h in
+    ((and_parts (not (s == 0)) (has_shape (of_secondary s)) parts.0).1, parts.1)
 
-accent-primary : (s : ℕ) → has_primary_lead (accent_element s) ≡ true
+accent-primary : (s : ℕ) → has_primary_lead (of_secondary s) ≡ true
 unfolding has_primary_lead
 accent-primary s = refl
 
@@ -64,7 +64,7 @@ module _ (all : CollatorTables) (good : IsGoodTables all) where
   accent : (x : Element) → IsOfAccent all.tables.diacritics x → (has_shape x ≡ true) × (has_leads true x ≡ true)
   accent x is =
       let s = slice_index all.tables.diacritics is.place in
-      let is_one : is_accent true s ≡ true = other_part (is_replaced_place is.place) (is_accent true s) (good.tables.diacritics.accents is.place is.inside) is.kept in
+      let is_one : is_diacritic_weight true s ≡ true = other_part (is_replaced_index is.place) (is_diacritic_weight true s) (good.tables.diacritics.accents is.place is.inside) is.kept in
       subst (λ x. (has_shape x ≡ true) × (has_leads true x ≡ true)) (sym is.is) (accent-passes s is_one)
 
   pub live-shape : (table : DataTable) (x : Element) → IsElementBy table all.tables x → has_shape x ≡ true

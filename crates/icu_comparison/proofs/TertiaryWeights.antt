@@ -7,7 +7,9 @@ use Rattle.std.proofs.lemmas.Nat.Bits.{and_high}
 use Rattle.std.proofs.lemmas.Bool.{and_parts}
 use Rattle.std.proofs.lemmas.Bool.Decides.{nat_tests}
 use Rattle.icu_levels.specs.WeightBytes.{weight_bytes}
-use Rattle.icu_levels.specs.Tertiaries.{TertiaryForm, plain, lower_first, upper_first, tertiary_row}
+use Rattle.icu_levels.specs.Tertiaries.{tertiary_runs}
+use Rattle.icu_levels.specs.declared.forms.TertiaryForm.{TertiaryForm}
+use Rattle.icu_levels.specs.declared.forms.TertiaryForm.TheVariants.{WithoutCase, LowerFirst, UpperFirst}
 use Rattle.icu_levels.specs.Premises.{AreTertiaries, IsPrefixFree, least_tertiary_lead, greatest_tertiary_lead}
 use Rattle.icu_levels.proofs.MovedWeights.{begins_lead}
 use Rattle.icu_levels.proofs.CasedTertiaries.{lower_cased, upper_cased}
@@ -52,22 +54,22 @@ lead_from_test t h some = (grind (arith, nat_tests), (grind (arith, nat_tests), 
 -- ---- the common weight beside others
 
 abbrev WithCommon : TertiaryForm → (ℕ → Type 0) → ℕ → Type 0
-WithCommon form IsLive t = (t ≡ (tertiary_row form).common) ⊎ IsLive t
+WithCommon form IsLive t = (t ≡ (tertiary_runs form).common) ⊎ IsLive t
 
 least_some : (form : TertiaryForm) → 0 < least_tertiary_lead form
-least_some plain = lit< tt
-least_some lower_first = lit< tt
-least_some upper_first = lit< tt
+least_some WithoutCase = lit< tt
+least_some LowerFirst = lit< tt
+least_some UpperFirst = lit< tt
 
-common_least : (form : TertiaryForm) → least_tertiary_lead form ≤ (tertiary_row form).common / 256
-common_least plain = lit≤ tt
-common_least lower_first = lit≤ tt
-common_least upper_first = lit≤ tt
+common_least : (form : TertiaryForm) → least_tertiary_lead form ≤ (tertiary_runs form).common / 256
+common_least WithoutCase = lit≤ tt
+common_least LowerFirst = lit≤ tt
+common_least UpperFirst = lit≤ tt
 
-common_greatest : (form : TertiaryForm) → (tertiary_row form).common / 256 ≤ greatest_tertiary_lead form
-common_greatest plain = lit≤ tt
-common_greatest lower_first = lit≤ tt
-common_greatest upper_first = lit≤ tt
+common_greatest : (form : TertiaryForm) → (tertiary_runs form).common / 256 ≤ greatest_tertiary_lead form
+common_greatest WithoutCase = lit≤ tt
+common_greatest LowerFirst = lit≤ tt
+common_greatest UpperFirst = lit≤ tt
 
 module _ (form : TertiaryForm) (IsLive : ℕ → Type 0) (good : AreTertiaries form IsLive) where
   least : (w : ℕ) → WithCommon form IsLive w → least_tertiary_lead form ≤ w / 256
@@ -78,7 +80,7 @@ module _ (form : TertiaryForm) (IsLive : ℕ → Type 0) (good : AreTertiaries f
   greatest w (inl is) = subst (λ w. w / 256 ≤ greatest_tertiary_lead form) (sym is) (common_greatest form)
   greatest w (inr h) = good.greatest w h
 
-  leads : (w : ℕ) → WithCommon form IsLive w → w ≢ (tertiary_row form).common → w / 256 ≢ (tertiary_row form).common / 256
+  leads : (w : ℕ) → WithCommon form IsLive w → w ≢ (tertiary_runs form).common → w / 256 ≢ (tertiary_runs form).common / 256
   leads w (inl is) n = λ e. n is
   leads w (inr h) n = good.leads w h n
 
@@ -118,14 +120,14 @@ module _ (all : CollatorTables) (good : IsGoodTables all) where
   abbrev OfElement : TertiaryForm → ℕ → Type 0
   OfElement form = IsLiveWeight (masked_tertiary form) (tertiary_in form) all
 
-  plain_lead : (t : ℕ) → OfElement plain t → (2 ≤ t / 256) × ((t / 256 ≤ 0x3F) × (t ≢ 0x500 → t / 256 ≢ 5))
+  plain_lead : (t : ℕ) → OfElement WithoutCase t → (2 ≤ t / 256) × ((t / 256 ≤ 0x3F) × (t ≢ 0x500 → t / 256 ≢ 5))
   plain_lead t w =
       let x = w.element in
       let tests = and_parts (has_secondary_lead true x.secondary) (has_tertiary_lead (tertiary_of x)) (live-leads all good w.table x w.live) in
       subst (λ t. (2 ≤ t / 256) × ((t / 256 ≤ 0x3F) × (t ≢ 0x500 → t / 256 ≢ 5))) (sym w.is)
       (lead_from_test (tertiary_of x) tests.1 w.some)
 
-  plain_tertiaries : AreTertiaries plain (OfElement plain)
+  plain_tertiaries : AreTertiaries WithoutCase (OfElement WithoutCase)
   plain_tertiaries = record {
     least = λ t w. (plain_lead t w).0;
     greatest = λ t w. (plain_lead t w).1.0;
@@ -166,15 +168,15 @@ module _ (all : CollatorTables) (good : IsGoodTables all) where
         alone = alone_case x small parts.0 (good.each (conditions.Element LoneTertiary) table x live);
       }
 
-  of_plain : (table : DataTable) (x : Element) → IsElementBy table all.tables x → tertiary_of x ≢ 0 → OfElement plain (tertiary_of x)
+  of_plain : (table : DataTable) (x : Element) → IsElementBy table all.tables x → tertiary_of x ≢ 0 → OfElement WithoutCase (tertiary_of x)
   of_plain table x live some = record { table = table; element = x; live = live; some = some; is = refl }
 
-  lower_parts : (w : ℕ) → OfElement lower_first w → OfElement plain (w % 0x4000) × (w / 0x4000 < 3)
+  lower_parts : (w : ℕ) → OfElement LowerFirst w → OfElement WithoutCase (w % 0x4000) × (w / 0x4000 < 3)
   lower_parts v w =
       let x = w.element in
       let case = has_case w.table x w.live w.some in
       let low : v % 0x4000 ≡ tertiary_of x = ap (λ v. v % 0x4000) w.is ∙ cased_low x.lower in (
-        subst (OfElement plain) (sym low) (of_plain w.table x w.live case.some),
+        subst (OfElement WithoutCase) (sym low) (of_plain w.table x w.live case.some),
         omega (arith, w.is, cased_high x.lower case.small, case.rank),
       )
 
@@ -203,18 +205,18 @@ module _ (all : CollatorTables) (good : IsGoodTables all) where
   upper_of true l small rank two = added_parts l small (two refl)
   upper_of false l small rank two = inverted_parts l small rank
 
-  upper_parts : (w : ℕ) → OfElement upper_first w → OfElement plain (w % 0x4000) × (0 < w / 0x4000) × (w / 0x4000 < 4)
+  upper_parts : (w : ℕ) → OfElement UpperFirst w → OfElement WithoutCase (w % 0x4000) × (0 < w / 0x4000) × (w / 0x4000 < 4)
   upper_parts v w =
       let x = w.element in
       let case = has_case w.table x w.live w.some in
       let parts : UpperParts x.lower v = subst (UpperParts x.lower) (sym w.is)
       (upper_of (x.secondary == 0) x.lower case.small case.rank (λ e. case.alone (grind (arith, nat_tests)))) in
-      (subst (OfElement plain) (sym parts.0) (of_plain w.table x w.live case.some), parts.1, parts.2)
+      (subst (OfElement WithoutCase) (sym parts.0) (of_plain w.table x w.live case.some), parts.1, parts.2)
 
   of_elements : (form : TertiaryForm) → AreTertiaries form (OfElement form)
-  of_elements plain = plain_tertiaries
-  of_elements lower_first = lower_cased (OfElement plain) (OfElement lower_first) plain_tertiaries lower_parts
-  of_elements upper_first = upper_cased (OfElement plain) (OfElement upper_first) plain_tertiaries upper_parts
+  of_elements WithoutCase = plain_tertiaries
+  of_elements LowerFirst = lower_cased (OfElement WithoutCase) (OfElement LowerFirst) plain_tertiaries lower_parts
+  of_elements UpperFirst = upper_cased (OfElement WithoutCase) (OfElement UpperFirst) plain_tertiaries upper_parts
 
   pub live_tertiaries : (form : TertiaryForm) → AreTertiaries form (IsLiveTertiary all form)
   live_tertiaries form = with_common form (OfElement form) (of_elements form)

@@ -1,8 +1,8 @@
 -- Tertiaries of a few elements in each form, and a live secondary.
 use Rattle.std.proofs.Common.{◌≡◌, ℕ, [], ◌∷◌, None, refl, inr, arith, lit<}
-use Rattle.icu_levels.specs.Tertiaries.{plain, lower_first, upper_first}
+use Rattle.icu_levels.specs.declared.forms.TertiaryForm.TheVariants.{WithoutCase, LowerFirst, UpperFirst}
 use Rattle.icu_entries.specs.declared.error.DataTable.TheVariants.{Diacritics}
-use Rattle.icu_entries.specs.Elements.{Element, accent_element}
+use Rattle.icu_entries.specs.Elements.{Element, of_secondary}
 use Rattle.icu_checks.specs.CollatorTables.{CollatorTables}
 use Rattle.icu_comparison.specs.LiveWeights.{tertiary_in, least_secondary_lead, IsLiveSecondary}
 
@@ -13,16 +13,16 @@ of_lower l = record { primary = 0x61100000; secondary = 0x500; lower = l }
 abbrev lone : Element
 lone = record { primary = 0; secondary = 0; lower = 0x8601 }
 
-small_letter : (tertiary_in plain (of_lower 0x500) ≡ 0x500) × (tertiary_in lower_first (of_lower 0x500) ≡ 0x500) × (tertiary_in upper_first (of_lower 0x500) ≡ 0xC500)
+small_letter : (tertiary_in WithoutCase (of_lower 0x500) ≡ 0x500) × (tertiary_in LowerFirst (of_lower 0x500) ≡ 0x500) × (tertiary_in UpperFirst (of_lower 0x500) ≡ 0xC500)
 small_letter = (refl, refl, refl)
 
-capital : (tertiary_in plain (of_lower 0x9C40) ≡ 0x1C00) × (tertiary_in lower_first (of_lower 0x9C40) ≡ 0x9C00) × (tertiary_in upper_first (of_lower 0x9C40) ≡ 0x5C00)
+capital : (tertiary_in WithoutCase (of_lower 0x9C40) ≡ 0x1C00) × (tertiary_in LowerFirst (of_lower 0x9C40) ≡ 0x9C00) × (tertiary_in UpperFirst (of_lower 0x9C40) ≡ 0x5C00)
 capital = (refl, refl, refl)
 
-mixed : (tertiary_in plain (of_lower 0x5C00) ≡ 0x1C00) × (tertiary_in lower_first (of_lower 0x5C00) ≡ 0x5C00) × (tertiary_in upper_first (of_lower 0x5C00) ≡ 0x9C00)
+mixed : (tertiary_in WithoutCase (of_lower 0x5C00) ≡ 0x1C00) × (tertiary_in LowerFirst (of_lower 0x5C00) ≡ 0x5C00) × (tertiary_in UpperFirst (of_lower 0x5C00) ≡ 0x9C00)
 mixed = (refl, refl, refl)
 
-tertiary_alone : (tertiary_in plain lone ≡ 0x601) × (tertiary_in lower_first lone ≡ 0x8601) × (tertiary_in upper_first lone ≡ 0xC601)
+tertiary_alone : (tertiary_in WithoutCase lone ≡ 0x601) × (tertiary_in LowerFirst lone ≡ 0x8601) × (tertiary_in UpperFirst lone ≡ 0xC601)
 tertiary_alone = (refl, refl, refl)
 
 -- two diacritics and nothing else, forward
@@ -45,7 +45,7 @@ forward_lead = refl
 second_accent : IsLiveSecondary accents_alone 0x8A00
 second_accent = inr (record {
   table = Diacritics;
-  element = accent_element 0x8A00;
+  element = of_secondary 0x8A00;
   live = record { place = 1; inside = lit< tt; kept = refl; is = refl };
   some = λ e. omega (arith, e);
   is = refl;

@@ -1,9 +1,14 @@
 -- The weights that the tables of a collator can give, level by level (UTS #10, section 7.3 "Form Sort Keys"; UTS #35 part 5,
 -- "Collation Reordering" and "Case Parameters"), and that they are as the levels of sort keys ask.
-use Rattle.std.specs.Prelude.{ℕ, ◌+◌, ◌≡◌, ◌≢◌, ◌⊎◌, ◌==◌, bit_and, bit_xor, if◌then◌else◌}
+use Rattle.std.specs.Prelude.{false, Option, Some, None, ℕ, ◌+◌, ◌≡◌, ◌≢◌, ◌⊎◌, ◌==◌, bit_and, bit_xor, if◌then◌else◌}
 use Rattle.icu_levels.specs.Primaries.{Compression}
-use Rattle.icu_levels.specs.Tertiaries.{TertiaryForm, plain, lower_first, upper_first, tertiary_row}
-use Rattle.icu_levels.specs.Premises.{ArePrimaries, AreSecondaries, AreTertiaries, AreShifted, forward_least, backward_least}
+use Rattle.icu_levels.specs.Tertiaries.{tertiary_runs}
+use Rattle.icu_levels.specs.declared.forms.KeyForm.{KeyForm}
+use Rattle.icu_levels.specs.declared.forms.SecondaryForm.TheVariants.{Backward}
+use Rattle.icu_levels.specs.declared.forms.TertiaryForm.{TertiaryForm}
+use Rattle.icu_levels.specs.declared.forms.TertiaryForm.TheVariants.{WithoutCase, LowerFirst, UpperFirst}
+use Rattle.icu_levels.specs.Premises.{forward_least, backward_least}
+use Rattle.icu_levels.specs.KeyPremises.{LiveWeights, AreWeights}
 use Rattle.icu_entries.specs.declared.error.DataTable.{DataTable}
 use Rattle.icu_entries.specs.Elements.{Element, common, case_mask, tertiary_mask}
 use Rattle.icu_provider.specs.SpecialPrimaries.{is_compressible}
@@ -57,31 +62,42 @@ cased_mask = 0xFF3F
 
 -- what a form reads of an element
 abbrev pub masked_tertiary : TertiaryForm → Element → ℕ
-masked_tertiary plain x = bit_and x.lower tertiary_mask
-masked_tertiary lower_first x = bit_and x.lower cased_mask
-masked_tertiary upper_first x = bit_and x.lower cased_mask
+masked_tertiary WithoutCase x = bit_and x.lower tertiary_mask
+masked_tertiary LowerFirst x = bit_and x.lower cased_mask
+masked_tertiary UpperFirst x = bit_and x.lower cased_mask
 
 -- What a form has for an element that it reads something of. Upper case first inverts the case bits; an element with a tertiary
 -- alone, whose case bits are 10, has 11 then, the greatest
 abbrev pub tertiary_in : TertiaryForm → Element → ℕ
-tertiary_in upper_first x =
-    if x.secondary == 0 then masked_tertiary upper_first x + 0x4000 else bit_xor (masked_tertiary upper_first x) case_mask
+tertiary_in UpperFirst x =
+    if x.secondary == 0 then masked_tertiary UpperFirst x + 0x4000 else bit_xor (masked_tertiary UpperFirst x) case_mask
 tertiary_in form x = masked_tertiary form x
 
 -- the common one, which numbers have, and those of live elements
 abbrev pub IsLiveTertiary : CollatorTables → TertiaryForm → ℕ → Type 0
 IsLiveTertiary all form t =
-    (t ≡ (tertiary_row form).common) ⊎ IsLiveWeight (masked_tertiary form) (tertiary_in form) all t
+    (t ≡ (tertiary_runs form).common) ⊎ IsLiveWeight (masked_tertiary form) (tertiary_in form) all t
 
 -- ---- all levels
 
--- the weights that the tables give are as the levels of sort keys ask, whatever the settings
-pub record HaveLevelWeights (all : CollatorTables) : Type 0 where
-  pub primaries : ArePrimaries (compression_of all) all.special.numeric (IsLivePrimary all)
-  pub secondaries : AreSecondaries (least_secondary_lead all) (IsLiveSecondary all)
-  pub tertiaries : (form : TertiaryForm) → AreTertiaries form (IsLiveTertiary all form)
-  pub shifted : AreShifted (IsShiftedPrimary all)
+-- those of a key of this form, if it has the level
+abbrev pub IsTertiaryOf : CollatorTables → Option TertiaryForm → ℕ → Type 0
+IsTertiaryOf all None t = ⊥
+IsTertiaryOf all (Some form) t = IsLiveTertiary all form t
 
--- tables that meet the conditions on all tables of a collator give such weights
+-- the weights that the tables give to a key of this form, as the order theorem of keys speaks of them
+abbrev pub live_weights : CollatorTables → KeyForm → LiveWeights
+live_weights all f = record {
+  primary = IsLivePrimary all;
+  secondary = IsLiveSecondary all;
+  tertiary = IsTertiaryOf all f.tertiary;
+  shifted_primary = IsShiftedPrimary all;
+  numeric = all.special.numeric;
+}
+
+-- Tables that meet the conditions on all tables of a collator give weights that are as a key of any form asks, whatever the
+-- settings: a backward level is one of tables that say so
 abbrev pub GoodTablesServeLevels : Type 0
-GoodTablesServeLevels = (all : CollatorTables) → IsGoodTables all → HaveLevelWeights all
+GoodTablesServeLevels =
+    (all : CollatorTables) → IsGoodTables all → (f : KeyForm) → (f.secondary ≡ Some Backward → is_forward all ≡ false)
+    → AreWeights (compression_of all) f (live_weights all f)

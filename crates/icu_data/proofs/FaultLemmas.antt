@@ -1,4 +1,4 @@
--- Which fault a walk names, by any judge, and the judge of a root or a tailoring alone: the first condition that an entry fails.
+-- Which fault a walk reports, by any judge, and the judge of a root or a tailoring alone: the first condition that an entry fails.
 use Rattle.std.proofs.Common.{◌≡◌, ℕ, ◌<◌, ◌≤◌, Bool, true, false, not, List, [], ◌∷◌, ◌⊎◌, Option, Some, None, if◌then◌else◌, refl, sym, ap, ◌∙◌, subst, IfSome, IsTrue, ◌↔◌, nat_lt, inl, inr, arith}
 use Rattle.std.proofs.lemmas.Bool.{and_parts, and_from}
 use Rattle.std.proofs.lemmas.Bool.Decides.{nat_tests}
@@ -6,7 +6,7 @@ use Rattle.std.specs.Prelude.{find}
 use Rattle.std.specs.List.{AllByRecursion, Contains}
 use Rattle.icu_data.specs.Data.{Data}
 use Rattle.icu_data.specs.declared.live_condition.LiveCondition.{LiveCondition}
-use Rattle.icu_data.specs.declared.live_condition.LiveCondition.TheVariants.{Places, PrefixRows, Chains, Digits, Bytes, Offsets, Shapes, Leads, Primaries}
+use Rattle.icu_data.specs.declared.live_condition.LiveCondition.TheVariants.{Indices, PrefixRows, Chains, Digits, Bytes, Offsets, Shapes, Leads, Primaries}
 use Rattle.icu_data.specs.Live.{live_at, EachLive}
 use Rattle.icu_data.specs.LiveConditions.{meets, live_conditions, first_failing, EachMeets, IsGoodData}
 use Rattle.icu_data.specs.DataConditions.{is_inside, is_readable, has_known_members, fits_offset}
@@ -60,7 +60,7 @@ abbrev pub Fails : Data → ℕ → ℕ → LiveCondition → Type 0
 Fails home c e condition = meets condition home c e ≡ false
 
 listed_meets : (home : Data) (c e : ℕ) → AllByRecursion (λ condition. not (meets condition home c e) ≡ false) live_conditions → (condition : LiveCondition) → IsTrue (meets condition home c e)
-listed_meets home c e all Places = not_false _ all.0
+listed_meets home c e all Indices = not_false _ all.0
 listed_meets home c e all PrefixRows = not_false _ all.1.0
 listed_meets home c e all Chains = not_false _ all.1.1.0
 listed_meets home c e all Digits = not_false _ all.1.1.1.0
@@ -92,7 +92,7 @@ pub meets_readable : (home : Data) (c e : ℕ) → ((condition : LiveCondition) 
 unfolding is_readable
 meets_readable home c e all =
     let bytes = and_parts (has_known_byte e) (has_known_members home e) (all Bytes) in
-    and_from _ (fits_offset home c e) (and_from (is_inside home e) (has_known_members home e) (all Places) bytes.1) (all Offsets)
+    and_from _ (fits_offset home c e) (and_from (is_inside home e) (has_known_members home e) (all Indices) bytes.1) (all Offsets)
 
 some_itself : {X : Type 0} (o : Option X) → IfSome o (λ x. o ≡ Some x)
 some_itself None = tt

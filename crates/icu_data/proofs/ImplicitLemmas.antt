@@ -4,7 +4,7 @@ use Rattle.std.specs.Prelude.{◌||◌}
 use Rattle.std.proofs.lemmas.Bool.Decides.{nat_tests}
 use Rattle.std.specs.Int.{byte_at}
 use Rattle.icu_data.specs.declared.live_condition.LiveCondition.{LiveCondition}
-use Rattle.icu_data.specs.declared.live_condition.LiveCondition.TheVariants.{Places, PrefixRows, Chains, Digits, Bytes, Offsets, Shapes, Leads, Primaries}
+use Rattle.icu_data.specs.declared.live_condition.LiveCondition.TheVariants.{Indices, PrefixRows, Chains, Digits, Bytes, Offsets, Shapes, Leads, Primaries}
 use Rattle.icu_entries.specs.Elements.{Element, of_primary}
 use Rattle.icu_entries.specs.Weights.{weight, implicit_weight}
 use Rattle.icu_entries.specs.declared.entry.EntryKind.TheVariants.{Implicit}
@@ -81,7 +81,7 @@ and_true false h = cc
 
 implicit_meets : (home : Data) (c e : ℕ) → kind_of e ≡ Implicit → (condition : LiveCondition) → IsTrue (meets condition home c e)
 unfolding is_inside has_short_rows leads_on has_digit has_known_byte has_known_members fits_offset final_elements has_secondary_lead has_tertiary_lead
-implicit_meets home c e is Places = rw (is, is_inside) refl
+implicit_meets home c e is Indices = rw (is, is_inside) refl
 implicit_meets home c e is PrefixRows = rw (is, has_short_rows) refl
 implicit_meets home c e is Chains = rw (is, leads_on) refl
 implicit_meets home c e is Digits = rw (is, has_digit) refl

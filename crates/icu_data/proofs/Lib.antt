@@ -8,3 +8,6 @@ pub mod FaultLemmas
 pub mod WeightLemmas
 pub mod ImplicitLemmas
 mod WorkedData
+mod AddedRows
+mod BlockLemmas
+mod BuildingLemmas

@@ -1,10 +1,10 @@
 -- Worked rows of the definitions on a root or a tailoring, computed.
 use Rattle.std.proofs.Common.{◌≡◌, ℕ, true, false, [], ◌∷◌, Option, Some, None, refl}
 use Rattle.icu_data.specs.declared.live_condition.LiveCondition.{LiveCondition}
-use Rattle.icu_data.specs.declared.live_condition.LiveCondition.TheVariants.{Places, Chains, Digits, Bytes, Leads}
+use Rattle.icu_data.specs.declared.live_condition.LiveCondition.TheVariants.{Indices, Chains, Digits, Bytes, Leads}
 use Rattle.icu_entries.specs.Elements.{element_of}
 use Rattle.icu_entries.specs.Entries.{kind_of, self_contained}
-use Rattle.icu_entries.specs.Weights.{place_of, weight_at, offset_place, offset_weight}
+use Rattle.icu_entries.specs.Weights.{ordinal_of, weight_at, offset_ordinal, offset_weight}
 use Rattle.icu_data.specs.Data.{Data}
 use Rattle.icu_data.specs.Final.{final_elements}
 use Rattle.icu_data.specs.Live.{live_digit, live_contraction, live_from, live_at}
@@ -43,7 +43,7 @@ fallback_in_a_root : live_at false (with_entry 0xC0) 0x61 ≡ 0xC0 ∷ []
 unfolding live_from live_contraction live_digit kind_of
 fallback_in_a_root = refl
 
--- a place outside the table reads as the empty context
+-- an index outside the table reads as the empty context
 no_context_there : live_at false (with_entry 0x40C9) 0x61 ≡ 0x40C9 ∷ 0 ∷ []
 unfolding live_from live_contraction live_digit kind_of
 no_context_there = refl
@@ -57,7 +57,7 @@ good_prefix : fails_with 0xC8 None
 unfolding first_failing is_inside has_short_rows leads_on has_digit has_known_byte has_known_members fits_offset final_elements kind_of self_contained
 good_prefix = refl
 
-outside : fails_with 0x40C9 (Some Places)
+outside : fails_with 0x40C9 (Some Indices)
 unfolding first_failing is_inside kind_of
 outside = refl
 
@@ -74,7 +74,7 @@ unfolding first_failing is_inside has_short_rows leads_on has_digit has_known_by
 reserved = refl
 
 good_offset : fails_with 0xCE None
-unfolding first_failing is_inside has_short_rows leads_on has_digit has_known_byte has_known_members fits_offset has_offset_weight offset_place place_of final_elements offset_weight weight_at has_shape ends_at_zero has_secondary_lead has_tertiary_lead has_primary_lead kind_of
+unfolding first_failing is_inside has_short_rows leads_on has_digit has_known_byte has_known_members fits_offset has_offset_weight offset_ordinal ordinal_of final_elements offset_weight weight_at has_shape ends_at_zero has_secondary_lead has_tertiary_lead has_primary_lead kind_of
 good_offset = refl
 
 bad_secondary : fails_with 0x61103005 (Some Leads)

@@ -3,12 +3,22 @@ use Rattle.std.specs.Prelude.{◌≡◌, ℕ, ◌+◌, ◌*◌, ◌/◌, ◌%◌
 use Rattle.icu_entries.specs.declared.error.DataErrorKind.{DataErrorKind}
 use Rattle.icu_entries.specs.declared.error.DataErrorKind.TheVariants.{Length, Index}
 
+-- how many code points share a block, how many blocks they fill, and how many there are
+abbrev pub block_len : ℕ
+block_len = 64
+
+abbrev pub block_count : ℕ
+block_count = 17408
+
+abbrev pub code_point_count : ℕ
+code_point_count = 0x110000
+
 -- there is a block for each 64 code points, the values come in whole blocks
 pub record HasWholeBlocks (blocks values : List ℕ) : Type 0 where
-  pub count : length blocks ≡ 17408
-  pub whole : length values % 64 ≡ 0
+  pub count : length blocks ≡ block_count
+  pub whole : length values % block_len ≡ 0
 
--- each block number names one of them
+-- each block number is that of one of them
 abbrev pub HasBlocksInside : List ℕ → List ℕ → Type 0
 HasBlocksInside blocks values = All (λ b. 64 * b + 64 ≤ length values) blocks
 

@@ -21,7 +21,7 @@ pub record Data : Type 0 where
   pub entries : List ℕ
   pub contexts : List Context
 
--- an entry with the table whose lists and contexts it names
+-- an entry with its home: the table whose lists and contexts it refers to
 pub record HomedEntry : Type 0 where
   pub home : Data
   pub entry : ℕ
@@ -29,14 +29,14 @@ pub record HomedEntry : Type 0 where
 abbrev pub homed : Data → ℕ → HomedEntry
 homed home e = record { home = home; entry = e }
 
--- the context that an entry names, or an empty one where its home has none at that place
+-- the context that an entry refers to, or an empty one where its home has none at that index
 abbrev pub no_context : Context
 no_context = record { default = 0; rows = [] }
 
 abbrev pub context_of : HomedEntry → Context
 context_of h = slice_index_or h.home.contexts (entry_index h.entry) no_context
 
--- the plain entry that a digit entry names, or 0 where its home has none at that place
+-- the plain entry that a digit entry refers to, or 0 where its home has none at that index
 abbrev pub plain_of : Data → ℕ → ℕ
 plain_of home e = slice_index home.entries (entry_index e)
 

@@ -9,7 +9,7 @@ use Rattle.icu_entries.specs.Entries.{is_final}
 use Rattle.icu_data.specs.Live.{named_entries}
 use Rattle.icu_entries.specs.EntryConditions.{is_listed, may_follow_prefix, may_follow_contraction, has_offset_weight}
 
--- what the entry names is there
+-- what the entry refers to is there
 unfoldable pub is_inside : Data → ℕ → Bool
 is_inside home e =
     elim (kind_of e) [
@@ -30,9 +30,13 @@ is_short row = nat_le 1 (length row.chars) && nat_le (length row.chars) 2
 unfoldable pub has_short_rows : Data → ℕ → Bool
 has_short_rows home e = elim (kind_of e) [ Prefix ↦ list_all is_short (context_of (homed home e)).rows | _ ↦ true ]
 
+-- the first diacritic
+abbrev pub diacritics_base : ℕ
+diacritics_base = 0x300
+
 -- a character among the first diacritics, so many from U+0300 on
 abbrev pub is_diacritic : ℕ → ℕ → Bool
-is_diacritic count c = nat_le 0x300 c && nat_lt c (0x300 + count)
+is_diacritic count c = nat_le diacritics_base c && nat_lt c (diacritics_base + count)
 
 abbrev pub row_avoids : ℕ → Row → Bool
 row_avoids count row = list_all (λ c. not (is_diacritic count c)) row.chars
@@ -59,7 +63,7 @@ leads_on home e =
 unfoldable pub has_known_members : Data → ℕ → Bool
 has_known_members home e = elim (kind_of e) [ Expansion32 ↦ list_all is_self_contained (listed e home.entries) | _ ↦ true ]
 
--- the character has a weight by the data that the entry names
+-- the character has a weight by the data that the entry refers to
 unfoldable pub fits_offset : Data → ℕ → ℕ → Bool
 fits_offset home c e =
     elim (kind_of e) [

@@ -1,15 +1,15 @@
--- Which of the faults that are found is named.
+-- Which of the faults that are found is reported.
 use Rattle.std.specs.Prelude.{ℕ, ◌≡◌, ◌≤◌, Bool, nat_lt, List, Option, Some, None, IfSome, if◌then◌else◌}
 use Rattle.std.specs.Char.{IsScalar}
 use Rattle.std.specs.List.{Contains}
 use Rattle.icu_data.specs.declared.live_condition.LiveCondition.{LiveCondition}
-use Rattle.icu_data.specs.declared.live_condition.LiveCondition.TheVariants.{Places, PrefixRows, Chains, Digits, Bytes, Offsets, Shapes, Leads, Primaries}
+use Rattle.icu_data.specs.declared.live_condition.LiveCondition.TheVariants.{Indices, PrefixRows, Chains, Digits, Bytes, Offsets, Shapes, Leads, Primaries}
 use Rattle.icu_data.specs.Data.{Data}
 use Rattle.icu_data.specs.Live.{live_at}
 
 -- with room between them for conditions on several tables
 abbrev pub condition_rank : LiveCondition → ℕ
-condition_rank Places = 20
+condition_rank Indices = 20
 condition_rank PrefixRows = 30
 condition_rank Chains = 40
 condition_rank Digits = 50

@@ -6,7 +6,7 @@ use Rattle.icu_entries.specs.Entries.{kind_of, list_length, entry_index, self_co
 use Rattle.icu_entries.specs.Weights.{implicit_weight, offset_element}
 use Rattle.icu_data.specs.Data.{HomedEntry}
 
--- the part of a list that an entry names
+-- the part of a list that an entry refers to
 abbrev pub listed : {A : Type 0} → ℕ → List A → List A
 listed e xs = take (list_length e) (drop (entry_index e) xs)
 

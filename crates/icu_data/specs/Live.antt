@@ -1,11 +1,11 @@
 -- The entries that reading a text may come to from an entry. Prefixes lead to contractions, those to digits, and digits to final
--- entries, so there are three layers. Where an entry leads to one that it may not lead to, that one is live, and opens nothing. A place
+-- entries, so there are three layers. Where an entry leads to one that it may not lead to, that one is live, and opens nothing. An index
 -- outside its table reads as the empty context, or as entry 0, as it does where texts are read.
 use Rattle.std.specs.Prelude.{ℕ, Bool, ◌&&◌, ◌==◌, List, [], ◌∷◌, map, flat_map, if◌then◌else◌}
 use Rattle.std.specs.Char.{IsScalar}
 use Rattle.std.specs.List.{AllByRecursion}
 use Rattle.icu_entries.specs.declared.entry.EntryKind.TheVariants.{Prefix, Contraction, Digit}
-use Rattle.icu_entries.specs.Entries.{kind_of}
+use Rattle.icu_entries.specs.Entries.{fallback_entry, kind_of}
 use Rattle.icu_data.specs.Data.{Row, Context, Data, homed, context_of, plain_of}
 
 -- what a context leads to
@@ -32,7 +32,7 @@ live_from home e =
 -- The entries that are live with a character of a code point table. A tailoring falls back: where its entry is fallback, the root's
 -- stands for it, and it has none.
 abbrev pub live_at : Bool → Data → ℕ → List ℕ
-live_at falls_back home c = if falls_back && home.value c == 0xC0 then [] else live_from home (home.value c)
+live_at falls_back home c = if falls_back && home.value c == fallback_entry then [] else live_from home (home.value c)
 
 -- what holds of each pair of a character and an entry that is live with it
 abbrev pub EachLive : (ℕ → ℕ → Type 0) → Bool → Data → Type 0

@@ -4,7 +4,7 @@ use Rattle.std.specs.List.{list_all}
 use Rattle.icu_entries.specs.declared.error.DataErrorKind.{DataErrorKind}
 use Rattle.icu_entries.specs.declared.error.DataErrorKind.TheVariants as kinds
 use Rattle.icu_data.specs.declared.live_condition.LiveCondition.{LiveCondition}
-use Rattle.icu_data.specs.declared.live_condition.LiveCondition.TheVariants.{Places, PrefixRows, Chains, Digits, Bytes, Offsets, Shapes, Leads, Primaries}
+use Rattle.icu_data.specs.declared.live_condition.LiveCondition.TheVariants.{Indices, PrefixRows, Chains, Digits, Bytes, Offsets, Shapes, Leads, Primaries}
 use Rattle.icu_entries.specs.declared.element_conditions.ElementCondition.TheVariants as of_element
 use Rattle.icu_entries.specs.ElementConditions.{element_meets}
 use Rattle.icu_data.specs.DataConditions.{is_inside, has_short_rows, leads_on, has_known_members, fits_offset}
@@ -15,7 +15,7 @@ use Rattle.icu_data.specs.Live.{EachLive}
 
 -- an entry of this home meets the condition where it is live with this character
 abbrev pub meets : LiveCondition → Data → ℕ → ℕ → Bool
-meets Places home c e = is_inside home e
+meets Indices home c e = is_inside home e
 meets PrefixRows home c e = has_short_rows home e
 meets Chains home c e = leads_on home e
 meets Digits home c e = has_digit e
@@ -25,9 +25,9 @@ meets Shapes home c e = list_all (element_meets of_element.Shape) (final_element
 meets Leads home c e = list_all (element_meets of_element.Leads) (final_elements (homed home e) c)
 meets Primaries home c e = list_all (element_meets of_element.Primary) (final_elements (homed home e) c)
 
--- all of them, in the order in which a refusal names them
+-- all of them, in the order in which they are reported
 abbrev pub live_conditions : List LiveCondition
-live_conditions = Places ∷ PrefixRows ∷ Chains ∷ Digits ∷ Bytes ∷ Offsets ∷ Shapes ∷ Leads ∷ Primaries ∷ []
+live_conditions = Indices ∷ PrefixRows ∷ Chains ∷ Digits ∷ Bytes ∷ Offsets ∷ Shapes ∷ Leads ∷ Primaries ∷ []
 
 -- the first condition that the entry fails
 unfoldable pub first_failing : Data → ℕ → ℕ → Option LiveCondition
@@ -35,7 +35,7 @@ first_failing home c e = find (λ condition. not (meets condition home c e)) liv
 
 -- the kind of a refusal for a condition
 abbrev pub kind_for : LiveCondition → DataErrorKind
-kind_for Places = kinds.Index
+kind_for Indices = kinds.Index
 kind_for PrefixRows = kinds.Context
 kind_for Chains = kinds.Chain
 kind_for Digits = kinds.Digit

@@ -1,7 +1,17 @@
+//! Entries by character.
 ghost use Rattle.std.specs.Prelude.{◌≡◌, ◌↔◌, IsOk, IfOk, IfErr};
 ghost use Rattle.icu_data.specs.CodePointTables.{IsCodePointTable, FailsBlocks, stored_value};
 
 use icu_entries::DataErrorKind;
+
+/// How many code points share a block.
+pub const BLOCK_LEN: usize = 64;
+
+/// How many blocks the code points up to U+10FFFF fill.
+pub const BLOCK_COUNT: usize = 17408;
+
+/// How many code points there are.
+pub(crate) const CODE_POINT_COUNT: usize = 0x110000;
 
 /// A function from characters to entries. There are 17408 blocks of 64 code points; character c has the value
 /// `values[64 * blocks[c / 64] + c % 64]`.
@@ -22,14 +32,14 @@ impl<'d> CodePointTable<'d> {
         ensures kind { IfErr result (FailsBlocks blocks.entry.now values.entry.now) }
         ensures keeps { IfOk result (λ t. table_value t ≡ stored_value blocks.entry.now values.entry.now) }
     {
-        if blocks.len() != 17408 || values.len() % 64 != 0 {
+        if blocks.len() != BLOCK_COUNT || values.len() % BLOCK_LEN != 0 {
             return Err(DataErrorKind::Length);
         }
-        let whole = values.len() / 64;
+        let whole = values.len() / BLOCK_LEN;
         if !blocks.iter().all(|block| (*block as usize) < whole) {
             return Err(DataErrorKind::Index);
         }
-        Ok(CodePointTable::from_parts(blocks, values))
+        Ok(CodePointTable::new_unchecked(blocks, values))
     }
 
     /// The value of a character.
@@ -37,7 +47,7 @@ impl<'d> CodePointTable<'d> {
         ensures { result ≡ table_value self.entry c }
     {
         let code = c as usize;
-        self.values[self.blocks[code / 64] as usize * 64 + code % 64]
+        self.values[self.blocks[code / BLOCK_LEN] as usize * BLOCK_LEN + code % BLOCK_LEN]
     }
 
     /// The blocks and the values, as `new` takes them.
@@ -49,7 +59,7 @@ impl<'d> CodePointTable<'d> {
     }
 
     /// A table of slices that are known to fit, without a check.
-    pub fn from_parts(blocks: &'d [u16], values: &'d [u32]) -> CodePointTable<'d>
+    pub fn new_unchecked(blocks: &'d [u16], values: &'d [u32]) -> CodePointTable<'d>
         requires { IsCodePointTable blocks.now values.now }
         ensures { table_value result ≡ stored_value blocks.entry.now values.entry.now }
     {

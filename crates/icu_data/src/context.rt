@@ -1,3 +1,4 @@
+//! The contexts of prefixes and contractions.
 ghost use Rattle.std.specs.Prelude.{◌≡◌, ◌↔◌, ◌<◌, ◌≤◌, ℕ, IsOk, IfOk, IfErr, IsTrue, All, length, take, drop, slice_index_or, slice_get, Some, []};
 ghost use Rattle.icu_data.specs.Data.{no_context};
 ghost use Rattle.icu_data.specs.Contexts.{row_of, rows_of, stored_contexts, HasRowsInside, HasCharsInside, HasRangesInside, is_before, ascend_from, has_ascending_rows, HasAscendingRows, IsContextTable, FailsContexts};
@@ -7,16 +8,22 @@ use icu_entries::{CollationElement32, DataErrorKind};
 /// A context as it is stored: an entry for all texts but those of its rows, and the range of the rows.
 #[derive(Debug, Clone, Copy, PartialEq)]
 pub struct Context {
+    /// The entry for all other texts.
     pub default: u32,
+    /// The index of the first row.
     pub rows_start: u32,
+    /// The number of rows.
     pub rows_len: u32,
 }
 
 /// A row of a context as it is stored: the range of its characters, and their entry.
 #[derive(Debug, Clone, Copy, PartialEq)]
 pub struct ContextRow {
+    /// The index of the first character.
     pub chars_start: u32,
+    /// The number of characters.
     pub chars_len: u32,
+    /// The entry of the row.
     pub entry: u32,
 }
 
@@ -43,7 +50,9 @@ pub struct FoundContext<'d> {
 /// A row of a context that was looked up: its characters, and their entry.
 #[derive(Debug, Clone, Copy, PartialEq)]
 pub struct FoundRow<'d> {
+    /// The characters.
     pub chars: &'d [char],
+    /// Their entry.
     pub entry: CollationElement32,
 }
 
@@ -137,7 +146,7 @@ impl<'d> ContextTable<'d> {
         if !have_ascending_rows(contexts, rows, chars) {
             return Err(DataErrorKind::Context);
         }
-        Ok(ContextTable::from_parts(contexts, rows, chars))
+        Ok(ContextTable::new_unchecked(contexts, rows, chars))
     }
 
     /// The contexts, their rows, and the rows' characters, as `new` takes them. In each context the rows ascend by the numbers of their
@@ -152,7 +161,7 @@ impl<'d> ContextTable<'d> {
     }
 
     /// A table of slices that are known to fit, without a check.
-    pub fn from_parts(
+    pub fn new_unchecked(
         contexts: &'d [Context],
         rows: &'d [ContextRow],
         chars: &'d [char],
@@ -185,7 +194,7 @@ impl<'d> ContextTable<'d> {
         self.contexts.len()
     }
 
-    /// The context at a place.
+    /// The context at an index.
     pub fn get(self, index: usize) -> FoundContext<'d>
         requires { index < length (contexts_of self) }
         ensures { found_context result ≡ slice_index_or (contexts_of self.entry) index no_context }
@@ -198,7 +207,7 @@ impl<'d> ContextTable<'d> {
         }
     }
 
-    /// The context at a place, or an empty one where there is none.
+    /// The context at an index, or an empty one where there is none.
     pub(crate) fn get_or_empty(self, index: usize) -> FoundContext<'d>
         ensures { found_context result ≡ slice_index_or (contexts_of self.entry) index no_context }
     {
@@ -231,7 +240,7 @@ impl<'d> FoundContext<'d> {
         self.rows.len()
     }
 
-    /// The row at a place; rows ascend by the numbers of their characters.
+    /// The row at an index; rows ascend by the numbers of their characters.
     pub fn row(self, index: usize) -> FoundRow<'d>
         requires { index < length (found_context self).rows }
         ensures { slice_get (found_context self.entry).rows index ≡ Some (found_row result) }

@@ -1,3 +1,4 @@
+//! The conditions on one context.
 ghost use Rattle.std.specs.Prelude.{◌≡◌, ◌<◌, length, All};
 ghost use Rattle.std.specs.List.{list_all};
 ghost use Rattle.icu_data.specs.declared.context.ContextRow.{ContextRow};

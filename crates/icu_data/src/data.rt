@@ -1,8 +1,9 @@
+//! Roots and tailorings.
 ghost use Rattle.std.specs.Prelude.{◌≡◌, ◌+◌, ◌<◌, ◌≤◌, length, slice_index, slice_index_or, take, drop, map, IsTrue, All, IsOk, IfOk, IfErr, true, ◌↔◌, ◌∷◌, []};
 ghost use Rattle.icu_data.specs.Contexts.{has_ascending_rows};
 ghost use Rattle.icu_entries.specs.Elements.{element_of, end_element};
 ghost use Rattle.icu_entries.specs.Entries.{kind_of, has_index, entry_index};
-ghost use Rattle.icu_entries.specs.Weights.{place_of_weight, offset_compressible, offset_place};
+ghost use Rattle.icu_entries.specs.Weights.{ordinal_of_weight, offset_compressible, offset_ordinal};
 ghost use Rattle.icu_data.specs.Final.{final_elements};
 ghost use Rattle.icu_data.specs.DataConditions.{is_inside, fits_offset};
 ghost use Rattle.icu_data.specs.LiveConditions.{IsGoodData, FailsData};
@@ -26,9 +27,10 @@ pub struct CollationData<'d> {
 impl<'d> CollationData<'d> {
     ghost use Rattle.icu_data.specs.StoredData.{data_of, data_by, found_context};
 
-    /// Borrows a root or a tailoring without a check of its entries. Its look-ups ask their callers for what they need.
+    /// Borrows a root or a tailoring whose entries nothing has checked. Its look-ups ask their callers for what they need, so that it
+    /// does no harm; `new` checks the entries.
     #[tactic(auto, unfolding(crate::specs::StoredData::data_of))]
-    pub fn from_parts(
+    pub fn new_unchecked(
         trie: CodePointTable<'d>,
         ces: &'d [u64],
         ce32s: &'d [u32],
@@ -45,7 +47,7 @@ impl<'d> CollationData<'d> {
     }
 
     /// Borrows a root or a tailoring, which may have fallback entries in its code point table. It is refused if an entry that a text
-    /// may come to fails a condition: with `Index` if what it names is not there, or a list has no member; `Context` if a row of a
+    /// may come to fails a condition: with `Index` if what it refers to is not there, or a list has no member; `Context` if a row of a
     /// prefix has not one character or two; `Chain` if it leads to an entry that it may not lead to; `Digit` if a digit is above 9;
     /// `Tag` if its low byte, or that of a list's member, has no meaning where it stands; `Element` if a character has no weight by
     /// its offset data, or an element is malformed, or a weight has a lead byte that it may not have. Secondary weights may lead
@@ -60,7 +62,7 @@ impl<'d> CollationData<'d> {
         ensures kind { IfErr result (FailsData true (data_by trie.entry ces.entry.now ce32s.entry.now contexts.entry)) }
         ensures keeps { IfOk result (λ d. data_of d ≡ data_by trie.entry ces.entry.now ce32s.entry.now contexts.entry) }
     {
-        let data = CollationData::from_parts(trie, ces, ce32s, contexts);
+        let data = CollationData::new_unchecked(trie, ces, ce32s, contexts);
         data.check()?;
         Ok(data)
     }
@@ -94,7 +96,7 @@ impl<'d> CollationData<'d> {
         CollationElement32::new(self.trie.get(c))
     }
 
-    /// The entry at a place of the list of entries.
+    /// The entry at an index of the list of entries.
     #[tactic(auto, unfolding(crate::specs::StoredData::data_of))]
     pub fn get_ce32(self, index: usize) -> CollationElement32
         requires { index < length (data_of self).entries }
@@ -103,7 +105,7 @@ impl<'d> CollationData<'d> {
         CollationElement32::new(self.ce32s[index])
     }
 
-    /// `len` entries from a place on.
+    /// `len` entries from an index on.
     #[tactic(auto, unfolding(crate::specs::StoredData::data_of))]
     pub fn get_ce32s(self, index: usize, len: usize) -> &'d [u32]
         requires { index + len ≤ length (data_of self).entries }
@@ -112,7 +114,7 @@ impl<'d> CollationData<'d> {
         &self.ce32s[index..index + len]
     }
 
-    /// The bits of `len` elements from a place on.
+    /// The bits of `len` elements from an index on.
     #[tactic(auto, using(crate::proofs::ListLemmas::map_taken), unfolding(crate::specs::StoredData::data_of))]
     pub fn get_ces(self, index: usize, len: usize) -> &'d [u64]
         requires { index + len ≤ length (data_of self).elements }
@@ -121,7 +123,7 @@ impl<'d> CollationData<'d> {
         &self.ces[index..index + len]
     }
 
-    /// The entry for all texts of the context at a place, but those of its rows.
+    /// The entry for all texts of the context at an index, but those of its rows.
     #[tactic(auto, unfolding(crate::specs::StoredData::data_of))]
     pub fn get_default(self, index: usize) -> CollationElement32
         requires { index < length (data_of self).contexts }
@@ -130,7 +132,7 @@ impl<'d> CollationData<'d> {
         self.get_context(index).default()
     }
 
-    /// The context at a place, its entry for all texts and its rows.
+    /// The context at an index, its entry for all texts and its rows.
     #[tactic(auto, unfolding(crate::specs::StoredData::data_of))]
     pub fn get_context(self, index: usize) -> FoundContext<'d>
         requires { index < length (data_of self).contexts }
@@ -139,7 +141,7 @@ impl<'d> CollationData<'d> {
         self.contexts.get(index)
     }
 
-    /// The context that an entry names, or an empty one where there is none at that place.
+    /// The context that an entry refers to, or an empty one where there is none at that index.
     #[tactic(auto, unfolding(crate::specs::StoredData::data_of))]
     pub(crate) fn context_of(self, entry: CollationElement32) -> FoundContext<'d>
         requires { IsTrue (has_index (kind_of entry)) }
@@ -148,7 +150,7 @@ impl<'d> CollationData<'d> {
         self.contexts.get_or_empty(entry.index())
     }
 
-    /// The data that an offset entry names.
+    /// The data that an offset entry refers to.
     #[tactic(auto, unfolding(crate::specs::StoredData::data_of, crate::specs::DataConditions::is_inside))]
     pub(crate) fn offset_data(self, entry: CollationElement32) -> CollationElement
         requires offset { kind_of entry ≡ EntryKind.Offset }
@@ -159,7 +161,7 @@ impl<'d> CollationData<'d> {
         CollationElement::new(self.ces[entry.index()])
     }
 
-    /// The element of a character by an offset entry. Its primary weight, of three bytes, stands as many places after that of the
+    /// The element of a character by an offset entry. Its primary weight, of three bytes, comes as many weights after that of the
     /// entry's data as the step says for each character from the base on.
     #[tactic(auto, unfolding(crate::specs::Final::final_elements, crate::specs::DataConditions::fits_offset))]
     pub fn ce_from_offset_ce32(self, c: char, entry: CollationElement32) -> CollationElement
@@ -167,7 +169,7 @@ impl<'d> CollationData<'d> {
         requires inside { IsTrue (is_inside (data_of self) entry) }
         requires fits { IsTrue (fits_offset (data_of self) c entry) }
         ensures value { final_elements (homed (data_of self.entry) entry) c ≡ result ∷ [] }
-        ensures place { let d = slice_index_or (data_of self.entry).elements (entry_index entry) end_element in place_of_weight (offset_compressible d) result.primary ≡ offset_place d c }
+        ensures place { let d = slice_index_or (data_of self.entry).elements (entry_index entry) end_element in ordinal_of_weight (offset_compressible d) result.primary ≡ offset_ordinal d c }
     {
         self.offset_data(entry).offset_element(c)
     }
@@ -202,7 +204,7 @@ impl<'d> CollationData<'d> {
 
     /// The plain entry of a digit entry, or 0 where the list of entries is too short.
     #[tactic(auto, unfolding(crate::specs::StoredData::data_of))]
-    pub(crate) fn plain_entry(self, entry: CollationElement32) -> CollationElement32
+    pub(crate) fn non_numeric_entry(self, entry: CollationElement32) -> CollationElement32
         requires { kind_of entry ≡ EntryKind.Digit }
         ensures { result ≡ plain_of (data_of self.entry) entry }
     {

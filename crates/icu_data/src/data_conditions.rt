@@ -1,3 +1,4 @@
+//! The conditions on one entry of a root or a tailoring.
 ghost use Rattle.std.specs.Prelude.{◌≡◌, Bool, IsTrue};
 ghost use Rattle.std.specs.List.{list_all};
 ghost use Rattle.icu_entries.specs.Entries.{is_self_contained, kind_of};
@@ -16,7 +17,7 @@ use icu_entries::{CollationElement, CollationElement32, EntryKind};
 use std::convert::Infallible;
 
 impl<'d> CollationData<'d> {
-    /// Whether what the entry names is there.
+    /// Whether what the entry refers to is there.
     #[tactic(auto, unfolding(crate::specs::DataConditions::is_inside))]
     pub(crate) fn is_inside(self, entry: CollationElement32) -> bool
         ensures { result ≡ is_inside (data_of self.entry) entry }
@@ -50,7 +51,7 @@ impl<'d> CollationData<'d> {
         match entry.kind() {
             EntryKind::Prefix => self.context_of(entry).may_follow_prefix(),
             EntryKind::Contraction => self.context_of(entry).may_follow_contraction(),
-            EntryKind::Digit => self.plain_entry(entry).kind().is_final(),
+            EntryKind::Digit => self.non_numeric_entry(entry).kind().is_final(),
             _ => true,
         }
     }
@@ -89,7 +90,7 @@ impl<'d> CollationData<'d> {
         }
     }
 
-    /// Whether the elements of the entry with the character can be read, if it is final: what it names is there, the members of its
+    /// Whether the elements of the entry with the character can be read, if it is final: what it refers to is there, the members of its
     /// list have one element each, and the character has a weight by its offset data.
     #[tactic(auto, unfolding(crate::specs::DataConditions::is_readable))]
     pub fn is_readable(self, c: char, entry: CollationElement32) -> bool
@@ -127,7 +128,7 @@ impl<'d> CollationData<'d> {
         ensures { result ≡ first_failing (data_of self.entry) c entry }
     {
         if !self.is_inside(entry) {
-            Some(LiveCondition::Places)
+            Some(LiveCondition::Indices)
         } else if !self.has_short_rows(entry) {
             Some(LiveCondition::PrefixRows)
         } else if !self.leads_on(entry) {

@@ -11,9 +11,9 @@ ghost use Rattle.icu_data.specs.StoredData.{data_of};
 use crate::data::CollationData;
 use icu_entries::{CollationElement, CollationElement32, EntryKind};
 
-/// What is told of each element.
+/// A visitor of elements.
 pub trait VisitElement {
-    /// Why a visit ends the walk, as for want of memory. `Infallible` where none does.
+    /// Why a visit ends the walk, as out of memory. `Infallible` where none does.
     type Refusal;
 
     /// What visits add up to.
@@ -25,7 +25,7 @@ pub trait VisitElement {
     /// What it is after one more element.
     ghost after: { Seen → Element → Seen };
 
-    /// Tells of an element.
+    /// Visits an element.
     fn visit(&mut self, element: CollationElement) -> Result<(), Self::Refusal>
         ensures { OnOk result (seen self.new ≡ after (seen self.old) element) };
 }
@@ -49,7 +49,7 @@ fn visit_listed<V: VisitElement>(visitor: &mut V, elements: &[u64]) -> Result<()
     Ok(())
 }
 
-/// Tells a visitor of each element that an entry gives with a character. One that is not final gives none.
+/// Visits each element that an entry gives with a character. One that is not final gives none.
 #[tactic(auto, unfolding(crate::specs::Final::final_elements, icu_entries::specs::Entries::self_contained, icu_entries::specs::Entries::is_self_contained, crate::specs::DataConditions::is_inside, crate::specs::DataConditions::has_known_members, crate::specs::DataConditions::is_readable))]
 pub fn visit_elements<V: VisitElement>(
     visitor: &mut V,

@@ -12,19 +12,19 @@ use crate::walk::{Visit, visit_chars, visit_from};
 use icu_entries::{CollationElement32, EntryKind};
 use std::convert::Infallible;
 
-/// A fault that has a place among all that may be named.
+/// A fault that has a rank among all that may be reported.
 pub trait Ranked: Copy {
-    /// Its place.
+    /// Its rank.
     ghost rank: { Self → ℕ };
 
-    /// Its place: where several are found, the one with the least rank is named.
+    /// Its rank: where several are found, the one with the least rank is reported.
     fn rank(self) -> u32
         ensures { result ≡ rank self };
 }
 
 /// What finds the fault of an entry that is live with a character.
 pub trait Judge {
-    /// What it names.
+    /// What it reports.
     type Fault: Ranked;
 
     /// The fault of an entry, by the entry's home, the character, and the entry.

@@ -2,11 +2,15 @@
 //! and the conditions that these meet.
 #![tactic(auto)]
 
+mod added_context;
+mod blocks;
 pub mod code_point_table;
 pub mod context;
 mod context_conditions;
 pub mod data;
+pub mod data_builder;
 mod data_conditions;
+pub mod data_vectors;
 pub mod element_walk;
 pub mod fault;
 pub mod live_condition;
@@ -17,3 +21,5 @@ pub mod walk;
 pub use code_point_table::CodePointTable;
 pub use context::{Context, ContextRow, ContextTable, FoundContext, FoundRow};
 pub use data::CollationData;
+pub use data_builder::DataBuilder;
+pub use data_vectors::{DataVectors, OwnedData};

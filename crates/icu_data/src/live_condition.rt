@@ -1,3 +1,4 @@
+//! The conditions on the entries that are live in a root or a tailoring, as a list.
 ghost use Rattle.std.specs.Prelude.{◌≡◌, ◌<◌};
 ghost use Rattle.icu_data.specs.LiveConditions.{kind_for, first_failing};
 ghost use Rattle.icu_data.specs.Faults.{condition_rank};
@@ -6,11 +7,11 @@ use crate::data::CollationData;
 use crate::fault::{Judge, Ranked};
 use icu_entries::{CollationElement32, DataErrorKind};
 
-/// A condition on an entry that is live in a root or a tailoring, in the order in which a refusal names them.
+/// A condition on an entry that is live in a root or a tailoring, in the order in which they are reported.
 #[derive(Debug, Clone, Copy, PartialEq, Eq)]
 pub enum LiveCondition {
-    /// What the entry names is there.
-    Places,
+    /// What the entry refers to is there.
+    Indices,
     /// The rows of a prefix have one character or two.
     PrefixRows,
     /// The entry leads only to entries that it may lead to.
@@ -35,7 +36,7 @@ impl LiveCondition {
         ensures { result ≡ kind_for self }
     {
         match self {
-            LiveCondition::Places => DataErrorKind::Index,
+            LiveCondition::Indices => DataErrorKind::Index,
             LiveCondition::PrefixRows => DataErrorKind::Context,
             LiveCondition::Chains => DataErrorKind::Chain,
             LiveCondition::Digits => DataErrorKind::Digit,
@@ -51,13 +52,13 @@ impl LiveCondition {
 impl Ranked for LiveCondition {
     ghost rank = { condition_rank };
 
-    /// Its place among all conditions.
+    /// Its rank among all conditions.
     fn rank(self) -> u32
         ensures value { result ≡ condition_rank self }
         ensures bound { result < 256 }
     {
         match self {
-            LiveCondition::Places => 20,
+            LiveCondition::Indices => 20,
             LiveCondition::PrefixRows => 30,
             LiveCondition::Chains => 40,
             LiveCondition::Digits => 50,

@@ -120,7 +120,7 @@ impl<'w, W: Weigh> Visit for Collector<'w, W> {
 
 /// Adds to a list the weights that are collected of the elements of all entries that are live in a root or a tailoring, in any
 /// order, with or without repetition. A tailoring falls back: a fallback entry of its code point table is none. An entry whose
-/// elements can't be read, and one that is not final, gives none. Where memory is refused, nothing is said of the list.
+/// elements can't be read, and one that is not final, gives none. After an `Err`, out of memory, nothing is said of the list.
 pub fn collect_weights<W: Weigh>(
     weights: &mut Vec<u32>,
     weigh: &W,

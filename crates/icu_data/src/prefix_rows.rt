@@ -1,3 +1,4 @@
+//! Whether the rows of prefixes have diacritics.
 ghost use Rattle.std.specs.Prelude.{◌≡◌, ◌+◌, length, All, not};
 ghost use Rattle.std.specs.List.{list_all};
 ghost use Rattle.icu_data.specs.Data.{Row};
@@ -8,11 +9,14 @@ use crate::context::{ContextRow, FoundContext, chars_of};
 use crate::data::CollationData;
 use icu_entries::{CollationElement32, EntryKind};
 
+/// The first diacritic.
+const COMBINING_DIACRITICS_BASE: usize = 0x0300;
+
 fn is_diacritic(count: usize, c: char) -> bool
     ensures { result ≡ is_diacritic count c }
 {
     let code = c as usize;
-    code >= 0x300 && code - 0x300 < count
+    code >= COMBINING_DIACRITICS_BASE && code - COMBINING_DIACRITICS_BASE < count
 }
 
 fn row_avoids(row: ContextRow, chars: &[char], count: usize) -> bool

@@ -10,9 +10,9 @@ use crate::context::FoundContext;
 use crate::data::CollationData;
 use icu_entries::{CollationElement32, EntryKind};
 
-/// What is told of each live entry.
+/// A visitor of live entries.
 pub trait Visit {
-    /// Why a visit ends the walk, as for want of memory. `Infallible` where none does.
+    /// Why a visit ends the walk, as out of memory. `Infallible` where none does.
     type Refusal;
 
     /// What visits add up to.
@@ -24,7 +24,7 @@ pub trait Visit {
     /// What it is after one more entry, by the entry's home, the character, and the entry.
     ghost after: { Seen → Data → ℕ → ℕ → Seen };
 
-    /// Tells of an entry that is live with a character, and of the entry's home.
+    /// Visits an entry that is live with a character, in the entry's home.
     fn visit(
         &mut self,
         home: CollationData<'_>,
@@ -53,7 +53,7 @@ fn visit_digit<V: Visit>(
 {
     visitor.visit(home, c, entry)?;
     if entry.kind() == EntryKind::Digit {
-        visitor.visit(home, c, home.plain_entry(entry))?;
+        visitor.visit(home, c, home.non_numeric_entry(entry))?;
     }
     Ok(())
 }
@@ -107,7 +107,7 @@ fn visit_contraction_rows<V: Visit>(
     Ok(())
 }
 
-/// Tells a visitor of each entry that is live from this one.
+/// Visits each entry that is live from this one.
 #[tactic(auto, unfolding(crate::specs::Live::live_from))]
 pub fn visit_from<V: Visit>(
     visitor: &mut V,
@@ -127,8 +127,8 @@ pub fn visit_from<V: Visit>(
     }
 }
 
-/// Tells a visitor of each entry that is live with a character of the code point table. In a tailoring, which falls back, a
-/// fallback entry is none.
+/// Visits each entry that is live with a character of the code point table. With `falls_back`, as in a tailoring, fallback entries
+/// are passed over.
 fn visit_char<V: Visit>(
     visitor: &mut V,
     home: CollationData<'_>,
@@ -151,7 +151,7 @@ fn visit_char<V: Visit>(
     visit_from(visitor, home, c, entry)
 }
 
-/// Tells a visitor of each entry that is live with each character.
+/// Visits each entry that is live with each character.
 pub fn visit_chars<V: Visit>(
     visitor: &mut V,
     home: CollationData<'_>,

@@ -3,7 +3,7 @@ use Rattle.std.proofs.Common.{◌≡◌, ℕ, ◌≤◌, true, List, [], ◌∷�
 use Rattle.std.specs.Char.{IsScalar}
 use Rattle.std.specs.List.{AllByRecursion, push}
 use Rattle.std.proofs.lemmas.List.Elements.{recursion_from_All}
-use Rattle.icu_entries.specs.Elements.{Element, accent_element}
+use Rattle.icu_entries.specs.Elements.{Element, of_secondary}
 use Rattle.icu_entries.specs.declared.entry.EntryKind.{EntryKind}
 use Rattle.icu_entries.specs.declared.entry.EntryKind.TheVariants.{Prefix, Contraction, Digit}
 use Rattle.icu_entries.specs.Entries.{kind_of}
@@ -52,7 +52,7 @@ entry_step-non_numeric : (tables : Tables) (h : HomedEntry) (c : ℕ) (text : Li
 unfolding entry_step non_numeric_entry
 entry_step-non_numeric tables h c text = at_digit (kind_of h.entry) h.home c h.entry _ text
 
-at_diacritic : (o : Option ℕ) (text : List ℕ) (matched : Step) (es : List Element) → matched ≡ single es text → (elim o as (λ _. Step) [ Some s ↦ single (accent_element s ∷ []) text | None ↦ matched ]) ≡ single (elim o as (λ _. List Element) [ Some s ↦ accent_element s ∷ [] | None ↦ es ]) text
+at_diacritic : (o : Option ℕ) (text : List ℕ) (matched : Step) (es : List Element) → matched ≡ single es text → (elim o as (λ _. Step) [ Some s ↦ single (of_secondary s ∷ []) text | None ↦ matched ]) ≡ single (elim o as (λ _. List Element) [ Some s ↦ of_secondary s ∷ [] | None ↦ es ]) text
 at_diacritic (Some s) text matched es h = refl
 at_diacritic None text matched es h = h
 

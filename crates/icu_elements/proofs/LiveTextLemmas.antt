@@ -7,8 +7,8 @@ use Rattle.std.specs.List.{AllByRecursion, Contains}
 use Rattle.unicode_normalization.specs.Forms.{nfd}
 use Rattle.icu_levels.specs.Numbers.{run_weights}
 use Rattle.icu_entries.specs.declared.error.DataTable.TheVariants.{Root, Jamo, Tailoring, Diacritics}
-use Rattle.icu_provider.specs.Diacritics.{is_replaced_place}
-use Rattle.icu_entries.specs.Elements.{Element, of_primary, accent_element}
+use Rattle.icu_provider.specs.Diacritics.{is_replaced_index}
+use Rattle.icu_entries.specs.Elements.{Element, of_primary, of_secondary}
 use Rattle.icu_provider.specs.LiveTables.{IsLive}
 use Rattle.icu_data.specs.Data.{Data, homed}
 use Rattle.icu_provider.specs.Tables.{Tables, diacritic_of}
@@ -42,7 +42,7 @@ found false v s is = cc
 index_inside : (c n : ℕ) → (nat_le 0x300 c && nat_lt (c - 0x300) n) ≡ true → c - 0x300 < n
 index_inside c n h = let parts = and_parts (nat_le 0x300 c) (nat_lt (c - 0x300) n) h in grind (arith, nat_tests)
 
-kept_index : (c n : ℕ) → (nat_le 0x300 c && nat_lt (c - 0x300) n) ≡ true → IsTrue (not (is_replaced c)) → is_replaced_place (c - 0x300) ≡ false
+kept_index : (c n : ℕ) → (nat_le 0x300 c && nat_lt (c - 0x300) n) ≡ true → IsTrue (not (is_replaced c)) → is_replaced_index (c - 0x300) ≡ false
 kept_index c n h kept = let parts = and_parts (nat_le 0x300 c) (nat_lt (c - 0x300) n) h in grind (arith, nat_tests)
 
 live_diacritic : (tables : Tables) (x : Element) → IsOfDiacritic tables x → IsLiveElement tables x
@@ -56,7 +56,7 @@ live_diacritic tables x diacritic =
         place = c - 0x300;
         inside = index_inside c _ is.0;
         kept = kept_index c _ is.0 diacritic.decomposed.kept;
-        is = diacritic.element ∙ ap accent_element (sym is.1);
+        is = diacritic.element ∙ ap of_secondary (sym is.1);
       };
     }
 

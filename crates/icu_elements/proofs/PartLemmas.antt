@@ -8,7 +8,7 @@ use Rattle.std.proofs.lemmas.Bool.{and_parts, and_from}
 use Rattle.std.proofs.lemmas.Bool.Decides.{nat_tests}
 use Rattle.icu_entries.specs.declared.entry.EntryKind.{EntryKind}
 use Rattle.icu_entries.specs.declared.entry.EntryKind.TheVariants.{Prefix, Contraction, Digit}
-use Rattle.icu_entries.specs.Elements.{Element, accent_element}
+use Rattle.icu_entries.specs.Elements.{Element, of_secondary}
 use Rattle.icu_entries.specs.Entries.{kind_of, digit_value}
 use Rattle.icu_entries.specs.EntryConditions.{has_digit}
 use Rattle.icu_data.specs.Data.{Data, HomedEntry, homed, plain_of}
@@ -132,10 +132,10 @@ module _ (G : List Element → Type 0) (reading : Reading) (parts : HasGoodParts
       (λ lead good. number_step-gives lead m good (decimal _ s) rest) (record { elements = p; rest = rest }))
       (λ p. record { elements = p; rest = rest }) live small
 
-  diacritic_step-gives : (secondary c : ℕ) (text : List ℕ) → G (accent_element secondary ∷ []) → IsDecomposedText text → Gives G IsDecomposed (diacritic_step reading secondary c text)
+  diacritic_step-gives : (secondary c : ℕ) (text : List ℕ) → G (of_secondary secondary ∷ []) → IsDecomposedText text → Gives G IsDecomposed (diacritic_step reading secondary c text)
   diacritic_step-gives secondary c text good all =
       let silent : Step = record { elements = []; suffix = []; rest = text } in
-      let sounding : Step = record { elements = accent_element secondary ∷ []; suffix = []; rest = text } in
+      let sounding : Step = record { elements = of_secondary secondary ∷ []; suffix = []; rest = text } in
       either (Gives G IsDecomposed) (is_silent_dot reading.lithuanian c text) silent sounding
       (record { elements = parts.none; rest = all }) (record { elements = good; rest = all })
 
@@ -148,7 +148,7 @@ module _ (G : List Element → Type 0) (reading : Reading) (parts : HasGoodParts
       let P : ℕ → Type 0 = λ e. G (final_elements (homed h.home e) c) in
       let finals = match_of-live P IsDecomposed h before text (entry_of-live (λ home c e. G (final_elements (homed home e) c)) reading.tables parts.entries c read.scalar) all in
       let smalls = match_of-live D IsDecomposed h before text (entry_of-live (λ home c e. IsTrue (has_digit e)) reading.tables parts.digits c read.scalar) all in
-      maybe (λ s. G (accent_element s ∷ [])) (Gives G IsDecomposed) (diacritic_of reading.tables c) _ (entry_step reading h.home c m) (parts.diacritics c read)
+      maybe (λ s. G (of_secondary s ∷ [])) (Gives G IsDecomposed) (diacritic_of reading.tables c) _ (entry_step reading h.home c m) (parts.diacritics c read)
       (λ s good. diacritic_step-gives s c text good all)
       (entry_step-gives h.home c m finals.entry (live_digit-head D h.home m.entry smalls.entry) finals.rest)
 
@@ -173,7 +173,7 @@ passes_append test [] fs h k = k
 passes_append test (e ∷ es) fs h k =
     let parts = and_parts (test e) (list_all test es) h in and_from _ _ parts.0 (passes_append test es fs parts.1 k)
 
-diacritic_passes : (test : Element → Bool) (o : Option ℕ) → IfSome o (λ s. IsTrue (test (accent_element s))) → IfSome o (λ s. EachPasses test (accent_element s ∷ []))
+diacritic_passes : (test : Element → Bool) (o : Option ℕ) → IfSome o (λ s. IsTrue (test (of_secondary s))) → IfSome o (λ s. EachPasses test (of_secondary s ∷ []))
 diacritic_passes test (Some s) h = and_from _ _ h refl
 diacritic_passes test None h = tt
 

@@ -9,7 +9,7 @@ use Rattle.icu_provider.specs.declared.diacritics.CollationDiacritics.{Collation
 use Rattle.icu_entries.specs.declared.error.DataTable.TheVariants.{Root, Jamo, Tailoring}
 use Rattle.icu_provider.specs.declared.jamo.CollationJamo.{CollationJamo}
 use Rattle.icu_data.specs.declared.live_condition.LiveCondition.{LiveCondition}
-use Rattle.icu_data.specs.declared.live_condition.LiveCondition.TheVariants.{Places, Digits, Bytes, Offsets}
+use Rattle.icu_data.specs.declared.live_condition.LiveCondition.TheVariants.{Indices, Digits, Bytes, Offsets}
 use Rattle.icu_entries.specs.declared.entry.EntryKind.{EntryKind}
 use Rattle.icu_entries.specs.declared.entry.EntryKind.TheVariants.{Expansion32, Expansion, Prefix, Contraction, Digit, Offset}
 use Rattle.icu_entries.specs.Entries.{kind_of, entry_index}
@@ -19,7 +19,7 @@ use Rattle.icu_data.specs.Live.{live_digit, live_contraction, live_from}
 use Rattle.icu_data.specs.LiveConditions.{meets}
 use Rattle.icu_provider.specs.LiveTables.{HasDigits, IsLive}
 use Rattle.icu_data.specs.StoredData.{data_of}
-use Rattle.icu_provider.specs.StoredTables.{jamo_of, accents_of}
+use Rattle.icu_provider.specs.StoredTables.{jamo_of, diacritics_of}
 use Rattle.icu_data.specs.Data.{Data, HomedEntry, homed, plain_of}
 use Rattle.icu_provider.specs.Tables.{Tables, entry_of}
 use Rattle.icu_data.proofs.ListLemmas.{all_members, of_member}
@@ -43,7 +43,7 @@ pub good_readable : (all : CollatorTables) → IsGoodTables all → AreReadable 
 good_readable all good = record { jamo_count = good.tables.jamo.count; each = live_meets all good }
 
 -- so may the same tables be read part by part
-pub readable_from_parts : (all : CollatorTables) → IsGoodTables all → (root : CollationData) (tailoring : Option CollationData) (jamo : CollationJamo) (diacritics : CollationDiacritics) → data_of root ≡ all.tables.root → option_map data_of tailoring ≡ all.tables.tailoring → jamo_of jamo ≡ all.tables.jamo → accents_of diacritics ≡ all.tables.diacritics → AreReadable (tables_from root tailoring jamo diacritics)
+pub readable_from_parts : (all : CollatorTables) → IsGoodTables all → (root : CollationData) (tailoring : Option CollationData) (jamo : CollationJamo) (diacritics : CollationDiacritics) → data_of root ≡ all.tables.root → option_map data_of tailoring ≡ all.tables.tailoring → jamo_of jamo ≡ all.tables.jamo → diacritics_of diacritics ≡ all.tables.diacritics → AreReadable (tables_from root tailoring jamo diacritics)
 unfolding tables_from
 readable_from_parts all good root tailoring jamo diacritics r t j d = rw (r, t, j, d) (good_readable all good)
 
@@ -73,7 +73,7 @@ good_found t c scalar home e is =
 readable_from : (home : Data) (c e f : ℕ) → IsGoodFrom home c e → Contains (live_from home e) f → IsTrue (is_readable home c f)
 unfolding is_readable
 readable_from home c e f good among =
-    and_from _ _ (and_from _ _ (good Places f among) (and_parts _ _ (good Bytes f among)).1) (good Offsets f among)
+    and_from _ _ (and_from _ _ (good Indices f among) (and_parts _ _ (good Bytes f among)).1) (good Offsets f among)
 
 itself : (home : Data) (e : ℕ) → Contains (live_from home e) e
 itself home e = live_from-head (Contains (live_from home e)) home e (all_members (live_from home e))
@@ -104,5 +104,5 @@ test_inside i n h = grind (arith, nat_tests)
 pub non_numeric_inside : (home : Data) (c e : ℕ) → IsGoodFrom home c e → kind_of e ≡ Digit → entry_index e < length home.entries
 unfolding is_inside
 non_numeric_inside home c e good is =
-    let inside : IsTrue (is_inside home e) = good Places e (itself home e) in
+    let inside : IsTrue (is_inside home e) = good Indices e (itself home e) in
     test_inside _ _ (at_digit (kind_of e) _ _ _ _ _ _ is inside)

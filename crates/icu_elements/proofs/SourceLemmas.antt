@@ -3,7 +3,7 @@ use Rattle.std.proofs.Common.{◌≡◌, ℕ, true, false, List, [], ◌∷◌, 
 use Rattle.std.specs.Char.{IsScalar}
 use Rattle.std.specs.List.{AllByRecursion, Contains}
 use Rattle.unicode_normalization.specs.Forms.{nfd}
-use Rattle.icu_entries.specs.Elements.{accent_element}
+use Rattle.icu_entries.specs.Elements.{of_secondary}
 use Rattle.icu_data.specs.Data.{Data, homed}
 use Rattle.icu_provider.specs.Tables.{Tables, diacritic_of}
 use Rattle.icu_data.specs.Final.{final_elements}
@@ -45,7 +45,7 @@ AllLive-at P tables all home c e (inr (inl (is, jamo, member))) =
 AllLive-at P tables all home c e (inr (inr (is, scalar, member))) =
     of_member (P home c) (live_at true home c) e (subst (λ o. IfSome o (λ (home : Data). EachLive (P home) true home)) is all.tailoring c scalar) member
 
-of_diacritic : (reading : Reading) (c : ℕ) → IsDecomposed c → (o : Option ℕ) → diacritic_of reading.tables c ≡ o → IfSome o (λ s. AllByRecursion (IsTextElement reading) (accent_element s ∷ []))
+of_diacritic : (reading : Reading) (c : ℕ) → IsDecomposed c → (o : Option ℕ) → diacritic_of reading.tables c ≡ o → IfSome o (λ s. AllByRecursion (IsTextElement reading) (of_secondary s ∷ []))
 of_diacritic reading c read None is = tt
 of_diacritic reading c read (Some s) is =
     (inr (inl (record { char = c; secondary = s; decomposed = read; in_table = is; element = refl })), tt)

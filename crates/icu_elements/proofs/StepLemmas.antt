@@ -3,7 +3,7 @@
 use Rattle.std.proofs.Common.{◌≡◌, ℕ, ◌+◌, ◌≤◌, List, [], ◌∷◌, ◌++◌, length, drop, map, take_while, refl, ap, arith, length-append, length-drop}
 use Rattle.icu_entries.specs.declared.entry.EntryKind.{EntryKind}
 use Rattle.icu_entries.specs.declared.entry.EntryKind.TheVariants.{Contraction, Digit}
-use Rattle.icu_entries.specs.Elements.{Element, accent_element}
+use Rattle.icu_entries.specs.Elements.{Element, of_secondary}
 use Rattle.icu_entries.specs.Entries.{kind_of, digit_value}
 use Rattle.icu_data.specs.Data.{Row, Context, Data, HomedEntry, row_entry, longest_row}
 use Rattle.icu_provider.specs.Tables.{Tables, entry_of, diacritic_of}
@@ -77,7 +77,7 @@ Rests-step reading before c text =
     let h = entry_of reading.tables c in
     let m = match_of h before text in
     let silent : Step = record { elements = []; suffix = []; rest = text } in
-    let sounding : ℕ → Step = λ s. record { elements = accent_element s ∷ []; suffix = []; rest = text } in
+    let sounding : ℕ → Step = λ s. record { elements = of_secondary s ∷ []; suffix = []; rest = text } in
     maybe_any (Rests (length text)) (diacritic_of reading.tables c) _ (entry_step reading h.home c m) (λ s. either (Rests (length text)) _ silent (sounding s) (record { fits = omega arith }) (record { fits = omega arith }))
     (record { fits = omega (arith, (Rests-entry_step reading h.home c m).fits, (Leaves-match_of h before text).fits) })
 

@@ -1,7 +1,7 @@
 -- Worked texts, character by character.
 use Rattle.std.proofs.Common.{◌≡◌, ℕ, refl, Bool, true, false, List, [], ◌∷◌, map, Some, if◌then◌else◌, ◌==◌, IsTrue, inr, arith}
 use Rattle.std.specs.List.{AllByRecursion}
-use Rattle.icu_entries.specs.Elements.{Element, element_of, of_primary, accent_element}
+use Rattle.icu_entries.specs.Elements.{Element, element_of, of_primary, of_secondary}
 use Rattle.icu_entries.specs.Entries.{kind_of}
 use Rattle.icu_data.specs.Live.{live_digit, live_contraction, live_from}
 use Rattle.icu_data.specs.Data.{Data}
@@ -15,7 +15,7 @@ abbrev primaries_in : Tables → List ℕ → List ℕ
 primaries_in tables text = map (λ (e : Element). e.primary) (elements_by_char tables text)
 
 -- a letter, a diacritic, a digit as a letter
-mixed : elements_by_char mini (97 ∷ 0x301 ∷ 50 ∷ []) ≡ of_primary 0x61100000 ∷ accent_element 0x4700 ∷ of_primary 0x14180000 ∷ []
+mixed : elements_by_char mini (97 ∷ 0x301 ∷ 50 ∷ []) ≡ of_primary 0x61100000 ∷ of_secondary 0x4700 ∷ of_primary 0x14180000 ∷ []
 unfolding icu_elements non_numeric_entry elements_of_char
 mixed = refl
 

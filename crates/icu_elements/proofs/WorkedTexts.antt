@@ -2,7 +2,7 @@
 use Rattle.std.proofs.Common.{◌≡◌, ℕ, refl, List, [], ◌∷◌, not, ◌==◌, filter, map}
 use Rattle.std.specs.List.{range_with_len}
 use Rattle.unicode_normalization.specs.Forms.{nfd}
-use Rattle.icu_entries.specs.Elements.{Element, of_primary, accent_element}
+use Rattle.icu_entries.specs.Elements.{Element, of_primary, of_secondary}
 use Rattle.icu_elements.specs.TextElements.{Reading, elements_of}
 use Rattle.icu_elements.specs.ByCharacter.{non_numeric_reading}
 use Rattle.icu_elements.proofs.Computing.{icu_elements}
@@ -19,7 +19,7 @@ abbrev letter : ℕ → Element
 letter lead = of_primary lead
 
 abbrev diacritic : ℕ → Element
-diacritic s = accent_element s
+diacritic s = of_secondary s
 
 -- á
 composed_acute : elements_in (non_numeric_reading mini) (0xE1 ∷ []) ≡ letter 0x61100000 ∷ diacritic 0x4700 ∷ []

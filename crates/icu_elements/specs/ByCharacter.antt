@@ -1,6 +1,6 @@
 -- Elements character by character, and where they are a text's elements.
 use Rattle.std.specs.Prelude.{ℕ, ◌≡◌, Bool, true, false, List, [], ◌∷◌, Some, None, flat_map, IsTrue}
-use Rattle.icu_entries.specs.Elements.{Element, accent_element}
+use Rattle.icu_entries.specs.Elements.{Element, of_secondary}
 use Rattle.icu_entries.specs.declared.entry.EntryKind.{EntryKind}
 use Rattle.icu_entries.specs.declared.entry.EntryKind.TheVariants.{Prefix, Contraction, Digit}
 use Rattle.icu_entries.specs.Entries.{kind_of}
@@ -22,7 +22,7 @@ non_numeric_entry h = elim (kind_of h.entry) [ Digit ↦ homed h.home (plain_of 
 unfoldable pub elements_of_char : Tables → ℕ → List Element
 elements_of_char tables c =
     elim (diacritic_of tables c) [
-      | Some secondary ↦ accent_element secondary ∷ []
+      | Some secondary ↦ of_secondary secondary ∷ []
       | None ↦ final_elements (non_numeric_entry (entry_of tables c)) c
     ]
 

@@ -2,7 +2,7 @@
 use Rattle.std.specs.Prelude.{ℕ, Bool, true, false, not, ◌&&◌, ◌||◌, ◌==◌, List, [], ◌∷◌, ◌++◌, Option, Some, None, if◌then◌else◌, take, drop, length, map, reverse, is_some, take_while}
 use Rattle.unicode_normalization.specs.Order.{is_nonstarter}
 use Rattle.icu_levels.specs.Numbers.{run_weights}
-use Rattle.icu_entries.specs.Elements.{Element, of_primary, accent_element}
+use Rattle.icu_entries.specs.Elements.{Element, of_primary, of_secondary}
 use Rattle.icu_entries.specs.declared.entry.EntryKind.{EntryKind}
 use Rattle.icu_entries.specs.declared.entry.EntryKind.TheVariants.{Digit}
 use Rattle.icu_entries.specs.Entries.{kind_of, digit_value}
@@ -78,7 +78,7 @@ entry_step reading home c m =
 abbrev pub diacritic_step : Reading → ℕ → ℕ → List ℕ → Step
 diacritic_step reading secondary c text =
     let silent : Step = record { elements = []; suffix = []; rest = text } in
-    let sounding : Step = record { elements = accent_element secondary ∷ []; suffix = []; rest = text } in
+    let sounding : Step = record { elements = of_secondary secondary ∷ []; suffix = []; rest = text } in
     if is_silent_dot reading.lithuanian c text then silent else sounding
 
 -- what a character gives before a text, with its match

@@ -2,7 +2,7 @@
 use Rattle.std.specs.Prelude.{ℕ, ◌≡◌, ◌⊎◌, ◌<◌, Bool, not, ◌||◌, ◌==◌, List, [], ◌∷◌, ◌++◌, Option, Some, IfSome, IsTrue}
 use Rattle.std.specs.Char.{IsScalar}
 use Rattle.std.specs.List.{AllByRecursion, Contains, list_all}
-use Rattle.icu_entries.specs.Elements.{Element, accent_element}
+use Rattle.icu_entries.specs.Elements.{Element, of_secondary}
 use Rattle.icu_data.specs.Data.{Data, homed}
 use Rattle.icu_provider.specs.Tables.{Tables, diacritic_of}
 use Rattle.icu_data.specs.Final.{final_elements}
@@ -36,7 +36,7 @@ pub record HasGoodParts (IsGood : List Element → Type 0) (reading : Reading) :
   pub append : (es fs : List Element) → IsGood es → IsGood fs → IsGood (es ++ fs)
   pub digits : HasDigits reading.tables
   pub entries : AllLive (λ home c e. IsGood (final_elements (homed home e) c)) reading.tables
-  pub diacritics : (c : ℕ) → IsDecomposed c → IfSome (diacritic_of reading.tables c) (λ s. IsGood (accent_element s ∷ []))
+  pub diacritics : (c : ℕ) → IsDecomposed c → IfSome (diacritic_of reading.tables c) (λ s. IsGood (of_secondary s ∷ []))
   pub numbers : GoodNumbers IsGood reading.numeric
 
 -- each element passes a test
@@ -47,7 +47,7 @@ EachPasses test es = IsTrue (list_all test es)
 pub record PartsPass (test : Element → Bool) (reading : Reading) : Type 0 where
   pub digits : HasDigits reading.tables
   pub entries : AllLive (λ home c e. EachPasses test (final_elements (homed home e) c)) reading.tables
-  pub diacritics : (c : ℕ) → IsDecomposed c → IfSome (diacritic_of reading.tables c) (λ s. IsTrue (test (accent_element s)))
+  pub diacritics : (c : ℕ) → IsDecomposed c → IfSome (diacritic_of reading.tables c) (λ s. IsTrue (test (of_secondary s)))
   pub numbers : GoodNumbers (EachPasses test) reading.numeric
 
 -- ---- where an element of a text comes from
@@ -66,7 +66,7 @@ pub record IsOfDiacritic (tables : Tables) (x : Element) : Type 0 where
   pub secondary : ℕ
   pub decomposed : IsDecomposed char
   pub in_table : diacritic_of tables char ≡ Some secondary
-  pub element : x ≡ accent_element secondary
+  pub element : x ≡ of_secondary secondary
 
 -- one of the elements of a number
 pub record IsOfNumber (numeric : Option ℕ) (x : Element) : Type 0 where

@@ -1,13 +1,13 @@
 -- Worked rows of the definitions on weights, computed.
 use Rattle.std.proofs.Common.{◌≡◌, true, false, refl}
 use Rattle.icu_entries.specs.Elements.{element_of}
-use Rattle.icu_entries.specs.Weights.{place_of, weight_at, offset_place, offset_weight, implicit_weight}
+use Rattle.icu_entries.specs.Weights.{ordinal_of, weight_at, offset_ordinal, offset_weight, implicit_weight}
 use Rattle.icu_entries.specs.ElementConditions.{ends_at_zero, four_bytes, two_bytes}
 
 -- ---- weights
 
 carried : offset_weight (element_of 0x7010FE000003B184) 0x3B2 ≡ 0x70110400
-unfolding offset_weight weight_at offset_place place_of
+unfolding offset_weight weight_at offset_ordinal ordinal_of
 carried = refl
 
 first_implicit : implicit_weight 0 ≡ 0xFE040210

@@ -39,8 +39,8 @@ abbrev pub of_primary : ℕ → Element
 of_primary p = record { primary = p; secondary = common; lower = common }
 
 -- a secondary weight with the common tertiary after it
-abbrev pub accent_element : ℕ → Element
-accent_element s = record { primary = 0; secondary = s; lower = common }
+abbrev pub of_secondary : ℕ → Element
+of_secondary s = record { primary = 0; secondary = s; lower = common }
 
 -- the element that stands after the last one of a text
 abbrev pub end_element : Element

@@ -5,13 +5,20 @@ pub use Rattle.icu_entries.specs.declared.entry.EntryKind.TheVariants.{Simple, F
 use Rattle.icu_entries.specs.declared.entry.Tag as tags
 use Rattle.icu_entries.specs.Elements.{Element, of_primary}
 
+-- the entry of a tailoring for which the root's stands, and the least low byte of an entry that isn't simple
+abbrev pub fallback_entry : ℕ
+fallback_entry = 0xC0
+
+abbrev pub special_low_byte : ℕ
+special_low_byte = 0xC0
+
 abbrev pub low_byte : ℕ → ℕ
 low_byte e = e % 256
 
--- what the low byte names
+-- what an entry is, by its low byte
 unfoldable pub kind_of : ℕ → EntryKind
 kind_of e =
-    if nat_lt (low_byte e) 0xC0 then Simple
+    if nat_lt (low_byte e) special_low_byte then Simple
     else if low_byte e == 0xC0 then Fallback
     else if low_byte e == 0xC1 then LongPrimary
     else if low_byte e == 0xC2 then LongSecondary
@@ -24,7 +31,7 @@ kind_of e =
     else if low_byte e == 0xCF then Implicit
     else Reserved
 
--- bits 8 to 12: the length of the list that the entry names
+-- bits 8 to 12: the length of the list that the entry refers to
 abbrev pub list_length : ℕ → ℕ
 list_length e = e / 256 % 32
 
@@ -32,7 +39,7 @@ list_length e = e / 256 % 32
 abbrev pub digit_value : ℕ → ℕ
 digit_value e = e / 256 % 16
 
--- bits 13 to 31: the place of what the entry names
+-- bits 13 to 31: the index of what the entry refers to
 abbrev pub entry_index : ℕ → ℕ
 entry_index e = e / 8192
 
@@ -88,19 +95,19 @@ tag_of e =
 
 -- none for a simple entry
 abbrev pub checked_tag : ℕ → Option tags.Tag
-checked_tag e = if nat_lt (low_byte e) 0xC0 then None else Some (tag_of e)
+checked_tag e = if nat_lt (low_byte e) special_low_byte then None else Some (tag_of e)
 
 -- the element of a simple entry or of a long primary one
 abbrev pub simple_or_long_primary : ℕ → Option Element
 simple_or_long_primary e =
-    if nat_lt (low_byte e) 0xC0 then Some (simple_element e)
+    if nat_lt (low_byte e) special_low_byte then Some (simple_element e)
     else if low_byte e == 0xC1 then Some (long_primary_element e)
     else None
 
 -- the same, and that of an entry from C0 on whose four lowest bits are those of C2
 abbrev pub self_contained_by_tag : ℕ → Option Element
 self_contained_by_tag e =
-    if nat_lt (low_byte e) 0xC0 then Some (simple_element e)
+    if nat_lt (low_byte e) special_low_byte then Some (simple_element e)
     else if low_byte e == 0xC1 then Some (long_primary_element e)
     else if e % 16 == 2 then Some (long_secondary_element e)
     else None

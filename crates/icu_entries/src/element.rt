@@ -1,12 +1,25 @@
+//! Collation elements (UTS #10, section 3).
 ghost use Rattle.std.specs.Prelude.{◌≡◌, ◌≤◌, ◌⊎◌, ◌↔◌, IsTrue, bit_or};
-ghost use Rattle.icu_entries.specs.Elements.{element_of, of_primary, accent_element, end_element, non_primary, non_primary_bits};
+ghost use Rattle.icu_entries.specs.Elements.{element_of, of_primary, of_secondary, end_element, non_primary, non_primary_bits};
 ghost use Rattle.icu_entries.specs.Weights.{implicit_weight};
 
 use crate::non_primary::NonPrimary;
 use std::marker::Model;
 
 /// The common secondary weight, and the lower half with the common tertiary weight.
-const COMMON: u16 = 0x500;
+pub const COMMON_WEIGHT16: u16 = 0x0500;
+
+/// The primary weight that parts fields from one another: U+FFFE's.
+pub const MERGE_SEPARATOR_PRIMARY: u32 = 0x0200_0000;
+
+/// The primary weight of the end element.
+const NO_CE_PRIMARY: u32 = 1;
+
+/// The secondary weight of the end element.
+pub(crate) const NO_CE_SECONDARY: u16 = 0x0100;
+
+/// The lower half of the end element.
+pub(crate) const NO_CE_TERTIARY: u16 = 0x0100;
 
 /// A collation element (UTS #10, section 3): a primary weight (32 bits), a secondary weight (16 bits), and
 /// case, tertiary weight and quaternary bits in a lower half of 16 bits.
@@ -53,26 +66,26 @@ impl CollationElement {
     pub fn new_from_primary(primary: u32) -> Self
         ensures { result ≡ of_primary primary }
     {
-        CollationElement::from_weights(primary, COMMON, COMMON)
+        CollationElement::from_weights(primary, COMMON_WEIGHT16, COMMON_WEIGHT16)
     }
 
     /// A secondary weight, without a primary one, and the common tertiary weight after it.
     pub fn new_from_secondary(secondary: u16) -> Self
-        ensures { result ≡ accent_element secondary }
+        ensures { result ≡ of_secondary secondary }
     {
-        CollationElement::from_weights(0, secondary, COMMON)
+        CollationElement::from_weights(0, secondary, COMMON_WEIGHT16)
     }
 
-    /// The element of a character that no table names: its implicit weight (UTS #10, section 10.1), with common
+    /// The element of a character that has an entry of its own in no table: its implicit weight (UTS #10, section 10.1), with common
     /// weights after it.
     #[tactic(auto, unfolding(crate::specs::Weights::implicit_weight))]
     pub fn new_implicit_from_char(c: char) -> Self
         ensures { result ≡ of_primary (implicit_weight c) }
     {
-        let place = c as u32 + 1;
-        let second = 4 + place / 4572 % 251;
-        let third = 2 + place / 18 % 254;
-        let fourth = 2 + 14 * (place % 18);
+        let ordinal = c as u32 + 1;
+        let second = 4 + ordinal / 4572 % 251;
+        let third = 2 + ordinal / 18 % 254;
+        let fourth = 2 + 14 * (ordinal % 18);
         CollationElement::new_from_primary(0xFE00_0000 + second * 0x10000 + third * 0x100 + fourth)
     }
 
@@ -104,7 +117,7 @@ impl CollationElement {
         self.secondary
     }
 
-    /// Case, tertiary weight and quaternary bits, in their places.
+    /// The lower half: case, tertiary weight and quaternary bits.
     pub(crate) fn lower(self) -> u16
         ensures { result ≡ self.lower }
     {
@@ -138,6 +151,6 @@ impl Default for CollationElement {
     ghost is_default = { λ e. e ≡ end_element };
 
     fn default() -> Self {
-        CollationElement::from_weights(1, 0x100, 0x100)
+        CollationElement::from_weights(NO_CE_PRIMARY, NO_CE_SECONDARY, NO_CE_TERTIARY)
     }
 }

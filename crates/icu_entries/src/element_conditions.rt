@@ -1,8 +1,9 @@
+//! The conditions on one collation element.
 ghost use Rattle.std.specs.Prelude.{◌≡◌, ◌∷◌, []};
 ghost use Rattle.icu_entries.specs.Elements.{common, case_mask};
 ghost use Rattle.icu_entries.specs.ElementConditions.{four_bytes, two_bytes, may_precede, ends_at_zero, tertiary_of, has_whole_weights, has_weights_below, has_lower_half, has_shape, has_secondary_lead, has_tertiary_lead, has_leads, is_separator, has_primary_lead, element_meets};
 
-use crate::element::CollationElement;
+use crate::element::{COMMON_WEIGHT16, CollationElement, MERGE_SEPARATOR_PRIMARY};
 
 /// A condition on one element.
 #[derive(Debug, Clone, Copy, PartialEq, Eq)]
@@ -59,7 +60,7 @@ fn has_secondary_lead(forward: bool, secondary: u16) -> bool
 {
     let lead = secondary / 256;
     secondary == 0
-        || secondary == 0x500
+        || secondary == COMMON_WEIGHT16
         || forward && lead == 2
         || lead == 3
         || lead == 4
@@ -71,7 +72,10 @@ fn has_tertiary_lead(tertiary: u16) -> bool
     ensures { result ≡ has_tertiary_lead tertiary }
 {
     let lead = tertiary / 256;
-    tertiary == 0 || tertiary == 0x500 || lead >= 2 && lead <= 4 || lead >= 6 && lead <= 0x3F
+    tertiary == 0
+        || tertiary == COMMON_WEIGHT16
+        || lead >= 2 && lead <= 4
+        || lead >= 6 && lead <= 0x3F
 }
 
 impl CollationElement {
@@ -121,7 +125,9 @@ impl CollationElement {
     fn is_separator(self) -> bool
         ensures { result ≡ is_separator self }
     {
-        self.primary() == 0x0200_0000 && self.secondary() == 0x500 && self.lower() == 0x500
+        self.primary() == MERGE_SEPARATOR_PRIMARY
+            && self.secondary() == COMMON_WEIGHT16
+            && self.lower() == COMMON_WEIGHT16
     }
 
     /// Whether the primary weight has a lead byte that it may have.

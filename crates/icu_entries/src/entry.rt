@@ -1,44 +1,79 @@
+//! Entries: the 32 bits that a table holds for a character.
 ghost use Rattle.std.specs.Prelude.{◌≡◌, ◌==◌, ◌+◌, ◌*◌, ◌<◌, ◌^◌, [], ◌∷◌, ◌↔◌, IsTrue, slice_index};
-ghost use Rattle.icu_entries.specs.Entries.{kind_of, tag_of, checked_tag, list_length, entry_index, digit_value, has_bit, is_self_contained, self_contained, simple_element, long_primary_element, long_secondary_element, simple_or_long_primary, self_contained_by_tag, names_list, has_index};
+ghost use Rattle.icu_entries.specs.Entries.{fallback_entry, kind_of, tag_of, checked_tag, list_length, entry_index, digit_value, has_bit, is_self_contained, self_contained, simple_element, long_primary_element, long_secondary_element, simple_or_long_primary, self_contained_by_tag, names_list, has_index};
 
 use crate::element::CollationElement;
 use std::marker::Model;
 
-/// What the low byte of an entry names. `Reserved` is every low byte that has no meaning in tables.
+/// The entry of a tailoring for which the root's stands.
+pub const FALLBACK_CE32: u32 = 0xC0;
+
+/// The least low byte of an entry that isn't simple.
+const SPECIAL_CE32_LOW_BYTE: u32 = 0xC0;
+
+/// What an entry is, by its low byte. `Reserved` is every low byte that has no meaning in tables.
 #[derive(Debug, Clone, Copy, PartialEq, Eq)]
 pub enum EntryKind {
+    /// `pppp ss tt`: one element, with two bytes of primary weight.
     Simple,
+    /// The root's entry stands for it.
     Fallback,
+    /// One element, with three bytes of primary weight and common weights below.
     LongPrimary,
+    /// One element without a primary weight, with two bytes of secondary weight.
     LongSecondary,
+    /// A list of entries.
     Expansion32,
+    /// A list of elements.
     Expansion,
+    /// A context of the characters before.
     Prefix,
+    /// A context of the characters after.
     Contraction,
+    /// A digit, and the entry that it has where numbers are compared as text.
     Digit,
+    /// An element that is counted from that of another character.
     Offset,
+    /// The implicit weight of the character.
     Implicit,
+    /// No meaning.
     Reserved,
 }
 
 /// The four lowest bits of an entry, under ICU's names.
 #[derive(Debug, Clone, Copy, PartialEq, Eq)]
 pub enum Tag {
+    /// The root's entry stands for it.
     Fallback = 0,
+    /// A primary weight of three bytes.
     LongPrimary = 1,
+    /// A secondary weight of two bytes.
     LongSecondary = 2,
+    /// Not used.
     Reserved3 = 3,
+    /// Not used in these tables.
     LatinExpansion = 4,
+    /// A list of entries.
     Expansion32 = 5,
+    /// A list of elements.
     Expansion = 6,
+    /// Not used in these tables.
     BuilderData = 7,
+    /// A context of the characters before.
     Prefix = 8,
+    /// A context of the characters after.
     Contraction = 9,
+    /// A digit.
     Digit = 10,
+    /// Not used in these tables.
     U0000 = 11,
+    /// Not used in these tables.
     Hangul = 12,
+    /// Not used in these tables.
     LeadSurrogate = 13,
+    /// An element that is counted from that of another character.
     Offset = 14,
+    /// The implicit weight of the character.
     Implicit = 15,
 }
 
@@ -76,7 +111,7 @@ impl CollationElement32 {
         }
     }
 
-    /// What the low byte names.
+    /// What the entry is.
     #[tactic(auto, unfolding(crate::specs::Entries::kind_of))]
     pub fn kind(self) -> EntryKind
         ensures { result ≡ kind_of self }
@@ -107,16 +142,16 @@ impl CollationElement32 {
 
     /// Whether it is the entry of a tailoring for which the root's stands.
     pub fn is_fallback(self) -> bool
-        ensures { result ≡ (self == 0xC0) }
+        ensures { result ≡ (self == fallback_entry) }
     {
-        self.bits == 0xC0
+        self.bits == FALLBACK_CE32
     }
 
     /// The tag of an entry that isn't simple.
     pub fn tag_checked(self) -> Option<Tag>
         ensures { result ≡ checked_tag self }
     {
-        if self.bits & 0xff < 0xC0 {
+        if self.bits & 0xff < SPECIAL_CE32_LOW_BYTE {
             None
         } else {
             Some(self.tag())
@@ -186,7 +221,7 @@ impl CollationElement32 {
         }
     }
 
-    /// The length of the list that the entry names, at most 31.
+    /// The length of the list that the entry refers to, at most 31.
     pub fn len(self) -> usize
         requires { IsTrue (names_list (kind_of self)) }
         ensures value { result ≡ list_length self }
@@ -195,7 +230,7 @@ impl CollationElement32 {
         (self.bits >> 8 & 0x1f) as usize
     }
 
-    /// The place of what the entry names.
+    /// The index of what the entry refers to.
     pub fn index(self) -> usize
         requires { IsTrue (has_index (kind_of self)) }
         ensures value { result ≡ entry_index self }

@@ -1,3 +1,4 @@
+//! The conditions on one entry by itself.
 ghost use Rattle.std.specs.Prelude.{◌≡◌, IsTrue};
 ghost use Rattle.icu_entries.specs.Entries.{is_self_contained, kind_of, names_list};
 ghost use Rattle.icu_entries.specs.Entries.{is_final};
@@ -47,7 +48,7 @@ impl CollationElement32 {
         )
     }
 
-    /// Whether the list that the entry names has a member, and lies inside one of this length.
+    /// Whether the list that the entry refers to has a member, and lies inside one of this length.
     pub fn is_listed(self, len: usize) -> bool
         requires { IsTrue (names_list (kind_of self)) }
         ensures { result ≡ is_listed self len }

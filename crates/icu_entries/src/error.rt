@@ -1,3 +1,4 @@
+//! Which table is refused, and why.
 use thiserror::Error;
 
 /// Why a table is refused.
@@ -7,7 +8,7 @@ pub enum DataErrorKind {
     Absent,
     /// A table has another number of members than it must have.
     Length,
-    /// A place that is named lies outside its table, or a list has no member.
+    /// An index lies outside its table, or a list has no member.
     Index,
     /// A digit entry holds a digit above 9.
     Digit,
@@ -27,19 +28,26 @@ pub enum DataErrorKind {
     Reordering,
     /// The numeric lead, or the last primary weight of a group, is out of its range.
     SpecialPrimary,
-    /// A growth was refused.
+    /// Out of memory.
     NoMemory,
 }
 
 /// The tables of a collator.
 #[derive(Debug, Clone, Copy, PartialEq, Eq)]
 pub enum DataTable {
+    /// The root.
     Root,
+    /// The entries of the conjoining jamo.
     Jamo,
+    /// The special primary weights.
     SpecialPrimaries,
+    /// The metadata.
     Metadata,
+    /// The tailoring.
     Tailoring,
+    /// The reordering.
     Reordering,
+    /// The secondary weights of diacritics.
     Diacritics,
 }
 
@@ -47,6 +55,8 @@ pub enum DataTable {
 #[derive(Debug, Clone, Copy, PartialEq, Eq, Error)]
 #[error("collation table {table:?}: {kind:?}")]
 pub struct DataError {
+    /// The table.
     pub table: DataTable,
+    /// Why it is refused.
     pub kind: DataErrorKind,
 }

@@ -1,17 +1,22 @@
+//! The part of a collation element beside its primary weight.
 ghost use Rattle.std.specs.Prelude.{◌≡◌, ◌≤◌, ◌↔◌, IsTrue, bit_and, bit_or};
 ghost use Rattle.icu_entries.specs.Elements.{non_primary_of, non_primary_bits, case_mask, tertiary_mask, quaternary_mask};
 
+use crate::element::{NO_CE_SECONDARY, NO_CE_TERTIARY};
 use std::marker::Model;
 
-const CASE: u16 = 0xC000;
+/// The case bits of a lower half.
+const CASE_MASK: u16 = 0xC000;
 
-const TERTIARY: u16 = 0x3F3F;
+/// The tertiary weight in a lower half.
+const TERTIARY_MASK: u16 = 0x3F3F;
 
-const QUATERNARY: u16 = 0xC0;
+/// The quaternary bits of a lower half.
+const QUATERNARY_MASK: u16 = 0xC0;
 
 /// What a collation element has beside its primary weight: the secondary weight (16 bits), and a lower half
-/// with case (two highest bits), tertiary weight (under 3F3F) and quaternary bits (7 and 6). The fields of the lower
-/// half are given in their places (UTS #10, section 3).
+/// with case (two highest bits), tertiary weight (under 3F3F) and quaternary bits (7 and 6). Calls
+/// return the fields of the lower half without a shift (UTS #10, section 3).
 #[derive(Debug, Clone, Copy, PartialEq)]
 pub struct NonPrimary {
     secondary: u16,
@@ -63,21 +68,21 @@ impl NonPrimary {
     pub fn case(self) -> u16
         ensures { result ≡ bit_and self.lower case_mask }
     {
-        self.lower & CASE
+        self.lower & CASE_MASK
     }
 
     /// The tertiary weight.
     pub fn tertiary(self) -> u16
         ensures { result ≡ bit_and self.lower tertiary_mask }
     {
-        self.lower & TERTIARY
+        self.lower & TERTIARY_MASK
     }
 
     /// Whether there is no tertiary weight: the lower half is at most that of the end element.
     pub fn tertiary_ignorable(self) -> bool
         ensures { IsTrue result ↔ (self.lower ≤ 0x100) }
     {
-        self.lower <= 0x100
+        self.lower <= NO_CE_TERTIARY
     }
 
     /// The quaternary bits, with all other bits set.
@@ -98,7 +103,7 @@ impl NonPrimary {
     pub fn case_quaternary(self) -> u16
         ensures { result ≡ bit_and self.lower 0xC0C0 }
     {
-        self.lower & (CASE | QUATERNARY)
+        self.lower & (CASE_MASK | QUATERNARY_MASK)
     }
 
     /// Whether all 32 bits are 0.
@@ -115,8 +120,8 @@ impl Default for NonPrimary {
 
     fn default() -> Self {
         NonPrimary {
-            secondary: 0x100,
-            lower: 0x100,
+            secondary: NO_CE_SECONDARY,
+            lower: NO_CE_TERTIARY,
         }
     }
 }

@@ -1,5 +1,6 @@
+//! Weights of three bytes that are counted from another one.
 ghost use Rattle.std.specs.Prelude.{◌≡◌, ◌<◌, IsTrue};
-ghost use Rattle.icu_entries.specs.Weights.{second_bytes, least_second_byte, lead_at, weight_at, offset_base, offset_compressible, offset_step, place_of_weight, offset_place, offset_weight, offset_element};
+ghost use Rattle.icu_entries.specs.Weights.{second_bytes, least_second_byte, lead_at, weight_at, offset_base, offset_compressible, offset_step, ordinal_of_weight, offset_ordinal, offset_weight, offset_element};
 ghost use Rattle.icu_entries.specs.EntryConditions.{is_three_byte_weight, has_offset_weight};
 
 use crate::element::CollationElement;
@@ -19,10 +20,10 @@ fn least_second_byte(compressible: bool) -> u32
     if compressible { 4 } else { 2 }
 }
 
-/// The place of a weight of three bytes among all of them.
-#[tactic(auto, unfolding(crate::specs::Weights::place_of))]
-fn place_of_weight(compressible: bool, weight: u32) -> u32
-    ensures value { result ≡ place_of_weight compressible weight }
+/// The ordinal of a weight of three bytes among all of them.
+#[tactic(auto, unfolding(crate::specs::Weights::ordinal_of))]
+fn ordinal_of_weight(compressible: bool, weight: u32) -> u32
+    ensures value { result ≡ ordinal_of_weight compressible weight }
     ensures bound { result < 0x2000000 }
 {
     let lead = weight >> 24;
@@ -44,15 +45,15 @@ fn is_three_byte_weight(compressible: bool, weight: u32) -> bool
         && weight & 0xff == 0
 }
 
-/// The weight of three bytes at a place.
+/// The weight of three bytes with an ordinal.
 #[tactic(auto, unfolding(crate::specs::Weights::weight_at))]
-fn weight_at(compressible: bool, place: u32) -> u32
-    requires { lead_at compressible place < 256 }
-    ensures { result ≡ weight_at compressible place }
+fn weight_at(compressible: bool, ordinal: u32) -> u32
+    requires { lead_at compressible ordinal < 256 }
+    ensures { result ≡ weight_at compressible ordinal }
 {
-    let lead = place / 254 / second_bytes(compressible);
-    let second = place / 254 % second_bytes(compressible) + least_second_byte(compressible);
-    let third = place % 254 + 2;
+    let lead = ordinal / 254 / second_bytes(compressible);
+    let second = ordinal / 254 % second_bytes(compressible) + least_second_byte(compressible);
+    let third = ordinal % 254 + 2;
     lead * 0x1000000 + second * 0x10000 + third * 0x100
 }
 
@@ -77,12 +78,12 @@ impl CollationElement {
         self.non_primary().bits() & 0x7f
     }
 
-    /// The place of a character's weight by offset data.
-    #[tactic(auto, unfolding(crate::specs::Weights::offset_place))]
-    fn offset_place(self, c: char) -> u32
-        ensures { result ≡ offset_place self c }
+    /// The ordinal of a character's weight by offset data.
+    #[tactic(auto, unfolding(crate::specs::Weights::offset_ordinal))]
+    fn offset_ordinal(self, c: char) -> u32
+        ensures { result ≡ offset_ordinal self c }
     {
-        let start = place_of_weight(self.offset_compressible(), self.primary());
+        let start = ordinal_of_weight(self.offset_compressible(), self.primary());
         start + (c as u32).saturating_sub(self.offset_base()) * self.offset_step()
     }
 
@@ -94,17 +95,17 @@ impl CollationElement {
         let compressible = self.offset_compressible();
         c as u32 >= self.offset_base()
             && is_three_byte_weight(compressible, self.primary())
-            && self.offset_place(c) / 254 / second_bytes(compressible) < 256
+            && self.offset_ordinal(c) / 254 / second_bytes(compressible) < 256
     }
 
     /// The element of a character by offset data.
-    #[tactic(auto, using(crate::proofs::OffsetLemmas::place_of_weight_at), unfolding(crate::specs::Weights::offset_weight, crate::specs::EntryConditions::has_offset_weight))]
+    #[tactic(auto, using(crate::proofs::OffsetLemmas::ordinal_of_weight_at), unfolding(crate::specs::Weights::offset_weight, crate::specs::EntryConditions::has_offset_weight))]
     pub fn offset_element(self, c: char) -> CollationElement
         requires { IsTrue (has_offset_weight self c) }
         ensures value { result ≡ offset_element self c }
-        ensures place { place_of_weight (offset_compressible self) result.primary ≡ offset_place self c }
+        ensures place { ordinal_of_weight (offset_compressible self) result.primary ≡ offset_ordinal self c }
     {
         let compressible = self.offset_compressible();
-        CollationElement::new_from_primary(weight_at(compressible, self.offset_place(c)))
+        CollationElement::new_from_primary(weight_at(compressible, self.offset_ordinal(c)))
     }
 }

@@ -1,4 +1,4 @@
--- The bytes of a number, the highest first
+-- The bytes of a number, the highest first.
 use Rattle.std.proofs.Common.{◌≡◌, ℕ, ◌<◌, ◌^◌, [], ◌∷◌, refl, arith}
 use Rattle.std.specs.Int.{to_be_bytes, w16, w32}
 use Rattle.icu_levels.specs.WeightBytes.{digits}

@@ -1,14 +1,14 @@
--- Nibbles of a level that counts runs, one case at a time
+-- Nibbles of a level that counts runs, one case at a time.
 use Rattle.std.proofs.Common.{◌≡◌, ◌≢◌, ℕ, suc, List, [], ◌∷◌, ◌++◌, sym, ap, ◌∙◌, append_assoc}
 use Rattle.std.proofs.lemmas.List.{append-nil}
-use Rattle.icu_levels.specs.declared.rows.Row.{Row}
+use Rattle.icu_levels.specs.declared.run_bytes.RunBytes.{RunBytes}
 use Rattle.icu_levels.specs.Runs.{run_before_less, run_before, level_bytes}
 use Rattle.icu_levels.specs.Cases.{packed}
 use Rattle.icu_levels.proofs.LevelOrder.{level_common}
 use Rattle.icu_keys.proofs.RunSteps.{other_level}
 
 -- a common case is counted
-pub counted_case : (q r : Row) (spell : ℕ → List ℕ) (n m w : ℕ) (ws held due byte left : List ℕ) → q ≡ r → w ≡ r.common
+pub counted_case : (q r : RunBytes) (spell : ℕ → List ℕ) (n m w : ℕ) (ws held due byte left : List ℕ) → q ≡ r → w ≡ r.common
     → ((vs : List ℕ) → level_bytes r spell (suc n) vs ≡ due ++ level_bytes r spell m vs)
     → ((ns : List ℕ) → packed (held ++ (due ++ ns)) ≡ byte ++ packed (left ++ ns))
     → packed (held ++ level_bytes q spell n (w ∷ ws)) ≡ byte ++ packed (left ++ level_bytes q spell m ws)
@@ -18,7 +18,7 @@ counted_case q r spell n m w ws held due byte left d e counts packs =
     ∙ (packs (level_bytes r spell m ws) ∙ ap (λ p. byte ++ packed (left ++ level_bytes p spell m ws)) (sym d)))
 
 -- another case ends the run, and its own nibble follows
-pub other_case : (q r : Row) (spell : ℕ → List ℕ) (n m w v nibble : ℕ) (ws held last first mid second left : List ℕ) → q ≡ r → w ≡ v → v ≢ r.common
+pub other_case : (q r : RunBytes) (spell : ℕ → List ℕ) (n m w v nibble : ℕ) (ws held last first mid second left : List ℕ) → q ≡ r → w ≡ v → v ≢ r.common
     → last ≡ run_before r n v → spell v ≡ nibble ∷ [] → m ≡ 0
     → ((ns : List ℕ) → packed (held ++ (last ++ ns)) ≡ first ++ packed (mid ++ ns))
     → ((ns : List ℕ) → packed (mid ++ (nibble ∷ ns)) ≡ second ++ packed (left ++ ns))
@@ -33,7 +33,7 @@ other_case q r spell n m w v nibble ws held last first mid second left d f other
     ∙ ap (λ p. (first ++ second) ++ packed (left ++ level_bytes p spell m ws)) (sym d))))))
 
 -- the end closes the run, and pads a nibble that is left
-pub end_case : (q r : Row) (n : ℕ) (held last first mid second : List ℕ) → q ≡ r → last ≡ run_before_less r n
+pub end_case : (q r : RunBytes) (n : ℕ) (held last first mid second : List ℕ) → q ≡ r → last ≡ run_before_less r n
     → ((ns : List ℕ) → packed (held ++ (last ++ ns)) ≡ first ++ packed (mid ++ ns))
     → second ≡ packed mid
     → packed (held ++ run_before_less q n) ≡ first ++ second

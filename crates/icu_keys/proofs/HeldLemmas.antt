@@ -1,7 +1,12 @@
--- Levels that are held back
-use Rattle.std.proofs.Common.{◌≡◌, ℕ, Bool, true, false, ◌&&◌, cond, List, [], refl}
+-- Lists of bytes to which a level is written.
+use Rattle.std.proofs.Common.{◌≡◌, ℕ, List, ◌++◌, sym, ap, ◌∙◌, append_assoc, Result, Ok, Err, OnOk}
+use Rattle.icu_keys.specs.Writes.{Feeds}
 
--- what does not vanish is written
-pub held_bytes : (v b : Bool) (bs : List ℕ) → v ≡ false → cond (v && b) [] bs ≡ bs
-held_bytes true b bs e = cc
-held_bytes false b bs e = refl
+-- what a list holds and what is still to be written, before a call that is fed and after it
+pub fed_held : {X St E A B : Type 0} (items : X → List ℕ) (refused : X → St → List ℕ → E → X → St → Type 0) (x y : X) (s t : St)
+    (before after : A × B → List ℕ) (r : Result Unit E) → Feeds (λ x _ b y _. items y ≡ items x ++ b) refused x s before after r y t
+    → OnOk r ((a : A) (b : B) → items x ++ before (a, b) ≡ items y ++ after (a, b))
+fed_held items refused x y s t before after (Ok v) w = λ a b.
+    ap (λ l. items x ++ l) (w.leaves (a, b))
+    ∙ (sym (append_assoc (items x) w.front (after (a, b))) ∙ ap (λ l. l ++ after (a, b)) (sym w.taken))
+fed_held items refused x y s t before after (Err e) w = tt

@@ -1,4 +1,4 @@
--- The identical level, one character at a time
+-- The identical level, one character at a time.
 use Rattle.std.proofs.Common.{◌≡◌, ◌≢◌, ℕ, ◌+◌, ◌-◌, ◌^◌, List, ◌∷◌, ◌++◌, refl, sym, ap, ◌∙◌, eq-eqb, ne_eqb}
 use Rattle.icu_levels.specs.Identical.{identical_bytes, difference_bytes, base_after}
 

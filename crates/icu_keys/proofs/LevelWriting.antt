@@ -1,26 +1,26 @@
--- Feeding a level that counts runs
+-- Feeding a level that counts runs.
 use Rattle.std.proofs.Common.{◌≡◌, ℕ, List, ◌∷◌, sym, subst, Result}
-use Rattle.icu_levels.specs.declared.rows.Row.{Row}
+use Rattle.icu_levels.specs.declared.run_bytes.RunBytes.{RunBytes}
 use Rattle.icu_levels.specs.Runs.{level_bytes}
 use Rattle.icu_keys.specs.Writes.{Writes, Feeds}
 
 module _ {X St E : Type 0} (took : X → St → List ℕ → X → St → Type 0) (refused : X → St → List ℕ → E → X → St → Type 0) where
   -- the same weight under another name
-  pub feeds_weight : (x y : X) (s t : St) (r : Row) (spell : ℕ → List ℕ) (n m v w : ℕ) (result : Result Unit E) → v ≡ w
+  pub feeds_weight : (x y : X) (s t : St) (r : RunBytes) (spell : ℕ → List ℕ) (n m v w : ℕ) (result : Result Unit E) → v ≡ w
       → Feeds took refused x s (λ ws. level_bytes r spell n (w ∷ ws)) (level_bytes r spell m) result y t
       → Feeds took refused x s (λ ws. level_bytes r spell n (v ∷ ws)) (level_bytes r spell m) result y t
   feeds_weight x y s t r spell n m v w result e f =
       subst (λ (u : ℕ). Feeds took refused x s (λ ws. level_bytes r spell n (u ∷ ws)) (level_bytes r spell m) result y t) (sym e) f
 
-  -- and the same row
-  pub feeds_row : (x y : X) (s t : St) (q r : Row) (spell : ℕ → List ℕ) (n m v w : ℕ) (result : Result Unit E) → q ≡ r → v ≡ w
+  -- and the same run bytes
+  pub feeds_runs : (x y : X) (s t : St) (q r : RunBytes) (spell : ℕ → List ℕ) (n m v w : ℕ) (result : Result Unit E) → q ≡ r → v ≡ w
       → Feeds took refused x s (λ ws. level_bytes r spell n (w ∷ ws)) (level_bytes r spell m) result y t
       → Feeds took refused x s (λ ws. level_bytes q spell n (v ∷ ws)) (level_bytes q spell m) result y t
-  feeds_row x y s t q r spell n m v w result d e f =
-      subst (λ (p : Row). Feeds took refused x s (λ ws. level_bytes p spell n (v ∷ ws)) (level_bytes p spell m) result y t) (sym d)
+  feeds_runs x y s t q r spell n m v w result d e f =
+      subst (λ (p : RunBytes). Feeds took refused x s (λ ws. level_bytes p spell n (v ∷ ws)) (level_bytes p spell m) result y t) (sym d)
       (feeds_weight x y s t r spell n m v w result e f)
 
-  pub writes_row : (x y : X) (s t : St) (q r : Row) (spell : ℕ → List ℕ) (n : ℕ) (ws : List ℕ) (result : Result Unit E) → q ≡ r
+  pub writes_runs : (x y : X) (s t : St) (q r : RunBytes) (spell : ℕ → List ℕ) (n : ℕ) (ws : List ℕ) (result : Result Unit E) → q ≡ r
       → Writes took refused x s (level_bytes r spell n ws) result y t → Writes took refused x s (level_bytes q spell n ws) result y t
-  writes_row x y s t q r spell n ws result d f =
-      subst (λ (p : Row). Writes took refused x s (level_bytes p spell n ws) result y t) (sym d) f
+  writes_runs x y s t q r spell n ws result d f =
+      subst (λ (p : RunBytes). Writes took refused x s (level_bytes p spell n ws) result y t) (sym d) f

@@ -8,4 +8,5 @@ pub mod IdenticalSteps
 pub mod PrimarySteps
 pub mod CaseSteps
 pub mod SegmentLemmas
+pub mod KeyWriting
 pub mod HeldLemmas

@@ -1,11 +1,8 @@
--- The bytes of one primary
-use Rattle.std.proofs.Common.{◌≡◌, ℕ, ◌<◌, ◌^◌, [], ◌∷◌, refl, arith, drop, get_or, eq-eqb}
+-- The bytes of one primary.
+use Rattle.std.proofs.Common.{◌≡◌, ℕ, ◌<◌, ◌^◌, [], ◌∷◌, refl, arith, drop, get_or}
 use Rattle.std.specs.Int.{to_be_bytes, w32}
-use Rattle.icu_levels.specs.WeightBytes.{digits, weight_bytes}
-use Rattle.icu_levels.specs.Primaries.{lead, below_lead, primary_bytes}
-
-pub same_lead : (d w : ℕ) → lead w ≡ d → primary_bytes d w ≡ weight_bytes 3 (below_lead w)
-same_lead d w e = rw (eq-eqb (lead w) d e) refl
+use Rattle.icu_levels.specs.WeightBytes.{digits}
+use Rattle.icu_levels.specs.Primaries.{lead, below_lead}
 
 three_alike : (a b c k l m : ℕ) → a ≡ k → b ≡ l → c ≡ m → a ∷ b ∷ c ∷ [] ≡ k ∷ l ∷ m ∷ []
 three_alike a b c k l m p q r = rw (p, q, r) refl

@@ -1,4 +1,4 @@
--- Segments of a backward level
+-- Segments of a backward level.
 use Rattle.std.proofs.Common.{◌≡◌, ℕ, ◌+◌, List, [], ◌∷◌, ◌++◌, sym, ap, ◌∙◌, append_assoc, length, take, get_or, map, reverse}
 use Rattle.std.proofs.lemmas.List.{append-nil, reverse-append}
 use Rattle.icu_levels.specs.Secondaries.{secondary_level, further_segments}

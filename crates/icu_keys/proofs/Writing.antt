@@ -1,7 +1,13 @@
--- Writes one after another
+-- Writes one after another.
 use Rattle.std.proofs.Common.{◌≡◌, ℕ, List, [], ◌++◌, refl, sym, ap, subst, ◌∙◌, append_assoc, Result, Ok, Err, MatchResult}
 use Rattle.std.proofs.lemmas.List.{append-nil}
-use Rattle.icu_keys.specs.Writes.{Writes, WriteFails, Brings, Feeds, Owes}
+use Rattle.icu_keys.specs.Writes.{Writes, WriteFails, Brings, Feeds}
+
+-- Of the bytes `whole`, which a call is to write from x and s on, those before `rest` were taken
+pub record Owes {X St : Type 0} (took : X → St → List ℕ → X → St → Type 0) (x : X) (s : St) (whole rest : List ℕ) (y : X) (t : St) : Type 0 where
+  pub front : List ℕ
+  pub taken : took x s front y t
+  pub splits : whole ≡ front ++ rest
 
 module _ {X St E : Type 0} (took : X → St → List ℕ → X → St → Type 0) (refused : X → St → List ℕ → E → X → St → Type 0) where
   -- a failed write of a front
@@ -36,7 +42,7 @@ module _ {X St E : Type 0} (took : X → St → List ℕ → X → St → Type 0
     fails = f.fails;
   }
 
-  -- the answer of one write of the sink's own
+  -- what one write of the sink's own returned
   pub writes_one : {O : Type 0} (x y : X) (s t : St) (b : List ℕ) (r : Result O E)
       → took x s [] x s → MatchResult r (λ _. took x s b y t) (λ e. refused x s b e y t) → Writes took refused x s b r y t
   writes_one x y s t b (Ok v) n w = w
@@ -46,14 +52,14 @@ module _ {X St E : Type 0} (took : X → St → List ℕ → X → St → Type 0
   pub writes_same : {O : Type 0} (x y : X) (s t : St) (b c : List ℕ) (r : Result O E) → b ≡ c → Writes took refused x s c r y t → Writes took refused x s b r y t
   writes_same x y s t b c r e w = subst (λ (bs : List ℕ). Writes took refused x s bs r y t) (sym e) w
 
-  -- the answer of a call that goes on after some bytes
+  -- what a call returned that goes on after some bytes
   pub writes_after : {O : Type 0} (x y z : X) (s t u : St) (b c : List ℕ) (r : Result O E)
       → ((y z : X) (t u : St) (b c : List ℕ) → took x s b y t → took y t c z u → took x s (b ++ c) z u)
       → took x s b y t → Writes took refused y t c r z u → Writes took refused x s (b ++ c) r z u
   writes_after x y z s t u b c (Ok v) both p w = both y z t u b c p w
   writes_after x y z s t u b c (Err e) both p w = fails_after x y z s t u b c e both p w
 
-  -- the answer of the sink's own write, after some bytes were taken
+  -- what the sink's own write returned, after some bytes were taken
   pub writes_last : {O : Type 0} (x y z : X) (s t u : St) (b c : List ℕ) (r : Result O E)
       → ((y z : X) (t u : St) (b c : List ℕ) → took x s b y t → took y t c z u → took x s (b ++ c) z u)
       → took x s b y t → MatchResult r (λ _. took y t c z u) (λ e. refused y t c e z u) → Writes took refused x s (b ++ c) r z u

@@ -1,4 +1,4 @@
--- Quaternary bits of collation elements
+-- Quaternary bits of collation elements.
 use Rattle.std.specs.Prelude.{Bool, not, bit_and, ◌==◌}
 use Rattle.icu_entries.specs.Elements.{NonPrimaryWeights, quaternary_mask}
 

@@ -1,4 +1,4 @@
--- What sinks of bytes take
+-- What sinks of bytes take.
 use Rattle.std.specs.Prelude.{◌≡◌, ℕ, List, ◌++◌}
 
 -- some beginning of the bytes was taken

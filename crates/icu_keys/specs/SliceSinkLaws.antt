@@ -1,4 +1,4 @@
--- The laws of slices as sinks
+-- The laws of slices as sinks.
 use Rattle.std.proofs.Common.{◌≡◌, ℕ, ◌+◌, ◌<◌, ◌≤◌, ◌^◌, ◌⊎◌, inl, inr, List, [], ◌++◌, length, take, drop, add-zero, length-append, length-drop, arith, refl, sym, ap, ◌∙◌, append_assoc}
 use Rattle.std.proofs.lemmas.List.{nil_from_length, take-append-drop, length-take-le, take_at, drop-drop}
 use Rattle.std.proofs.lemmas.Bool.{cases_lt}

@@ -1,4 +1,4 @@
--- What a slice takes: bytes are put over what it holds, from an offset on
+-- What a slice takes: bytes are put over what it holds, from an offset on.
 use Rattle.std.specs.Prelude.{◌≡◌, ℕ, ◌+◌, ◌-◌, ◌<◌, ◌≤◌, ◌^◌, ◌⊎◌, List, [], ◌++◌, length, min, take, drop, nat_le, if◌then◌else◌, Result, Ok, Err}
 use Rattle.icu_keys.specs.declared.slice_sink.TooSmall.{TooSmall}
 use Rattle.icu_keys.specs.Sinks.{TakesBeginning}

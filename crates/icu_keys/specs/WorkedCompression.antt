@@ -1,4 +1,4 @@
--- A reordering and a choice of compressible leads, for worked rows
+-- A reordering and a choice of compressible leads, for worked rows.
 use Rattle.std.specs.Prelude.{Bool, ◌&&◌, ℕ, ◌+◌, nat_lt, nat_le, if◌then◌else◌}
 
 -- weights from 61000000 to 613FFFFF go up by 2F000000

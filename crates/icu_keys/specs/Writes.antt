@@ -1,7 +1,7 @@
--- What a call that writes to a sink answers. `took` and `refused` are the sink's
+-- What a call returns that writes to a sink. `took` and `refused` are the sink's.
 use Rattle.std.specs.Prelude.{◌≡◌, ℕ, List, ◌++◌, Result, MatchResult}
 
--- A call that was to write the bytes failed: a beginning of them was taken, and then a write of the next ones answered
+-- A call that was to write the bytes failed: a beginning of them was taken, and then a write of the next ones returned
 -- the error
 pub record WriteFails {X St E : Type 0} (took : X → St → List ℕ → X → St → Type 0) (refused : X → St → List ℕ → E → X → St → Type 0)
     (x : X) (s : St) (bytes : List ℕ) (error : E) (y : X) (t : St) : Type 0 where
@@ -32,9 +32,3 @@ abbrev pub Feeds : {X St E R : Type 0} → (X → St → List ℕ → X → St �
     → X → St → (R → List ℕ) → (R → List ℕ) → Result Unit E → X → St → Type 0
 Feeds {X} {St} {E} {R} took refused x s before after result y t =
     MatchResult result (λ _. Brings took x s before after y t) (λ e. (rest : R) → WriteFails took refused x s (before rest) e y t)
-
--- Of the bytes `whole`, which a call is to write from x and s on, those before `rest` were taken
-pub record Owes {X St : Type 0} (took : X → St → List ℕ → X → St → Type 0) (x : X) (s : St) (whole rest : List ℕ) (y : X) (t : St) : Type 0 where
-  pub front : List ℕ
-  pub taken : took x s front y t
-  pub splits : whole ≡ front ++ rest

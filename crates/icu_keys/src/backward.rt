@@ -4,27 +4,26 @@ ghost use Rattle.std.specs.Prelude.{◌≡◌, ℕ, List, [], ◌∷◌, map, re
 ghost use Rattle.icu_levels.specs.Secondaries.{secondary_level, backward_level};
 ghost use Rattle.icu_keys.specs.Writes.{Writes, Feeds};
 
+use crate::held::INLINE;
 use crate::secondaries::SecondaryWriter;
 use crate::sink::CollationKeySink;
 use smallvec::SmallVec;
 use std::alloc::{AllocError, Global};
-
-/// How many secondaries of a segment are kept inline.
-const INLINE: usize = 32;
 
 /// The byte that parts segments.
 const BETWEEN_SEGMENTS: u8 = 2;
 
 /// Writes the secondaries of a segment, which come in the order of the text, in reversed order. An error is the sink's
 /// own.
-pub fn write_segment<S: CollationKeySink>(
+pub(crate) fn write_segment<S: CollationKeySink>(
     sink: &mut S,
     state: &mut S::State,
     weights: &[u16],
 ) -> Result<(), S::Error>
     requires { S.is_sound sink.old state.old }
     ensures sound { S.is_sound sink.new state.new }
-    ensures bytes { Writes S.took S.refused sink.old state.old (secondary_level (reverse weights.now)) result sink.new state.new }
+    ensures bytes { Writes S.took S.refused sink.old state.old
+        (secondary_level (reverse weights.now)) result sink.new state.new }
 {
     let mut writer = SecondaryWriter::new();
     let mut left = weights;
@@ -35,7 +34,7 @@ pub fn write_segment<S: CollationKeySink>(
     writer.close(sink, state)
 }
 
-/// Writes the backward secondary level of a text (UTS #35 part 5 on backward secondaries).
+/// Writes the backward secondary level of a text (UTS #35 part 5, "Setting Options" on backwards).
 ///
 /// It is fed the nonzero secondary weights of a segment one at a time, in the order of the text, then the end of the
 /// segment, and so on; at the end it is closed. The weights of the segment at hand are kept, since the last is written
@@ -46,20 +45,23 @@ pub struct BackwardWriter {
 }
 
 impl BackwardWriter {
-    ghost use Rattle.icu_keys.specs.BackwardWriters.{backward_rest, segment_so_far};
+    ghost use Rattle.icu_keys.specs.WriterRests.{backward_rest, segment_so_far};
 
-    /// The writer of a level, with nothing written. It takes no memory.
+    /// The writer of a level, with nothing written. It allocates nothing.
     pub fn new(alloc: Global) -> Self
-        ensures { (more : List ℕ) (segments : List (List ℕ)) → backward_rest result (more, segments) ≡ backward_level (map reverse (more ∷ segments)) }
+        ensures { (more : List ℕ) (segments : List (List ℕ)) →
+            backward_rest result (more, segments) ≡ backward_level (map reverse (more ∷ segments)) }
     {
         BackwardWriter {
             segment: SmallVec::new(alloc),
         }
     }
 
-    /// Takes the next weight of the segment, and writes nothing. On an error the writer is as it was.
+    /// Keeps the next weight of the segment, and writes nothing. On an error the writer is as it was.
     pub fn push(&mut self, weight: u16) -> Result<(), AllocError>
-        ensures ok { OnOk result ((more : List ℕ) (segments : List (List ℕ)) → backward_rest self.old (weight ∷ more, segments) ≡ backward_rest self.new (more, segments)) }
+        ensures ok { OnOk result ((more : List ℕ) (segments : List (List ℕ)) →
+            backward_rest self.old (weight ∷ more, segments)
+            ≡ backward_rest self.new (more, segments)) }
         ensures err { OnErr result (segment_so_far self.new ≡ segment_so_far self.old) }
     {
         self.segment.push(weight)?;
@@ -74,7 +76,9 @@ impl BackwardWriter {
     ) -> Result<(), S::Error>
         requires { S.is_sound sink.old state.old }
         ensures sound { S.is_sound sink.new state.new }
-        ensures bytes { Feeds S.took S.refused sink.old state.old (λ rest. backward_rest self.old ([], rest.0 ∷ rest.1)) (backward_rest self.new) result sink.new state.new }
+        ensures bytes { Feeds S.took S.refused sink.old state.old
+            (λ rest. backward_rest self.old ([], rest.0 ∷ rest.1)) (backward_rest self.new)
+            result sink.new state.new }
     {
         write_segment(sink, state, self.segment.as_slice())?;
         self.segment.clear();
@@ -89,7 +93,8 @@ impl BackwardWriter {
     ) -> Result<(), S::Error>
         requires { S.is_sound sink.old state.old }
         ensures sound { S.is_sound sink.new state.new }
-        ensures bytes { Writes S.took S.refused sink.old state.old (backward_rest self ([], [])) result sink.new state.new }
+        ensures bytes { Writes S.took S.refused sink.old state.old (backward_rest self ([], []))
+            result sink.new state.new }
     {
         let last = self.segment;
         write_segment(sink, state, last.as_slice())

@@ -1,17 +1,18 @@
 //! The case level, written as it is fed.
 
 ghost use Rattle.std.specs.Prelude.{◌≡◌, ℕ, ◌<◌, ◌≤◌, List, [], ◌∷◌};
-ghost use Rattle.icu_levels.specs.Cases.{packed, lower_first_nibbles, upper_first_nibbles};
-ghost use Rattle.icu_keys.specs.CaseWeights.{rank_of, case_row, case_spelling, case_nibbles};
+ghost use Rattle.icu_levels.specs.Cases.{packed, case_runs, case_nibble, case_nibbles};
+ghost use Rattle.icu_keys.specs.Cases.{rank_of};
 ghost use Rattle.icu_keys.specs.Writes.{Writes, Feeds};
 
 use crate::nibbles::Nibbles;
 use crate::run::Run;
 use crate::sink::CollationKeySink;
 use crate::writes::{write_both, write_optional};
-use icu_levels::rows::Row;
+use icu_levels::forms::CaseForm;
+use icu_levels::run_bytes::{LOWER_FIRST_CASE_RUNS, RunBytes, UPPER_FIRST_CASE_RUNS};
 
-/// The case of a collation element (UTS #35 part 5 on the case level).
+/// The case of a collation element (UTS #35 part 5, "Case Parameters").
 #[derive(Clone, Copy, Debug, PartialEq, Eq)]
 pub enum LetterCase {
     /// Lower case, or none.
@@ -22,85 +23,63 @@ pub enum LetterCase {
     Upper,
 }
 
-/// Which case is first at the case level.
-#[derive(Clone, Copy, Debug, PartialEq, Eq)]
-pub enum CaseForm {
-    /// Lower, mixed, upper ascend.
-    LowerFirst,
-    /// Upper, mixed, lower ascend.
-    UpperFirst,
+/// How runs of lower case are written, in nibbles.
+fn runs_of(form: CaseForm) -> RunBytes
+    ensures { result ≡ case_runs form }
+{
+    match form {
+        CaseForm::LowerFirst => LOWER_FIRST_CASE_RUNS,
+        CaseForm::UpperFirst => UPPER_FIRST_CASE_RUNS,
+    }
 }
 
-impl CaseForm {
-    /// How runs of lower case are written, in nibbles.
-    pub fn row(self) -> Row
-        ensures { result ≡ case_row self }
-    {
-        match self {
-            CaseForm::LowerFirst => Row {
-                common: 0,
-                low: 1,
-                middle: 7,
-                high: 13,
-                count: 7,
-            },
-            CaseForm::UpperFirst => Row {
-                common: 2,
-                low: 3,
-                middle: 15,
-                high: 27,
-                count: 13,
-            },
-        }
+/// The rank of a case in the order of a form, from 0 to 2.
+fn rank(form: CaseForm, case: LetterCase) -> u8
+    ensures value { result ≡ rank_of form case }
+    ensures bounded { result < 3 }
+{
+    match (form, case) {
+        (CaseForm::LowerFirst, LetterCase::Lower) => 0,
+        (CaseForm::LowerFirst, LetterCase::Mixed) => 1,
+        (CaseForm::LowerFirst, LetterCase::Upper) => 2,
+        (CaseForm::UpperFirst, LetterCase::Lower) => 2,
+        (CaseForm::UpperFirst, LetterCase::Mixed) => 1,
+        (CaseForm::UpperFirst, LetterCase::Upper) => 0,
     }
+}
 
-    /// Where a case stands in the order, from 0 to 2.
-    pub fn rank(self, case: LetterCase) -> u8
-        ensures value { result ≡ rank_of self case }
-        ensures bounded { result < 3 }
-    {
-        match (self, case) {
-            (CaseForm::LowerFirst, LetterCase::Lower) => 0,
-            (CaseForm::LowerFirst, LetterCase::Mixed) => 1,
-            (CaseForm::LowerFirst, LetterCase::Upper) => 2,
-            (CaseForm::UpperFirst, LetterCase::Lower) => 2,
-            (CaseForm::UpperFirst, LetterCase::Mixed) => 1,
-            (CaseForm::UpperFirst, LetterCase::Upper) => 0,
-        }
-    }
-
-    /// The nibble of a rank other than that of lower case.
-    pub fn nibble(self, rank: u8) -> u8
-        requires { rank < 3 }
-        ensures value { result ∷ [] ≡ case_spelling self rank }
-        ensures bounded { result < 16 }
-    {
-        match self {
-            CaseForm::LowerFirst => 13 + rank,
-            CaseForm::UpperFirst => 1 + rank,
-        }
+/// The nibble of a rank other than that of lower case.
+fn nibble(form: CaseForm, rank: u8) -> u8
+    requires { rank < 3 }
+    ensures value { result ∷ [] ≡ case_nibble form rank }
+    ensures bounded { result < 16 }
+{
+    match form {
+        CaseForm::LowerFirst => 13 + rank,
+        CaseForm::UpperFirst => 1 + rank,
     }
 }
 
 /// Writes the nibbles of the case level of a text, two to a byte.
 ///
 /// It is fed the cases one at a time and closed at the end. Lower case is counted. With lower case first the level of a
-/// text in lower case alone is written as nothing, which the end decides: `CaseLevel` keeps that rule.
+/// text in lower case alone is written as nothing, which only the end decides: `HeldCases` keeps that rule.
 #[derive(Clone, Copy, Debug, Drop)]
 pub struct CaseWriter {
     form: CaseForm,
     run: Run,
     nibbles: Nibbles,
-    ghost bounded: { run.length ≤ (case_row form).count },
+    ghost bounded: { run.length ≤ (case_runs form).count },
 }
 
 impl CaseWriter {
-    ghost use Rattle.icu_keys.specs.CaseWriters.{writes_cases, case_rest};
+    ghost use Rattle.icu_keys.specs.WriterRests.{case_form_of, case_rest};
 
     /// The writer of a level of this form, with nothing written.
     pub fn new(form: CaseForm) -> Self
-        ensures form { writes_cases result ≡ form }
-        ensures begins { (ranks : List ℕ) → case_rest result ranks ≡ packed (case_nibbles form ranks) }
+        ensures form { case_form_of result ≡ form }
+        ensures begins { (ranks : List ℕ) →
+            case_rest result ranks ≡ packed (case_nibbles form ranks) }
     {
         CaseWriter {
             form,
@@ -109,7 +88,7 @@ impl CaseWriter {
         }
     }
 
-    /// Takes the next case, and writes what it decides. An error is the sink's own.
+    /// Writes what the next case decides. An error is the sink's own.
     pub fn push<S: CollationKeySink>(
         &mut self,
         sink: &mut S,
@@ -118,20 +97,22 @@ impl CaseWriter {
     ) -> Result<(), S::Error>
         requires { S.is_sound sink.old state.old }
         ensures sound { S.is_sound sink.new state.new }
-        ensures form { writes_cases self.new ≡ writes_cases self.old }
-        ensures bytes { Feeds S.took S.refused sink.old state.old (λ ranks. case_rest self.old (rank_of (writes_cases self.old) case ∷ ranks)) (case_rest self.new) result sink.new state.new }
+        ensures form { case_form_of self.new ≡ case_form_of self.old }
+        ensures bytes { Feeds S.took S.refused sink.old state.old
+            (λ ranks. case_rest self.old (rank_of (case_form_of self.old) case ∷ ranks))
+            (case_rest self.new) result sink.new state.new }
     {
-        let row = self.form.row();
-        let rank = self.form.rank(case);
-        let rank_in_row = u64::from(rank);
-        if rank_in_row == row.common {
-            let due = self.run.count(&row);
+        let runs = runs_of(self.form);
+        let rank = rank(self.form, case);
+        let whole = u64::from(rank);
+        if whole == runs.common {
+            let due = self.run.count(&runs);
             let byte = self.nibbles.add_optional(due);
             write_optional(sink, state, byte)
         } else {
-            let last = self.run.end(&row, rank_in_row < row.common);
+            let last = self.run.end(&runs, whole < runs.common);
             let first = self.nibbles.add_optional(last);
-            let second = self.nibbles.add(self.form.nibble(rank));
+            let second = self.nibbles.add(nibble(self.form, rank));
             write_both(sink, state, first, second)
         }
     }
@@ -144,10 +125,11 @@ impl CaseWriter {
     ) -> Result<(), S::Error>
         requires { S.is_sound sink.old state.old }
         ensures sound { S.is_sound sink.new state.new }
-        ensures bytes { Writes S.took S.refused sink.old state.old (case_rest self []) result sink.new state.new }
+        ensures bytes { Writes S.took S.refused sink.old state.old (case_rest self [])
+            result sink.new state.new }
     {
-        let row = self.form.row();
-        let last = self.run.end(&row, true);
+        let runs = runs_of(self.form);
+        let last = self.run.end(&runs, true);
         let first = self.nibbles.add_optional(last);
         write_both(sink, state, first, self.nibbles.last())
     }

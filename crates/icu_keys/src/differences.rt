@@ -57,19 +57,21 @@ impl DifferenceBytes {
     }
 }
 
-// The tails of a shifted difference: 3 plus a remainder.
+/// The last tail of a shifted difference: 3 plus a remainder.
 fn lowest(difference: u32) -> u8
     ensures { result ≡ last_tail difference }
 {
     (3 + difference % TAILS) as u8
 }
 
+/// The tail before the last.
 fn middle(difference: u32) -> u8
     ensures { result ≡ middle_tail difference }
 {
     (3 + difference / TAILS % TAILS) as u8
 }
 
+/// The first of three tails.
 fn highest(difference: u32) -> u8
     ensures { result ≡ first_tail difference }
 {

@@ -10,8 +10,8 @@ use crate::sink::CollationKeySink;
 /// The base of the first character, and of the one after U+FFFE.
 const FIRST_BASE: u32 = 80;
 
-// The base after a character other than U+FFFE: one for all from U+4E00 to U+A000, else the middle of the character's
-// 128.
+/// The base after a character other than U+FFFE: one for all from U+4E00 to U+A000, else the middle of the character's
+/// 128.
 fn next_base(character: u32) -> u32
     requires { character < 0x110000 }
     ensures { result ≡ base_after character }
@@ -26,7 +26,8 @@ fn next_base(character: u32) -> u32
 }
 
 /// Writes the identical level of a text: its decomposed characters, each by its difference from a base that the
-/// character before it sets, and U+FFFE as 02 (UTS #10, section 4.3; UTS #35 part 5 on U+FFFE).
+/// character before it sets, and U+FFFE as 02 (UTS #10, "Form Sort Keys"; UTS #35 part 5, "Root
+/// Collation" on U+FFFE).
 ///
 /// It is fed the characters one at a time. Nothing is left to write at the end.
 #[derive(Clone, Copy, Debug, Drop)]
@@ -36,7 +37,7 @@ pub struct IdenticalWriter {
 }
 
 impl IdenticalWriter {
-    ghost use Rattle.icu_keys.specs.IdenticalWriters.{identical_rest};
+    ghost use Rattle.icu_keys.specs.WriterRests.{identical_rest};
 
     /// The writer of a level, with nothing written.
     pub fn new() -> Self
@@ -45,7 +46,7 @@ impl IdenticalWriter {
         IdenticalWriter { base: FIRST_BASE }
     }
 
-    /// Takes the next character, and writes its bytes. An error is the sink's own.
+    /// Writes the next character. An error is the sink's own.
     pub fn push<S: CollationKeySink>(
         &mut self,
         sink: &mut S,
@@ -54,7 +55,9 @@ impl IdenticalWriter {
     ) -> Result<(), S::Error>
         requires { S.is_sound sink.old state.old }
         ensures sound { S.is_sound sink.new state.new }
-        ensures bytes { Feeds S.took S.refused sink.old state.old (λ cs. identical_rest self.old (character ∷ cs)) (identical_rest self.new) result sink.new state.new }
+        ensures bytes { Feeds S.took S.refused sink.old state.old
+            (λ cs. identical_rest self.old (character ∷ cs)) (identical_rest self.new)
+            result sink.new state.new }
     {
         let number = u32::from(character);
         if number == 0xFFFE {

@@ -2,7 +2,8 @@
 //!
 //! The crate knows no text and no table. A writer is fed the weights of one level one at a time and hands their bytes
 //! to a sink, which says by ghost members what it took; each writer's contract says that this is the level of
-//! `icu_levels`, or a beginning of it and the sink's own error.
+//! `icu_levels`, or a beginning of it and the sink's own error. The levels after the primary one are held until their
+//! end, and then written as parts of the key.
 #![tactic(auto)]
 
 pub mod accumulator;
@@ -10,19 +11,19 @@ pub mod backward;
 pub mod cases;
 mod differences;
 pub mod error;
-pub mod held_cases;
-pub mod held_quaternaries;
+pub mod held;
 pub mod identical;
 mod list_sinks;
 mod nibbles;
+pub mod parts;
 pub mod primaries;
 pub mod quaternaries;
-pub mod run;
+mod run;
 pub mod secondaries;
 pub mod sink;
 pub mod slice_sink;
 pub mod tertiaries;
-pub mod weight_bytes;
+mod weight_bytes;
 mod writes;
 
 pub use error::SortKeyError;

@@ -20,10 +20,12 @@ impl Nibbles {
         Nibbles { held: None }
     }
 
-    /// Adds a nibble, and answers the byte that it completes, if it does.
+    /// Adds a nibble, and returns the byte that it completes, if it does.
     pub fn add(&mut self, nibble: u8) -> Option<u8>
         requires { nibble < 16 }
-        ensures { (ns : List ℕ) → packed (option_to_list self.old.held ++ (nibble ∷ ns)) ≡ option_to_list result ++ packed (option_to_list self.new.held ++ ns) }
+        ensures { (ns : List ℕ) →
+            packed (option_to_list self.old.held ++ (nibble ∷ ns))
+            ≡ option_to_list result ++ packed (option_to_list self.new.held ++ ns) }
     {
         match self.held {
             None => {
@@ -40,7 +42,9 @@ impl Nibbles {
     /// The same, where there is a nibble.
     pub fn add_optional(&mut self, nibble: Option<u8>) -> Option<u8>
         requires { ForSome nibble (λ n. n < 16) }
-        ensures { (ns : List ℕ) → packed (option_to_list self.old.held ++ (option_to_list nibble ++ ns)) ≡ option_to_list result ++ packed (option_to_list self.new.held ++ ns) }
+        ensures { (ns : List ℕ) →
+            packed (option_to_list self.old.held ++ (option_to_list nibble ++ ns))
+            ≡ option_to_list result ++ packed (option_to_list self.new.held ++ ns) }
     {
         match nibble {
             None => None,

@@ -9,7 +9,7 @@ use crate::weight_bytes::trimmed;
 use crate::writes::write_after;
 
 /// How primaries are written: what reordering makes of each, and the weights of which leads are compressed (UTS #35
-/// part 5 on script reordering and on sort key compression).
+/// part 5, "Collation Reordering", and "Root Collation Data Files" on lead bytes that compress).
 pub trait PrimaryCompression {
     /// The two functions.
     ghost compression: { Self → Compression };
@@ -23,8 +23,8 @@ pub trait PrimaryCompression {
         ensures { result ≡ (compression self.now).is_compressible lead };
 }
 
-// What a weight with another lead than the dropped one writes first: 03 before a lesser lead, FF before a greater one,
-// nothing where no lead is dropped and before the merge separator, whose lead is 02.
+/// What a weight with another lead than the dropped one writes first: 03 before a lesser lead, FF before a greater one,
+/// nothing where no lead is dropped and before the merge separator, whose lead is 02.
 fn change_of_lead(dropped: u8, new: u8) -> Option<u8>
     ensures { option_to_list result ≡ lead_change dropped new }
 {
@@ -37,8 +37,8 @@ fn change_of_lead(dropped: u8, new: u8) -> Option<u8>
     }
 }
 
-// The lead that is dropped after a weight, 0 for none. Whether it is compressible is asked of the lead before
-// reordering.
+/// The lead that is dropped after a weight, 0 for none. Whether it is compressible is asked of the lead before
+/// reordering.
 fn lead_to_drop<C: PrimaryCompression>(compression: &C, weight: u32, reordered: u32) -> u8
     requires { reordered ≡ (C.compression compression.now).reorder weight }
     ensures { result ≡ dropped_after (C.compression compression.now) weight }
@@ -50,7 +50,7 @@ fn lead_to_drop<C: PrimaryCompression>(compression: &C, weight: u32, reordered: 
     }
 }
 
-// Writes a reordered primary after weights whose lead is dropped.
+/// Writes a reordered primary after weights whose lead is dropped.
 fn write_primary<S: CollationKeySink>(
     sink: &mut S,
     state: &mut S::State,
@@ -59,7 +59,8 @@ fn write_primary<S: CollationKeySink>(
 ) -> Result<(), S::Error>
     requires { S.is_sound sink.old state.old }
     ensures sound { S.is_sound sink.new state.new }
-    ensures bytes { Writes S.took S.refused sink.old state.old (primary_bytes dropped primary) result sink.new state.new }
+    ensures bytes { Writes S.took S.refused sink.old state.old (primary_bytes dropped primary)
+        result sink.new state.new }
 {
     let bytes = primary.to_be_bytes();
     let new = bytes[0];
@@ -80,16 +81,17 @@ pub struct PrimaryWriter {
 }
 
 impl PrimaryWriter {
-    ghost use Rattle.icu_keys.specs.PrimaryWriters.{primary_rest};
+    ghost use Rattle.icu_keys.specs.WriterRests.{primary_rest};
 
     /// The writer of a level, with nothing written.
     pub fn new() -> Self
-        ensures { (c : Compression) (ws : List ℕ) → primary_rest c result ws ≡ primary_level c 0 ws }
+        ensures { (c : Compression) (ws : List ℕ) →
+            primary_rest c result ws ≡ primary_level c 0 ws }
     {
         PrimaryWriter { dropped: 0 }
     }
 
-    /// Takes the next weight, as it is before reordering, and writes it. An error is the sink's own.
+    /// Writes the next weight, given as it is before reordering. An error is the sink's own.
     pub fn push<S: CollationKeySink, C: PrimaryCompression>(
         &mut self,
         sink: &mut S,
@@ -99,7 +101,9 @@ impl PrimaryWriter {
     ) -> Result<(), S::Error>
         requires { S.is_sound sink.old state.old }
         ensures sound { S.is_sound sink.new state.new }
-        ensures bytes { Feeds S.took S.refused sink.old state.old (λ ws. primary_rest (C.compression compression.now) self.old (weight ∷ ws)) (primary_rest (C.compression compression.now) self.new) result sink.new state.new }
+        ensures bytes { Feeds S.took S.refused sink.old state.old
+            (λ ws. primary_rest (C.compression compression.now) self.old (weight ∷ ws))
+            (primary_rest (C.compression compression.now) self.new) result sink.new state.new }
     {
         let dropped = self.dropped;
         let reordered = compression.reorder(weight);

@@ -1,35 +1,27 @@
 //! The secondary level, written as it is fed.
 
 ghost use Rattle.std.specs.Prelude.{◌≡◌, ℕ, ◌≤◌, List, [], ◌∷◌};
+ghost use Rattle.icu_levels.specs.declared.run_bytes.TheConstants.{SECONDARY_RUNS};
 ghost use Rattle.icu_levels.specs.Secondaries.{secondary_level};
 ghost use Rattle.icu_keys.specs.Writes.{Writes, Feeds};
 
 use crate::run::Run;
 use crate::sink::CollationKeySink;
 use crate::weight_bytes::trimmed;
-use icu_levels::rows::Row;
-
-/// How runs of common secondaries are written.
-const ROW: Row = Row {
-    common: 0x500,
-    low: 0x05,
-    middle: 0x25,
-    high: 0x45,
-    count: 33,
-};
+use icu_levels::run_bytes::SECONDARY_RUNS;
 
 /// Writes the secondary level of a text, or of one segment of a backward level whose weights come in reversed order.
 ///
 /// It is fed the nonzero secondary weights one at a time and closed at the end. Runs of the common weight 0500 cost a
-/// counter, and other weights stand without a zero byte at their end (UTS #10, section 9.2).
+/// counter, and other weights stand without a zero byte at their end (UTS #10, "Run-length Compression" and "Large Weight Values").
 #[derive(Clone, Copy, Debug, Drop)]
 pub struct SecondaryWriter {
     run: Run,
-    ghost bounded: { run.length ≤ 33 },
+    ghost bounded: { run.length ≤ SECONDARY_RUNS.count },
 }
 
 impl SecondaryWriter {
-    ghost use Rattle.icu_keys.specs.SecondaryWriters.{secondary_rest};
+    ghost use Rattle.icu_keys.specs.WriterRests.{secondary_rest};
 
     /// The writer of a level, with nothing written.
     pub fn new() -> Self
@@ -38,7 +30,7 @@ impl SecondaryWriter {
         SecondaryWriter { run: Run::new() }
     }
 
-    /// Takes the next weight, and writes what it decides. An error is the sink's own.
+    /// Writes what the next weight decides. An error is the sink's own.
     pub fn push<S: CollationKeySink>(
         &mut self,
         sink: &mut S,
@@ -47,15 +39,17 @@ impl SecondaryWriter {
     ) -> Result<(), S::Error>
         requires { S.is_sound sink.old state.old }
         ensures sound { S.is_sound sink.new state.new }
-        ensures bytes { Feeds S.took S.refused sink.old state.old (λ ws. secondary_rest self.old (weight ∷ ws)) (secondary_rest self.new) result sink.new state.new }
+        ensures bytes { Feeds S.took S.refused sink.old state.old
+            (λ ws. secondary_rest self.old (weight ∷ ws)) (secondary_rest self.new)
+            result sink.new state.new }
     {
-        let weight_in_row = u64::from(weight);
-        if weight_in_row == ROW.common {
-            self.run.write_common(&ROW, sink, state)
+        let whole = u64::from(weight);
+        if whole == SECONDARY_RUNS.common {
+            self.run.write_common(&SECONDARY_RUNS, sink, state)
         } else {
             let bytes = weight.to_be_bytes();
             self.run
-                .write_other(&ROW, sink, state, weight_in_row, trimmed(&bytes))
+                .write_other(&SECONDARY_RUNS, sink, state, whole, trimmed(&bytes))
         }
     }
 
@@ -67,8 +61,9 @@ impl SecondaryWriter {
     ) -> Result<(), S::Error>
         requires { S.is_sound sink.old state.old }
         ensures sound { S.is_sound sink.new state.new }
-        ensures bytes { Writes S.took S.refused sink.old state.old (secondary_rest self []) result sink.new state.new }
+        ensures bytes { Writes S.took S.refused sink.old state.old (secondary_rest self [])
+            result sink.new state.new }
     {
-        self.run.write_end(&ROW, sink, state)
+        self.run.write_end(&SECONDARY_RUNS, sink, state)
     }
 }

@@ -6,8 +6,8 @@ ghost use Rattle.icu_keys.specs.Sinks.{TakesBeginning};
 /// What takes the bytes of a sort key.
 ///
 /// A key is written from the default state by calls of `write` and `write_byte`, and one of `finish` at the end. What
-/// a sink takes is said by the ghost members, which each sink defines and which obey the laws at the end. Bytes that
-/// a call takes with `Ok` are taken whole; with `Err`, a beginning of them is.
+/// a sink took is said by the ghost members, which each sink defines and which obey the laws at the end. `Ok` means
+/// that all bytes of a call were taken, and `Err` that a beginning of them was.
 pub trait CollationKeySink {
     /// Why the sink took no more bytes, or can't finish.
     type Error;
@@ -24,23 +24,27 @@ pub trait CollationKeySink {
     /// A sink with its state took these bytes, and became this sink with this state.
     ghost took: { Self → Self.State → List ℕ → Self → Self.State → Type 0 };
 
-    /// A write of these bytes answered this error, and left this sink with this state.
+    /// A write of these bytes returned this error, and left this sink with this state.
     ghost refused: { Self → Self.State → List ℕ → Self.Error → Self → Self.State → Type 0 };
 
-    /// What `finish` answers, and the sink that it leaves.
+    /// What `finish` returns, and the sink that it leaves.
     ghost finished: { Self → Self.State → Result Self.Output Self.Error → Self → Type 0 };
 
     /// Takes the bytes of `buf`: all of them, or a beginning and an error.
     fn write(&mut self, state: &mut Self::State, buf: &[u8]) -> Result<(), Self::Error>
         requires { is_sound self.old state.old }
         ensures sound { is_sound self.new state.new }
-        ensures outcome { MatchResult result (λ _. took self.old state.old buf.now self.new state.new) (λ e. refused self.old state.old buf.now e self.new state.new) };
+        ensures outcome { MatchResult result
+            (λ _. took self.old state.old buf.now self.new state.new)
+            (λ e. refused self.old state.old buf.now e self.new state.new) };
 
     /// Takes one byte, as `write` of it alone.
     fn write_byte(&mut self, state: &mut Self::State, byte: u8) -> Result<(), Self::Error>
         requires { is_sound self.old state.old }
         ensures sound { is_sound self.new state.new }
-        ensures outcome { MatchResult result (λ _. took self.old state.old (byte ∷ []) self.new state.new) (λ e. refused self.old state.old (byte ∷ []) e self.new state.new) }
+        ensures outcome { MatchResult result
+            (λ _. took self.old state.old (byte ∷ []) self.new state.new)
+            (λ e. refused self.old state.old (byte ∷ []) e self.new state.new) }
     {
         self.write(state, &[byte])
     }

@@ -25,7 +25,7 @@ impl TooSmall {
 
 /// Copies the key to the front of the slice. The state is the offset: how many bytes were handed to the sink, at most
 /// the greatest `usize`. A write copies its bytes where all of them fit at the offset, and else none, and never fails;
-/// `finish` answers the offset, or `TooSmall` where the slice is shorter than that.
+/// `finish` returns the offset, or `TooSmall` where the slice is shorter than that.
 impl CollationKeySink for &mut [u8] {
     type Error = TooSmall;
 

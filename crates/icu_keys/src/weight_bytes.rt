@@ -1,4 +1,4 @@
-//! Weights as they are written in a key: without the zero bytes at their end (UTS #10, section 9.2).
+//! Weights as they are written in a key: without the zero bytes at their end (UTS #10, "Large Weight Values").
 
 ghost use Rattle.std.specs.Prelude.{◌≡◌};
 ghost use Rattle.icu_levels.specs.WeightBytes.{without_last_zeros};

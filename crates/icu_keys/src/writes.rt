@@ -13,7 +13,8 @@ pub(crate) fn write_optional<S: CollationKeySink>(
 ) -> Result<(), S::Error>
     requires { S.is_sound sink.old state.old }
     ensures sound { S.is_sound sink.new state.new }
-    ensures bytes { Writes S.took S.refused sink.old state.old (option_to_list byte) result sink.new state.new }
+    ensures bytes { Writes S.took S.refused sink.old state.old (option_to_list byte)
+        result sink.new state.new }
 {
     match byte {
         Some(byte) => sink.write_byte(state, byte),
@@ -30,7 +31,8 @@ pub(crate) fn write_both<S: CollationKeySink>(
 ) -> Result<(), S::Error>
     requires { S.is_sound sink.old state.old }
     ensures sound { S.is_sound sink.new state.new }
-    ensures bytes { Writes S.took S.refused sink.old state.old (option_to_list first ++ option_to_list second) result sink.new state.new }
+    ensures bytes { Writes S.took S.refused sink.old state.old
+        (option_to_list first ++ option_to_list second) result sink.new state.new }
 {
     write_optional(sink, state, first)?;
     write_optional(sink, state, second)
@@ -45,7 +47,8 @@ pub(crate) fn write_after<S: CollationKeySink>(
 ) -> Result<(), S::Error>
     requires { S.is_sound sink.old state.old }
     ensures sound { S.is_sound sink.new state.new }
-    ensures bytes { Writes S.took S.refused sink.old state.old (option_to_list byte ++ bytes.now) result sink.new state.new }
+    ensures bytes { Writes S.took S.refused sink.old state.old (option_to_list byte ++ bytes.now)
+        result sink.new state.new }
 {
     write_optional(sink, state, byte)?;
     sink.write(state, bytes)

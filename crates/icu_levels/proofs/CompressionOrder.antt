@@ -1,4 +1,4 @@
--- The bytes of a reordered primary after weights of one lead: of two the lesser precedes
+-- The bytes of a reordered primary after weights of one lead: of two the lesser precedes.
 use Rattle.std.proofs.Common.{◌≡◌, ◌≢◌, ℕ, ◌%◌, ◌^◌, ◌<◌, ◌≤◌, if◌then◌else◌, Bool, ◌||◌, false, [], ◌∷◌, ◌++◌, refl, sym, ap, ◌∙◌, subst, inl, inr, ◌⊎◌, arith, lit<, lit≤, eq-eqb, ne_eqb, eqb, ltb}
 use Rattle.std.proofs.lemmas.Bool.{cases_order, cases_eq, lt-ltb, le-ltb, cond-true, cond-false, or_right}
 use Rattle.icu_levels.specs.ListOrder.{IsUnder, IsOver, IsBeginning, Precedes}
@@ -17,7 +17,7 @@ pub record FitsAfter (dropped : ℕ) (IsNext : ℕ → Type 0) : Type 0 where
   pub seconds : (w : ℕ) → IsNext w → lead w ≡ dropped → (4 ≤ second_byte w) × (second_byte w ≤ 0xFE)
   pub prefix_free : (v w : ℕ) → IsNext v → IsNext w → v ≢ w → IsBeginning (weight_bytes 4 v) (weight_bytes 4 w) → ⊥
 
-same_lead : (d w : ℕ) → lead w ≡ d → primary_bytes d w ≡ weight_bytes 3 (below_lead w)
+pub same_lead : (d w : ℕ) → lead w ≡ d → primary_bytes d w ≡ weight_bytes 3 (below_lead w)
 same_lead d w e = rw (eq-eqb (lead w) d e) refl
 
 other_lead : (d w : ℕ) → lead w ≢ d → primary_bytes d w ≡ lead_change d (lead w) ++ weight_bytes 4 w

@@ -1,4 +1,4 @@
--- A greater difference of characters has greater bytes
+-- A greater difference of characters has greater bytes.
 use Rattle.std.proofs.Common.{◌≡◌, ℕ, ◌+◌, ◌-◌, ◌/◌, ◌^◌, ◌<◌, ◌≤◌, List, [], ◌∷◌, ◌++◌, refl, ◌∙◌, ◌⊎◌, ⊎_elim, inl, inr, arith, lit<, ltb}
 use Rattle.std.proofs.lemmas.Bool.{cases_order, cases_lt, lt-ltb, le-ltb, ltb-true, ltb-false, cond_both}
 use Rattle.std.proofs.lemmas.Cmp.{nat_list_cmp_total}

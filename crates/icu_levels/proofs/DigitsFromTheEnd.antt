@@ -1,4 +1,4 @@
--- Digits taken from the end, as a program takes them
+-- Digits from the end, as a program has them.
 use Rattle.std.proofs.Common.{◌≡◌, ℕ, zero, suc, ◌+◌, ◌*◌, ◌/◌, ◌%◌, ◌^◌, ◌<◌, List, [], ◌∷◌, ◌++◌, sym, ap, ap₂, ◌∙◌, arith}
 use Rattle.std.proofs.lemmas.Nat.{mod_below, div-mul-add, mod-mul-add}
 use Rattle.std.proofs.Math.Arith.{mod-mul}

@@ -1,4 +1,4 @@
--- The identical level's bytes order as its characters
+-- The identical level's bytes order as its characters.
 use Rattle.std.proofs.Common.{◌≡◌, ◌≢◌, ℕ, ◌+◌, ◌-◌, ◌^◌, ◌<◌, ◌≤◌, if◌then◌else◌, ◌==◌, List, [], ◌∷◌, ◌++◌, refl, ap, inl, inr, ◌⊎◌, arith, lit<, lit≤, eq-eqb, ne_eqb, map}
 use Rattle.std.proofs.lemmas.Bool.{cases_eq}
 use Rattle.std.proofs.lemmas.Bool.Decides.{nat_tests}

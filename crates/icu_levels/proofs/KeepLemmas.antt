@@ -1,21 +1,21 @@
--- Bytes that tell the order of lists are the same only for the same list
+-- Bytes that determine the order of lists are the same only for the same list.
 use Rattle.std.proofs.Common.{◌≡◌, ℕ, List, [], ◌∷◌, ◌++◌, refl, sym, ap, ap₂, ◌∙◌, Ordering, Less, Equal, Greater}
 use Rattle.std.specs.Ordering.{ordering_then}
 use Rattle.icu_levels.specs.ListOrder.{list_order, segments_order}
-use Rattle.icu_levels.specs.Keys.{Tells}
+use Rattle.icu_levels.specs.Keys.{Determines}
 use Rattle.icu_levels.specs.LevelLaws.{KeepOrder}
 use Rattle.icu_levels.proofs.Order.{same_lists_order, tied_lists}
 use Rattle.icu_levels.proofs.Orderings.{then_equal}
 
 -- the same bytes tie
-pub tie : (ps qs : List ℕ) (o : Ordering) → Tells ps qs o → ps ≡ qs → o ≡ Equal
-tie ps qs o tells e =
-    sym (then_equal o) ∙ (sym (tells [] [] tt tt) ∙ same_lists_order (ps ++ []) (qs ++ []) (ap (λ l. l ++ []) e))
+pub tie : (ps qs : List ℕ) (o : Ordering) → Determines ps qs o → ps ≡ qs → o ≡ Equal
+tie ps qs o determined e =
+    sym (then_equal o) ∙ (sym (determined [] [] tt tt) ∙ same_lists_order (ps ++ []) (qs ++ []) (ap (λ l. l ++ []) e))
 
-pub keeps : (ps qs xs ys : List ℕ) → Tells ps qs (list_order xs ys) → KeepOrder ps qs xs ys
-keeps ps qs xs ys tells = record { order = tells; same = λ e. tied_lists xs ys (tie ps qs (list_order xs ys) tells e) }
+pub keeps : (ps qs xs ys : List ℕ) → Determines ps qs (list_order xs ys) → KeepOrder ps qs xs ys
+keeps ps qs xs ys determined = record { order = determined; same = λ e. tied_lists xs ys (tie ps qs (list_order xs ys) determined e) }
 
--- answers one after another tie only if both do
+-- orders one after another tie only if both do
 pub both_tie : (o p : Ordering) → ordering_then o p ≡ Equal → (o ≡ Equal) × (p ≡ Equal)
 both_tie Less p e = cc
 both_tie Equal p e = (refl, e)

@@ -1,30 +1,30 @@
--- The bytes of a level are in the order of its lists
+-- The bytes of a level are in the order of its lists.
 use Rattle.std.proofs.Common.{◌≡◌, ◌≢◌, ℕ, suc, ◌<◌, ◌≤◌, List, [], ◌∷◌, ◌++◌, refl, sym, ap, ◌∙◌, inl, inr, ◌⊎◌, arith, Less, append_assoc, eq-eqb, ne_eqb}
 use Rattle.std.proofs.lemmas.Bool.{cases_order, lt-ltb, le-ltb}
 use Rattle.std.specs.List.{AllByRecursion}
 use Rattle.std.specs.Ordering.{ordering_then}
-use Rattle.icu_levels.specs.declared.rows.Row.{Row}
+use Rattle.icu_levels.specs.declared.run_bytes.RunBytes.{RunBytes}
 use Rattle.icu_levels.specs.ListOrder.{list_order, IsUnder, IsOver}
-use Rattle.icu_levels.specs.Runs.{IsRow, IsSpelling, run_before_less, run_before_more, run_before, level_bytes}
+use Rattle.icu_levels.specs.Runs.{AreRunBytes, IsSpelling, run_before_less, run_before_more, run_before, level_bytes}
 use Rattle.icu_levels.proofs.Order.{less_head, same_front, less_cases, keeps_order}
 use Rattle.icu_levels.proofs.RunOrder.{less_less, less_more, more_less, more_more, run_apart}
 
 -- the two steps of `level_bytes`, and the two kinds of run
-pub level_common : (r : Row) (spell : ℕ → List ℕ) (n w : ℕ) (ws : List ℕ) → w ≡ r.common → level_bytes r spell n (w ∷ ws)
+pub level_common : (r : RunBytes) (spell : ℕ → List ℕ) (n w : ℕ) (ws : List ℕ) → w ≡ r.common → level_bytes r spell n (w ∷ ws)
     ≡ level_bytes r spell (suc n) ws
 level_common r spell n w ws e = rw (eq-eqb w r.common e, level_bytes) refl
 
-pub level_other : (r : Row) (spell : ℕ → List ℕ) (n w : ℕ) (ws : List ℕ) → w ≢ r.common → level_bytes r spell n (w ∷ ws)
+pub level_other : (r : RunBytes) (spell : ℕ → List ℕ) (n w : ℕ) (ws : List ℕ) → w ≢ r.common → level_bytes r spell n (w ∷ ws)
     ≡ run_before r n w ++ (spell w ++ level_bytes r spell 0 ws)
 level_other r spell n w ws e = rw (ne_eqb w r.common e, level_bytes) refl
 
-pub run_less : (r : Row) (n w : ℕ) → w < r.common → run_before r n w ≡ run_before_less r n
+pub run_less : (r : RunBytes) (n w : ℕ) → w < r.common → run_before r n w ≡ run_before_less r n
 run_less r n w l = rw (lt-ltb w r.common l) refl
 
-pub run_more : (r : Row) (n w : ℕ) → r.common < w → run_before r n w ≡ run_before_more r n
+pub run_more : (r : RunBytes) (n w : ℕ) → r.common < w → run_before r n w ≡ run_before_more r n
 run_more r n w l = rw (le-ltb w r.common (omega arith)) refl
 
-pub not_less : (r : Row) (n w : ℕ) → r.common ≤ w → run_before r n w ≡ run_before_more r n
+pub not_less : (r : RunBytes) (n w : ℕ) → r.common ≤ w → run_before r n w ≡ run_before_more r n
 not_less r n w l = rw (le-ltb w r.common l) refl
 
 pub over_append : (n : ℕ) (s t : List ℕ) → IsOver n s → IsOver n (s ++ t)
@@ -48,10 +48,10 @@ pub over_less : (n m : ℕ) (s : List ℕ) → n ≤ m → IsOver m s → IsOver
 over_less n m [] l u = absurd u
 over_less n m (x ∷ s) l u = omega arith
 
-pub end_below_high : (r : Row) → IsRow r → (end : ℕ) → end < r.low → end ≤ r.high
+pub end_below_high : (r : RunBytes) → AreRunBytes r → (end : ℕ) → end < r.low → end ≤ r.high
 end_below_high r ok end l = let a = ok.some in let c = ok.to_middle in let d = ok.to_high in omega arith
 
-module _ (r : Row) (ok : IsRow r) (spell : ℕ → List ℕ) where
+module _ (r : RunBytes) (ok : AreRunBytes r) (spell : ℕ → List ℕ) where
   -- a written weight with its run, before anything
   step : (n w : ℕ) (ws t : List ℕ) → w ≢ r.common → level_bytes r spell n (w ∷ ws) ++ t
       ≡ run_before r n w ++ (spell w ++ (level_bytes r spell 0 ws ++ t))

@@ -1,10 +1,10 @@
--- Common weights are written as one run, however many they are
+-- Common weights are written as one run, however many they are.
 use Rattle.std.proofs.Common.{◌≡◌, ◌≢◌, ℕ, zero, suc, ◌+◌, List, ◌∷◌, ◌++◌, refl, ap, ◌∙◌, replicate, arith}
-use Rattle.icu_levels.specs.declared.rows.Row.{Row}
+use Rattle.icu_levels.specs.declared.run_bytes.RunBytes.{RunBytes}
 use Rattle.icu_levels.specs.Runs.{run_before_less, run_before, level_bytes}
 use Rattle.icu_levels.proofs.LevelOrder.{level_common, level_other}
 
-module _ (r : Row) (spell : ℕ → List ℕ) where
+module _ (r : RunBytes) (spell : ℕ → List ℕ) where
   -- n common weights after k of them are n + k of them
   counted : (n k : ℕ) (ws : List ℕ) → level_bytes r spell k (replicate n r.common ++ ws) ≡ level_bytes r spell (n + k) ws
   counted zero k ws = ap (λ z. level_bytes r spell z ws) (omega arith)

@@ -1,28 +1,23 @@
--- The premises can be met: a few weights of each level that do, with numbers on
-use Rattle.std.proofs.Common.{◌≡◌, ◌≢◌, ℕ, ◌/◌, ◌^◌, ◌<◌, ◌≤◌, Bool, true, false, ◌||◌, ◌==◌, refl, sym, ap, ◌∙◌, subst, inl, inr, ◌⊎◌, arith, lit<, lit≤, eqb, Some}
-use Rattle.std.proofs.lemmas.Bool.{eqb-true}
+-- The premises can be met: a few weights of each level that do, with numbers on.
+use Rattle.std.proofs.Common.{◌≡◌, ◌≢◌, ℕ, ◌/◌, ◌^◌, ◌<◌, ◌≤◌, true, ◌==◌, refl, sym, ap, ◌∙◌, subst, inl, inr, ◌⊎◌, arith, lit<, lit≤, Some}
 use Rattle.icu_levels.specs.ListOrder.{IsBeginning}
 use Rattle.icu_levels.specs.WeightBytes.{weight_bytes}
 use Rattle.icu_levels.specs.Primaries.{Compression, lead, second_byte}
-use Rattle.icu_levels.specs.Tertiaries.{plain}
-use Rattle.icu_levels.specs.Premises.{Passes, IsPrefixFree, AreSecondaries, forward_least, AreTertiaries, AreShifted, ArePrimaries}
-use Rattle.icu_levels.specs.Keys.{KeyForm, forward, lower_case_first, shifted}
+use Rattle.icu_levels.specs.Premises.{IsPrefixFree, AreSecondaries, forward_least, AreTertiaries, AreShifted, ArePrimaries}
 use Rattle.icu_levels.specs.KeyPremises.{LiveWeights, AreWeights}
+use Rattle.icu_levels.specs.declared.forms.CaseForm.TheVariants.{LowerFirst}
+use Rattle.icu_levels.specs.declared.forms.KeyForm.{KeyForm}
+use Rattle.icu_levels.specs.declared.forms.QuaternaryForm.TheVariants.{MayShift}
+use Rattle.icu_levels.specs.declared.forms.SecondaryForm.TheVariants.{Forward}
+use Rattle.icu_levels.specs.declared.forms.TertiaryForm.TheVariants.{WithoutCase}
 
 -- two weights of a level
-abbrev either : ℕ → ℕ → ℕ → Bool
-either a b w = w == a || w == b
-
-is_either : (a b w : ℕ) → either a b w ≡ true → (w ≡ a) ⊎ (w ≡ b)
-is_either a b w h = by (eqb w a) (eqb w b) h (eqb-true w a) (eqb-true w b)
-  where
-    by : (x y : Bool) → (x || y) ≡ true → (x ≡ true → w ≡ a) → (y ≡ true → w ≡ b) → (w ≡ a) ⊎ (w ≡ b)
-    by true y e f g = inl (f refl)
-    by false y e f g = inr (g e)
+abbrev either : ℕ → ℕ → ℕ → Type 0
+either a b w = (w ≡ a) ⊎ (w ≡ b)
 
 -- what holds of both
-of_either : (P : ℕ → Type 0) (a b : ℕ) → P a → P b → (w : ℕ) → either a b w ≡ true → P w
-of_either P a b p q w h = by (is_either a b w h)
+of_either : (P : ℕ → Type 0) (a b : ℕ) → P a → P b → (w : ℕ) → either a b w → P w
+of_either P a b p q w h = by h
   where
     by : (w ≡ a) ⊎ (w ≡ b) → P w
     by (inl e) = subst P (sym e) p
@@ -30,8 +25,8 @@ of_either P a b p q w h = by (is_either a b w h)
 
 -- neither begins the other
 free : (k a b : ℕ) → (IsBeginning (weight_bytes k a) (weight_bytes k b) → ⊥) → (IsBeginning (weight_bytes k b) (weight_bytes k a) → ⊥)
-    → IsPrefixFree (weight_bytes k) (Passes (either a b))
-free k a b f g v w p q n h = by (is_either a b v p) (is_either a b w q)
+    → IsPrefixFree (weight_bytes k) (either a b)
+free k a b f g v w p q n h = by p q
   where
     by : (v ≡ a) ⊎ (v ≡ b) → (w ≡ a) ⊎ (w ≡ b) → ⊥
     by (inl e) (inl i) = n (e ∙ sym i)
@@ -47,13 +42,13 @@ free k a b f g v w p q n h = by (is_either a b v p) (is_either a b w q)
 abbrev unmoved : Compression
 unmoved = record { reorder = λ p. p; is_compressible = λ l. l == 0x61 }
 
-abbrev some_primaries : ℕ → Bool
+abbrev some_primaries : ℕ → Type 0
 some_primaries = either 0x61100000 0x02000000
 
-some_alike : (v w : ℕ) → Passes some_primaries v → Passes some_primaries w → lead v ≡ lead w → (lead v == 0x61) ≡ (lead w == 0x61)
+some_alike : (v w : ℕ) → some_primaries v → some_primaries w → lead v ≡ lead w → (lead v == 0x61) ≡ (lead w == 0x61)
 some_alike v w p q e = ap (λ l. l == 0x61) e
 
-primaries_met : ArePrimaries unmoved 0x0F (Passes some_primaries)
+primaries_met : ArePrimaries unmoved 0x0F some_primaries
 primaries_met = record {
   reordered_fits = λ w l. l;
   lead_alone = λ w l. refl;
@@ -72,8 +67,8 @@ primaries_met = record {
   numbers_whole = refl;
 }
 
--- ---- secondaries: the common one and an accent
-secondaries_met : AreSecondaries forward_least (Passes (either 0x0500 0x4600))
+-- ---- secondaries: the common one and a diacritic
+secondaries_met : AreSecondaries forward_least (either 0x0500 0x4600)
 secondaries_met = record {
   fits = of_either (λ w. w < 2 ^ 16) 0x0500 0x4600 (lit< tt) (lit< tt);
   leads =
@@ -82,7 +77,7 @@ secondaries_met = record {
 }
 
 -- ---- tertiaries: the common one and another
-tertiaries_met : AreTertiaries plain (Passes (either 0x0500 0x1C00))
+tertiaries_met : AreTertiaries WithoutCase (either 0x0500 0x1C00)
 tertiaries_met = record {
   least = of_either (λ w. 2 ≤ w / 256) 0x0500 0x1C00 (lit≤ tt) (lit≤ tt);
   greatest = of_either (λ w. w / 256 ≤ 0x3F) 0x0500 0x1C00 (lit≤ tt) (lit≤ tt);
@@ -91,7 +86,7 @@ tertiaries_met = record {
 }
 
 -- ---- shifted primaries: two marks of punctuation
-shifted_met : AreShifted (Passes (either 0x03100000 0x04100000))
+shifted_met : AreShifted (either 0x03100000 0x04100000)
 shifted_met = record {
   fits = of_either (λ w. w < 256 ^ 4) 0x03100000 0x04100000 (lit< tt) (lit< tt);
   leads = of_either (λ w. 2 ≤ lead w) 0x03100000 0x04100000 (lit≤ tt) (lit≤ tt);
@@ -111,7 +106,7 @@ some_weights =
     }
 
 abbrev whole_form : KeyForm
-whole_form = record { secondary = forward; cases = lower_case_first; tertiary = Some plain; quaternary = shifted; identical = true }
+whole_form = record { secondary = Some Forward; cases = Some LowerFirst; tertiary = Some WithoutCase; quaternary = Some MayShift; identical = true }
 
 weights_met : AreWeights unmoved whole_form some_weights
 weights_met = record { primaries = primaries_met; secondaries = secondaries_met; tertiaries = tertiaries_met; quaternaries = shifted_met }

@@ -1,24 +1,19 @@
--- Weights of two bytes whose leads are moved out of the way of runs
+-- Weights of two bytes whose leads are moved out of the way of runs.
 use Rattle.std.proofs.Common.{◌≡◌, ◌≢◌, ℕ, ◌/◌, ◌%◌, ◌^◌, ◌<◌, ◌∷◌, sym, subst, arith}
-use Rattle.icu_levels.specs.declared.rows.Row.{Row}
+use Rattle.icu_levels.specs.declared.run_bytes.RunBytes.{RunBytes}
 use Rattle.icu_levels.specs.ListOrder.{IsBeginning}
 use Rattle.icu_levels.specs.WeightBytes.{weight_bytes}
 use Rattle.icu_levels.specs.Runs.{IsSpelling}
 use Rattle.icu_levels.specs.Premises.{IsPrefixFree}
 use Rattle.icu_levels.proofs.WeightOrder.{weights_precede, over_first, under_first}
-use Rattle.icu_levels.proofs.PrecedesLemmas.{nonzero_first}
+use Rattle.icu_levels.proofs.PrecedesLemmas.{nonzero_first, begins_alike}
 
 lead_and_rest : (w : ℕ) → 0 < w / 256 → weight_bytes 2 w ≡ w / 256 ∷ weight_bytes 1 (w % 256)
 lead_and_rest w l = nonzero_first (w / 256) (weight_bytes 1 (w % 256)) l
 
 -- weights of which one begins the other have one lead
 pub begins_lead : (v w : ℕ) → 0 < v / 256 → 0 < w / 256 → IsBeginning (weight_bytes 2 v) (weight_bytes 2 w) → v / 256 ≡ w / 256
-begins_lead v w a b h =
-    first (subst (λ l. IsBeginning l (w / 256 ∷ weight_bytes 1 (w % 256))) (lead_and_rest v a)
-    (subst (λ l. IsBeginning (weight_bytes 2 v) l) (lead_and_rest w b) h))
-  where
-    first : IsBeginning (v / 256 ∷ weight_bytes 1 (v % 256)) (w / 256 ∷ weight_bytes 1 (w % 256)) → v / 256 ≡ w / 256
-    first k = k.0
+begins_lead v w a b h = (begins_alike 1 v w a b h).0
 
 -- which weight begins which is the same after the leads are moved apart from one another
 pub moved_begins : (v w x y : ℕ) → 0 < v / 256 → 0 < w / 256 → 0 < x / 256 → 0 < y / 256 → x % 256 ≡ v % 256 → y % 256 ≡ w % 256
@@ -39,7 +34,7 @@ moved_begins v w x y a b c d e f g h =
     )
 
 -- Weights are moved in their leads alone, in their order, and out of the way of runs
-pub record IsMove (r : Row) (end : ℕ) (move : ℕ → ℕ) (IsLive : ℕ → Type 0) : Type 0 where
+pub record IsMove (r : RunBytes) (end : ℕ) (move : ℕ → ℕ) (IsLive : ℕ → Type 0) : Type 0 where
   pub low : (w : ℕ) → IsLive w → w < r.common → (end < move w / 256) × (move w / 256 < r.low)
   pub high : (w : ℕ) → IsLive w → r.common < w → r.high < move w / 256
   pub fits : (w : ℕ) → IsLive w → move w < 2 ^ 16
@@ -49,7 +44,7 @@ pub record IsMove (r : Row) (end : ℕ) (move : ℕ → ℕ) (IsLive : ℕ → T
   pub rises : (v w : ℕ) → IsLive v → IsLive w → v ≢ r.common → w ≢ r.common → v < w → move v < move w
   pub one_lead : (v w : ℕ) → IsLive v → IsLive w → v ≢ r.common → w ≢ r.common → move v / 256 ≡ move w / 256 → v / 256 ≡ w / 256
 
-pub moved_spelling : (r : Row) (end : ℕ) (move : ℕ → ℕ) (IsLive : ℕ → Type 0) → end < r.low → IsMove r end move IsLive
+pub moved_spelling : (r : RunBytes) (end : ℕ) (move : ℕ → ℕ) (IsLive : ℕ → Type 0) → end < r.low → IsMove r end move IsLive
     → IsPrefixFree (weight_bytes 2) IsLive → IsSpelling r end (λ w. weight_bytes 2 (move w)) IsLive
 moved_spelling r end move IsLive l good free = record {
   end_below = l;

@@ -1,11 +1,14 @@
--- Each premise is needed: lists and bytes that part where one of them fails
+-- Each premise is needed: lists and bytes that part where one of them fails.
 use Rattle.std.proofs.Common.{◌≡◌, ℕ, ◌^◌, Bool, ◌==◌, if◌then◌else◌, [], ◌∷◌, ◌++◌, map, refl, Less, Greater}
 use Rattle.icu_levels.specs.ListOrder.{list_order, segments_order}
 use Rattle.icu_levels.specs.Primaries.{Compression, primary_level}
 use Rattle.icu_levels.specs.Secondaries.{secondary_level, backward_level}
-use Rattle.icu_levels.specs.Tertiaries.{tertiary_level, plain}
-use Rattle.icu_levels.specs.Cases.{lower_first_case_level}
-use Rattle.icu_levels.specs.Quaternaries.{quaternary_level, unshifted_quaternary_level}
+use Rattle.icu_levels.specs.Tertiaries.{tertiary_level}
+use Rattle.icu_levels.specs.Cases.{case_level}
+use Rattle.icu_levels.specs.Quaternaries.{quaternary_level}
+use Rattle.icu_levels.specs.declared.forms.TertiaryForm.TheVariants.{WithoutCase}
+use Rattle.icu_levels.specs.declared.forms.CaseForm.TheVariants.{LowerFirst}
+use Rattle.icu_levels.specs.declared.forms.QuaternaryForm.TheVariants.{MayShift, Unshifted}
 
 -- ---- prefix-free weights
 -- secondaries: 0300 begins 0302
@@ -17,7 +20,7 @@ prefix_free_secondaries = (refl, refl)
 -- tertiaries: 3F00 begins 3F3F
 prefix_free_tertiaries :
     (list_order (0x3F00 ∷ 0x3F00 ∷ []) (0x3F3F ∷ 0x3F3F ∷ []) ≡ Less)
-    × (list_order (tertiary_level plain (0x3F00 ∷ 0x3F00 ∷ []) ++ 1 ∷ []) (tertiary_level plain (0x3F3F ∷ 0x3F3F ∷ []) ++ 1 ∷ []) ≡ Greater)
+    × (list_order (tertiary_level WithoutCase (0x3F00 ∷ 0x3F00 ∷ []) ++ 1 ∷ []) (tertiary_level WithoutCase (0x3F3F ∷ 0x3F3F ∷ []) ++ 1 ∷ []) ≡ Greater)
 prefix_free_tertiaries = (refl, refl)
 
 -- no reordering, and a compressible lead
@@ -41,7 +44,7 @@ secondary_leads = (refl, refl)
 -- a tertiary that shares the lead of the common one
 tertiary_leads :
     (list_order (0x0501 ∷ 0x0500 ∷ []) (0x0500 ∷ 0x0501 ∷ []) ≡ Greater)
-    × (list_order (tertiary_level plain (0x0501 ∷ 0x0500 ∷ [])) (tertiary_level plain (0x0500 ∷ 0x0501 ∷ [])) ≡ Less)
+    × (list_order (tertiary_level WithoutCase (0x0501 ∷ 0x0500 ∷ [])) (tertiary_level WithoutCase (0x0500 ∷ 0x0501 ∷ [])) ≡ Less)
 tertiary_leads = (refl, refl)
 
 -- a primary that leads with 01, beside a text without a primary
@@ -114,12 +117,12 @@ compressible_numeric = (refl, refl)
 -- ---- lists as long
 -- lower case first: lower alone is written as nothing, however much of it
 cases_as_long :
-    (list_order (0 ∷ []) [] ≡ Greater) × (lower_first_case_level (0 ∷ []) ≡ lower_first_case_level [])
+    (list_order (0 ∷ []) [] ≡ Greater) × (case_level LowerFirst (0 ∷ []) ≡ case_level LowerFirst [])
 cases_as_long = (refl, refl)
 
 -- and so are common quaternaries where none is shifted
 quaternaries_as_long :
-    (list_order (2 ^ 32 ∷ []) [] ≡ Greater) × (unshifted_quaternary_level (2 ^ 32 ∷ []) ≡ unshifted_quaternary_level [])
+    (list_order (2 ^ 32 ∷ []) [] ≡ Greater) × (quaternary_level Unshifted (2 ^ 32 ∷ []) ≡ quaternary_level Unshifted [])
 quaternaries_as_long = (refl, refl)
 
 -- backward, no segment at all and an empty one are written alike
@@ -129,5 +132,5 @@ some_segment = (refl, refl)
 
 -- ---- the byte 1B before a shifted primary keeps it below the bytes of runs
 shifted_escape :
-    list_order (quaternary_level (0x1D100000 ∷ [])) (quaternary_level (2 ^ 32 ∷ 2 ^ 32 ∷ 2 ^ 32 ∷ [])) ≡ Less
+    list_order (quaternary_level MayShift (0x1D100000 ∷ [])) (quaternary_level MayShift (2 ^ 32 ∷ 2 ^ 32 ∷ 2 ^ 32 ∷ [])) ≡ Less
 shifted_escape = refl

@@ -1,10 +1,10 @@
--- Packed nibbles order as nibbles
+-- Packed nibbles order as nibbles.
 use Rattle.std.proofs.Common.{◌≡◌, ℕ, ◌+◌, ◌*◌, ◌/◌, ◌%◌, ◌<◌, List, [], ◌∷◌, ◌++◌, refl, sym, ap, ◌∙◌, inl, inr, ◌⊎◌, ⊎_elim, arith, Less}
 use Rattle.std.specs.List.{AllByRecursion}
 use Rattle.std.proofs.lemmas.Bool.{cases_order}
-use Rattle.icu_levels.specs.declared.rows.Row.{Row}
+use Rattle.icu_levels.specs.declared.run_bytes.RunBytes.{RunBytes}
 use Rattle.icu_levels.specs.ListOrder.{list_order, IsUnder}
-use Rattle.icu_levels.specs.Runs.{IsRow, IsSpelling, level_bytes}
+use Rattle.icu_levels.specs.Runs.{AreRunBytes, IsSpelling, level_bytes}
 use Rattle.icu_levels.specs.Cases.{packed}
 use Rattle.icu_levels.proofs.Order.{less_head, alike_head, three_ways, turned, same_lists_order, less_cases}
 use Rattle.icu_levels.proofs.LevelOrder.{level_less}
@@ -66,7 +66,7 @@ pad_under (x ∷ []) s u = omega arith
 pad_under (x ∷ (y ∷ ns)) s u = pad_under ns s u
 
 -- A level of nibbles: the order of the packed bytes is that of the lists, and then of what follows
-module _ (r : Row) (ok : IsRow r) (spell : ℕ → List ℕ) (IsLive : ℕ → Type 0) (fits : IsSpelling r 0 spell IsLive)
+module _ (r : RunBytes) (ok : AreRunBytes r) (spell : ℕ → List ℕ) (IsLive : ℕ → Type 0) (fits : IsSpelling r 0 spell IsLive)
     (small : (ws : List ℕ) → AllByRecursion IsLive ws → AllByRecursion (λ n. n < 16) (level_bytes r spell 0 ws)) where
   pub nibbles_less : (vs ws s t : List ℕ) → AllByRecursion IsLive vs → AllByRecursion IsLive ws → IsUnder 2 s → list_order vs ws ≡ Less
       → list_order (packed (level_bytes r spell 0 vs) ++ s) (packed (level_bytes r spell 0 ws) ++ t) ≡ Less

@@ -1,4 +1,4 @@
--- The bytes of numbers are bytes, and end as the pieces of numbers do
+-- The bytes of numbers are bytes, and end as the pieces of numbers do.
 use Rattle.std.proofs.Common.{◌≡◌, ℕ, zero, suc, ◌+◌, ◌-◌, ◌*◌, ◌/◌, ◌%◌, ◌^◌, ◌<◌, ◌≤◌, List, [], ◌∷◌, refl, sym, subst, inl, inr, ◌⊎◌, arith, lit<, lit≤}
 use Rattle.std.proofs.lemmas.Bool.{cases_lt, lt-ltb, le-ltb}
 use Rattle.std.proofs.lemmas.Nat.{mod_below, div_below}

@@ -1,4 +1,4 @@
--- The bytes of numbers rise with their value
+-- The bytes of numbers rise with their value.
 use Rattle.std.proofs.Common.{◌≡◌, ◌≢◌, ℕ, zero, suc, ◌+◌, ◌-◌, ◌*◌, ◌/◌, ◌%◌, ◌^◌, ◌<◌, ◌≤◌, Bool, true, false, ◌&&◌, if◌then◌else◌, ap, List, [], ◌∷◌, length, refl, sym, ◌∙◌, inl, inr, ◌⊎◌, arith, lit<, lit≤, Less, eqb, eq-eqb, ne_eqb}
 use Rattle.std.proofs.lemmas.Bool.{cases_order, cases_eq, cases_Bool, cond-true, cond-false, and_parts, eqb-true}
 use Rattle.std.proofs.lemmas.Nat.{mod_below, div-add-mod'}

@@ -1,4 +1,4 @@
--- A level that is written as nothing where its list has the least weight alone
+-- A level that is written as nothing where its list has the least weight alone.
 use Rattle.std.proofs.Common.{◌≡◌, ℕ, ◌<◌, ◌≤◌, Bool, true, false, ◌&&◌, if◌then◌else◌, List, [], ◌∷◌, ◌++◌, length, refl, sym, ap, ◌∙◌, inl, inr, ◌⊎◌, arith, Less, eqb}
 use Rattle.std.proofs.lemmas.Bool.{cases_order, cases_Bool, and_parts, eqb-true, cond-true, cond-false}
 use Rattle.std.specs.List.{AllByRecursion}

@@ -1,4 +1,4 @@
--- One answer after another
+-- One order after another.
 use Rattle.std.proofs.Common.{◌≡◌, refl, Ordering, Less, Equal, Greater}
 use Rattle.std.specs.Ordering.{ordering_then}
 
@@ -7,13 +7,13 @@ then_assoc Less p q = refl
 then_assoc Equal p q = refl
 then_assoc Greater p q = refl
 
--- a later answer that ties changes nothing
+-- a later order that ties changes nothing
 pub then_equal : (o : Ordering) → ordering_then o Equal ≡ o
 then_equal Less = refl
 then_equal Equal = refl
 then_equal Greater = refl
 
--- a later answer is wanted only where the earlier ones tie
+-- a later order is wanted only where the earlier ones tie
 pub then_when : (o p q : Ordering) → (o ≡ Equal → p ≡ q) → ordering_then o p ≡ ordering_then o q
 then_when Less p q h = refl
 then_when Equal p q h = h refl

@@ -1,4 +1,4 @@
--- Pieces of numbers: outside a number and inside one, none begins another
+-- Pieces of numbers: outside a number and inside one, none begins another.
 use Rattle.std.proofs.Common.{◌≡◌, ℕ, ◌%◌, List, [], ◌∷◌, ap, ap₂, inl, inr, arith}
 use Rattle.icu_levels.specs.ListOrder.{IsBeginning}
 use Rattle.icu_levels.specs.Premises.{IsFirstPiece, IsFurtherPiece}

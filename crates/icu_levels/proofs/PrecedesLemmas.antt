@@ -1,7 +1,7 @@
--- When one list comes before another whatever follows either
-use Rattle.std.proofs.Common.{◌≡◌, ℕ, zero, suc, ◌<◌, List, [], ◌∷◌, ◌++◌, refl, sym, ◌∙◌, arith, append_assoc}
-use Rattle.icu_levels.specs.ListOrder.{IsUnder, IsOver, Precedes}
-use Rattle.icu_levels.specs.WeightBytes.{before_nonzero}
+-- When one list comes before another whatever follows either.
+use Rattle.std.proofs.Common.{◌≡◌, ℕ, zero, suc, ◌/◌, ◌%◌, ◌^◌, ◌<◌, List, [], ◌∷◌, ◌++◌, refl, sym, subst, ◌∙◌, arith, append_assoc}
+use Rattle.icu_levels.specs.ListOrder.{IsUnder, IsOver, IsBeginning, Precedes}
+use Rattle.icu_levels.specs.WeightBytes.{before_nonzero, weight_bytes}
 use Rattle.icu_levels.proofs.Order.{alike_head, same_front}
 use Rattle.icu_levels.proofs.LevelOrder.{under_over, over_append, under_append}
 
@@ -22,3 +22,10 @@ pub nonzero_first : (x : ℕ) (xs : List ℕ) → 0 < x → before_nonzero x xs 
 nonzero_first zero xs l = absurd (omega arith)
 nonzero_first (suc x) [] l = refl
 nonzero_first (suc x) (y ∷ ys) l = refl
+
+-- weights of which one begins the other have one lead, and so does what is below it
+pub begins_alike : (k v w : ℕ) → 0 < v / 256 ^ k → 0 < w / 256 ^ k → IsBeginning (weight_bytes (suc k) v) (weight_bytes (suc k) w)
+    → (v / 256 ^ k ≡ w / 256 ^ k) × IsBeginning (weight_bytes k (v % 256 ^ k)) (weight_bytes k (w % 256 ^ k))
+begins_alike k v w a b h =
+    subst (λ l. IsBeginning (v / 256 ^ k ∷ weight_bytes k (v % 256 ^ k)) l) (nonzero_first (w / 256 ^ k) (weight_bytes k (w % 256 ^ k)) b)
+    (subst (λ l. IsBeginning l (weight_bytes (suc k) w)) (nonzero_first (v / 256 ^ k) (weight_bytes k (v % 256 ^ k)) a) h)

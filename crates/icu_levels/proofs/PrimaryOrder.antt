@@ -1,4 +1,4 @@
--- The primary level's bytes order as its reordered lists, numbers among them
+-- The primary level's bytes order as its reordered lists, numbers among them.
 use Rattle.std.proofs.Common.{◌≡◌, ◌≢◌, ℕ, ◌^◌, ◌<◌, ◌≤◌, Bool, true, false, if◌then◌else◌, List, [], ◌∷◌, ◌++◌, map, refl, sym, ap, ap₂, ◌∙◌, subst, inl, inr, ◌⊎◌, arith, lit<, Less, ne_eqb}
 use Rattle.std.proofs.lemmas.Bool.{cases_order, cases_eq, cases_Bool, cond-true, cond-false}
 use Rattle.std.specs.Ordering.{ordering_then}
@@ -8,7 +8,7 @@ use Rattle.icu_levels.specs.Primaries.{Compression, lead, below_lead, second_byt
 use Rattle.icu_levels.specs.Premises.{MayStand, goes_on, IsPrimaryList, ArePrimaries}
 use Rattle.icu_levels.proofs.Order.{same_lists_order}
 use Rattle.icu_levels.proofs.WeightOrder.{digits_less, trimmed_less}
-use Rattle.icu_levels.proofs.PrecedesLemmas.{nonzero_first}
+use Rattle.icu_levels.proofs.PrecedesLemmas.{begins_alike, nonzero_first}
 use Rattle.icu_levels.proofs.StepwiseOrder.{stepwise_bytes, StandAlong, IsRising, stepwise_order}
 use Rattle.icu_levels.proofs.CompressionOrder.{FitsAfter, next_leads, next_rises}
 use Rattle.icu_levels.proofs.PieceLemmas.{first_pieces_apart, further_pieces_apart}
@@ -29,13 +29,6 @@ same_weights k v w f g e = by (cases_order v w)
     by (inl h) = h
     by (inr (inl l)) = absurd (no (weight_bytes k v) (weight_bytes k w) e (trimmed_less k v w (digits_less 256 k v w (lit< tt) g l)))
     by (inr (inr l)) = absurd (no (weight_bytes k w) (weight_bytes k v) (sym e) (trimmed_less k w v (digits_less 256 k w v (lit< tt) f l)))
-
--- weights of four bytes of which one begins the other have one lead
-begins_lead : (v w : ℕ) → 0 < lead v → 0 < lead w → IsBeginning (weight_bytes 4 v) (weight_bytes 4 w) → (lead v ≡ lead w)
-    × IsBeginning (weight_bytes 3 (below_lead v)) (weight_bytes 3 (below_lead w))
-begins_lead v w a b h =
-    subst (λ l. IsBeginning (lead v ∷ weight_bytes 3 (below_lead v)) l) (nonzero_first (lead w) (weight_bytes 3 (below_lead w)) b)
-    (subst (λ l. IsBeginning l (weight_bytes 4 w)) (nonzero_first (lead v) (weight_bytes 3 (below_lead v)) a) h)
 
 module _ (c : Compression) (numeric : ℕ) (IsLive : ℕ → Type 0) (good : ArePrimaries c numeric IsLive) where
   -- a lead is dropped only after a live compressible weight
@@ -91,7 +84,7 @@ module _ (c : Compression) (numeric : ℕ) (IsLive : ℕ → Type 0) (good : Are
       h : (lead (c.reorder v) ≡ lead (c.reorder w)) × IsBeginning (weight_bytes 3 (below_lead (c.reorder v)))
           (weight_bytes 3 (below_lead (c.reorder w)))
       h =
-          begins_lead (c.reorder v) (c.reorder w) (omega (arith, member_leads i v (member i v p)))
+          begins_alike 3 (c.reorder v) (c.reorder w) (omega (arith, member_leads i v (member i v p)))
           (omega (arith, member_leads i w (member i w q))) b
 
       same : (x y : ℕ) → lead x ≡ lead y → below_lead x ≡ below_lead y → x ≡ y
@@ -149,8 +142,8 @@ module _ (c : Compression) (numeric : ℕ) (IsLive : ℕ → Type 0) (good : Are
   not_number : (i : Bool) (w : ℕ) → lead w ≢ numeric → goes_on numeric i w ≡ false
   not_number i w n = rw (ne_eqb (lead w) numeric n) refl
 
-  plain_drop : (w : ℕ) → lead w ≡ numeric → dropped_after c w ≡ 0
-  plain_drop w l = cond-false (c.is_compressible (lead w)) _ _ (ap c.is_compressible l ∙ good.numbers_whole)
+  number_drop : (w : ℕ) → lead w ≡ numeric → dropped_after c w ≡ 0
+  number_drop w l = cond-false (c.is_compressible (lead w)) _ _ (ap c.is_compressible l ∙ good.numbers_whole)
 
   same_place : (p : Place) (v w : ℕ) → Stands p v → Stands p w → c.reorder v ≡ c.reorder w → place_after p v ≡ place_after p w
   same_place p v w s t e = by (member p.inside v s.1) (member p.inside w t.1)
@@ -189,7 +182,7 @@ module _ (c : Compression) (numeric : ℕ) (IsLive : ℕ → Type 0) (good : Are
       by : (c.is_compressible (lead w) ≡ true) ⊎ (c.is_compressible (lead w) ≡ false) → IsDropped (dropped_after c w)
       by (inl k) = after w a k (sym (cond-true (c.is_compressible (lead w)) _ _ k))
       by (inr k) = none (cond-false (c.is_compressible (lead w)) _ _ k)
-  dropped_next i w (numbered f l) = none (plain_drop w l)
+  dropped_next i w (numbered f l) = none (number_drop w l)
 
   all_stand : (ws : List ℕ) (p : Place) → IsDropped p.dropped → IsPrimaryList numeric IsLive p.inside ws
       → StandAlong place_after Stands p ws

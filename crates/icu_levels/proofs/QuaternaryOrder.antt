@@ -1,23 +1,24 @@
--- The quaternary level's bytes order as its lists
+-- The quaternary level's bytes order as its lists.
 use Rattle.std.proofs.Common.{◌≡◌, ◌≢◌, ℕ, ◌+◌, ◌-◌, ◌%◌, ◌^◌, ◌<◌, ◌≤◌, List, [], ◌∷◌, ◌++◌, length, refl, arith, lit<, inl, inr, ◌⊎◌, ltb, Less}
 use Rattle.std.proofs.lemmas.Bool.{cases_lt, lt-ltb, le-ltb, cond-true, cond-false}
 use Rattle.std.specs.List.{AllByRecursion}
 use Rattle.std.specs.Ordering.{ordering_then}
 use Rattle.icu_levels.specs.ListOrder.{list_order, IsUnder, IsOver, Precedes}
 use Rattle.icu_levels.specs.WeightBytes.{weight_bytes}
-use Rattle.icu_levels.specs.Runs.{IsRow, IsSpelling}
-use Rattle.icu_levels.specs.Rows.{quaternary_row}
+use Rattle.icu_levels.specs.Runs.{AreRunBytes, IsSpelling}
 use Rattle.icu_levels.specs.Primaries.{lead}
-use Rattle.icu_levels.specs.Quaternaries.{shifted_bytes, quaternary_bytes, quaternary_level, unshifted_quaternary_level}
+use Rattle.icu_levels.specs.Quaternaries.{shifted_bytes, quaternary_bytes, quaternary_level}
 use Rattle.icu_levels.specs.Premises.{AreShifted, IsUnshifted, IsQuaternary}
 use Rattle.icu_levels.proofs.Order.{less_head}
 use Rattle.icu_levels.proofs.WeightOrder.{weights_precede, over_first, under_first}
 use Rattle.icu_levels.proofs.LevelOrder.{level_less, level_order}
 use Rattle.icu_levels.proofs.PrecedesLemmas.{precedes_over, precedes_front}
 use Rattle.icu_levels.proofs.OrNothing.{or_nothing_order}
+use Rattle.icu_levels.specs.declared.run_bytes.TheConstants.{QUATERNARY_RUNS}
+use Rattle.icu_levels.specs.declared.forms.QuaternaryForm.TheVariants.{MayShift, Unshifted}
 
-pub quaternary_row_fits : IsRow quaternary_row
-quaternary_row_fits = record { some = lit< tt; to_middle = refl; to_high = refl }
+pub quaternary_runs_fit : AreRunBytes QUATERNARY_RUNS
+quaternary_runs_fit = record { some = lit< tt; to_middle = refl; to_high = refl }
 
 above_bytes : (w : ℕ) → 2 ^ 32 < w → quaternary_bytes w ≡ (0xFC + w - 2 ^ 32) ∷ []
 above_bytes w l = cond-true (ltb (2 ^ 32) w) _ _ (lt-ltb (2 ^ 32) w l)
@@ -62,7 +63,7 @@ module _ (IsLive : ℕ → Type 0) (good : AreShifted IsLive) where
       by (inr a) (inl b) = absurd (omega arith)
       by (inr a) (inr b) = rw (high_lead v a, high_lead w b) (precedes_front (0x1B ∷ []) (weight_bytes 4 v) (weight_bytes 4 w) full)
 
-  pub quaternaries_fit : IsSpelling quaternary_row 1 quaternary_bytes (IsQuaternary IsLive)
+  pub quaternaries_fit : IsSpelling QUATERNARY_RUNS 1 quaternary_bytes (IsQuaternary IsLive)
   quaternaries_fit = record {
     end_below = lit< tt;
     below = λ w p l. rw (below_bytes w (omega arith)) (shifted_between w (is_shifted w p l));
@@ -89,31 +90,31 @@ module _ (IsLive : ℕ → Type 0) (good : AreShifted IsLive) where
 
   pub quaternary_order : (vs ws s t : List ℕ) → AllByRecursion (IsQuaternary IsLive) vs → AllByRecursion (IsQuaternary IsLive) ws
       → IsUnder 2 s → IsUnder 2 t
-      → list_order (quaternary_level vs ++ s) (quaternary_level ws ++ t) ≡ ordering_then (list_order vs ws) (list_order s t)
+      → list_order (quaternary_level MayShift vs ++ s) (quaternary_level MayShift ws ++ t) ≡ ordering_then (list_order vs ws) (list_order s t)
   quaternary_order vs ws s t p q u v =
-      level_order quaternary_row quaternary_row_fits quaternary_bytes 1 (IsQuaternary IsLive) quaternaries_fit vs ws s t p q u v
+      level_order QUATERNARY_RUNS quaternary_runs_fit quaternary_bytes 1 (IsQuaternary IsLive) quaternaries_fit vs ws s t p q u v
 
 -- where no primary is shifted
-abbrev None : ℕ → Type 0
-None w = ⊥
+abbrev NoPrimary : ℕ → Type 0
+NoPrimary w = ⊥
 
-none_shifted : AreShifted None
+none_shifted : AreShifted NoPrimary
 none_shifted = record { fits = λ w p. absurd p; leads = λ w p. absurd p; prefix_free = λ v w p q n b. absurd p }
 
-unshifted_all : (ws : List ℕ) → AllByRecursion IsUnshifted ws → AllByRecursion (IsQuaternary None) ws
+unshifted_all : (ws : List ℕ) → AllByRecursion IsUnshifted ws → AllByRecursion (IsQuaternary NoPrimary) ws
 unshifted_all [] p = tt
 unshifted_all (w ∷ ws) p = (inr p.0, unshifted_all ws p.1)
 
 unshifted_less : (vs ws s t : List ℕ) → AllByRecursion IsUnshifted vs → AllByRecursion IsUnshifted ws → IsUnder 2 s → list_order vs ws
     ≡ Less
-    → list_order (quaternary_level vs ++ s) (quaternary_level ws ++ t) ≡ Less
+    → list_order (quaternary_level MayShift vs ++ s) (quaternary_level MayShift ws ++ t) ≡ Less
 unshifted_less vs ws s t p q u h =
-    level_less quaternary_row quaternary_row_fits quaternary_bytes 1 (IsQuaternary None) (quaternaries_fit None none_shifted) vs ws 0 s t
+    level_less QUATERNARY_RUNS quaternary_runs_fit quaternary_bytes 1 (IsQuaternary NoPrimary) (quaternaries_fit NoPrimary none_shifted) vs ws 0 s t
     (unshifted_all vs p) (unshifted_all ws q) u h
 
 -- lists as long
 pub unshifted_order : (vs ws s t : List ℕ) → AllByRecursion IsUnshifted vs → AllByRecursion IsUnshifted ws → IsUnder 2 s → IsUnder 2 t
     → length vs ≡ length ws
-    → list_order (unshifted_quaternary_level vs ++ s) (unshifted_quaternary_level ws ++ t)
+    → list_order (quaternary_level Unshifted vs ++ s) (quaternary_level Unshifted ws ++ t)
     ≡ ordering_then (list_order vs ws) (list_order s t)
-unshifted_order = or_nothing_order (2 ^ 32) IsUnshifted (λ w p. p.0) quaternary_level refl unshifted_less
+unshifted_order = or_nothing_order (2 ^ 32) IsUnshifted (λ w p. p.0) (quaternary_level MayShift) refl unshifted_less

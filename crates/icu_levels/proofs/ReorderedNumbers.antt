@@ -1,4 +1,4 @@
--- Reordering gives the weights of a number one other lead
+-- Reordering gives the weights of a number one other lead.
 use Rattle.std.proofs.Common.{◌≡◌, false, ℕ, ◌^◌, ◌<◌, List, [], ◌∷◌, map, refl, sym, subst, ap, ap₂, arith, lit<, inl, ne_eqb}
 use Rattle.std.specs.List.{AllByRecursion}
 use Rattle.std.specs.Ordering.{nat_cmp}

@@ -1,8 +1,8 @@
--- Runs are short
+-- Runs are short.
 use Rattle.std.proofs.Common.{◌≡◌, ℕ, zero, suc, ◌+◌, ◌-◌, ◌/◌, ◌%◌, ◌<◌, ◌≤◌, [], ◌∷◌, ◌++◌, length, length-append, replicate, inl, inr, ◌⊎◌, arith}
 use Rattle.std.proofs.lemmas.Bool.{cases_lt}
 use Rattle.std.proofs.lemmas.List.{length-replicate}
-use Rattle.icu_levels.specs.declared.rows.Row.{Row}
+use Rattle.icu_levels.specs.declared.run_bytes.RunBytes.{RunBytes}
 use Rattle.icu_levels.specs.Runs.{run_before_less, run_before_more, run_before}
 use Rattle.icu_levels.specs.RunLaws.{RunsAreShort}
 use Rattle.icu_levels.proofs.RunOrder.{quotients}
@@ -20,7 +20,7 @@ grows m c some = by (quotients m (suc m) c some (omega arith))
 counted : (q b last : ℕ) → length (replicate q b ++ last ∷ []) ≡ q + 1
 counted q b last = omega (arith, length-append (replicate q b) (last ∷ []), length-replicate q b)
 
-module _ (r : Row) (some : 0 < r.count) where
+module _ (r : RunBytes) (some : 0 < r.count) where
   less_length : (n : ℕ) → length (run_before_less r n) ≤ 1 + n / r.count
   less_length zero = omega arith
   less_length (suc m) = let e = counted (m / r.count) r.middle (r.low + m % r.count) in let g = grows m r.count some in omega arith

@@ -1,10 +1,10 @@
--- The order of the bytes of runs
+-- The order of the bytes of runs.
 use Rattle.std.proofs.Common.{◌≡◌, ℕ, zero, suc, ◌+◌, ◌-◌, ◌*◌, ◌/◌, ◌%◌, ◌<◌, ◌≤◌, List, [], ◌∷◌, ◌++◌, refl, ap, ◌∙◌, inl, inr, ◌⊎◌, ⊎_elim, arith, Less, append_assoc, replicate}
 use Rattle.std.proofs.lemmas.Nat.{div-add-mod', mul-le, mod_below}
 use Rattle.std.proofs.lemmas.Bool.{cases_order}
-use Rattle.icu_levels.specs.declared.rows.Row.{Row}
+use Rattle.icu_levels.specs.declared.run_bytes.RunBytes.{RunBytes}
 use Rattle.icu_levels.specs.ListOrder.{list_order, IsUnder, IsOver}
-use Rattle.icu_levels.specs.Runs.{IsRow, run_before_less, run_before_more}
+use Rattle.icu_levels.specs.Runs.{AreRunBytes, run_before_less, run_before_more}
 use Rattle.icu_levels.proofs.Order.{less_head, same_head, alike_head, same_front}
 
 -- of two counts, the lesser has the lesser quotient, or the same and the lesser remainder
@@ -56,7 +56,7 @@ ends_above mid high zero (suc q) x y s t pq xm lm ly u =
 pub ends_apart : (mid q x y : ℕ) (s t : List ℕ) → x < y → list_order (replicate q mid ++ x ∷ s) (replicate q mid ++ y ∷ t) ≡ Less
 ends_apart mid q x y s t l = same_front (replicate q mid) (x ∷ s) (y ∷ t) ∙ less_head x y s t l
 
-module _ (r : Row) (ok : IsRow r) where
+module _ (r : RunBytes) (ok : AreRunBytes r) where
   over_run : (q z : ℕ) (s : List ℕ) → (replicate q r.middle ++ z ∷ []) ++ s ≡ replicate q r.middle ++ z ∷ s
   over_run q z s = append_assoc (replicate q r.middle) (z ∷ []) s
 

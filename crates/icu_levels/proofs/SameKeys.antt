@@ -1,36 +1,39 @@
--- Two texts have one key exactly if they have the same lists
+-- Two texts have one key exactly if they have the same lists.
 use Rattle.std.proofs.Common.{◌≡◌, Bool, true, false, [], ◌∷◌, map, refl, sym, ap, ◌∙◌, Ordering, Equal, Option, Some, None}
 use Rattle.icu_levels.specs.Identical.{identical_rank}
 use Rattle.icu_levels.specs.Primaries.{Compression}
-use Rattle.icu_levels.specs.Tertiaries.{TertiaryForm}
-use Rattle.icu_levels.specs.Keys.{in_turn, SecondaryForm, no_secondary, forward, backward, CaseForm, no_case, lower_case_first, upper_case_first, QuaternaryForm, no_quaternary, shifted, unshifted, KeyForm, LevelLists, key_bytes, primaries_order, secondaries_order, cases_order, tertiaries_order, quaternaries_order, characters_order}
+use Rattle.icu_levels.specs.Keys.{in_turn, LevelLists, key_bytes, primaries_order, secondaries_order, cases_order, tertiaries_order, quaternaries_order, characters_order}
 use Rattle.icu_levels.specs.KeyPremises.{LiveWeights, AreWeights, AreLists, AreParallel}
 use Rattle.icu_levels.specs.KeyLaws.{SameSecondaries, SameCases, SameTertiaries, SameQuaternaries, SameCharacters, HaveSameLists}
 use Rattle.icu_levels.proofs.Order.{same_lists_order, tied_lists}
 use Rattle.icu_levels.proofs.IdenticalOrder.{same_from_ranks}
 use Rattle.icu_levels.proofs.KeepLemmas.{both_tie, tied_segments, same_segments_order}
 use Rattle.icu_levels.proofs.KeyOrder.{keys_order}
+use Rattle.icu_levels.specs.declared.forms.CaseForm.{CaseForm}
+use Rattle.icu_levels.specs.declared.forms.KeyForm.{KeyForm}
+use Rattle.icu_levels.specs.declared.forms.QuaternaryForm.{QuaternaryForm}
+use Rattle.icu_levels.specs.declared.forms.SecondaryForm.{SecondaryForm}
+use Rattle.icu_levels.specs.declared.forms.SecondaryForm.TheVariants.{Backward, Forward}
+use Rattle.icu_levels.specs.declared.forms.TertiaryForm.{TertiaryForm}
 
 module _ (t u : LevelLists) where
   -- ---- a level that ties has the same list
-  secondaries_from : (f : SecondaryForm) → secondaries_order f t u ≡ Equal → SameSecondaries f t u
-  secondaries_from no_secondary e = tt
-  secondaries_from forward e = tied_lists t.secondaries u.secondaries e
-  secondaries_from backward e = tied_segments t.segments u.segments e
+  secondaries_from : (f : Option SecondaryForm) → secondaries_order f t u ≡ Equal → SameSecondaries f t u
+  secondaries_from None e = tt
+  secondaries_from (Some Forward) e = tied_lists t.secondaries u.secondaries e
+  secondaries_from (Some Backward) e = tied_segments t.segments u.segments e
 
-  cases_from : (f : CaseForm) → cases_order f t u ≡ Equal → SameCases f t u
-  cases_from no_case e = tt
-  cases_from lower_case_first e = tied_lists t.cases u.cases e
-  cases_from upper_case_first e = tied_lists t.cases u.cases e
+  cases_from : (f : Option CaseForm) → cases_order f t u ≡ Equal → SameCases f t u
+  cases_from None e = tt
+  cases_from (Some form) e = tied_lists t.cases u.cases e
 
   tertiaries_from : (f : Option TertiaryForm) → tertiaries_order f t u ≡ Equal → SameTertiaries f t u
   tertiaries_from None e = tt
   tertiaries_from (Some form) e = tied_lists t.tertiaries u.tertiaries e
 
-  quaternaries_from : (f : QuaternaryForm) → quaternaries_order f t u ≡ Equal → SameQuaternaries f t u
-  quaternaries_from no_quaternary e = tt
-  quaternaries_from shifted e = tied_lists t.quaternaries u.quaternaries e
-  quaternaries_from unshifted e = tied_lists t.quaternaries u.quaternaries e
+  quaternaries_from : (f : Option QuaternaryForm) → quaternaries_order f t u ≡ Equal → SameQuaternaries f t u
+  quaternaries_from None e = tt
+  quaternaries_from (Some form) e = tied_lists t.quaternaries u.quaternaries e
 
   characters_from : (f : Bool) → characters_order f t u ≡ Equal → SameCharacters f t u
   characters_from false e = tt
@@ -38,24 +41,22 @@ module _ (t u : LevelLists) where
       same_from_ranks t.characters u.characters (tied_lists (map identical_rank t.characters) (map identical_rank u.characters) e)
 
   -- ---- and the same list ties
-  secondaries_to : (f : SecondaryForm) → SameSecondaries f t u → secondaries_order f t u ≡ Equal
-  secondaries_to no_secondary e = refl
-  secondaries_to forward e = same_lists_order t.secondaries u.secondaries e
-  secondaries_to backward e = same_segments_order t.segments u.segments e
+  secondaries_to : (f : Option SecondaryForm) → SameSecondaries f t u → secondaries_order f t u ≡ Equal
+  secondaries_to None e = refl
+  secondaries_to (Some Forward) e = same_lists_order t.secondaries u.secondaries e
+  secondaries_to (Some Backward) e = same_segments_order t.segments u.segments e
 
-  cases_to : (f : CaseForm) → SameCases f t u → cases_order f t u ≡ Equal
-  cases_to no_case e = refl
-  cases_to lower_case_first e = same_lists_order t.cases u.cases e
-  cases_to upper_case_first e = same_lists_order t.cases u.cases e
+  cases_to : (f : Option CaseForm) → SameCases f t u → cases_order f t u ≡ Equal
+  cases_to None e = refl
+  cases_to (Some form) e = same_lists_order t.cases u.cases e
 
   tertiaries_to : (f : Option TertiaryForm) → SameTertiaries f t u → tertiaries_order f t u ≡ Equal
   tertiaries_to None e = refl
   tertiaries_to (Some form) e = same_lists_order t.tertiaries u.tertiaries e
 
-  quaternaries_to : (f : QuaternaryForm) → SameQuaternaries f t u → quaternaries_order f t u ≡ Equal
-  quaternaries_to no_quaternary e = refl
-  quaternaries_to shifted e = same_lists_order t.quaternaries u.quaternaries e
-  quaternaries_to unshifted e = same_lists_order t.quaternaries u.quaternaries e
+  quaternaries_to : (f : Option QuaternaryForm) → SameQuaternaries f t u → quaternaries_order f t u ≡ Equal
+  quaternaries_to None e = refl
+  quaternaries_to (Some form) e = same_lists_order t.quaternaries u.quaternaries e
 
   characters_to : (f : Bool) → SameCharacters f t u → characters_order f t u ≡ Equal
   characters_to false e = refl

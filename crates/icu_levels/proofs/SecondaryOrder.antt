@@ -1,10 +1,9 @@
--- The secondary level's bytes order as its lists, forward and backward
+-- The secondary level's bytes order as its lists, forward and backward.
 use Rattle.std.proofs.Common.{◌≡◌, ℕ, ◌-◌, ◌<◌, ◌≤◌, List, [], ◌∷◌, ◌++◌, length, refl, ap, ◌∙◌, arith, lit<, lit≤, append_assoc}
 use Rattle.std.specs.List.{AllByRecursion}
 use Rattle.std.specs.Ordering.{ordering_then}
 use Rattle.icu_levels.specs.ListOrder.{list_order, segments_order, IsUnder}
-use Rattle.icu_levels.specs.Runs.{IsRow, IsSpelling}
-use Rattle.icu_levels.specs.Rows.{secondary_row}
+use Rattle.icu_levels.specs.Runs.{AreRunBytes, IsSpelling}
 use Rattle.icu_levels.specs.WeightBytes.{weight_bytes}
 use Rattle.icu_levels.specs.Secondaries.{secondary_level, further_segments, backward_level}
 use Rattle.icu_levels.specs.Premises.{AreSecondaries, forward_least, backward_least}
@@ -12,12 +11,13 @@ use Rattle.icu_levels.proofs.Order.{turned}
 use Rattle.icu_levels.proofs.LevelOrder.{level_order, under_more, under_over}
 use Rattle.icu_levels.proofs.MovedWeights.{IsMove, moved_spelling}
 use Rattle.icu_levels.proofs.Orderings.{then_assoc}
+use Rattle.icu_levels.specs.declared.run_bytes.TheConstants.{SECONDARY_RUNS}
 
-pub secondary_row_fits : IsRow secondary_row
-secondary_row_fits = record { some = lit< tt; to_middle = refl; to_high = refl }
+pub secondary_runs_fit : AreRunBytes SECONDARY_RUNS
+secondary_runs_fit = record { some = lit< tt; to_middle = refl; to_high = refl }
 
 module _ (least : ℕ) (IsLive : ℕ → Type 0) (some : 2 ≤ least) (few : least ≤ 5) (good : AreSecondaries least IsLive) where
-  unmoved : IsMove secondary_row (least - 1) (λ w. w) IsLive
+  unmoved : IsMove SECONDARY_RUNS (least - 1) (λ w. w) IsLive
   unmoved = record {
     low = λ w p l. let d = good.leads w p in (omega arith, omega arith);
     high = λ w p l. let d = good.leads w p in omega arith;
@@ -29,22 +29,22 @@ module _ (least : ℕ) (IsLive : ℕ → Type 0) (some : 2 ≤ least) (few : lea
     one_lead = λ v w p q nv nw e. e;
   }
 
-  pub secondaries_fit : IsSpelling secondary_row (least - 1) (weight_bytes 2) IsLive
-  secondaries_fit = moved_spelling secondary_row (least - 1) (λ w. w) IsLive (omega arith) unmoved good.prefix_free
+  pub secondaries_fit : IsSpelling SECONDARY_RUNS (least - 1) (weight_bytes 2) IsLive
+  secondaries_fit = moved_spelling SECONDARY_RUNS (least - 1) (λ w. w) IsLive (omega arith) unmoved good.prefix_free
 
 -- forward: one list, followed by nothing or by a byte below 02
 pub secondary_order : (IsLive : ℕ → Type 0) → AreSecondaries forward_least IsLive → (vs ws s t : List ℕ) → AllByRecursion IsLive vs
     → AllByRecursion IsLive ws → IsUnder 2 s → IsUnder 2 t
     → list_order (secondary_level vs ++ s) (secondary_level ws ++ t) ≡ ordering_then (list_order vs ws) (list_order s t)
 secondary_order IsLive good vs ws s t p q u v =
-    level_order secondary_row secondary_row_fits (weight_bytes 2) 1 IsLive
+    level_order SECONDARY_RUNS secondary_runs_fit (weight_bytes 2) 1 IsLive
     (secondaries_fit 2 IsLive (lit≤ tt) (lit≤ tt) good) vs ws s t p q u v
 
 module _ (IsLive : ℕ → Type 0) (good : AreSecondaries backward_least IsLive) where
   segment_order : (vs ws s t : List ℕ) → AllByRecursion IsLive vs → AllByRecursion IsLive ws → IsUnder 3 s → IsUnder 3 t
       → list_order (secondary_level vs ++ s) (secondary_level ws ++ t) ≡ ordering_then (list_order vs ws) (list_order s t)
   segment_order vs ws s t p q u v =
-      level_order secondary_row secondary_row_fits (weight_bytes 2) 2 IsLive
+      level_order SECONDARY_RUNS secondary_runs_fit (weight_bytes 2) 2 IsLive
       (secondaries_fit 3 IsLive (lit≤ tt) (lit≤ tt) good) vs ws s t p q u v
 
   -- what follows a segment begins with 02, or below

@@ -1,4 +1,4 @@
--- The order of bytes that are written member by member, each by a state that the members before it leave
+-- The order of bytes that are written member by member, each by a state that the members before it leave.
 use Rattle.std.proofs.Common.{◌≡◌, ℕ, ◌<◌, List, [], ◌∷◌, ◌++◌, map, refl, ap, ap₂, ◌∙◌, subst, inl, inr, ◌⊎◌, Less, append_assoc}
 use Rattle.std.specs.Ordering.{ordering_then}
 use Rattle.icu_levels.specs.ListOrder.{list_order, IsUnder, IsOver, Precedes}

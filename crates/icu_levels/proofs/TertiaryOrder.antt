@@ -1,23 +1,25 @@
--- The tertiary level's bytes order as its lists, in each form
+-- The tertiary level's bytes order as its lists, in each form.
 use Rattle.std.proofs.Common.{◌≡◌, ℕ, ◌+◌, ◌-◌, ◌/◌, ◌<◌, List, ◌++◌, refl, ◌∙◌, arith, lit<, inl, inr, ◌⊎◌, ltb}
 use Rattle.std.proofs.lemmas.Bool.{cases_order, lt-ltb, le-ltb, cond-true, cond-false}
 use Rattle.std.specs.List.{AllByRecursion}
 use Rattle.std.specs.Ordering.{ordering_then}
 use Rattle.icu_levels.specs.ListOrder.{list_order, IsUnder}
-use Rattle.icu_levels.specs.Runs.{IsRow, IsSpelling}
-use Rattle.icu_levels.specs.Tertiaries.{TertiaryForm, plain, lower_first, upper_first, tertiary_row, raised_above, lowered_below, moved_tertiary, tertiary_bytes, tertiary_level}
+use Rattle.icu_levels.specs.Runs.{AreRunBytes, IsSpelling}
+use Rattle.icu_levels.specs.Tertiaries.{tertiary_runs, raised_above, lowered_below, moved_tertiary, tertiary_bytes, tertiary_level}
 use Rattle.icu_levels.specs.Premises.{AreTertiaries}
 use Rattle.icu_levels.proofs.LevelOrder.{level_order}
 use Rattle.icu_levels.proofs.MovedWeights.{IsMove, moved_spelling}
+use Rattle.icu_levels.specs.declared.forms.TertiaryForm.{TertiaryForm}
+use Rattle.icu_levels.specs.declared.forms.TertiaryForm.TheVariants.{LowerFirst, UpperFirst, WithoutCase}
 
-pub tertiary_row_fits : (form : TertiaryForm) → IsRow (tertiary_row form)
-tertiary_row_fits plain = record { some = lit< tt; to_middle = refl; to_high = refl }
-tertiary_row_fits lower_first = record { some = lit< tt; to_middle = refl; to_high = refl }
-tertiary_row_fits upper_first = record { some = lit< tt; to_middle = refl; to_high = refl }
+pub tertiary_runs_fit : (form : TertiaryForm) → AreRunBytes (tertiary_runs form)
+tertiary_runs_fit WithoutCase = record { some = lit< tt; to_middle = refl; to_high = refl }
+tertiary_runs_fit LowerFirst = record { some = lit< tt; to_middle = refl; to_high = refl }
+tertiary_runs_fit UpperFirst = record { some = lit< tt; to_middle = refl; to_high = refl }
 
 -- the lead of the common weight
 abbrev common_lead : TertiaryForm → ℕ
-common_lead form = (tertiary_row form).common / 256
+common_lead form = (tertiary_runs form).common / 256
 
 moved_high : (form : TertiaryForm) (w : ℕ) → common_lead form < w / 256 → moved_tertiary form w ≡ w + raised_above form
 moved_high form w l = cond-true (ltb (common_lead form) (w / 256)) _ _ (lt-ltb (common_lead form) (w / 256) l)
@@ -48,25 +50,25 @@ is_moved form w = by (cases_order (w / 256) (common_lead form))
     by (inr (inr l)) = inr (inr (l, moved_high form w l))
 
 module _ (IsLive : ℕ → Type 0) where
-  moves : (form : TertiaryForm) → AreTertiaries form IsLive → IsMove (tertiary_row form) 1 (moved_tertiary form) IsLive
-  moves plain good = record {
+  moves : (form : TertiaryForm) → AreTertiaries form IsLive → IsMove (tertiary_runs form) 1 (moved_tertiary form) IsLive
+  moves WithoutCase good = record {
     low =
         λ w p l. (
-          omega (arith, is_moved plain w, good.least w p, good.leads w p),
+          omega (arith, is_moved WithoutCase w, good.least w p, good.leads w p),
           omega
-              (arith, is_moved plain w, good.least w p, good.leads w p),
+              (arith, is_moved WithoutCase w, good.least w p, good.leads w p),
         );
-    high = λ w p l. omega (arith, is_moved plain w, good.least w p, good.leads w p);
-    fits = λ w p. omega (arith, is_moved plain w, good.greatest w p);
+    high = λ w p l. omega (arith, is_moved WithoutCase w, good.least w p, good.leads w p);
+    fits = λ w p. omega (arith, is_moved WithoutCase w, good.greatest w p);
     leads = λ w p. omega (arith, good.least w p);
-    moved_leads = λ w p. omega (arith, is_moved plain w, good.least w p);
-    rest = λ w p. omega (arith, is_moved plain w, good.least w p);
-    rises = λ v w p q nv nw l. omega (arith, is_moved plain v, is_moved plain w, good.least v p);
+    moved_leads = λ w p. omega (arith, is_moved WithoutCase w, good.least w p);
+    rest = λ w p. omega (arith, is_moved WithoutCase w, good.least w p);
+    rises = λ v w p q nv nw l. omega (arith, is_moved WithoutCase v, is_moved WithoutCase w, good.least v p);
     one_lead =
         λ v w p q nv nw e. omega (
           arith,
-          is_moved plain v,
-          is_moved plain w,
+          is_moved WithoutCase v,
+          is_moved WithoutCase w,
           good.least v p,
           good.least w q,
           good.greatest v p,
@@ -76,23 +78,23 @@ module _ (IsLive : ℕ → Type 0) where
           good.leads w q nw,
         );
   }
-  moves lower_first good = record {
+  moves LowerFirst good = record {
     low =
         λ w p l. (
-          omega (arith, is_moved lower_first w, good.least w p, good.leads w p),
+          omega (arith, is_moved LowerFirst w, good.least w p, good.leads w p),
           omega
-              (arith, is_moved lower_first w, good.least w p, good.leads w p),
+              (arith, is_moved LowerFirst w, good.least w p, good.leads w p),
         );
-    high = λ w p l. omega (arith, is_moved lower_first w, good.least w p, good.leads w p);
-    fits = λ w p. omega (arith, is_moved lower_first w, good.greatest w p);
+    high = λ w p l. omega (arith, is_moved LowerFirst w, good.least w p, good.leads w p);
+    fits = λ w p. omega (arith, is_moved LowerFirst w, good.greatest w p);
     leads = λ w p. omega (arith, good.least w p);
-    moved_leads = λ w p. omega (arith, is_moved lower_first w, good.least w p);
-    rest = λ w p. omega (arith, is_moved lower_first w, good.least w p);
-    rises = λ v w p q nv nw l. omega (arith, is_moved lower_first v, is_moved lower_first w, good.least v p);
+    moved_leads = λ w p. omega (arith, is_moved LowerFirst w, good.least w p);
+    rest = λ w p. omega (arith, is_moved LowerFirst w, good.least w p);
+    rises = λ v w p q nv nw l. omega (arith, is_moved LowerFirst v, is_moved LowerFirst w, good.least v p);
     one_lead = λ v w p q nv nw e. omega (
       arith,
-      is_moved lower_first v,
-      is_moved lower_first w,
+      is_moved LowerFirst v,
+      is_moved LowerFirst w,
       good.least v p,
       good.least w q,
       good.greatest v p,
@@ -101,23 +103,23 @@ module _ (IsLive : ℕ → Type 0) where
       good.leads w q nw,
     );
   }
-  moves upper_first good = record {
+  moves UpperFirst good = record {
     low =
         λ w p l. (
-          omega (arith, is_moved upper_first w, good.least w p, good.leads w p),
+          omega (arith, is_moved UpperFirst w, good.least w p, good.leads w p),
           omega
-              (arith, is_moved upper_first w, good.least w p, good.leads w p),
+              (arith, is_moved UpperFirst w, good.least w p, good.leads w p),
         );
-    high = λ w p l. omega (arith, is_moved upper_first w, good.least w p, good.leads w p);
-    fits = λ w p. omega (arith, is_moved upper_first w, good.greatest w p);
+    high = λ w p l. omega (arith, is_moved UpperFirst w, good.least w p, good.leads w p);
+    fits = λ w p. omega (arith, is_moved UpperFirst w, good.greatest w p);
     leads = λ w p. omega (arith, good.least w p);
-    moved_leads = λ w p. omega (arith, is_moved upper_first w, good.least w p);
-    rest = λ w p. omega (arith, is_moved upper_first w, good.least w p);
-    rises = λ v w p q nv nw l. omega (arith, is_moved upper_first v, is_moved upper_first w, good.least v p);
+    moved_leads = λ w p. omega (arith, is_moved UpperFirst w, good.least w p);
+    rest = λ w p. omega (arith, is_moved UpperFirst w, good.least w p);
+    rises = λ v w p q nv nw l. omega (arith, is_moved UpperFirst v, is_moved UpperFirst w, good.least v p);
     one_lead = λ v w p q nv nw e. omega (
       arith,
-      is_moved upper_first v,
-      is_moved upper_first w,
+      is_moved UpperFirst v,
+      is_moved UpperFirst w,
       good.least v p,
       good.least w q,
       good.greatest v p,
@@ -127,17 +129,17 @@ module _ (IsLive : ℕ → Type 0) where
     );
   }
 
-  end_below : (form : TertiaryForm) → 1 < (tertiary_row form).low
-  end_below plain = lit< tt
-  end_below lower_first = lit< tt
-  end_below upper_first = lit< tt
+  end_below : (form : TertiaryForm) → 1 < (tertiary_runs form).low
+  end_below WithoutCase = lit< tt
+  end_below LowerFirst = lit< tt
+  end_below UpperFirst = lit< tt
 
-  pub tertiaries_fit : (form : TertiaryForm) → AreTertiaries form IsLive → IsSpelling (tertiary_row form) 1 (tertiary_bytes form) IsLive
+  pub tertiaries_fit : (form : TertiaryForm) → AreTertiaries form IsLive → IsSpelling (tertiary_runs form) 1 (tertiary_bytes form) IsLive
   tertiaries_fit form good =
-      moved_spelling (tertiary_row form) 1 (moved_tertiary form) IsLive (end_below form) (moves form good) good.prefix_free
+      moved_spelling (tertiary_runs form) 1 (moved_tertiary form) IsLive (end_below form) (moves form good) good.prefix_free
 
   pub tertiary_order : (form : TertiaryForm) → AreTertiaries form IsLive → (vs ws s t : List ℕ) → AllByRecursion IsLive vs
       → AllByRecursion IsLive ws → IsUnder 2 s → IsUnder 2 t
       → list_order (tertiary_level form vs ++ s) (tertiary_level form ws ++ t) ≡ ordering_then (list_order vs ws) (list_order s t)
   tertiary_order form good vs ws s t p q u v =
-      level_order (tertiary_row form) (tertiary_row_fits form) (tertiary_bytes form) 1 IsLive (tertiaries_fit form good) vs ws s t p q u v
+      level_order (tertiary_runs form) (tertiary_runs_fit form) (tertiary_bytes form) 1 IsLive (tertiaries_fit form good) vs ws s t p q u v

@@ -1,4 +1,4 @@
--- Weights as they are written
+-- Weights as they are written.
 use Rattle.std.proofs.Common.{◌≡◌, ℕ, zero, suc, ◌/◌, ◌%◌, ◌^◌, ◌<◌, List, [], ◌∷◌, ◌++◌, refl, ◌∙◌, ⊎_elim, arith, lit<, Less}
 use Rattle.std.proofs.lemmas.Nat.{mod_below}
 use Rattle.std.proofs.Math.Nat.{one-le-pow, pow-zero}

@@ -1,8 +1,12 @@
--- Compressions, forms and lists for worked keys
+-- Compressions, forms and lists for worked keys.
 use Rattle.std.proofs.Common.{ℕ, ◌+◌, ◌-◌, ◌^◌, Bool, true, false, ◌&&◌, ◌||◌, nat_le, nat_lt, ◌==◌, if◌then◌else◌, List, Some, None}
 use Rattle.icu_levels.specs.Primaries.{Compression, lead}
-use Rattle.icu_levels.specs.Tertiaries.{plain, upper_first}
-use Rattle.icu_levels.specs.Keys.{KeyForm, LevelLists, no_secondary, forward, backward, no_case, lower_case_first, upper_case_first, no_quaternary, shifted, unshifted}
+use Rattle.icu_levels.specs.Keys.{LevelLists}
+use Rattle.icu_levels.specs.declared.forms.CaseForm.TheVariants.{LowerFirst, UpperFirst}
+use Rattle.icu_levels.specs.declared.forms.KeyForm.{KeyForm}
+use Rattle.icu_levels.specs.declared.forms.QuaternaryForm.TheVariants.{MayShift, Unshifted}
+use Rattle.icu_levels.specs.declared.forms.SecondaryForm.TheVariants.{Backward, Forward}
+use Rattle.icu_levels.specs.declared.forms.TertiaryForm.TheVariants.{UpperFirst as UpperFirstTertiary, WithoutCase}
 
 -- leads 61 to 80 and FE are compressible
 abbrev pub compressible : ℕ → Bool
@@ -34,38 +38,38 @@ texts ps ss gs ks ts qs cs =
 
 -- ---- forms of keys
 abbrev pub at_primary : KeyForm
-at_primary = record { secondary = no_secondary; cases = no_case; tertiary = None; quaternary = no_quaternary; identical = false }
+at_primary = record { secondary = None; cases = None; tertiary = None; quaternary = None; identical = false }
 
 abbrev pub at_primary_with_case : KeyForm
 at_primary_with_case =
-    record { secondary = no_secondary; cases = lower_case_first; tertiary = None; quaternary = no_quaternary; identical = false }
+    record { secondary = None; cases = Some LowerFirst; tertiary = None; quaternary = None; identical = false }
 
 abbrev pub at_primary_with_case_upper_first : KeyForm
 at_primary_with_case_upper_first =
-    record { secondary = no_secondary; cases = upper_case_first; tertiary = None; quaternary = no_quaternary; identical = false }
+    record { secondary = None; cases = Some UpperFirst; tertiary = None; quaternary = None; identical = false }
 
 abbrev pub at_secondary : KeyForm
-at_secondary = record { secondary = forward; cases = no_case; tertiary = None; quaternary = no_quaternary; identical = false }
+at_secondary = record { secondary = Some Forward; cases = None; tertiary = None; quaternary = None; identical = false }
 
 abbrev pub at_secondary_backward : KeyForm
-at_secondary_backward = record { secondary = backward; cases = no_case; tertiary = None; quaternary = no_quaternary; identical = false }
+at_secondary_backward = record { secondary = Some Backward; cases = None; tertiary = None; quaternary = None; identical = false }
 
 abbrev pub at_tertiary : KeyForm
-at_tertiary = record { secondary = forward; cases = no_case; tertiary = Some plain; quaternary = no_quaternary; identical = false }
+at_tertiary = record { secondary = Some Forward; cases = None; tertiary = Some WithoutCase; quaternary = None; identical = false }
 
 abbrev pub at_tertiary_upper_first : KeyForm
 at_tertiary_upper_first =
-    record { secondary = forward; cases = no_case; tertiary = Some upper_first; quaternary = no_quaternary; identical = false }
+    record { secondary = Some Forward; cases = None; tertiary = Some UpperFirstTertiary; quaternary = None; identical = false }
 
 abbrev pub at_tertiary_with_case_upper_first : KeyForm
 at_tertiary_with_case_upper_first =
-    record { secondary = forward; cases = upper_case_first; tertiary = Some plain; quaternary = no_quaternary; identical = false }
+    record { secondary = Some Forward; cases = Some UpperFirst; tertiary = Some WithoutCase; quaternary = None; identical = false }
 
 abbrev pub at_quaternary : KeyForm
-at_quaternary = record { secondary = forward; cases = no_case; tertiary = Some plain; quaternary = unshifted; identical = false }
+at_quaternary = record { secondary = Some Forward; cases = None; tertiary = Some WithoutCase; quaternary = Some Unshifted; identical = false }
 
 abbrev pub at_quaternary_shifted : KeyForm
-at_quaternary_shifted = record { secondary = forward; cases = no_case; tertiary = Some plain; quaternary = shifted; identical = false }
+at_quaternary_shifted = record { secondary = Some Forward; cases = None; tertiary = Some WithoutCase; quaternary = Some MayShift; identical = false }
 
 abbrev pub at_identical : KeyForm
-at_identical = record { secondary = forward; cases = no_case; tertiary = Some plain; quaternary = unshifted; identical = true }
+at_identical = record { secondary = Some Forward; cases = None; tertiary = Some WithoutCase; quaternary = Some Unshifted; identical = true }

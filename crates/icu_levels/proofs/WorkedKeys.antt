@@ -1,4 +1,4 @@
--- Worked keys of whole texts, from their weight lists
+-- Worked keys of whole texts, from their weight lists.
 use Rattle.std.proofs.Common.{◌≡◌, ◌+◌, [], ◌∷◌, ◌++◌, refl, replicate}
 use Rattle.icu_levels.specs.Keys.{key_bytes}
 use Rattle.icu_levels.proofs.WorkedForms.{above_primaries, at_identical, at_primary, at_primary_with_case, at_primary_with_case_upper_first, at_quaternary, at_quaternary_shifted, at_secondary, at_secondary_backward, at_tertiary, at_tertiary_upper_first, at_tertiary_with_case_upper_first, split, swapped, texts, unmoved}
@@ -36,7 +36,7 @@ upper_a_tertiary : key_bytes unmoved at_tertiary (texts (0x61100000 ∷ []) (0x0
     ≡ 0x61 ∷ 0x10 ∷ 0x01 ∷ 0x05 ∷ 0x01 ∷ 0x01 ∷ 0xDC ∷ 0x01 ∷ []
 upper_a_tertiary = refl
 
--- "a" with an acute accent
+-- "a" with an acute
 a_acute_tertiary : key_bytes unmoved at_tertiary (texts (0x61100000 ∷ []) (0x0500 ∷ 0x4700 ∷ []) [] [] (0x0500 ∷ 0x0500 ∷ []) [] [])
     ≡ 0x61 ∷ 0x10 ∷ 0x01 ∷ 0x45 ∷ 0x47 ∷ 0x01 ∷ 0x01 ∷ 0x06 ∷ 0x01 ∷ []
 a_acute_tertiary = refl
@@ -64,13 +64,13 @@ past_full_count_of_a : key_bytes unmoved at_secondary (texts (replicate 34 0x611
     ≡ 0x61 ∷ (replicate 34 0x10 ++ (0x01 ∷ 0x25 ∷ 0x05 ∷ 0x01 ∷ []))
 past_full_count_of_a = refl
 
--- 34 times "a", a grave accent after the 33rd
+-- 34 times "a", a grave after the 33rd
 grave_after_33 : key_bytes unmoved at_secondary
     (texts (replicate 34 0x61100000) (replicate 33 0x0500 ++ (0x4600 ∷ 0x0500 ∷ [])) [] [] [] [] [])
     ≡ 0x61 ∷ (replicate 34 0x10 ++ (0x01 ∷ 0x25 ∷ 0x46 ∷ 0x05 ∷ 0x01 ∷ []))
 grave_after_33 = refl
 
--- 34 times "a", a grave accent after the 34th
+-- 34 times "a", a grave after the 34th
 grave_after_34 : key_bytes unmoved at_secondary (texts (replicate 34 0x61100000) (replicate 34 0x0500 ++ (0x4600 ∷ [])) [] [] [] [] [])
     ≡ 0x61 ∷ (replicate 34 0x10 ++ (0x01 ∷ 0x25 ∷ 0x45 ∷ 0x46 ∷ 0x01 ∷ []))
 grave_after_34 = refl

@@ -1,10 +1,13 @@
--- Worked bytes of single levels: secondaries, tertiaries, cases, quaternaries, primaries, characters
+-- Worked bytes of single levels: secondaries, tertiaries, cases, quaternaries, primaries, characters.
 use Rattle.std.proofs.Common.{◌≡◌, ◌+◌, ◌^◌, [], ◌∷◌, ◌++◌, refl, replicate}
 use Rattle.icu_levels.specs.Secondaries.{secondary_level, backward_level}
-use Rattle.icu_levels.specs.Tertiaries.{tertiary_level, plain, upper_first}
-use Rattle.icu_levels.specs.Cases.{lower_first_case_level, upper_first_case_level}
-use Rattle.icu_levels.specs.Quaternaries.{quaternary_level, unshifted_quaternary_level}
+use Rattle.icu_levels.specs.Tertiaries.{tertiary_level}
+use Rattle.icu_levels.specs.Cases.{case_level}
+use Rattle.icu_levels.specs.Quaternaries.{quaternary_level}
 use Rattle.icu_levels.specs.Identical.{identical_level}
+use Rattle.icu_levels.specs.declared.forms.TertiaryForm.TheVariants.{UpperFirst as UpperFirstTertiary, WithoutCase}
+use Rattle.icu_levels.specs.declared.forms.CaseForm.TheVariants.{LowerFirst, UpperFirst}
+use Rattle.icu_levels.specs.declared.forms.QuaternaryForm.TheVariants.{MayShift, Unshifted}
 
 -- ---- secondaries
 full_count : secondary_level (replicate 33 0x500) ≡ 0x25 ∷ []
@@ -26,8 +29,8 @@ greater_past_full_count = refl
 letter_and_mark : secondary_level (0x500 ∷ 0x4700 ∷ []) ≡ 0x45 ∷ 0x47 ∷ []
 letter_and_mark = refl
 
-no_secondary : secondary_level [] ≡ []
-no_secondary = refl
+None : secondary_level [] ≡ []
+None = refl
 
 -- backward: no segment but an empty one, and two empty ones
 one_empty_segment : backward_level ([] ∷ []) ≡ []
@@ -37,43 +40,43 @@ two_empty_segments : backward_level ([] ∷ [] ∷ []) ≡ 0x02 ∷ []
 two_empty_segments = refl
 
 -- ---- tertiaries: "A" beside "a" in each form
-plain_upper : tertiary_level plain (0x1C00 ∷ []) ≡ 0xDC ∷ []
-plain_upper = refl
+upper_without_case : tertiary_level WithoutCase (0x1C00 ∷ []) ≡ 0xDC ∷ []
+upper_without_case = refl
 
-upper_first_lower : tertiary_level upper_first (0xC500 ∷ []) ≡ 0x85 ∷ []
+upper_first_lower : tertiary_level UpperFirstTertiary (0xC500 ∷ []) ≡ 0x85 ∷ []
 upper_first_lower = refl
 
-upper_first_upper : tertiary_level upper_first (0x5C00 ∷ []) ≡ 0x1C ∷ []
+upper_first_upper : tertiary_level UpperFirstTertiary (0x5C00 ∷ []) ≡ 0x1C ∷ []
 upper_first_upper = refl
 
 -- ---- cases, upper case first: 14 lower; two lower, an upper and 11 lower
-fourteen_lower : upper_first_case_level (replicate 14 2) ≡ 0xF3 ∷ []
+fourteen_lower : case_level UpperFirst (replicate 14 2) ≡ 0xF3 ∷ []
 fourteen_lower = refl
 
-upper_among_lower : upper_first_case_level (2 ∷ 2 ∷ 0 ∷ replicate 11 2) ≡ 0x41 ∷ 0xD0 ∷ []
+upper_among_lower : case_level UpperFirst (2 ∷ 2 ∷ 0 ∷ replicate 11 2) ≡ 0x41 ∷ 0xD0 ∷ []
 upper_among_lower = refl
 
 -- lower case first writes nothing for lower alone
-lower_alone : lower_first_case_level (replicate 20 0) ≡ []
+lower_alone : case_level LowerFirst (replicate 20 0) ≡ []
 lower_alone = refl
 
-upper_after_lower : lower_first_case_level (0 ∷ 2 ∷ []) ≡ 0xDF ∷ []
+upper_after_lower : case_level LowerFirst (0 ∷ 2 ∷ []) ≡ 0xDF ∷ []
 upper_after_lower = refl
 
 -- ---- quaternaries: "a b" beside "ab"; nothing for common ones where none is shifted
-shifted_space : quaternary_level (2 ^ 32 ∷ 0x03100000 ∷ 2 ^ 32 ∷ []) ≡ 0x1C ∷ 0x03 ∷ 0x10 ∷ 0x1C ∷ []
+shifted_space : quaternary_level MayShift (2 ^ 32 ∷ 0x03100000 ∷ 2 ^ 32 ∷ []) ≡ 0x1C ∷ 0x03 ∷ 0x10 ∷ 0x1C ∷ []
 shifted_space = refl
 
-none_shifted : quaternary_level (2 ^ 32 ∷ 2 ^ 32 ∷ []) ≡ 0x1D ∷ []
+none_shifted : quaternary_level MayShift (2 ^ 32 ∷ 2 ^ 32 ∷ []) ≡ 0x1D ∷ []
 none_shifted = refl
 
-high_lead : quaternary_level (0x1B100000 ∷ []) ≡ 0x1B ∷ 0x1B ∷ 0x10 ∷ []
+high_lead : quaternary_level MayShift (0x1B100000 ∷ []) ≡ 0x1B ∷ 0x1B ∷ 0x10 ∷ []
 high_lead = refl
 
-above_common : quaternary_level (2 ^ 32 ∷ (2 ^ 32 + 3) ∷ []) ≡ 0xFC ∷ 0xFF ∷ []
+above_common : quaternary_level MayShift (2 ^ 32 ∷ (2 ^ 32 + 3) ∷ []) ≡ 0xFC ∷ 0xFF ∷ []
 above_common = refl
 
-unshifted_common : unshifted_quaternary_level (2 ^ 32 ∷ 2 ^ 32 ∷ []) ≡ []
+unshifted_common : quaternary_level Unshifted (2 ^ 32 ∷ 2 ^ 32 ∷ []) ≡ []
 unshifted_common = refl
 
 -- ---- characters

@@ -1,4 +1,4 @@
--- Worked primaries of numbers, with 0F as numeric lead
+-- Worked primaries of numbers, with 0F as numeric lead.
 use Rattle.std.proofs.Common.{◌≡◌, [], ◌∷◌, refl, replicate}
 use Rattle.icu_levels.specs.Numbers.{number_weights, run_weights, pair_count}
 

@@ -1,4 +1,4 @@
--- Worked orders of whole texts, from their weight lists
+-- Worked orders of whole texts, from their weight lists.
 use Rattle.std.proofs.Common.{◌≡◌, ◌+◌, [], ◌∷◌, refl, replicate, Less, Equal, Greater}
 use Rattle.icu_levels.specs.Keys.{levels_order}
 use Rattle.icu_levels.proofs.WorkedForms.{above_primaries, at_identical, at_primary, at_primary_with_case_upper_first, at_quaternary, at_quaternary_shifted, at_secondary, at_secondary_backward, at_tertiary, at_tertiary_upper_first, at_tertiary_with_case_upper_first, split, swapped, texts, unmoved}
@@ -35,26 +35,26 @@ case_level : levels_order unmoved at_primary_with_case_upper_first
 case_level = refl
 
 -- "coté" and "côte"
-accents_forward : levels_order unmoved at_secondary
+diacritics_forward : levels_order unmoved at_secondary
     (texts (0x61180000 ∷ 0x61480000 ∷ 0x615C0000 ∷ 0x61200000 ∷ []) (0x0500 ∷ 0x0500 ∷ 0x0500 ∷ 0x0500 ∷ 0x4700 ∷ []) [] [] [] [] [])
     (texts (0x61180000 ∷ 0x61480000 ∷ 0x615C0000 ∷ 0x61200000 ∷ []) (0x0500 ∷ 0x0500 ∷ 0x4800 ∷ 0x0500 ∷ 0x0500 ∷ []) [] [] [] [] []) ≡ Less
-accents_forward = refl
+diacritics_forward = refl
 
 -- "coté" and "côte", backward
-accents_backward : levels_order unmoved at_secondary_backward
+diacritics_backward : levels_order unmoved at_secondary_backward
     (texts (0x61180000 ∷ 0x61480000 ∷ 0x615C0000 ∷ 0x61200000 ∷ []) []
     ((0x4700 ∷ 0x0500 ∷ 0x0500 ∷ 0x0500 ∷ 0x0500 ∷ []) ∷ []) [] [] [] [])
     (texts (0x61180000 ∷ 0x61480000 ∷ 0x615C0000 ∷ 0x61200000 ∷ []) []
     ((0x0500 ∷ 0x0500 ∷ 0x4800 ∷ 0x0500 ∷ 0x0500 ∷ []) ∷ []) [] [] [] []) ≡ Greater
-accents_backward = refl
+diacritics_backward = refl
 
 -- "cote" U+FFFE "coté" and "côte" U+FFFE "cote", backward
-accents_by_segment : levels_order unmoved at_secondary_backward
+diacritics_by_segment : levels_order unmoved at_secondary_backward
     (texts (0x61180000 ∷ 0x61480000 ∷ 0x615C0000 ∷ 0x61200000 ∷ 0x02000000 ∷ 0x61180000 ∷ 0x61480000 ∷ 0x615C0000 ∷ 0x61200000 ∷ []) []
     ((0x0500 ∷ 0x0500 ∷ 0x0500 ∷ 0x0500 ∷ []) ∷ (0x4700 ∷ 0x0500 ∷ 0x0500 ∷ 0x0500 ∷ 0x0500 ∷ []) ∷ []) [] [] [] [])
     (texts (0x61180000 ∷ 0x61480000 ∷ 0x615C0000 ∷ 0x61200000 ∷ 0x02000000 ∷ 0x61180000 ∷ 0x61480000 ∷ 0x615C0000 ∷ 0x61200000 ∷ []) []
     ((0x0500 ∷ 0x0500 ∷ 0x4800 ∷ 0x0500 ∷ 0x0500 ∷ []) ∷ (0x0500 ∷ 0x0500 ∷ 0x0500 ∷ 0x0500 ∷ []) ∷ []) [] [] [] []) ≡ Less
-accents_by_segment = refl
+diacritics_by_segment = refl
 
 -- U+FFFE U+0000 and U+0000 U+FFFE, identical
 separator_lowest : levels_order unmoved at_identical (texts (0x02000000 ∷ []) (0x0500 ∷ []) [] [] (0x0500 ∷ []) (above_primaries ∷ [])

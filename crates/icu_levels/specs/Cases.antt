@@ -1,7 +1,10 @@
--- The bytes of the case level: a nibble for each case or run, two to a byte (UTS #35 part 5, "Case Parameters")
+-- The bytes of the case level: a nibble for each case or run, two to a byte (UTS #35 part 5, "Case Parameters").
 use Rattle.std.specs.Prelude.{Bool, true, ◌&&◌, ℕ, ◌+◌, ◌*◌, ◌==◌, if◌then◌else◌, List, [], ◌∷◌}
 use Rattle.icu_levels.specs.Runs.{level_bytes}
-use Rattle.icu_levels.specs.Rows.{lower_first_case_row, upper_first_case_row}
+use Rattle.icu_levels.specs.declared.forms.CaseForm.{CaseForm}
+use Rattle.icu_levels.specs.declared.forms.CaseForm.TheVariants.{LowerFirst, UpperFirst}
+use Rattle.icu_levels.specs.declared.run_bytes.RunBytes.{RunBytes}
+use Rattle.icu_levels.specs.declared.run_bytes.TheConstants.{LOWER_FIRST_CASE_RUNS, UPPER_FIRST_CASE_RUNS}
 
 -- the bytes of nibbles, the first of two in the high half, and an odd last one before a 0
 abbrev pub packed : List ℕ → List ℕ
@@ -14,18 +17,22 @@ abbrev pub is_only : ℕ → List ℕ → Bool
 is_only n [] = true
 is_only n (x ∷ xs) = (x == n) && is_only n xs
 
--- the nibbles of cases where lower is 0, mixed 1 and upper 2: a run of lower, 14, 15
-abbrev pub lower_first_nibbles : List ℕ → List ℕ
-lower_first_nibbles = level_bytes lower_first_case_row (λ rank. (13 + rank) ∷ []) 0
+-- how a form writes runs of lower case
+abbrev pub case_runs : CaseForm → RunBytes
+case_runs LowerFirst = LOWER_FIRST_CASE_RUNS
+case_runs UpperFirst = UPPER_FIRST_CASE_RUNS
 
--- the nibbles of cases where upper is 0, mixed 1 and lower 2: 1, 2, a run of lower
-abbrev pub upper_first_nibbles : List ℕ → List ℕ
-upper_first_nibbles = level_bytes upper_first_case_row (λ rank. (1 + rank) ∷ []) 0
+-- The nibble of a case other than lower. Lower case first lower is 0, mixed 1 and upper 2, upper case first upper is 0,
+-- mixed 1 and lower 2
+abbrev pub case_nibble : CaseForm → ℕ → List ℕ
+case_nibble LowerFirst rank = (13 + rank) ∷ []
+case_nibble UpperFirst rank = (1 + rank) ∷ []
 
--- lower case first: nothing is written for lower alone
-abbrev pub lower_first_case_level : List ℕ → List ℕ
-lower_first_case_level ranks = if is_only 0 ranks then [] else packed (lower_first_nibbles ranks)
+-- the nibbles of a level
+abbrev pub case_nibbles : CaseForm → List ℕ → List ℕ
+case_nibbles form = level_bytes (case_runs form) (case_nibble form) 0
 
--- upper case first
-abbrev pub upper_first_case_level : List ℕ → List ℕ
-upper_first_case_level ranks = packed (upper_first_nibbles ranks)
+-- the bytes of a level: lower case first nothing is written for lower alone
+abbrev pub case_level : CaseForm → List ℕ → List ℕ
+case_level LowerFirst ranks = if is_only 0 ranks then [] else packed (case_nibbles LowerFirst ranks)
+case_level UpperFirst ranks = packed (case_nibbles UpperFirst ranks)

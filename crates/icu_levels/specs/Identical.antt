@@ -1,6 +1,6 @@
 -- The bytes of the identical level: each character's difference from a base that the character before it sets
 -- (UTS #10, "Form Sort Keys" on the identical level; UTS #35 part 5, "Root Collation" on U+FFFE; the differences are
--- those of ICU's keys, akin to UTN #6)
+-- those of ICU's keys, akin to UTN #6).
 use Rattle.std.specs.Prelude.{ℕ, ◌+◌, ◌-◌, ◌*◌, ◌/◌, ◌%◌, ◌^◌, ◌==◌, nat_lt, nat_le, if◌then◌else◌, List, [], ◌∷◌, ◌++◌}
 
 -- A difference d stands as e = d + 253 ^ 3, which is never negative. So e / 253 is d / 253 + 253 ^ 2, rounded

@@ -1,46 +1,49 @@
--- The theorems on whole keys, as contracts name them
+-- The theorems on whole keys, as contracts name them.
 use Rattle.std.specs.Prelude.{Bool, true, false, ◌≡◌, ◌↔◌, ℕ, List, ◌∷◌, ◌++◌, map, Option, Some, None}
 use Rattle.std.specs.declared.cmp.Ordering.{Ordering}
 use Rattle.std.specs.declared.cmp.Ordering.TheVariants.{Equal}
 use Rattle.icu_levels.specs.ListOrder.{list_order}
 use Rattle.icu_levels.specs.Primaries.{Compression}
-use Rattle.icu_levels.specs.Tertiaries.{TertiaryForm}
-use Rattle.icu_levels.specs.Keys.{parts_bytes, in_turn, Tells, TwoParts, TellInTurn, SecondaryForm, no_secondary, forward, backward, CaseForm, no_case, lower_case_first, upper_case_first, QuaternaryForm, no_quaternary, shifted, unshifted, KeyForm, LevelLists, key_bytes, levels_order}
+use Rattle.icu_levels.specs.Keys.{parts_bytes, in_turn, Determines, TwoParts, DetermineInTurn, LevelLists, key_bytes, levels_order}
 use Rattle.icu_levels.specs.KeyPremises.{LiveWeights, AreWeights, AreLists, AreParallel}
+use Rattle.icu_levels.specs.declared.forms.CaseForm.{CaseForm}
+use Rattle.icu_levels.specs.declared.forms.KeyForm.{KeyForm}
+use Rattle.icu_levels.specs.declared.forms.QuaternaryForm.{QuaternaryForm}
+use Rattle.icu_levels.specs.declared.forms.SecondaryForm.{SecondaryForm}
+use Rattle.icu_levels.specs.declared.forms.SecondaryForm.TheVariants.{Backward, Forward}
+use Rattle.icu_levels.specs.declared.forms.TertiaryForm.{TertiaryForm}
 
--- A first level and any later ones, each absent, opened, or opened and closed: where each tells its answer as long as
--- the earlier ones tie, the bytes of all order as the answers in turn
-abbrev pub LevelsTellInTurn : Type 0
-LevelsTellInTurn =
-    (ps qs : List ℕ) (o : Ordering) (parts : List TwoParts) → Tells ps qs o → (o ≡ Equal → TellInTurn parts)
+-- A first level and any later ones, each absent, opened, or opened and closed: where each determines its order as long
+-- as the earlier ones tie, the bytes of all have those orders in turn
+abbrev pub LevelsDetermineInTurn : Type 0
+LevelsDetermineInTurn =
+    (ps qs : List ℕ) (o : Ordering) (parts : List TwoParts) → Determines ps qs o → (o ≡ Equal → DetermineInTurn parts)
     → list_order (ps ++ parts_bytes (map (λ p. p.left) parts)) (qs ++ parts_bytes (map (λ p. p.right) parts))
-    ≡ in_turn (o ∷ map (λ p. p.answer) parts)
+    ≡ in_turn (o ∷ map (λ p. p.order) parts)
 
 -- keys order as the level lists in turn
-abbrev pub KeysKeepOrder : Type 0
-KeysKeepOrder =
-    (c : Compression) (f : KeyForm) (live : LiveWeights) (t u : LevelLists)
+abbrev pub KeysKeepOrder : LiveWeights → Type 0
+KeysKeepOrder live =
+    (c : Compression) (f : KeyForm) (t u : LevelLists)
     → AreWeights c f live → AreLists f live t → AreLists f live u → AreParallel c f t u
     → list_order (key_bytes c f t) (key_bytes c f u) ≡ levels_order c f t u
 
-abbrev pub SameSecondaries : SecondaryForm → LevelLists → LevelLists → Type 0
-SameSecondaries no_secondary t u = Unit {0}
-SameSecondaries forward t u = t.secondaries ≡ u.secondaries
-SameSecondaries backward t u = t.segments ≡ u.segments
+abbrev pub SameSecondaries : Option SecondaryForm → LevelLists → LevelLists → Type 0
+SameSecondaries None t u = Unit {0}
+SameSecondaries (Some Forward) t u = t.secondaries ≡ u.secondaries
+SameSecondaries (Some Backward) t u = t.segments ≡ u.segments
 
-abbrev pub SameCases : CaseForm → LevelLists → LevelLists → Type 0
-SameCases no_case t u = Unit {0}
-SameCases lower_case_first t u = t.cases ≡ u.cases
-SameCases upper_case_first t u = t.cases ≡ u.cases
+abbrev pub SameCases : Option CaseForm → LevelLists → LevelLists → Type 0
+SameCases None t u = Unit {0}
+SameCases (Some form) t u = t.cases ≡ u.cases
 
 abbrev pub SameTertiaries : Option TertiaryForm → LevelLists → LevelLists → Type 0
 SameTertiaries None t u = Unit {0}
 SameTertiaries (Some form) t u = t.tertiaries ≡ u.tertiaries
 
-abbrev pub SameQuaternaries : QuaternaryForm → LevelLists → LevelLists → Type 0
-SameQuaternaries no_quaternary t u = Unit {0}
-SameQuaternaries shifted t u = t.quaternaries ≡ u.quaternaries
-SameQuaternaries unshifted t u = t.quaternaries ≡ u.quaternaries
+abbrev pub SameQuaternaries : Option QuaternaryForm → LevelLists → LevelLists → Type 0
+SameQuaternaries None t u = Unit {0}
+SameQuaternaries (Some form) t u = t.quaternaries ≡ u.quaternaries
 
 abbrev pub SameCharacters : Bool → LevelLists → LevelLists → Type 0
 SameCharacters false t u = Unit {0}
@@ -56,8 +59,8 @@ pub record HaveSameLists (c : Compression) (f : KeyForm) (t u : LevelLists) : Ty
   pub characters : SameCharacters f.identical t u
 
 -- two texts have one key exactly if each level that it has is the same
-abbrev pub KeysDetermineLevels : Type 0
-KeysDetermineLevels =
-    (c : Compression) (f : KeyForm) (live : LiveWeights) (t u : LevelLists)
+abbrev pub KeysDetermineLevels : LiveWeights → Type 0
+KeysDetermineLevels live =
+    (c : Compression) (f : KeyForm) (t u : LevelLists)
     → AreWeights c f live → AreLists f live t → AreLists f live u → AreParallel c f t u
     → (key_bytes c f t ≡ key_bytes c f u) ↔ HaveSameLists c f t u

@@ -1,5 +1,5 @@
 -- A whole key: the primary level, and the others one after another (UTS #10, "Form Sort Keys"; UTS #35 part 5, "Setting
--- Options")
+-- Options").
 use Rattle.std.specs.Prelude.{Bool, true, false, ◌≡◌, ℕ, List, [], ◌∷◌, ◌++◌, map, Option, Some, None}
 use Rattle.std.specs.Ordering.{ordering_then}
 use Rattle.std.specs.declared.cmp.Ordering.{Ordering}
@@ -7,10 +7,16 @@ use Rattle.std.specs.declared.cmp.Ordering.TheVariants.{Equal}
 use Rattle.icu_levels.specs.ListOrder.{list_order, segments_order, IsUnder}
 use Rattle.icu_levels.specs.Primaries.{Compression, primary_level}
 use Rattle.icu_levels.specs.Secondaries.{secondary_level, backward_level}
-use Rattle.icu_levels.specs.Tertiaries.{TertiaryForm, tertiary_level}
-use Rattle.icu_levels.specs.Cases.{lower_first_case_level, upper_first_case_level}
-use Rattle.icu_levels.specs.Quaternaries.{quaternary_level, unshifted_quaternary_level}
+use Rattle.icu_levels.specs.Tertiaries.{tertiary_level}
+use Rattle.icu_levels.specs.Cases.{case_level}
+use Rattle.icu_levels.specs.Quaternaries.{quaternary_level}
 use Rattle.icu_levels.specs.Identical.{identical_level, identical_rank}
+use Rattle.icu_levels.specs.declared.forms.SecondaryForm.{SecondaryForm}
+use Rattle.icu_levels.specs.declared.forms.SecondaryForm.TheVariants.{Forward, Backward}
+use Rattle.icu_levels.specs.declared.forms.CaseForm.{CaseForm}
+use Rattle.icu_levels.specs.declared.forms.TertiaryForm.{TertiaryForm}
+use Rattle.icu_levels.specs.declared.forms.QuaternaryForm.{QuaternaryForm}
+use Rattle.icu_levels.specs.declared.forms.KeyForm.{KeyForm}
 
 -- ---- levels one after another
 
@@ -29,64 +35,40 @@ abbrev pub parts_bytes : List LevelPart → List ℕ
 parts_bytes [] = []
 parts_bytes (p ∷ ps) = part_bytes p ++ parts_bytes ps
 
--- the first answer that isn't Equal
+-- the first order that isn't Equal
 abbrev pub in_turn : List Ordering → Ordering
 in_turn [] = Equal
 in_turn (o ∷ os) = ordering_then o (in_turn os)
 
--- The bytes ps and qs tell the answer o, whatever follows, as long as what follows is nothing or begins below 02:
--- their order is o, and then that of what follows
-abbrev pub Tells : List ℕ → List ℕ → Ordering → Type 0
-Tells ps qs o = (s t : List ℕ) → IsUnder 2 s → IsUnder 2 t → list_order (ps ++ s) (qs ++ t) ≡ ordering_then o (list_order s t)
+-- The bytes ps and qs determine the order o, whatever follows, as long as what follows is nothing or begins below 02:
+-- the order of both is o, and then that of what follows
+abbrev pub Determines : List ℕ → List ℕ → Ordering → Type 0
+Determines ps qs o = (s t : List ℕ) → IsUnder 2 s → IsUnder 2 t → list_order (ps ++ s) (qs ++ t) ≡ ordering_then o (list_order s t)
 
--- one level of two keys, and the answer that it is to tell
+-- one level of two keys, and the order that it is to determine
 pub record TwoParts : Type 0 where
   pub left : LevelPart
   pub right : LevelPart
-  pub answer : Ordering
+  pub order : Ordering
 
--- a level that is absent on both sides tells Equal, and one that is there on both sides tells what its bytes tell
-abbrev pub PartTells : LevelPart → LevelPart → Ordering → Type 0
-PartTells absent absent o = o ≡ Equal
-PartTells absent (opened qs) o = ⊥
-PartTells absent (closed qs) o = ⊥
-PartTells (opened ps) absent o = ⊥
-PartTells (opened ps) (opened qs) o = Tells ps qs o
-PartTells (opened ps) (closed qs) o = ⊥
-PartTells (closed ps) absent o = ⊥
-PartTells (closed ps) (opened qs) o = ⊥
-PartTells (closed ps) (closed qs) o = Tells ps qs o
+-- a level that is absent on both sides determines Equal, and one that is there on both sides what its bytes determine
+abbrev pub PartDetermines : LevelPart → LevelPart → Ordering → Type 0
+PartDetermines absent absent o = o ≡ Equal
+PartDetermines absent (opened qs) o = ⊥
+PartDetermines absent (closed qs) o = ⊥
+PartDetermines (opened ps) absent o = ⊥
+PartDetermines (opened ps) (opened qs) o = Determines ps qs o
+PartDetermines (opened ps) (closed qs) o = ⊥
+PartDetermines (closed ps) absent o = ⊥
+PartDetermines (closed ps) (opened qs) o = ⊥
+PartDetermines (closed ps) (closed qs) o = Determines ps qs o
 
--- each level tells its answer where all earlier levels tie
-abbrev pub TellInTurn : List TwoParts → Type 0
-TellInTurn [] = Unit {0}
-TellInTurn (p ∷ ps) = PartTells p.left p.right p.answer × (p.answer ≡ Equal → TellInTurn ps)
+-- each level determines its order where all earlier levels tie
+abbrev pub DetermineInTurn : List TwoParts → Type 0
+DetermineInTurn [] = Unit {0}
+DetermineInTurn (p ∷ ps) = PartDetermines p.left p.right p.order × (p.order ≡ Equal → DetermineInTurn ps)
 
 -- ---- the six levels
-
-pub data SecondaryForm : Type 0 where
-  no_secondary : SecondaryForm
-  forward : SecondaryForm
-  backward : SecondaryForm
-
-pub data CaseForm : Type 0 where
-  no_case : CaseForm
-  lower_case_first : CaseForm
-  upper_case_first : CaseForm
-
--- whether variable elements may be shifted
-pub data QuaternaryForm : Type 0 where
-  no_quaternary : QuaternaryForm
-  shifted : QuaternaryForm
-  unshifted : QuaternaryForm
-
--- which levels a key has after the primary one, and in which form
-pub record KeyForm : Type 0 where
-  pub secondary : SecondaryForm
-  pub cases : CaseForm
-  pub tertiary : Option TertiaryForm
-  pub quaternary : QuaternaryForm
-  pub identical : Bool
 
 -- The lists of a text: primaries before reordering, secondaries forward and in reversed segments, ranks of case,
 -- tertiaries as the form has them, quaternaries, decomposed characters. What the form does not name may be anything
@@ -99,24 +81,22 @@ pub record LevelLists : Type 0 where
   pub quaternaries : List ℕ
   pub characters : List ℕ
 
-abbrev pub secondary_part : SecondaryForm → LevelLists → LevelPart
-secondary_part no_secondary t = absent
-secondary_part forward t = closed (secondary_level t.secondaries)
-secondary_part backward t = closed (backward_level t.segments)
+abbrev pub secondary_part : Option SecondaryForm → LevelLists → LevelPart
+secondary_part None t = absent
+secondary_part (Some Forward) t = closed (secondary_level t.secondaries)
+secondary_part (Some Backward) t = closed (backward_level t.segments)
 
-abbrev pub case_part : CaseForm → LevelLists → LevelPart
-case_part no_case t = absent
-case_part lower_case_first t = opened (lower_first_case_level t.cases)
-case_part upper_case_first t = opened (upper_first_case_level t.cases)
+abbrev pub case_part : Option CaseForm → LevelLists → LevelPart
+case_part None t = absent
+case_part (Some form) t = opened (case_level form t.cases)
 
 abbrev pub tertiary_part : Option TertiaryForm → LevelLists → LevelPart
 tertiary_part None t = absent
 tertiary_part (Some form) t = closed (tertiary_level form t.tertiaries)
 
-abbrev pub quaternary_part : QuaternaryForm → LevelLists → LevelPart
-quaternary_part no_quaternary t = absent
-quaternary_part shifted t = closed (quaternary_level t.quaternaries)
-quaternary_part unshifted t = closed (unshifted_quaternary_level t.quaternaries)
+abbrev pub quaternary_part : Option QuaternaryForm → LevelLists → LevelPart
+quaternary_part None t = absent
+quaternary_part (Some form) t = closed (quaternary_level form t.quaternaries)
 
 abbrev pub identical_part : Bool → LevelLists → LevelPart
 identical_part false t = absent
@@ -136,24 +116,22 @@ key_bytes c f t = primary_level c 0 t.primaries ++ parts_bytes (later_parts f t)
 abbrev pub primaries_order : Compression → LevelLists → LevelLists → Ordering
 primaries_order c t u = list_order (map c.reorder t.primaries) (map c.reorder u.primaries)
 
-abbrev pub secondaries_order : SecondaryForm → LevelLists → LevelLists → Ordering
-secondaries_order no_secondary t u = Equal
-secondaries_order forward t u = list_order t.secondaries u.secondaries
-secondaries_order backward t u = segments_order t.segments u.segments
+abbrev pub secondaries_order : Option SecondaryForm → LevelLists → LevelLists → Ordering
+secondaries_order None t u = Equal
+secondaries_order (Some Forward) t u = list_order t.secondaries u.secondaries
+secondaries_order (Some Backward) t u = segments_order t.segments u.segments
 
-abbrev pub cases_order : CaseForm → LevelLists → LevelLists → Ordering
-cases_order no_case t u = Equal
-cases_order lower_case_first t u = list_order t.cases u.cases
-cases_order upper_case_first t u = list_order t.cases u.cases
+abbrev pub cases_order : Option CaseForm → LevelLists → LevelLists → Ordering
+cases_order None t u = Equal
+cases_order (Some form) t u = list_order t.cases u.cases
 
 abbrev pub tertiaries_order : Option TertiaryForm → LevelLists → LevelLists → Ordering
 tertiaries_order None t u = Equal
 tertiaries_order (Some form) t u = list_order t.tertiaries u.tertiaries
 
-abbrev pub quaternaries_order : QuaternaryForm → LevelLists → LevelLists → Ordering
-quaternaries_order no_quaternary t u = Equal
-quaternaries_order shifted t u = list_order t.quaternaries u.quaternaries
-quaternaries_order unshifted t u = list_order t.quaternaries u.quaternaries
+abbrev pub quaternaries_order : Option QuaternaryForm → LevelLists → LevelLists → Ordering
+quaternaries_order None t u = Equal
+quaternaries_order (Some form) t u = list_order t.quaternaries u.quaternaries
 
 abbrev pub characters_order : Bool → LevelLists → LevelLists → Ordering
 characters_order false t u = Equal

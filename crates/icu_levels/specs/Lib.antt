@@ -1,7 +1,6 @@
 pub mod ListOrder
 pub mod WeightBytes
 pub mod Runs
-pub mod Rows
 pub mod Primaries
 pub mod Secondaries
 pub mod Tertiaries

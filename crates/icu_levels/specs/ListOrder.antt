@@ -1,4 +1,4 @@
--- The order of lists of numbers, and what may stand where two of them part
+-- The order of lists of numbers, and what may stand where two of them part.
 use Rattle.std.specs.Prelude.{◌≡◌, ℕ, ◌<◌, List, [], ◌∷◌, ◌++◌}
 use Rattle.std.specs.Cmp.Lexicographic.{slice_cmp}
 use Rattle.std.specs.Ordering.{nat_cmp}

@@ -1,10 +1,10 @@
--- The theorems on numbers, as contracts name them
-use Rattle.std.specs.Prelude.{Bool, false, ◌≡◌, ℕ, ◌^◌, ◌<◌, ◌≤◌, List, ◌∷◌, ◌++◌, map, length}
+-- The theorems on numbers, as contracts name them.
+use Rattle.std.specs.Prelude.{false, ◌≡◌, ℕ, ◌^◌, ◌<◌, ◌≤◌, List, ◌∷◌, ◌++◌, map, length}
 use Rattle.std.specs.List.{AllByRecursion}
 use Rattle.std.specs.Ordering.{nat_cmp}
 use Rattle.icu_levels.specs.ListOrder.{list_order}
 use Rattle.icu_levels.specs.Primaries.{Compression}
-use Rattle.icu_levels.specs.Premises.{Passes, ArePrimaries, IsPrimaryList}
+use Rattle.icu_levels.specs.Premises.{ArePrimaries, IsPrimaryList}
 use Rattle.icu_levels.specs.Numbers.{number_weights, value_of, without_first_zeros, longest_number, run_weights}
 
 -- numbers below 10^254 order by value through their weights, whatever the numeric lead
@@ -13,9 +13,9 @@ NumbersOrderByValue =
     (numeric v w : ℕ) → v < 10 ^ 254 → w < 10 ^ 254 → list_order (number_weights numeric v) (number_weights numeric w) ≡ nat_cmp v w
 
 -- and as reordering leaves them
-abbrev pub ReorderedNumbersOrderByValue : Type 0
-ReorderedNumbersOrderByValue =
-    (c : Compression) (numeric : ℕ) (live : ℕ → Bool) → ArePrimaries c numeric (Passes live) → numeric < 256
+abbrev pub ReorderedNumbersOrderByValue : (ℕ → Type 0) → Type 0
+ReorderedNumbersOrderByValue IsLive =
+    (c : Compression) (numeric : ℕ) → ArePrimaries c numeric IsLive → numeric < 256
     → (v w : ℕ) → v < 10 ^ 254 → w < 10 ^ 254
     → list_order (map c.reorder (number_weights numeric v)) (map c.reorder (number_weights numeric w)) ≡ nat_cmp v w
 
@@ -32,27 +32,27 @@ DigitRunsOrderByValue =
     → list_order (run_weights numeric ds) (run_weights numeric es) ≡ nat_cmp (value_of ds) (value_of es)
 
 -- and as reordering leaves them
-abbrev pub ReorderedRunsOrderByValue : Type 0
-ReorderedRunsOrderByValue =
-    (c : Compression) (numeric : ℕ) (live : ℕ → Bool) → ArePrimaries c numeric (Passes live) → numeric < 256
+abbrev pub ReorderedRunsOrderByValue : (ℕ → Type 0) → Type 0
+ReorderedRunsOrderByValue IsLive =
+    (c : Compression) (numeric : ℕ) → ArePrimaries c numeric IsLive → numeric < 256
     → (ds es : List ℕ) → IsShortRun ds → IsShortRun es
     → list_order (map c.reorder (run_weights numeric ds)) (map c.reorder (run_weights numeric es)) ≡ nat_cmp (value_of ds) (value_of es)
 
 -- before a list of primaries that may stand there may stand a live primary
-abbrev pub LivePrimariesMayStand : Type 0
-LivePrimariesMayStand =
-    (c : Compression) (numeric : ℕ) (live : ℕ → Bool) → ArePrimaries c numeric (Passes live)
-    → (w : ℕ) (ws : List ℕ) → Passes live w → IsPrimaryList numeric (Passes live) false ws
-    → IsPrimaryList numeric (Passes live) false (w ∷ ws)
+abbrev pub LivePrimariesMayStand : (ℕ → Type 0) → Type 0
+LivePrimariesMayStand IsLive =
+    (c : Compression) (numeric : ℕ) → ArePrimaries c numeric IsLive
+    → (w : ℕ) (ws : List ℕ) → IsLive w → IsPrimaryList numeric IsLive false ws
+    → IsPrimaryList numeric IsLive false (w ∷ ws)
 
 -- and the weights of a whole number
-abbrev pub NumbersMayStand : Type 0
-NumbersMayStand =
-    (numeric : ℕ) (live : ℕ → Bool) → numeric < 256 → (v : ℕ) (ws : List ℕ) → v < 10 ^ 254
-    → IsPrimaryList numeric (Passes live) false ws → IsPrimaryList numeric (Passes live) false (number_weights numeric v ++ ws)
+abbrev pub NumbersMayStand : (ℕ → Type 0) → Type 0
+NumbersMayStand IsLive =
+    (numeric : ℕ) → numeric < 256 → (v : ℕ) (ws : List ℕ) → v < 10 ^ 254
+    → IsPrimaryList numeric IsLive false ws → IsPrimaryList numeric IsLive false (number_weights numeric v ++ ws)
 
 -- and those of a run of digits, however long
-abbrev pub DigitRunsMayStand : Type 0
-DigitRunsMayStand =
-    (numeric : ℕ) (live : ℕ → Bool) → numeric < 256 → (ds ws : List ℕ) → AllByRecursion (λ d. d < 10) ds
-    → IsPrimaryList numeric (Passes live) false ws → IsPrimaryList numeric (Passes live) false (run_weights numeric ds ++ ws)
+abbrev pub DigitRunsMayStand : (ℕ → Type 0) → Type 0
+DigitRunsMayStand IsLive =
+    (numeric : ℕ) → numeric < 256 → (ds ws : List ℕ) → AllByRecursion (λ d. d < 10) ds
+    → IsPrimaryList numeric IsLive false ws → IsPrimaryList numeric IsLive false (run_weights numeric ds ++ ws)

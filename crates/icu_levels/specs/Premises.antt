@@ -1,13 +1,11 @@
--- What the levels ask of the weights that may occur. Crates that know tables prove it of them
-use Rattle.std.specs.Prelude.{Bool, true, false, ◌&&◌, ◌||◌, ◌≡◌, ◌≢◌, ◌⊎◌, ℕ, ◌+◌, ◌*◌, ◌/◌, ◌%◌, ◌^◌, ◌<◌, ◌≤◌, ◌==◌, nat_le, nat_lt, List, [], ◌∷◌}
+-- What the levels ask of the weights that may occur. Crates that know tables prove it of them.
+use Rattle.std.specs.Prelude.{Bool, true, false, ◌&&◌, ◌||◌, ◌≡◌, ◌≢◌, ◌⊎◌, ℕ, ◌+◌, ◌*◌, ◌/◌, ◌%◌, ◌^◌, ◌<◌, ◌≤◌, ◌==◌, nat_le, List, [], ◌∷◌}
 use Rattle.icu_levels.specs.ListOrder.{IsBeginning}
 use Rattle.icu_levels.specs.WeightBytes.{weight_bytes}
 use Rattle.icu_levels.specs.Primaries.{Compression, lead, below_lead, second_byte}
-use Rattle.icu_levels.specs.Tertiaries.{TertiaryForm, plain, lower_first, upper_first, tertiary_row}
-
--- what passes a test
-abbrev pub Passes : (ℕ → Bool) → ℕ → Type 0
-Passes test w = test w ≡ true
+use Rattle.icu_levels.specs.Tertiaries.{tertiary_runs}
+use Rattle.icu_levels.specs.declared.forms.TertiaryForm.{TertiaryForm}
+use Rattle.icu_levels.specs.declared.forms.TertiaryForm.TheVariants.{LowerFirst, UpperFirst, WithoutCase}
 
 -- No weight is written as a beginning of another: weights are prefix free, as the standard asks of the weights of
 -- one level (UTS #10, "Large Weight Values")
@@ -29,28 +27,28 @@ backward_least = 3
 
 -- the leads of tertiaries as a form has them
 abbrev pub least_tertiary_lead : TertiaryForm → ℕ
-least_tertiary_lead plain = 0x02
-least_tertiary_lead lower_first = 0x02
-least_tertiary_lead upper_first = 0x42
+least_tertiary_lead WithoutCase = 0x02
+least_tertiary_lead LowerFirst = 0x02
+least_tertiary_lead UpperFirst = 0x42
 
 abbrev pub greatest_tertiary_lead : TertiaryForm → ℕ
-greatest_tertiary_lead plain = 0x3F
-greatest_tertiary_lead lower_first = 0xBF
-greatest_tertiary_lead upper_first = 0xFF
+greatest_tertiary_lead WithoutCase = 0x3F
+greatest_tertiary_lead LowerFirst = 0xBF
+greatest_tertiary_lead UpperFirst = 0xFF
 
 -- Tertiaries are the common one, or have another lead than it has
 pub record AreTertiaries (form : TertiaryForm) (IsLive : ℕ → Type 0) : Type 0 where
   pub least : (w : ℕ) → IsLive w → least_tertiary_lead form ≤ w / 256
   pub greatest : (w : ℕ) → IsLive w → w / 256 ≤ greatest_tertiary_lead form
-  pub leads : (w : ℕ) → IsLive w → w ≢ (tertiary_row form).common → w / 256 ≢ (tertiary_row form).common / 256
+  pub leads : (w : ℕ) → IsLive w → w ≢ (tertiary_runs form).common → w / 256 ≢ (tertiary_runs form).common / 256
   pub prefix_free : IsPrefixFree (weight_bytes 2) IsLive
 
--- Tertiaries as a form has them, where `live` tests those without case bits: the two high bits are the case, lower 0,
--- mixed 1 and upper 2; with upper case first lower is 3, mixed 2 and upper 1, and what has no secondary is 3
-abbrev pub cased_tertiary : TertiaryForm → (ℕ → Bool) → ℕ → Bool
-cased_tertiary plain live w = live w
-cased_tertiary lower_first live w = live (w % 0x4000) && nat_lt (w / 0x4000) 3
-cased_tertiary upper_first live w = live (w % 0x4000) && (nat_lt 0 (w / 0x4000) && nat_lt (w / 0x4000) 4)
+-- Tertiaries as a form has them, where those without case bits are live: the two high bits are the case, lower 0, mixed
+-- 1 and upper 2; with upper case first lower is 3, mixed 2 and upper 1, and what has no secondary is 3
+abbrev pub IsCasedTertiary : TertiaryForm → (ℕ → Type 0) → ℕ → Type 0
+IsCasedTertiary WithoutCase IsLive w = IsLive w
+IsCasedTertiary LowerFirst IsLive w = IsLive (w % 0x4000) × (w / 0x4000 < 3)
+IsCasedTertiary UpperFirst IsLive w = IsLive (w % 0x4000) × (0 < w / 0x4000) × (w / 0x4000 < 4)
 
 -- Shifted primaries, after reordering, lead with 02 at least
 pub record AreShifted (IsLive : ℕ → Type 0) : Type 0 where

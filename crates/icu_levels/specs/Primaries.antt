@@ -1,5 +1,5 @@
 -- The bytes of the primary level, where weights of a compressible lead drop it
--- (UTS #35 part 5, "Root Collation Data Files" on lead bytes that compress, and "Collation Reordering")
+-- (UTS #35 part 5, "Root Collation Data Files" on lead bytes that compress, and "Collation Reordering").
 use Rattle.std.specs.Prelude.{Bool, ◌||◌, ℕ, ◌/◌, ◌%◌, ◌^◌, ◌==◌, nat_lt, if◌then◌else◌, List, [], ◌∷◌, ◌++◌}
 use Rattle.icu_levels.specs.WeightBytes.{weight_bytes}
 

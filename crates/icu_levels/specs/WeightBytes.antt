@@ -1,5 +1,5 @@
 -- Weights as they are written in a key: the highest byte first, without the zero bytes at the end
--- (UTS #10, "Large Weight Values")
+-- (UTS #10, "Large Weight Values").
 use Rattle.std.specs.Prelude.{ℕ, zero, suc, ◌/◌, ◌%◌, ◌^◌, List, [], ◌∷◌}
 
 -- the k digits of w to a base, the highest first

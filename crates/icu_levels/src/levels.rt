@@ -1,41 +1,43 @@
 //! The theorems on single levels, each as a function that makes no call.
 
-ghost use Rattle.icu_levels.specs.Rows.{secondary_row, plain_tertiary_row, quaternary_row};
 ghost use Rattle.icu_levels.specs.RunLaws.{RunsAreShort};
 ghost use Rattle.icu_levels.specs.LevelLaws.{RunsAreMaximal, RunsKeepOrder, PrimariesKeepOrder, SecondariesKeepOrder, SegmentsKeepOrder, LowerFirstCasesKeepOrder, UpperFirstCasesKeepOrder, CaseKeepsTertiaries, TertiariesKeepOrder, QuaternariesKeepOrder, UnshiftedQuaternariesKeepOrder, CharactersKeepOrder};
+
+use crate::run_bytes::{QUATERNARY_RUNS, SECONDARY_RUNS, TERTIARY_RUNS};
+use crate::weights::LevelWeights;
 
 /// Common weights before another weight, or at the end, are written as one run, however many they are.
 pub fn runs_are_maximal()
     ensures { RunsAreMaximal }
 {}
 
-/// A run of n common weights takes at most 1 + n / 33 bytes at the secondary level, 1 + n / 97 at the tertiary level
+/// A run of n common weights is written in at most 1 + n / 33 bytes at the secondary level, 1 + n / 97 at the tertiary level
 /// without case bits, and 1 + n / 113 at the quaternary level.
 pub fn runs_are_short()
-    ensures secondary { RunsAreShort secondary_row 33 }
-    ensures tertiary { RunsAreShort plain_tertiary_row 97 }
-    ensures quaternary { RunsAreShort quaternary_row 113 }
+    ensures secondary { RunsAreShort SECONDARY_RUNS 33 }
+    ensures tertiary { RunsAreShort TERTIARY_RUNS 97 }
+    ensures quaternary { RunsAreShort QUATERNARY_RUNS 113 }
 {}
 
-/// Levels that count runs of their common weight keep the order of their lists, for each row whose two kinds of run
-/// meet in the middle byte alone and each spelling that stays clear of the runs and is prefix free.
-pub fn runs_keep_order()
-    ensures { RunsKeepOrder }
+/// Levels that count runs of their common weight keep the order of their lists, for all run bytes whose two kinds of
+/// run meet in the middle byte alone and each spelling that stays clear of the runs and is prefix free.
+pub fn runs_keep_order<W: LevelWeights>()
+    ensures { RunsKeepOrder W.is_live }
 {}
 
 /// Compressed primary bytes keep the order of the reordered primaries, numbers among them.
-pub fn primaries_keep_order()
-    ensures { PrimariesKeepOrder }
+pub fn primaries_keep_order<W: LevelWeights>()
+    ensures { PrimariesKeepOrder W.is_live }
 {}
 
 /// Secondary bytes keep the order of the secondaries.
-pub fn secondaries_keep_order()
-    ensures { SecondariesKeepOrder }
+pub fn secondaries_keep_order<W: LevelWeights>()
+    ensures { SecondariesKeepOrder W.is_live }
 {}
 
 /// Backward secondary bytes keep the order of the segments, of which each text has at least one.
-pub fn segments_keep_order()
-    ensures { SegmentsKeepOrder }
+pub fn segments_keep_order<W: LevelWeights>()
+    ensures { SegmentsKeepOrder W.is_live }
 {}
 
 /// Case bytes with lower case first keep the order of the cases, where both texts have as many.
@@ -49,18 +51,18 @@ pub fn upper_first_cases_keep_order()
 {}
 
 /// Tertiary bytes keep the order of the tertiaries: without case bits, with lower and with upper case first.
-pub fn tertiaries_keep_order()
-    ensures { TertiariesKeepOrder }
+pub fn tertiaries_keep_order<W: LevelWeights>()
+    ensures { TertiariesKeepOrder W.is_live }
 {}
 
 /// Tertiaries with case bits are as their level asks, if those without case bits are.
-pub fn case_keeps_tertiaries()
-    ensures { CaseKeepsTertiaries }
+pub fn case_keeps_tertiaries<W: LevelWeights>()
+    ensures { CaseKeepsTertiaries W.is_live }
 {}
 
 /// Quaternary bytes keep the order of the quaternaries, shifted primaries among them.
-pub fn quaternaries_keep_order()
-    ensures { QuaternariesKeepOrder }
+pub fn quaternaries_keep_order<W: LevelWeights>()
+    ensures { QuaternariesKeepOrder W.is_live }
 {}
 
 /// Quaternary bytes where no element is shifted keep the order, where both texts have as many quaternaries.

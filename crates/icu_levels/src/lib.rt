@@ -5,10 +5,14 @@
 //! written as differences. This crate defines those bytes and proves that they order as the lists do. It knows no
 //! table and no text.
 //!
-//! Each theorem is the contract of a function with an empty body, which a caller cites by calling it.
+//! Each theorem is the contract of a function with an empty body, which a caller cites by calling it. Where a theorem
+//! speaks of the weights that may occur, they are a type parameter's: it holds whatever predicate they are. The lemma
+//! behind each is public and takes the predicate as an argument.
 #![tactic(auto)]
 
+pub mod forms;
 pub mod keys;
 pub mod levels;
 pub mod numbers;
-pub mod rows;
+pub mod run_bytes;
+pub mod weights;

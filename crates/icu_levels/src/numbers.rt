@@ -2,24 +2,26 @@
 
 ghost use Rattle.icu_levels.specs.NumberLaws.{NumbersOrderByValue, ReorderedNumbersOrderByValue, DigitRunsOrderByValue, ReorderedRunsOrderByValue, LivePrimariesMayStand, NumbersMayStand, DigitRunsMayStand};
 
+use crate::weights::LevelWeights;
+
 /// Numbers below 10^254 order by value through their primaries, whatever the numeric lead and as reordering leaves
 /// them.
-pub fn numbers_order_by_value()
+pub fn numbers_order_by_value<W: LevelWeights>()
     ensures before { NumbersOrderByValue }
-    ensures reordered { ReorderedNumbersOrderByValue }
+    ensures reordered { ReorderedNumbersOrderByValue W.is_live }
 {}
 
 /// Two runs of digits, each of at most 254 after its first zeros, order by value through their primaries, whatever
 /// the numeric lead and as reordering leaves them.
-pub fn digit_runs_order_by_value()
+pub fn digit_runs_order_by_value<W: LevelWeights>()
     ensures before { DigitRunsOrderByValue }
-    ensures reordered { ReorderedRunsOrderByValue }
+    ensures reordered { ReorderedRunsOrderByValue W.is_live }
 {}
 
 /// The lists that the primary level asks for are made of live primaries, whole numbers and runs of digits, in any
 /// order.
-pub fn primaries_and_numbers_may_stand()
-    ensures live { LivePrimariesMayStand }
-    ensures numbers { NumbersMayStand }
-    ensures runs { DigitRunsMayStand }
+pub fn primaries_and_numbers_may_stand<W: LevelWeights>()
+    ensures live { LivePrimariesMayStand W.is_live }
+    ensures numbers { NumbersMayStand W.is_live }
+    ensures runs { DigitRunsMayStand W.is_live }
 {}

@@ -9,7 +9,7 @@ use Rattle.icu_provider.specs.Diacritics.{IsDiacritics, FailsDiacritics}
 use Rattle.icu_provider.specs.Jamo.{IsJamo, FailsJamo}
 use Rattle.icu_provider.specs.Loads.{Loads, answer}
 use Rattle.icu_provider.specs.SpecialPrimaries.{IsSpecialPrimaries, FailsSpecial}
-use Rattle.icu_provider.specs.StoredTables.{accents_of, jamo_of, reordering_of, special_of}
+use Rattle.icu_provider.specs.StoredTables.{diacritics_of, jamo_of, reordering_of, special_of}
 use Rattle.icu_data.specs.StoredData.{data_of}
 use Rattle.icu_mini.specs.declared.mini.Mini.{Mini}
 use Rattle.icu_mini.specs.declared.provider.MiniProvider.{MiniProvider}
@@ -26,7 +26,7 @@ loads_of p = record {
   metadata = λ r. answer (λ m. m.bits) p.metadata;
   tailoring = λ r. answer data_of p.tailoring;
   reordering = λ r. answer reordering_of p.reordering;
-  diacritics = λ r. answer accents_of p.diacritics;
+  diacritics = λ r. answer diacritics_of p.diacritics;
 }
 
 -- the refusal names the table, and a kind of which this holds
@@ -53,4 +53,4 @@ pub record LendsMini (m : Mini) (p : MiniProvider) : Type 0 where
   pub metadata : IfOk p.metadata (λ b. b.bits ≡ m.metadata.bits) × IsOk p.metadata
   pub tailoring : IsLentIfAny data_of data_held tables.Tailoring IsAccepted FailsTable m.tailoring p.tailoring
   pub reordering : IsLentIfAny reordering_of reordering_held tables.Reordering HasAllLeads (λ r k. k ≡ kinds.Length) m.reordering p.reordering
-  pub diacritics : IsLent accents_of m.diacritics.items (IsDiacritics m.diacritics.items) (Names tables.Diacritics (FailsDiacritics m.diacritics.items)) p.diacritics
+  pub diacritics : IsLent diacritics_of m.diacritics.items (IsDiacritics m.diacritics.items) (Names tables.Diacritics (FailsDiacritics m.diacritics.items)) p.diacritics

@@ -3,7 +3,7 @@ ghost use Rattle.std.specs.Option.{option_map};
 ghost use Rattle.icu_provider.specs.Diacritics.{IsDiacritics, FailsDiacritics};
 ghost use Rattle.icu_provider.specs.Jamo.{IsJamo, FailsJamo};
 ghost use Rattle.icu_provider.specs.SpecialPrimaries.{IsSpecialPrimaries, FailsSpecial};
-ghost use Rattle.icu_provider.specs.StoredTables.{accents_of, jamo_of, reordering_of, special_of};
+ghost use Rattle.icu_provider.specs.StoredTables.{diacritics_of, jamo_of, reordering_of, special_of};
 ghost use Rattle.icu_data.specs.StoredData.{data_of};
 ghost use Rattle.icu_mini.specs.Runs.{mini_rows, run};
 
@@ -115,7 +115,7 @@ impl Mini {
     pub fn lend_diacritics(&self) -> Result<CollationDiacritics<'_>, DataErrorKind>
         ensures accepts { IsOk result ↔ IsDiacritics self.now.diacritics.items }
         ensures kind { IfErr result (FailsDiacritics self.now.diacritics.items) }
-        ensures lends { IfOk result (λ d. accents_of d ≡ self.now.diacritics.items) }
+        ensures lends { IfOk result (λ d. diacritics_of d ≡ self.now.diacritics.items) }
     {
         CollationDiacritics::new(self.diacritics.as_slice())
     }

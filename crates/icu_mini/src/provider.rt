@@ -3,7 +3,7 @@ ghost use Rattle.std.specs.Prelude.{◌≡◌};
 ghost use Rattle.icu_provider.specs.Diacritics.{FailsDiacritics, IsDiacritics};
 ghost use Rattle.icu_provider.specs.Jamo.{FailsJamo, IsJamo};
 ghost use Rattle.icu_provider.specs.SpecialPrimaries.{FailsSpecial, IsSpecialPrimaries};
-ghost use Rattle.icu_provider.specs.StoredTables.{accents_of, jamo_of, reordering_of, special_of};
+ghost use Rattle.icu_provider.specs.StoredTables.{diacritics_of, jamo_of, reordering_of, special_of};
 ghost use Rattle.icu_data.specs.StoredData.{data_of};
 
 use crate::mini::Mini;
@@ -149,7 +149,7 @@ impl Mini {
     }
 
     fn named_diacritics(&self) -> Result<CollationDiacritics<'_>, DataError>
-        ensures { IsLent accents_of self.now.diacritics.items (IsDiacritics self.now.diacritics.items) (Names DataTable.Diacritics (FailsDiacritics self.now.diacritics.items)) result }
+        ensures { IsLent diacritics_of self.now.diacritics.items (IsDiacritics self.now.diacritics.items) (Names DataTable.Diacritics (FailsDiacritics self.now.diacritics.items)) result }
     {
         match self.lend_diacritics() {
             Ok(diacritics) => Ok(diacritics),

@@ -8,3 +8,6 @@ pub mod Metadata
 pub mod Requests
 pub mod Loads
 pub mod StoredTables
+pub mod CollatorTables
+pub mod TableSets
+pub mod OwnedTables

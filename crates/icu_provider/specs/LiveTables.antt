@@ -3,13 +3,13 @@ use Rattle.std.specs.Prelude.{ℕ, ◌-◌, ◌≡◌, ◌⊎◌, true, false, s
 use Rattle.std.specs.Char.{IsScalar}
 use Rattle.std.specs.List.{AllByRecursion, Contains}
 use Rattle.icu_data.specs.Data.{Data}
-use Rattle.icu_provider.specs.Tables.{Tables, is_jamo}
+use Rattle.icu_provider.specs.Tables.{Tables, jamo_base, is_jamo}
 use Rattle.icu_entries.specs.EntryConditions.{has_digit}
 use Rattle.icu_data.specs.Live.{live_from, live_at, EachLive}
 
 -- the entry of a conjoining jamo
 abbrev pub jamo_entry : Tables → ℕ → ℕ
-jamo_entry tables c = slice_index tables.jamo (c - 0x1100)
+jamo_entry tables c = slice_index tables.jamo (c - jamo_base)
 
 -- what holds of each home, character and entry of the home that is live with the character
 pub record AllLive (P : Data → ℕ → ℕ → Type 0) (tables : Tables) : Type 0 where

@@ -1,4 +1,4 @@
--- What a provider of tables answers.
+-- What a provider of tables returns.
 use Rattle.std.specs.Prelude.{ℕ, List, Result, Ok, Err}
 use Rattle.icu_entries.specs.declared.error.DataError.{DataError}
 use Rattle.icu_provider.specs.Requests.{Request}
@@ -6,7 +6,7 @@ use Rattle.icu_data.specs.Data.{Data}
 use Rattle.icu_provider.specs.Reorderings.{Reordering}
 use Rattle.icu_provider.specs.SpecialPrimaries.{SpecialPrimaries}
 
--- The answer to each load: what the table says that is lent, or why none is. The metadata is its bits, jamo are their entries, and
+-- What each load returns: what the table says, or why there is none. The metadata is its bits, jamo are their entries, and
 -- diacritics their secondary weights.
 pub record Loads : Type 0 where
   pub root : Result Data DataError
@@ -17,7 +17,7 @@ pub record Loads : Type 0 where
   pub reordering : Request → Result Reordering DataError
   pub diacritics : Request → Result (List ℕ) DataError
 
--- what a lent table says, or the refusal
+-- what a table says that is returned, or the refusal
 abbrev pub answer : {T A : Type 0} → (T → A) → Result T DataError → Result A DataError
 answer said (Ok table) = Ok (said table)
 answer said (Err e) = Err e

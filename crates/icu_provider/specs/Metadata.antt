@@ -14,7 +14,7 @@ has_tailored_diacritics bits = is_bit_set bits 4
 abbrev pub has_reordering : ℕ → Bool
 has_reordering bits = is_bit_set bits 5
 
--- the dot of U+0307 is left out before U+0300, U+0301 and U+0303, as Lithuanian keeps it on an i under an accent
+-- the dot of U+0307 is left out before U+0300, U+0301 and U+0303, as Lithuanian keeps it on an i under another mark
 abbrev pub is_lithuanian : ℕ → Bool
 is_lithuanian bits = is_bit_set bits 6
 

@@ -13,15 +13,15 @@ pub record SpecialPrimaries : Type 0 where
   pub last : List ℕ
   pub numeric : ℕ
 
-abbrev pub group_place : MaxVariable → ℕ
-group_place Space = 0
-group_place Punctuation = 1
-group_place Symbol = 2
-group_place Currency = 3
+abbrev pub group_index : MaxVariable → ℕ
+group_index Space = 0
+group_index Punctuation = 1
+group_index Symbol = 2
+group_index Currency = 3
 
 -- the last primary weight of a group: one below the first after it
 abbrev pub last_primary : SpecialPrimaries → MaxVariable → ℕ
-last_primary special group = slice_index special.last (group_place group) * 0x10000 - 1
+last_primary special group = slice_index special.last (group_index group) * 0x10000 - 1
 
 -- without bits for them: the lead bytes of the Latin script to CJK's, and that of implicit weights
 unfoldable pub is_compressible : SpecialPrimaries → ℕ → Bool

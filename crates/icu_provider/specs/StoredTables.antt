@@ -8,8 +8,8 @@ use Rattle.icu_provider.specs.Reorderings.{Reordering}
 use Rattle.icu_provider.specs.SpecialPrimaries.{SpecialPrimaries}
 
 -- the secondary weights of diacritics, the entries of jamo, a reordering, the special primary weights
-abbrev pub accents_of : CollationDiacritics → List ℕ
-accents_of d = d.secondaries.now
+abbrev pub diacritics_of : CollationDiacritics → List ℕ
+diacritics_of d = d.secondaries.now
 
 abbrev pub jamo_of : CollationJamo → List ℕ
 jamo_of j = j.ce32s.now

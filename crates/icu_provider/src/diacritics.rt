@@ -1,7 +1,12 @@
+//! The table of diacritics.
 ghost use Rattle.std.specs.Prelude.{◌≡◌, ◌↔◌, true, IsOk, IfOk, IfErr};
-ghost use Rattle.icu_provider.specs.Diacritics.{is_replaced_place, is_accent, IsDiacritics, FailsDiacritics};
+ghost use Rattle.icu_provider.specs.Diacritics.{is_replaced_index, is_diacritic_weight, IsDiacritics, FailsDiacritics};
 
 use icu_entries::{CollationElement, DataErrorKind};
+use std::alloc::{AllocError, Global};
+
+/// The greatest number of diacritics that have a table of their own.
+pub const OPTIMIZED_DIACRITICS_MAX_COUNT: usize = 79;
 
 /// The secondary weights of combining diacritics: of U+0300 and the characters after it, at most 79.
 #[derive(Debug, Clone, Copy, PartialEq)]
@@ -10,23 +15,23 @@ pub struct CollationDiacritics<'d> {
     ghost is_diacritics: { IsDiacritics secondaries.now },
 }
 
-/// Whether the place, from U+0300 on, is that of U+0340, U+0341, U+0343 or U+0344, which no canonical decomposition has.
-pub fn is_replaced_place(place: usize) -> bool
-    ensures { result ≡ is_replaced_place place }
+/// Whether the index, from U+0300 on, is that of U+0340, U+0341, U+0343 or U+0344, which no canonical decomposition has.
+pub fn is_replaced_index(index: usize) -> bool
+    ensures { result ≡ is_replaced_index index }
 {
-    place == 0x40 || place == 0x41 || place == 0x43 || place == 0x44
+    index == 0x40 || index == 0x41 || index == 0x43 || index == 0x44
 }
 
-#[tactic(auto, unfolding(crate::specs::Diacritics::is_accent))]
-fn is_accent(secondary: u16) -> bool
-    ensures { result ≡ is_accent true secondary }
+#[tactic(auto, unfolding(crate::specs::Diacritics::is_diacritic_weight))]
+fn is_diacritic_weight(secondary: u16) -> bool
+    ensures { result ≡ is_diacritic_weight true secondary }
 {
     let element = CollationElement::new_from_secondary(secondary);
     secondary != 0 && element.has_shape() && element.has_leads(true)
 }
 
 impl<'d> CollationDiacritics<'d> {
-    ghost use Rattle.icu_provider.specs.StoredTables.{accents_of};
+    ghost use Rattle.icu_provider.specs.StoredTables.{diacritics_of};
 
     /// Borrows the secondary weights. Refuses with `Length` if there are more than 79, and with `Element` if a weight is 0, has a
     /// nonzero byte after a zero byte, or has a lead byte that secondary weights may not have (they may have 02 to 04, 46 to FF,
@@ -35,32 +40,65 @@ impl<'d> CollationDiacritics<'d> {
     pub fn new(secondaries: &'d [u16]) -> Result<CollationDiacritics<'d>, DataErrorKind>
         ensures accepts { IsOk result ↔ IsDiacritics secondaries.entry.now }
         ensures kind { IfErr result (FailsDiacritics secondaries.entry.now) }
-        ensures keeps { IfOk result (λ d. accents_of d ≡ secondaries.entry.now) }
+        ensures keeps { IfOk result (λ d. diacritics_of d ≡ secondaries.entry.now) }
     {
-        if secondaries.len() > 79 {
+        if secondaries.len() > OPTIMIZED_DIACRITICS_MAX_COUNT {
             return Err(DataErrorKind::Length);
         }
-        for (place, secondary) in secondaries.iter().enumerate() {
-            if !is_replaced_place(place) && !is_accent(*secondary) {
+        for (index, secondary) in secondaries.iter().enumerate() {
+            if !is_replaced_index(index) && !is_diacritic_weight(*secondary) {
                 return Err(DataErrorKind::Element);
             }
         }
-        Ok(CollationDiacritics::from_parts(secondaries))
+        Ok(CollationDiacritics::new_unchecked(secondaries))
     }
 
     /// A table of weights that are known to meet the conditions, without a check.
-    pub fn from_parts(secondaries: &'d [u16]) -> CollationDiacritics<'d>
+    pub fn new_unchecked(secondaries: &'d [u16]) -> CollationDiacritics<'d>
         requires { IsDiacritics secondaries.now }
-        ensures { accents_of result ≡ secondaries.entry.now }
+        ensures { diacritics_of result ≡ secondaries.entry.now }
     {
         CollationDiacritics { secondaries }
     }
 
     /// The secondary weights, from that of U+0300 on.
     pub fn secondaries(self) -> &'d [u16]
-        ensures value { result.now ≡ accents_of self.entry }
-        ensures diacritics { IsDiacritics (accents_of self.entry) }
+        ensures value { result.now ≡ diacritics_of self.entry }
+        ensures diacritics { IsDiacritics (diacritics_of self.entry) }
     {
         self.secondaries
+    }
+}
+
+/// The secondary weights of diacritics in a vector of their own.
+#[derive(Debug, Drop)]
+pub struct OwnedDiacritics {
+    secondaries: Vec<u16>,
+    ghost is_diacritics: { IsDiacritics secondaries.items },
+}
+
+impl OwnedDiacritics {
+    ghost use Rattle.icu_provider.specs.StoredTables.{diacritics_of};
+    ghost use Rattle.icu_provider.specs.OwnedTables.{owned_diacritics};
+
+    /// Copies the weights.
+    #[tactic(auto, unfolding(crate::specs::OwnedTables::owned_diacritics))]
+    pub fn copy(
+        alloc: Global,
+        diacritics: CollationDiacritics<'_>,
+    ) -> Result<OwnedDiacritics, AllocError>
+        ensures { IfOk result (λ o. owned_diacritics o ≡ diacritics_of diacritics.entry) }
+    {
+        Ok(OwnedDiacritics {
+            secondaries: Vec::from_slice(alloc, diacritics.secondaries())?,
+        })
+    }
+
+    /// The table, without a check.
+    #[tactic(auto, unfolding(crate::specs::OwnedTables::owned_diacritics))]
+    pub fn as_diacritics(&self) -> CollationDiacritics<'_>
+        ensures { diacritics_of result ≡ owned_diacritics self.now }
+    {
+        CollationDiacritics::new_unchecked(self.secondaries.as_slice())
     }
 }

@@ -1,9 +1,14 @@
+//! The table of conjoining jamo.
 ghost use Rattle.std.specs.Prelude.{◌≡◌, ◌↔◌, IsOk, IfOk, IfErr};
 ghost use Rattle.icu_provider.specs.Jamo.{IsJamo, FailsJamo};
 
 use icu_entries::{CollationElement32, DataErrorKind};
+use std::alloc::{AllocError, Global};
 
-/// The entries of the 256 characters from U+1100 on, the conjoining jamo. They name lists and contexts of the root.
+/// How many conjoining jamo there are.
+pub const JAMO_COUNT: usize = 256;
+
+/// The entries of the 256 characters from U+1100 on, the conjoining jamo. They refer to lists and contexts of the root.
 #[derive(Debug, Clone, Copy, PartialEq)]
 pub struct CollationJamo<'d> {
     ce32s: &'d [u32],
@@ -20,7 +25,7 @@ impl<'d> CollationJamo<'d> {
         ensures kind { IfErr result (FailsJamo ce32s.entry.now) }
         ensures keeps { IfOk result (λ j. jamo_of j ≡ ce32s.entry.now) }
     {
-        if ce32s.len() != 256 {
+        if ce32s.len() != JAMO_COUNT {
             return Err(DataErrorKind::Length);
         }
         if !ce32s
@@ -35,11 +40,11 @@ impl<'d> CollationJamo<'d> {
         {
             return Err(DataErrorKind::Tag);
         }
-        Ok(CollationJamo::from_parts(ce32s))
+        Ok(CollationJamo::new_unchecked(ce32s))
     }
 
     /// A table of entries that are known to meet the conditions, without a check.
-    pub fn from_parts(ce32s: &'d [u32]) -> CollationJamo<'d>
+    pub fn new_unchecked(ce32s: &'d [u32]) -> CollationJamo<'d>
         requires { IsJamo ce32s.now }
         ensures { jamo_of result ≡ ce32s.entry.now }
     {
@@ -52,5 +57,35 @@ impl<'d> CollationJamo<'d> {
         ensures jamo { IsJamo (jamo_of self.entry) }
     {
         self.ce32s
+    }
+}
+
+/// The entries of the conjoining jamo in a vector of their own.
+#[derive(Debug, Drop)]
+pub struct OwnedJamo {
+    ce32s: Vec<u32>,
+    ghost is_jamo: { IsJamo ce32s.items },
+}
+
+impl OwnedJamo {
+    ghost use Rattle.icu_provider.specs.StoredTables.{jamo_of};
+    ghost use Rattle.icu_provider.specs.OwnedTables.{owned_jamo};
+
+    /// Copies the entries.
+    #[tactic(auto, unfolding(crate::specs::OwnedTables::owned_jamo))]
+    pub fn copy(alloc: Global, jamo: CollationJamo<'_>) -> Result<OwnedJamo, AllocError>
+        ensures { IfOk result (λ o. owned_jamo o ≡ jamo_of jamo.entry) }
+    {
+        Ok(OwnedJamo {
+            ce32s: Vec::from_slice(alloc, jamo.ce32s())?,
+        })
+    }
+
+    /// The table, without a check.
+    #[tactic(auto, unfolding(crate::specs::OwnedTables::owned_jamo))]
+    pub fn as_jamo(&self) -> CollationJamo<'_>
+        ensures { jamo_of result ≡ owned_jamo self.now }
+    {
+        CollationJamo::new_unchecked(self.ce32s.as_slice())
     }
 }

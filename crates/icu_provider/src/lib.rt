@@ -8,11 +8,13 @@ pub mod provider;
 pub mod reordering;
 pub mod request;
 pub mod special_primaries;
+pub mod table_set;
 
-pub use diacritics::CollationDiacritics;
-pub use jamo::CollationJamo;
+pub use diacritics::{CollationDiacritics, OwnedDiacritics};
+pub use jamo::{CollationJamo, OwnedJamo};
 pub use metadata::CollationMetadata;
 pub use provider::CollationProvider;
-pub use reordering::CollationReordering;
+pub use reordering::{CollationReordering, OwnedReordering};
 pub use request::DataRequest;
-pub use special_primaries::CollationSpecialPrimaries;
+pub use special_primaries::{CollationSpecialPrimaries, OwnedSpecialPrimaries};
+pub use table_set::{OwnedTables, TableSet};

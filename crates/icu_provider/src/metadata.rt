@@ -1,3 +1,4 @@
+//! A collation's metadata.
 ghost use Rattle.std.specs.Prelude.{◌≡◌, ◌<◌};
 ghost use Rattle.icu_options.specs.Metadata.{is_bit_set, max_variable_of, case_first_of, is_backward, metadata_settings};
 ghost use Rattle.icu_provider.specs.Metadata.{is_tailored, has_tailored_diacritics, has_reordering, is_lithuanian, is_shifted};
@@ -7,18 +8,19 @@ use icu_options::{CollationCaseFirst, MaxVariable, MetadataSettings};
 /// What a collation's metadata says: which tables it has, and its settings. Bits that no call reads are ignored.
 #[derive(Debug, Clone, Copy, PartialEq)]
 pub struct CollationMetadata {
+    /// The bits.
     pub bits: u32,
 }
 
-fn has_bit(bits: u32, place: u32) -> bool
-    requires { place < 32 }
-    ensures { result ≡ is_bit_set bits place }
+fn has_bit(bits: u32, index: u32) -> bool
+    requires { index < 32 }
+    ensures { result ≡ is_bit_set bits index }
 {
-    bits >> place & 1 == 1
+    bits >> index & 1 == 1
 }
 
 impl CollationMetadata {
-    /// The settings that it names.
+    /// The settings that it gives.
     pub fn settings(self) -> MetadataSettings
         ensures { result ≡ metadata_settings self.bits }
     {

@@ -1,7 +1,12 @@
+//! Reorderings of scripts.
 ghost use Rattle.std.specs.Prelude.{◌≡◌, ◌<◌, ◌%◌, ◌^◌, ◌↔◌, IsOk, IfOk, IfErr, length, find, All};
-ghost use Rattle.icu_provider.specs.Reorderings.{with_lead, lies_below, moved, reordered};
+ghost use Rattle.icu_provider.specs.Reorderings.{lead_byte, with_lead, lies_below, moved, reordered};
 
 use icu_entries::DataErrorKind;
+use std::alloc::{AllocError, Global};
+
+/// How many lead bytes there are.
+const LEAD_COUNT: usize = 256;
 
 /// A reordering of scripts: where the lead bytes of primary weights go (UTS #35 part 5, section 3.9 "Collation Reordering").
 #[derive(Debug, Clone, Copy, PartialEq)]
@@ -10,6 +15,13 @@ pub struct CollationReordering<'d> {
     reorder_table: &'d [u8],
     reorder_ranges: &'d [u32],
     ghost whole: { length reorder_table.now ≡ 256 },
+}
+
+/// The lead byte of a primary weight.
+pub fn lead_byte(primary: u32) -> u8
+    ensures { result ≡ lead_byte primary }
+{
+    (primary >> 24) as u8
 }
 
 /// The weight with another lead byte.
@@ -38,7 +50,7 @@ fn moved(ranges: &[u32], primary: u32) -> u32
 {
     match range_above(ranges, primary) {
         Some(range) => {
-            let lead = (primary >> 24) as u8;
+            let lead = lead_byte(primary);
             with_lead(lead.wrapping_add((range & 0xff) as u8), primary)
         }
         None => primary,
@@ -66,14 +78,14 @@ impl<'d> CollationReordering<'d> {
         ensures kind { IfErr result (λ k. k ≡ DataErrorKind.Length) }
         ensures keeps { IfOk result (λ r. reordering_of r ≡ record { limit = min_high_no_reorder; leads = reorder_table.entry.now; ranges = reorder_ranges.entry.now }) }
     {
-        if reorder_table.len() != 256 {
+        if reorder_table.len() != LEAD_COUNT {
             return Err(DataErrorKind::Length);
         }
-        Ok(CollationReordering::from_parts(min_high_no_reorder, reorder_table, reorder_ranges))
+        Ok(CollationReordering::new_unchecked(min_high_no_reorder, reorder_table, reorder_ranges))
     }
 
     /// A reordering of slices that are known to fit, without a check: there are 256 lead bytes.
-    pub fn from_parts(
+    pub fn new_unchecked(
         min_high_no_reorder: u32,
         reorder_table: &'d [u8],
         reorder_ranges: &'d [u32],
@@ -123,5 +135,47 @@ impl<'d> CollationReordering<'d> {
         } else {
             moved(self.reorder_ranges, primary)
         }
+    }
+}
+
+/// A reordering in vectors of its own.
+#[derive(Debug, Drop)]
+pub struct OwnedReordering {
+    min_high_no_reorder: u32,
+    reorder_table: Vec<u8>,
+    reorder_ranges: Vec<u32>,
+    ghost whole: { length reorder_table.items ≡ 256 },
+}
+
+impl OwnedReordering {
+    ghost use Rattle.icu_provider.specs.StoredTables.{reordering_of};
+    ghost use Rattle.icu_provider.specs.OwnedTables.{owned_reordering};
+
+    /// Copies the lead bytes and the ranges.
+    #[tactic(auto, unfolding(crate::specs::OwnedTables::owned_reordering))]
+    pub fn copy(
+        alloc: Global,
+        reordering: CollationReordering<'_>,
+    ) -> Result<OwnedReordering, AllocError>
+        ensures { IfOk result (λ o. owned_reordering o ≡ reordering_of reordering.entry) }
+    {
+        let (min_high_no_reorder, reorder_table, reorder_ranges) = reordering.parts();
+        Ok(OwnedReordering {
+            min_high_no_reorder,
+            reorder_table: Vec::from_slice(alloc, reorder_table)?,
+            reorder_ranges: Vec::from_slice(alloc, reorder_ranges)?,
+        })
+    }
+
+    /// The reordering, without a check.
+    #[tactic(auto, unfolding(crate::specs::OwnedTables::owned_reordering))]
+    pub fn as_reordering(&self) -> CollationReordering<'_>
+        ensures { reordering_of result ≡ owned_reordering self.now }
+    {
+        CollationReordering::new_unchecked(
+            self.min_high_no_reorder,
+            self.reorder_table.as_slice(),
+            self.reorder_ranges.as_slice(),
+        )
     }
 }

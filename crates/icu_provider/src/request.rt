@@ -1,3 +1,4 @@
+//! What a provider is asked for.
 ghost use Rattle.std.specs.Prelude.{◌≡◌, None, []};
 
 /// What a provider is asked for: the tables of a locale's collation. It is text alone; what it means is the provider's matter.

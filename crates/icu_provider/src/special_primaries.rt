@@ -1,8 +1,10 @@
+//! Primary weights that mean more than an order.
 ghost use Rattle.std.specs.Prelude.{◌≡◌, ◌≤◌, ◌↔◌, IsOk, IfOk, IfErr, IsTrue, All, length};
-ghost use Rattle.icu_provider.specs.SpecialPrimaries.{group_place, last_primary, is_compressible, is_numeric_lead, ends_below, HasGroupEnds, IsSpecialPrimaries, FailsSpecial};
+ghost use Rattle.icu_provider.specs.SpecialPrimaries.{group_index, last_primary, is_compressible, is_numeric_lead, ends_below, HasGroupEnds, IsSpecialPrimaries, FailsSpecial};
 
 use icu_entries::DataErrorKind;
 use icu_options::MaxVariable;
+use std::alloc::{AllocError, Global};
 
 /// Primary weights that mean more than an order: where the variable groups end, the lead byte of numbers, and the lead bytes
 /// whose weights are written shorter in sort keys.
@@ -13,9 +15,9 @@ pub struct CollationSpecialPrimaries<'d> {
     ghost is_special: { IsSpecialPrimaries last_primaries.now numeric_primary },
 }
 
-/// The place of a group's number.
-fn group_place(group: MaxVariable) -> usize
-    ensures value { result ≡ group_place group }
+/// The index of a group's number.
+fn group_index(group: MaxVariable) -> usize
+    ensures value { result ≡ group_index group }
     ensures bound { result ≤ 3 }
 {
     match group {
@@ -72,11 +74,11 @@ impl<'d> CollationSpecialPrimaries<'d> {
         if !has_group_ends(last_primaries, numeric_primary) {
             return Err(DataErrorKind::SpecialPrimary);
         }
-        Ok(CollationSpecialPrimaries::from_parts(last_primaries, numeric_primary))
+        Ok(CollationSpecialPrimaries::new_unchecked(last_primaries, numeric_primary))
     }
 
     /// Numbers that are known to meet the conditions, without a check.
-    pub fn from_parts(
+    pub fn new_unchecked(
         last_primaries: &'d [u16],
         numeric_primary: u8,
     ) -> CollationSpecialPrimaries<'d>
@@ -109,7 +111,7 @@ impl<'d> CollationSpecialPrimaries<'d> {
     pub fn last_primary_for_group(self, group: MaxVariable) -> u32
         ensures { result ≡ last_primary (special_of self.entry) group }
     {
-        let end = self.last_primaries[group_place(group)];
+        let end = self.last_primaries[group_index(group)];
         u32::from(end) * 0x10000 - 1
     }
 
@@ -125,5 +127,43 @@ impl<'d> CollationSpecialPrimaries<'d> {
         } else {
             lead >= 0x61 && lead <= 0x80 || lead == 0xFE
         }
+    }
+}
+
+/// The special primary weights in a vector of their own.
+#[derive(Debug, Drop)]
+pub struct OwnedSpecialPrimaries {
+    last_primaries: Vec<u16>,
+    numeric_primary: u8,
+    ghost is_special: { IsSpecialPrimaries last_primaries.items numeric_primary },
+}
+
+impl OwnedSpecialPrimaries {
+    ghost use Rattle.icu_provider.specs.StoredTables.{special_of};
+    ghost use Rattle.icu_provider.specs.OwnedTables.{owned_special};
+
+    /// Copies the numbers.
+    #[tactic(auto, unfolding(crate::specs::OwnedTables::owned_special))]
+    pub fn copy(
+        alloc: Global,
+        special: CollationSpecialPrimaries<'_>,
+    ) -> Result<OwnedSpecialPrimaries, AllocError>
+        ensures { IfOk result (λ o. owned_special o ≡ special_of special.entry) }
+    {
+        Ok(OwnedSpecialPrimaries {
+            last_primaries: Vec::from_slice(alloc, special.last_primaries())?,
+            numeric_primary: special.numeric_primary(),
+        })
+    }
+
+    /// The weights, without a check.
+    #[tactic(auto, unfolding(crate::specs::OwnedTables::owned_special))]
+    pub fn as_special_primaries(&self) -> CollationSpecialPrimaries<'_>
+        ensures { special_of result ≡ owned_special self.now }
+    {
+        CollationSpecialPrimaries::new_unchecked(
+            self.last_primaries.as_slice(),
+            self.numeric_primary,
+        )
     }
 }

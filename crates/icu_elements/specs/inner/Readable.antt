@@ -9,7 +9,7 @@ use Rattle.icu_data.specs.Live.{live_from}
 use Rattle.icu_data.specs.LiveConditions.{meets}
 use Rattle.icu_provider.specs.LiveTables.{IsLive}
 use Rattle.icu_data.specs.StoredData.{data_of}
-use Rattle.icu_provider.specs.StoredTables.{jamo_of, accents_of}
+use Rattle.icu_provider.specs.StoredTables.{jamo_of, diacritics_of}
 use Rattle.icu_data.specs.Data.{Data}
 use Rattle.icu_provider.specs.Tables.{Tables}
 
@@ -25,4 +25,4 @@ IsGoodFrom home c e = (condition : LiveCondition) (f : ℕ) → Contains (live_f
 -- what a root, a tailoring, jamo and diacritics say together
 unfoldable pub tables_from : CollationData → Option CollationData → CollationJamo → CollationDiacritics → Tables
 tables_from root tailoring jamo diacritics =
-    record { root = data_of root; tailoring = option_map data_of tailoring; jamo = jamo_of jamo; diacritics = accents_of diacritics }
+    record { root = data_of root; tailoring = option_map data_of tailoring; jamo = jamo_of jamo; diacritics = diacritics_of diacritics }

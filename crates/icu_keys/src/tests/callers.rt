@@ -18,7 +18,7 @@ pub fn append_segment(list: &mut Vec<u8>, weights: &[u16]) -> Result<(), AllocEr
     write_segment(list, &mut (), weights)
 }
 
-/// A slice answers the length of a segment's bytes, or that it is shorter than that.
+/// A slice returns the length of a segment's bytes, or that it is shorter than that.
 pub fn copy_segment(mut slice: &mut [u8], weights: &[u16]) -> Result<usize, TooSmall>
     ensures { result ≡ slice_finish slice.entry.now (min (length (secondary_level (reverse weights.now))) (2 ^ 64 - 1)) }
 {

@@ -1,22 +1,22 @@
 //! Rows of single levels, from weights to bytes.
 
-ghost use Rattle.icu_keys.specs.WorkedCompression.{worked_reorder, worked_test};
-
 use crate::backward::BackwardWriter;
-use crate::cases::{CaseForm, LetterCase};
-use crate::held_cases::CaseLevel;
-use crate::held_quaternaries::QuaternaryLevel;
+use crate::cases::LetterCase;
+use crate::held::cases::HeldCases;
+use crate::held::quaternaries::HeldQuaternaries;
 use crate::identical::IdenticalWriter;
-use crate::primaries::{PrimaryCompression, PrimaryWriter};
-use crate::quaternaries::{QuaternaryForm, QuaternaryWeight};
+use crate::primaries::PrimaryWriter;
+use crate::quaternaries::QuaternaryWeight;
 use crate::secondaries::SecondaryWriter;
 use crate::sink::CollationKeySink;
-use crate::tertiaries::{TertiaryForm, TertiaryWriter};
+use crate::tertiaries::TertiaryWriter;
+use crate::tests::worked::Worked;
+use icu_levels::forms::{CaseForm, QuaternaryForm, TertiaryForm};
 use smallvec::SmallVec;
 use std::collections::VecDeque;
 use std::test::Fail;
 
-// Writes secondaries, each as often as it says.
+/// Writes secondaries, each as often as it says.
 fn write_secondaries<S: CollationKeySink>(
     sink: &mut S,
     state: &mut S::State,
@@ -117,7 +117,7 @@ fn tertiaries_without_case(rt: HostRuntime) -> Result<(), Fail> {
     let rows: [(usize, &[u8]); 3] = [(0, &[0xDC]), (97, &[0x65, 0xDC]), (98, &[0x65, 0xC5, 0xDC])];
     for (count, bytes) in &rows {
         let mut vector = Vec::new(rt.alloc());
-        let mut writer = TertiaryWriter::new(TertiaryForm::Plain);
+        let mut writer = TertiaryWriter::new(TertiaryForm::WithoutCase);
         'common: for _ in 0..*count {
             writer.push(&mut vector, &mut (), 0x500)?;
         }
@@ -172,87 +172,51 @@ fn cases(rt: HostRuntime) -> Result<(), Fail> {
         (CaseForm::UpperFirst, &[Mixed], 0, &[0x20]),
     ];
     for (form, first, lower, bytes) in &rows {
-        let mut level = CaseLevel::new(rt.alloc(), *form);
+        let mut level = HeldCases::new(rt.alloc(), *form);
         for case in *first {
             level.push(*case)?;
         }
         for _ in 0..*lower {
             level.push(Lower)?;
         }
-        let mut vector = Vec::new(rt.alloc());
-        level.write_to(&mut vector, &mut ())?;
-        assert_eq!(rt; vector.as_slice(), *bytes);
+        assert_eq!(rt; level.finish()?.as_slice(), *bytes);
     }
     Ok(())
 }
 
 #[test]
 fn quaternaries(rt: HostRuntime) -> Result<(), Fail> {
-    // U+3042; U+30A2; both; "a$b" where U+0024 is shifted
-    let mut vector = Vec::new(rt.alloc());
-    let mut level = QuaternaryLevel::new(rt.alloc(), QuaternaryForm::Unshifted);
-    level.push(QuaternaryWeight::Bits(0))?;
-    level.write_to(&mut vector, &mut ())?;
-    assert_eq!(rt; vector.len(), 0);
-
-    let mut level = QuaternaryLevel::new(rt.alloc(), QuaternaryForm::Unshifted);
-    level.push(QuaternaryWeight::Bits(1))?;
-    level.write_to(&mut vector, &mut ())?;
-    assert_eq!(rt; vector.as_slice(), [0xFD].as_slice());
-
-    let mut vector = Vec::new(rt.alloc());
-    let mut level = QuaternaryLevel::new(rt.alloc(), QuaternaryForm::Unshifted);
-    level.push(QuaternaryWeight::Bits(0))?;
-    level.push(QuaternaryWeight::Bits(1))?;
-    level.write_to(&mut vector, &mut ())?;
-    assert_eq!(rt; vector.as_slice(), [0xFC, 0xFD].as_slice());
-
-    let mut vector = Vec::new(rt.alloc());
-    let mut level = QuaternaryLevel::new(rt.alloc(), QuaternaryForm::MayShift);
-    level.push(QuaternaryWeight::Bits(0))?;
-    level.push(QuaternaryWeight::Shifted(0x1E10_0000))?;
-    level.push(QuaternaryWeight::Bits(0))?;
-    level.write_to(&mut vector, &mut ())?;
-    assert_eq!(rt;
-        vector.as_slice(),
-        [0x1C, 0x1B, 0x1E, 0x10, 0x1C].as_slice()
-    );
-
-    // "ab" and "a b"
-    let mut vector = Vec::new(rt.alloc());
-    let mut level = QuaternaryLevel::new(rt.alloc(), QuaternaryForm::MayShift);
-    level.push(QuaternaryWeight::Bits(0))?;
-    level.push(QuaternaryWeight::Bits(0))?;
-    level.write_to(&mut vector, &mut ())?;
-    assert_eq!(rt; vector.as_slice(), [0x1D].as_slice());
-
-    let mut vector = Vec::new(rt.alloc());
-    let mut level = QuaternaryLevel::new(rt.alloc(), QuaternaryForm::MayShift);
-    level.push(QuaternaryWeight::Bits(0))?;
-    level.push(QuaternaryWeight::Shifted(0x0310_0000))?;
-    level.push(QuaternaryWeight::Bits(0))?;
-    level.write_to(&mut vector, &mut ())?;
-    assert_eq!(rt; vector.as_slice(), [0x1C, 0x03, 0x10, 0x1C].as_slice());
-    Ok(())
-}
-
-// Leads from 61 to 66 are compressible, and a lead of 61 whose weight is at most 6140002F goes up to 90.
-struct Worked;
-
-impl PrimaryCompression for Worked {
-    ghost compression = { λ _. record { reorder = worked_reorder; is_compressible = worked_test } };
-
-    fn reorder(&self, primary: u32) -> u32 {
-        if primary >= 0x6100_0000 && primary < 0x6140_0000 {
-            primary + 0x2F00_0000
-        } else {
-            primary
+    use QuaternaryForm::{MayShift, Unshifted};
+    use QuaternaryWeight::{Bits, Shifted};
+    let rows: [(QuaternaryForm, &[QuaternaryWeight], &[u8]); 6] = [
+        // U+3042; U+30A2; both
+        (Unshifted, &[Bits(0)], &[]),
+        (Unshifted, &[Bits(1)], &[0xFD]),
+        (Unshifted, &[Bits(0), Bits(1)], &[0xFC, 0xFD]),
+        // "a$b" where U+0024 is shifted, "ab", "a b"
+        (
+            MayShift,
+            &[Bits(0), Shifted(0x1E10_0000), Bits(0)],
+            &[0x1C, 0x1B, 0x1E, 0x10, 0x1C],
+        ),
+        (MayShift, &[Bits(0), Bits(0)], &[0x1D]),
+        (
+            MayShift,
+            &[Bits(0), Shifted(0x0310_0000), Bits(0)],
+            &[0x1C, 0x03, 0x10, 0x1C],
+        ),
+    ];
+    for (form, weights, bytes) in &rows {
+        let mut level = HeldQuaternaries::new(rt.alloc(), *form);
+        for weight in *weights {
+            if let Bits(bits) = *weight {
+                assert!(rt; bits < 4);
+            }
+            level.push(*weight)?;
         }
+        assert_eq!(rt; level.finish()?.as_slice(), *bytes);
     }
-
-    fn is_compressible(&self, lead: u8) -> bool {
-        lead >= 0x61 && lead <= 0x66
-    }
+    Ok(())
 }
 
 #[test]

@@ -4,23 +4,28 @@ ghost use Rattle.std.specs.Prelude.{◌≡◌, ◌++◌, IsOk};
 ghost use Rattle.icu_keys.specs.Sinks.{TakesBeginning};
 ghost use Rattle.icu_keys.specs.ListSinkLaws.{appended_nothing, appended_both};
 
+use crate::error::SortKeyError;
+use crate::held::secondaries::HeldSecondaries;
 use crate::identical::IdenticalWriter;
+use crate::parts::{write_closed_level, write_opened_level};
 use crate::secondaries::SecondaryWriter;
 use crate::sink::CollationKeySink;
 use crate::slice_sink::TooSmall;
-use crate::tertiaries::{TertiaryForm, TertiaryWriter};
+use crate::tertiaries::TertiaryWriter;
+use icu_levels::forms::TertiaryForm;
 use smallvec::SmallVec;
+use std::alloc::AllocError;
 use std::collections::VecDeque;
 use std::process::Abort;
 use std::test::Fail;
 
-// The key of "áAbc" at the identical strength.
+/// The key of "áAbc" at the identical strength.
 static KEY: [u8; 25] = [
     0x61, 0x10, 0x10, 0x14, 0x18, 0x01, 0x45, 0x47, 0x07, 0x01, 0x01, 0xC4, 0xDC, 0x06, 0x01, 0x01,
     0x01, 0x01, 0x92, 0xD4, 0xBA, 0x2D, 0xE8, 0x93, 0x94,
 ];
 
-// Its secondary level with its two separators.
+/// Its secondary level with its two separators.
 fn write_middle<S: CollationKeySink>(sink: &mut S, state: &mut S::State) -> Result<(), S::Error>
     requires { S.is_sound sink.old state.old }
     ensures { S.is_sound sink.new state.new }
@@ -36,13 +41,13 @@ fn write_middle<S: CollationKeySink>(sink: &mut S, state: &mut S::State) -> Resu
     sink.write_byte(state, 1)
 }
 
-// Its tertiary level with its two separators.
+/// Its tertiary level with its two separators.
 fn write_third<S: CollationKeySink>(sink: &mut S, state: &mut S::State) -> Result<(), S::Error>
     requires { S.is_sound sink.old state.old }
     ensures { S.is_sound sink.new state.new }
 {
     sink.write_byte(state, 1)?;
-    let mut writer = TertiaryWriter::new(TertiaryForm::Plain);
+    let mut writer = TertiaryWriter::new(TertiaryForm::WithoutCase);
     writer.push(sink, state, 0x500)?;
     writer.push(sink, state, 0x500)?;
     writer.push(sink, state, 0x1C00)?;
@@ -52,7 +57,7 @@ fn write_third<S: CollationKeySink>(sink: &mut S, state: &mut S::State) -> Resul
     sink.write_byte(state, 1)
 }
 
-// Its identical level, after the two separators of a quaternary level of which nothing is written.
+/// Its identical level, after the two separators of a quaternary level of which nothing is written.
 fn write_last<S: CollationKeySink>(sink: &mut S, state: &mut S::State) -> Result<(), S::Error>
     requires { S.is_sound sink.old state.old }
     ensures { S.is_sound sink.new state.new }
@@ -66,7 +71,7 @@ fn write_last<S: CollationKeySink>(sink: &mut S, state: &mut S::State) -> Result
     writer.push(sink, state, 'c')
 }
 
-// The whole key.
+/// The whole key.
 fn write_key<S: CollationKeySink>(sink: &mut S) -> Result<S::Output, S::Error> {
     let mut state = S::State::default();
     sink.write(&mut state, &[0x61, 0x10, 0x10, 0x14, 0x18])?;
@@ -102,14 +107,14 @@ fn lists_keep_what_they_hold(rt: HostRuntime) -> Result<(), Fail> {
     Ok(())
 }
 
-// Writes the key into a slice of 7F, and looks at the answer and at what the slice holds.
+/// Writes the key into a slice of 7F, and looks at what it returns and at what the slice holds.
 fn try_slice(rt: &impl Abort, mut slice: &mut [u8]) {
     let length = slice.len();
-    let answer = write_key(&mut slice);
+    let result = write_key(&mut slice);
     if length < 25 {
-        assert_eq!(rt; answer, Err(TooSmall::new(25)), "into {length}");
+        assert_eq!(rt; result, Err(TooSmall::new(25)), "into {length}");
     } else {
-        assert_eq!(rt; answer, Ok(25));
+        assert_eq!(rt; result, Ok(25));
     }
     // a beginning of the key, then the old bytes
     let mut in_key = true;
@@ -139,14 +144,14 @@ fn greatest_offset_stays(rt: HostRuntime) -> Result<(), Fail> {
     Ok(())
 }
 
-// Why the sink of the test took no more.
+/// Why the sink of the test took no more.
 #[derive(Debug, PartialEq, Eq, Drop)]
 enum Stopped {
     Full,
     NoMemory,
 }
 
-// Takes what fits into so many bytes, and then refuses.
+/// Takes what fits into so many bytes, and then refuses.
 #[derive(Drop)]
 struct Limited {
     taken: Vec<u8>,
@@ -203,9 +208,9 @@ fn sinks_that_refuse(rt: HostRuntime) -> Result<(), Fail> {
             taken: Vec::new(rt.alloc()),
             limit,
         };
-        let answer = write_key(&mut sink);
+        let result = write_key(&mut sink);
         assert_eq!(rt;
-            answer,
+            result,
             if limit < 25 {
                 Err(Stopped::Full)
             } else {
@@ -216,5 +221,61 @@ fn sinks_that_refuse(rt: HostRuntime) -> Result<(), Fail> {
         assert!(rt; limit <= KEY.len());
         assert_eq!(rt; sink.taken.as_slice(), &KEY[..limit], "at {limit}");
     }
+    Ok(())
+}
+
+/// A held level in a sink that has room for so many of its four bytes, and one whose list ran out of memory.
+#[test]
+fn parts_that_are_refused(rt: HostRuntime) -> Result<(), Fail> {
+    for limit in 0..5 {
+        let mut sink = Limited {
+            taken: Vec::new(rt.alloc()),
+            limit,
+        };
+        let mut level = HeldSecondaries::new(rt.alloc());
+        level.push(0x0500)?;
+        level.push(0x4700)?;
+        let result = write_opened_level(&mut sink, &mut (), level.finish());
+        assert_eq!(rt;
+            result,
+            if limit < 3 {
+                Err(SortKeyError::Sink(Stopped::Full))
+            } else {
+                Ok(())
+            },
+            "at {limit}"
+        );
+
+        let mut sink = Limited {
+            taken: Vec::new(rt.alloc()),
+            limit,
+        };
+        let mut level = HeldSecondaries::new(rt.alloc());
+        level.push(0x0500)?;
+        level.push(0x4700)?;
+        let result = write_closed_level(&mut sink, &mut (), level.finish());
+        assert_eq!(rt;
+            result,
+            if limit < 4 {
+                Err(SortKeyError::Sink(Stopped::Full))
+            } else {
+                Ok(())
+            },
+            "at {limit}"
+        );
+    }
+    let mut sink = Limited {
+        taken: Vec::new(rt.alloc()),
+        limit: 4,
+    };
+    assert_eq!(rt;
+        write_opened_level(&mut sink, &mut (), Err(AllocError)),
+        Err(SortKeyError::NoMemory)
+    );
+    assert_eq!(rt;
+        write_closed_level(&mut sink, &mut (), Err(AllocError)),
+        Err(SortKeyError::NoMemory)
+    );
+    assert_eq!(rt; sink.taken.len(), 0);
     Ok(())
 }

@@ -1,5 +1,5 @@
 use Rattle.std.proofs.Common.{IfSome, sym, ap, ◌∙◌, subst}
-use Rattle.icu_entries.specs.Elements.{accent_element}
+use Rattle.icu_entries.specs.Elements.{of_secondary}
 use Rattle.icu_checks.specs.TableSets.{tables_in}
 use Rattle.icu_checks.specs.Faults.{IsTrueFault}
 use Rattle.icu_checks.proofs.LentFaultLemmas.{lent_accent, lent_accent_true}
@@ -7,9 +7,9 @@ use Rattle.icu_checks.proofs.live_faults.accent_fault.Goals as goal
 
 pub returns-else-is_replaced_place-clause-none : goal.returns-else-is_replaced_place-clause-none
 returns-else-is_replaced_place-clause-none c = λ h.
-    lent_accent c.args.tables c.args.place _ (c.new_from_secondary-element.ensures ∙ ap accent_element c.requires.secondary) (sym c.element_fault.ensures ∙ h)
+    lent_accent c.args.tables c.args.place _ (c.new_from_secondary-element.ensures ∙ ap of_secondary c.requires.secondary) (sym c.element_fault.ensures ∙ h)
 
 pub returns-else-is_replaced_place-clause-some : goal.returns-else-is_replaced_place-clause-some
 returns-else-is_replaced_place-clause-some c =
     subst (λ o. IfSome o (IsTrueFault (tables_in c.args.tables))) (sym c.element_fault.ensures)
-    (lent_accent_true c.args.tables c.args.place c.requires.inside (sym c.is_replaced_place.ensures ∙ c.if-is_replaced_place.false) _ (c.new_from_secondary-element.ensures ∙ ap accent_element c.requires.secondary))
+    (lent_accent_true c.args.tables c.args.place c.requires.inside (sym c.is_replaced_index.ensures ∙ c.if-is_replaced_place.false) _ (c.new_from_secondary-element.ensures ∙ ap of_secondary c.requires.secondary))

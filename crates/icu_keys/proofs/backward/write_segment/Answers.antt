@@ -2,10 +2,9 @@ use Rattle.std.proofs.Common.{ℕ, ◌-◌, ◌≡◌, [], ◌∷◌, List, leng
 use Rattle.std.proofs.lemmas.List.{nil_from_length, length-take-le}
 use Rattle.std.proofs.lemmas.Result.{err_from_is_err_and}
 use Rattle.icu_levels.specs.Secondaries.{secondary_level}
-use Rattle.icu_keys.specs.SecondaryWriters.{secondary_rest}
-use Rattle.icu_keys.specs.Writes.{Owes}
+use Rattle.icu_keys.specs.WriterRests.{secondary_rest}
 use Rattle.icu_keys.proofs.SegmentLemmas.{reverse_last}
-use Rattle.icu_keys.proofs.Writing.{owes_fed, owes_fails, owes_written}
+use Rattle.icu_keys.proofs.Writing.{Owes, owes_fed, owes_fails, owes_written}
 use Rattle.icu_keys.proofs.backward.write_segment.Goals as goal
 
 pub offset_bounds-left-left : goal.offset_bounds-left-left

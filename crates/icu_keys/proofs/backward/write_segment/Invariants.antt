@@ -1,7 +1,7 @@
 use Rattle.std.proofs.Common.{◌≤◌, length, reverse}
 use Rattle.icu_levels.specs.Secondaries.{secondary_level}
-use Rattle.icu_keys.specs.SecondaryWriters.{secondary_rest}
-use Rattle.icu_keys.specs.Writes.{Owes}
+use Rattle.icu_keys.specs.WriterRests.{secondary_rest}
+use Rattle.icu_keys.proofs.Writing.{Owes}
 use Rattle.icu_keys.proofs.backward.write_segment.Given as goal
 
 -- what the weights that are left give is still owed

@@ -1,6 +1,7 @@
 use Rattle.std.proofs.Common.{◌∙◌, ap, sym, drop, take, get_or}
 use Rattle.icu_levels.specs.WeightBytes.{without_last_zeros}
-use Rattle.icu_keys.proofs.PrimarySteps.{same_lead, below_lead_digits, lead_first}
+use Rattle.icu_levels.proofs.CompressionOrder.{same_lead}
+use Rattle.icu_keys.proofs.PrimarySteps.{below_lead_digits, lead_first}
 use Rattle.icu_keys.proofs.Writing.{writes_one, writes_same}
 use Rattle.icu_keys.proofs.primaries.write_primary.Goals as goal
 

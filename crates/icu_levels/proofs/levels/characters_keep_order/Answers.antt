@@ -1,7 +1,7 @@
 use Rattle.std.proofs.Common.{map}
 use Rattle.icu_levels.specs.ListOrder.{list_order}
 use Rattle.icu_levels.specs.Identical.{identical_level, identical_rank}
-use Rattle.icu_levels.specs.Keys.{Tells}
+use Rattle.icu_levels.specs.Keys.{Determines}
 use Rattle.icu_levels.proofs.Order.{tied_lists}
 use Rattle.icu_levels.proofs.IdenticalOrder.{identical_order, same_from_ranks}
 use Rattle.icu_levels.proofs.KeepLemmas.{tie}
@@ -9,10 +9,10 @@ use Rattle.icu_levels.proofs.levels.characters_keep_order.Goals as goal
 
 pub returns : goal.returns
 returns c cs ds p q =
-    let tells : Tells (identical_level cs) (identical_level ds) (list_order (map identical_rank cs) (map identical_rank ds)) =
+    let determined : Determines (identical_level cs) (identical_level ds) (list_order (map identical_rank cs) (map identical_rank ds)) =
     λ s t u v. identical_order cs ds s t p q u v in (
-      tells,
+      determined,
       λ same. same_from_ranks cs ds
           (tied_lists (map identical_rank cs) (map identical_rank ds)
-          (tie (identical_level cs) (identical_level ds) (list_order (map identical_rank cs) (map identical_rank ds)) tells same)),
+          (tie (identical_level cs) (identical_level ds) (list_order (map identical_rank cs) (map identical_rank ds)) determined same)),
     )

@@ -1,11 +1,10 @@
 use Rattle.std.proofs.Common.{map}
 use Rattle.icu_levels.specs.Primaries.{primary_level}
-use Rattle.icu_levels.specs.Premises.{Passes}
 use Rattle.icu_levels.proofs.PrimaryOrder.{primary_order}
 use Rattle.icu_levels.proofs.KeepLemmas.{keeps}
 use Rattle.icu_levels.proofs.levels.primaries_keep_order.Goals as goal
 
 pub returns : goal.returns
-returns g c numeric live good vs ws p q =
-    keeps (primary_level c 0 vs) (primary_level c 0 ws) (map c.reorder vs) (map c.reorder ws)
-    (λ s t u v. primary_order c numeric (Passes live) good vs ws s t p q u v)
+returns g c k numeric good vs ws p q =
+    keeps (primary_level k 0 vs) (primary_level k 0 ws) (map k.reorder vs) (map k.reorder ws)
+    (λ s t u v. primary_order k numeric g.W.LevelWeights.is_live good vs ws s t p q u v)

@@ -1,13 +1,12 @@
 use Rattle.icu_levels.specs.ListOrder.{segments_order}
 use Rattle.icu_levels.specs.Secondaries.{backward_level}
-use Rattle.icu_levels.specs.Keys.{Tells}
-use Rattle.icu_levels.specs.Premises.{Passes}
+use Rattle.icu_levels.specs.Keys.{Determines}
 use Rattle.icu_levels.proofs.SecondaryOrder.{backward_order}
 use Rattle.icu_levels.proofs.KeepLemmas.{tie, tied_segments}
 use Rattle.icu_levels.proofs.levels.segments_keep_order.Goals as goal
 
 pub returns : goal.returns
-returns c live good vss wss p q l m =
-    let tells : Tells (backward_level vss) (backward_level wss) (segments_order vss wss) =
-    λ s t u v. backward_order (Passes live) good vss wss s t l m p q u v in
-    (tells, λ same. tied_segments vss wss (tie (backward_level vss) (backward_level wss) (segments_order vss wss) tells same))
+returns g c good vss wss p q l m =
+    let determined : Determines (backward_level vss) (backward_level wss) (segments_order vss wss) =
+    λ s t u v. backward_order g.W.LevelWeights.is_live good vss wss s t l m p q u v in
+    (determined, λ same. tied_segments vss wss (tie (backward_level vss) (backward_level wss) (segments_order vss wss) determined same))

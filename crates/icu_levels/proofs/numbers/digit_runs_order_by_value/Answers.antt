@@ -1,10 +1,9 @@
-use Rattle.icu_levels.specs.Premises.{Passes}
 use Rattle.icu_levels.proofs.DigitRuns.{runs_by_value}
 use Rattle.icu_levels.proofs.ReorderedNumbers.{moved_runs_by_value}
 use Rattle.icu_levels.proofs.numbers.digit_runs_order_by_value.Goals as goal
 
 pub returns : goal.returns
-returns g = record {
+returns g c = record {
   before = λ numeric ds es p q. runs_by_value numeric ds es p.digits q.digits p.some q.some p.short q.short;
-  reordered = λ c numeric live good n ds es p q. moved_runs_by_value c numeric (Passes live) good n ds es p q;
+  reordered = λ k numeric good n ds es p q. moved_runs_by_value k numeric g.W.LevelWeights.is_live good n ds es p q;
 }

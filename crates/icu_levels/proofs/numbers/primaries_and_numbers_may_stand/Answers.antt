@@ -1,12 +1,11 @@
-use Rattle.icu_levels.specs.Premises.{Passes}
 use Rattle.icu_levels.proofs.NumberStands.{number_stands}
 use Rattle.icu_levels.proofs.DigitRuns.{run_stands}
 use Rattle.icu_levels.proofs.ReorderedNumbers.{live_stands}
 use Rattle.icu_levels.proofs.numbers.primaries_and_numbers_may_stand.Goals as goal
 
 pub returns : goal.returns
-returns g = record {
-  live = λ c numeric live good w ws p rest. live_stands c numeric (Passes live) good w ws p rest;
-  numbers = λ numeric live n v ws l rest. number_stands numeric n (Passes live) ws rest v l;
-  runs = λ numeric live n ds ws digits rest. run_stands numeric n (Passes live) ws rest ds digits;
+returns g c = record {
+  live = λ k numeric good w ws p rest. live_stands k numeric g.W.LevelWeights.is_live good w ws p rest;
+  numbers = λ numeric n v ws l rest. number_stands numeric n g.W.LevelWeights.is_live ws rest v l;
+  runs = λ numeric n ds ws digits rest. run_stands numeric n g.W.LevelWeights.is_live ws rest ds digits;
 }

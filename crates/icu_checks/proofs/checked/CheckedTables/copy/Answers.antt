@@ -1,6 +1,6 @@
 use Rattle.std.proofs.Common.{◌≡◌, option_map, sym, subst}
 use Rattle.icu_data.specs.StoredData.{data_of}
-use Rattle.icu_provider.specs.StoredTables.{jamo_of, accents_of, special_of, reordering_of}
+use Rattle.icu_provider.specs.StoredTables.{jamo_of, diacritics_of, special_of, reordering_of}
 use Rattle.icu_checks.specs.Kept.{kept_data, kept_jamo, kept_accents, kept_reordering, kept_special}
 use Rattle.icu_checks.specs.GoodTables.{IsGoodTables}
 use Rattle.icu_checks.proofs.KeptLemmas.{held, same_tables}
@@ -15,7 +15,7 @@ invariant_of-result c =
     (held (λ k. kept_special k ≡ special_of s.special) _ _ c.in_ok-special.ensures.kept c.copy-3.ensures)
     (held (λ k. option_map kept_data k ≡ option_map data_of s.tailoring) _ _ c.in_ok-tailoring.ensures.kept c.kept_tailoring.ensures)
     (held (λ k. option_map kept_reordering k ≡ option_map reordering_of s.reordering) _ _ c.in_ok-reordering.ensures.kept c.kept_reordering.ensures)
-    (held (λ k. kept_accents k ≡ accents_of s.diacritics) _ _ c.in_ok-diacritics.ensures.kept c.copy-4.ensures) in
+    (held (λ k. kept_accents k ≡ diacritics_of s.diacritics) _ _ c.in_ok-diacritics.ensures.kept c.copy-4.ensures) in
     record { good = subst IsGoodTables (sym same) c.requires }
 
 pub returns-clause-keeps : goal.returns-clause-keeps
@@ -27,5 +27,5 @@ returns-clause-keeps c =
     (held (λ k. kept_special k ≡ special_of s.special) _ _ c.in_ok-special.ensures.kept c.copy-3.ensures)
     (held (λ k. option_map kept_data k ≡ option_map data_of s.tailoring) _ _ c.in_ok-tailoring.ensures.kept c.kept_tailoring.ensures)
     (held (λ k. option_map kept_reordering k ≡ option_map reordering_of s.reordering) _ _ c.in_ok-reordering.ensures.kept c.kept_reordering.ensures)
-    (held (λ k. kept_accents k ≡ accents_of s.diacritics) _ _ c.in_ok-diacritics.ensures.kept c.copy-4.ensures) in
+    (held (λ k. kept_accents k ≡ diacritics_of s.diacritics) _ _ c.in_ok-diacritics.ensures.kept c.copy-4.ensures) in
     same

@@ -1,5 +1,5 @@
 use Rattle.std.proofs.Common.{◌++◌, option_to_list, sym}
-use Rattle.icu_keys.specs.CaseWeights.{case_row}
+use Rattle.icu_levels.specs.Cases.{case_runs}
 use Rattle.icu_keys.proofs.CaseSteps.{end_case}
 use Rattle.icu_keys.proofs.Writing.{writes_same}
 use Rattle.icu_keys.proofs.cases.CaseWriter.close.Goals as goal
@@ -7,7 +7,7 @@ use Rattle.icu_keys.proofs.cases.CaseWriter.close.Goals as goal
 pub returns-clause-bytes : goal.returns-clause-bytes
 returns-clause-bytes g c =
     writes_same g.S.CollationKeySink.took g.S.CollationKeySink.refused _ _ _ _ _ (option_to_list c.add_optional-first.result ++ option_to_list c.last.result) _
-    (end_case (case_row c.args.self.form) c.row-row.result c.args.self.run.length (option_to_list c.args.self.nibbles.held) (option_to_list c.end-last.result)
+    (end_case (case_runs c.args.self.form) c.runs_of-runs.result c.args.self.run.length (option_to_list c.args.self.nibbles.held) (option_to_list c.end-last.result)
     (option_to_list c.add_optional-first.result) (option_to_list c.add_optional-first.new.self.held) (option_to_list c.last.result)
-    (sym c.row-row.ensures) c.end-last.ensures.bytes c.add_optional-first.ensures c.last.ensures)
+    (sym c.runs_of-runs.ensures) c.end-last.ensures.bytes c.add_optional-first.ensures c.last.ensures)
     c.write_both.ensures.bytes

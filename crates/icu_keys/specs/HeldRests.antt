@@ -1,0 +1,39 @@
+-- The bytes of a level that is held until its end, given what it is still to be fed.
+use Rattle.std.specs.Prelude.{◌&&◌, if◌then◌else◌, ℕ, ◌^◌, List, [], ◌++◌}
+use Rattle.icu_levels.specs.Cases.{is_only, case_runs}
+use Rattle.icu_levels.specs.declared.forms.CaseForm.{CaseForm}
+use Rattle.icu_levels.specs.declared.forms.TertiaryForm.{TertiaryForm}
+use Rattle.icu_keys.specs.WriterRests.{secondary_rest, backward_rest, case_rest, case_form_of, tertiary_rest, tertiary_form_of, quaternary_rest}
+use Rattle.icu_keys.specs.declared.held.secondaries.HeldSecondaries.{HeldSecondaries}
+use Rattle.icu_keys.specs.declared.held.backward.HeldSegments.{HeldSegments}
+use Rattle.icu_keys.specs.declared.held.cases.HeldCases.{HeldCases}
+use Rattle.icu_keys.specs.declared.held.tertiaries.HeldTertiaries.{HeldTertiaries}
+use Rattle.icu_keys.specs.declared.held.quaternaries.HeldQuaternaries.{HeldQuaternaries}
+
+-- further secondaries
+abbrev pub held_secondaries : HeldSecondaries → List ℕ → List ℕ
+held_secondaries l ws = l.bytes.items ++ secondary_rest l.writer ws
+
+-- further secondaries of the segment at hand, and the segments after it, each in the order of the text
+abbrev pub held_segments : HeldSegments → List ℕ × List (List ℕ) → List ℕ
+held_segments l rest = l.bytes.items ++ backward_rest l.writer rest
+
+-- The form of the level, and further ranks: nothing is written where all before them is common and all of them is
+abbrev pub held_case_form : HeldCases → CaseForm
+held_case_form l = case_form_of l.writer
+
+abbrev pub held_cases : HeldCases → List ℕ → List ℕ
+held_cases l ranks =
+    if l.vanishes && is_only (case_runs (held_case_form l)).common ranks then [] else l.bytes.items ++ case_rest l.writer ranks
+
+-- the form of the level, and further tertiaries as it has them
+abbrev pub held_tertiary_form : HeldTertiaries → TertiaryForm
+held_tertiary_form l = tertiary_form_of l.writer
+
+abbrev pub held_tertiaries : HeldTertiaries → List ℕ → List ℕ
+held_tertiaries l ws = l.bytes.items ++ tertiary_rest l.writer ws
+
+-- further quaternaries: nothing is written where all before them is common and all of them is
+abbrev pub held_quaternaries : HeldQuaternaries → List ℕ → List ℕ
+held_quaternaries l ws =
+    if l.vanishes && is_only (2 ^ 32) ws then [] else l.bytes.items ++ quaternary_rest l.writer ws

@@ -1,0 +1,60 @@
+//! The case level, held until its end.
+
+ghost use Rattle.std.specs.Prelude.{◌≡◌, ℕ, List, [], ◌∷◌, OnOk, IfOk};
+ghost use Rattle.icu_levels.specs.Cases.{case_level};
+ghost use Rattle.icu_keys.specs.Cases.{rank_of};
+
+use crate::cases::{CaseWriter, LetterCase};
+use crate::held::INLINE;
+use icu_levels::forms::CaseForm;
+use smallvec::SmallVec;
+use std::alloc::{AllocError, Global};
+
+/// The case level of a text. With lower case first nothing is written for lower case alone, which only the end
+/// decides (UTS #35 part 5, "Case Parameters").
+#[derive(Debug, Drop)]
+pub struct HeldCases {
+    writer: CaseWriter,
+    bytes: SmallVec<u8, INLINE>,
+    vanishes: bool,
+}
+
+impl HeldCases {
+    ghost use Rattle.icu_keys.specs.HeldRests.{held_cases, held_case_form};
+
+    /// A level of this form, with no case. It allocates nothing.
+    pub fn new(alloc: Global, form: CaseForm) -> Self
+        ensures form { held_case_form result ≡ form }
+        ensures begins { (ranks : List ℕ) → held_cases result ranks ≡ case_level form ranks }
+    {
+        HeldCases {
+            writer: CaseWriter::new(form),
+            bytes: SmallVec::new(alloc),
+            vanishes: form == CaseForm::LowerFirst,
+        }
+    }
+
+    /// Adds the next case. After an error, discard the level.
+    pub fn push(&mut self, case: LetterCase) -> Result<(), AllocError>
+        ensures form { held_case_form self.new ≡ held_case_form self.old }
+        ensures bytes { OnOk result ((ranks : List ℕ) →
+            held_cases self.old (rank_of (held_case_form self.old) case ∷ ranks)
+            ≡ held_cases self.new ranks) }
+    {
+        self.vanishes = self.vanishes && case == LetterCase::Lower;
+        self.writer.push(&mut self.bytes, &mut (), case)
+    }
+
+    /// Ends the level, and returns its bytes.
+    pub fn finish(self) -> Result<SmallVec<u8, INLINE>, AllocError>
+        ensures { IfOk result (λ bytes. bytes.items ≡ held_cases self []) }
+    {
+        let mut bytes = self.bytes;
+        if self.vanishes {
+            bytes.clear();
+            return Ok(bytes);
+        }
+        self.writer.close(&mut bytes, &mut ())?;
+        Ok(bytes)
+    }
+}

@@ -1,0 +1,58 @@
+//! The quaternary level, held until its end.
+
+ghost use Rattle.std.specs.Prelude.{◌≡◌, ℕ, ◌+◌, ◌≤◌, ◌^◌, List, [], ◌∷◌, OnOk, IfOk};
+ghost use Rattle.icu_levels.specs.Quaternaries.{quaternary_level};
+ghost use Rattle.icu_keys.specs.QuaternaryWeights.{weight_of};
+
+use crate::held::INLINE;
+use crate::quaternaries::{QuaternaryWeight, QuaternaryWriter};
+use icu_levels::forms::QuaternaryForm;
+use smallvec::SmallVec;
+use std::alloc::{AllocError, Global};
+
+/// The quaternary level of a text. Where no element is shifted nothing is written for common weights alone, which only
+/// the end decides (UTS #10, "Variable Weighting").
+#[derive(Debug, Drop)]
+pub struct HeldQuaternaries {
+    writer: QuaternaryWriter,
+    bytes: SmallVec<u8, INLINE>,
+    vanishes: bool,
+}
+
+impl HeldQuaternaries {
+    ghost use Rattle.icu_keys.specs.HeldRests.{held_quaternaries};
+
+    /// A level of this form, with no weight. It allocates nothing.
+    pub fn new(alloc: Global, form: QuaternaryForm) -> Self
+        ensures { (ws : List ℕ) → held_quaternaries result ws ≡ quaternary_level form ws }
+    {
+        HeldQuaternaries {
+            writer: QuaternaryWriter::new(),
+            bytes: SmallVec::new(alloc),
+            vanishes: form == QuaternaryForm::Unshifted,
+        }
+    }
+
+    /// Adds the next weight. After an error, discard the level.
+    pub fn push(&mut self, weight: QuaternaryWeight) -> Result<(), AllocError>
+        requires { weight_of weight ≤ 2 ^ 32 + 3 }
+        ensures { OnOk result ((ws : List ℕ) →
+            held_quaternaries self.old (weight_of weight ∷ ws) ≡ held_quaternaries self.new ws) }
+    {
+        self.vanishes = self.vanishes && weight.is_common();
+        self.writer.push(&mut self.bytes, &mut (), weight)
+    }
+
+    /// Ends the level, and returns its bytes.
+    pub fn finish(self) -> Result<SmallVec<u8, INLINE>, AllocError>
+        ensures { IfOk result (λ bytes. bytes.items ≡ held_quaternaries self []) }
+    {
+        let mut bytes = self.bytes;
+        if self.vanishes {
+            bytes.clear();
+            return Ok(bytes);
+        }
+        self.writer.close(&mut bytes, &mut ())?;
+        Ok(bytes)
+    }
+}

@@ -1,0 +1,110 @@
+//! The parts of a key: a level between the bytes that open and close it, and the end.
+
+ghost use Rattle.std.specs.Prelude.{◌≡◌, ℕ, List, IfOk, IfErr, IsErr};
+ghost use Rattle.icu_levels.specs.Keys.{part_bytes, opened, closed};
+ghost use Rattle.icu_keys.specs.Writes.{Writes};
+ghost use Rattle.icu_keys.specs.KeyWrites.{KeyWrites, WritesKey};
+
+use crate::error::SortKeyError;
+use crate::held::INLINE;
+use crate::sink::CollationKeySink;
+use smallvec::SmallVec;
+use std::alloc::AllocError;
+
+/// The byte that opens a level, and closes one.
+const LEVEL: u8 = 1;
+
+/// Writes a level after the byte that opens it. An error is the sink's own.
+pub fn write_opened<S: CollationKeySink>(
+    sink: &mut S,
+    state: &mut S::State,
+    bytes: &[u8],
+) -> Result<(), S::Error>
+    requires { S.is_sound sink.old state.old }
+    ensures sound { S.is_sound sink.new state.new }
+    ensures bytes { Writes S.took S.refused sink.old state.old (part_bytes (opened bytes.now))
+        result sink.new state.new }
+{
+    sink.write_byte(state, LEVEL)?;
+    sink.write(state, bytes)
+}
+
+/// Writes a level between the bytes that open and close it. An error is the sink's own.
+pub fn write_closed<S: CollationKeySink>(
+    sink: &mut S,
+    state: &mut S::State,
+    bytes: &[u8],
+) -> Result<(), S::Error>
+    requires { S.is_sound sink.old state.old }
+    ensures sound { S.is_sound sink.new state.new }
+    ensures bytes { Writes S.took S.refused sink.old state.old (part_bytes (closed bytes.now))
+        result sink.new state.new }
+{
+    write_opened(sink, state, bytes)?;
+    sink.write_byte(state, LEVEL)
+}
+
+/// Writes a held level, opened, as its `finish` returned it.
+pub fn write_opened_level<S: CollationKeySink>(
+    sink: &mut S,
+    state: &mut S::State,
+    level: Result<SmallVec<u8, INLINE>, AllocError>,
+) -> Result<(), SortKeyError<S::Error>>
+    requires { S.is_sound sink.old state.old }
+    ensures sound { S.is_sound sink.new state.new }
+    ensures memory { IfErr result (λ error. error ≡ SortKeyError.NoMemory → IsErr level) }
+    ensures bytes { (wanted : List ℕ) → IfOk level (λ bytes. bytes.items ≡ wanted) →
+        KeyWrites S.took S.refused sink.old state.old (part_bytes (opened wanted))
+        result sink.new state.new }
+{
+    match level {
+        Ok(bytes) => match write_opened(sink, state, bytes.as_slice()) {
+            Ok(()) => Ok(()),
+            Err(error) => Err(SortKeyError::Sink(error)),
+        },
+        Err(_) => Err(SortKeyError::NoMemory),
+    }
+}
+
+/// Writes a held level, opened and closed, as its `finish` returned it.
+pub fn write_closed_level<S: CollationKeySink>(
+    sink: &mut S,
+    state: &mut S::State,
+    level: Result<SmallVec<u8, INLINE>, AllocError>,
+) -> Result<(), SortKeyError<S::Error>>
+    requires { S.is_sound sink.old state.old }
+    ensures sound { S.is_sound sink.new state.new }
+    ensures memory { IfErr result (λ error. error ≡ SortKeyError.NoMemory → IsErr level) }
+    ensures bytes { (wanted : List ℕ) → IfOk level (λ bytes. bytes.items ≡ wanted) →
+        KeyWrites S.took S.refused sink.old state.old (part_bytes (closed wanted))
+        result sink.new state.new }
+{
+    match level {
+        Ok(bytes) => match write_closed(sink, state, bytes.as_slice()) {
+            Ok(()) => Ok(()),
+            Err(error) => Err(SortKeyError::Sink(error)),
+        },
+        Err(_) => Err(SortKeyError::NoMemory),
+    }
+}
+
+/// Ends a key, as the call that wrote it returned.
+pub fn end_key<S: CollationKeySink>(
+    sink: &mut S,
+    state: S::State,
+    written: Result<(), SortKeyError<S::Error>>,
+) -> Result<S::Output, SortKeyError<S::Error>>
+    requires { S.is_sound sink.old state }
+    ensures memory { IfErr result (λ error. error ≡ SortKeyError.NoMemory → IsErr written) }
+    ensures key { (x : S) (s : S.State) (bytes : List ℕ) → S.State.is_default s →
+        KeyWrites S.took S.refused x s bytes written sink.old state →
+        WritesKey S.took S.refused S.finished S.State.is_default x bytes result sink.new }
+{
+    match written {
+        Ok(()) => match sink.finish(state) {
+            Ok(output) => Ok(output),
+            Err(error) => Err(SortKeyError::Sink(error)),
+        },
+        Err(error) => Err(error),
+    }
+}

@@ -1,0 +1,145 @@
+//! Tables, collators and comparisons.
+use crate::stop::{Stop, twice};
+use icu_checks::{CheckedTables, load_tables};
+use icu_comparison::Collator;
+use icu_entries::{DataError, DataErrorKind, DataTable};
+use icu_mini::mini::Mini;
+use icu_options::{CollatorOptions, CollatorPreferences, Strength};
+use std::alloc::{AllocError, Global};
+use std::cmp::Ordering;
+
+/// How many characters a long text has.
+const LONG: usize = 10_000;
+
+fn name_of(table: DataTable) -> &'static str {
+    match table {
+        DataTable::Root => "Root",
+        DataTable::Jamo => "Jamo",
+        DataTable::SpecialPrimaries => "SpecialPrimaries",
+        DataTable::Metadata => "Metadata",
+        DataTable::Tailoring => "Tailoring",
+        DataTable::Reordering => "Reordering",
+        DataTable::Diacritics => "Diacritics",
+    }
+}
+
+/// Says which table a refusal names. Refused for want of memory, a call may be made again.
+fn may_ask_again(rt: &HostRuntime, refusal: DataError) -> bool {
+    let _ = eprintln!(rt; "refused: {}", name_of(refusal.table));
+    refusal.kind == DataErrorKind::NoMemory
+}
+
+fn stop_of(refusal: DataError) -> Stop {
+    match refusal.kind {
+        DataErrorKind::NoMemory => Stop::NoMemory,
+        _ => Stop::Failed,
+    }
+}
+
+fn try_collator(alloc: Global, mini: &Mini, strength: Strength) -> Result<Collator, DataError> {
+    let options = CollatorOptions {
+        strength: Some(strength),
+        ..CollatorOptions::default()
+    };
+    Collator::try_new_unstable(
+        alloc,
+        &mini.provider(),
+        CollatorPreferences::default(),
+        options,
+    )
+}
+
+/// A collator by these tables.
+pub(crate) fn collator(
+    rt: &HostRuntime,
+    mini: &Mini,
+    strength: Strength,
+) -> Result<Collator, Stop> {
+    match try_collator(rt.alloc(), mini, strength) {
+        Ok(collator) => Ok(collator),
+        Err(refusal) if may_ask_again(rt, refusal) => {
+            try_collator(rt.alloc(), mini, strength).map_err(stop_of)
+        }
+        Err(refusal) => Err(stop_of(refusal)),
+    }
+}
+
+fn try_tables(alloc: Global, mini: &Mini) -> Result<CheckedTables, DataError> {
+    CheckedTables::from_set(alloc, load_tables(&mini.provider(), "", None)?)
+}
+
+/// The tables of a collator, checked.
+fn tables(rt: &HostRuntime, mini: &Mini) -> Result<CheckedTables, Stop> {
+    match try_tables(rt.alloc(), mini) {
+        Ok(tables) => Ok(tables),
+        Err(refusal) if may_ask_again(rt, refusal) => {
+            try_tables(rt.alloc(), mini).map_err(stop_of)
+        }
+        Err(refusal) => Err(stop_of(refusal)),
+    }
+}
+
+fn print_parts(rt: &HostRuntime, name: &str, mini: &Mini) -> Result<(), Stop> {
+    let tables = tables(rt, mini)?;
+    let collator = collator(rt, mini, Strength::Primary)?;
+    let is_primary = collator.as_borrowed().resolved_options().strength == Strength::Primary;
+    println!(rt;
+        "{name}: {} jamo, {} diacritics, tailoring: {}, reordering: {}, primary strength: {is_primary}",
+        tables.jamo().ce32s().len(),
+        tables.diacritics().secondaries().len(),
+        tables.tailoring().is_some(),
+        tables.reordering().is_some()
+    )?;
+    Ok(())
+}
+
+/// Checks and copies tables, and makes collators of them.
+pub(crate) fn run(rt: &HostRuntime) -> Result<(), Stop> {
+    print_parts(rt, "Mini", &twice(|| Mini::new(rt.alloc()))?)?;
+    print_parts(
+        rt,
+        "swapped leads",
+        &twice(|| Mini::with_swapped_leads(rt.alloc()))?,
+    )
+}
+
+fn sign(order: Ordering) -> &'static str {
+    match order {
+        Ordering::Less => "<",
+        Ordering::Equal => "=",
+        Ordering::Greater => ">",
+    }
+}
+
+fn print_order(rt: &HostRuntime, collator: &Collator, left: &str, right: &str) -> Result<(), Stop> {
+    let order = twice(|| collator.as_borrowed().compare(left, right))?;
+    println!(rt; "{}", sign(order))?;
+    Ok(())
+}
+
+/// A text of so many times the same, and then another one.
+fn long_text(alloc: Global, repeated: &str, last: &str) -> Result<String, AllocError> {
+    let mut text = String::new(alloc);
+    for _ in 0..LONG {
+        text.push_str(repeated)?;
+    }
+    text.push_str(last)?;
+    Ok(text)
+}
+
+/// Compares texts, short and long.
+pub(crate) fn compare(rt: &HostRuntime) -> Result<(), Stop> {
+    let mini = twice(|| Mini::new(rt.alloc()))?;
+    let collator = collator(rt, &mini, Strength::Tertiary)?;
+    for (left, right) in [
+        ("ab", "aB"),
+        ("á", "a\u{301}"),
+        ("Di Silva", "diSilva"),
+        ("", "a"),
+    ] {
+        print_order(rt, &collator, left, right)?;
+    }
+    let left = twice(|| long_text(rt.alloc(), "e\u{301}", "b"))?;
+    let right = twice(|| long_text(rt.alloc(), "é", "a"))?;
+    print_order(rt, &collator, left.as_str(), right.as_str())
+}

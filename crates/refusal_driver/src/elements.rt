@@ -1,0 +1,40 @@
+//! The collation elements of texts.
+use crate::collators::collator;
+use crate::stop::{Stop, twice};
+use icu_elements::{CollationElements, ElementTables, all_elements};
+use icu_mini::mini::Mini;
+use icu_options::Strength;
+use std::alloc::AllocError;
+
+/// The first two primary weights of a text, one by one. After a refusal every further call is refused.
+fn first_two(tables: ElementTables<'_>, text: &str) -> Result<(u32, u32), AllocError> {
+    let mut elements = CollationElements::new(text.chars(), tables, None, false);
+    match (elements.next(), elements.next()) {
+        (Ok(first), Ok(second)) => Ok((first.primary(), second.primary())),
+        (Err(_), Ok(_)) => Ok((0, 0)),
+        _ => Err(AllocError),
+    }
+}
+
+/// How many elements a text has.
+fn count(tables: ElementTables<'_>, text: &str) -> Result<usize, AllocError> {
+    Ok(all_elements(tables, text.chars(), None, false)?.len())
+}
+
+/// Reads the elements of texts.
+pub(crate) fn run(rt: &HostRuntime) -> Result<(), Stop> {
+    let mini = twice(|| Mini::new(rt.alloc()))?;
+    let collator = collator(rt, &mini, Strength::Tertiary)?;
+    let tables = collator.as_borrowed().tables();
+    let (first, second) = twice(|| first_two(tables, "ab"))?;
+    println!(rt; "{first:08X} {second:08X}")?;
+    for text in [
+        "",
+        "áb",
+        "\u{AC01}",
+        "di Silva, Di Silva, diSilva, and so on to thirty-two and more",
+    ] {
+        println!(rt; "{} elements", twice(|| count(tables, text))?)?;
+    }
+    Ok(())
+}

@@ -1,0 +1,221 @@
+//! Each public name of the library once, by the path that a caller writes: a name that is lost fails here.
+use icu_collator::comparison::{AnyQuaternaryAccumulator, SortKeyError, TooSmall};
+use icu_collator::elements::{
+    CollationElement, CollationElement32, CollationElements, ElementTables, NonPrimary, Tag,
+};
+use icu_collator::options::{
+    AlternateHandling, CaseLevel, CollatorOptions, CollatorOptionsBitField, MaxVariable,
+    ResolvedCollatorOptions, Strength,
+};
+use icu_collator::preferences::{CollationCaseFirst, CollationNumericOrdering};
+use icu_collator::provider::{
+    CheckedTables, CodePointTable, CollationData, CollationDiacritics, CollationJamo,
+    CollationMetadata, CollationProvider, CollationReordering, CollationSpecialPrimaries, Context,
+    ContextRow, ContextTable, DataError, DataErrorKind, DataRequest, DataTable, TableSet,
+    load_tables,
+};
+use icu_collator::{
+    CollationKeySink, Collator, CollatorBorrowed, CollatorPreferences, comparison, elements,
+    options,
+};
+use icu_mini::mini::Mini;
+use std::cmp::Ordering;
+use std::process::Abort;
+use std::test::Fail;
+
+#[test]
+fn options_have_their_names(rt: HostRuntime) {
+    let mut settings = CollatorOptionsBitField::default();
+    settings.set_strength(Some(Strength::Quaternary));
+    settings.set_max_variable(Some(MaxVariable::Symbol));
+    settings.set_alternate_handling(Some(AlternateHandling::Shifted));
+    settings.set_case_level(Some(false));
+    settings.set_case_level_from_enum(Some(CaseLevel::On));
+    settings.set_case_first(Some(CollationCaseFirst::Upper));
+    settings.set_backward_second_level(Some(true));
+    settings.set_numeric(Some(false));
+    settings.set_numeric_from_enum(Some(CollationNumericOrdering::True));
+    settings.set_defaults(CollatorOptions::default().into());
+    assert_eq!(rt; settings.strength(), Strength::Quaternary);
+    assert_eq!(rt; settings.max_variable(), MaxVariable::Symbol);
+    assert_eq!(rt; settings.alternate_handling(), AlternateHandling::Shifted);
+    assert_eq!(rt; settings.case_first(), CollationCaseFirst::Upper);
+    assert!(rt; settings.case_level() && settings.backward_second_level());
+    assert!(rt; settings.numeric() && settings.upper_first());
+    assert_eq!(rt; settings.tertiary_mask(), Some(0x3F3F));
+    let resolved: ResolvedCollatorOptions = settings.into();
+    assert_eq!(rt;
+        CollatorOptions::from(resolved).strength,
+        Some(Strength::Quaternary)
+    );
+    let preferences: CollatorPreferences<'_> = resolved.into();
+    assert_eq!(rt;
+        preferences.numeric_ordering,
+        Some(CollationNumericOrdering::True)
+    );
+    let merged = options::merged_options(
+        resolved.into(),
+        preferences,
+        CollationMetadata { bits: 0 }.settings(),
+    );
+    assert_eq!(rt; merged.case_first(), CollationCaseFirst::Upper);
+}
+
+#[test]
+fn elements_have_their_names(rt: HostRuntime) {
+    let entry = CollationElement32::new(0x6110_0505);
+    assert_eq!(rt;
+        CollationElement32::new_from_ule([0x05, 0x05, 0x10, 0x61]),
+        entry
+    );
+    assert_eq!(rt; CollationElement32::new(0xCF).tag(), Tag::Implicit);
+    assert_eq!(rt;
+        CollationElement32::new(0xC9).tag_checked(),
+        Some(Tag::Contraction)
+    );
+    let element = CollationElement::new(0x6110_0000_0500_0500);
+    assert_eq!(rt; entry.to_ce_simple_or_long_primary(), Some(element));
+    assert_eq!(rt; entry.to_ce_self_contained(), Some(element));
+    assert_eq!(rt; CollationElement::new_from_primary(0x6110_0000), element);
+    assert_eq!(rt;
+        element.clone_with_non_primary_zeroed().primary(),
+        0x6110_0000
+    );
+    assert_eq!(rt;
+        CollationElement::new_from_secondary(0x4700).secondary(),
+        0x4700
+    );
+    assert!(rt; CollationElement::new_from_secondary(0x4700).either_half_zero());
+    assert!(rt; !CollationElement::new_implicit_from_char('\u{4E00}').tertiary_ignorable());
+    assert_eq!(rt; element.quaternary(), element.non_primary().quaternary());
+    let half = NonPrimary::new(0x0500_8500);
+    assert_eq!(rt; (half.bits(), half.secondary()), (0x0500_8500, 0x0500));
+    assert_eq!(rt; (half.case(), half.tertiary()), (0x8000, 0x0500));
+    assert_eq!(rt; half.tertiary_case_quarternary(0xFF3F), 0x8500);
+    assert_eq!(rt; half.case_quaternary(), 0x8000);
+    assert!(rt; !half.ignorable() && !half.tertiary_ignorable());
+    let mut any = AnyQuaternaryAccumulator::new();
+    any.accumulate(half);
+    assert!(rt; !any.has_quaternary());
+}
+
+#[test]
+fn tables_have_their_names(rt: HostRuntime) {
+    assert_eq!(rt;
+        CodePointTable::new(&[], &[]).err(),
+        Some(DataErrorKind::Length)
+    );
+    let contexts = [Context {
+        default: 0x6110_0505,
+        rows_start: 0,
+        rows_len: 1,
+    }];
+    let rows = [ContextRow {
+        chars_start: 0,
+        chars_len: 1,
+        entry: 0x6210_0505,
+    }];
+    assert!(rt; ContextTable::new(&contexts, &rows, &['\u{30A}']).is_ok());
+    assert_eq!(rt;
+        CollationDiacritics::new(&[0; 80]).err(),
+        Some(DataErrorKind::Length)
+    );
+    assert_eq!(rt; CollationJamo::new(&[]).err(), Some(DataErrorKind::Length));
+    assert_eq!(rt;
+        CollationReordering::new(0, &[], &[]).err(),
+        Some(DataErrorKind::Length)
+    );
+    assert_eq!(rt;
+        CollationSpecialPrimaries::new(&[], 0x0F).err(),
+        Some(DataErrorKind::Length)
+    );
+    let metadata = CollationMetadata { bits: 0x701 };
+    assert_eq!(rt; metadata.max_variable(), MaxVariable::Punctuation);
+    assert!(rt; !metadata.tailored() && !metadata.tailored_diacritics());
+    assert!(rt; !metadata.reordering() && !metadata.lithuanian_dot_above());
+    assert!(rt; !metadata.backward_second_level() && metadata.alternate_shifted());
+    assert_eq!(rt; metadata.case_first(), CollationCaseFirst::Upper);
+}
+
+fn root_of<P: CollationProvider>(provider: &P) -> Result<CollationData<'_>, DataError> {
+    let _ = provider.load_metadata(DataRequest::default())?;
+    provider.load_root()
+}
+
+#[test]
+fn loaded_tables_have_their_names(rt: HostRuntime) -> Result<(), Fail> {
+    let mini = Mini::new(rt.alloc())?;
+    let provider = mini.provider();
+    assert_eq!(rt;
+        root_of(&provider)?.ce32_for_char('a'),
+        CollationElement32::new(0x6110_0505)
+    );
+    let absent = provider.load_tailoring(DataRequest::default());
+    assert_eq!(rt;
+        absent.err(),
+        Some(DataError {
+            table: DataTable::Tailoring,
+            kind: DataErrorKind::Absent
+        })
+    );
+    let set: TableSet<'_> = load_tables(&provider, "", None)?;
+    assert_eq!(rt; set.special.numeric_primary(), 0x0F);
+    assert_eq!(rt;
+        set.special.last_primary_for_group(MaxVariable::Space),
+        0x0400_0000
+    );
+    assert!(rt; !set.special.is_compressible(0x61));
+    let tables = CheckedTables::from_set(rt.alloc(), set)?;
+    let tables: ElementTables<'_> = ElementTables::new(&tables);
+    let mut first = CollationElements::new("a".chars(), tables, None, false);
+    assert_eq!(rt; first.next()?.primary(), 0x6110_0000);
+    assert_eq!(rt; first.next()?, CollationElement::default());
+    assert_eq!(rt;
+        elements::all_elements(tables, "áb".chars(), None, false)?.len(),
+        3
+    );
+    Ok(())
+}
+
+#[test]
+fn collators_have_their_names(rt: HostRuntime) -> Result<(), Fail> {
+    let mini = Mini::new(rt.alloc())?;
+    let collator = Collator::try_new_unstable(
+        rt.alloc(),
+        &mini.provider(),
+        CollatorPreferences::default(),
+        CollatorOptions::default(),
+    )?;
+    let borrowed: CollatorBorrowed<'_> = collator.as_borrowed();
+    assert_eq!(rt; borrowed.compare("ab", "aB")?, Ordering::Less);
+    assert_eq!(rt; borrowed.resolved_options().strength, Strength::Tertiary);
+    assert_eq!(rt;
+        elements::all_elements(borrowed.tables(), "".chars(), None, false)?.len(),
+        0
+    );
+    comparison::laws::good_tables_serve_levels();
+    Ok(())
+}
+
+fn write_key<S: CollationKeySink<State = usize>>(
+    sink: &mut S,
+) -> Result<S::Output, SortKeyError<S::Error>>
+    requires { S.is_sound sink.old 0 }
+{
+    let mut state = 0;
+    sink.write(&mut state, &[0x61, 0x10])
+        .map_err(SortKeyError::Sink)?;
+    sink.write_byte(&mut state, 1).map_err(SortKeyError::Sink)?;
+    sink.finish(state).map_err(SortKeyError::Sink)
+}
+
+#[test]
+fn sinks_have_their_names(rt: HostRuntime) {
+    let mut bytes = [0; 2];
+    let mut slice: &mut [u8] = &mut bytes;
+    assert_eq!(rt;
+        write_key(&mut slice),
+        Err(SortKeyError::Sink(TooSmall::new(3)))
+    );
+    assert_eq!(rt; bytes, [0x61, 0x10]);
+}

@@ -1,0 +1,134 @@
+#!/usr/bin/env python3
+"""The gate, as bin/test runs it: `rt ci`, and then tests/programs.py. Says on standard output where it is, a line a step, and
+prints what a failed step says; all that `rt ci` says goes to the file out/test.log. The last line is `N passed, M failed`,
+which counts both."""
+import os
+import queue
+import re
+import subprocess
+import sys
+import threading
+import time
+
+TOP = os.path.dirname(os.path.dirname(os.path.realpath(__file__)))
+LOG = os.path.join(TOP, "out", "test.log")
+# So often at least a line says what is under way, in seconds.
+BEAT = 120
+COUNTS = re.compile(r"^(\d+) passed, (\d+) failed$")
+
+
+class Progress:
+    """What of `rt ci` is done, by the lines that it prints. A crate's lines come together, once it is proved or not."""
+
+    def __init__(self, crates):
+        self.began, self.crates = time.monotonic(), crates
+        self.unproved, self.trying = list(crates), set()
+        self.block, self.counts = None, None
+
+    def say(self, text):
+        minutes, seconds = divmod(int(time.monotonic() - self.began), 60)
+        print(f"[{minutes:3}:{seconds:02}] {text}", flush=True)
+
+    def beat(self):
+        left = [f"not proved yet: {', '.join(self.unproved)}"] if self.unproved else []
+        left += [f"edits of {', '.join(sorted(self.trying))}"] if self.trying else []
+        self.say(f"under way; {'; '.join(left) or 'tests and programs'}")
+
+    def end_block(self, text):
+        name, _, verdict = text.partition(" ")
+        if "NOT PROVED" in verdict:
+            print("\n".join(self.block), flush=True)
+        name = name.rstrip(":")
+        if name in self.unproved and "tests" not in verdict:
+            self.unproved.remove(name)
+        done = len(self.crates) - len(self.unproved)
+        self.say(f"{text} ({done} of {len(self.crates)} crates)")
+        self.block = None
+
+    def take(self, line):
+        if COUNTS.match(line):
+            self.counts = [int(it) for it in COUNTS.match(line).groups()]
+            return
+        if line.startswith("== "):
+            self.block = [line]
+            return
+        ended = re.match(r"^rt: (\S+ (?:proved|NOT PROVED).*|\S+: its tests are (?:proved|NOT PROVED).*)$", line)
+        if self.block is not None and not ended:
+            self.block.append(line)
+        elif self.block is not None:
+            self.end_block(ended[1])
+        elif line.startswith("rt: "):
+            self.take_verdict(line[4:])
+        elif line.strip():
+            print(line, flush=True)
+
+    def take_verdict(self, text):
+        trying = re.match(r"^(\S+): trying its must-fail edits", text)
+        if trying:
+            self.trying.add(trying[1])
+        if re.match(r"^\S+: (the prover )?refused", text):
+            self.trying.discard(text.partition("/")[0])
+            return
+        self.say(text)
+
+
+def crates_listed():
+    with open(os.path.join(TOP, "crates.txt"), encoding="utf-8") as it:
+        lines = [line.partition("#")[0] for line in it]
+    return [line.partition(":")[0].split()[0] for line in lines if ":" in line]
+
+
+def feed(stream, lines):
+    for line in stream:
+        lines.put(line)
+    lines.put(None)
+
+
+def prove():
+    """Runs `rt ci`, and returns what passed and what failed."""
+    progress = Progress(crates_listed())
+    print(f"rt ci, from nothing: each crate and its tests are proved; all that it says: {os.path.relpath(LOG)}", flush=True)
+    how = {"stdin": subprocess.DEVNULL, "stdout": subprocess.PIPE, "stderr": subprocess.STDOUT, "errors": "replace"}
+    with open(LOG, "w", encoding="utf-8", buffering=1) as log, subprocess.Popen(["rt", "ci"], cwd=TOP, text=True, **how) as ran:
+        lines = queue.Queue()
+        threading.Thread(target=feed, args=(ran.stdout, lines), daemon=True).start()
+        while True:
+            try:
+                line = lines.get(timeout=BEAT)
+            except queue.Empty:
+                progress.beat()
+                continue
+            if line is None:
+                break
+            log.write(line)
+            progress.take(line.rstrip("\n"))
+    if progress.counts is None:
+        progress.say(f"rt ci ended with status {ran.returncode} and no count")
+        return [0, 1]
+    passed, failed = progress.counts
+    return [passed, max(failed, int(ran.returncode != 0))]
+
+
+def run_programs():
+    """Runs tests/programs.py, and returns what passed and what failed."""
+    print("the built programs, with refused memory, reads and writes:", flush=True)
+    counts = [0, 1]
+    how = {"stdin": subprocess.DEVNULL, "stdout": subprocess.PIPE, "errors": "replace"}
+    with subprocess.Popen([sys.executable, os.path.join(TOP, "tests", "programs.py")], text=True, **how) as ran:
+        for line in ran.stdout:
+            if COUNTS.match(line):
+                counts = [int(it) for it in COUNTS.match(line).groups()]
+            else:
+                print(line, end="", flush=True)
+    return [counts[0], max(counts[1], int(ran.returncode != 0))]
+
+
+def main():
+    proved, ran = prove(), run_programs()
+    failed = proved[1] + ran[1]
+    print(f"{proved[0] + ran[0]} passed, {failed} failed")
+    return 1 if failed else 0
+
+
+if __name__ == "__main__":
+    sys.exit(main())

@@ -1,0 +1,354 @@
+#!/usr/bin/env python3
+"""Runs the built programs and looks at what proofs do not speak of: the status that a process ends with, what goes to which
+stream, and what becomes of a request that the system refuses.
+
+usage: tests/programs.py      after `rt ci`, which builds the programs (bin/test does both)
+
+Each memory request, read and write of a run is refused in turn, by the library refuse.c, which is preloaded. Where one is
+refused, a program says so, or asks again and gives the right answer; anything else is a fault. The last line is
+`N passed, M failed`. It needs `cc`, and is quiet about nothing that fails.
+"""
+import concurrent.futures
+import os
+import shutil
+import stat
+import subprocess
+import sys
+import tempfile
+
+TOP = os.path.dirname(os.path.dirname(os.path.realpath(__file__)))
+TESTS = os.path.join(TOP, "tests")
+SECONDS = 60
+USAGE = b"usage: collate compare STRENGTH A B | collate key STRENGTH TEXT | collate sort STRENGTH\n"
+NO_MEMORY = b"no memory\n"
+
+
+class Run:
+    """What one run of a program came to."""
+
+    def __init__(self, status, output, faults, counts):
+        self.status, self.output, self.faults, self.counts = status, output, faults, counts
+
+    def came_to(self):
+        return self.status, self.output, self.faults
+
+    def __str__(self):
+        brief = lambda text: repr(text if len(text) < 200 else text[:100] + b" .. " + text[-60:])
+        return f"status {self.status}, output {brief(self.output)}, faults {brief(self.faults)}"
+
+
+class Refused:
+    """Which requests of a run are refused: the one at a place among those of its kind, perhaps with all after it."""
+
+    def __init__(self, request, at, how="fail", also_after=False):
+        self.request, self.at, self.how, self.also_after = request, at, how, also_after
+
+    def settings(self):
+        return {
+            "REFUSE": self.request,
+            "REFUSE_AT": str(self.at),
+            "REFUSE_HOW": self.how,
+            "REFUSE_ALSO_AFTER": str(int(self.also_after)),
+        }
+
+    def __str__(self):
+        how = {"fail": "refused", "signal": "interrupted by a signal", "short": "of one byte"}[self.how]
+        return f"{self.request} {self.at}{' and each after it' if self.also_after else ''} {how}"
+
+
+def run(program, words, given=b"", refused=None, shim=None):
+    """Runs a program, and counts its requests where a library to preload is named."""
+    env = {"PATH": "/usr/bin:/bin", "LANG": "C.UTF-8"}
+    if not shim:
+        ran = subprocess.run([program, *words], input=given, capture_output=True, env=env, timeout=SECONDS)
+        return Run(ran.returncode, ran.stdout, ran.stderr, None)
+    reader, writer = os.pipe()
+    try:
+        env.update({"LD_PRELOAD": shim, "REFUSE_COUNTS": str(writer)}, **(refused.settings() if refused else {}))
+        ran = subprocess.run([program, *words], input=given, capture_output=True, env=env, pass_fds=(writer,), timeout=SECONDS)
+    finally:
+        os.close(writer)
+        with os.fdopen(reader, "rb") as it:
+            counts = [int(word) for word in it.read().split()]
+    return Run(ran.returncode, ran.stdout, ran.stderr, dict(zip(("allocation", "read", "write", "refused"), counts)))
+
+
+def run_on_streams(program, words, redirections):
+    """Runs a program with streams that the shell closes or sends elsewhere, as `>&-` or `>/dev/full`."""
+    line = f'exec "$@" {redirections}'
+    ran = subprocess.run(
+        ["sh", "-c", line, "sh", program, *words], stdin=subprocess.DEVNULL, capture_output=True, timeout=SECONDS
+    )
+    return Run(ran.returncode, ran.stdout, ran.stderr, None)
+
+
+# ---- what a run with a refusal may come to
+
+
+def is_beginning(text, whole):
+    return whole[: len(text)] == text
+
+
+def collate_is_right(plain, refused, ran):
+    """Whether `collate` did right: its answer as without a refusal where the request was made again, or the fault's line."""
+    if refused.how != "fail":
+        return ran.came_to() == plain.came_to()
+    if refused.request == "allocation":
+        asked_again = not refused.also_after and ran.counts["allocation"] > plain.counts["allocation"]
+        return ran.came_to() == (1, b"", b"collate: no memory\n") or asked_again and ran.came_to() == plain.came_to()
+    if refused.request == "read":
+        return ran.came_to() == (1, b"", b"collate: read failed\n")
+    if plain.status:
+        return ran.status == plain.status and not ran.output and is_beginning(ran.faults, plain.faults)
+    said = b"" if refused.also_after else b"collate: write failed\n"
+    return ran.status == 1 and ran.output != plain.output and is_beginning(ran.output, plain.output) and ran.faults == said
+
+
+def driver_is_right(plain, refused, ran):
+    """Whether the driver did right: it makes each refused call again, so that its answers are those without a refusal;
+    where that is refused too, it stops and says so."""
+    if refused.also_after:
+        is_said = ran.status == 1 and ran.faults.endswith(NO_MEMORY)
+        return is_said and ran.output != plain.output and is_beginning(ran.output, plain.output)
+    return (ran.status, ran.output) == (plain.status, plain.output)
+
+
+class Outcome:
+    """One run of a sweep: what was refused, what the run came to if it ended, and what is wrong with it, if anything is."""
+
+    def __init__(self, refused, ran, fault):
+        self.refused, self.ran, self.fault = refused, ran, fault
+
+
+def tried(shim, program, words, given, plain, refused, is_right):
+    try:
+        ran = run(program, words, given, refused, shim)
+    except subprocess.TimeoutExpired:
+        return Outcome(refused, None, f"{refused}: it had not ended after {SECONDS} seconds")
+    if ran.status < 0 or not ran.counts:
+        return Outcome(refused, ran, f"{refused}: it crashed: {ran}")
+    if not ran.counts["refused"]:
+        return Outcome(refused, ran, f"{refused}: the request was not made")
+    return Outcome(refused, ran, None if is_right(plain, refused, ran) else f"{refused}: {ran}")
+
+
+def sweep(shim, program, words, given, requests, is_right):
+    """Refuses each of these requests of a run in turn: alone, with all after it, and where it is no allocation by a signal
+    and by a single byte as well."""
+    plain = run(program, words, given, shim=shim)
+    if not plain.counts or not plain.counts[requests[0]]:
+        return [Outcome(None, plain, f"no {requests[0]} was counted: {plain}")]
+    kinds = [(request, "fail", after) for request in requests for after in (False, True)]
+    kinds += [(request, how, False) for request in requests if request != "allocation" for how in ("signal", "short")]
+    all_refused = [Refused(it, at, how, after) for it, how, after in kinds for at in range(1, plain.counts[it] + 1)]
+    with concurrent.futures.ThreadPoolExecutor(os.cpu_count() or 1) as pool:
+        return [*pool.map(lambda it: tried(shim, program, words, given, plain, it, is_right), all_refused)]
+
+
+def faults_of(outcomes):
+    return [it.fault for it in outcomes if it.fault]
+
+
+# ---- what the program `collate` does
+
+
+A_LONG, B_LONG = "a" * 10_000, "a" * 9_999 + "b"
+MARKS = "é" * 5_000 + "\u4E00" * 5_000
+
+# The words of a run, and the status, output and faults that are wanted.
+COLLATE_RUNS = [
+    (["compare", "3", "ab", "aB"], 0, b"<\n", b""),
+    (["compare", "3", "aB", "ab"], 0, b">\n", b""),
+    (["compare", "1", "as", "às"], 0, b"=\n", b""),
+    (["compare", "3", "", ""], 0, b"=\n", b""),
+    ([], 2, b"", USAGE),
+    (["compare", "3", "ab"], 2, b"", USAGE),
+    (["compare", "3", "ab", "aB", "x"], 2, b"", USAGE),
+    (["compare", "5", "ab", "aB"], 2, b"", USAGE),
+    (["order", "3", "ab", "aB"], 2, b"", USAGE),
+]
+# An argument that isn't UTF-8 is a wrong word, wherever it stands.
+DAMAGED_RUNS = [
+    ([b"\xff", b"3", b"ab", b"aB"], 2, b"", USAGE),
+    ([b"compare", b"\xc3", b"ab", b"aB"], 2, b"", USAGE),
+    ([b"compare", b"3", b"a\xf0\x90", b"aB"], 2, b"", USAGE),
+    ([b"compare", b"3", b"ab", b"\xed\xa0\x80"], 2, b"", USAGE),
+]
+LONG_RUNS = [
+    (["compare", "3", A_LONG, B_LONG], 0, b"<\n", b""),
+    (["compare", "3", B_LONG, A_LONG], 0, b">\n", b""),
+    (["compare", "3", MARKS, MARKS.replace("é", "e\u0301")], 0, b"=\n", b""),
+    (["compare", "2", A_LONG + "A", A_LONG + "a"], 0, b"=\n", b""),
+]
+# The words, where the streams go, and what is wanted. What goes to a full device or a closed stream is lost.
+RIGHT, WRONG = ["compare", "3", "ab", "aB"], ["compare", "3"]
+FAILED = b"collate: write failed\n"
+STREAM_RUNS = [
+    (RIGHT, "<&-", 0, b"<\n", b""),
+    (RIGHT, ">/dev/full", 1, b"", FAILED),
+    (RIGHT, ">&-", 1, b"", FAILED),
+    (RIGHT, ">/dev/full 2>/dev/full", 1, b"", b""),
+    (RIGHT, ">&- 2>&-", 1, b"", b""),
+    (RIGHT, "2>&-", 0, b"<\n", b""),
+    (WRONG, "2>/dev/full", 2, b"", b""),
+    (WRONG, "2>&-", 2, b"", b""),
+    (WRONG, ">&-", 2, b"", USAGE),
+]
+
+
+def wrong_runs(program, runs):
+    """The runs that came to something else than is wanted, as lines."""
+    found = []
+    for words, *wanted in runs:
+        ran = run(program, words)
+        if ran.came_to() != tuple(wanted):
+            brief = [it if len(it) < 40 else f"({len(it)} characters)" for it in words]
+            found.append(f"{brief}: {ran}; wanted: {Run(*wanted, None)}")
+    return found
+
+
+def wrong_streams(program, runs):
+    found = []
+    for words, redirections, *wanted in runs:
+        ran = run_on_streams(program, words, redirections)
+        if ran.came_to() != tuple(wanted):
+            found.append(f"{words} {redirections}: {ran}; wanted: {Run(*wanted, None)}")
+    return found
+
+
+# ---- that the checks can fail: programs with a fault, each of which must be found
+
+# Shell scripts around the true program, and which of the runs above must find each.
+FAULTY = [
+    ("status 0 whatever happens", '"$COLLATE" "$@"; exit 0', "words"),
+    ("faults on standard output", 'exec "$COLLATE" "$@" 2>&1', "words"),
+    ("an argument that isn't UTF-8 called want of memory",
+     '"$COLLATE" "$@" 2>/dev/null && exit; echo "collate: no memory" >&2; exit 1', "damaged"),
+    ("giving up on a long input",
+     'for word; do if [ ${#word} -gt 5000 ]; then echo "collate: no memory" >&2; exit 1; fi; done; exec "$COLLATE" "$@"',
+     "long"),
+    ("an output that is lost and not missed",
+     'line=$("$COLLATE" "$@"); status=$?; [ -z "$line" ] || echo "$line" 2>/dev/null; exit $status', "streams"),
+]
+
+
+def faults_missed(room, program):
+    """The faulty programs that the checks of `collate` let through."""
+    missed = []
+    for at, (what, text, runs) in enumerate(FAULTY):
+        faulty = os.path.join(room, f"faulty{at}")
+        with open(faulty, "w", encoding="utf-8") as it:
+            it.write(f"#!/bin/sh\nCOLLATE='{program}'\n{text}\n")
+        os.chmod(faulty, stat.S_IRWXU)
+        if runs == "streams":
+            found = wrong_streams(faulty, STREAM_RUNS)
+        else:
+            found = wrong_runs(faulty, {"words": COLLATE_RUNS, "damaged": DAMAGED_RUNS, "long": LONG_RUNS}[runs])
+        if not found:
+            missed.append(f"not found: {what}")
+    return missed
+
+
+def refusals_missed(shim, careless):
+    """The kinds of refusal of which a program that looks at none is not found."""
+    requests = ["allocation", "read", "write"]
+    outcomes = sweep(shim, careless, [], b"b\na\n", requests, collate_is_right)
+    return [f"not found: {it.refused}" for it in outcomes if not it.fault] + ["too few"] * (len(outcomes) < 10)
+
+
+# ---- the run of all checks
+
+
+class Report:
+    """Says of each check how it went, and counts them."""
+
+    def __init__(self):
+        self.passed, self.failed = 0, 0
+
+    def say(self, what, faults, runs):
+        self.passed, self.failed = self.passed + (not faults), self.failed + bool(faults)
+        print(f"{'ok    ' if not faults else 'FAILED'} {what} ({runs} runs)", flush=True)
+        for it in faults[:12]:
+            print(f"       {it}", flush=True)
+        if len(faults) > 12:
+            print(f"       and {len(faults) - 12} more", flush=True)
+
+    def end(self):
+        print(f"{self.passed} passed, {self.failed} failed")
+        return 1 if self.failed else 0
+
+
+def built(name):
+    return os.path.join(TOP, "crates", name, "out", name)
+
+
+def compiled(room, name, *options):
+    to = os.path.join(room, name)
+    subprocess.run(["cc", "-O1", *options, "-o", to, os.path.join(TESTS, f"{name}.c")], check=True)
+    return to
+
+
+def check_collate(report, room, shim):
+    program = built("collate")
+    runs = [("words", COLLATE_RUNS), ("arguments that aren't UTF-8", DAMAGED_RUNS), ("long texts", LONG_RUNS)]
+    for what, wanted in runs:
+        report.say(f"collate: {what}", wrong_runs(program, wanted), len(wanted))
+    report.say("collate: closed and full streams", wrong_streams(program, STREAM_RUNS), len(STREAM_RUNS))
+    report.say("collate: programs with a fault are found", faults_missed(room, program), len(FAULTY))
+    for what, words in [("an answer", RIGHT), ("wrong words", WRONG), ("long texts", LONG_RUNS[0][0])]:
+        outcomes = sweep(shim, program, words, b"", ["allocation", "read", "write"], collate_is_right)
+        report.say(f"collate: each request refused, {what}", faults_of(outcomes), len(outcomes))
+
+
+# The parts of the driver, and the tables that a refused collator names as one allocation after another fails: tables are
+# copied in the order in which they are loaded, the check before that is named by the root.
+PARTS = ["collators", "comparisons", "elements", "sinks"]
+OF_MINI = ["Root", "Jamo", "SpecialPrimaries", "Diacritics"]
+OF_SWAPPED_LEADS = ["Root", "Jamo", "SpecialPrimaries", "Tailoring", "Reordering", "Diacritics"]
+NAMED_TABLES = 2 * OF_MINI + 2 * OF_SWAPPED_LEADS
+
+
+def named_tables(outcomes):
+    """The tables that the runs with one refused allocation name, each run of equal ones once."""
+    said = [it.ran.faults.decode() for it in outcomes if it.ran and it.refused and not it.refused.also_after]
+    names = [line.partition("refused: ")[2] for text in said for line in text.splitlines() if line.startswith("refused: ")]
+    return [name for at, name in enumerate(names) if at == 0 or name != names[at - 1]]
+
+
+def check_driver(report, shim):
+    program = built("refusal_driver")
+    with open(os.path.join(TOP, "crates", "refusal_driver", "stdout"), "rb") as it:
+        wanted = it.read()
+    whole = run(program, [])
+    report.say("refusal_driver: its answers", [] if whole.came_to() == (0, wanted, b"") else [str(whole)], 1)
+    for part in PARTS:
+        outcomes = sweep(shim, program, [part], b"", ["allocation"], driver_is_right)
+        report.say(f"refusal_driver: each allocation refused, {part}", faults_of(outcomes), len(outcomes))
+        if part == "collators":
+            named = named_tables(outcomes)
+            faults = [] if named == NAMED_TABLES else [f"{named}; wanted: {NAMED_TABLES}"]
+            report.say("refusal_driver: the tables that refusals name", faults, len(outcomes))
+
+
+def main():
+    report = Report()
+    if not shutil.which("cc"):
+        print("tests/programs.py: the C compiler 'cc' is not on the PATH")
+        report.failed += 1
+        return report.end()
+    missing = [it for it in ("collate", "refusal_driver") if not os.access(built(it), os.X_OK)]
+    if missing:
+        print(f"tests/programs.py: not built: {', '.join(missing)}; 'rt ci' builds them")
+        report.failed += len(missing)
+        return report.end()
+    with tempfile.TemporaryDirectory(prefix="collate-tests-") as room:
+        shim = compiled(room, "refuse", "-shared", "-fPIC")
+        careless = compiled(room, "careless")
+        report.say("a program that looks at no refusal is found", refusals_missed(shim, careless), 10)
+        check_collate(report, room, shim)
+        check_driver(report, shim)
+    return report.end()
+
+
+if __name__ == "__main__":
+    sys.exit(main())
