@@ -1,5 +1,5 @@
 -- Weights of one level are as each form of the level asks.
-use Rattle.std.proofs.Common.{◌≡◌, ℕ, ◌≤◌, Bool, true, false, cond, refl, subst, inl, inr, ◌⊎◌, arith, Option, Some, None}
+use Rattle.std.proofs.Common.{◌≡◌, ℕ, ◌/◌, ◌≤◌, Bool, true, false, cond, refl, subst, inl, inr, ◌⊎◌, arith, Option, Some, None}
 use Rattle.icu_levels.specs.Premises.{AreSecondaries, AreTertiaries, AreShifted, forward_least, backward_least}
 use Rattle.icu_levels.specs.KeyPremises.{SecondaryWeights, TertiaryWeights, QuaternaryWeights}
 use Rattle.icu_levels.specs.declared.forms.SecondaryForm.{SecondaryForm}
