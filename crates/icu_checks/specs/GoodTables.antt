@@ -13,7 +13,7 @@ use Rattle.icu_data.specs.Contexts.{has_ascending_rows}
 use Rattle.icu_provider.specs.Diacritics.{IsDiacritics}
 use Rattle.icu_provider.specs.Jamo.{IsJamo}
 use Rattle.icu_data.specs.DataConditions.{avoids_diacritics}
-use Rattle.icu_data.specs.LiveConditions.{meets, kind_for}
+use Rattle.icu_data.specs.LiveConditions.{meets}
 use Rattle.icu_provider.specs.Metadata.{has_tailored_diacritics}
 use Rattle.icu_provider.specs.Reorderings.{Reordering}
 use Rattle.icu_provider.specs.SpecialPrimaries.{IsSpecialPrimaries}
@@ -31,6 +31,7 @@ use Rattle.icu_checks.specs.ElementConditions.{element_meets}
 use Rattle.icu_checks.specs.Overlaps.{AreOverlapping}
 use Rattle.icu_checks.specs.PairConditions.{PairMeets}
 use Rattle.icu_checks.specs.LeadConditions.{LeadMeets}
+use Rattle.icu_checks.specs.Groups.{group_of, kind_in}
 
 -- ---- what each table shows by itself
 
@@ -88,24 +89,7 @@ pub record IsGoodTables (all : CollatorTables) : Type 0 where
 -- ---- what a refusal says
 
 abbrev pub kind_of : Condition → DataErrorKind
-kind_of conditions.DiacriticCount = kinds.Length
-kind_of (conditions.Entry condition) = kind_for condition
-kind_of conditions.PrefixRows = kinds.Context
-kind_of (conditions.Element of_element.Width) = kinds.Element
-kind_of (conditions.Element of_element.BackwardLead) = kinds.Element
-kind_of (conditions.Element of_element.LoneTertiary) = kinds.Element
-kind_of (conditions.Element of_element.MiddleLead) = kinds.Reordering
-kind_of (conditions.Element of_element.ImplicitLength) = kinds.Overlap
-kind_of (conditions.Element of_element.NumericLead) = kinds.Overlap
-kind_of (conditions.Element of_element.SharedLead) = kinds.Reordering
-kind_of (conditions.Element of_element.SecondByte) = kinds.Compression
-kind_of (conditions.Pair of_pair.LoneTertiaries) = kinds.Element
-kind_of (conditions.Pair of_pair.Primaries) = kinds.Overlap
-kind_of (conditions.Pair of_pair.Secondaries) = kinds.Overlap
-kind_of (conditions.Pair of_pair.Tertiaries) = kinds.Overlap
-kind_of (conditions.Pair of_pair.Compression) = kinds.Compression
-kind_of (conditions.Lead of_lead.NumericWhole) = kinds.Compression
-kind_of (conditions.Lead _) = kinds.Reordering
+kind_of condition = kind_in (group_of condition)
 
 -- the order in which tables are named
 abbrev pub table_rank : DataTable → ℕ
