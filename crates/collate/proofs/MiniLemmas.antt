@@ -15,7 +15,7 @@ use Rattle.icu_provider.specs.Metadata.{is_tailored, has_reordering}
 use Rattle.icu_provider.specs.Requests.{Request}
 use Rattle.icu_provider.specs.SpecialPrimaries.{SpecialPrimaries}
 use Rattle.icu_data.specs.Data.{Data, plain_of}
-use Rattle.icu_checks.specs.CollatorTables.{CollatorTables}
+use Rattle.icu_provider.specs.CollatorTables.{CollatorTables}
 use Rattle.icu_checks.specs.Loads.{and_then, or_else, typed_first, if_named, diacritics_request, lent_tables}
 use Rattle.icu_elements.specs.ByCharacter.{non_numeric_reading, needs_no_context, IsContextFree}
 use Rattle.icu_elements.proofs.ByCharacterLemmas.{IsContextFree-from_each}

@@ -1,5 +1,5 @@
 -- Which faults keep an answer from being found.
-use Rattle.std.proofs.Common.{◌≡◌, Result, Ok, Err, IfOk, subst}
+use Rattle.std.proofs.Common.{◌≡◌, Result, Ok, IfOk, subst}
 use Rattle.icu_entries.specs.declared.error.DataErrorKind.{DataErrorKind}
 use Rattle.icu_entries.specs.declared.error.DataErrorKind.TheVariants as kinds
 use Rattle.collate.specs.declared.fault.Fault.{Fault}

@@ -1,5 +1,5 @@
 -- What a run that ends with status 1 leaves.
-use Rattle.std.proofs.Common.{◌≡◌, ℕ, List, Option, Some, None, IfSome, refl, inl, inr, arith}
+use Rattle.std.proofs.Common.{◌≡◌, Option, Some, None, IfSome, refl, inl, inr, arith}
 use Rattle.std.specs.Io.KnownBytes.{Keeps}
 use Rattle.collate.specs.declared.fault.Fault.{Fault}
 use Rattle.collate.specs.declared.fault.Fault.TheVariants.{WrongWords, NoMemory, TablesRefused, WriteFailed}

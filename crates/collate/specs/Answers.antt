@@ -6,7 +6,7 @@ use Rattle.icu_comparison.specs.Order.{order_of}
 use Rattle.icu_options.specs.Settings.{Settings}
 use Rattle.icu_options.specs.declared.settings.Strength.{Strength}
 use Rattle.icu_provider.specs.Tables.{Tables}
-use Rattle.icu_checks.specs.CollatorTables.{CollatorTables}
+use Rattle.icu_provider.specs.CollatorTables.{CollatorTables}
 use Rattle.icu_comparison.specs.Collators.{IsSupportedComparison, comparison_by, non_numeric_comparison}
 use Rattle.icu_mini.specs.declared.mini.Mini.{Mini}
 use Rattle.icu_mini.specs.Mini.{IsMini, collator_tables}

@@ -1,6 +1,6 @@
 -- What keeps an answer from being found: want of memory, or tables that are refused for cause.
 use Rattle.std.specs.Prelude.{◌≡◌, Ok}
-use Rattle.icu_checks.specs.CollatorTables.{CollatorTables}
+use Rattle.icu_provider.specs.CollatorTables.{CollatorTables}
 use Rattle.icu_checks.specs.GoodTables.{IsGoodTables}
 use Rattle.icu_checks.specs.Loads.{lent_tables}
 use Rattle.icu_provider.specs.Requests.{Request}

@@ -4,7 +4,7 @@ use Rattle.icu_checks.specs.declared.condition.Condition.TheVariants as conditio
 use Rattle.icu_checks.specs.declared.condition.PairCondition.{PairCondition}
 use Rattle.icu_checks.specs.declared.condition.PairCondition.TheVariants.{LoneTertiaries, Primaries, Secondaries, Tertiaries, Compression}
 use Rattle.icu_checks.specs.declared.condition.LeadCondition.TheVariants.{Separator, HighLead, ImplicitLead, NumericLead, LeadsApart, NumericWhole}
-use Rattle.icu_checks.specs.CollatorTables.{CollatorTables}
+use Rattle.icu_provider.specs.CollatorTables.{CollatorTables}
 use Rattle.icu_checks.specs.LeadConditions.{LeadMeets}
 use Rattle.icu_checks.specs.EntryFaults.{LiveMeets}
 use Rattle.icu_checks.specs.GoodTables.{AreTables, HasDiacriticCount, Meets, IsGoodTables}
@@ -24,8 +24,8 @@ leads_meet all a b c d e f NumericWhole = f
 module _ (all : CollatorTables) (tables : AreTables all) (count : HasDiacriticCount all) (live : LiveMeets all) (leads : LeadsMeet all) (pairs : PairsMeet all) where
   pair_meets : (condition : PairCondition) → Meets (conditions.Pair condition) all
   pair_meets LoneTertiaries = lone_meet all live tables pairs.lones
-  pair_meets Secondaries = secondaries_meet all live tables pairs.secondaries.weights pairs.secondaries.all pairs.secondaries.free
-  pair_meets Tertiaries = tertiaries_meet all live tables pairs.tertiaries.weights pairs.tertiaries.all pairs.tertiaries.free
+  pair_meets Secondaries = secondaries_meet all live tables pairs.secondaries.weights pairs.secondaries.all_held pairs.secondaries.free
+  pair_meets Tertiaries = tertiaries_meet all live tables pairs.tertiaries.weights pairs.tertiaries.all_held pairs.tertiaries.free
   pair_meets Primaries = primaries_meet all live tables (leads ImplicitLead) (leads Separator) (leads HighLead) pairs.primaries.weights pairs.primaries.all_held pairs.primaries.free
   pair_meets Compression = compression_meets all live tables (leads ImplicitLead) (leads Separator) (leads HighLead) pairs.primaries.weights pairs.primaries.all_held pairs.primaries.alike
 

@@ -7,7 +7,7 @@ use Rattle.std.specs.List.{Contains}
 use Rattle.icu_data.specs.declared.data.CollationData.{CollationData}
 use Rattle.icu_entries.specs.declared.error.DataTable.TheVariants.{Root, Jamo, SpecialPrimaries, Metadata, Tailoring, Reordering, Diacritics}
 use Rattle.icu_entries.specs.Elements.{of_secondary}
-use Rattle.icu_data.specs.DataConditions.{is_readable}
+use Rattle.icu_data.specs.LiveWeights.{is_stated}
 use Rattle.icu_data.specs.Final.{final_elements}
 use Rattle.icu_data.specs.Data.{Data, homed}
 use Rattle.icu_provider.specs.Tables.{is_jamo}
@@ -16,10 +16,10 @@ use Rattle.icu_data.specs.LiveWeights.{IsWeightAmong, IsLiveWeight}
 use Rattle.icu_provider.specs.Diacritics.{is_replaced_index}
 use Rattle.icu_data.specs.StoredData.{data_of}
 use Rattle.icu_provider.specs.StoredTables.{jamo_of, diacritics_of}
-use Rattle.icu_checks.specs.declared.table_set.TableSet.{TableSet}
-use Rattle.icu_checks.specs.declared.weights.Level.{Level}
-use Rattle.icu_checks.specs.CollatorTables.{CollatorTables}
-use Rattle.icu_checks.specs.TableSets.{tables_in}
+use Rattle.icu_provider.specs.declared.table_set.TableSet.{TableSet}
+use Rattle.icu_checks.specs.declared.check.weights.WeightList.{WeightList}
+use Rattle.icu_provider.specs.CollatorTables.{CollatorTables}
+use Rattle.icu_provider.specs.TableSets.{tables_in}
 use Rattle.icu_checks.specs.Weights.{weight_at, IsWeightBy, Adds, IsBelow, IsJamoWeight, IsAccentWeight}
 
 -- ---- what is added
@@ -82,12 +82,12 @@ below_step P start old new n before now w = (
 
 -- ---- table by table
 
-module _ (level : Level) (all : CollatorTables) where
-  pub root_same : (w : ℕ) → IsLiveWeight (weight_at level) false all.tables.root w ↔ IsWeightBy level Root all.tables w
+module _ (list : WeightList) (all : CollatorTables) where
+  pub root_same : (w : ℕ) → IsLiveWeight (weight_at list) false all.tables.root w ↔ IsWeightBy list Root all.tables w
   root_same w = (
     λ is. record {
       x = is.among.x;
-      read = record { home = all.tables.root; char = is.c; entry = is.among.e; live = (refl, is.scalar, is.among.live); readable = is.among.readable; member = is.among.given };
+      read = record { home = all.tables.root; char = is.c; entry = is.among.e; live = (refl, is.scalar, is.among.live); stated = is.among.stated; member = is.among.given };
       weighs = is.among.weighs;
     },
     λ is. record {
@@ -96,7 +96,7 @@ module _ (level : Level) (all : CollatorTables) where
       among = record {
         e = is.read.entry;
         live = subst (λ h. Contains (live_at false h is.read.char) is.read.entry) is.read.live.0 is.read.live.2;
-        readable = subst (λ h. IsTrue (is_readable h is.read.char is.read.entry)) is.read.live.0 is.read.readable;
+        stated = subst (λ h. IsTrue (is_stated h is.read.char is.read.entry)) is.read.live.0 is.read.stated;
         x = is.x;
         given = subst (λ h. Contains (final_elements (homed h is.read.entry) is.read.char) is.x) is.read.live.0 is.read.member;
         weighs = is.weighs;
@@ -107,11 +107,11 @@ module _ (level : Level) (all : CollatorTables) where
   same_some : (a b : Data) → Some a ≡ Some b → a ≡ b
   same_some a b h = cc
 
-  pub tailoring_same : (t : Data) → all.tables.tailoring ≡ Some t → (w : ℕ) → IsLiveWeight (weight_at level) true t w ↔ IsWeightBy level Tailoring all.tables w
+  pub tailoring_same : (t : Data) → all.tables.tailoring ≡ Some t → (w : ℕ) → IsLiveWeight (weight_at list) true t w ↔ IsWeightBy list Tailoring all.tables w
   tailoring_same t found w = (
     λ is. record {
       x = is.among.x;
-      read = record { home = t; char = is.c; entry = is.among.e; live = (found, is.scalar, is.among.live); readable = is.among.readable; member = is.among.given };
+      read = record { home = t; char = is.c; entry = is.among.e; live = (found, is.scalar, is.among.live); stated = is.among.stated; member = is.among.given };
       weighs = is.among.weighs;
     },
     λ is.
@@ -122,7 +122,7 @@ module _ (level : Level) (all : CollatorTables) where
           among = record {
             e = is.read.entry;
             live = subst (λ h. Contains (live_at true h is.read.char) is.read.entry) same is.read.live.2;
-            readable = subst (λ h. IsTrue (is_readable h is.read.char is.read.entry)) same is.read.readable;
+            stated = subst (λ h. IsTrue (is_stated h is.read.char is.read.entry)) same is.read.stated;
             x = is.x;
             given = subst (λ h. Contains (final_elements (homed h is.read.entry) is.read.char) is.x) same is.read.member;
             weighs = is.weighs;
@@ -133,7 +133,7 @@ module _ (level : Level) (all : CollatorTables) where
   none_some : (a : Data) → None ≡ Some a → ⊥
   none_some a h = cc
 
-  pub no_tailoring : all.tables.tailoring ≡ None → (w : ℕ) → IsWeightBy level Tailoring all.tables w → ⊥
+  pub no_tailoring : all.tables.tailoring ≡ None → (w : ℕ) → IsWeightBy list Tailoring all.tables w → ⊥
   no_tailoring found w is = none_some is.read.home (sym found ∙ is.read.live.0)
 
   place_back : (c : ℕ) → IsTrue (is_jamo c) → 0x1100 + (c - 0x1100) ≡ c
@@ -148,7 +148,7 @@ module _ (level : Level) (all : CollatorTables) where
   char_place : (i : ℕ) → 0x1100 + i - 0x1100 ≡ i
   char_place i = omega arith
 
-  pub jamo_same : (w : ℕ) → IsBelow (IsJamoWeight level all) 256 w ↔ IsWeightBy level Jamo all.tables w
+  pub jamo_same : (w : ℕ) → IsBelow (IsJamoWeight list all) 256 w ↔ IsWeightBy list Jamo all.tables w
   jamo_same w = (
     λ is. record {
       x = is.is.x;
@@ -157,7 +157,7 @@ module _ (level : Level) (all : CollatorTables) where
         char = 0x1100 + is.place;
         entry = is.is.e;
         live = (refl, char_jamo is.place is.below, subst (λ i. Contains (live_from all.tables.root (slice_index all.tables.jamo i)) is.is.e) (sym (char_place is.place)) is.is.live);
-        readable = is.is.readable;
+        stated = is.is.stated;
         member = is.is.given;
       };
       weighs = is.is.weighs;
@@ -170,7 +170,7 @@ module _ (level : Level) (all : CollatorTables) where
           is = record {
             e = is.read.entry;
             live = subst (λ h. Contains (live_from h (slice_index all.tables.jamo (is.read.char - 0x1100))) is.read.entry) is.read.live.0 is.read.live.2;
-            readable = subst (λ c. IsTrue (is_readable all.tables.root c is.read.entry)) (sym back) (subst (λ h. IsTrue (is_readable h is.read.char is.read.entry)) is.read.live.0 is.read.readable);
+            stated = subst (λ c. IsTrue (is_stated all.tables.root c is.read.entry)) (sym back) (subst (λ h. IsTrue (is_stated h is.read.char is.read.entry)) is.read.live.0 is.read.stated);
             x = is.x;
             given = subst (λ c. Contains (final_elements (homed all.tables.root is.read.entry) c) is.x) (sym back) (subst (λ h. Contains (final_elements (homed h is.read.entry) is.read.char) is.x) is.read.live.0 is.read.member);
             weighs = is.weighs;
@@ -178,7 +178,7 @@ module _ (level : Level) (all : CollatorTables) where
         },
   )
 
-  pub accents_same : (n : ℕ) → n ≡ length all.tables.diacritics → (w : ℕ) → IsBelow (IsAccentWeight level all) n w ↔ IsWeightBy level Diacritics all.tables w
+  pub accents_same : (n : ℕ) → n ≡ length all.tables.diacritics → (w : ℕ) → IsBelow (IsAccentWeight list all) n w ↔ IsWeightBy list Diacritics all.tables w
   accents_same n count w = (
     λ is. record {
       x = of_secondary (slice_index all.tables.diacritics is.place);
@@ -188,17 +188,17 @@ module _ (level : Level) (all : CollatorTables) where
     λ is. record {
       place = is.read.place;
       below = subst (λ n. is.read.place < n) (sym count) is.read.inside;
-      is = record { kept = is.read.kept; weighs = subst (λ x. weight_at level x ≡ Some w) is.read.is is.weighs };
+      is = record { kept = is.read.kept; weighs = subst (λ x. weight_at list x ≡ Some w) is.read.is is.weighs };
     },
   )
 
-  pub special_none : (w : ℕ) → IsWeightBy level SpecialPrimaries all.tables w → ⊥
+  pub special_none : (w : ℕ) → IsWeightBy list SpecialPrimaries all.tables w → ⊥
   special_none w is = is.read.live
 
-  pub metadata_none : (w : ℕ) → IsWeightBy level Metadata all.tables w → ⊥
+  pub metadata_none : (w : ℕ) → IsWeightBy list Metadata all.tables w → ⊥
   metadata_none w is = is.read.live
 
-  pub reordering_none : (w : ℕ) → IsWeightBy level Reordering all.tables w → ⊥
+  pub reordering_none : (w : ℕ) → IsWeightBy list Reordering all.tables w → ⊥
   reordering_none w is = is.read.live
 
 -- ---- as tables are lent
@@ -210,36 +210,36 @@ on_ok A B f (Err e) h = tt
 abbrev Found : (ℕ → Type 0) → List ℕ → List ℕ → Type 0
 Found P old new = (w : ℕ) → Contains new w ↔ (Contains old w ⊎ P w)
 
-module _ (s : TableSet) (level : Level) where
-  pub lent_root : {X E : Type 0} (r : Result X E) (old new : List ℕ) → OnOk r (Found (IsLiveWeight (weight_at level) false (data_of s.root)) old new) → OnOk r (Adds (IsWeightBy level Root (tables_in s).tables) old new)
+module _ (s : TableSet) (list : WeightList) where
+  pub lent_root : {X E : Type 0} (r : Result X E) (old new : List ℕ) → OnOk r (Found (IsLiveWeight (weight_at list) false (data_of s.root)) old new) → OnOk r (Adds (IsWeightBy list Root (tables_in s).tables) old new)
   unfolding tables_in
-  lent_root r old new = on_ok _ _ (adds_same (IsLiveWeight (weight_at level) false (data_of s.root)) (IsWeightBy level Root (tables_in s).tables) old new (root_same level (tables_in s))) r
+  lent_root r old new = on_ok _ _ (adds_same (IsLiveWeight (weight_at list) false (data_of s.root)) (IsWeightBy list Root (tables_in s).tables) old new (root_same list (tables_in s))) r
 
-  pub lent_tailoring : (t : CollationData) → s.tailoring ≡ Some t → {X E : Type 0} (r : Result X E) (old new : List ℕ) → OnOk r (Found (IsLiveWeight (weight_at level) true (data_of t)) old new) → OnOk r (Adds (IsWeightBy level Tailoring (tables_in s).tables) old new)
+  pub lent_tailoring : (t : CollationData) → s.tailoring ≡ Some t → {X E : Type 0} (r : Result X E) (old new : List ℕ) → OnOk r (Found (IsLiveWeight (weight_at list) true (data_of t)) old new) → OnOk r (Adds (IsWeightBy list Tailoring (tables_in s).tables) old new)
   unfolding tables_in
   lent_tailoring t found r old new =
-      on_ok _ _ (adds_same (IsLiveWeight (weight_at level) true (data_of t)) (IsWeightBy level Tailoring (tables_in s).tables) old new
-      (tailoring_same level (tables_in s) (data_of t) (ap (option_map data_of) found))) r
+      on_ok _ _ (adds_same (IsLiveWeight (weight_at list) true (data_of t)) (IsWeightBy list Tailoring (tables_in s).tables) old new
+      (tailoring_same list (tables_in s) (data_of t) (ap (option_map data_of) found))) r
 
-  pub lent_no_tailoring : s.tailoring ≡ None → (old : List ℕ) → Adds (IsWeightBy level Tailoring (tables_in s).tables) old old
+  pub lent_no_tailoring : s.tailoring ≡ None → (old : List ℕ) → Adds (IsWeightBy list Tailoring (tables_in s).tables) old old
   unfolding tables_in
-  lent_no_tailoring found old = adds_none (IsWeightBy level Tailoring (tables_in s).tables) old old refl (no_tailoring level (tables_in s) (ap (option_map data_of) found))
+  lent_no_tailoring found old = adds_none (IsWeightBy list Tailoring (tables_in s).tables) old old refl (no_tailoring list (tables_in s) (ap (option_map data_of) found))
 
   pub lent_of_jamo : (i e c : ℕ) → e ≡ slice_index (jamo_of s.jamo) i → c ≡ 0x1100 + i → {X E : Type 0} (r : Result X E) (old new : List ℕ)
-      → OnOk r (Found (IsWeightAmong (weight_at level) (data_of s.root) c (live_from (data_of s.root) e)) old new) → OnOk r (Adds (IsJamoWeight level (tables_in s) i) old new)
+      → OnOk r (Found (IsWeightAmong (weight_at list) (data_of s.root) c (live_from (data_of s.root) e)) old new) → OnOk r (Adds (IsJamoWeight list (tables_in s) i) old new)
   unfolding tables_in
   lent_of_jamo i e c is at r old new h =
-      subst (λ e. OnOk r (Found (IsWeightAmong (weight_at level) (data_of s.root) (0x1100 + i) (live_from (data_of s.root) e)) old new)) is
-      (subst (λ d. OnOk r (Found (IsWeightAmong (weight_at level) (data_of s.root) d (live_from (data_of s.root) e)) old new)) at h)
+      subst (λ e. OnOk r (Found (IsWeightAmong (weight_at list) (data_of s.root) (0x1100 + i) (live_from (data_of s.root) e)) old new)) is
+      (subst (λ d. OnOk r (Found (IsWeightAmong (weight_at list) (data_of s.root) d (live_from (data_of s.root) e)) old new)) at h)
 
-  pub lent_jamo : (n : ℕ) → n ≡ 256 → (old new : List ℕ) → Adds (IsBelow (IsJamoWeight level (tables_in s)) n) old new → Adds (IsWeightBy level Jamo (tables_in s).tables) old new
+  pub lent_jamo : (n : ℕ) → n ≡ 256 → (old new : List ℕ) → Adds (IsBelow (IsJamoWeight list (tables_in s)) n) old new → Adds (IsWeightBy list Jamo (tables_in s).tables) old new
   lent_jamo n count old new adds =
-      adds_same (IsBelow (IsJamoWeight level (tables_in s)) 256) (IsWeightBy level Jamo (tables_in s).tables) old new (jamo_same level (tables_in s))
-      (subst (λ n. Adds (IsBelow (IsJamoWeight level (tables_in s)) n) old new) count adds)
+      adds_same (IsBelow (IsJamoWeight list (tables_in s)) 256) (IsWeightBy list Jamo (tables_in s).tables) old new (jamo_same list (tables_in s))
+      (subst (λ n. Adds (IsBelow (IsJamoWeight list (tables_in s)) n) old new) count adds)
 
-  pub lent_accents : (n : ℕ) → n ≡ length (diacritics_of s.diacritics) → (old new : List ℕ) → Adds (IsBelow (IsAccentWeight level (tables_in s)) n) old new → Adds (IsWeightBy level Diacritics (tables_in s).tables) old new
+  pub lent_accents : (n : ℕ) → n ≡ length (diacritics_of s.diacritics) → (old new : List ℕ) → Adds (IsBelow (IsAccentWeight list (tables_in s)) n) old new → Adds (IsWeightBy list Diacritics (tables_in s).tables) old new
   unfolding tables_in
-  lent_accents n count old new adds = adds_same (IsBelow (IsAccentWeight level (tables_in s)) n) (IsWeightBy level Diacritics (tables_in s).tables) old new (accents_same level (tables_in s) n count) adds
+  lent_accents n count old new adds = adds_same (IsBelow (IsAccentWeight list (tables_in s)) n) (IsWeightBy list Diacritics (tables_in s).tables) old new (accents_same list (tables_in s) n count) adds
 
   same_some_weight : (v w : ℕ) → Some v ≡ Some w → v ≡ w
   same_some_weight v w h = cc
@@ -248,20 +248,20 @@ module _ (s : TableSet) (level : Level) where
   none_some_weight w h = cc
 
   abbrev accent_weight : ℕ → Option ℕ
-  accent_weight i = weight_at level (of_secondary (slice_index (diacritics_of s.diacritics) i))
+  accent_weight i = weight_at list (of_secondary (slice_index (diacritics_of s.diacritics) i))
 
-  pub lent_accent : (i v : ℕ) → is_replaced_index i ≡ false → accent_weight i ≡ Some v → (old new : List ℕ) → new ≡ old ++ v ∷ [] → Adds (IsAccentWeight level (tables_in s) i) old new
+  pub lent_accent : (i v : ℕ) → is_replaced_index i ≡ false → accent_weight i ≡ Some v → (old new : List ℕ) → new ≡ old ++ v ∷ [] → Adds (IsAccentWeight list (tables_in s) i) old new
   unfolding tables_in
   lent_accent i v kept weighs old new is =
-      adds_one (IsAccentWeight level (tables_in s) i) old new v is (record { kept = kept; weighs = weighs }) (λ w p. same_some_weight v w (sym weighs ∙ p.weighs))
+      adds_one (IsAccentWeight list (tables_in s) i) old new v is (record { kept = kept; weighs = weighs }) (λ w p. same_some_weight v w (sym weighs ∙ p.weighs))
 
-  pub lent_no_accent : (i : ℕ) → accent_weight i ≡ None → (old : List ℕ) → Adds (IsAccentWeight level (tables_in s) i) old old
+  pub lent_no_accent : (i : ℕ) → accent_weight i ≡ None → (old : List ℕ) → Adds (IsAccentWeight list (tables_in s) i) old old
   unfolding tables_in
-  lent_no_accent i weighs old = adds_none (IsAccentWeight level (tables_in s) i) old old refl (λ w p. none_some_weight w (sym weighs ∙ p.weighs))
+  lent_no_accent i weighs old = adds_none (IsAccentWeight list (tables_in s) i) old old refl (λ w p. none_some_weight w (sym weighs ∙ p.weighs))
 
   true_false : (b : Bool) → b ≡ true → b ≡ false → ⊥
   true_false true h k = cc
   true_false false h k = cc
 
-  pub lent_replaced : (i : ℕ) → is_replaced_index i ≡ true → (old : List ℕ) → Adds (IsAccentWeight level (tables_in s) i) old old
-  lent_replaced i replaced old = adds_none (IsAccentWeight level (tables_in s) i) old old refl (λ w p. true_false _ replaced p.kept)
+  pub lent_replaced : (i : ℕ) → is_replaced_index i ≡ true → (old : List ℕ) → Adds (IsAccentWeight list (tables_in s) i) old old
+  lent_replaced i replaced old = adds_none (IsAccentWeight list (tables_in s) i) old old refl (λ w p. true_false _ replaced p.kept)

@@ -3,7 +3,7 @@ use Rattle.std.proofs.Common.{◌≡◌, Option, None, Result, Ok, Err, IfOk, If
 use Rattle.icu_data.specs.Faults.{earlier}
 use Rattle.icu_data.proofs.FaultLemmas.{earlier-none, earlier-keeps}
 use Rattle.icu_checks.specs.declared.fault.Fault.{Fault}
-use Rattle.icu_checks.specs.CollatorTables.{CollatorTables}
+use Rattle.icu_provider.specs.CollatorTables.{CollatorTables}
 use Rattle.icu_checks.specs.Faults.{fault_rank}
 use Rattle.icu_checks.specs.PairFaults.{IsOutcome}
 

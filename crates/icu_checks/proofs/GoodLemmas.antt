@@ -6,7 +6,7 @@ use Rattle.icu_entries.specs.declared.error.DataErrorKind.TheVariants as kinds
 use Rattle.icu_entries.specs.declared.error.DataTable.{DataTable}
 use Rattle.icu_checks.specs.declared.condition.Condition.{Condition}
 use Rattle.icu_checks.specs.declared.condition.Condition.TheVariants as conditions
-use Rattle.icu_checks.specs.CollatorTables.{CollatorTables}
+use Rattle.icu_provider.specs.CollatorTables.{CollatorTables}
 use Rattle.icu_checks.specs.GoodTables.{Meets, MeetsBy, IsGoodTables, FailsBy, IsTrueRefusal}
 
 -- a condition that holds does so as far as any table takes part
@@ -15,7 +15,7 @@ meets_by all conditions.DiacriticCount table meets = λ is. meets
 meets_by all (conditions.Entry condition) table meets = meets table
 meets_by all conditions.PrefixRows table meets = λ is. meets
 meets_by all (conditions.Element condition) table meets = λ own is. meets own
-meets_by all (conditions.Pair condition) table meets = λ first second named. meets first second
+meets_by all (conditions.Pair condition) table meets = λ first second x is_x y is_y named. meets first second x is_x y is_y
 meets_by all (conditions.Lead condition) table meets = λ is. meets
 
 -- tables that meet the conditions are refused for want of memory alone

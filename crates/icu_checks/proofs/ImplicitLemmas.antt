@@ -1,15 +1,14 @@
 -- Implicit weights: none of them is collected, and they meet every condition where reordering takes them to a lead byte of their own.
-use Rattle.std.proofs.Common.{◌≡◌, ◌≢◌, ℕ, ◌+◌, ◌*◌, ◌/◌, ◌%◌, ◌^◌, ◌<◌, ◌≤◌, Bool, true, false, not, ◌==◌, ◌&&◌, ◌||◌, nat_eq, nat_le, nat_lt, List, [], ◌∷◌, Option, Some, None, IsTrue, if◌then◌else◌, fold, refl, sym, ap, ◌∙◌, subst, arith}
+use Rattle.std.proofs.Common.{◌≡◌, ◌≢◌, ℕ, ◌+◌, ◌*◌, ◌/◌, ◌%◌, ◌^◌, ◌<◌, ◌≤◌, Bool, true, false, not, ◌==◌, ◌&&◌, ◌||◌, nat_eq, nat_le, nat_lt, Option, None, IsTrue, if◌then◌else◌, refl, sym, ap, ◌∙◌, subst, arith}
 use Rattle.std.proofs.lemmas.Bool.Decides.{nat_tests}
 use Rattle.icu_entries.specs.declared.error.DataTable.{DataTable}
-use Rattle.icu_entries.specs.Elements.{Element, of_primary}
+use Rattle.icu_entries.specs.Elements.{of_primary}
 use Rattle.icu_entries.specs.declared.entry.EntryKind.TheVariants.{Implicit}
 use Rattle.icu_entries.specs.Entries.{kind_of}
 use Rattle.icu_data.specs.DataConditions.{avoids_diacritics}
 use Rattle.icu_data.specs.Faults.{earlier}
 use Rattle.icu_data.specs.Final.{final_elements}
 use Rattle.icu_provider.specs.Reorderings.{lead_byte}
-use Rattle.icu_provider.specs.SpecialPrimaries.{is_compressible}
 use Rattle.icu_data.specs.Data.{Data}
 use Rattle.icu_entries.specs.Weights.{weight, implicit_weight}
 use Rattle.icu_data.proofs.FaultLemmas.{none_found, negated}
@@ -17,15 +16,14 @@ use Rattle.icu_data.proofs.ImplicitLemmas.{implicit_passes}
 use Rattle.icu_checks.specs.declared.condition.ElementCondition.{ElementCondition}
 use Rattle.icu_checks.specs.declared.condition.ElementCondition.TheVariants.{Width, BackwardLead, LoneTertiary, MiddleLead, ImplicitLength, NumericLead, SharedLead, SecondByte}
 use Rattle.icu_checks.specs.declared.fault.Fault.{Fault}
-use Rattle.icu_checks.specs.declared.weights.Level.{Level}
-use Rattle.icu_checks.specs.declared.weights.Level.TheVariants.{Primary, Secondary, Tertiary, Lone, Beside}
-use Rattle.icu_checks.specs.CollatorTables.{CollatorTables, is_forward, reorder, new_lead}
+use Rattle.icu_checks.specs.declared.check.weights.WeightList.{WeightList}
+use Rattle.icu_checks.specs.declared.check.weights.WeightList.TheVariants.{Primaries, Secondaries, Tertiaries, TertiaryElements, WithSecondary}
+use Rattle.icu_provider.specs.CollatorTables.{CollatorTables, is_forward, reorder, new_lead}
 use Rattle.icu_checks.specs.Leads.{is_middle}
 use Rattle.icu_checks.specs.ElementConditions.{implicit_lead, has_low_bytes, has_second_byte, is_apart, primary_meets, element_meets, element_conditions}
 use Rattle.icu_checks.specs.declared.condition.LeadCondition.TheVariants.{ImplicitLead, LeadsApart}
 use Rattle.icu_checks.specs.LeadConditions.{TakesTogether, LeadMeets}
-use Rattle.icu_checks.specs.EntryFaults.{first_failing_element, after_element, elements_fault, entry_fault, ImplicitPasses}
-use Rattle.icu_checks.specs.Faults.{fault_rank}
+use Rattle.icu_checks.specs.EntryFaults.{first_failing_element, elements_fault, entry_fault, ImplicitPasses}
 use Rattle.icu_checks.specs.Weights.{weight_at}
 
 -- ---- the bytes of an implicit weight
@@ -89,26 +87,16 @@ implicit_bytes c =
     subst AreBytes (sum (4 + (c + 1) / 4572 % 251) (2 + (c + 1) / 18 % 254) (2 + 14 * ((c + 1) % 18)))
     (bytes (4 + (c + 1) / 4572 % 251) (2 + (c + 1) / 18 % 254) (2 + 14 * ((c + 1) % 18)) (omega arith) (omega arith) (omega arith) (omega arith) (omega arith) (omega arith))
 
--- ---- none is collected
+-- ---- what they weigh
 
-no_primary : (p : ℕ) → lead_byte p ≡ 0xFE → (if p == 0 || lead_byte p == implicit_lead then None else Some p) ≡ None
-no_primary p is = chosen (p == 0) (lead_byte p == implicit_lead) (is_lead (lead_byte p) is)
-  where
-    is_lead : (b : ℕ) → b ≡ 0xFE → nat_eq b 0xFE ≡ true
-    is_lead b h = grind (arith, nat_tests)
-
-    chosen : (a b : Bool) → b ≡ true → (if a || b then None else Some p) ≡ None
-    chosen true b h = refl
-    chosen false true h = refl
-    chosen false false h = cc
-
-pub weighs_nothing : (level : Level) (c : ℕ) → weight_at level (of_primary (implicit_weight c)) ≡ None
+-- but for its primary weight, none of an implicit element is compared
+pub weighs_nothing : (list : WeightList) (p : ℕ) → (list ≡ Primaries → ⊥) → weight_at list (of_primary p) ≡ None
 unfolding weight_at
-weighs_nothing Primary c = no_primary (implicit_weight c) (implicit_bytes c).lead
-weighs_nothing Secondary c = refl
-weighs_nothing Tertiary c = refl
-weighs_nothing Lone c = refl
-weighs_nothing Beside c = refl
+weighs_nothing Primaries p other = absurd (other refl)
+weighs_nothing Secondaries p other = refl
+weighs_nothing Tertiaries p other = refl
+weighs_nothing TertiaryElements p other = refl
+weighs_nothing WithSecondary p other = refl
 
 -- ---- they meet every condition
 

@@ -15,8 +15,8 @@ use Rattle.icu_data.specs.Faults.{IsFaultAmong, IsLiveFault}
 use Rattle.icu_data.proofs.FaultLemmas.{weaker_some, not_before, earlier-none}
 use Rattle.icu_checks.specs.declared.condition.ElementCondition.{ElementCondition}
 use Rattle.icu_checks.specs.declared.fault.Fault.{Fault}
-use Rattle.icu_checks.specs.declared.table_set.TableSet.{TableSet}
-use Rattle.icu_checks.specs.TableSets.{tables_in}
+use Rattle.icu_provider.specs.declared.table_set.TableSet.{TableSet}
+use Rattle.icu_provider.specs.TableSets.{tables_in}
 use Rattle.icu_data.specs.Faults.{earlier}
 use Rattle.icu_checks.specs.Faults.{fault_rank, IsTrueFault}
 use Rattle.icu_checks.specs.ElementConditions.{element_meets}

@@ -1,22 +1,32 @@
 -- The elements that weights are collected from, what a collected weight is, and the tests that conditions on elements are made of.
-use Rattle.std.proofs.Common.{◌≡◌, ◌≢◌, ℕ, ◌*◌, ◌^◌, Bool, true, false, not, ◌==◌, ◌&&◌, ◌||◌, List, Option, Some, None, if◌then◌else◌, refl, subst, arith, inl, inr, IsTrue}
+use Rattle.std.proofs.Common.{◌≡◌, ◌≢◌, ℕ, ◌*◌, ◌^◌, Bool, true, false, not, ◌==◌, ◌&&◌, ◌||◌, List, [], ◌∷◌, Option, Some, None, if◌then◌else◌, refl, sym, ap, ◌∙◌, subst, arith, inl, inr, IsTrue}
 use Rattle.std.specs.List.{Contains, list_all}
 use Rattle.std.proofs.lemmas.Bool.{cases_Bool}
 use Rattle.std.proofs.lemmas.Bool.Decides.{nat_tests}
 use Rattle.std.proofs.lemmas.List.Sums.{AllPass-from_list_all}
 use Rattle.icu_entries.specs.declared.error.DataTable.{DataTable}
 use Rattle.icu_entries.specs.declared.error.DataTable.TheVariants.{Root, Jamo, SpecialPrimaries, Metadata, Tailoring, Reordering, Diacritics}
-use Rattle.icu_entries.specs.Elements.{Element, common}
+use Rattle.icu_entries.specs.Elements.{Element, of_primary, common}
+use Rattle.icu_entries.specs.declared.entry.EntryKind.{EntryKind}
+use Rattle.icu_entries.specs.declared.entry.EntryKind.TheVariants.{Simple, Fallback, LongPrimary, LongSecondary, Expansion32, Expansion, Prefix, Contraction, Digit, Offset, Implicit, Reserved}
+use Rattle.icu_entries.specs.Entries.{kind_of}
+use Rattle.icu_entries.specs.Weights.{implicit_weight}
+use Rattle.icu_data.specs.Data.{Data, homed}
+use Rattle.icu_data.specs.DataConditions.{is_readable}
+use Rattle.icu_data.specs.Final.{final_elements}
+use Rattle.icu_data.specs.LiveWeights.{is_stated}
 use Rattle.icu_entries.specs.ElementConditions.{tertiary_of}
-use Rattle.icu_provider.specs.Reorderings.{lead_byte}
 use Rattle.icu_provider.specs.Tables.{Tables}
-use Rattle.icu_checks.specs.declared.weights.Level.TheVariants.{Primary, Secondary, Tertiary, Lone, Beside}
-use Rattle.icu_checks.specs.CollatorTables.{CollatorTables}
+use Rattle.icu_provider.specs.Reorderings.{lead_byte}
+use Rattle.icu_checks.specs.declared.check.weights.WeightList.{WeightList}
+use Rattle.icu_checks.specs.declared.check.weights.WeightList.TheVariants.{Primaries, Secondaries, Tertiaries, TertiaryElements, WithSecondary}
+use Rattle.icu_provider.specs.CollatorTables.{CollatorTables}
 use Rattle.icu_checks.specs.ElementConditions.{implicit_lead, is_lone}
 use Rattle.icu_checks.specs.LiveElements.{IsElementBy}
 use Rattle.icu_checks.specs.EntryFaults.{MeetsIn, LiveMeets}
-use Rattle.icu_checks.specs.Weights.{left_aligned, plain_primary, uncommon, weight_at, IsReadBy}
+use Rattle.icu_checks.specs.Weights.{left_aligned, nonzero, uncommon, weight_at, IsReadBy}
 use Rattle.icu_checks.proofs.EntryFaultLemmas.{readable}
+use Rattle.icu_checks.proofs.ImplicitLemmas.{implicit_bytes, weighs_nothing}
 
 -- ---- elements
 
@@ -30,6 +40,39 @@ element_by tables Metadata x is = absurd is.live
 element_by tables Reordering x is = absurd is.live
 element_by tables Diacritics x is = is
 
+-- it isn't the element of an implicit weight
+abbrev pub IsExplicit : Element → Type 0
+IsExplicit x = (c : ℕ) → x ≡ of_primary (implicit_weight c) → ⊥
+
+not_implicit : (k : EntryKind) → (k ≡ Implicit → ⊥) → (elim k as (λ _. Bool) [ Implicit ↦ false | _ ↦ true ]) ≡ true
+not_implicit Simple h = refl
+not_implicit Fallback h = refl
+not_implicit LongPrimary h = refl
+not_implicit LongSecondary h = refl
+not_implicit Expansion32 h = refl
+not_implicit Expansion h = refl
+not_implicit Prefix h = refl
+not_implicit Contraction h = refl
+not_implicit Digit h = refl
+not_implicit Offset h = refl
+not_implicit Implicit h = absurd (h refl)
+not_implicit Reserved h = refl
+
+-- the elements of an entry for an implicit weight
+pub implicit_elements : (home : Data) (c e : ℕ) → kind_of e ≡ Implicit → final_elements (homed home e) c ≡ of_primary (implicit_weight c) ∷ []
+unfolding final_elements
+implicit_elements home c e is = rw (is, final_elements) refl
+
+one_member : (x y : Element) → Contains (x ∷ []) y → y ≡ x
+one_member x y has = grind (arith, has)
+
+-- an entry that can be read and gives another element is stated by its table
+stated_from : (home : Data) (c e : ℕ) (x : Element) → IsTrue (is_readable home c e) → Contains (final_elements (homed home e) c) x → IsExplicit x → IsTrue (is_stated home c e)
+unfolding is_stated
+stated_from home c e x can_read member explicit =
+    let other : kind_of e ≡ Implicit → ⊥ = λ is. explicit c (one_member (of_primary (implicit_weight c)) x (subst (λ xs. Contains xs x) (implicit_elements home c e is) member)) in
+    rw (not_implicit (kind_of e) other) can_read
+
 module _ (all : CollatorTables) where
   -- what is live by any table meets the conditions; by some tables nothing is live
   pub meets_in : LiveMeets all → (table : DataTable) → MeetsIn table all
@@ -41,36 +84,36 @@ module _ (all : CollatorTables) where
   meets_in met Metadata = record { entries = λ condition home c e is. absurd is; rows = λ home c e is. absurd is; elements = λ condition x is. absurd is.live }
   meets_in met Reordering = record { entries = λ condition home c e is. absurd is; rows = λ home c e is. absurd is; elements = λ condition x is. absurd is.live }
 
-  -- so what is live is read
-  pub read_by : LiveMeets all → (table : DataTable) (x : Element) → IsElementBy table all.tables x → IsReadBy table all.tables x
-  read_by met Root x is = record {
+  -- so what is live and isn't the element of an implicit weight is read
+  pub read_by : LiveMeets all → (table : DataTable) (x : Element) → IsElementBy table all.tables x → IsExplicit x → IsReadBy table all.tables x
+  read_by met Root x is explicit = record {
     home = is.home;
     char = is.char;
     entry = is.entry;
     live = is.live;
-    readable = readable all is.home is.char is.entry (λ condition. met.root.entries condition is.home is.char is.entry is.live);
+    stated = stated_from is.home is.char is.entry x (readable all is.home is.char is.entry (λ condition. met.root.entries condition is.home is.char is.entry is.live)) is.member explicit;
     member = is.member;
   }
-  read_by met Jamo x is = record {
+  read_by met Jamo x is explicit = record {
     home = is.home;
     char = is.char;
     entry = is.entry;
     live = is.live;
-    readable = readable all is.home is.char is.entry (λ condition. met.jamo.entries condition is.home is.char is.entry is.live);
+    stated = stated_from is.home is.char is.entry x (readable all is.home is.char is.entry (λ condition. met.jamo.entries condition is.home is.char is.entry is.live)) is.member explicit;
     member = is.member;
   }
-  read_by met Tailoring x is = record {
+  read_by met Tailoring x is explicit = record {
     home = is.home;
     char = is.char;
     entry = is.entry;
     live = is.live;
-    readable = readable all is.home is.char is.entry (λ condition. met.tailoring.entries condition is.home is.char is.entry is.live);
+    stated = stated_from is.home is.char is.entry x (readable all is.home is.char is.entry (λ condition. met.tailoring.entries condition is.home is.char is.entry is.live)) is.member explicit;
     member = is.member;
   }
-  read_by met SpecialPrimaries x is = absurd is.live
-  read_by met Metadata x is = absurd is.live
-  read_by met Reordering x is = absurd is.live
-  read_by met Diacritics x is = is
+  read_by met SpecialPrimaries x is explicit = absurd is.live
+  read_by met Metadata x is explicit = absurd is.live
+  read_by met Reordering x is explicit = absurd is.live
+  read_by met Diacritics x is explicit = is
 
 -- ---- what a collected weight is
 
@@ -89,38 +132,46 @@ kept_of false o w h = (refl, h)
 some_of_two : (s : ℕ) → (s == 0 || s == common) ≡ false → s ≢ 0
 some_of_two s h e = grind (arith, nat_tests)
 
-some_of_four : (p : ℕ) → (p == 0 || lead_byte p == implicit_lead) ≡ false → p ≢ 0
-some_of_four p h e = grind (arith, nat_tests)
-
 some_of_one : (s : ℕ) → (s == 0) ≡ false → s ≢ 0
 some_of_one s h e = grind (arith, nat_tests)
 
 two_bytes_weigh : (s w : ℕ) → left_aligned s ≡ Some w → (s ≢ 0) × (s * 2 ^ 16 ≡ w)
 two_bytes_weigh s w h = let parts = kept (s == 0 || s == common) (s * 2 ^ 16) w h in (some_of_two s parts.0, parts.1)
 
-pub primary_weighs : (x : Element) (w : ℕ) → weight_at Primary x ≡ Some w → (x.primary ≢ 0) × (x.primary ≡ w)
+pub primary_weighs : (x : Element) (w : ℕ) → weight_at Primaries x ≡ Some w → (x.primary ≢ 0) × (x.primary ≡ w)
 unfolding weight_at
-primary_weighs x w h = let parts = kept (x.primary == 0 || lead_byte x.primary == implicit_lead) x.primary w h in (some_of_four x.primary parts.0, parts.1)
+primary_weighs x w h = let parts = kept (x.primary == 0) x.primary w h in (some_of_one x.primary parts.0, parts.1)
 
-pub secondary_weighs : (x : Element) (w : ℕ) → weight_at Secondary x ≡ Some w → (x.secondary ≢ 0) × (x.secondary * 2 ^ 16 ≡ w)
+pub secondary_weighs : (x : Element) (w : ℕ) → weight_at Secondaries x ≡ Some w → (x.secondary ≢ 0) × (x.secondary * 2 ^ 16 ≡ w)
 unfolding weight_at
 secondary_weighs x w h = two_bytes_weigh x.secondary w h
 
-pub tertiary_weighs : (x : Element) (w : ℕ) → weight_at Tertiary x ≡ Some w → (tertiary_of x ≢ 0) × (tertiary_of x * 2 ^ 16 ≡ w)
+pub tertiary_weighs : (x : Element) (w : ℕ) → weight_at Tertiaries x ≡ Some w → (tertiary_of x ≢ 0) × (tertiary_of x * 2 ^ 16 ≡ w)
 unfolding weight_at
 tertiary_weighs x w h = two_bytes_weigh (tertiary_of x) w h
 
-pub lone_weighs : (x : Element) (w : ℕ) → weight_at Lone x ≡ Some w → (is_lone x ≡ true) × (tertiary_of x ≡ w)
+pub lone_weighs : (x : Element) (w : ℕ) → weight_at TertiaryElements x ≡ Some w → (is_lone x ≡ true) × (tertiary_of x ≡ w)
 unfolding weight_at
 lone_weighs x w h = chosen (is_lone x) (tertiary_of x) w h
 
-pub beside_weighs : (x : Element) (w : ℕ) → weight_at Beside x ≡ Some w → (x.secondary ≢ 0) × (tertiary_of x ≡ w)
+pub beside_weighs : (x : Element) (w : ℕ) → weight_at WithSecondary x ≡ Some w → (x.secondary ≢ 0) × (tertiary_of x ≡ w)
 unfolding weight_at
 beside_weighs x w h =
     let parts = kept_of (x.secondary == 0) (uncommon (tertiary_of x)) w h in
     (some_of_one x.secondary parts.0, (kept (tertiary_of x == 0 || tertiary_of x == common) (tertiary_of x) w parts.1).1)
 
 -- ---- what weighs so is collected
+
+none_some : (w : ℕ) → None ≡ Some w → ⊥
+none_some w h = cc
+
+-- but for primary weights, none of an implicit element is collected, and primary weights with another lead byte aren't implicit
+pub weighs_explicit : (list : WeightList) (x : Element) (w : ℕ) → (list ≡ Primaries → ⊥) → weight_at list x ≡ Some w → IsExplicit x
+weighs_explicit list x w other weighs c is =
+    none_some w (sym (weighs_nothing list (implicit_weight c) other) ∙ ap (weight_at list) (sym is) ∙ weighs)
+
+pub lead_explicit : (x : Element) → lead_byte x.primary ≢ implicit_lead → IsExplicit x
+lead_explicit x other c is = other (ap (λ (x : Element). lead_byte x.primary) is ∙ (implicit_bytes c).lead)
 
 pub two_bytes_kept : (s : ℕ) → s ≢ 0 → s ≢ common → left_aligned s ≡ Some (s * 2 ^ 16)
 two_bytes_kept s some other =
@@ -129,18 +180,18 @@ two_bytes_kept s some other =
       | inr f ↦ rw f refl
     ]
 
-pub primary_kept : (x : Element) → x.primary ≢ 0 → lead_byte x.primary ≢ implicit_lead → weight_at Primary x ≡ Some x.primary
+pub primary_kept : (x : Element) → x.primary ≢ 0 → weight_at Primaries x ≡ Some x.primary
 unfolding weight_at
-primary_kept x some other = four_bytes_kept x.primary some other
+primary_kept x some = kept_nonzero x.primary some
   where
-    four_bytes_kept : (p : ℕ) → p ≢ 0 → lead_byte p ≢ implicit_lead → plain_primary p ≡ Some p
-    four_bytes_kept p some other =
-        elim (cases_Bool (p == 0 || lead_byte p == implicit_lead)) [
+    kept_nonzero : (p : ℕ) → p ≢ 0 → nonzero p ≡ Some p
+    kept_nonzero p some =
+        elim (cases_Bool (p == 0)) [
           | inl t ↦ absurd (grind (arith, nat_tests))
           | inr f ↦ rw f refl
         ]
 
-pub lone_kept : (x : Element) → IsTrue (is_lone x) → weight_at Lone x ≡ Some (tertiary_of x)
+pub lone_kept : (x : Element) → IsTrue (is_lone x) → weight_at TertiaryElements x ≡ Some (tertiary_of x)
 unfolding weight_at
 lone_kept x h = by (is_lone x) (tertiary_of x) h
   where
@@ -148,7 +199,7 @@ lone_kept x h = by (is_lone x) (tertiary_of x) h
     by true t h = refl
     by false t h = cc
 
-pub beside_kept : (x : Element) → x.secondary ≢ 0 → tertiary_of x ≢ 0 → tertiary_of x ≢ common → weight_at Beside x ≡ Some (tertiary_of x)
+pub beside_kept : (x : Element) → x.secondary ≢ 0 → tertiary_of x ≢ 0 → tertiary_of x ≢ common → weight_at WithSecondary x ≡ Some (tertiary_of x)
 unfolding weight_at
 beside_kept x below some other = by x.secondary (tertiary_of x) below some other
   where

@@ -19,9 +19,9 @@ use Rattle.icu_data.specs.Data.{homed}
 use Rattle.icu_checks.specs.declared.condition.Condition.TheVariants as conditions
 use Rattle.icu_checks.specs.declared.condition.ElementCondition.TheVariants as of_element
 use Rattle.icu_checks.specs.declared.condition.PairCondition.TheVariants as of_pair
-use Rattle.icu_checks.specs.declared.weights.Level.{Level}
-use Rattle.icu_checks.specs.declared.weights.Level.TheVariants.{Secondary, Tertiary}
-use Rattle.icu_checks.specs.CollatorTables.{CollatorTables}
+use Rattle.icu_checks.specs.declared.check.weights.WeightList.{WeightList}
+use Rattle.icu_checks.specs.declared.check.weights.WeightList.TheVariants.{Primaries, Secondaries, Tertiaries, TertiaryElements, WithSecondary}
+use Rattle.icu_provider.specs.CollatorTables.{CollatorTables}
 use Rattle.icu_checks.specs.LiveElements.{IsElementBy, IsOfEntryBy, IsOfAccent}
 use Rattle.icu_checks.specs.ElementConditions.{is_lone, is_high_lone}
 use Rattle.icu_checks.specs.EntryFaults.{MeetsIn, LiveMeets}
@@ -30,13 +30,13 @@ use Rattle.icu_checks.specs.PairFaults.{LonesAreHigh}
 use Rattle.icu_checks.specs.Weights.{left_aligned, weight_at, IsWeightBy}
 use Rattle.icu_checks.proofs.CommonLemmas.{HaveLeads, none_begins}
 use Rattle.icu_checks.proofs.OverlapLemmas.{free_of_two_bytes}
-use Rattle.icu_checks.proofs.LevelLemmas.{meets_in, read_by, two_bytes_kept, lone_kept, beside_kept, second_of_three, third_of_three, implied, passes}
+use Rattle.icu_checks.proofs.LevelLemmas.{IsExplicit, meets_in, read_by, weighs_explicit, two_bytes_kept, lone_kept, beside_kept, second_of_three, third_of_three, implied, passes}
 
 -- ---- what is collected, and what is live
 module _ (all : CollatorTables) where
-  -- the list has each weight of this level
-  abbrev pub Collected : Level → List ℕ → Type 0
-  Collected level ws = (table : DataTable) (w : ℕ) → IsWeightBy level table all.tables w → Contains ws w
+  -- the list has each of these weights
+  abbrev pub Collected : WeightList → List ℕ → Type 0
+  Collected list ws = (table : DataTable) (w : ℕ) → IsWeightBy list table all.tables w → Contains ws w
 
   -- a weight, not zero, of an element that is live by some table
   pub record IsLiveWeight (weigh : Element → ℕ) (w : ℕ) : Type 0 where
@@ -47,11 +47,23 @@ module _ (all : CollatorTables) where
     pub some : w ≢ 0
 
 module _ (all : CollatorTables) (met : LiveMeets all) where
-  pub collected_at : (level : Level) (ws : List ℕ) → Collected all level ws → (table : DataTable) (x : Element) → IsElementBy table all.tables x
-      → (w : ℕ) → weight_at level x ≡ Some w → Contains ws w
-  collected_at level ws has table x is w weighs = has table w (record { x = x; read = read_by all met table x is; weighs = weighs })
+  pub collected_at : (list : WeightList) (ws : List ℕ) → Collected all list ws → (table : DataTable) (x : Element) → IsElementBy table all.tables x → IsExplicit x
+      → (w : ℕ) → weight_at list x ≡ Some w → Contains ws w
+  collected_at list ws has table x is explicit w weighs = has table w (record { x = x; read = read_by all met table x is explicit; weighs = weighs })
 
 -- ---- the weights of one element
+
+secondaries_other : Secondaries ≡ Primaries → ⊥
+secondaries_other h = cc
+
+tertiaries_other : Tertiaries ≡ Primaries → ⊥
+tertiaries_other h = cc
+
+elements_other : TertiaryElements ≡ Primaries → ⊥
+elements_other h = cc
+
+beside_other : WithSecondary ≡ Primaries → ⊥
+beside_other h = cc
 
 lone_some : (s t : ℕ) → IsTrue (s == 0 && not (t == 0)) → 0 < t
 lone_some s t h = grind (arith, nat_tests)
@@ -86,11 +98,11 @@ accent_leads : (s : ℕ) → IsTrue (is_diacritic_weight true s) → IsTrue (has
 unfolding is_diacritic_weight
 accent_leads s h = third_of_three (not (s == 0)) (has_shape (of_secondary s)) (has_leads true (of_secondary s)) h
 
-secondary_weight : (x : Element) → weight_at Secondary x ≡ left_aligned x.secondary
+secondary_weight : (x : Element) → weight_at Secondaries x ≡ left_aligned x.secondary
 unfolding weight_at
 secondary_weight x = refl
 
-tertiary_weight : (x : Element) → weight_at Tertiary x ≡ left_aligned (tertiary_of x)
+tertiary_weight : (x : Element) → weight_at Tertiaries x ≡ left_aligned (tertiary_of x)
 unfolding weight_at
 tertiary_weight x = refl
 
@@ -104,8 +116,8 @@ module _ (all : CollatorTables) (met : LiveMeets all) (tables : AreTables all) w
           | inl is ↦ subst (λ t. t < tertiary_of x) (sym is) (above_common _ (tertiary_of x)
               (implied (is_lone x) (is_high_lone x) ((meets_in all met first).elements of_element.LoneTertiary x is_x) lone))
           | inr other ↦ high first second (tertiary_of x) (tertiary_of y)
-              (record { x = x; read = read_by all met first x is_x; weighs = lone_kept x lone })
-              (record { x = y; read = read_by all met second y is_y; weighs = beside_kept y beside some other })
+              (record { x = x; read = read_by all met first x is_x (weighs_explicit TertiaryElements x (tertiary_of x) elements_other (lone_kept x lone)); weighs = lone_kept x lone })
+              (record { x = y; read = read_by all met second y is_y (weighs_explicit WithSecondary y (tertiary_of y) beside_other (beside_kept y beside some other)); weighs = beside_kept y beside some other })
         ]
       ]
 
@@ -129,13 +141,15 @@ module _ (all : CollatorTables) (met : LiveMeets all) (tables : AreTables all) w
   leads_of Reordering x is = absurd is.live
 
   -- weights of two bytes, of which the common one isn't collected
-  two_bytes_meet : (level : Level) (weigh : Element → ℕ) → ((x : Element) → weight_at level x ≡ left_aligned (weigh x))
+  two_bytes_meet : (list : WeightList) → (list ≡ Primaries → ⊥) → (weigh : Element → ℕ) → ((x : Element) → weight_at list x ≡ left_aligned (weigh x))
       → HaveLeads (IsLiveWeight all weigh) → ((w : ℕ) → IsLiveWeight all weigh w → w < 2 ^ 16)
-      → (ws : List ℕ) → Collected all level ws → IsPrefixFree (weight_bytes 4) (Contains ws) → IsPrefixFree (weight_bytes 2) (IsLiveWeight all weigh)
-  two_bytes_meet level weigh weighs leads fits ws has free =
+      → (ws : List ℕ) → Collected all list ws → IsPrefixFree (weight_bytes 4) (Contains ws) → IsPrefixFree (weight_bytes 2) (IsLiveWeight all weigh)
+  two_bytes_meet list other_list weigh weighs leads fits ws has free =
       none_begins (IsLiveWeight all weigh) leads (λ v w live_v live_w other_v other_w differ begins.
       free_of_two_bytes ws (λ s. IsLiveWeight all weigh s × (s ≢ common)) (λ s l. fits s l.0)
-      (λ s l. collected_at all met level ws has l.0.table l.0.x l.0.live (s * 2 ^ 16) (weighs l.0.x ∙ ap left_aligned l.0.is ∙ two_bytes_kept s l.0.some l.1))
+      (λ s l.
+      let is = weighs l.0.x ∙ ap left_aligned l.0.is ∙ two_bytes_kept s l.0.some l.1 in
+      collected_at all met list ws has l.0.table l.0.x l.0.live (weighs_explicit list l.0.x (s * 2 ^ 16) other_list is) (s * 2 ^ 16) is)
       free v w (live_v, other_v) (live_w, other_w) differ begins)
 
   secondary_lead : (w : ℕ) → IsLiveWeight all (λ x. x.secondary) w → IsTrue (has_secondary_lead true w)
@@ -155,9 +169,9 @@ module _ (all : CollatorTables) (met : LiveMeets all) (tables : AreTables all) w
       (second_of_three (nat_lt l.x.primary (2 ^ 32)) (nat_lt l.x.secondary (2 ^ 16)) (nat_lt l.x.lower (2 ^ 16))
       ((meets_in all met l.table).elements of_element.Width l.x l.live)))
 
-  pub secondaries_meet : (ws : List ℕ) → Collected all Secondary ws → IsPrefixFree (weight_bytes 4) (Contains ws) → Meets (conditions.Pair of_pair.Secondaries) all
+  pub secondaries_meet : (ws : List ℕ) → Collected all Secondaries ws → IsPrefixFree (weight_bytes 4) (Contains ws) → Meets (conditions.Pair of_pair.Secondaries) all
   secondaries_meet ws has free first second x is_x y is_y some_x some_y differ begins =
-      two_bytes_meet Secondary (λ x. x.secondary) secondary_weight secondary_leads secondary_fits ws has free x.secondary y.secondary
+      two_bytes_meet Secondaries secondaries_other (λ x. x.secondary) secondary_weight secondary_leads secondary_fits ws has free x.secondary y.secondary
       (record { table = first; x = x; live = is_x; is = refl; some = some_x }) (record { table = second; x = y; live = is_y; is = refl; some = some_y })
       differ begins
 
@@ -175,8 +189,8 @@ module _ (all : CollatorTables) (met : LiveMeets all) (tables : AreTables all) w
   tertiary_fits : (w : ℕ) → IsLiveWeight all tertiary_of w → w < 2 ^ 16
   tertiary_fits w l = subst (λ t. t < 2 ^ 16) l.is (omega (arith, and_le_r l.x.lower 0x3F3F))
 
-  pub tertiaries_meet : (ws : List ℕ) → Collected all Tertiary ws → IsPrefixFree (weight_bytes 4) (Contains ws) → Meets (conditions.Pair of_pair.Tertiaries) all
+  pub tertiaries_meet : (ws : List ℕ) → Collected all Tertiaries ws → IsPrefixFree (weight_bytes 4) (Contains ws) → Meets (conditions.Pair of_pair.Tertiaries) all
   tertiaries_meet ws has free first second x is_x y is_y some_x some_y differ begins =
-      two_bytes_meet Tertiary tertiary_of tertiary_weight tertiary_leads tertiary_fits ws has free (tertiary_of x) (tertiary_of y)
+      two_bytes_meet Tertiaries tertiaries_other tertiary_of tertiary_weight tertiary_leads tertiary_fits ws has free (tertiary_of x) (tertiary_of y)
       (record { table = first; x = x; live = is_x; is = refl; some = some_x }) (record { table = second; x = y; live = is_y; is = refl; some = some_y })
       differ begins

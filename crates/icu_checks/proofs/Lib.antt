@@ -13,13 +13,12 @@ pub mod LiveFaultLemmas
 pub mod LentFaultLemmas
 pub mod FaultPairs
 pub mod CollectLemmas
-pub mod StageLemmas
 pub mod LoneLemmas
 pub mod LevelLemmas
 pub mod LevelRefutes
 pub mod LevelMeets
 pub mod PrimaryMeets
-pub mod PrimaryFaultLemmas
+pub mod WeightListLemmas
+pub mod ImplicitOverlapLemmas
 pub mod CheckLemmas
-pub mod KeptLemmas
 pub mod ImplicitLemmas

@@ -13,7 +13,7 @@ use Rattle.icu_data.specs.Faults.{IsFaultAmong, IsLiveFault}
 use Rattle.icu_data.proofs.ListLemmas.{of_member}
 use Rattle.icu_checks.specs.declared.condition.ElementCondition.{ElementCondition}
 use Rattle.icu_checks.specs.declared.fault.Fault.{Fault}
-use Rattle.icu_checks.specs.CollatorTables.{CollatorTables}
+use Rattle.icu_provider.specs.CollatorTables.{CollatorTables}
 use Rattle.icu_checks.specs.LiveElements.{IsLiveBy, IsOfEntryBy}
 use Rattle.icu_checks.specs.ElementConditions.{element_meets}
 use Rattle.icu_checks.specs.Faults.{IsTrueFault}

@@ -1,6 +1,6 @@
--- Ascending weights of which no neighbours overlap
+-- Weights in the order of what they are written as, of which no neighbours overlap.
 use Rattle.std.proofs.Common.{◌≡◌, ◌≢◌, ℕ, ◌+◌, ◌^◌, ◌<◌, ◌≤◌, List, length, get_or, refl, sym, ap, ◌∙◌, subst, inl, inr, ◌⊎◌, arith, swap, IsPermutation}
-use Rattle.std.specs.List.Sorted.{IsNonDecreasing}
+use Rattle.std.specs.List.Sorted.{IsNonDecreasingBy}
 use Rattle.std.proofs.lemmas.Bool.{cases_eq, cases_lt}
 use Rattle.std.proofs.lemmas.List.Edits.{Swapped, swapped_from_swap, length-swap}
 use Rattle.std.proofs.lemmas.List.Sorted.{IsPermutation-keeps}
@@ -8,39 +8,39 @@ use Rattle.icu_levels.specs.ListOrder.{IsBeginning}
 use Rattle.icu_levels.specs.WeightBytes.{weight_bytes}
 use Rattle.icu_checks.proofs.BeginningLemmas.{beginning_le, beginning_between, begins_itself}
 
--- the weight at one place is written as a beginning of that at another
-pub record BeginsAt (ws : List ℕ) (i j : ℕ) : Type 0 where
-  pub first : i < length ws
-  pub second : j < length ws
-  pub different : i ≢ j
-  pub begins : IsBeginning (weight_bytes 4 (get_or ws i 0)) (weight_bytes 4 (get_or ws j 0))
-
 -- where no weight begins its neighbour, none begins another
-pub neighbours_suffice : (ws : List ℕ) → ((k : ℕ) → k < length ws → get_or ws k 0 < 2 ^ 32) → IsNonDecreasing ws
-    → ((k : ℕ) → k + 1 < length ws → IsBeginning (weight_bytes 4 (get_or ws k 0)) (weight_bytes 4 (get_or ws (k + 1) 0)) → ⊥)
-    → (i j : ℕ) → BeginsAt ws i j → ⊥
-neighbours_suffice ws fits up free i j h = by (cases_lt i j)
-  where
-    by : (i < j) ⊎ (j ≤ i) → ⊥
-    by (inl l) =
-        free i (omega (arith, h.second)) (beginning_between (get_or ws i 0) (get_or ws (i + 1) 0) (get_or ws j 0) (fits i h.first)
-        (up i (i + 1) 0 (omega arith) (omega (arith, h.second))) (up (i + 1) j 0 (omega arith) h.second) h.begins)
-    by (inr l) =
-        let below : j < i = omega (arith, h.different) in
-        let le = beginning_le (get_or ws i 0) (get_or ws j 0) (fits i h.first) (fits j h.second) h.begins in
-        let one = up j (j + 1) 0 (omega arith) (omega (arith, h.first)) in
-        let more = up (j + 1) i 0 (omega arith) h.first in
-        let same : get_or ws j 0 ≡ get_or ws (j + 1) 0 = omega (arith, le, one, more) in
-        free j (omega (arith, h.first))
-        (subst (λ x. IsBeginning (weight_bytes 4 (get_or ws j 0)) (weight_bytes 4 x)) same (begins_itself (weight_bytes 4 (get_or ws j 0))))
+module _ (f : ℕ → ℕ) (ws : List ℕ) (fits : (k : ℕ) → k < length ws → f (get_or ws k 0) < 2 ^ 32) (up : IsNonDecreasingBy f ws) where
+  abbrev Begins : ℕ → ℕ → Type 0
+  Begins i j = IsBeginning (weight_bytes 4 (f (get_or ws i 0))) (weight_bytes 4 (f (get_or ws j 0)))
+
+  pub neighbours_suffice : ((k : ℕ) → k + 1 < length ws → Begins k (k + 1) → ⊥)
+      → (i j : ℕ) → i < length ws → j < length ws → i ≢ j → Begins i j → ⊥
+  neighbours_suffice free i j p q n h = by (cases_lt i j)
+    where
+      by : (i < j) ⊎ (j ≤ i) → ⊥
+      by (inl l) =
+          free i (omega (arith, q)) (beginning_between (f (get_or ws i 0)) (f (get_or ws (i + 1) 0)) (f (get_or ws j 0)) (fits i p)
+          (up i (i + 1) 0 (omega arith) (omega (arith, q))) (up (i + 1) j 0 (omega arith) q) h)
+      by (inr l) =
+          let below : j < i = omega (arith, n) in
+          let le = beginning_le (f (get_or ws i 0)) (f (get_or ws j 0)) (fits i p) (fits j q) h in
+          let one = up j (j + 1) 0 (omega arith) (omega (arith, p)) in
+          let more = up (j + 1) i 0 (omega arith) p in
+          let same : f (get_or ws j 0) ≡ f (get_or ws (j + 1) 0) = omega (arith, le, one, more) in
+          free j (omega (arith, p))
+          (subst (λ x. IsBeginning (weight_bytes 4 (f (get_or ws j 0))) (weight_bytes 4 x)) same (begins_itself (weight_bytes 4 (f (get_or ws j 0)))))
 
 -- ---- another order
 
--- some weight begins another
-pub record HasBeginning (ws : List ℕ) : Type 0 where
+-- v and w stand at two places of the list
+pub record AreAt (v w : ℕ) (ws : List ℕ) : Type 0 where
   pub i : ℕ
   pub j : ℕ
-  pub at : BeginsAt ws i j
+  pub first : i < length ws
+  pub second : j < length ws
+  pub different : i ≢ j
+  pub is_first : get_or ws i 0 ≡ v
+  pub is_second : get_or ws j 0 ≡ w
 
 -- where a swap of a and b takes what stands at m
 abbrev To : ℕ → ℕ → ℕ → ℕ → Type 0
@@ -51,8 +51,8 @@ goes f g a b m s (inl e) y = (b, inl (e, refl), s.1 ∙ ap f (sym e))
 goes f g a b m s (inr n) (inl e) = (a, inr (inl (e, refl)), s.0 ∙ ap f (sym e))
 goes f g a b m s (inr n) (inr o) = (m, inr (inr (n, o, refl)), s.2 m n o)
 
-swapped : (ws : List ℕ) (a b : ℕ) → a < length ws → b < length ws → HasBeginning ws → HasBeginning (swap ws a b)
-swapped ws a b p q h =
+swapped : (v w : ℕ) (ws : List ℕ) (a b : ℕ) → a < length ws → b < length ws → AreAt v w ws → AreAt v w (swap ws a b)
+swapped v w ws a b p q h =
     let len = length-swap ws a b in
     let s = swapped_from_swap ws (swap ws a b) a b 0 p q refl in
     let x = goes (λ n. get_or ws n 0) (λ n. get_or (swap ws a b) n 0) a b h.i s (cases_eq h.i a) (cases_eq h.i b) in
@@ -60,14 +60,12 @@ swapped ws a b p q h =
     record {
       i = x.0;
       j = y.0;
-      at = record {
-        first = omega (arith, x.1, h.at.first);
-        second = omega (arith, y.1, h.at.second);
-        different = omega (arith, x.1, y.1, h.at.different);
-        begins = subst (λ z. IsBeginning (weight_bytes 4 z) (weight_bytes 4 (get_or (swap ws a b) y.0 0))) (sym x.2)
-            (subst (λ z. IsBeginning (weight_bytes 4 (get_or ws h.i 0)) (weight_bytes 4 z)) (sym y.2) h.at.begins);
-      };
+      first = omega (arith, x.1, h.first);
+      second = omega (arith, y.1, h.second);
+      different = omega (arith, x.1, y.1, h.different);
+      is_first = x.2 ∙ h.is_first;
+      is_second = y.2 ∙ h.is_second;
     }
 
-pub permuted : (ws us : List ℕ) → IsPermutation ws us → HasBeginning ws → HasBeginning us
-permuted ws us moved h = IsPermutation-keeps ws HasBeginning h swapped us moved
+pub permuted : (v w : ℕ) (ws us : List ℕ) → IsPermutation ws us → AreAt v w ws → AreAt v w us
+permuted v w ws us moved h = IsPermutation-keeps ws (AreAt v w) h (swapped v w) us moved

@@ -1,32 +1,31 @@
--- Overlaps of the members of a list, from those of its places
-use Rattle.std.proofs.Common.{◌≡◌, ◌≢◌, ℕ, ◌+◌, ◌*◌, ◌^◌, ◌<◌, ◌≤◌, List, length, get_or, map, sym, ap, ◌∙◌, subst, inl, inr, ◌⊎◌, arith, Contains, IsPermutation, true, is_some, Option, Some, None, IfSome}
+-- Overlaps of the members of a list, from those of its indexes.
+use Rattle.std.proofs.Common.{◌≡◌, ◌≢◌, ℕ, ◌*◌, ◌^◌, ◌<◌, ◌≤◌, List, length, get_or, refl, sym, ap, ◌∙◌, subst, inl, inr, ◌⊎◌, arith, Contains, IsPermutation}
 use Rattle.std.specs.List.Sorted.{IsStrictlyIncreasing}
 use Rattle.std.proofs.lemmas.Bool.{cases_lt}
-use Rattle.std.proofs.lemmas.List.{get_or_default, get_or-map}
+use Rattle.std.proofs.lemmas.List.{get_or_default}
 use Rattle.std.proofs.lemmas.List.Elements.{Contains-get_or}
 use Rattle.std.proofs.lemmas.List.Kept.{AllPairs-from_increasing}
-use Rattle.std.proofs.lemmas.List.Sorted.{IsPermutation-sym}
-use Rattle.std.proofs.Math.ListN.{length-map}
+use Rattle.std.proofs.lemmas.List.Sorted.{IsPermutation-sym, Contains-permutation}
 use Rattle.icu_levels.specs.ListOrder.{IsBeginning}
 use Rattle.icu_levels.specs.WeightBytes.{weight_bytes}
 use Rattle.icu_levels.specs.Premises.{IsPrefixFree}
-use Rattle.icu_checks.specs.Overlaps.{Overlaps, HasOverlap}
+use Rattle.icu_checks.specs.Overlaps.{Overlaps}
 use Rattle.icu_checks.proofs.BeginningLemmas.{moved_up_bytes}
-use Rattle.icu_checks.proofs.NeighbourLemmas.{BeginsAt, permuted}
+use Rattle.icu_checks.proofs.NeighbourLemmas.{permuted}
 
--- a member, by its place
+-- a member, by its index
 member_at : (ws : List ℕ) (v : ℕ) (c : Contains ws v) → get_or ws c.0 0 ≡ v
 member_at ws v c = get_or_default ws c.0 0 v c.1 ∙ c.2
 
-places_differ : (ws : List ℕ) (v w : ℕ) (c : Contains ws v) (d : Contains ws w) → v ≢ w → c.0 ≢ d.0
-places_differ ws v w c d n e = n (sym (member_at ws v c) ∙ (ap (λ k. get_or ws k 0) e ∙ member_at ws w d))
+indexes_differ : (ws : List ℕ) (v w : ℕ) (c : Contains ws v) (d : Contains ws w) → v ≢ w → c.0 ≢ d.0
+indexes_differ ws v w c d n e = n (sym (member_at ws v c) ∙ (ap (λ k. get_or ws k 0) e ∙ member_at ws w d))
 
--- no place of which the weight begins another: no member begins another
-pub free_from_places : (spell : ℕ → List ℕ) (ws : List ℕ)
+-- at no index a weight that begins another: no member begins another
+free_from_indexes : (spell : ℕ → List ℕ) (ws : List ℕ)
     → ((i j : ℕ) → i < length ws → j < length ws → i ≢ j → IsBeginning (spell (get_or ws i 0)) (spell (get_or ws j 0)) → ⊥)
     → IsPrefixFree spell (Contains ws)
-free_from_places spell ws none v w c d n h =
-    none c.0 d.0 c.1 d.1 (places_differ ws v w c d n)
+free_from_indexes spell ws none v w c d n h =
+    none c.0 d.0 c.1 d.1 (indexes_differ ws v w c d n)
     (subst (λ z. IsBeginning (spell z) (spell (get_or ws d.0 0))) (sym (member_at ws v c))
     (subst (λ z. IsBeginning (spell v) (spell z)) (sym (member_at ws w d)) h))
 
@@ -38,61 +37,32 @@ weights_differ ws up i j p q n e = by (cases_lt i j)
     by (inl l) = omega (arith, AllPairs-from_increasing ws up i j 0 l q)
     by (inr l) = omega (arith, AllPairs-from_increasing ws up j i 0 (omega arith) p)
 
-pub overlaps_from_places : (spell : ℕ → List ℕ) (ws : List ℕ) → IsStrictlyIncreasing ws → (i j : ℕ) → i < length ws → j < length ws → i ≢ j
-    → IsBeginning (spell (get_or ws i 0)) (spell (get_or ws j 0)) → Overlaps spell ws (get_or ws i 0) (get_or ws j 0)
-overlaps_from_places spell ws up i j p q n h = record {
-  first = Contains-get_or ws i 0 p;
-  second = Contains-get_or ws j 0 q;
-  different = weights_differ ws up i j p q n;
-  begins = h;
-}
+-- ---- weights that were put in another order
+module _ (spell : ℕ → List ℕ) (ws us : List ℕ) (moved : IsPermutation ws us) where
+  pub free_from_moved : ((i j : ℕ) → i < length us → j < length us → i ≢ j → IsBeginning (spell (get_or us i 0)) (spell (get_or us j 0)) → ⊥)
+      → IsPrefixFree spell (Contains ws)
+  free_from_moved none v w c d n h =
+      free_from_indexes spell us none v w (Contains-permutation ws us v moved c) (Contains-permutation ws us w moved d) n h
 
-pub not_free : (spell : ℕ → List ℕ) (ws : List ℕ) (v w : ℕ) → Overlaps spell ws v w → IsPrefixFree spell (Contains ws) → ⊥
-not_free spell ws v w o free = free v w o.first o.second o.different o.begins
+  back : (v : ℕ) → Contains us v → Contains ws v
+  back v c = Contains-permutation us ws v (IsPermutation-sym ws us moved) c
 
--- ---- weights that were mapped and sorted
-module _ (f : ℕ → ℕ) (ws us : List ℕ) (moved : IsPermutation (map f ws) us) where
-  mapped_at : (i : ℕ) → i < length ws → get_or (map f ws) i 0 ≡ f (get_or ws i 0)
-  mapped_at i l = get_or-map f ws i 0 0 l
+  values_differ : IsStrictlyIncreasing ws → (i j : ℕ) → i < length us → j < length us → i ≢ j → get_or us i 0 ≢ get_or us j 0
+  values_differ up i j p q n e =
+      let at = permuted (get_or us i 0) (get_or us j 0) us ws (IsPermutation-sym ws us moved) (record { i = i; j = j; first = p; second = q; different = n; is_first = refl; is_second = refl }) in
+      weights_differ ws up at.i at.j at.first at.second at.different (at.is_first ∙ e ∙ sym at.is_second)
 
-  pub free_from_sorted : ((i j : ℕ) → BeginsAt us i j → ⊥) → IsPrefixFree (λ w. weight_bytes 4 (f w)) (Contains ws)
-  free_from_sorted none =
-      free_from_places (λ w. weight_bytes 4 (f w)) ws (λ i j p q n h.
-      let found = permuted (map f ws) us moved (record {
-        i = i;
-        j = j;
-        at = record {
-          first = omega (arith, length-map ws f);
-          second = omega (arith, length-map ws f);
-          different = n;
-          begins = subst (λ z. IsBeginning (weight_bytes 4 z) (weight_bytes 4 (get_or (map f ws) j 0))) (sym (mapped_at i p))
-              (subst (λ z. IsBeginning (weight_bytes 4 (f (get_or ws i 0))) (weight_bytes 4 z)) (sym (mapped_at j q)) h);
-        };
-      }) in none found.i found.j found.at)
+  pub overlaps_from_moved : IsStrictlyIncreasing ws → (i j : ℕ) → i < length us → j < length us → i ≢ j
+      → IsBeginning (spell (get_or us i 0)) (spell (get_or us j 0)) → Overlaps spell ws (get_or us i 0) (get_or us j 0)
+  overlaps_from_moved up i j p q n h = record {
+    first = back _ (Contains-get_or us i 0 p);
+    second = back _ (Contains-get_or us j 0 q);
+    different = values_differ up i j p q n;
+    begins = h;
+  }
 
-  pub overlap_from_sorted : IsStrictlyIncreasing ws → (i j : ℕ) → BeginsAt us i j → HasOverlap (λ w. weight_bytes 4 (f w)) ws
-  overlap_from_sorted up i j at =
-      let found = permuted us (map f ws) (IsPermutation-sym (map f ws) us moved) (record { i = i; j = j; at = at }) in
-      let p : found.i < length ws = omega (arith, found.at.first, length-map ws f) in
-      let q : found.j < length ws = omega (arith, found.at.second, length-map ws f) in
-      record {
-        shorter = get_or ws found.i 0;
-        longer = get_or ws found.j 0;
-        overlaps = overlaps_from_places (λ w. weight_bytes 4 (f w)) ws up found.i found.j p q found.at.different
-            (subst (λ z. IsBeginning (weight_bytes 4 z) (weight_bytes 4 (f (get_or ws found.j 0)))) (mapped_at found.i p)
-            (subst (λ z. IsBeginning (weight_bytes 4 (get_or (map f ws) found.i 0)) (weight_bytes 4 z)) (mapped_at found.j q) found.at.begins));
-      }
-
--- ---- what a search for a place that begins its neighbour answers
-pub nothing_begins : (us : List ℕ)
-    → ((i j : ℕ) → i < length us → j < length us → i ≢ j → IsBeginning (weight_bytes 4 (get_or us i 0)) (weight_bytes 4 (get_or us j 0)) → ⊥)
-    → (i j : ℕ) → BeginsAt us i j → ⊥
-nothing_begins us none i j at = none i j at.first at.second at.different at.begins
-
-pub place_found : (us : List ℕ) (r : Option ℕ) → is_some r ≡ true → IfSome r (λ k. k + 1 < length us)
-    → IfSome r (λ k. IsBeginning (weight_bytes 4 (get_or us k 0)) (weight_bytes 4 (get_or us (k + 1) 0))) → (k : ℕ) × BeginsAt us k (k + 1)
-place_found us None t p q = cc
-place_found us (Some k) t p q = (k, record { first = omega arith; second = p; different = omega arith; begins = q })
+  pub overlaps_back : (v w : ℕ) → Overlaps spell us v w → Overlaps spell ws v w
+  overlaps_back v w o = record { first = back v o.first; second = back w o.second; different = o.different; begins = o.begins }
 
 -- ---- weights of two bytes
 

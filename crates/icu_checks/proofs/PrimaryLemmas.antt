@@ -5,7 +5,7 @@ use Rattle.std.proofs.lemmas.Bool.Decides.{nat_tests}
 use Rattle.icu_levels.specs.ListOrder.{IsBeginning}
 use Rattle.icu_levels.specs.WeightBytes.{weight_bytes}
 use Rattle.icu_provider.specs.Reorderings.{lead_byte}
-use Rattle.icu_checks.specs.CollatorTables.{CollatorTables, reorder, new_lead}
+use Rattle.icu_provider.specs.CollatorTables.{CollatorTables, reorder, new_lead}
 use Rattle.icu_checks.specs.ElementConditions.{implicit_lead, has_low_bytes}
 use Rattle.icu_checks.specs.Leads.{is_middle}
 use Rattle.icu_checks.specs.LeadConditions.{TakesTogether}

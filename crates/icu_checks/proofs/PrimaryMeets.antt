@@ -19,9 +19,9 @@ use Rattle.icu_data.specs.Data.{homed}
 use Rattle.icu_checks.specs.declared.condition.Condition.TheVariants as conditions
 use Rattle.icu_checks.specs.declared.condition.ElementCondition.TheVariants.{Width, MiddleLead, ImplicitLength, SharedLead}
 use Rattle.icu_checks.specs.declared.condition.LeadCondition.TheVariants.{ImplicitLead, Separator, HighLead}
-use Rattle.icu_checks.specs.declared.condition.PairCondition.TheVariants.{Primaries, Compression}
-use Rattle.icu_checks.specs.declared.weights.Level.TheVariants.{Primary}
-use Rattle.icu_checks.specs.CollatorTables.{CollatorTables, reorder_by, reorder, new_lead}
+use Rattle.icu_checks.specs.declared.condition.PairCondition.TheVariants as of_pair
+use Rattle.icu_checks.specs.declared.check.weights.WeightList.TheVariants.{Primaries}
+use Rattle.icu_provider.specs.CollatorTables.{CollatorTables, reorder_by, reorder, new_lead}
 use Rattle.icu_checks.specs.LiveElements.{IsElementBy, IsOfEntryBy}
 use Rattle.icu_checks.specs.ElementConditions.{implicit_lead, has_low_bytes, is_apart, primary_meets}
 use Rattle.icu_checks.specs.EntryFaults.{MeetsIn, LiveMeets}
@@ -30,7 +30,7 @@ use Rattle.icu_checks.specs.LeadConditions.{LeadMeets}
 use Rattle.icu_checks.specs.Leads.{is_middle}
 use Rattle.icu_checks.proofs.LeadLemmas.{reordered-rest}
 use Rattle.icu_checks.proofs.PrimaryLemmas.{AreApart, none_begins, compress_alike}
-use Rattle.icu_checks.proofs.LevelLemmas.{meets_in, primary_kept, first_of_three, implied, passes}
+use Rattle.icu_checks.proofs.LevelLemmas.{meets_in, primary_kept, lead_explicit, first_of_three, implied, passes}
 use Rattle.icu_checks.proofs.LevelMeets.{Collected, IsLiveWeight, collected_at}
 
 -- ---- one weight
@@ -151,23 +151,23 @@ module _ (all : CollatorTables) (met : LiveMeets all) (given : AreTables all) (t
     lead_alone = λ p l. rest_stays all.reordering p;
   }
 
-  collected : (ws : List ℕ) → Collected all Primary ws → (p : ℕ) → IsLive all p → lead_byte p ≢ implicit_lead → Contains ws p
+  collected : (ws : List ℕ) → Collected all Primaries ws → (p : ℕ) → IsLive all p → lead_byte p ≢ implicit_lead → Contains ws p
   collected ws has p l other =
-      collected_at all met Primary ws has l.table l.x l.live p
-      (primary_kept l.x (some_primary all met p l) (λ e. other (ap (λ p. lead_byte p) (sym l.is) ∙ e)) ∙ ap Some l.is)
+      collected_at all met Primaries ws has l.table l.x l.live (lead_explicit l.x (λ e. other (ap (λ p. lead_byte p) (sym l.is) ∙ e))) p
+      (primary_kept l.x (some_primary all met p l) ∙ ap Some l.is)
 
-  pub primaries_meet : (ws : List ℕ) → Collected all Primary ws → IsPrefixFree (λ p. weight_bytes 4 (reorder all p)) (Contains ws)
-      → Meets (conditions.Pair Primaries) all
+  pub primaries_meet : (ws : List ℕ) → Collected all Primaries ws → IsPrefixFree (λ p. weight_bytes 4 (reorder all p)) (Contains ws)
+      → Meets (conditions.Pair of_pair.Primaries) all
   primaries_meet ws has free first second x is_x y is_y some_x some_y differ begins =
       none_begins all (IsLive all) known
       (λ v w live_v live_w other_v other_w. free v w (collected ws has v live_v other_v) (collected ws has w live_w other_w)) x.primary y.primary
       (record { table = first; x = x; live = is_x; is = refl; some = some_x }) (record { table = second; x = y; live = is_y; is = refl; some = some_y })
       differ begins
 
-  pub compression_meets : (ws : List ℕ) → Collected all Primary ws
+  pub compression_meets : (ws : List ℕ) → Collected all Primaries ws
       → ((v w : ℕ) → Contains ws v → Contains ws w → lead_byte (reorder all v) ≡ lead_byte (reorder all w)
       → is_compressible all.special (lead_byte v) ≡ is_compressible all.special (lead_byte w))
-      → Meets (conditions.Pair Compression) all
+      → Meets (conditions.Pair of_pair.Compression) all
   compression_meets ws has alike first second x is_x y is_y some_x some_y same =
       compress_alike all (IsLive all) known (is_compressible all.special)
       (λ v w live_v live_w other_v other_w. alike v w (collected ws has v live_v other_v) (collected ws has w live_w other_w)) x.primary y.primary

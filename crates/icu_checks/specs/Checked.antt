@@ -1,7 +1,20 @@
 -- The tables that a value of checked tables keeps.
+use Rattle.std.specs.Prelude.{Option}
+use Rattle.icu_data.specs.declared.data.CollationData.{CollationData}
+use Rattle.icu_provider.specs.declared.diacritics.CollationDiacritics.{CollationDiacritics}
+use Rattle.icu_provider.specs.declared.jamo.CollationJamo.{CollationJamo}
+use Rattle.icu_provider.specs.declared.metadata.CollationMetadata.{CollationMetadata}
+use Rattle.icu_provider.specs.declared.reordering.CollationReordering.{CollationReordering}
+use Rattle.icu_provider.specs.declared.special_primaries.CollationSpecialPrimaries.{CollationSpecialPrimaries}
+use Rattle.icu_provider.specs.CollatorTables.{CollatorTables}
+use Rattle.icu_provider.specs.OwnedTables.{owned_tables}
+use Rattle.icu_provider.specs.TableSets.{tables_in}
 use Rattle.icu_checks.specs.declared.checked.CheckedTables.{CheckedTables}
-use Rattle.icu_checks.specs.CollatorTables.{CollatorTables}
-use Rattle.icu_checks.specs.Kept.{kept_tables}
 
 abbrev pub checked_tables : CheckedTables → CollatorTables
-checked_tables t = kept_tables t.root t.jamo t.special t.metadata t.tailoring t.reordering t.diacritics
+checked_tables t = owned_tables t.tables
+
+-- what tables say one by one
+abbrev pub tables_of : CollationData → CollationJamo → CollationSpecialPrimaries → CollationMetadata → Option CollationData → Option CollationReordering → CollationDiacritics → CollatorTables
+tables_of root jamo special metadata tailoring reordering diacritics =
+    tables_in (record { root = root; jamo = jamo; special = special; metadata = metadata; tailoring = tailoring; reordering = reordering; diacritics = diacritics })

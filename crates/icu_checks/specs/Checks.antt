@@ -1,7 +1,7 @@
 -- What the parts of the check find where there is no fault.
 use Rattle.icu_checks.specs.declared.condition.LeadCondition.{LeadCondition}
-use Rattle.icu_checks.specs.declared.weights.Level.TheVariants.{Secondary, Tertiary}
-use Rattle.icu_checks.specs.CollatorTables.{CollatorTables}
+use Rattle.icu_checks.specs.declared.check.weights.Level.TheVariants.{Secondary, Tertiary}
+use Rattle.icu_provider.specs.CollatorTables.{CollatorTables}
 use Rattle.icu_checks.specs.LeadConditions.{LeadMeets}
 use Rattle.icu_checks.specs.PairFaults.{LonesAreHigh, LevelIsFree, PrimariesAreFree}
 
@@ -11,6 +11,6 @@ LeadsMeet all = (condition : LeadCondition) → LeadMeets condition all
 -- tertiary weights alone are high, and no weight of a level begins another
 pub record PairsMeet (all : CollatorTables) : Type 0 where
   pub lones : LonesAreHigh all.tables
-  pub secondaries : LevelIsFree Secondary all.tables
-  pub tertiaries : LevelIsFree Tertiary all.tables
+  pub secondaries : LevelIsFree Secondary all
+  pub tertiaries : LevelIsFree Tertiary all
   pub primaries : PrimariesAreFree all

@@ -7,7 +7,7 @@ use Rattle.icu_provider.specs.SpecialPrimaries.{is_compressible}
 use Rattle.icu_checks.specs.declared.condition.ElementCondition.{ElementCondition}
 use Rattle.icu_checks.specs.declared.condition.ElementCondition.TheVariants.{Width, BackwardLead, LoneTertiary, MiddleLead, ImplicitLength, NumericLead, SharedLead, SecondByte}
 use Rattle.icu_checks.specs.Leads.{is_middle}
-use Rattle.icu_checks.specs.CollatorTables.{CollatorTables, is_forward, reorder, new_lead}
+use Rattle.icu_provider.specs.CollatorTables.{CollatorTables, is_forward, reorder, new_lead}
 
 -- the lead byte of implicit weights
 abbrev pub implicit_lead : ℕ

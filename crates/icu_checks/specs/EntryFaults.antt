@@ -16,7 +16,7 @@ use Rattle.icu_data.specs.LiveConditions.{first_failing}
 use Rattle.icu_checks.specs.declared.condition.Condition.TheVariants as conditions
 use Rattle.icu_checks.specs.declared.condition.ElementCondition.{ElementCondition}
 use Rattle.icu_checks.specs.declared.fault.Fault.{Fault}
-use Rattle.icu_checks.specs.CollatorTables.{CollatorTables}
+use Rattle.icu_provider.specs.CollatorTables.{CollatorTables}
 use Rattle.icu_checks.specs.ElementConditions.{element_meets, element_conditions}
 use Rattle.icu_checks.specs.GoodTables.{later, table_of_element, EachEntry, EachElement, EntryMeets, HasPlainRows}
 use Rattle.icu_checks.specs.Faults.{fault_rank}

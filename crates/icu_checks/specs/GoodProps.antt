@@ -7,7 +7,7 @@ use Rattle.icu_checks.specs.declared.condition.PairCondition.{PairCondition}
 use Rattle.icu_checks.specs.declared.condition.PairCondition.TheVariants.{LoneTertiaries, Primaries, Secondaries, Tertiaries, Compression}
 use Rattle.icu_checks.specs.declared.condition.LeadCondition.{LeadCondition}
 use Rattle.icu_checks.specs.declared.condition.LeadCondition.TheVariants.{Separator, HighLead, ImplicitLead, NumericLead, LeadsApart, NumericWhole}
-use Rattle.icu_checks.specs.CollatorTables.{CollatorTables}
+use Rattle.icu_provider.specs.CollatorTables.{CollatorTables}
 use Rattle.icu_checks.specs.PairConditions.{PairMeets}
 use Rattle.icu_checks.specs.LeadConditions.{LeadMeets}
 use Rattle.icu_checks.specs.GoodTables.{Meets, IsGoodTables}

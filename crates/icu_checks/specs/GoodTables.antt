@@ -13,7 +13,7 @@ use Rattle.icu_data.specs.Contexts.{has_ascending_rows}
 use Rattle.icu_provider.specs.Diacritics.{IsDiacritics}
 use Rattle.icu_provider.specs.Jamo.{IsJamo}
 use Rattle.icu_data.specs.DataConditions.{avoids_diacritics}
-use Rattle.icu_data.specs.LiveConditions.{meets, kind_for}
+use Rattle.icu_data.specs.LiveConditions.{meets}
 use Rattle.icu_provider.specs.Metadata.{has_tailored_diacritics}
 use Rattle.icu_provider.specs.Reorderings.{Reordering}
 use Rattle.icu_provider.specs.SpecialPrimaries.{IsSpecialPrimaries}
@@ -25,11 +25,13 @@ use Rattle.icu_checks.specs.declared.condition.PairCondition.{PairCondition}
 use Rattle.icu_checks.specs.declared.condition.PairCondition.TheVariants as of_pair
 use Rattle.icu_checks.specs.declared.condition.LeadCondition.{LeadCondition}
 use Rattle.icu_checks.specs.declared.condition.LeadCondition.TheVariants as of_lead
-use Rattle.icu_checks.specs.CollatorTables.{CollatorTables}
+use Rattle.icu_provider.specs.CollatorTables.{CollatorTables}
 use Rattle.icu_checks.specs.LiveElements.{IsLiveBy, IsElementBy}
 use Rattle.icu_checks.specs.ElementConditions.{element_meets}
+use Rattle.icu_checks.specs.Overlaps.{AreOverlapping}
 use Rattle.icu_checks.specs.PairConditions.{PairMeets}
 use Rattle.icu_checks.specs.LeadConditions.{LeadMeets}
+use Rattle.icu_checks.specs.Groups.{group_of, kind_in}
 
 -- ---- what each table shows by itself
 
@@ -87,24 +89,7 @@ pub record IsGoodTables (all : CollatorTables) : Type 0 where
 -- ---- what a refusal says
 
 abbrev pub kind_of : Condition → DataErrorKind
-kind_of conditions.DiacriticCount = kinds.Length
-kind_of (conditions.Entry condition) = kind_for condition
-kind_of conditions.PrefixRows = kinds.Context
-kind_of (conditions.Element of_element.Width) = kinds.Element
-kind_of (conditions.Element of_element.BackwardLead) = kinds.Element
-kind_of (conditions.Element of_element.LoneTertiary) = kinds.Element
-kind_of (conditions.Element of_element.MiddleLead) = kinds.Reordering
-kind_of (conditions.Element of_element.ImplicitLength) = kinds.Overlap
-kind_of (conditions.Element of_element.NumericLead) = kinds.Overlap
-kind_of (conditions.Element of_element.SharedLead) = kinds.Reordering
-kind_of (conditions.Element of_element.SecondByte) = kinds.Compression
-kind_of (conditions.Pair of_pair.LoneTertiaries) = kinds.Element
-kind_of (conditions.Pair of_pair.Primaries) = kinds.Overlap
-kind_of (conditions.Pair of_pair.Secondaries) = kinds.Overlap
-kind_of (conditions.Pair of_pair.Tertiaries) = kinds.Overlap
-kind_of (conditions.Pair of_pair.Compression) = kinds.Compression
-kind_of (conditions.Lead of_lead.NumericWhole) = kinds.Compression
-kind_of (conditions.Lead _) = kinds.Reordering
+kind_of condition = kind_in (group_of condition)
 
 -- the order in which tables are named
 abbrev pub table_rank : DataTable → ℕ
@@ -133,11 +118,17 @@ abbrev pub table_of_lead : LeadCondition → DataTable
 table_of_lead of_lead.NumericWhole = tables.SpecialPrimaries
 table_of_lead _ = tables.Reordering
 
+-- The table by which an overlap of a primary weight of one table and one of another is named: the later one of the two where the
+-- weights overlap as they stand, and the reordering where they overlap only by it.
+pub record IsOverlapTable (first second : DataTable) (p q : ℕ) (table : DataTable) : Type 0 where
+  pub before : AreOverlapping p q → table ≡ later first second
+  pub after : (AreOverlapping p q → ⊥) → table ≡ tables.Reordering
+
 -- the table by which a condition on an element of one table and one of another is named
-abbrev pub IsNamedBy : PairCondition → DataTable → DataTable → DataTable → Type 0
-IsNamedBy of_pair.Compression first second table = table ≡ tables.Reordering
-IsNamedBy of_pair.Primaries first second table = (table ≡ later first second) ⊎ (table ≡ tables.Reordering)
-IsNamedBy _ first second table = table ≡ later first second
+abbrev pub IsNamedBy : PairCondition → DataTable → DataTable → Element → Element → DataTable → Type 0
+IsNamedBy of_pair.Compression first second x y table = table ≡ tables.Reordering
+IsNamedBy of_pair.Primaries first second x y table = IsOverlapTable first second x.primary y.primary table
+IsNamedBy _ first second x y table = table ≡ later first second
 
 -- the condition, as far as this table takes part in it
 abbrev pub MeetsBy : Condition → DataTable → CollatorTables → Type 0
@@ -147,7 +138,7 @@ MeetsBy conditions.PrefixRows table all = table ≡ tables.Diacritics → Meets 
 MeetsBy (conditions.Element condition) table all =
     (own : DataTable) → table ≡ later own (table_of_element condition) → EachElement (λ x. IsTrue (element_meets condition all x)) own all
 MeetsBy (conditions.Pair condition) table all =
-    (first second : DataTable) → IsNamedBy condition first second table → EachPair (PairMeets condition all) first second all
+    (first second : DataTable) → EachPair (λ x y. IsNamedBy condition first second x y table → PairMeets condition all x y) first second all
 MeetsBy (conditions.Lead condition) table all = table ≡ table_of_lead condition → LeadMeets condition all
 
 -- a condition of this kind fails, and this table takes part in it

@@ -4,7 +4,7 @@ use Rattle.icu_entries.specs.declared.error.DataError.{DataError}
 use Rattle.icu_provider.specs.Loads.{Loads, answer}
 use Rattle.icu_provider.specs.Metadata.{is_tailored, has_tailored_diacritics, has_reordering}
 use Rattle.icu_provider.specs.Requests.{Request, empty_request, without_type}
-use Rattle.icu_checks.specs.CollatorTables.{CollatorTables}
+use Rattle.icu_provider.specs.CollatorTables.{CollatorTables}
 
 -- the first refusal, or what comes after the answer
 abbrev pub and_then : {A B : Type 0} → Result A DataError → (A → Result B DataError) → Result B DataError

@@ -1,13 +1,18 @@
 -- Weights of which one is written as a beginning of another (UTS #10, "Large Weight Values"). Weights of all levels stand in four
 -- bytes: one of two bytes is moved up by two, which leaves the bytes that are written
-use Rattle.std.specs.Prelude.{ℕ, ◌+◌, ◌≢◌, List, slice_index, Contains}
+use Rattle.std.specs.Prelude.{ℕ, ◌+◌, ◌≢◌, ◌⊎◌, List, Option, slice_index, Contains}
 use Rattle.icu_levels.specs.ListOrder.{IsBeginning}
 use Rattle.icu_levels.specs.WeightBytes.{weight_bytes}
-use Rattle.icu_provider.specs.Reorderings.{Reordering, reordered}
+use Rattle.icu_provider.specs.Reorderings.{Reordering}
+use Rattle.icu_provider.specs.CollatorTables.{reorder_by}
 
--- the bytes of a weight as a reordering of scripts leaves it
-abbrev pub reordered_bytes : Reordering → ℕ → List ℕ
-reordered_bytes r w = weight_bytes 4 (reordered r w)
+-- one of two weights is written as a beginning of the other
+abbrev pub AreOverlapping : ℕ → ℕ → Type 0
+AreOverlapping v w = IsBeginning (weight_bytes 4 v) (weight_bytes 4 w) ⊎ IsBeginning (weight_bytes 4 w) (weight_bytes 4 v)
+
+-- the bytes of a weight as a reordering of scripts leaves it, where there is one
+abbrev pub written_bytes : Option Reordering → ℕ → List ℕ
+written_bytes reordering w = weight_bytes 4 (reorder_by reordering w)
 
 -- the weight at place k is written as a beginning of the next one
 abbrev pub NeighbourBegins : (ℕ → List ℕ) → List ℕ → ℕ → Type 0
@@ -19,9 +24,3 @@ pub record Overlaps (spell : ℕ → List ℕ) (ws : List ℕ) (v w : ℕ) : Typ
   pub second : Contains ws w
   pub different : v ≢ w
   pub begins : IsBeginning (spell v) (spell w)
-
--- some two weights of the list overlap
-pub record HasOverlap (spell : ℕ → List ℕ) (ws : List ℕ) : Type 0 where
-  pub shorter : ℕ
-  pub longer : ℕ
-  pub overlaps : Overlaps spell ws shorter longer

@@ -8,7 +8,7 @@ use Rattle.icu_provider.specs.Reorderings.{lead_byte}
 use Rattle.icu_provider.specs.SpecialPrimaries.{is_compressible}
 use Rattle.icu_checks.specs.declared.condition.PairCondition.{PairCondition}
 use Rattle.icu_checks.specs.declared.condition.PairCondition.TheVariants.{LoneTertiaries, Primaries, Secondaries, Tertiaries, Compression}
-use Rattle.icu_checks.specs.CollatorTables.{CollatorTables, reorder}
+use Rattle.icu_provider.specs.CollatorTables.{CollatorTables, reorder}
 use Rattle.icu_checks.specs.ElementConditions.{is_lone}
 
 -- the first of two different weights isn't written as a beginning of the second (UTS #10, "Large Weight Values")

@@ -6,17 +6,15 @@ use Rattle.icu_entries.specs.declared.error.DataTable.TheVariants.{Diacritics}
 use Rattle.icu_provider.specs.Diacritics.{is_replaced_index}
 use Rattle.icu_entries.specs.Elements.{Element, common, of_secondary}
 use Rattle.icu_entries.specs.ElementConditions.{tertiary_of}
-use Rattle.icu_data.specs.DataConditions.{is_readable}
 use Rattle.icu_data.specs.Final.{final_elements}
 use Rattle.icu_data.specs.Live.{live_from}
-use Rattle.icu_data.specs.LiveWeights.{IsWeightAmong}
-use Rattle.icu_provider.specs.Reorderings.{lead_byte}
+use Rattle.icu_data.specs.LiveWeights.{is_stated, IsWeightAmong}
 use Rattle.icu_data.specs.Data.{Data, homed}
 use Rattle.icu_provider.specs.Tables.{Tables}
-use Rattle.icu_checks.specs.declared.weights.Level.{Level}
-use Rattle.icu_checks.specs.declared.weights.Level.TheVariants.{Primary, Secondary, Tertiary, Lone, Beside}
-use Rattle.icu_checks.specs.CollatorTables.{CollatorTables}
-use Rattle.icu_checks.specs.ElementConditions.{implicit_lead, is_lone}
+use Rattle.icu_checks.specs.declared.check.weights.WeightList.{WeightList}
+use Rattle.icu_checks.specs.declared.check.weights.WeightList.TheVariants.{Primaries, Secondaries, Tertiaries, TertiaryElements, WithSecondary}
+use Rattle.icu_provider.specs.CollatorTables.{CollatorTables}
+use Rattle.icu_checks.specs.ElementConditions.{is_lone}
 use Rattle.icu_checks.specs.LiveElements.{IsLiveBy, IsOfAccent}
 
 -- A weight of two bytes with two zero bytes after it. Zero is none; the common weight needs no comparison, since its lead byte is
@@ -24,28 +22,27 @@ use Rattle.icu_checks.specs.LiveElements.{IsLiveBy, IsOfAccent}
 abbrev pub left_aligned : ℕ → Option ℕ
 left_aligned w = if w == 0 || w == common then None else Some (w * 2 ^ 16)
 
--- Weights with the lead byte of implicit weights need no comparison: they have four bytes, and no other weight comes to their lead.
-abbrev pub plain_primary : ℕ → Option ℕ
-plain_primary p = if p == 0 || lead_byte p == implicit_lead then None else Some p
+abbrev pub nonzero : ℕ → Option ℕ
+nonzero p = if p == 0 then None else Some p
 
 abbrev pub uncommon : ℕ → Option ℕ
 uncommon t = if t == 0 || t == common then None else Some t
 
 -- the weight of an element that is compared
-unfoldable pub weight_at : Level → Element → Option ℕ
-weight_at Primary x = plain_primary x.primary
-weight_at Secondary x = left_aligned x.secondary
-weight_at Tertiary x = left_aligned (tertiary_of x)
-weight_at Lone x = if is_lone x then Some (tertiary_of x) else None
-weight_at Beside x = if x.secondary == 0 then None else uncommon (tertiary_of x)
+unfoldable pub weight_at : WeightList → Element → Option ℕ
+weight_at Primaries x = nonzero x.primary
+weight_at Secondaries x = left_aligned x.secondary
+weight_at Tertiaries x = left_aligned (tertiary_of x)
+weight_at TertiaryElements x = if is_lone x then Some (tertiary_of x) else None
+weight_at WithSecondary x = if x.secondary == 0 then None else uncommon (tertiary_of x)
 
--- an element of an entry that is live by a table and can be read
+-- an element that a table states for an entry that is live by it
 pub record IsReadOfEntry (table : DataTable) (tables : Tables) (x : Element) : Type 0 where
   pub home : Data
   pub char : ℕ
   pub entry : ℕ
   pub live : IsLiveBy table tables home char entry
-  pub readable : IsTrue (is_readable home char entry)
+  pub stated : IsTrue (is_stated home char entry)
   pub member : Contains (final_elements (homed home entry) char) x
 
 abbrev pub IsReadBy : DataTable → Tables → Element → Type 0
@@ -53,10 +50,10 @@ IsReadBy Diacritics tables x = IsOfAccent tables.diacritics x
 IsReadBy table tables x = IsReadOfEntry table tables x
 
 -- a weight of such an element
-pub record IsWeightBy (level : Level) (table : DataTable) (tables : Tables) (w : ℕ) : Type 0 where
+pub record IsWeightBy (list : WeightList) (table : DataTable) (tables : Tables) (w : ℕ) : Type 0 where
   pub x : Element
   pub read : IsReadBy table tables x
-  pub weighs : weight_at level x ≡ Some w
+  pub weighs : weight_at list x ≡ Some w
 
 -- ---- the weights that a list comes to hold
 
@@ -71,11 +68,11 @@ pub record IsBelow (P : ℕ → ℕ → Type 0) (n w : ℕ) : Type 0 where
   pub is : P place w
 
 -- a weight of what is live with the conjoining jamo at a place of the jamo table
-abbrev pub IsJamoWeight : Level → CollatorTables → ℕ → ℕ → Type 0
-IsJamoWeight level all place w =
-    IsWeightAmong (weight_at level) all.tables.root (0x1100 + place) (live_from all.tables.root (slice_index all.tables.jamo place)) w
+abbrev pub IsJamoWeight : WeightList → CollatorTables → ℕ → ℕ → Type 0
+IsJamoWeight list all place w =
+    IsWeightAmong (weight_at list) all.tables.root (0x1100 + place) (live_from all.tables.root (slice_index all.tables.jamo place)) w
 
 -- the weight of the diacritic at a place
-pub record IsAccentWeight (level : Level) (all : CollatorTables) (place w : ℕ) : Type 0 where
+pub record IsAccentWeight (list : WeightList) (all : CollatorTables) (place w : ℕ) : Type 0 where
   pub kept : is_replaced_index place ≡ false
-  pub weighs : weight_at level (of_secondary (slice_index all.tables.diacritics place)) ≡ Some w
+  pub weighs : weight_at list (of_secondary (slice_index all.tables.diacritics place)) ≡ Some w

@@ -3,25 +3,43 @@ ghost use Rattle.std.specs.Prelude.{◌≡◌, None, IfSome, IfOk, option_map};
 ghost use Rattle.std.specs.Option.{ForSome};
 ghost use Rattle.icu_data.specs.StoredData.{data_of};
 ghost use Rattle.icu_provider.specs.StoredTables.{reordering_of};
-ghost use Rattle.icu_checks.specs.TableSets.{tables_in};
+ghost use Rattle.icu_provider.specs.TableSets.{tables_in};
 ghost use Rattle.icu_checks.specs.Faults.{IsTrueFault};
 ghost use Rattle.icu_checks.specs.GoodTables.{HasAscendingContexts, IsReordering, AreTables, HasDiacriticCount, IsGoodTables};
 ghost use Rattle.icu_checks.specs.LeadConditions.{LeadMeets};
-ghost use Rattle.icu_checks.specs.PairFaults.{IsOverlapAt, LonesBreak, IsOutcome};
+ghost use Rattle.icu_checks.specs.PairFaults.{IsOutcome};
 ghost use Rattle.icu_checks.specs.Checks.{LeadsMeet, PairsMeet};
 
-use crate::condition::{Condition, LeadCondition, PairCondition};
+pub(crate) mod alike;
+mod collecting;
+pub(crate) mod element_conditions;
+mod entry_judge;
+pub(crate) mod implicit_overlaps;
+mod lead_conditions;
+pub(crate) mod leads;
+#[cfg(test)]
+mod leads_tests;
+mod live_faults;
+pub(crate) mod lone_faults;
+mod lookups;
+pub(crate) mod overlap;
+pub(crate) mod overlap_faults;
+mod overlap_tables;
+pub(crate) mod primary_faults;
+pub(crate) mod weight_list;
+pub(crate) mod weights;
+
+use crate::check::live_faults::live_fault;
+use crate::check::lone_faults::lone_fault;
+use crate::check::overlap_faults::level_fault;
+use crate::check::primary_faults::primary_fault;
+use crate::check::weights::Level;
+use crate::condition::{Condition, LeadCondition};
 use crate::fault::Fault;
-use crate::live_faults::live_fault;
-use crate::lone_faults::lone_fault;
-use crate::overlap_faults::overlap_fault;
-use crate::primary_faults::primary_fault;
-use crate::table_set::TableSet;
-use crate::weights::Level;
 use icu_data::CollationData;
 use icu_data::fault::earlier;
 use icu_entries::DataTable;
-use icu_provider::CollationReordering;
+use icu_provider::{CollationReordering, TableSet};
 use std::alloc::{AllocError, Global};
 
 /// The fault of a condition on lead bytes.
@@ -60,7 +78,7 @@ fn leads_fault(tables: TableSet<'_>) -> Option<Fault>
 }
 
 /// The fault of a number of diacritics that is not 79, where they are not tailored.
-#[tactic(auto, unfolding(crate::specs::TableSets::tables_in))]
+#[tactic(auto, unfolding(icu_provider::specs::TableSets::tables_in))]
 fn count_fault(tables: TableSet<'_>) -> Option<Fault>
     ensures none { result ≡ None → HasDiacriticCount (tables_in tables.entry) }
     ensures some { IfSome result (IsTrueFault (tables_in tables.entry)) }
@@ -80,14 +98,14 @@ fn pairs_fault(alloc: Global, tables: TableSet<'_>) -> Result<Option<Fault>, All
     ensures { IfOk result (IsOutcome (tables_in tables.entry) (PairsMeet (tables_in tables.entry))) }
 {
     let lone = lone_fault(alloc, tables)?;
-    let secondary = overlap_fault(alloc, tables, Level::Secondary, PairCondition::Secondaries)?;
-    let tertiary = overlap_fault(alloc, tables, Level::Tertiary, PairCondition::Tertiaries)?;
+    let secondary = level_fault(alloc, tables, Level::Secondary)?;
+    let tertiary = level_fault(alloc, tables, Level::Tertiary)?;
     let primary = primary_fault(alloc, tables)?;
     Ok(earlier(earlier(lone, secondary), earlier(tertiary, primary)))
 }
 
 /// What each table shows by itself.
-#[tactic(auto, unfolding(crate::specs::TableSets::tables_in))]
+#[tactic(auto, unfolding(icu_provider::specs::TableSets::tables_in))]
 fn show_tables(tables: TableSet<'_>)
     ensures { AreTables (tables_in tables.entry) }
 {

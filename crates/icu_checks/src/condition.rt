@@ -1,4 +1,8 @@
+ghost use Rattle.std.specs.Prelude.{◌≡◌, ◌<◌};
+ghost use Rattle.icu_checks.specs.Groups.{group_of_entry, group_of_element, group_of_pair, group_of_lead, group_of, group_index, kind_in};
+
 use icu_data::live_condition::LiveCondition;
+use icu_entries::DataErrorKind;
 
 /// A condition on one element that is live, beside what other tables say.
 #[derive(Debug, Clone, Copy, PartialEq, Eq)]
@@ -68,4 +72,153 @@ pub enum Condition {
     Pair(PairCondition),
     /// On lead bytes.
     Lead(LeadCondition),
+}
+
+/// Conditions that a refusal reports alike, by one kind. The groups stand in the order in which they are reported; in a group the table
+/// decides.
+#[derive(Debug, Clone, Copy, PartialEq, Eq)]
+pub enum ConditionGroup {
+    /// How many diacritics there are.
+    Counts,
+    /// What entries refer to is there.
+    Indices,
+    /// The rows of prefixes.
+    PrefixRows,
+    /// What entries lead to.
+    Chains,
+    /// Digits.
+    Digits,
+    /// Low bytes of entries.
+    Bytes,
+    /// Offset data.
+    Offsets,
+    /// The form of weights.
+    Shapes,
+    /// The lead bytes of secondary and tertiary weights.
+    Leads,
+    /// Tertiary weights of elements without a secondary weight.
+    TertiaryElements,
+    /// No weight begins another.
+    Overlaps,
+    /// The lead bytes of primary weights.
+    Primaries,
+    /// What reordering keeps.
+    KeptLeads,
+    /// The lead bytes of implicit weights and of numbers, before reordering.
+    OwnLeads,
+    /// The same after reordering.
+    ReorderedLeads,
+    /// What the compression of lead bytes needs.
+    Compression,
+}
+
+impl ConditionGroup {
+    /// Its index among the groups.
+    pub(crate) fn index(self) -> u32
+        ensures value { result ≡ group_index self }
+        ensures bound { result < 16 }
+    {
+        self as u32
+    }
+
+    /// The kind of a refusal for its conditions.
+    fn kind(self) -> DataErrorKind
+        ensures { result ≡ kind_in self }
+    {
+        match self {
+            ConditionGroup::Counts => DataErrorKind::Length,
+            ConditionGroup::Indices => DataErrorKind::Index,
+            ConditionGroup::PrefixRows => DataErrorKind::Context,
+            ConditionGroup::Chains => DataErrorKind::Chain,
+            ConditionGroup::Digits => DataErrorKind::Digit,
+            ConditionGroup::Bytes => DataErrorKind::Tag,
+            ConditionGroup::Offsets
+            | ConditionGroup::Shapes
+            | ConditionGroup::Leads
+            | ConditionGroup::TertiaryElements
+            | ConditionGroup::Primaries => DataErrorKind::Element,
+            ConditionGroup::Overlaps | ConditionGroup::OwnLeads => DataErrorKind::Overlap,
+            ConditionGroup::KeptLeads | ConditionGroup::ReorderedLeads => DataErrorKind::Reordering,
+            ConditionGroup::Compression => DataErrorKind::Compression,
+        }
+    }
+}
+
+fn group_of_entry(condition: LiveCondition) -> ConditionGroup
+    ensures { result ≡ group_of_entry condition }
+{
+    match condition {
+        LiveCondition::Indices => ConditionGroup::Indices,
+        LiveCondition::PrefixRows => ConditionGroup::PrefixRows,
+        LiveCondition::Chains => ConditionGroup::Chains,
+        LiveCondition::Digits => ConditionGroup::Digits,
+        LiveCondition::Bytes => ConditionGroup::Bytes,
+        LiveCondition::Offsets => ConditionGroup::Offsets,
+        LiveCondition::Shapes => ConditionGroup::Shapes,
+        LiveCondition::Leads => ConditionGroup::Leads,
+        LiveCondition::Primaries => ConditionGroup::Primaries,
+    }
+}
+
+fn group_of_element(condition: ElementCondition) -> ConditionGroup
+    ensures { result ≡ group_of_element condition }
+{
+    match condition {
+        ElementCondition::Width => ConditionGroup::Shapes,
+        ElementCondition::BackwardLead => ConditionGroup::Leads,
+        ElementCondition::LoneTertiary => ConditionGroup::TertiaryElements,
+        ElementCondition::MiddleLead => ConditionGroup::KeptLeads,
+        ElementCondition::ImplicitLength | ElementCondition::NumericLead => {
+            ConditionGroup::OwnLeads
+        }
+        ElementCondition::SharedLead => ConditionGroup::ReorderedLeads,
+        ElementCondition::SecondByte => ConditionGroup::Compression,
+    }
+}
+
+fn group_of_pair(condition: PairCondition) -> ConditionGroup
+    ensures { result ≡ group_of_pair condition }
+{
+    match condition {
+        PairCondition::LoneTertiaries => ConditionGroup::TertiaryElements,
+        PairCondition::Primaries | PairCondition::Secondaries | PairCondition::Tertiaries => {
+            ConditionGroup::Overlaps
+        }
+        PairCondition::Compression => ConditionGroup::Compression,
+    }
+}
+
+fn group_of_lead(condition: LeadCondition) -> ConditionGroup
+    ensures { result ≡ group_of_lead condition }
+{
+    match condition {
+        LeadCondition::Separator | LeadCondition::HighLead => ConditionGroup::KeptLeads,
+        LeadCondition::ImplicitLead | LeadCondition::NumericLead | LeadCondition::LeadsApart => {
+            ConditionGroup::ReorderedLeads
+        }
+        LeadCondition::NumericWhole => ConditionGroup::Compression,
+    }
+}
+
+impl Condition {
+    /// The group with which it is reported.
+    pub(crate) fn group(self) -> ConditionGroup
+        ensures { result ≡ group_of self }
+    {
+        match self {
+            Condition::DiacriticCount => ConditionGroup::Counts,
+            Condition::Entry(condition) => group_of_entry(condition),
+            Condition::PrefixRows => ConditionGroup::PrefixRows,
+            Condition::Element(condition) => group_of_element(condition),
+            Condition::Pair(condition) => group_of_pair(condition),
+            Condition::Lead(condition) => group_of_lead(condition),
+        }
+    }
+
+    /// The kind of a refusal for this condition.
+    pub fn kind(self) -> DataErrorKind
+        ensures { result ≡ kind_in (group_of self) }
+    {
+        self.group().kind()
+    }
 }

@@ -6,13 +6,13 @@ ghost use Rattle.icu_provider.specs.Requests.{request_of, without_type};
 ghost use Rattle.icu_provider.specs.StoredTables.{diacritics_of, reordering_of};
 ghost use Rattle.icu_data.specs.StoredData.{data_of};
 ghost use Rattle.icu_checks.specs.Loads.{diacritics_request, if_named, lent_tables, typed_first};
-ghost use Rattle.icu_checks.specs.TableSets.{tables_in};
+ghost use Rattle.icu_provider.specs.TableSets.{tables_in};
 
-use crate::table_set::TableSet;
 use icu_data::CollationData;
 use icu_entries::DataError;
 use icu_provider::{
     CollationDiacritics, CollationMetadata, CollationProvider, CollationReordering, DataRequest,
+    TableSet,
 };
 
 /// The request for the locale alone.
@@ -120,7 +120,7 @@ fn load_diacritics<'p, P: CollationProvider>(
 /// is given they are asked for once. A tailoring or a reordering is asked for only where the metadata says that there is one.
 /// Diacritics of the collation's own are asked for with locale and type, once, and others by the empty request. The last refusal
 /// of the first table that isn't lent is answered as it is. The tables aren't checked.
-#[tactic(auto, unfolding(crate::specs::TableSets::tables_in, crate::specs::Loads::lent_tables))]
+#[tactic(auto, unfolding(icu_provider::specs::TableSets::tables_in, crate::specs::Loads::lent_tables))]
 pub fn load_tables<'p, P: CollationProvider>(
     provider: &'p P,
     locale: &str,

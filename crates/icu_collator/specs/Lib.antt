@@ -4,7 +4,7 @@ pub use Rattle.icu_data.specs.Data
 pub use Rattle.icu_provider.specs.Tables
 pub use Rattle.icu_data.specs.StoredData
 pub use Rattle.icu_provider.specs.StoredTables
-pub use Rattle.icu_checks.specs.CollatorTables
+pub use Rattle.icu_provider.specs.CollatorTables
 pub use Rattle.icu_checks.specs.GoodTables
 pub use Rattle.icu_checks.specs.Loads
 pub use Rattle.icu_elements.specs.TextElements

@@ -1,5 +1,5 @@
 -- Weights of one level are as each form of the level asks.
-use Rattle.std.proofs.Common.{◌≡◌, ℕ, ◌≤◌, Bool, true, false, cond, refl, subst, inl, inr, ◌⊎◌, arith, Option, Some, None}
+use Rattle.std.proofs.Common.{◌≡◌, ℕ, ◌/◌, ◌≤◌, Bool, true, false, cond, refl, subst, inl, inr, ◌⊎◌, arith, Option, Some, None}
 use Rattle.icu_levels.specs.Premises.{AreSecondaries, AreTertiaries, AreShifted, forward_least, backward_least}
 use Rattle.icu_levels.specs.KeyPremises.{SecondaryWeights, TertiaryWeights, QuaternaryWeights}
 use Rattle.icu_levels.specs.declared.forms.SecondaryForm.{SecondaryForm}
@@ -7,7 +7,7 @@ use Rattle.icu_levels.specs.declared.forms.SecondaryForm.TheVariants.{Forward, B
 use Rattle.icu_levels.specs.declared.forms.TertiaryForm.{TertiaryForm}
 use Rattle.icu_levels.specs.declared.forms.QuaternaryForm.{QuaternaryForm}
 use Rattle.icu_levels.specs.declared.forms.QuaternaryForm.TheVariants.{MayShift, Unshifted}
-use Rattle.icu_checks.specs.CollatorTables.{CollatorTables}
+use Rattle.icu_provider.specs.CollatorTables.{CollatorTables}
 use Rattle.icu_comparison.specs.LiveWeights.{IsLiveTertiary, IsTertiaryOf}
 
 -- a greater least lead is a lesser one

@@ -15,7 +15,7 @@ use Rattle.icu_provider.specs.Diacritics.{is_replaced_index, is_diacritic_weight
 use Rattle.icu_data.specs.Data.{homed}
 use Rattle.icu_data.specs.Final.{final_elements}
 use Rattle.icu_checks.specs.declared.condition.Condition.TheVariants as conditions
-use Rattle.icu_checks.specs.CollatorTables.{CollatorTables}
+use Rattle.icu_provider.specs.CollatorTables.{CollatorTables}
 use Rattle.icu_checks.specs.LiveElements.{IsOfEntryBy, IsOfAccent, IsElementBy}
 use Rattle.icu_checks.specs.GoodTables.{IsGoodTables}
 
@@ -64,7 +64,7 @@ module _ (all : CollatorTables) (good : IsGoodTables all) where
   accent : (x : Element) → IsOfAccent all.tables.diacritics x → (has_shape x ≡ true) × (has_leads true x ≡ true)
   accent x is =
       let s = slice_index all.tables.diacritics is.place in
-      let is_one : is_diacritic_weight true s ≡ true = other_part (is_replaced_index is.place) (is_diacritic_weight true s) (good.tables.diacritics.accents is.place is.inside) is.kept in
+      let is_one : is_diacritic_weight true s ≡ true = other_part (is_replaced_index is.place) (is_diacritic_weight true s) (good.tables.diacritics.weights is.place is.inside) is.kept in
       subst (λ x. (has_shape x ≡ true) × (has_leads true x ≡ true)) (sym is.is) (accent-passes s is_one)
 
   pub live-shape : (table : DataTable) (x : Element) → IsElementBy table all.tables x → has_shape x ≡ true

@@ -15,7 +15,7 @@ use Rattle.icu_checks.specs.declared.condition.Condition.TheVariants as conditio
 use Rattle.icu_checks.specs.declared.condition.ElementCondition.TheVariants.{Width, MiddleLead, NumericLead, SharedLead, SecondByte}
 use Rattle.icu_checks.specs.declared.condition.PairCondition.TheVariants.{Primaries, Compression}
 use Rattle.icu_checks.specs.declared.condition.LeadCondition.TheVariants as leads
-use Rattle.icu_checks.specs.CollatorTables.{CollatorTables, reorder_by, reorder, new_lead}
+use Rattle.icu_provider.specs.CollatorTables.{CollatorTables, reorder_by, reorder, new_lead}
 use Rattle.icu_checks.specs.Leads.{is_middle}
 use Rattle.icu_checks.specs.ElementConditions.{primary_meets, implicit_lead, is_apart, has_second_byte}
 use Rattle.icu_checks.specs.GoodTables.{IsReordering, IsGoodTables}

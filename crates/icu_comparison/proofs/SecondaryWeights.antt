@@ -9,7 +9,7 @@ use Rattle.icu_entries.specs.ElementConditions.{has_secondary_lead, has_tertiary
 use Rattle.icu_checks.specs.declared.condition.Condition.TheVariants as conditions
 use Rattle.icu_checks.specs.declared.condition.ElementCondition.TheVariants.{Width, BackwardLead}
 use Rattle.icu_checks.specs.declared.condition.PairCondition.TheVariants.{Secondaries}
-use Rattle.icu_checks.specs.CollatorTables.{CollatorTables, is_forward}
+use Rattle.icu_provider.specs.CollatorTables.{CollatorTables, is_forward}
 use Rattle.icu_checks.specs.GoodTables.{IsGoodTables}
 use Rattle.icu_comparison.specs.LiveWeights.{IsLiveWeight, secondary_of, IsLiveSecondary, least_secondary_lead}
 use Rattle.icu_comparison.proofs.LiveElementLemmas.{live-leads}

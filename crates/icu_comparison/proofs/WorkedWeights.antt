@@ -3,7 +3,7 @@ use Rattle.std.proofs.Common.{◌≡◌, ℕ, [], ◌∷◌, None, refl, inr, ar
 use Rattle.icu_levels.specs.declared.forms.TertiaryForm.TheVariants.{WithoutCase, LowerFirst, UpperFirst}
 use Rattle.icu_entries.specs.declared.error.DataTable.TheVariants.{Diacritics}
 use Rattle.icu_entries.specs.Elements.{Element, of_secondary}
-use Rattle.icu_checks.specs.CollatorTables.{CollatorTables}
+use Rattle.icu_provider.specs.CollatorTables.{CollatorTables}
 use Rattle.icu_comparison.specs.LiveWeights.{tertiary_in, least_secondary_lead, IsLiveSecondary}
 
 -- a letter, a capital with a quaternary, one of mixed case, and an element with a tertiary alone

@@ -13,7 +13,7 @@ use Rattle.icu_provider.specs.Metadata.{is_lithuanian}
 use Rattle.icu_provider.specs.Requests.{Request}
 use Rattle.icu_provider.specs.Tables.{Tables}
 use Rattle.icu_checks.specs.Checked.{checked_tables}
-use Rattle.icu_checks.specs.CollatorTables.{CollatorTables}
+use Rattle.icu_provider.specs.CollatorTables.{CollatorTables}
 use Rattle.icu_checks.specs.Loads.{lent_tables}
 use Rattle.icu_elements.specs.TextElements.{Reading}
 use Rattle.icu_elements.specs.ByCharacter.{IsContextFree, non_numeric_reading}

@@ -12,7 +12,7 @@ use Rattle.icu_levels.specs.KeyPremises.{LiveWeights, AreWeights}
 use Rattle.icu_entries.specs.declared.error.DataTable.{DataTable}
 use Rattle.icu_entries.specs.Elements.{Element, common, case_mask, tertiary_mask}
 use Rattle.icu_provider.specs.SpecialPrimaries.{is_compressible}
-use Rattle.icu_checks.specs.CollatorTables.{CollatorTables, is_forward, reorder}
+use Rattle.icu_provider.specs.CollatorTables.{CollatorTables, is_forward, reorder}
 use Rattle.icu_checks.specs.LiveElements.{IsElementBy}
 use Rattle.icu_checks.specs.GoodTables.{IsGoodTables}
 

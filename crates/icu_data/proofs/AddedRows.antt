@@ -8,7 +8,7 @@ use Rattle.icu_data.specs.declared.context.Context.{Context as StoredContext}
 use Rattle.icu_data.specs.declared.context.ContextRow.{ContextRow}
 use Rattle.icu_data.specs.Contexts.{HasCharsInside, HasRowsInside, HasRangesInside, row_of, rows_of, stored_context, stored_contexts}
 use Rattle.icu_data.specs.Data.{Row}
-use Rattle.icu_data.specs.AddedContexts.{AddsRows}
+use Rattle.icu_data.specs.inner.AddedRows.{AddsRows}
 
 -- two functions that agree on each element of a list
 map_agrees : {X Y : Type 0} (P : X → Type 0) (f g : X → Y) → ((x : X) → P x → f x ≡ g x) → (xs : List X) → All P xs

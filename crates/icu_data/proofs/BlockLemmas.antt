@@ -1,5 +1,5 @@
 -- Blocks of values: one that is found, one that is added, and a table as it grows block by block.
-use Rattle.std.proofs.Common.{◌≡◌, ◌≢◌, ℕ, ◌+◌, ◌-◌, ◌*◌, ◌/◌, ◌%◌, ◌<◌, ◌≤◌, ◌++◌, ◌∷◌, [], List, length, get_or, take, drop, refl, sym, arith, ◌∙◌, ap, subst, inl, inr, length-append, below_more}
+use Rattle.std.proofs.Common.{◌≡◌, ◌≢◌, ℕ, ◌+◌, ◌*◌, ◌/◌, ◌%◌, ◌<◌, ◌≤◌, ◌++◌, ◌∷◌, [], List, length, get_or, take, drop, refl, sym, arith, ◌∙◌, ap, subst, inl, inr, length-append, below_more}
 use Rattle.std.proofs.Math.ListN.{get_or-append}
 use Rattle.std.proofs.Math.Seq.{get_or-append_seam, drop-append_seam, take-length}
 use Rattle.std.proofs.lemmas.List.{get_or-append-add}
@@ -7,7 +7,8 @@ use Rattle.std.proofs.lemmas.List.Elements.{All-from_get_or}
 use Rattle.std.proofs.lemmas.Bool.{cases_lt}
 use Rattle.std.proofs.lemmas.Grind.{common_steps}
 use Rattle.icu_data.specs.CodePointTables.{IsCodePointTable, stored_value}
-use Rattle.icu_data.specs.Blocks.{block_at, HoldsBlock, HasDistinctBlocks}
+use Rattle.icu_data.specs.Blocks.{block_at, HasDistinctBlocks}
+use Rattle.icu_data.specs.inner.AddedBlocks.{HoldsBlock}
 use Rattle.icu_data.proofs.AddedRows.{part_of_longer}
 
 -- a member of a part of a list

@@ -1,6 +1,5 @@
 -- How a builder's entries change.
 use Rattle.std.proofs.Common.{◌≡◌, ℕ, ◌<◌, ◌≤◌, ◌&&◌, nat_le, List, [], get_or, map, inl, inr}
-use Rattle.std.specs.Prelude.{slice_index_or, if◌then◌else◌}
 use Rattle.std.proofs.lemmas.Bool.{and_parts, and_cases, cond_both, leb-true, leb-false}
 use Rattle.icu_entries.specs.Elements.{element_of}
 use Rattle.icu_data.specs.declared.context.Context.{Context as StoredContext}

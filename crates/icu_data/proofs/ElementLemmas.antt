@@ -3,7 +3,8 @@ use Rattle.std.proofs.Common.{◌≡◌, Bool, true, false, ◌&&◌, List, [], 
 use Rattle.std.specs.List.{list_all}
 use Rattle.icu_entries.specs.declared.element_conditions.ElementCondition.{ElementCondition}
 use Rattle.icu_entries.specs.Elements.{Element}
-use Rattle.icu_entries.specs.ElementConditions.{element_meets, all_meet}
+use Rattle.icu_entries.specs.ElementConditions.{element_meets}
+use Rattle.icu_data.specs.inner.Visitors.{all_meet}
 
 and_regrouped : (a b c : Bool) → ((a && b) && c) ≡ (a && (b && c))
 and_regrouped true b c = refl

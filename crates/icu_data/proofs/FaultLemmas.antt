@@ -12,7 +12,8 @@ use Rattle.icu_data.specs.LiveConditions.{meets, live_conditions, first_failing,
 use Rattle.icu_data.specs.DataConditions.{is_inside, is_readable, has_known_members, fits_offset}
 use Rattle.icu_entries.specs.EntryConditions.{has_known_byte}
 use Rattle.icu_data.specs.Walks.{after_all, after_chars, chars_below}
-use Rattle.icu_data.specs.Faults.{earlier, judged, ComesFirst, IsFaultAmong, IsLiveFault}
+use Rattle.icu_data.specs.Faults.{earlier, ComesFirst, IsFaultAmong, IsLiveFault}
+use Rattle.icu_data.specs.inner.Visitors.{judged}
 use Rattle.icu_data.proofs.ListLemmas.{weaker, all_of, all_members, of_member}
 use Rattle.icu_data.proofs.WalkLemmas.{fold_keeps, fold_back, walk_keeps, walk_back}
 

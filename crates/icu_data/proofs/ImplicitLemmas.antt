@@ -15,8 +15,9 @@ use Rattle.icu_entries.specs.ElementConditions.{four_bytes, ends_at_zero, has_sh
 use Rattle.icu_data.specs.DataConditions.{is_inside, has_short_rows, leads_on, has_known_members, fits_offset}
 use Rattle.icu_entries.specs.EntryConditions.{has_digit, has_known_byte}
 use Rattle.icu_data.specs.LiveConditions.{meets, first_failing}
-use Rattle.icu_data.specs.LiveWeights.{given_elements, collected_at}
-use Rattle.icu_data.proofs.FaultLemmas.{meets_passes, meets_readable}
+use Rattle.icu_data.specs.LiveWeights.{is_stated}
+use Rattle.icu_data.specs.inner.Visitors.{given_elements, collected_at}
+use Rattle.icu_data.proofs.FaultLemmas.{meets_passes}
 
 or_true : (b : Bool) → (b || true) ≡ true
 or_true true = refl
@@ -95,8 +96,7 @@ implicit_meets home c e is Primaries = rw (is, final_elements) (and_true _ (impl
 pub implicit_passes : (home : Data) (c e : ℕ) → kind_of e ≡ Implicit → first_failing home c e ≡ None
 implicit_passes home c e is = meets_passes home c e (implicit_meets home c e is)
 
--- where no implicit weight is collected, nothing is of an entry for one
-pub collects_nothing : {W : Type 0} (weight : W → Element → Option ℕ) (w : W) (ws : List ℕ) (home : Data) (c e : ℕ) → kind_of e ≡ Implicit → weight w (of_primary (implicit_weight c)) ≡ None
-    → collected_at weight (w, ws) home c e ≡ (w, ws)
-unfolding given_elements final_elements
-collects_nothing weight w ws home c e is none = rw (meets_readable home c e (implicit_meets home c e is), is, final_elements, none) refl
+-- of an entry for an implicit weight nothing is collected
+pub collects_nothing : {W : Type 0} (weight : W → Element → Option ℕ) (w : W) (ws : List ℕ) (home : Data) (c e : ℕ) → kind_of e ≡ Implicit → collected_at weight (w, ws) home c e ≡ (w, ws)
+unfolding given_elements is_stated
+collects_nothing weight w ws home c e is = rw is refl

@@ -7,10 +7,10 @@ use Rattle.std.proofs.lemmas.List.Elements.{Contains-append_left, Contains-push,
 use Rattle.icu_entries.specs.Elements.{Element}
 use Rattle.icu_data.specs.Data.{Data, homed}
 use Rattle.icu_data.specs.Final.{final_elements}
-use Rattle.icu_data.specs.DataConditions.{is_readable}
 use Rattle.icu_data.specs.Live.{live_at, EachLive}
 use Rattle.icu_data.specs.Walks.{after_all, after_chars, chars_below}
-use Rattle.icu_data.specs.LiveWeights.{IsWeightAmong, IsLiveWeight, is_last, with_weight, with_found, collected, collected_at, given_elements}
+use Rattle.icu_data.specs.LiveWeights.{is_stated, IsWeightAmong, IsLiveWeight}
+use Rattle.icu_data.specs.inner.Visitors.{is_last, with_weight, with_found, collected, collected_at, given_elements}
 use Rattle.icu_data.proofs.ListLemmas.{weaker, all_of, all_members, of_member}
 use Rattle.icu_data.proofs.WalkLemmas.{fold_keeps, fold_back, walk_keeps, walk_back}
 
@@ -61,7 +61,7 @@ found-cases ws (Some w) x h = elim (one_more-cases (is_last ws w) ws w x h) [ in
 
 -- ---- the elements of an entry
 
--- an element is given exactly where the entry can be read
+-- an element is given exactly where the table states the elements
 given-parts : (b : Bool) (xs : List Element) (x : Element) → Contains (if b then xs else []) x → IsTrue b × Contains xs x
 given-parts true xs x h = (refl, h)
 given-parts false xs x h = absurd (omega arith)
@@ -70,13 +70,13 @@ given-from : (b : Bool) (xs : List Element) (x : Element) → IsTrue b → Conta
 given-from true xs x is h = h
 given-from false xs x is h = cc
 
-is_given : (home : Data) (c e : ℕ) (x : Element) → IsTrue (is_readable home c e) → Contains (final_elements (homed home e) c) x → Contains (given_elements home c e) x
+is_given : (home : Data) (c e : ℕ) (x : Element) → IsTrue (is_stated home c e) → Contains (final_elements (homed home e) c) x → Contains (given_elements home c e) x
 unfolding given_elements
-is_given home c e x readable h = given-from (is_readable home c e) (final_elements (homed home e) c) x readable h
+is_given home c e x stated h = given-from (is_stated home c e) (final_elements (homed home e) c) x stated h
 
-given_is : (home : Data) (c e : ℕ) (x : Element) → Contains (given_elements home c e) x → IsTrue (is_readable home c e) × Contains (final_elements (homed home e) c) x
+given_is : (home : Data) (c e : ℕ) (x : Element) → Contains (given_elements home c e) x → IsTrue (is_stated home c e) × Contains (final_elements (homed home e) c) x
 unfolding given_elements
-given_is home c e x h = given-parts (is_readable home c e) (final_elements (homed home e) c) x h
+given_is home c e x h = given-parts (is_stated home c e) (final_elements (homed home e) c) x h
 
 -- ---- walks
 
@@ -116,7 +116,7 @@ module _ {W : Type 0} (weight : W → Element → Option ℕ) (weigh : W) (falls
       let is = given_is home c e x given in
       elim (found-cases ws (weight weigh x) w has) [
         | inl before ↦ old before
-        | inr weighs ↦ into (record { e = e; live = live; readable = is.0; x = x; given = is.1; weighs = weighs })
+        | inr weighs ↦ into (record { e = e; live = live; stated = is.0; x = x; given = is.1; weighs = weighs })
       ])
       (given_elements home c e) (all_members (given_elements home c e))))
       es (all_members es)
@@ -135,7 +135,7 @@ module _ {W : Type 0} (weight : W → Element → Option ℕ) (weigh : W) (falls
   leads_to : (w : ℕ) (G : Type 0) (c : ℕ) (es : List ℕ) → AllByRecursion (Leads w G c) es → Among c es w → G
   leads_to w G c es all is =
       let here : Leads w G c is.e = of_member (Leads w G c) es is.e all is.live in
-      of_member (λ x. weight weigh x ≡ Some w → G) (given_elements home c is.e) is.x here (is_given home c is.e is.x is.readable is.given) is.weighs
+      of_member (λ x. weight weigh x ≡ Some w → G) (given_elements home c is.e) is.x here (is_given home c is.e is.x is.stated is.given) is.weighs
 
   among : (c : ℕ) (es ws : List ℕ) (w : ℕ) → Contains (after_all kept ws home c es) w ↔ (Contains ws w ⊎ Among c es w)
   among c es ws w =

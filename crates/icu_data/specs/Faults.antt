@@ -7,27 +7,23 @@ use Rattle.icu_data.specs.declared.live_condition.LiveCondition.TheVariants.{Ind
 use Rattle.icu_data.specs.Data.{Data}
 use Rattle.icu_data.specs.Live.{live_at}
 
--- with room between them for conditions on several tables
+-- conditions in the order in which they are reported
 abbrev pub condition_rank : LiveCondition → ℕ
-condition_rank Indices = 20
-condition_rank PrefixRows = 30
-condition_rank Chains = 40
-condition_rank Digits = 50
-condition_rank Bytes = 51
-condition_rank Offsets = 60
-condition_rank Shapes = 70
-condition_rank Leads = 80
-condition_rank Primaries = 110
+condition_rank Indices = 0
+condition_rank PrefixRows = 1
+condition_rank Chains = 2
+condition_rank Digits = 3
+condition_rank Bytes = 4
+condition_rank Offsets = 5
+condition_rank Shapes = 6
+condition_rank Leads = 7
+condition_rank Primaries = 8
 
 -- the fault with the lesser rank
 unfoldable pub earlier : {F : Type 0} → (F → ℕ) → Option F → Option F → Option F
 earlier rank None found = found
 earlier rank (Some a) None = Some a
 earlier rank (Some a) (Some b) = if nat_lt (rank b) (rank a) then Some b else Some a
-
--- a judge and the first fault so far, after one more entry
-abbrev pub judged : {J F : Type 0} → (F → ℕ) → (J → Data → ℕ → ℕ → Option F) → J × Option F → Data → ℕ → ℕ → J × Option F
-judged rank fault s home c e = (s.0, earlier rank s.1 (fault s.0 home c e))
 
 -- the fault has no greater rank than this one, if it is one
 abbrev pub ComesFirst : {F : Type 0} → (F → ℕ) → F → Option F → Type 0

@@ -13,3 +13,4 @@ pub mod OwnedData
 pub mod AddedContexts
 pub mod Building
 pub mod Blocks
+pub mod inner

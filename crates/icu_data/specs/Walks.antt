@@ -1,16 +1,12 @@
 -- A walk over the entries that are live with characters.
-use Rattle.std.specs.Prelude.{ℕ, zero, suc, Bool, List, [], ◌∷◌, ◌++◌, fold, map, flat_map, if◌then◌else◌}
+use Rattle.std.specs.Prelude.{ℕ, zero, suc, Bool, List, [], ◌∷◌, ◌++◌, fold, if◌then◌else◌}
 use Rattle.std.proofs.Math.Utf8.{scalar}
-use Rattle.icu_data.specs.Data.{Row, Data}
+use Rattle.icu_data.specs.Data.{Data}
 use Rattle.icu_data.specs.Live.{live_at}
 
 -- what a visitor is after entries that are live with a character, in order
 abbrev pub after_all : {V : Type 0} → (V → Data → ℕ → ℕ → V) → V → Data → ℕ → List ℕ → V
 after_all after v home c es = fold (λ v e. after v home c e) v es
-
--- after what each row's entry leads to
-abbrev pub after_rows : {V : Type 0} → (V → Data → ℕ → ℕ → V) → (ℕ → List ℕ) → Data → ℕ → List Row → V → V
-after_rows after lead home c rows v = after_all after v home c (flat_map lead (map (λ (row : Row). row.entry) rows))
 
 -- the characters below n
 unfoldable pub chars_below : ℕ → List ℕ

@@ -2,7 +2,8 @@
 ghost use Rattle.std.specs.Prelude.{◌≡◌, ◌++◌, ◌∷◌, [], List, length, map, IfOk, OnOk, OnErr};
 ghost use Rattle.icu_data.specs.Contexts.{HasRangesInside, stored_contexts};
 ghost use Rattle.icu_data.specs.Data.{Row};
-ghost use Rattle.icu_data.specs.AddedContexts.{AddsRows, given_context, given_row};
+ghost use Rattle.icu_data.specs.AddedContexts.{given_context, given_row};
+ghost use Rattle.icu_data.specs.inner.AddedRows.{AddsRows};
 
 use crate::context::{Context, ContextRow};
 use std::alloc::AllocError;

@@ -1,7 +1,8 @@
 //! The entries of all code points in blocks of 64, each different block once.
 ghost use Rattle.std.specs.Prelude.{◌≡◌, ◌≢◌, ℕ, ◌+◌, ◌*◌, ◌%◌, ◌<◌, ◌≤◌, length, slice_index_or, IfOk, IfSome, IfNone};
 ghost use Rattle.icu_data.specs.CodePointTables.{IsCodePointTable, stored_value};
-ghost use Rattle.icu_data.specs.Blocks.{block_at, HoldsBlock, HasDistinctBlocks};
+ghost use Rattle.icu_data.specs.Blocks.{block_at, HasDistinctBlocks};
+ghost use Rattle.icu_data.specs.inner.AddedBlocks.{HoldsBlock};
 
 use crate::code_point_table::{BLOCK_COUNT, BLOCK_LEN};
 use std::alloc::{AllocError, Global};

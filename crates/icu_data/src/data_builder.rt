@@ -55,7 +55,7 @@ fn fill(entries: &mut Vec<u32>, first: usize, last: usize, entry: u32)
 
 impl DataBuilder {
     ghost use Rattle.icu_data.specs.OwnedData.{vectors_data};
-    ghost use Rattle.icu_data.specs.Building.{empty_data, built_data, with_entries, SaysOfCharacters};
+    ghost use Rattle.icu_data.specs.Building.{empty_data, built_data, set_in, and_elements, and_entries, and_context, SaysOfCharacters};
 
     /// A root or a tailoring in which all characters have one entry, without lists and contexts.
     #[tactic(auto, unfolding(crate::specs::Building::built_data))]
@@ -77,7 +77,7 @@ impl DataBuilder {
     /// Gives a character another entry, and no other character.
     #[tactic(auto, unfolding(crate::specs::Building::built_data))]
     pub fn set_entry(&mut self, c: char, entry: u32)
-        ensures { built_data self.new ≡ record (built_data self.old) { value = with_entries c c entry (built_data self.old).value } }
+        ensures { built_data self.new ≡ set_in (built_data self.old) c c entry }
     {
         self.set_entries(c, c, entry);
     }
@@ -86,7 +86,7 @@ impl DataBuilder {
     /// is below `first`.
     #[tactic(auto, unfolding(crate::specs::Building::built_data))]
     pub fn set_entries(&mut self, first: char, last: char, entry: u32)
-        ensures { built_data self.new ≡ record (built_data self.old) { value = with_entries first last entry (built_data self.old).value } }
+        ensures { built_data self.new ≡ set_in (built_data self.old) first last entry }
     {
         if first <= last {
             fill(&mut self.characters, first as usize, last as usize, entry);
@@ -97,7 +97,7 @@ impl DataBuilder {
     #[tactic(auto, unfolding(crate::specs::Building::built_data))]
     pub fn add_elements(&mut self, elements: &[u64]) -> Result<usize, AllocError>
         ensures index { IfOk result (λ i. i ≡ length (built_data self.old).elements) }
-        ensures adds { OnOk result (built_data self.new ≡ record (built_data self.old) { elements = (built_data self.old).elements ++ map element_of elements.now }) }
+        ensures adds { OnOk result (built_data self.new ≡ and_elements (built_data self.old) elements.now) }
         ensures err { OnErr result (built_data self.new ≡ built_data self.old) }
     {
         let index = self.ces.len();
@@ -109,7 +109,7 @@ impl DataBuilder {
     #[tactic(auto, unfolding(crate::specs::Building::built_data))]
     pub fn add_entries(&mut self, entries: &[u32]) -> Result<usize, AllocError>
         ensures index { IfOk result (λ i. i ≡ length (built_data self.old).entries) }
-        ensures adds { OnOk result (built_data self.new ≡ record (built_data self.old) { entries = (built_data self.old).entries ++ entries.now }) }
+        ensures adds { OnOk result (built_data self.new ≡ and_entries (built_data self.old) entries.now) }
         ensures err { OnErr result (built_data self.new ≡ built_data self.old) }
     {
         let index = self.ce32s.len();
@@ -127,7 +127,7 @@ impl DataBuilder {
         rows: &[(&[char], u32)],
     ) -> Result<usize, AllocError>
         ensures index { IfOk result (λ i. i ≡ length (built_data self.old).contexts) }
-        ensures adds { OnOk result (built_data self.new ≡ record (built_data self.old) { contexts = (built_data self.old).contexts ++ given_context default rows.entry.now ∷ [] }) }
+        ensures adds { OnOk result (built_data self.new ≡ and_context (built_data self.old) (given_context default rows.entry.now)) }
         ensures err { OnErr result (built_data self.new ≡ built_data self.old) }
     {
         let index = self.contexts.len();

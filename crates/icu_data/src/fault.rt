@@ -5,7 +5,8 @@ ghost use Rattle.icu_entries.specs.Entries.{kind_of};
 ghost use Rattle.icu_data.specs.Data.{Data};
 ghost use Rattle.icu_data.specs.Live.{live_from, live_at, EachLive};
 ghost use Rattle.icu_data.specs.StoredData.{data_of};
-ghost use Rattle.icu_data.specs.Faults.{earlier, judged, ComesFirst, IsFaultAmong, IsLiveFault};
+ghost use Rattle.icu_data.specs.Faults.{earlier, ComesFirst, IsFaultAmong, IsLiveFault};
+ghost use Rattle.icu_data.specs.inner.Visitors.{judged};
 
 use crate::data::CollationData;
 use crate::walk::{Visit, visit_chars, visit_from};

@@ -52,22 +52,12 @@ impl LiveCondition {
 impl Ranked for LiveCondition {
     ghost rank = { condition_rank };
 
-    /// Its rank among all conditions.
+    /// Its index among the conditions.
     fn rank(self) -> u32
         ensures value { result ≡ condition_rank self }
         ensures bound { result < 256 }
     {
-        match self {
-            LiveCondition::Indices => 20,
-            LiveCondition::PrefixRows => 30,
-            LiveCondition::Chains => 40,
-            LiveCondition::Digits => 50,
-            LiveCondition::Bytes => 51,
-            LiveCondition::Offsets => 60,
-            LiveCondition::Shapes => 70,
-            LiveCondition::Leads => 80,
-            LiveCondition::Primaries => 110,
-        }
+        self as u32
     }
 }
 

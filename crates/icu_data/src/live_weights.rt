@@ -1,16 +1,17 @@
 //! The weights of the elements of live entries, collected.
-ghost use Rattle.std.specs.Prelude.{◌≡◌, ◌↔◌, ◌⊎◌, ℕ, true, List, Option, None, OnOk};
+ghost use Rattle.std.specs.Prelude.{◌≡◌, ◌↔◌, ◌⊎◌, ℕ, true, List, Option, OnOk, IsTrue};
 ghost use Rattle.std.specs.List.{Contains};
-ghost use Rattle.icu_entries.specs.Elements.{Element, of_primary};
-ghost use Rattle.icu_entries.specs.Weights.{implicit_weight};
+ghost use Rattle.icu_entries.specs.Elements.{Element};
 ghost use Rattle.icu_data.specs.Live.{live_from};
 ghost use Rattle.icu_data.specs.StoredData.{data_of};
-ghost use Rattle.icu_data.specs.LiveWeights.{is_last, with_weight, collected, collected_at, IsWeightAmong, IsLiveWeight};
+ghost use Rattle.icu_data.specs.DataConditions.{is_readable};
+ghost use Rattle.icu_data.specs.LiveWeights.{is_stated, IsWeightAmong, IsLiveWeight};
+ghost use Rattle.icu_data.specs.inner.Visitors.{is_last, with_weight, collected, collected_at};
 
 use crate::data::CollationData;
 use crate::element_walk::{VisitElement, visit_elements};
 use crate::walk::{Visit, visit_chars, visit_from};
-use icu_entries::{CollationElement, CollationElement32};
+use icu_entries::{CollationElement, CollationElement32, EntryKind};
 use std::alloc::AllocError;
 use std::mem::replace;
 
@@ -22,17 +23,9 @@ pub trait Weigh {
     /// The weight of an element, if it is collected.
     fn weight(&self, element: CollationElement) -> Option<u32>
         ensures { result ≡ weight self.now element };
-
-    /// Whether no weight of an implicit element (UTS #10, section 10.1) is collected, so that a walk may pass over the million entries
-    /// that have one. `false` leaves that open.
-    fn skips_implicit(&self) -> bool
-        ensures { result ≡ true → (c : ℕ) → weight self.now (of_primary (implicit_weight c)) ≡ None }
-    {
-        false
-    }
 }
 
-#[tactic(auto, unfolding(crate::specs::LiveWeights::is_last))]
+#[tactic(auto, unfolding(crate::specs::inner::Visitors::is_last))]
 fn is_last(weights: &[u32], weight: u32) -> bool
     ensures { result ≡ is_last weights.now weight }
 {
@@ -42,7 +35,7 @@ fn is_last(weights: &[u32], weight: u32) -> bool
     }
 }
 
-#[tactic(auto, unfolding(crate::specs::LiveWeights::with_weight))]
+#[tactic(auto, unfolding(crate::specs::inner::Visitors::with_weight))]
 fn add_weight(weights: &mut Vec<u32>, weight: u32) -> Result<(), AllocError>
     ensures { OnOk result (weights.new.items ≡ with_weight weights.old.items weight) }
 {
@@ -50,6 +43,18 @@ fn add_weight(weights: &mut Vec<u32>, weight: u32) -> Result<(), AllocError>
         weights.push(weight)?;
     }
     Ok(())
+}
+
+/// Whether the table states the elements of an entry: they can be read, and aren't for an implicit weight.
+#[tactic(auto, unfolding(crate::specs::LiveWeights::is_stated))]
+fn is_stated(home: CollationData<'_>, c: char, entry: CollationElement32) -> bool
+    ensures value { result ≡ is_stated (data_of home.entry) c entry }
+    ensures readable { result ≡ true → IsTrue (is_readable (data_of home.entry) c entry) }
+{
+    match entry.kind() {
+        EntryKind::Implicit => false,
+        _ => home.is_readable(c, entry),
+    }
 }
 
 /// A visitor that collects weights.
@@ -99,14 +104,14 @@ impl<'w, W: Weigh> Visit for Collector<'w, W> {
 
     ghost after = { collected_at W.weight };
 
-    #[tactic(auto, unfolding(crate::specs::LiveWeights::given_elements))]
+    #[tactic(auto, unfolding(crate::specs::inner::Visitors::given_elements))]
     fn visit(
         &mut self,
         home: CollationData<'_>,
         c: char,
         entry: CollationElement32,
     ) -> Result<(), AllocError> {
-        if home.is_readable(c, entry) {
+        if is_stated(home, c, entry) {
             visit_elements(self, home, c, entry)
         } else {
             Ok(())
@@ -114,13 +119,13 @@ impl<'w, W: Weigh> Visit for Collector<'w, W> {
     }
 
     fn passes_implicit(&self) -> bool {
-        self.weigh.skips_implicit()
+        true
     }
 }
 
 /// Adds to a list the weights that are collected of the elements of all entries that are live in a root or a tailoring, in any
 /// order, with or without repetition. A tailoring falls back: a fallback entry of its code point table is none. An entry whose
-/// elements can't be read, and one that is not final, gives none. After an `Err`, out of memory, nothing is said of the list.
+/// elements can't be read, one that is not final, and one for an implicit weight, gives none. After an `Err`, out of memory, nothing is said of the list.
 pub fn collect_weights<W: Weigh>(
     weights: &mut Vec<u32>,
     weigh: &W,

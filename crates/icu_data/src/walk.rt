@@ -4,7 +4,8 @@ ghost use Rattle.icu_entries.specs.Entries.{kind_of};
 ghost use Rattle.icu_data.specs.Data.{Data};
 ghost use Rattle.icu_data.specs.Live.{live_digit, live_contraction, live_from, live_at};
 ghost use Rattle.icu_data.specs.StoredData.{data_of, found_context};
-ghost use Rattle.icu_data.specs.Walks.{after_all, after_rows, after_chars, chars_below};
+ghost use Rattle.icu_data.specs.Walks.{after_all, after_chars, chars_below};
+ghost use Rattle.icu_data.specs.inner.Visitors.{after_rows};
 
 use crate::context::FoundContext;
 use crate::data::CollationData;

@@ -14,7 +14,7 @@ use Rattle.icu_data.specs.Data.{Data, homed}
 use Rattle.icu_provider.specs.Tables.{Tables, diacritic_of}
 use Rattle.icu_data.specs.Final.{final_elements}
 use Rattle.icu_data.proofs.ListLemmas.{all_members, of_member, weaker}
-use Rattle.icu_checks.specs.CollatorTables.{CollatorTables}
+use Rattle.icu_provider.specs.CollatorTables.{CollatorTables}
 use Rattle.icu_checks.specs.GoodTables.{IsGoodTables}
 use Rattle.icu_elements.specs.TextElements.{Reading, elements_of}
 use Rattle.icu_elements.specs.TextParts.{is_replaced, IsOfDiacritic, IsOfNumber, IsTextElement}

@@ -24,7 +24,7 @@ use Rattle.icu_data.specs.Data.{Data, HomedEntry, homed, plain_of}
 use Rattle.icu_provider.specs.Tables.{Tables, entry_of}
 use Rattle.icu_data.proofs.ListLemmas.{all_members, of_member}
 use Rattle.icu_checks.specs.declared.condition.Condition.TheVariants as conditions
-use Rattle.icu_checks.specs.CollatorTables.{CollatorTables}
+use Rattle.icu_provider.specs.CollatorTables.{CollatorTables}
 use Rattle.icu_checks.specs.GoodTables.{IsGoodTables}
 use Rattle.icu_elements.specs.declared.tables.ElementTables.{ElementTables}
 use Rattle.icu_elements.specs.inner.Readable.{AreReadable, IsGoodFrom, tables_from}

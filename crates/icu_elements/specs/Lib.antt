@@ -11,7 +11,7 @@ pub use Rattle.icu_provider.specs.LiveTables
 pub use Rattle.icu_data.specs.CodePointTables
 pub use Rattle.icu_data.specs.StoredData
 pub use Rattle.icu_provider.specs.StoredTables
-pub use Rattle.icu_checks.specs.CollatorTables
+pub use Rattle.icu_provider.specs.CollatorTables
 pub use Rattle.icu_checks.specs.Checked
 pub use Rattle.icu_checks.specs.GoodTables
 pub use Rattle.icu_checks.specs.LiveElements

@@ -6,7 +6,7 @@ use Rattle.icu_levels.specs.Numbers.{run_weights}
 use Rattle.icu_entries.specs.declared.error.DataTable.{DataTable}
 use Rattle.icu_entries.specs.Elements.{Element, of_primary}
 use Rattle.icu_provider.specs.Tables.{Tables}
-use Rattle.icu_checks.specs.CollatorTables.{CollatorTables}
+use Rattle.icu_provider.specs.CollatorTables.{CollatorTables}
 use Rattle.icu_checks.specs.GoodTables.{IsGoodTables}
 use Rattle.icu_checks.specs.LiveElements.{IsElementBy}
 use Rattle.icu_elements.specs.TextElements.{Reading, elements_of}

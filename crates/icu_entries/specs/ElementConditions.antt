@@ -70,7 +70,3 @@ abbrev pub element_meets : ElementCondition → Element → Bool
 element_meets Shape e = has_shape e
 element_meets Leads e = has_leads true e
 element_meets Primary e = has_primary_lead e
-
--- a condition and whether each element so far meets it, after one more
-abbrev pub all_meet : ElementCondition × Bool → Element → ElementCondition × Bool
-all_meet s x = (s.0, s.1 && element_meets s.0 x)

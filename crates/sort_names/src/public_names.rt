@@ -162,9 +162,9 @@ fn loaded_tables_have_their_names(rt: HostRuntime) -> Result<(), Fail> {
     assert_eq!(rt; set.special.numeric_primary(), 0x0F);
     assert_eq!(rt;
         set.special.last_primary_for_group(MaxVariable::Space),
-        0x0400_0000
+        0x03FF_FFFF
     );
-    assert!(rt; !set.special.is_compressible(0x61));
+    assert!(rt; set.special.is_compressible(0x61));
     let tables = CheckedTables::from_set(rt.alloc(), set)?;
     let tables: ElementTables<'_> = ElementTables::new(&tables);
     let mut first = CollationElements::new("a".chars(), tables, None, false);

@@ -7,7 +7,7 @@ ghost use Rattle.icu_keys.specs.inner.ListSinkLaws.{appended_nothing, appended_b
 use crate::error::SortKeyError;
 use crate::held::secondaries::HeldSecondaries;
 use crate::identical::IdenticalWriter;
-use crate::parts::{write_closed_level, write_opened_level};
+use crate::parts::{end_key, write_closed_level, write_opened_level};
 use crate::secondaries::SecondaryWriter;
 use crate::sink::CollationKeySink;
 use crate::slice_sink::TooSmall;
@@ -278,4 +278,20 @@ fn parts_that_are_refused(rt: HostRuntime) -> Result<(), Fail> {
     );
     assert_eq!(rt; sink.taken.len(), 0);
     Ok(())
+}
+
+/// A key in a slice of four bytes, as the sink ends it, and one that ran out of memory.
+#[test]
+fn ends_of_keys(rt: HostRuntime) {
+    let mut array = [0x7F; 4];
+    let mut slice = &mut array[..];
+    assert_eq!(rt; end_key(&mut slice, 4, Ok(())), Ok(4));
+    assert_eq!(rt;
+        end_key(&mut slice, 5, Ok(())),
+        Err(SortKeyError::Sink(TooSmall::new(5)))
+    );
+    assert_eq!(rt;
+        end_key(&mut slice, 0, Err(SortKeyError::NoMemory)),
+        Err(SortKeyError::NoMemory)
+    );
 }

@@ -1,7 +1,7 @@
 -- The order by the collator is the order by Mini's tables.
 use Rattle.std.proofs.Common.{◌≡◌, ◌++◌, ◌∷◌, [], chars, ap, ◌∙◌}
 use Rattle.icu_options.specs.Settings.{Settings}
-use Rattle.icu_checks.specs.CollatorTables.{CollatorTables}
+use Rattle.icu_provider.specs.CollatorTables.{CollatorTables}
 use Rattle.icu_comparison.specs.Collators.{IsSupportedComparison, comparison_by, non_numeric_comparison, tables_kept, tables_borrowed, settings_borrowed}
 use Rattle.icu_comparison.specs.Order.{Comparison, order_of}
 use Rattle.icu_mini.specs.Mini.{collator_tables}

@@ -2,7 +2,7 @@
 -- memory, or tables that fail a condition.
 use Rattle.std.proofs.Common.{◌≡◌, Some, ap, subst, sym}
 use Rattle.icu_entries.specs.declared.error.DataErrorKind.TheVariants.{NoMemory}
-use Rattle.icu_checks.specs.CollatorTables.{CollatorTables}
+use Rattle.icu_provider.specs.CollatorTables.{CollatorTables}
 use Rattle.icu_checks.specs.GoodTables.{IsGoodTables}
 use Rattle.icu_checks.specs.Loads.{lent_tables}
 use Rattle.icu_mini.specs.Provider.{loads_of}

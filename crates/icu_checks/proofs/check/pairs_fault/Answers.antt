@@ -1,18 +1,7 @@
-use Rattle.std.proofs.Common.{refl}
-use Rattle.icu_checks.specs.TableSets.{tables_in}
+use Rattle.icu_provider.specs.TableSets.{tables_in}
 use Rattle.icu_checks.specs.Faults.{IsTrueFault}
 use Rattle.icu_checks.proofs.FaultPairs.{both_none, either_true}
-use Rattle.icu_checks.proofs.LevelRefutes.{refute_lone, refute_secondaries, refute_tertiaries}
 use Rattle.icu_checks.proofs.check.pairs_fault.Goals as goal
-
-pub lone_fault-requires : goal.lone_fault-requires
-lone_fault-requires c = refute_lone (tables_in c.args.tables)
-
-pub overlap_fault-requires : goal.overlap_fault-requires
-overlap_fault-requires c = record { named = λ first second. refl; breaks = refute_secondaries (tables_in c.args.tables) }
-
-pub overlap_fault-requires-2 : goal.overlap_fault-requires-2
-overlap_fault-requires-2 c = record { named = λ first second. refl; breaks = refute_tertiaries (tables_in c.args.tables) }
 
 pub returns : goal.returns
 returns c =

@@ -1,4 +1,4 @@
-use Rattle.icu_checks.specs.CollatorTables.{is_forward}
+use Rattle.icu_provider.specs.CollatorTables.{is_forward}
 use Rattle.icu_comparison.specs.LiveWeights.{IsLiveSecondary, IsShiftedPrimary}
 use Rattle.icu_comparison.proofs.FormWeights.{secondaries_of, tertiaries_of, quaternaries_of}
 use Rattle.icu_comparison.proofs.PrimaryWeights.{live_primaries, live_shifted}

@@ -1,6 +1,7 @@
 -- The rows gone through were added.
 use Rattle.std.proofs.Common.{map, take}
-use Rattle.icu_data.specs.AddedContexts.{AddsRows, given_row}
+use Rattle.icu_data.specs.AddedContexts.{given_row}
+use Rattle.icu_data.specs.inner.AddedRows.{AddsRows}
 use Rattle.icu_data.proofs.added_context.push_rows.Given as goal
 
 abbrev pub invariant-loop-list : goal.invariant-loop-list

@@ -1,5 +1,5 @@
 use Rattle.std.proofs.Common.{◌≡◌, ℕ, ◌≤◌, ◌+◌, ◌*◌, ◌/◌, List, length, sym, ◌∙◌, ap, subst}
-use Rattle.icu_data.specs.Blocks.{block_at, HoldsBlock}
+use Rattle.icu_data.specs.Blocks.{block_at}
 use Rattle.icu_data.proofs.BlockLemmas.{found_block, added_block}
 use Rattle.icu_data.proofs.blocks.block_number.Goals as goal
 

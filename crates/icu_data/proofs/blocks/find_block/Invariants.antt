@@ -1,4 +1,4 @@
-use Rattle.std.proofs.Common.{◌≡◌, ℕ, ◌<◌}
+use Rattle.std.proofs.Common.{ℕ, ◌<◌}
 use Rattle.std.specs.Prelude.{◌≢◌}
 use Rattle.icu_data.specs.Blocks.{block_at}
 use Rattle.icu_data.proofs.blocks.find_block.Given as goal

@@ -2,7 +2,7 @@ use Rattle.std.proofs.Common.{◌≡◌, drop}
 use Rattle.icu_data.specs.Live.{live_contraction}
 use Rattle.icu_data.specs.Contexts.{rows_of}
 use Rattle.icu_data.specs.StoredData.{data_of}
-use Rattle.icu_data.specs.Walks.{after_rows}
+use Rattle.icu_data.specs.inner.Visitors.{after_rows}
 use Rattle.icu_data.proofs.walk.visit_contraction_rows.Given as goal
 
 -- what is after the rest of the rows is after all of them

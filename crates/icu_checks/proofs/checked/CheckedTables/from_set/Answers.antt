@@ -1,5 +1,5 @@
 use Rattle.std.proofs.Common.{IfErr, subst}
-use Rattle.icu_checks.specs.TableSets.{tables_in}
+use Rattle.icu_provider.specs.TableSets.{tables_in}
 use Rattle.icu_checks.specs.GoodTables.{IsTrueRefusal}
 use Rattle.icu_checks.proofs.GoodLemmas.{refusal_not_good}
 use Rattle.icu_checks.proofs.checked.CheckedTables.from_set.Goals as goal

@@ -1,0 +1,5 @@
+use Rattle.icu_checks.proofs.CollectLemmas.{lent_root}
+use Rattle.icu_checks.proofs.check.collecting.collect_root.Goals as goal
+
+pub returns : goal.returns
+returns c = lent_root c.args.tables c.args.list _ _ _ c.collect_weights.ensures

@@ -1,0 +1,10 @@
+use Rattle.std.proofs.Common.{◌≡◌, ℕ, ◌<◌, None, IfSome}
+use Rattle.icu_provider.specs.TableSets.{tables_in}
+use Rattle.icu_checks.specs.Faults.{IsTrueFault}
+use Rattle.icu_checks.specs.EntryFaults.{AccentMeets}
+use Rattle.icu_checks.proofs.check.live_faults.accents_fault.Given as goal
+
+-- without a fault so far there is none at an earlier place, and one so far is true
+abbrev pub invariant-loop-place : goal.invariant-loop-place
+invariant-loop-place l =
+    (l.first ≡ None → (i : ℕ) → i < l.place → AccentMeets (tables_in l.fn.tables) i) × IfSome l.first (IsTrueFault (tables_in l.fn.tables))

@@ -1,0 +1,23 @@
+use Rattle.std.proofs.Common.{subst}
+use Rattle.icu_provider.specs.TableSets.{tables_in}
+use Rattle.icu_checks.specs.Faults.{IsTrueFault}
+use Rattle.icu_checks.specs.PairFaults.{AreAlike}
+use Rattle.icu_checks.proofs.FaultPairs.{both_none, either_true}
+use Rattle.icu_checks.proofs.check.primary_faults.primary_fault.Goals as goal
+
+pub returns : goal.returns
+returns c =
+    let all = tables_in c.args.tables in
+    let T = IsTrueFault all in
+    record {
+      none = λ h.
+          let last = both_none _ _ _ c.earlier-2.ensures h in
+          let first = both_none _ _ _ c.earlier.ensures last.0 in
+          record {
+            weights = c.in_ok-weights.weights.items;
+            all_held = c.in_ok-weights.ensures.weights.all;
+            free = c.in_ok-overlap.ensures.none first.0;
+            alike = subst (AreAlike all) c.deref.ensures.value (c.compression_fault-unlike.ensures.none last.1);
+          };
+      some = either_true T _ _ _ c.earlier-2.ensures (either_true T _ _ _ c.earlier.ensures c.in_ok-overlap.ensures.some c.in_ok-implicit.ensures) c.compression_fault-unlike.ensures.some;
+    }

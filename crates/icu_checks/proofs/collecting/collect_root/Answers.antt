@@ -1,5 +1,0 @@
-use Rattle.icu_checks.proofs.CollectLemmas.{lent_root}
-use Rattle.icu_checks.proofs.collecting.collect_root.Goals as goal
-
-pub returns : goal.returns
-returns c = lent_root c.args.tables c.args.level _ _ _ c.collect_weights.ensures

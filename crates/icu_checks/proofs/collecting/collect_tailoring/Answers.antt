@@ -1,8 +1,0 @@
-use Rattle.icu_checks.proofs.CollectLemmas.{lent_tailoring, lent_no_tailoring}
-use Rattle.icu_checks.proofs.collecting.collect_tailoring.Goals as goal
-
-pub returns-in-Some : goal.returns-in-Some
-returns-in-Some c = lent_tailoring c.args.tables c.args.level c.in-Some.tailoring c.in-Some.is _ _ _ c.collect_weights.ensures
-
-pub returns-in-None : goal.returns-in-None
-returns-in-None c = lent_no_tailoring c.args.tables c.args.level c.in-None.is _

@@ -1,7 +1,0 @@
-use Rattle.icu_checks.specs.TableSets.{tables_in}
-use Rattle.icu_checks.proofs.ImplicitLemmas.{implicit_no_fault}
-use Rattle.icu_checks.proofs.entry_judge.EntryJudgeJudge.passes_implicit.Goals as goal
-
-pub returns : goal.returns
-returns c passes home char e is =
-    implicit_no_fault (tables_in c.args.self.now.tables) c.args.self.now.table home char e is (c.args.self.now.passes passes char)

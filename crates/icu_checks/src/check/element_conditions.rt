@@ -1,0 +1,83 @@
+ghost use Rattle.std.specs.Prelude.{◌≡◌};
+ghost use Rattle.icu_entries.specs.Elements.{Element};
+ghost use Rattle.icu_checks.specs.Leads.{is_middle};
+ghost use Rattle.icu_provider.specs.TableSets.{tables_in};
+ghost use Rattle.icu_checks.specs.ElementConditions.{is_lone, is_high_lone, has_low_bytes, has_second_byte, primary_meets, element_meets};
+
+use crate::check::leads::is_middle;
+use crate::check::lookups::is_apart;
+use crate::condition::ElementCondition;
+use icu_entries::CollationElement;
+use icu_provider::TableSet;
+use icu_provider::reordering::lead_byte;
+
+/// The lead byte of implicit weights.
+pub(crate) const IMPLICIT_LEAD: u8 = 0xFE;
+
+/// Whether the element has a tertiary weight and no secondary weight.
+pub(crate) fn is_lone(element: CollationElement) -> bool
+    ensures { result ≡ is_lone element }
+{
+    element.secondary() == 0 && element.non_primary().tertiary() != 0
+}
+
+/// Whether it is in upper case, and its tertiary weight greater than the common one.
+fn is_high_lone(element: CollationElement) -> bool
+    ensures { result ≡ is_high_lone element }
+{
+    element.non_primary().case() == 0x8000 && element.non_primary().tertiary() > 0x500
+}
+
+fn has_low_bytes(primary: u32) -> bool
+    ensures { result ≡ has_low_bytes primary }
+{
+    primary >> 16 & 0xFF != 0 && primary >> 8 & 0xFF != 0 && primary & 0xFF != 0
+}
+
+fn has_second_byte(primary: u32) -> bool
+    ensures { result ≡ has_second_byte primary }
+{
+    let second = primary >> 16 & 0xFF;
+    second >= 4 && second <= 0xFE
+}
+
+impl ElementCondition {
+    /// Whether a nonzero primary weight meets the condition.
+    #[tactic(auto, unfolding(icu_provider::specs::TableSets::tables_in))]
+    fn primary_meets(self, tables: TableSet<'_>, primary: u32) -> bool
+        ensures { result ≡ primary_meets self (tables_in tables.entry) primary }
+    {
+        let lead = lead_byte(primary);
+        match self {
+            ElementCondition::MiddleLead => {
+                !is_middle(lead) || is_middle(lead_byte(tables.reorder(primary)))
+            }
+            ElementCondition::ImplicitLength => lead != IMPLICIT_LEAD || has_low_bytes(primary),
+            ElementCondition::NumericLead => lead != tables.special.numeric_primary(),
+            ElementCondition::SharedLead => {
+                is_apart(tables, IMPLICIT_LEAD, primary)
+                    && is_apart(tables, tables.special.numeric_primary(), primary)
+            }
+            ElementCondition::SecondByte => {
+                !tables.special.is_compressible(lead) || has_second_byte(primary)
+            }
+            ElementCondition::Width
+            | ElementCondition::BackwardLead
+            | ElementCondition::LoneTertiary => true,
+        }
+    }
+
+    /// Whether the element meets the condition.
+    pub(crate) fn holds(self, tables: TableSet<'_>, element: CollationElement) -> bool
+        ensures { result ≡ element_meets self (tables_in tables.entry) element }
+    {
+        match self {
+            ElementCondition::Width => true,
+            ElementCondition::BackwardLead => {
+                tables.is_forward() || element.secondary() >> 8 != 2
+            }
+            ElementCondition::LoneTertiary => !is_lone(element) || is_high_lone(element),
+            _ => element.primary() == 0 || self.primary_meets(tables, element.primary()),
+        }
+    }
+}

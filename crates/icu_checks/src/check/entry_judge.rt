@@ -1,0 +1,178 @@
+//! The faults of what is live in one table.
+ghost use Rattle.std.specs.Prelude.{◌≡◌, true, Option, IsTrue};
+ghost use Rattle.icu_checks.specs.declared.fault.Fault.{Fault};
+ghost use Rattle.icu_entries.specs.declared.error.DataTable.{DataTable};
+ghost use Rattle.icu_entries.specs.Elements.{Element};
+ghost use Rattle.icu_data.specs.DataConditions.{is_readable};
+ghost use Rattle.icu_data.specs.StoredData.{data_of};
+ghost use Rattle.icu_provider.specs.CollatorTables.{CollatorTables};
+ghost use Rattle.icu_provider.specs.TableSets.{tables_in};
+ghost use Rattle.icu_checks.specs.EntryFaults.{first_failing_element, element_fault, after_element, judged_element, elements_fault, rows_fault, entry_fault, ImplicitPasses};
+
+use crate::check::lead_conditions::numeric_lead;
+use crate::condition::{Condition, ElementCondition, LeadCondition};
+use crate::fault::{Fault, later};
+use icu_data::CollationData;
+use icu_data::element_walk::{VisitElement, visit_elements};
+use icu_data::fault::{Judge, earlier};
+use icu_entries::{CollationElement, CollationElement32, DataTable};
+use icu_provider::TableSet;
+use std::convert::Infallible;
+
+/// The first condition that an element fails, in the order in which a refusal names them.
+#[tactic(auto, unfolding(crate::specs::EntryFaults::first_failing_element))]
+fn first_failing_element(
+    tables: TableSet<'_>,
+    element: CollationElement,
+) -> Option<ElementCondition>
+    ensures { result ≡ first_failing_element (tables_in tables.entry) element }
+{
+    if !ElementCondition::Width.holds(tables, element) {
+        Some(ElementCondition::Width)
+    } else if !ElementCondition::BackwardLead.holds(tables, element) {
+        Some(ElementCondition::BackwardLead)
+    } else if !ElementCondition::LoneTertiary.holds(tables, element) {
+        Some(ElementCondition::LoneTertiary)
+    } else if !ElementCondition::MiddleLead.holds(tables, element) {
+        Some(ElementCondition::MiddleLead)
+    } else if !ElementCondition::ImplicitLength.holds(tables, element) {
+        Some(ElementCondition::ImplicitLength)
+    } else if !ElementCondition::NumericLead.holds(tables, element) {
+        Some(ElementCondition::NumericLead)
+    } else if !ElementCondition::SharedLead.holds(tables, element) {
+        Some(ElementCondition::SharedLead)
+    } else if !ElementCondition::SecondByte.holds(tables, element) {
+        Some(ElementCondition::SecondByte)
+    } else {
+        None
+    }
+}
+
+/// That condition as a fault of an element of a table.
+pub(crate) fn element_fault(
+    tables: TableSet<'_>,
+    table: DataTable,
+    element: CollationElement,
+) -> Option<Fault>
+    ensures { result ≡ element_fault (tables_in tables.entry) table element }
+{
+    match first_failing_element(tables, element) {
+        Some(condition) => Some(Fault {
+            condition: Condition::Element(condition),
+            table: later(table, condition.table()),
+        }),
+        None => None,
+    }
+}
+
+/// A visitor that keeps the first fault of elements.
+#[derive(Drop)]
+struct FirstElementFault<'d> {
+    tables: TableSet<'d>,
+    table: DataTable,
+    first: Option<Fault>,
+}
+
+impl<'d> VisitElement for FirstElementFault<'d> {
+    type Refusal = Infallible;
+
+    ghost Seen = { (CollatorTables × DataTable) × Option Fault };
+
+    ghost seen = { λ v. ((tables_in v.tables, v.table), v.first) };
+
+    ghost after = { judged_element };
+
+    fn visit(&mut self, element: CollationElement) -> Result<(), Infallible> {
+        self.first = earlier(self.first, element_fault(self.tables, self.table, element));
+        Ok(())
+    }
+}
+
+/// The first fault of the elements that an entry of a table gives with a character.
+#[tactic(auto, using(crate::proofs::EntryFaultLemmas::judged_elements))]
+fn elements_fault(
+    tables: TableSet<'_>,
+    table: DataTable,
+    home: CollationData<'_>,
+    c: char,
+    entry: CollationElement32,
+) -> Option<Fault>
+    requires { IsTrue (is_readable (data_of home) c entry) }
+    ensures { result ≡ elements_fault (tables_in tables.entry) table (data_of home.entry) c entry }
+{
+    let mut visitor = FirstElementFault {
+        tables,
+        table,
+        first: None,
+    };
+    match visit_elements(&mut visitor, home, c, entry) {
+        Ok(()) => visitor.first,
+        Err(never) => match never {},
+    }
+}
+
+/// The condition on the rows of a prefix as a fault.
+#[tactic(auto, unfolding(icu_provider::specs::TableSets::tables_in))]
+fn rows_fault(
+    tables: TableSet<'_>,
+    home: CollationData<'_>,
+    entry: CollationElement32,
+) -> Option<Fault>
+    ensures { result ≡ rows_fault (tables_in tables.entry) (data_of home.entry) entry }
+{
+    if home.avoids_diacritics(tables.diacritics.secondaries().len(), entry) {
+        None
+    } else {
+        Some(Fault {
+            condition: Condition::PrefixRows,
+            table: DataTable::Diacritics,
+        })
+    }
+}
+
+/// What finds the faults of the entries that are live in a table, by all tables of a collator. Entries for implicit weights, a million
+/// of them, are passed over where reordering leaves these weights a lead byte of their own.
+#[derive(Debug, Clone, Copy)]
+pub(crate) struct EntryJudge<'d> {
+    pub(crate) tables: TableSet<'d>,
+    pub(crate) table: DataTable,
+    pub(crate) implicit_passes: bool,
+    ghost passes: { implicit_passes ≡ true → ImplicitPasses (tables_in tables) },
+}
+
+/// Whether implicit weights meet every condition on elements: reordering takes them to one lead byte, and numbers to another.
+#[tactic(auto, using(crate::proofs::ImplicitLemmas::implicit_pass))]
+pub(crate) fn implicit_passes(tables: TableSet<'_>) -> bool
+    ensures { result ≡ true → ImplicitPasses (tables_in tables.entry) }
+{
+    numeric_lead(tables);
+    LeadCondition::ImplicitLead.holds(tables) && LeadCondition::LeadsApart.holds(tables)
+}
+
+impl<'d> Judge for EntryJudge<'d> {
+    type Fault = Fault;
+
+    ghost fault = { λ j home c e. entry_fault (tables_in j.tables) j.table home c e };
+
+    #[tactic(auto, unfolding(crate::specs::EntryFaults::entry_fault))]
+    fn fault(&self, home: CollationData<'_>, c: char, entry: CollationElement32) -> Option<Fault> {
+        let own = match home.first_failing(c, entry) {
+            Some(condition) => Some(Fault {
+                condition: Condition::Entry(condition),
+                table: self.table,
+            }),
+            None => None,
+        };
+        let found = earlier(own, rows_fault(self.tables, home, entry));
+        let of_elements = if home.is_readable(c, entry) {
+            elements_fault(self.tables, self.table, home, c, entry)
+        } else {
+            None
+        };
+        earlier(found, of_elements)
+    }
+
+    fn passes_implicit(&self) -> bool {
+        self.implicit_passes
+    }
+}

@@ -1,0 +1,287 @@
+//! Primary weights that begin an implicit weight (UTS #10, section 10.1).
+//!
+//! Implicit weights follow from their characters, so none of them is collected: which characters have an implicit weight that begins
+//! with given bytes is arithmetic.
+ghost use Rattle.std.specs.Prelude.{◌≡◌, ◌<◌, ◌^◌, ◌||◌, Bool, IfOk, IfSome, IsTrue};
+ghost use Rattle.std.specs.List.{list_any};
+ghost use Rattle.icu_data.specs.Live.{live_from};
+ghost use Rattle.icu_data.specs.StoredData.{data_of};
+ghost use Rattle.icu_provider.specs.TableSets.{tables_in};
+ghost use Rattle.icu_checks.specs.Faults.{IsTrueFault};
+ghost use Rattle.icu_checks.specs.PairFaults.{AreListed, IsListedWeight};
+ghost use Rattle.icu_checks.specs.ImplicitOverlaps.{is_for_implicit, IsImplicitBy, IsImplicitClash};
+
+use crate::check::collecting::collect;
+use crate::check::element_conditions::IMPLICIT_LEAD;
+use crate::check::overlap::{Overlap, are_overlapping, is_beginning};
+use crate::check::overlap_faults::LIVE_TABLES;
+use crate::check::overlap_tables::{clash_table, table_of};
+use crate::check::weight_list::sort_and_dedup;
+use crate::check::weights::{Level, WeightList};
+use crate::condition::{Condition, LeadCondition, PairCondition};
+use crate::fault::Fault;
+use icu_data::CollationData;
+use icu_data::walk::{Visit, visit_from};
+use icu_entries::{CollationElement, CollationElement32, DataTable, EntryKind};
+use icu_provider::TableSet;
+use icu_provider::reordering::lead_byte;
+use std::alloc::{AllocError, Global};
+use std::convert::Infallible;
+
+/// A primary weight of a table that begins the implicit weight of a character, which is live by another table or the same one.
+#[derive(Debug, Clone, Copy, PartialEq, Eq)]
+pub(crate) struct ImplicitClash {
+    pub(crate) primary: u32,
+    pub(crate) implicit: u32,
+    pub(crate) table: DataTable,
+}
+
+#[tactic(auto, unfolding(crate::specs::ImplicitOverlaps::is_for_implicit))]
+fn is_for_implicit(entry: CollationElement32) -> bool
+    ensures { result ≡ is_for_implicit entry }
+{
+    match entry.kind() {
+        EntryKind::Implicit => true,
+        _ => false,
+    }
+}
+
+/// A visitor that looks for an entry for an implicit weight.
+#[derive(Drop)]
+struct ImplicitSearch {
+    found: bool,
+}
+
+impl Visit for ImplicitSearch {
+    type Refusal = Infallible;
+
+    ghost Seen = { Bool };
+
+    ghost seen = { λ v. v.found };
+
+    ghost after = { λ found home c e. found || is_for_implicit e };
+
+    fn visit(
+        &mut self,
+        _home: CollationData<'_>,
+        _c: char,
+        entry: CollationElement32,
+    ) -> Result<(), Infallible> {
+        self.found = self.found || is_for_implicit(entry);
+        Ok(())
+    }
+}
+
+/// Whether an entry for an implicit weight is live from this one.
+fn leads_to_implicit(home: CollationData<'_>, c: char, entry: CollationElement32) -> bool
+    ensures { result ≡ list_any is_for_implicit (live_from (data_of home.entry) entry) }
+{
+    let mut search = ImplicitSearch { found: false };
+    match visit_from(&mut search, home, c, entry) {
+        Ok(()) => search.found,
+        Err(never) => match never {},
+    }
+}
+
+/// Whether the implicit weight of a character is live by a table.
+fn is_implicit_by(tables: TableSet<'_>, table: DataTable, c: char) -> bool
+    ensures { IsTrue result → IsImplicitBy table (tables_in tables.entry).tables c }
+{
+    match table {
+        DataTable::Root => leads_to_implicit(tables.root, c, tables.root.ce32_for_char(c)),
+        DataTable::Jamo => is_implicit_jamo(tables, c),
+        DataTable::Tailoring => is_implicit_in_tailoring(tables, c),
+        _ => false,
+    }
+}
+
+fn is_implicit_jamo(tables: TableSet<'_>, c: char) -> bool
+    ensures { IsTrue result → IsImplicitBy DataTable.Jamo (tables_in tables.entry).tables c }
+{
+    let code = c as u32;
+    if code < 0x1100 || code >= 0x1200 {
+        return false;
+    }
+    let entry = tables.jamo.ce32s()[(code - 0x1100) as usize];
+    leads_to_implicit(tables.root, c, CollationElement32::new(entry))
+}
+
+fn is_implicit_in_tailoring(tables: TableSet<'_>, c: char) -> bool
+    ensures { IsTrue result → IsImplicitBy DataTable.Tailoring (tables_in tables.entry).tables c }
+{
+    match tables.tailoring {
+        Some(tailoring) => {
+            let entry = tailoring.ce32_for_char(c);
+            !entry.is_fallback() && leads_to_implicit(tailoring, c, entry)
+        }
+        None => false,
+    }
+}
+
+/// Characters from the first up to the end, which isn't one of them.
+#[derive(Debug, Clone, Copy, PartialEq, Eq)]
+struct CodePoints {
+    first: u32,
+    end: u32,
+}
+
+/// The implicit weights with some second and third bytes, as many in a row: those of `count` characters from `first` - 1 on. The
+/// fourth byte has 18 values, the third 254.
+fn code_points(first: u32, count: u32) -> CodePoints
+    requires first { first < 2 ^ 24 }
+    requires count { count < 2 ^ 24 }
+{
+    CodePoints {
+        first: first.saturating_sub(1),
+        end: (first + count).saturating_sub(1).min(0x110000),
+    }
+}
+
+/// The characters whose implicit weights may have the bytes of a weight below its lead byte, as far as these aren't zero.
+fn implicit_chars(primary: u32) -> CodePoints {
+    let bytes = primary.to_be_bytes();
+    let second = u32::from(bytes[1]).saturating_sub(4) * 254 * 18;
+    let third = u32::from(bytes[2]).saturating_sub(2) * 18;
+    let fourth = u32::from(bytes[3]).saturating_sub(2) / 14;
+    match (bytes[1], bytes[2], bytes[3]) {
+        (0, _, _) => code_points(0, 0x110001),
+        (_, 0, _) => code_points(second, 254 * 18),
+        (_, _, 0) => code_points(second + third, 18),
+        _ => code_points(second + third + fourth, 1),
+    }
+}
+
+/// Whether a weight may begin an implicit one once both are reordered.
+fn may_begin_implicit(tables: TableSet<'_>, together: bool, primary: u32) -> bool {
+    let reordered = tables.reorder(primary);
+    !together || reordered == 0 || lead_byte(reordered) == tables.new_lead(IMPLICIT_LEAD)
+}
+
+/// The first of some tables by which the implicit weight of a character is live.
+fn table_of_implicit(tables: TableSet<'_>, by: &[DataTable], c: char) -> Option<DataTable>
+    ensures { IfSome result (λ table. IsImplicitBy table (tables_in tables.entry).tables c) }
+{
+    for table in by {
+        if is_implicit_by(tables, *table, c) {
+            return Some(*table);
+        }
+    }
+    None
+}
+
+/// A weight and the implicit one of a character, if the first begins the second and that is live by some of the tables.
+fn clash_with(
+    tables: TableSet<'_>,
+    by: &[DataTable],
+    primary: u32,
+    c: char,
+) -> Option<ImplicitClash>
+    requires { IsListedWeight WeightList.Primaries (tables_in tables).tables primary }
+    ensures { IfSome result (IsImplicitClash (tables_in tables.entry)) }
+{
+    let implicit = CollationElement::new_implicit_from_char(c).primary();
+    if primary == implicit || !is_beginning(tables.reorder(primary), tables.reorder(implicit)) {
+        return None;
+    }
+    let table = table_of_implicit(tables, by, c)?;
+    Some(ImplicitClash {
+        primary,
+        implicit,
+        table,
+    })
+}
+
+/// The first such clash of a weight.
+fn clash_of(tables: TableSet<'_>, by: &[DataTable], primary: u32) -> Option<ImplicitClash>
+    requires { IsListedWeight WeightList.Primaries (tables_in tables).tables primary }
+    ensures { IfSome result (IsImplicitClash (tables_in tables.entry)) }
+{
+    let chars = implicit_chars(primary);
+    for code in chars.first..chars.end {
+        if let Some(c) = char::from_u32(code) {
+            if let Some(clash) = clash_with(tables, by, primary, c) {
+                return Some(clash);
+            }
+        }
+    }
+    None
+}
+
+/// The first such clash of some weights: of all of them, or only of weights that overlap before reordering too.
+fn first_clash(
+    tables: TableSet<'_>,
+    by: &[DataTable],
+    weights: &[u32],
+    before_too: bool,
+) -> Option<ImplicitClash>
+    requires { AreListed WeightList.Primaries (tables_in tables).tables weights.now }
+    ensures { IfSome result (IsImplicitClash (tables_in tables.entry)) }
+{
+    let together = LeadCondition::ImplicitLead.holds(tables);
+    for primary in weights {
+        if may_begin_implicit(tables, together, *primary) {
+            if let Some(clash) = clash_of(tables, by, *primary) {
+                if !before_too || are_overlapping(clash.primary, clash.implicit) {
+                    return Some(clash);
+                }
+            }
+        }
+    }
+    None
+}
+
+/// The fault of such a clash, named by the first table by which the weight is live.
+fn clash_fault(
+    alloc: Global,
+    tables: TableSet<'_>,
+    clash: ImplicitClash,
+) -> Result<Fault, AllocError>
+    requires { IsImplicitClash (tables_in tables) clash }
+    ensures { IfOk result (IsTrueFault (tables_in tables.entry)) }
+{
+    let own = table_of(alloc, tables, WeightList::Primaries, clash.primary)?;
+    let overlap = Overlap {
+        first: clash.primary,
+        second: clash.implicit,
+    };
+    Ok(Fault {
+        condition: Condition::Pair(PairCondition::Primaries),
+        table: clash_table(Level::Primary, own, clash.table, overlap),
+    })
+}
+
+/// A clash as it is named. Those that there are before reordering too are looked for table by table, so that the earliest tables are
+/// named; where there are none, the given one is named.
+fn named_clash(
+    alloc: Global,
+    tables: TableSet<'_>,
+    clash: ImplicitClash,
+) -> Result<Fault, AllocError>
+    requires { IsImplicitClash (tables_in tables) clash }
+    ensures { IfOk result (IsTrueFault (tables_in tables.entry)) }
+{
+    let mut weights = Vec::new(alloc);
+    for (index, table) in LIVE_TABLES.iter().enumerate() {
+        collect(tables, WeightList::Primaries, *table, &mut weights)?;
+        sort_and_dedup(&mut weights);
+        if let Some(found) = first_clash(tables, &LIVE_TABLES[..index + 1], &weights, true) {
+            return clash_fault(alloc, tables, found);
+        }
+    }
+    clash_fault(alloc, tables, clash)
+}
+
+/// The first fault of primary weights that begin an implicit one.
+pub(crate) fn implicit_fault(
+    alloc: Global,
+    tables: TableSet<'_>,
+    weights: &[u32],
+) -> Result<Option<Fault>, AllocError>
+    requires { AreListed WeightList.Primaries (tables_in tables).tables weights.now }
+    ensures { IfOk result (λ found. IfSome found (IsTrueFault (tables_in tables.entry))) }
+{
+    match first_clash(tables, &LIVE_TABLES, weights, false) {
+        Some(clash) => Ok(Some(named_clash(alloc, tables, clash)?)),
+        None => Ok(None),
+    }
+}

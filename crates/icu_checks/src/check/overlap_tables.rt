@@ -1,0 +1,93 @@
+//! The tables that an overlap of two weights is named by.
+ghost use Rattle.std.specs.Prelude.{◌≡◌, ◌↔◌, IfOk, IsTrue};
+ghost use Rattle.icu_provider.specs.TableSets.{tables_in};
+ghost use Rattle.icu_checks.specs.Faults.{IsTrueFault};
+ghost use Rattle.icu_checks.specs.Levels.{list_of};
+ghost use Rattle.icu_checks.specs.Weights.{IsWeightBy};
+ghost use Rattle.icu_checks.specs.PairFaults.{IsListedWeight, AreClashing, IsClashTable};
+
+use crate::check::collecting::collect;
+use crate::check::overlap::{Overlap, are_overlapping};
+use crate::check::weight_list::contains;
+use crate::check::weights::{Level, WeightList};
+use crate::condition::Condition;
+use crate::fault::{Fault, later};
+use icu_entries::DataTable;
+use icu_provider::TableSet;
+use std::alloc::{AllocError, Global};
+
+/// Whether a weight is live by a table.
+fn has_weight(
+    alloc: Global,
+    tables: TableSet<'_>,
+    list: WeightList,
+    table: DataTable,
+    weight: u32,
+) -> Result<bool, AllocError>
+    ensures { IfOk result (λ found. IsTrue found ↔ IsWeightBy list table (tables_in tables.entry).tables weight) }
+{
+    let mut weights = Vec::new(alloc);
+    collect(tables, list, table, &mut weights)?;
+    Ok(contains(&weights, weight))
+}
+
+/// The first table by which a weight is live.
+pub(crate) fn table_of(
+    alloc: Global,
+    tables: TableSet<'_>,
+    list: WeightList,
+    weight: u32,
+) -> Result<DataTable, AllocError>
+    requires { IsListedWeight list (tables_in tables).tables weight }
+    ensures { IfOk result (λ table. IsWeightBy list table (tables_in tables.entry).tables weight) }
+{
+    if has_weight(alloc, tables, list, DataTable::Root, weight)? {
+        Ok(DataTable::Root)
+    } else if has_weight(alloc, tables, list, DataTable::Jamo, weight)? {
+        Ok(DataTable::Jamo)
+    } else if has_weight(alloc, tables, list, DataTable::Tailoring, weight)? {
+        Ok(DataTable::Tailoring)
+    } else {
+        Ok(DataTable::Diacritics)
+    }
+}
+
+/// The table by which an overlap is named whose weights are live by two tables: the later one, but the reordering where they are
+/// primary weights that overlap only by it.
+pub(crate) fn clash_table(
+    level: Level,
+    first: DataTable,
+    second: DataTable,
+    overlap: Overlap,
+) -> DataTable
+    ensures { IsClashTable level first second overlap.first overlap.second result }
+{
+    match level {
+        Level::Primary => {
+            if are_overlapping(overlap.first, overlap.second) {
+                later(first, second)
+            } else {
+                DataTable::Reordering
+            }
+        }
+        Level::Secondary | Level::Tertiary => later(first, second),
+    }
+}
+
+/// The fault of two weights of which one begins the other, named by the first tables by which they are live.
+pub(crate) fn clash_fault(
+    alloc: Global,
+    tables: TableSet<'_>,
+    level: Level,
+    overlap: Overlap,
+) -> Result<Fault, AllocError>
+    requires { AreClashing level (tables_in tables) overlap.first overlap.second }
+    ensures { IfOk result (IsTrueFault (tables_in tables.entry)) }
+{
+    let first = table_of(alloc, tables, level.list(), overlap.first)?;
+    let second = table_of(alloc, tables, level.list(), overlap.second)?;
+    Ok(Fault {
+        condition: Condition::Pair(level.condition()),
+        table: clash_table(level, first, second, overlap),
+    })
+}

@@ -1,0 +1,44 @@
+-- What the visitors of this crate add up to.
+use Rattle.std.specs.Prelude.{ℕ, Bool, ◌&&◌, ◌==◌, List, [], ◌∷◌, Option, Some, None, if◌then◌else◌, ◌++◌, fold, map, flat_map, ◌-◌, false, length, slice_get}
+use Rattle.icu_entries.specs.declared.element_conditions.ElementCondition.{ElementCondition}
+use Rattle.icu_entries.specs.Elements.{Element}
+use Rattle.icu_data.specs.Data.{Data, Row, homed}
+use Rattle.icu_data.specs.Final.{final_elements}
+use Rattle.icu_data.specs.LiveWeights.{is_stated}
+use Rattle.icu_entries.specs.ElementConditions.{element_meets}
+use Rattle.icu_data.specs.Faults.{earlier}
+use Rattle.icu_data.specs.Walks.{after_all}
+
+-- a condition and whether each element so far meets it, after one more
+abbrev pub all_meet : ElementCondition × Bool → Element → ElementCondition × Bool
+all_meet s x = (s.0, s.1 && element_meets s.0 x)
+
+-- a judge and the first fault so far, after one more entry
+abbrev pub judged : {J F : Type 0} → (F → ℕ) → (J → Data → ℕ → ℕ → Option F) → J × Option F → Data → ℕ → ℕ → J × Option F
+judged rank fault s home c e = (s.0, earlier rank s.1 (fault s.0 home c e))
+
+-- after what each row's entry leads to
+abbrev pub after_rows : {V : Type 0} → (V → Data → ℕ → ℕ → V) → (ℕ → List ℕ) → Data → ℕ → List Row → V → V
+after_rows after lead home c rows v = after_all after v home c (flat_map lead (map (λ (row : Row). row.entry) rows))
+
+-- the weight is the last of these
+unfoldable pub is_last : List ℕ → ℕ → Bool
+is_last ws w = elim (slice_get ws (length ws - 1)) [ Some last ↦ last == w | None ↦ false ]
+
+-- these weights and one more, unless it is their last: many elements in a row have one weight
+unfoldable pub with_weight : List ℕ → ℕ → List ℕ
+with_weight ws w = if is_last ws w then ws else ws ++ w ∷ []
+
+abbrev pub with_found : List ℕ → Option ℕ → List ℕ
+with_found ws None = ws
+with_found ws (Some w) = with_weight ws w
+
+-- what collects, and the weights so far, after one more element, and after one more entry
+abbrev pub collected : {W : Type 0} → (W → Element → Option ℕ) → W × List ℕ → Element → W × List ℕ
+collected weight s x = (s.0, with_found s.1 (weight s.0 x))
+
+unfoldable pub given_elements : Data → ℕ → ℕ → List Element
+given_elements home c e = if is_stated home c e then final_elements (homed home e) c else []
+
+abbrev pub collected_at : {W : Type 0} → (W → Element → Option ℕ) → W × List ℕ → Data → ℕ → ℕ → W × List ℕ
+collected_at weight s home c e = fold (collected weight) s (given_elements home c e)
