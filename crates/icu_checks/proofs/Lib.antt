@@ -13,7 +13,6 @@ pub mod LiveFaultLemmas
 pub mod LentFaultLemmas
 pub mod FaultPairs
 pub mod CollectLemmas
-pub mod LoneLemmas
 pub mod LevelLemmas
 pub mod LevelRefutes
 pub mod LevelMeets

@@ -142,6 +142,14 @@ sorted_listed own list all table old new sorted is listed adds same w c =
 pub same_listed : (list : WeightList) (all : CollatorTables) (old new : List ℕ) → AreListed list all.tables old → ((w : ℕ) → Contains new w ↔ Contains old w) → AreListed list all.tables new
 same_listed list all old new listed same w c = listed w ((same w).0 c)
 
+-- weights that are added to those of other tables
+pub more_listed : (list : WeightList) (all : CollatorTables) (table : DataTable) (old new : List ℕ) → AreListed list all.tables old → Adds (IsWeightBy list table all.tables) old new → AreListed list all.tables new
+more_listed list all table old new listed adds w c =
+    elim ((adds w).0 c) [
+      | inl older ↦ listed w older
+      | inr by ↦ record { table = table; is = by }
+    ]
+
 -- whether a list of its own holds a weight
 pub is_weight_by : (list : WeightList) (table : DataTable) (all : CollatorTables) (ws : List ℕ) (w : ℕ) (b : Type 0) → (old : List ℕ) → old ≡ [] → Adds (IsWeightBy list table all.tables) old ws
     → (b ↔ Contains ws w) → b ↔ IsWeightBy list table all.tables w

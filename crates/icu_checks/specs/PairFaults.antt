@@ -1,5 +1,5 @@
 -- What a check of pairs of live elements goes by.
-use Rattle.std.specs.Prelude.{ℕ, ◌≡◌, ◌≢◌, ◌≤◌, ◌<◌, List, Option, Some, None, IfSome}
+use Rattle.std.specs.Prelude.{ℕ, ◌≡◌, ◌≢◌, ◌≤◌, ◌<◌, List, Option, None, IfSome}
 use Rattle.std.specs.List.{Contains}
 use Rattle.icu_levels.specs.ListOrder.{IsBeginning}
 use Rattle.icu_levels.specs.Premises.{IsPrefixFree}
@@ -8,7 +8,7 @@ use Rattle.icu_provider.specs.Reorderings.{lead_byte}
 use Rattle.icu_provider.specs.SpecialPrimaries.{is_compressible}
 use Rattle.icu_provider.specs.Tables.{Tables}
 use Rattle.icu_checks.specs.declared.fault.Fault.{Fault}
-use Rattle.icu_checks.specs.declared.check.lone_faults.Found.{Found}
+use Rattle.icu_checks.specs.declared.check.tertiary_faults.LowPair.{LowPair}
 use Rattle.icu_checks.specs.declared.check.weights.Level.{Level}
 use Rattle.icu_checks.specs.declared.check.weights.Level.TheVariants as levels
 use Rattle.icu_checks.specs.declared.check.weights.WeightList.{WeightList}
@@ -66,25 +66,19 @@ abbrev pub IsClashTable : Level → DataTable → DataTable → ℕ → ℕ → 
 IsClashTable levels.Primary first second v w table = IsOverlapTable first second v w table
 IsClashTable _ first second v w table = table ≡ later first second
 
--- ---- the least tertiary weight that stands alone, and the greatest beside a secondary weight
+-- ---- tertiary weights of elements without a secondary weight, and of those with one
 
--- a weight with its table is one of a level
-abbrev pub IsFound : WeightList → Tables → Found → Type 0
-IsFound list tables f = IsWeightBy list f.table tables f.weight
+-- a weight alone and one beside a secondary weight that isn't below it
+pub record AreTooLow (alone beside : List ℕ) (pair : LowPair) : Type 0 where
+  pub first : Contains alone pair.alone
+  pub second : Contains beside pair.beside
+  pub low : pair.alone ≤ pair.beside
 
-abbrev pub AtMost : Option Found → ℕ → Type 0
-AtMost None w = ⊥
-AtMost (Some f) w = f.weight ≤ w
-
-abbrev pub AtLeast : Option Found → ℕ → Type 0
-AtLeast None w = ⊥
-AtLeast (Some f) w = w ≤ f.weight
-
--- what was found before, and then in one more table: a weight of the level, that bounds all that were bounded and the table's
-pub record IsExtreme (Bounds : Option Found → ℕ → Type 0) (list : WeightList) (table : DataTable) (tables : Tables) (best found : Option Found) : Type 0 where
-  pub is : IfSome found (IsFound list tables)
-  pub keeps : (w : ℕ) → Bounds best w → Bounds found w
-  pub covers : (w : ℕ) → IsWeightBy list table tables w → Bounds found w
+-- such weights of tables
+pub record IsLowPair (tables : Tables) (pair : LowPair) : Type 0 where
+  pub first : IsListedWeight TertiaryElements tables pair.alone
+  pub second : IsListedWeight WithSecondary tables pair.beside
+  pub low : pair.alone ≤ pair.beside
 
 -- each tertiary weight alone is greater than each beside a secondary weight
 abbrev pub LonesAreHigh : Tables → Type 0

@@ -20,19 +20,19 @@ pub(crate) mod leads;
 #[cfg(test)]
 mod leads_tests;
 mod live_faults;
-pub(crate) mod lone_faults;
 mod lookups;
 pub(crate) mod overlap;
 pub(crate) mod overlap_faults;
 mod overlap_tables;
 pub(crate) mod primary_faults;
+pub(crate) mod tertiary_faults;
 pub(crate) mod weight_list;
 pub(crate) mod weights;
 
 use crate::check::live_faults::live_fault;
-use crate::check::lone_faults::lone_fault;
 use crate::check::overlap_faults::level_fault;
 use crate::check::primary_faults::primary_fault;
+use crate::check::tertiary_faults::tertiary_fault;
 use crate::check::weights::Level;
 use crate::condition::{Condition, LeadCondition};
 use crate::fault::Fault;
@@ -97,7 +97,7 @@ fn count_fault(tables: TableSet<'_>) -> Option<Fault>
 fn pairs_fault(alloc: Global, tables: TableSet<'_>) -> Result<Option<Fault>, AllocError>
     ensures { IfOk result (IsOutcome (tables_in tables.entry) (PairsMeet (tables_in tables.entry))) }
 {
-    let lone = lone_fault(alloc, tables)?;
+    let lone = tertiary_fault(alloc, tables)?;
     let secondary = level_fault(alloc, tables, Level::Secondary)?;
     let tertiary = level_fault(alloc, tables, Level::Tertiary)?;
     let primary = primary_fault(alloc, tables)?;

@@ -76,7 +76,7 @@ pub enum Condition {
 
 /// Conditions that a refusal reports alike, by one kind. The groups stand in the order in which they are reported; in a group the table
 /// decides.
-#[derive(Debug, Clone, Copy, PartialEq, Eq)]
+#[derive(Drop)]
 pub enum ConditionGroup {
     /// How many diacritics there are.
     Counts,

@@ -7,7 +7,7 @@ use icu_data::fault::Ranked;
 use icu_entries::{DataError, DataTable};
 
 /// A condition that fails, and the table by which it is named.
-#[derive(Debug, Clone, Copy, PartialEq, Eq)]
+#[derive(Clone, Copy)]
 pub(crate) struct Fault {
     pub condition: Condition,
     pub table: DataTable,

@@ -132,7 +132,7 @@ fn rows_fault(
 
 /// What finds the faults of the entries that are live in a table, by all tables of a collator. Entries for implicit weights, a million
 /// of them, are passed over where reordering leaves these weights a lead byte of their own.
-#[derive(Debug, Clone, Copy)]
+#[derive(Drop)]
 pub(crate) struct EntryJudge<'d> {
     pub(crate) tables: TableSet<'d>,
     pub(crate) table: DataTable,

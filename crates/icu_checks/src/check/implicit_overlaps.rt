@@ -29,7 +29,7 @@ use std::alloc::{AllocError, Global};
 use std::convert::Infallible;
 
 /// A primary weight of a table that begins the implicit weight of a character, which is live by another table or the same one.
-#[derive(Debug, Clone, Copy, PartialEq, Eq)]
+#[derive(Clone, Copy)]
 pub(crate) struct ImplicitClash {
     pub(crate) primary: u32,
     pub(crate) implicit: u32,
@@ -119,7 +119,7 @@ fn is_implicit_in_tailoring(tables: TableSet<'_>, c: char) -> bool
 }
 
 /// Characters from the first up to the end, which isn't one of them.
-#[derive(Debug, Clone, Copy, PartialEq, Eq)]
+#[derive(Drop)]
 struct CodePoints {
     first: u32,
     end: u32,

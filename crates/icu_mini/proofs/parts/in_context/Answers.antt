@@ -13,4 +13,4 @@ returns c =
     let context : Context = given_context c.args.default c.args.rows.now in
     let add : Data → Data = λ d. record d { contexts = d.contexts ++ context ∷ [] } in
     let says : Data → Type 0 = λ d. IfOk c.build.result (λ v. SaysOfCharacters d (vectors_data v)) in
-    subst says (c.in_ok-add_context.ensures.adds ∙ ap add (c.set_characters.ensures ∙ ap set c.in_ok-builder.ensures)) c.build.ensures
+    subst says (c.in_ok-add_context.ensures.adds ∙ ap add (c.set_characters.ensures ∙ ap set c.in_ok-builder.ensures)) c.build.ensures.says
