@@ -176,7 +176,7 @@ jamo_entries =
 -- the characters
 all_name_none : List (ℕ × ℕ) → Bool
 all_name_none [] = true
-all_name_none (x ∷ xs) = names_no_context (kind_of x.1) && all_name_none xs
+all_name_none (x ∷ xs) = needs_no_context (kind_of x.1) && all_name_none xs
 
 either : (b : Bool) (x y : ℕ) → NamesNone x → NamesNone y → NamesNone (if b then x else y)
 either true x y h k = h
@@ -187,7 +187,7 @@ among : (xs : List (ℕ × ℕ)) (value : ℕ → ℕ) → all_name_none xs ≡ 
 unfolding all_name_none with_characters NamesNone
 among [] value all h c = h c
 among (x ∷ xs) value all h c =
-    let parts = and_parts (names_no_context (kind_of x.1)) (all_name_none xs) all in
+    let parts = and_parts (needs_no_context (kind_of x.1)) (all_name_none xs) all in
     among xs (with_entries x.0 x.0 x.1 value) parts.1 (λ k. either (nat_le x.0 k && nat_le k x.0) x.1 (value k) parts.0 (h k)) c
 
 characters_name_none : all_name_none mini_characters ≡ true
