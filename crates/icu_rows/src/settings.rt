@@ -44,12 +44,26 @@ fn with_source(mut sources: Sources, words: &[&str]) -> Option<Sources> {
             sources.options = CollatorOptions::from(resolved);
             sources.preferences = CollatorPreferences::from(resolved);
         }
-        ["case-first", value] => sources.preferences.case_first = Some(case_first(value)?),
-        ["numeric", value] => sources.preferences.numeric_ordering = Some(numeric(value)?),
+        [name @ ("case-first" | "numeric"), value] => {
+            sources.preferences = with_preference(sources.preferences, name, value)?;
+        }
         [name, value] => sources.options = with_option(sources.options, name, value)?,
         _ => return None,
     }
     Some(sources)
+}
+
+fn with_preference(
+    mut preferences: CollatorPreferences<'static>,
+    name: &str,
+    value: &str,
+) -> Option<CollatorPreferences<'static>> {
+    match name {
+        "case-first" => preferences.case_first = Some(case_first(value)?),
+        "numeric" => preferences.numeric_ordering = Some(numeric(value)?),
+        _ => return None,
+    }
+    Some(preferences)
 }
 
 fn with_option(mut options: CollatorOptions, name: &str, value: &str) -> Option<CollatorOptions> {
