@@ -6,9 +6,9 @@ use Rattle.icu_checks.specs.declared.condition.PairCondition.TheVariants.{LoneTe
 use Rattle.icu_checks.specs.declared.condition.LeadCondition.TheVariants.{Separator, HighLead, ImplicitLead, NumericLead, LeadsApart, NumericWhole}
 use Rattle.icu_provider.specs.CollatorTables.{CollatorTables}
 use Rattle.icu_checks.specs.LeadConditions.{LeadMeets}
-use Rattle.icu_checks.specs.EntryFaults.{LiveMeets}
+use Rattle.icu_checks.specs.inner.EntryFaults.{LiveMeets}
 use Rattle.icu_checks.specs.GoodTables.{AreTables, HasDiacriticCount, Meets, IsGoodTables}
-use Rattle.icu_checks.specs.Checks.{LeadsMeet, PairsMeet}
+use Rattle.icu_checks.specs.inner.Checks.{LeadsMeet, PairsMeet}
 use Rattle.icu_checks.proofs.LevelLemmas.{meets_in}
 use Rattle.icu_checks.proofs.LevelMeets.{lone_meet, secondaries_meet, tertiaries_meet}
 use Rattle.icu_checks.proofs.PrimaryMeets.{primaries_meet, compression_meets}

@@ -20,7 +20,7 @@ use Rattle.icu_provider.specs.declared.table_set.TableSet.{TableSet}
 use Rattle.icu_checks.specs.declared.check.weights.WeightList.{WeightList}
 use Rattle.icu_provider.specs.CollatorTables.{CollatorTables}
 use Rattle.icu_provider.specs.TableSets.{tables_in}
-use Rattle.icu_checks.specs.Weights.{weight_at, IsWeightBy, Adds, IsBelow, IsJamoWeight, IsAccentWeight}
+use Rattle.icu_checks.specs.inner.Weights.{weight_at, IsWeightBy, Adds, IsBelow, IsJamoWeight, IsAccentWeight}
 
 -- ---- what is added
 

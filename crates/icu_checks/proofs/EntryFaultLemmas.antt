@@ -22,8 +22,8 @@ use Rattle.icu_checks.specs.declared.fault.Fault.{Fault}
 use Rattle.icu_provider.specs.CollatorTables.{CollatorTables}
 use Rattle.icu_checks.specs.LiveElements.{IsLiveBy, IsElementBy}
 use Rattle.icu_checks.specs.ElementConditions.{element_meets, element_conditions}
-use Rattle.icu_checks.specs.Faults.{fault_rank, IsTrueFault}
-use Rattle.icu_checks.specs.EntryFaults.{of_element, first_failing_element, element_fault, after_element, judged_element, elements_fault, of_entry, rows_fault, entry_fault}
+use Rattle.icu_checks.specs.inner.Faults.{fault_rank, IsTrueFault}
+use Rattle.icu_checks.specs.inner.EntryFaults.{of_element, first_failing_element, element_fault, after_element, judged_element, elements_fault, of_entry, rows_fault, entry_fault}
 
 pub judged_elements : (all : CollatorTables) (table : DataTable) (best : Option Fault) (xs : List Element) → fold judged_element ((all, table), best) xs ≡ ((all, table), fold (after_element all table) best xs)
 judged_elements all table best [] = refl

@@ -4,8 +4,8 @@ use Rattle.icu_data.specs.Faults.{earlier}
 use Rattle.icu_data.proofs.FaultLemmas.{earlier-none, earlier-keeps}
 use Rattle.icu_checks.specs.declared.fault.Fault.{Fault}
 use Rattle.icu_provider.specs.CollatorTables.{CollatorTables}
-use Rattle.icu_checks.specs.Faults.{fault_rank}
-use Rattle.icu_checks.specs.PairFaults.{IsOutcome}
+use Rattle.icu_checks.specs.inner.Faults.{fault_rank}
+use Rattle.icu_checks.specs.inner.PairFaults.{IsOutcome}
 
 pub both_none : (a b found : Option Fault) → found ≡ earlier fault_rank a b → found ≡ None → (a ≡ None) × (b ≡ None)
 both_none a b found is none = earlier-none fault_rank a b (sym is ∙ none)

@@ -23,8 +23,8 @@ use Rattle.icu_checks.specs.Leads.{is_middle}
 use Rattle.icu_checks.specs.ElementConditions.{implicit_lead, has_low_bytes, has_second_byte, is_apart, primary_meets, element_meets, element_conditions}
 use Rattle.icu_checks.specs.declared.condition.LeadCondition.TheVariants.{ImplicitLead, LeadsApart}
 use Rattle.icu_checks.specs.LeadConditions.{TakesTogether, LeadMeets}
-use Rattle.icu_checks.specs.EntryFaults.{first_failing_element, elements_fault, entry_fault, ImplicitPasses}
-use Rattle.icu_checks.specs.Weights.{weight_at}
+use Rattle.icu_checks.specs.inner.EntryFaults.{first_failing_element, elements_fault, entry_fault, ImplicitPasses}
+use Rattle.icu_checks.specs.inner.Weights.{weight_at}
 
 -- ---- the bytes of an implicit weight
 

@@ -18,9 +18,9 @@ use Rattle.icu_checks.specs.declared.fault.Fault.{Fault}
 use Rattle.icu_provider.specs.declared.table_set.TableSet.{TableSet}
 use Rattle.icu_provider.specs.TableSets.{tables_in}
 use Rattle.icu_data.specs.Faults.{earlier}
-use Rattle.icu_checks.specs.Faults.{fault_rank, IsTrueFault}
+use Rattle.icu_checks.specs.inner.Faults.{fault_rank, IsTrueFault}
 use Rattle.icu_checks.specs.ElementConditions.{element_meets}
-use Rattle.icu_checks.specs.EntryFaults.{of_element, element_fault, entry_fault, JamoPasses, AccentMeets, MeetsIn}
+use Rattle.icu_checks.specs.inner.EntryFaults.{of_element, element_fault, entry_fault, JamoPasses, AccentMeets, MeetsIn}
 use Rattle.icu_checks.proofs.EntryFaultLemmas.{passes_element, element_true}
 use Rattle.icu_checks.proofs.LiveFaultLemmas.{root_meets, jamo_meets, tailoring_meets, no_tailoring_meets, root_true, jamo_true, tailoring_true}
 

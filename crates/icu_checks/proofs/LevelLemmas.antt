@@ -23,8 +23,8 @@ use Rattle.icu_checks.specs.declared.check.weights.WeightList.TheVariants.{Prima
 use Rattle.icu_provider.specs.CollatorTables.{CollatorTables}
 use Rattle.icu_checks.specs.ElementConditions.{implicit_lead, is_lone}
 use Rattle.icu_checks.specs.LiveElements.{IsElementBy}
-use Rattle.icu_checks.specs.EntryFaults.{MeetsIn, LiveMeets}
-use Rattle.icu_checks.specs.Weights.{left_aligned, nonzero, uncommon, weight_at, IsReadBy}
+use Rattle.icu_checks.specs.inner.EntryFaults.{MeetsIn, LiveMeets}
+use Rattle.icu_checks.specs.inner.Weights.{left_aligned, nonzero, uncommon, weight_at, IsReadBy}
 use Rattle.icu_checks.proofs.EntryFaultLemmas.{readable}
 use Rattle.icu_checks.proofs.ImplicitLemmas.{implicit_bytes, weighs_nothing}
 

@@ -24,10 +24,10 @@ use Rattle.icu_checks.specs.declared.check.weights.WeightList.TheVariants.{Prima
 use Rattle.icu_provider.specs.CollatorTables.{CollatorTables}
 use Rattle.icu_checks.specs.LiveElements.{IsElementBy, IsOfEntryBy, IsOfAccent}
 use Rattle.icu_checks.specs.ElementConditions.{is_lone, is_high_lone}
-use Rattle.icu_checks.specs.EntryFaults.{MeetsIn, LiveMeets}
+use Rattle.icu_checks.specs.inner.EntryFaults.{MeetsIn, LiveMeets}
 use Rattle.icu_checks.specs.GoodTables.{AreTables, Meets}
-use Rattle.icu_checks.specs.PairFaults.{LonesAreHigh}
-use Rattle.icu_checks.specs.Weights.{left_aligned, weight_at, IsWeightBy}
+use Rattle.icu_checks.specs.inner.PairFaults.{LonesAreHigh}
+use Rattle.icu_checks.specs.inner.Weights.{left_aligned, weight_at, IsWeightBy}
 use Rattle.icu_checks.proofs.CommonLemmas.{HaveLeads, none_begins}
 use Rattle.icu_checks.proofs.OverlapLemmas.{free_of_two_bytes}
 use Rattle.icu_checks.proofs.LevelLemmas.{IsExplicit, meets_in, read_by, weighs_explicit, two_bytes_kept, lone_kept, beside_kept, second_of_three, third_of_three, implied, passes}

@@ -15,10 +15,10 @@ use Rattle.icu_checks.specs.declared.check.weights.WeightList.TheVariants.{Prima
 use Rattle.icu_provider.specs.CollatorTables.{CollatorTables, reorder}
 use Rattle.icu_checks.specs.PairConditions.{BeginsNot, PairMeets}
 use Rattle.icu_checks.specs.GoodTables.{EachPair, MeetsBy, IsOverlapTable}
-use Rattle.icu_checks.specs.Levels.{list_of, overlap_condition, bytes_at}
+use Rattle.icu_checks.specs.inner.Levels.{list_of, overlap_condition, bytes_at}
 use Rattle.icu_checks.specs.LiveElements.{IsElementBy}
-use Rattle.icu_checks.specs.PairFaults.{IsClashTable}
-use Rattle.icu_checks.specs.Weights.{IsWeightBy}
+use Rattle.icu_checks.specs.inner.PairFaults.{IsClashTable}
+use Rattle.icu_checks.specs.inner.Weights.{IsWeightBy}
 use Rattle.icu_checks.proofs.BeginningLemmas.{moved_up_bytes}
 use Rattle.icu_checks.proofs.LevelLemmas.{element_by, primary_weighs, secondary_weighs, tertiary_weighs, lone_weighs, beside_weighs}
 

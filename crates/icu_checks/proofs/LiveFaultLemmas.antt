@@ -16,8 +16,8 @@ use Rattle.icu_checks.specs.declared.fault.Fault.{Fault}
 use Rattle.icu_provider.specs.CollatorTables.{CollatorTables}
 use Rattle.icu_checks.specs.LiveElements.{IsLiveBy, IsOfEntryBy}
 use Rattle.icu_checks.specs.ElementConditions.{element_meets}
-use Rattle.icu_checks.specs.Faults.{IsTrueFault}
-use Rattle.icu_checks.specs.EntryFaults.{entry_fault, MeetsIn}
+use Rattle.icu_checks.specs.inner.Faults.{IsTrueFault}
+use Rattle.icu_checks.specs.inner.EntryFaults.{entry_fault, MeetsIn}
 use Rattle.icu_checks.proofs.EntryFaultLemmas.{entry_none, entry_true}
 
 module _ (all : CollatorTables) where

@@ -9,7 +9,7 @@ use Rattle.std.proofs.lemmas.List.Sorted.{IsPermutation-sym, Contains-permutatio
 use Rattle.icu_levels.specs.ListOrder.{IsBeginning}
 use Rattle.icu_levels.specs.WeightBytes.{weight_bytes}
 use Rattle.icu_levels.specs.Premises.{IsPrefixFree}
-use Rattle.icu_checks.specs.Overlaps.{Overlaps}
+use Rattle.icu_checks.specs.inner.Overlaps.{Overlaps}
 use Rattle.icu_checks.proofs.BeginningLemmas.{moved_up_bytes}
 use Rattle.icu_checks.proofs.NeighbourLemmas.{permuted}
 

@@ -15,12 +15,12 @@ use Rattle.icu_checks.specs.declared.check.weights.WeightList.{WeightList}
 use Rattle.icu_checks.specs.declared.check.weights.WeightList.TheVariants.{Primaries}
 use Rattle.icu_provider.specs.CollatorTables.{CollatorTables, reorder_by, reorder}
 use Rattle.icu_provider.specs.TableSets.{tables_in}
-use Rattle.icu_checks.specs.Alike.{CompressAlike, CompressApart}
-use Rattle.icu_checks.specs.Overlaps.{Overlaps}
-use Rattle.icu_checks.specs.Levels.{list_of, bytes_at}
+use Rattle.icu_checks.specs.inner.Alike.{CompressAlike, CompressApart}
+use Rattle.icu_checks.specs.inner.Overlaps.{Overlaps}
+use Rattle.icu_checks.specs.inner.Levels.{list_of, bytes_at}
 use Rattle.icu_checks.specs.GoodTables.{MeetsBy}
-use Rattle.icu_checks.specs.Weights.{IsWeightBy, Adds}
-use Rattle.icu_checks.specs.PairFaults.{IsListedWeight, AreListed, HoldsAll, HoldsLevel, AreClashing, AreAlike}
+use Rattle.icu_checks.specs.inner.Weights.{IsWeightBy, Adds}
+use Rattle.icu_checks.specs.inner.PairFaults.{IsListedWeight, AreListed, HoldsAll, HoldsLevel, AreClashing, AreAlike}
 use Rattle.icu_checks.proofs.CollectLemmas.{special_none, metadata_none, reordering_none}
 use Rattle.icu_checks.proofs.LevelRefutes.{refute_compression}
 

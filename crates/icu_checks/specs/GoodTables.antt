@@ -28,7 +28,7 @@ use Rattle.icu_checks.specs.declared.condition.LeadCondition.TheVariants as of_l
 use Rattle.icu_provider.specs.CollatorTables.{CollatorTables}
 use Rattle.icu_checks.specs.LiveElements.{IsLiveBy, IsElementBy}
 use Rattle.icu_checks.specs.ElementConditions.{element_meets}
-use Rattle.icu_checks.specs.Overlaps.{AreOverlapping}
+use Rattle.icu_checks.specs.PairConditions.{AreOverlapping}
 use Rattle.icu_checks.specs.PairConditions.{PairMeets}
 use Rattle.icu_checks.specs.LeadConditions.{LeadMeets}
 use Rattle.icu_checks.specs.Groups.{group_of, kind_in}

@@ -5,16 +5,8 @@ pub mod LeadConditions
 pub mod Groups
 pub mod GoodTables
 pub mod GoodProps
-pub mod Faults
-pub mod EntryFaults
-pub mod Weights
-pub mod PairFaults
-pub mod ImplicitOverlaps
-pub mod Checks
-pub mod Overlaps
-pub mod Levels
 pub mod Leads
-pub mod Alike
 pub mod Checked
 pub mod Loads
 pub mod WorkedLoads
+pub mod inner

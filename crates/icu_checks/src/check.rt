@@ -4,11 +4,11 @@ ghost use Rattle.std.specs.Option.{ForSome};
 ghost use Rattle.icu_data.specs.StoredData.{data_of};
 ghost use Rattle.icu_provider.specs.StoredTables.{reordering_of};
 ghost use Rattle.icu_provider.specs.TableSets.{tables_in};
-ghost use Rattle.icu_checks.specs.Faults.{IsTrueFault};
+ghost use Rattle.icu_checks.specs.inner.Faults.{IsTrueFault};
 ghost use Rattle.icu_checks.specs.GoodTables.{HasAscendingContexts, IsReordering, AreTables, HasDiacriticCount, IsGoodTables};
 ghost use Rattle.icu_checks.specs.LeadConditions.{LeadMeets};
-ghost use Rattle.icu_checks.specs.PairFaults.{IsOutcome};
-ghost use Rattle.icu_checks.specs.Checks.{LeadsMeet, PairsMeet};
+ghost use Rattle.icu_checks.specs.inner.PairFaults.{IsOutcome};
+ghost use Rattle.icu_checks.specs.inner.Checks.{LeadsMeet, PairsMeet};
 
 pub(crate) mod alike;
 mod collecting;

@@ -1,5 +1,5 @@
 ghost use Rattle.std.specs.Prelude.{◌≡◌, ◌<◌};
-ghost use Rattle.icu_checks.specs.Faults.{fault_rank};
+ghost use Rattle.icu_checks.specs.inner.Faults.{fault_rank};
 ghost use Rattle.icu_checks.specs.GoodTables.{table_rank, kind_of, later, table_of_element, table_of_lead};
 
 use crate::condition::{Condition, ElementCondition, LeadCondition};
@@ -60,7 +60,7 @@ impl LeadCondition {
 impl Ranked for Fault {
     ghost rank = { fault_rank };
 
-    #[tactic(auto, unfolding(crate::specs::Faults::fault_rank))]
+    #[tactic(auto, unfolding(crate::specs::inner::Faults::fault_rank))]
     fn rank(self) -> u32 {
         self.condition.group().index() * 8 + table_rank(self.table)
     }

@@ -1,7 +1,7 @@
 ghost use Rattle.std.specs.Prelude.{◌≡◌, ℕ, ◌<◌, ◌↔◌, ◌&&◌, ◌||◌, ◌==◌, true, false, All, IsTrue};
 ghost use Rattle.icu_provider.specs.StoredTables.{reordering_of, special_of};
 ghost use Rattle.icu_checks.specs.Leads.{reordered_lead};
-ghost use Rattle.icu_checks.specs.Alike.{CompressAlike, CompressApart, compressed_at, other_at, mark_of, Marks, HaveCommonMark, HaveNoCommonMark};
+ghost use Rattle.icu_checks.specs.inner.Alike.{CompressAlike, CompressApart, compressed_at, other_at, mark_of, Marks, HaveCommonMark, HaveNoCommonMark};
 
 use crate::check::leads::reordered_lead;
 use icu_provider::{CollationReordering, CollationSpecialPrimaries};

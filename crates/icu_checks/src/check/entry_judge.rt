@@ -7,7 +7,7 @@ ghost use Rattle.icu_data.specs.DataConditions.{is_readable};
 ghost use Rattle.icu_data.specs.StoredData.{data_of};
 ghost use Rattle.icu_provider.specs.CollatorTables.{CollatorTables};
 ghost use Rattle.icu_provider.specs.TableSets.{tables_in};
-ghost use Rattle.icu_checks.specs.EntryFaults.{first_failing_element, element_fault, after_element, judged_element, elements_fault, rows_fault, entry_fault, ImplicitPasses};
+ghost use Rattle.icu_checks.specs.inner.EntryFaults.{first_failing_element, element_fault, after_element, judged_element, elements_fault, rows_fault, entry_fault, ImplicitPasses};
 
 use crate::check::lead_conditions::numeric_lead;
 use crate::condition::{Condition, ElementCondition, LeadCondition};
@@ -20,7 +20,7 @@ use icu_provider::TableSet;
 use std::convert::Infallible;
 
 /// The first condition that an element fails, in the order in which a refusal names them.
-#[tactic(auto, unfolding(crate::specs::EntryFaults::first_failing_element))]
+#[tactic(auto, unfolding(crate::specs::inner::EntryFaults::first_failing_element))]
 fn first_failing_element(
     tables: TableSet<'_>,
     element: CollationElement,
@@ -154,7 +154,7 @@ impl<'d> Judge for EntryJudge<'d> {
 
     ghost fault = { λ j home c e. entry_fault (tables_in j.tables) j.table home c e };
 
-    #[tactic(auto, unfolding(crate::specs::EntryFaults::entry_fault))]
+    #[tactic(auto, unfolding(crate::specs::inner::EntryFaults::entry_fault))]
     fn fault(&self, home: CollationData<'_>, c: char, entry: CollationElement32) -> Option<Fault> {
         let own = match home.first_failing(c, entry) {
             Some(condition) => Some(Fault {

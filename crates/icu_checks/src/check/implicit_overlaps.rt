@@ -7,9 +7,9 @@ ghost use Rattle.std.specs.List.{list_any};
 ghost use Rattle.icu_data.specs.Live.{live_from};
 ghost use Rattle.icu_data.specs.StoredData.{data_of};
 ghost use Rattle.icu_provider.specs.TableSets.{tables_in};
-ghost use Rattle.icu_checks.specs.Faults.{IsTrueFault};
-ghost use Rattle.icu_checks.specs.PairFaults.{AreListed, IsListedWeight};
-ghost use Rattle.icu_checks.specs.ImplicitOverlaps.{is_for_implicit, IsImplicitBy, IsImplicitClash};
+ghost use Rattle.icu_checks.specs.inner.Faults.{IsTrueFault};
+ghost use Rattle.icu_checks.specs.inner.PairFaults.{AreListed, IsListedWeight};
+ghost use Rattle.icu_checks.specs.inner.ImplicitOverlaps.{is_for_implicit, IsImplicitBy, IsImplicitClash};
 
 use crate::check::collecting::collect;
 use crate::check::element_conditions::IMPLICIT_LEAD;
@@ -36,7 +36,7 @@ pub(crate) struct ImplicitClash {
     pub(crate) table: DataTable,
 }
 
-#[tactic(auto, unfolding(crate::specs::ImplicitOverlaps::is_for_implicit))]
+#[tactic(auto, unfolding(crate::specs::inner::ImplicitOverlaps::is_for_implicit))]
 fn is_for_implicit(entry: CollationElement32) -> bool
     ensures { result ≡ is_for_implicit entry }
 {

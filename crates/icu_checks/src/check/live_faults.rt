@@ -2,8 +2,8 @@
 ghost use Rattle.std.specs.Prelude.{◌≡◌, ◌+◌, ◌<◌, None, Some, IfSome, slice_index, length};
 ghost use Rattle.icu_provider.specs.StoredTables.{jamo_of, diacritics_of};
 ghost use Rattle.icu_provider.specs.TableSets.{tables_in};
-ghost use Rattle.icu_checks.specs.Faults.{IsTrueFault};
-ghost use Rattle.icu_checks.specs.EntryFaults.{JamoPasses, MeetsIn, AccentMeets, LiveMeets};
+ghost use Rattle.icu_checks.specs.inner.Faults.{IsTrueFault};
+ghost use Rattle.icu_checks.specs.inner.EntryFaults.{JamoPasses, MeetsIn, AccentMeets, LiveMeets};
 
 use crate::check::entry_judge::{EntryJudge, element_fault, implicit_passes};
 use crate::check::lookups::jamo_char;

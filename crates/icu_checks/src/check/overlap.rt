@@ -11,7 +11,8 @@ ghost use Rattle.icu_levels.specs.WeightBytes.{weight_bytes};
 ghost use Rattle.icu_levels.specs.Premises.{IsPrefixFree};
 ghost use Rattle.icu_provider.specs.StoredTables.{reordering_of};
 ghost use Rattle.icu_provider.specs.CollatorTables.{reorder_by};
-ghost use Rattle.icu_checks.specs.Overlaps.{AreOverlapping, written_bytes, NeighbourBegins, Overlaps};
+ghost use Rattle.icu_checks.specs.inner.Overlaps.{written_bytes, NeighbourBegins, Overlaps};
+ghost use Rattle.icu_checks.specs.PairConditions.{AreOverlapping};
 
 use crate::check::lookups::{reorder_by, stays_in_range};
 use icu_provider::CollationReordering;

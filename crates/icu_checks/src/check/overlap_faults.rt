@@ -2,9 +2,9 @@
 ghost use Rattle.std.specs.Prelude.{◌≡◌, IfOk};
 ghost use Rattle.std.specs.List.Sorted.{IsStrictlyIncreasing};
 ghost use Rattle.icu_provider.specs.TableSets.{tables_in};
-ghost use Rattle.icu_checks.specs.Faults.{IsTrueFault};
-ghost use Rattle.icu_checks.specs.Levels.{list_of};
-ghost use Rattle.icu_checks.specs.PairFaults.{HoldsLevel, AreFree, AreClashing, IsOutcome, LevelIsFree};
+ghost use Rattle.icu_checks.specs.inner.Faults.{IsTrueFault};
+ghost use Rattle.icu_checks.specs.inner.Levels.{list_of};
+ghost use Rattle.icu_checks.specs.inner.PairFaults.{HoldsLevel, AreFree, AreClashing, IsOutcome, LevelIsFree};
 
 use crate::check::collecting::collect;
 use crate::check::overlap::{Overlap, first_common_overlap, first_overlap};

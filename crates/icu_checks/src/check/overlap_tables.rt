@@ -1,10 +1,10 @@
 //! The tables that an overlap of two weights is named by.
 ghost use Rattle.std.specs.Prelude.{◌≡◌, ◌↔◌, IfOk, IsTrue};
 ghost use Rattle.icu_provider.specs.TableSets.{tables_in};
-ghost use Rattle.icu_checks.specs.Faults.{IsTrueFault};
-ghost use Rattle.icu_checks.specs.Levels.{list_of};
-ghost use Rattle.icu_checks.specs.Weights.{IsWeightBy};
-ghost use Rattle.icu_checks.specs.PairFaults.{IsListedWeight, AreClashing, IsClashTable};
+ghost use Rattle.icu_checks.specs.inner.Faults.{IsTrueFault};
+ghost use Rattle.icu_checks.specs.inner.Levels.{list_of};
+ghost use Rattle.icu_checks.specs.inner.Weights.{IsWeightBy};
+ghost use Rattle.icu_checks.specs.inner.PairFaults.{IsListedWeight, AreClashing, IsClashTable};
 
 use crate::check::collecting::collect;
 use crate::check::overlap::{Overlap, are_overlapping};

@@ -1,8 +1,8 @@
 //! Primary weights that overlap, or don't compress alike, after reordering.
 ghost use Rattle.std.specs.Prelude.{◌≡◌, None, IfSome, IfOk};
 ghost use Rattle.icu_provider.specs.TableSets.{tables_in};
-ghost use Rattle.icu_checks.specs.Faults.{IsTrueFault};
-ghost use Rattle.icu_checks.specs.PairFaults.{HoldsLevel, AreAlike, PrimariesAreFree, IsOutcome};
+ghost use Rattle.icu_checks.specs.inner.Faults.{IsTrueFault};
+ghost use Rattle.icu_checks.specs.inner.PairFaults.{HoldsLevel, AreAlike, PrimariesAreFree, IsOutcome};
 
 use crate::check::alike::compress_alike;
 use crate::check::implicit_overlaps::implicit_fault;

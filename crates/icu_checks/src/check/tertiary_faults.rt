@@ -1,8 +1,8 @@
 //! Tertiary weights of elements without a secondary weight, which stand above those beside one (UTS #10, section 3.2).
 ghost use Rattle.std.specs.Prelude.{ℕ, ◌≡◌, ◌<◌, None, Contains, IfSome, IfOk};
 ghost use Rattle.icu_provider.specs.TableSets.{tables_in};
-ghost use Rattle.icu_checks.specs.Faults.{IsTrueFault};
-ghost use Rattle.icu_checks.specs.PairFaults.{AreTooLow, IsLowPair, LonesAreHigh, IsOutcome};
+ghost use Rattle.icu_checks.specs.inner.Faults.{IsTrueFault};
+ghost use Rattle.icu_checks.specs.inner.PairFaults.{AreTooLow, IsLowPair, LonesAreHigh, IsOutcome};
 
 use crate::check::collecting::collect;
 use crate::check::overlap_faults::{LIVE_TABLES, listed_weights};

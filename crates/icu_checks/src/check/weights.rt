@@ -2,8 +2,8 @@
 ghost use Rattle.std.specs.Prelude.{◌≡◌, option_map};
 ghost use Rattle.icu_provider.specs.StoredTables.{reordering_of};
 ghost use Rattle.icu_provider.specs.TableSets.{tables_in};
-ghost use Rattle.icu_checks.specs.Weights.{left_aligned, nonzero, uncommon};
-ghost use Rattle.icu_checks.specs.Levels.{list_of, overlap_condition, reordering_at};
+ghost use Rattle.icu_checks.specs.inner.Weights.{left_aligned, nonzero, uncommon};
+ghost use Rattle.icu_checks.specs.inner.Levels.{list_of, overlap_condition, reordering_at};
 
 use crate::check::element_conditions::is_lone;
 use crate::condition::PairCondition;
@@ -99,11 +99,11 @@ fn uncommon(tertiary: u16) -> Option<u32>
 }
 
 impl Weigh for WeightList {
-    ghost use Rattle.icu_checks.specs.Weights.{weight_at};
+    ghost use Rattle.icu_checks.specs.inner.Weights.{weight_at};
 
     ghost weight = { λ list x. weight_at list x };
 
-    #[tactic(auto, unfolding(crate::specs::Weights::weight_at))]
+    #[tactic(auto, unfolding(crate::specs::inner::Weights::weight_at))]
     fn weight(&self, element: CollationElement) -> Option<u32> {
         let tertiary = element.non_primary().tertiary();
         match self {

@@ -1,5 +1,5 @@
 use Rattle.icu_provider.specs.TableSets.{tables_in}
-use Rattle.icu_checks.specs.Faults.{IsTrueFault}
+use Rattle.icu_checks.specs.inner.Faults.{IsTrueFault}
 use Rattle.icu_checks.proofs.FaultPairs.{both_none, either_true}
 use Rattle.icu_checks.proofs.CheckLemmas.{good_tables}
 use Rattle.icu_checks.proofs.check.first_fault.Goals as goal

@@ -1,5 +1,5 @@
 use Rattle.icu_provider.specs.TableSets.{tables_in}
-use Rattle.icu_checks.specs.Faults.{IsTrueFault}
+use Rattle.icu_checks.specs.inner.Faults.{IsTrueFault}
 use Rattle.icu_checks.proofs.FaultPairs.{both_none, either_true}
 use Rattle.icu_checks.proofs.CheckLemmas.{leads_meet}
 use Rattle.icu_checks.proofs.check.leads_fault.Goals as goal

@@ -1,6 +1,6 @@
 use Rattle.std.proofs.Common.{◌≡◌, ℕ, ◌<◌, false}
 use Rattle.std.specs.Prelude.{◌&&◌}
-use Rattle.icu_checks.specs.Alike.{mark_of}
+use Rattle.icu_checks.specs.inner.Alike.{mark_of}
 use Rattle.icu_checks.proofs.check.alike.have_common_mark.Given as goal
 
 -- no place passed has both marks

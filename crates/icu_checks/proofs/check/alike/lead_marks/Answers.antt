@@ -1,6 +1,6 @@
 use Rattle.std.proofs.Common.{arith}
 use Rattle.icu_provider.specs.StoredTables.{reordering_of, special_of}
-use Rattle.icu_checks.specs.Alike.{compressed_at, other_at}
+use Rattle.icu_checks.specs.inner.Alike.{compressed_at, other_at}
 use Rattle.icu_checks.proofs.AlikeLemmas.{no_marks}
 use Rattle.icu_checks.proofs.check.alike.lead_marks.Goals as goal
 

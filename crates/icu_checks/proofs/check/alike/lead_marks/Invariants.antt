@@ -1,7 +1,7 @@
 use Rattle.std.proofs.Common.{ℕ, ◌<◌, take, get_or}
 use Rattle.icu_provider.specs.StoredTables.{reordering_of, special_of}
 use Rattle.icu_checks.specs.Leads.{reordered_lead}
-use Rattle.icu_checks.specs.Alike.{Marks, compressed_at, other_at}
+use Rattle.icu_checks.specs.inner.Alike.{Marks, compressed_at, other_at}
 use Rattle.icu_checks.proofs.check.alike.lead_marks.Given as goal
 
 -- the marks are those of the weights passed, and those come to lead bytes

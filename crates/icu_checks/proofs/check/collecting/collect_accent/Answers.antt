@@ -1,6 +1,6 @@
 use Rattle.std.proofs.Common.{sym, ap, ◌∙◌}
 use Rattle.icu_entries.specs.Elements.{of_secondary}
-use Rattle.icu_checks.specs.Weights.{weight_at}
+use Rattle.icu_checks.specs.inner.Weights.{weight_at}
 use Rattle.icu_checks.proofs.CollectLemmas.{lent_accent, lent_no_accent}
 use Rattle.icu_checks.proofs.check.collecting.collect_accent.Goals as goal
 

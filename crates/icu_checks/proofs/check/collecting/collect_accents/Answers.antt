@@ -1,6 +1,6 @@
 use Rattle.std.proofs.Common.{◌≡◌, ℕ, ◌≤◌, List, length, ap, arith}
 use Rattle.icu_provider.specs.TableSets.{tables_in}
-use Rattle.icu_checks.specs.Weights.{IsAccentWeight}
+use Rattle.icu_checks.specs.inner.Weights.{IsAccentWeight}
 use Rattle.icu_checks.proofs.CollectLemmas.{below_step, lent_accents}
 use Rattle.icu_checks.proofs.check.collecting.collect_accents.Goals as goal
 

@@ -1,6 +1,6 @@
 use Rattle.std.proofs.Common.{sym, subst, ◌∙◌}
 use Rattle.icu_provider.specs.TableSets.{tables_in}
-use Rattle.icu_checks.specs.ImplicitOverlaps.{IsImplicitBy}
+use Rattle.icu_checks.specs.inner.ImplicitOverlaps.{IsImplicitBy}
 use Rattle.icu_checks.proofs.ImplicitOverlapLemmas.{lent_root}
 use Rattle.icu_checks.proofs.check.implicit_overlaps.is_implicit_by.Goals as goal
 

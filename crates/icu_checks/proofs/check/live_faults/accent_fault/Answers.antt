@@ -1,7 +1,7 @@
 use Rattle.std.proofs.Common.{IfSome, sym, ap, ◌∙◌, subst}
 use Rattle.icu_entries.specs.Elements.{of_secondary}
 use Rattle.icu_provider.specs.TableSets.{tables_in}
-use Rattle.icu_checks.specs.Faults.{IsTrueFault}
+use Rattle.icu_checks.specs.inner.Faults.{IsTrueFault}
 use Rattle.icu_checks.proofs.LentFaultLemmas.{lent_accent, lent_accent_true}
 use Rattle.icu_checks.proofs.check.live_faults.accent_fault.Goals as goal
 

@@ -1,8 +1,8 @@
 use Rattle.std.proofs.Common.{◌≡◌, ℕ, ◌<◌, ◌≤◌, List, length, IfSome, sym, ap, subst, arith}
 use Rattle.icu_data.proofs.FaultLemmas.{earlier-keeps}
 use Rattle.icu_provider.specs.TableSets.{tables_in}
-use Rattle.icu_checks.specs.Faults.{fault_rank, IsTrueFault}
-use Rattle.icu_checks.specs.EntryFaults.{AccentMeets}
+use Rattle.icu_checks.specs.inner.Faults.{fault_rank, IsTrueFault}
+use Rattle.icu_checks.specs.inner.EntryFaults.{AccentMeets}
 use Rattle.icu_checks.proofs.LentFaultLemmas.{none_step, lent_accents}
 use Rattle.icu_checks.proofs.check.live_faults.accents_fault.Goals as goal
 

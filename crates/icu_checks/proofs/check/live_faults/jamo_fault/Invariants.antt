@@ -1,7 +1,7 @@
 use Rattle.std.proofs.Common.{◌≡◌, ℕ, ◌<◌, None, IfSome}
 use Rattle.icu_provider.specs.TableSets.{tables_in}
-use Rattle.icu_checks.specs.Faults.{IsTrueFault}
-use Rattle.icu_checks.specs.EntryFaults.{JamoPasses}
+use Rattle.icu_checks.specs.inner.Faults.{IsTrueFault}
+use Rattle.icu_checks.specs.inner.EntryFaults.{JamoPasses}
 use Rattle.icu_checks.proofs.check.live_faults.jamo_fault.Given as goal
 
 -- without a fault so far there is none at an earlier place, and one so far is true

@@ -1,7 +1,7 @@
 use Rattle.std.proofs.Common.{List, ℕ, sym, subst, IsPermutation, option_map, arith, refl, length, get_or, ◌<◌, ◌+◌, ◌≡◌, ◌∙◌}
 use Rattle.std.proofs.lemmas.List.{get_or_default}
 use Rattle.icu_provider.specs.StoredTables.{reordering_of}
-use Rattle.icu_checks.specs.Overlaps.{written_bytes, NeighbourBegins, Overlaps}
+use Rattle.icu_checks.specs.inner.Overlaps.{written_bytes, NeighbourBegins, Overlaps}
 use Rattle.icu_checks.proofs.OverlapLemmas.{free_from_moved, overlaps_from_moved}
 use Rattle.icu_checks.proofs.check.overlap.first_overlap.Goals as goal
 

@@ -1,6 +1,6 @@
 use Rattle.std.proofs.Common.{subst}
 use Rattle.icu_provider.specs.TableSets.{tables_in}
-use Rattle.icu_checks.specs.PairFaults.{HoldsLevel, AreFree, LevelIsFree}
+use Rattle.icu_checks.specs.inner.PairFaults.{HoldsLevel, AreFree, LevelIsFree}
 use Rattle.icu_checks.proofs.FaultPairs.{outcome_of}
 use Rattle.icu_checks.proofs.check.overlap_faults.level_fault.Goals as goal
 

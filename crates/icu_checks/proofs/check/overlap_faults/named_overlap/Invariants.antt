@@ -1,6 +1,6 @@
 use Rattle.icu_provider.specs.TableSets.{tables_in}
-use Rattle.icu_checks.specs.Levels.{list_of}
-use Rattle.icu_checks.specs.PairFaults.{AreListed}
+use Rattle.icu_checks.specs.inner.Levels.{list_of}
+use Rattle.icu_checks.specs.inner.PairFaults.{AreListed}
 use Rattle.icu_checks.proofs.check.overlap_faults.named_overlap.Given as goal
 
 abbrev pub invariant-loop-table : goal.invariant-loop-table

@@ -1,7 +1,7 @@
 use Rattle.std.proofs.Common.{subst}
 use Rattle.icu_provider.specs.TableSets.{tables_in}
-use Rattle.icu_checks.specs.Faults.{IsTrueFault}
-use Rattle.icu_checks.specs.PairFaults.{AreAlike}
+use Rattle.icu_checks.specs.inner.Faults.{IsTrueFault}
+use Rattle.icu_checks.specs.inner.PairFaults.{AreAlike}
 use Rattle.icu_checks.proofs.FaultPairs.{both_none, either_true}
 use Rattle.icu_checks.proofs.check.primary_faults.primary_fault.Goals as goal
 

@@ -1,7 +1,7 @@
 use Rattle.std.proofs.Common.{subst}
 use Rattle.icu_checks.specs.declared.check.weights.WeightList.TheVariants.{TertiaryElements, WithSecondary}
 use Rattle.icu_provider.specs.TableSets.{tables_in}
-use Rattle.icu_checks.specs.PairFaults.{AreTooLow}
+use Rattle.icu_checks.specs.inner.PairFaults.{AreTooLow}
 use Rattle.icu_checks.proofs.WeightListLemmas.{more_listed}
 use Rattle.icu_checks.proofs.check.tertiary_faults.named_pair.Goals as goal
 

@@ -1,6 +1,6 @@
 use Rattle.icu_checks.specs.declared.check.weights.WeightList.TheVariants.{TertiaryElements, WithSecondary}
 use Rattle.icu_provider.specs.TableSets.{tables_in}
-use Rattle.icu_checks.specs.PairFaults.{AreListed}
+use Rattle.icu_checks.specs.inner.PairFaults.{AreListed}
 use Rattle.icu_checks.proofs.check.tertiary_faults.named_pair.Given as goal
 
 abbrev pub invariant-loop-table : goal.invariant-loop-table

@@ -3,7 +3,7 @@ use Rattle.icu_checks.specs.declared.condition.LeadCondition.{LeadCondition}
 use Rattle.icu_checks.specs.declared.check.weights.Level.TheVariants.{Secondary, Tertiary}
 use Rattle.icu_provider.specs.CollatorTables.{CollatorTables}
 use Rattle.icu_checks.specs.LeadConditions.{LeadMeets}
-use Rattle.icu_checks.specs.PairFaults.{LonesAreHigh, LevelIsFree, PrimariesAreFree}
+use Rattle.icu_checks.specs.inner.PairFaults.{LonesAreHigh, LevelIsFree, PrimariesAreFree}
 
 abbrev pub LeadsMeet : CollatorTables → Type 0
 LeadsMeet all = (condition : LeadCondition) → LeadMeets condition all

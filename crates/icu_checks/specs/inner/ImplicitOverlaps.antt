@@ -12,8 +12,8 @@ use Rattle.icu_checks.specs.declared.check.weights.Level.TheVariants.{Primary}
 use Rattle.icu_checks.specs.declared.check.weights.WeightList.TheVariants.{Primaries}
 use Rattle.icu_provider.specs.CollatorTables.{CollatorTables}
 use Rattle.icu_checks.specs.LiveElements.{IsLiveBy}
-use Rattle.icu_checks.specs.Levels.{bytes_at}
-use Rattle.icu_checks.specs.PairFaults.{IsListedWeight}
+use Rattle.icu_checks.specs.inner.Levels.{bytes_at}
+use Rattle.icu_checks.specs.inner.PairFaults.{IsListedWeight}
 
 unfoldable pub is_for_implicit : ℕ → Bool
 is_for_implicit e = elim (kind_of e) [ Implicit ↦ true | _ ↦ false ]

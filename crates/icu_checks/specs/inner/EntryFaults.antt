@@ -19,7 +19,7 @@ use Rattle.icu_checks.specs.declared.fault.Fault.{Fault}
 use Rattle.icu_provider.specs.CollatorTables.{CollatorTables}
 use Rattle.icu_checks.specs.ElementConditions.{element_meets, element_conditions}
 use Rattle.icu_checks.specs.GoodTables.{later, table_of_element, EachEntry, EachElement, EntryMeets, HasPlainRows}
-use Rattle.icu_checks.specs.Faults.{fault_rank}
+use Rattle.icu_checks.specs.inner.Faults.{fault_rank}
 
 -- a condition on an element of a table, as a fault
 abbrev pub of_element : DataTable → ElementCondition → Fault
