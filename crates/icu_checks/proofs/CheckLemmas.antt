@@ -2,15 +2,15 @@
 use Rattle.icu_checks.specs.declared.condition.Condition.{Condition}
 use Rattle.icu_checks.specs.declared.condition.Condition.TheVariants as conditions
 use Rattle.icu_checks.specs.declared.condition.PairCondition.{PairCondition}
-use Rattle.icu_checks.specs.declared.condition.PairCondition.TheVariants.{LoneTertiaries, Primaries, Secondaries, Tertiaries, Compression}
+use Rattle.icu_checks.specs.declared.condition.PairCondition.TheVariants.{TertiaryElementWeights, Primaries, Secondaries, Tertiaries, Compression}
 use Rattle.icu_checks.specs.declared.condition.LeadCondition.TheVariants.{Separator, HighLead, ImplicitLead, NumericLead, LeadsApart, NumericWhole}
 use Rattle.icu_provider.specs.CollatorTables.{CollatorTables}
 use Rattle.icu_checks.specs.LeadConditions.{LeadMeets}
-use Rattle.icu_checks.specs.inner.EntryFaults.{LiveMeets}
+use Rattle.icu_checks.specs.inner.EntryViolations.{LiveMeets}
 use Rattle.icu_checks.specs.GoodTables.{AreTables, HasDiacriticCount, Meets, IsGoodTables}
 use Rattle.icu_checks.specs.inner.Checks.{LeadsMeet, PairsMeet}
 use Rattle.icu_checks.proofs.LevelLemmas.{meets_in}
-use Rattle.icu_checks.proofs.LevelMeets.{lone_meet, secondaries_meet, tertiaries_meet}
+use Rattle.icu_checks.proofs.LevelMeets.{tertiary_element_meet, secondaries_meet, tertiaries_meet}
 use Rattle.icu_checks.proofs.PrimaryMeets.{primaries_meet, compression_meets}
 
 pub leads_meet : (all : CollatorTables) → LeadMeets Separator all → LeadMeets HighLead all → LeadMeets ImplicitLead all → LeadMeets NumericLead all → LeadMeets LeadsApart all → LeadMeets NumericWhole all → LeadsMeet all
@@ -23,7 +23,7 @@ leads_meet all a b c d e f NumericWhole = f
 
 module _ (all : CollatorTables) (tables : AreTables all) (count : HasDiacriticCount all) (live : LiveMeets all) (leads : LeadsMeet all) (pairs : PairsMeet all) where
   pair_meets : (condition : PairCondition) → Meets (conditions.Pair condition) all
-  pair_meets LoneTertiaries = lone_meet all live tables pairs.lones
+  pair_meets TertiaryElementWeights = tertiary_element_meet all live tables pairs.tertiary_elements
   pair_meets Secondaries = secondaries_meet all live tables pairs.secondaries.weights pairs.secondaries.all_held pairs.secondaries.free
   pair_meets Tertiaries = tertiaries_meet all live tables pairs.tertiaries.weights pairs.tertiaries.all_held pairs.tertiaries.free
   pair_meets Primaries = primaries_meet all live tables (leads ImplicitLead) (leads Separator) (leads HighLead) pairs.primaries.weights pairs.primaries.all_held pairs.primaries.free

@@ -20,7 +20,7 @@ use Rattle.icu_provider.specs.declared.table_set.TableSet.{TableSet}
 use Rattle.icu_checks.specs.declared.check.weights.WeightList.{WeightList}
 use Rattle.icu_provider.specs.CollatorTables.{CollatorTables}
 use Rattle.icu_provider.specs.TableSets.{tables_in}
-use Rattle.icu_checks.specs.inner.Weights.{weight_at, IsWeightBy, Adds, IsBelow, IsJamoWeight, IsAccentWeight}
+use Rattle.icu_checks.specs.inner.Weights.{weight_at, IsWeightBy, Adds, IsBelow, IsJamoWeight, IsDiacriticWeight}
 
 -- ---- what is added
 
@@ -178,8 +178,8 @@ module _ (list : WeightList) (all : CollatorTables) where
         },
   )
 
-  pub accents_same : (n : ℕ) → n ≡ length all.tables.diacritics → (w : ℕ) → IsBelow (IsAccentWeight list all) n w ↔ IsWeightBy list Diacritics all.tables w
-  accents_same n count w = (
+  pub diacritics_same : (n : ℕ) → n ≡ length all.tables.diacritics → (w : ℕ) → IsBelow (IsDiacriticWeight list all) n w ↔ IsWeightBy list Diacritics all.tables w
+  diacritics_same n count w = (
     λ is. record {
       x = of_secondary (slice_index all.tables.diacritics is.place);
       read = record { place = is.place; inside = subst (λ n. is.place < n) count is.below; kept = is.is.kept; is = refl };
@@ -237,9 +237,9 @@ module _ (s : TableSet) (list : WeightList) where
       adds_same (IsBelow (IsJamoWeight list (tables_in s)) 256) (IsWeightBy list Jamo (tables_in s).tables) old new (jamo_same list (tables_in s))
       (subst (λ n. Adds (IsBelow (IsJamoWeight list (tables_in s)) n) old new) count adds)
 
-  pub lent_accents : (n : ℕ) → n ≡ length (diacritics_of s.diacritics) → (old new : List ℕ) → Adds (IsBelow (IsAccentWeight list (tables_in s)) n) old new → Adds (IsWeightBy list Diacritics (tables_in s).tables) old new
+  pub lent_diacritics : (n : ℕ) → n ≡ length (diacritics_of s.diacritics) → (old new : List ℕ) → Adds (IsBelow (IsDiacriticWeight list (tables_in s)) n) old new → Adds (IsWeightBy list Diacritics (tables_in s).tables) old new
   unfolding tables_in
-  lent_accents n count old new adds = adds_same (IsBelow (IsAccentWeight list (tables_in s)) n) (IsWeightBy list Diacritics (tables_in s).tables) old new (accents_same list (tables_in s) n count) adds
+  lent_diacritics n count old new adds = adds_same (IsBelow (IsDiacriticWeight list (tables_in s)) n) (IsWeightBy list Diacritics (tables_in s).tables) old new (diacritics_same list (tables_in s) n count) adds
 
   same_some_weight : (v w : ℕ) → Some v ≡ Some w → v ≡ w
   same_some_weight v w h = cc
@@ -247,21 +247,21 @@ module _ (s : TableSet) (list : WeightList) where
   none_some_weight : (w : ℕ) → None ≡ Some w → ⊥
   none_some_weight w h = cc
 
-  abbrev accent_weight : ℕ → Option ℕ
-  accent_weight i = weight_at list (of_secondary (slice_index (diacritics_of s.diacritics) i))
+  abbrev diacritic_weight : ℕ → Option ℕ
+  diacritic_weight i = weight_at list (of_secondary (slice_index (diacritics_of s.diacritics) i))
 
-  pub lent_accent : (i v : ℕ) → is_replaced_index i ≡ false → accent_weight i ≡ Some v → (old new : List ℕ) → new ≡ old ++ v ∷ [] → Adds (IsAccentWeight list (tables_in s) i) old new
+  pub lent_diacritic : (i v : ℕ) → is_replaced_index i ≡ false → diacritic_weight i ≡ Some v → (old new : List ℕ) → new ≡ old ++ v ∷ [] → Adds (IsDiacriticWeight list (tables_in s) i) old new
   unfolding tables_in
-  lent_accent i v kept weighs old new is =
-      adds_one (IsAccentWeight list (tables_in s) i) old new v is (record { kept = kept; weighs = weighs }) (λ w p. same_some_weight v w (sym weighs ∙ p.weighs))
+  lent_diacritic i v kept weighs old new is =
+      adds_one (IsDiacriticWeight list (tables_in s) i) old new v is (record { kept = kept; weighs = weighs }) (λ w p. same_some_weight v w (sym weighs ∙ p.weighs))
 
-  pub lent_no_accent : (i : ℕ) → accent_weight i ≡ None → (old : List ℕ) → Adds (IsAccentWeight list (tables_in s) i) old old
+  pub lent_no_diacritic : (i : ℕ) → diacritic_weight i ≡ None → (old : List ℕ) → Adds (IsDiacriticWeight list (tables_in s) i) old old
   unfolding tables_in
-  lent_no_accent i weighs old = adds_none (IsAccentWeight list (tables_in s) i) old old refl (λ w p. none_some_weight w (sym weighs ∙ p.weighs))
+  lent_no_diacritic i weighs old = adds_none (IsDiacriticWeight list (tables_in s) i) old old refl (λ w p. none_some_weight w (sym weighs ∙ p.weighs))
 
   true_false : (b : Bool) → b ≡ true → b ≡ false → ⊥
   true_false true h k = cc
   true_false false h k = cc
 
-  pub lent_replaced : (i : ℕ) → is_replaced_index i ≡ true → (old : List ℕ) → Adds (IsAccentWeight list (tables_in s) i) old old
-  lent_replaced i replaced old = adds_none (IsAccentWeight list (tables_in s) i) old old refl (λ w p. true_false _ replaced p.kept)
+  pub lent_replaced : (i : ℕ) → is_replaced_index i ≡ true → (old : List ℕ) → Adds (IsDiacriticWeight list (tables_in s) i) old old
+  lent_replaced i replaced old = adds_none (IsDiacriticWeight list (tables_in s) i) old old refl (λ w p. true_false _ replaced p.kept)

@@ -6,16 +6,16 @@ use Rattle.icu_entries.specs.Elements.{of_primary}
 use Rattle.icu_entries.specs.declared.entry.EntryKind.TheVariants.{Implicit}
 use Rattle.icu_entries.specs.Entries.{kind_of}
 use Rattle.icu_data.specs.DataConditions.{avoids_diacritics}
-use Rattle.icu_data.specs.Faults.{earlier}
+use Rattle.icu_data.specs.Violations.{earlier}
 use Rattle.icu_data.specs.Final.{final_elements}
 use Rattle.icu_provider.specs.Reorderings.{lead_byte}
 use Rattle.icu_data.specs.Data.{Data}
 use Rattle.icu_entries.specs.Weights.{weight, implicit_weight}
-use Rattle.icu_data.proofs.FaultLemmas.{none_found, negated}
+use Rattle.icu_data.proofs.ViolationLemmas.{none_found, negated}
 use Rattle.icu_data.proofs.ImplicitLemmas.{implicit_passes}
 use Rattle.icu_checks.specs.declared.condition.ElementCondition.{ElementCondition}
-use Rattle.icu_checks.specs.declared.condition.ElementCondition.TheVariants.{Width, BackwardLead, LoneTertiary, MiddleLead, ImplicitLength, NumericLead, SharedLead, SecondByte}
-use Rattle.icu_checks.specs.declared.fault.Fault.{Fault}
+use Rattle.icu_checks.specs.declared.condition.ElementCondition.TheVariants.{Width, BackwardLead, TertiaryElement, MiddleLead, ImplicitLength, NumericLead, SharedLead, SecondByte}
+use Rattle.icu_checks.specs.declared.violation.Violation.{Violation}
 use Rattle.icu_checks.specs.declared.check.weights.WeightList.{WeightList}
 use Rattle.icu_checks.specs.declared.check.weights.WeightList.TheVariants.{Primaries, Secondaries, Tertiaries, TertiaryElements, WithSecondary}
 use Rattle.icu_provider.specs.CollatorTables.{CollatorTables, is_forward, reorder, new_lead}
@@ -23,7 +23,7 @@ use Rattle.icu_checks.specs.Leads.{is_middle}
 use Rattle.icu_checks.specs.ElementConditions.{implicit_lead, has_low_bytes, has_second_byte, is_apart, primary_meets, element_meets, element_conditions}
 use Rattle.icu_checks.specs.declared.condition.LeadCondition.TheVariants.{ImplicitLead, LeadsApart}
 use Rattle.icu_checks.specs.LeadConditions.{TakesTogether, LeadMeets}
-use Rattle.icu_checks.specs.inner.EntryFaults.{first_failing_element, elements_fault, entry_fault, ImplicitPasses}
+use Rattle.icu_checks.specs.inner.EntryViolations.{first_failing_element, elements_violation, entry_violation, ImplicitPasses}
 use Rattle.icu_checks.specs.inner.Weights.{weight_at}
 
 -- ---- the bytes of an implicit weight
@@ -137,7 +137,7 @@ module _ (all : CollatorTables) (together : TakesTogether all implicit_lead) (ap
     primary SecondByte = or_second _ (has_second_byte p) is.second
     primary Width = refl
     primary BackwardLead = refl
-    primary LoneTertiary = refl
+    primary TertiaryElement = refl
 
     less : nat_lt p (2 ^ 32) ≡ true
     less = let fits = is.fits in grind (arith, nat_tests, fits)
@@ -145,7 +145,7 @@ module _ (all : CollatorTables) (together : TakesTogether all implicit_lead) (ap
     element : (condition : ElementCondition) → IsTrue (element_meets condition all (of_primary p))
     element Width = rw less refl
     element BackwardLead = or_second (is_forward all) true refl
-    element LoneTertiary = refl
+    element TertiaryElement = refl
     element MiddleLead = or_second (p == 0) _ (primary MiddleLead)
     element ImplicitLength = or_second (p == 0) _ (primary ImplicitLength)
     element NumericLead = or_second (p == 0) _ (primary NumericLead)
@@ -159,15 +159,15 @@ module _ (all : CollatorTables) (together : TakesTogether all implicit_lead) (ap
   pub implicit_meets : (c : ℕ) → first_failing_element all (of_primary (implicit_weight c)) ≡ None
   implicit_meets c = none_fails (implicit_weight c) (implicit_bytes c)
 
-read_or_not : (b : Bool) (o : Option Fault) → o ≡ None → (if b then o else None) ≡ None
+read_or_not : (b : Bool) (o : Option Violation) → o ≡ None → (if b then o else None) ≡ None
 read_or_not true o h = h
 read_or_not false o h = refl
 
--- an entry for one has no fault then
-pub implicit_no_fault : (all : CollatorTables) (table : DataTable) (home : Data) (c e : ℕ) → kind_of e ≡ Implicit → first_failing_element all (of_primary (implicit_weight c)) ≡ None → entry_fault all table home c e ≡ None
-unfolding entry_fault avoids_diacritics final_elements earlier
-implicit_no_fault all table home c e is none =
-    rw (implicit_passes home c e is, is, avoids_diacritics) (read_or_not _ (elements_fault all table home c e) (rw (is, final_elements, none) refl))
+-- an entry for one has no violation then
+pub implicit_no_violation : (all : CollatorTables) (table : DataTable) (home : Data) (c e : ℕ) → kind_of e ≡ Implicit → first_failing_element all (of_primary (implicit_weight c)) ≡ None → entry_violation all table home c e ≡ None
+unfolding entry_violation avoids_diacritics final_elements earlier
+implicit_no_violation all table home c e is none =
+    rw (implicit_passes home c e is, is, avoids_diacritics) (read_or_not _ (elements_violation all table home c e) (rw (is, final_elements, none) refl))
 
 -- both from the conditions on lead bytes
 pub implicit_pass : (all : CollatorTables) → LeadMeets ImplicitLead all → LeadMeets LeadsApart all → all.special.numeric ≤ 0xFD → ImplicitPasses all

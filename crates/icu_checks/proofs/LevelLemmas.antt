@@ -21,11 +21,11 @@ use Rattle.icu_provider.specs.Reorderings.{lead_byte}
 use Rattle.icu_checks.specs.declared.check.weights.WeightList.{WeightList}
 use Rattle.icu_checks.specs.declared.check.weights.WeightList.TheVariants.{Primaries, Secondaries, Tertiaries, TertiaryElements, WithSecondary}
 use Rattle.icu_provider.specs.CollatorTables.{CollatorTables}
-use Rattle.icu_checks.specs.ElementConditions.{implicit_lead, is_lone}
+use Rattle.icu_checks.specs.ElementConditions.{implicit_lead, is_tertiary_element}
 use Rattle.icu_checks.specs.LiveElements.{IsElementBy}
-use Rattle.icu_checks.specs.inner.EntryFaults.{MeetsIn, LiveMeets}
+use Rattle.icu_checks.specs.inner.EntryViolations.{MeetsIn, LiveMeets}
 use Rattle.icu_checks.specs.inner.Weights.{left_aligned, nonzero, uncommon, weight_at, IsReadBy}
-use Rattle.icu_checks.proofs.EntryFaultLemmas.{readable}
+use Rattle.icu_checks.proofs.EntryViolationLemmas.{readable}
 use Rattle.icu_checks.proofs.ImplicitLemmas.{implicit_bytes, weighs_nothing}
 
 -- ---- elements
@@ -150,9 +150,9 @@ pub tertiary_weighs : (x : Element) (w : ℕ) → weight_at Tertiaries x ≡ Som
 unfolding weight_at
 tertiary_weighs x w h = two_bytes_weigh (tertiary_of x) w h
 
-pub lone_weighs : (x : Element) (w : ℕ) → weight_at TertiaryElements x ≡ Some w → (is_lone x ≡ true) × (tertiary_of x ≡ w)
+pub tertiary_element_weighs : (x : Element) (w : ℕ) → weight_at TertiaryElements x ≡ Some w → (is_tertiary_element x ≡ true) × (tertiary_of x ≡ w)
 unfolding weight_at
-lone_weighs x w h = chosen (is_lone x) (tertiary_of x) w h
+tertiary_element_weighs x w h = chosen (is_tertiary_element x) (tertiary_of x) w h
 
 pub beside_weighs : (x : Element) (w : ℕ) → weight_at WithSecondary x ≡ Some w → (x.secondary ≢ 0) × (tertiary_of x ≡ w)
 unfolding weight_at
@@ -191,9 +191,9 @@ primary_kept x some = kept_nonzero x.primary some
           | inr f ↦ rw f refl
         ]
 
-pub lone_kept : (x : Element) → IsTrue (is_lone x) → weight_at TertiaryElements x ≡ Some (tertiary_of x)
+pub tertiary_element_kept : (x : Element) → IsTrue (is_tertiary_element x) → weight_at TertiaryElements x ≡ Some (tertiary_of x)
 unfolding weight_at
-lone_kept x h = by (is_lone x) (tertiary_of x) h
+tertiary_element_kept x h = by (is_tertiary_element x) (tertiary_of x) h
   where
     by : (b : Bool) (t : ℕ) → IsTrue b → (if b then Some t else None) ≡ Some t
     by true t h = refl

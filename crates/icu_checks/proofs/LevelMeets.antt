@@ -22,15 +22,15 @@ use Rattle.icu_checks.specs.declared.condition.PairCondition.TheVariants as of_p
 use Rattle.icu_checks.specs.declared.check.weights.WeightList.{WeightList}
 use Rattle.icu_checks.specs.declared.check.weights.WeightList.TheVariants.{Primaries, Secondaries, Tertiaries, TertiaryElements, WithSecondary}
 use Rattle.icu_provider.specs.CollatorTables.{CollatorTables}
-use Rattle.icu_checks.specs.LiveElements.{IsElementBy, IsOfEntryBy, IsOfAccent}
-use Rattle.icu_checks.specs.ElementConditions.{is_lone, is_high_lone}
-use Rattle.icu_checks.specs.inner.EntryFaults.{MeetsIn, LiveMeets}
+use Rattle.icu_checks.specs.LiveElements.{IsElementBy, IsOfEntryBy, IsOfLiveDiacritic}
+use Rattle.icu_checks.specs.ElementConditions.{is_tertiary_element, is_high_tertiary_element}
+use Rattle.icu_checks.specs.inner.EntryViolations.{MeetsIn, LiveMeets}
 use Rattle.icu_checks.specs.GoodTables.{AreTables, Meets}
-use Rattle.icu_checks.specs.inner.PairFaults.{LonesAreHigh}
+use Rattle.icu_checks.specs.inner.PairViolations.{TertiaryElementsAreHigh}
 use Rattle.icu_checks.specs.inner.Weights.{left_aligned, weight_at, IsWeightBy}
 use Rattle.icu_checks.proofs.CommonLemmas.{HaveLeads, none_begins}
 use Rattle.icu_checks.proofs.OverlapLemmas.{free_of_two_bytes}
-use Rattle.icu_checks.proofs.LevelLemmas.{IsExplicit, meets_in, read_by, weighs_explicit, two_bytes_kept, lone_kept, beside_kept, second_of_three, third_of_three, implied, passes}
+use Rattle.icu_checks.proofs.LevelLemmas.{IsExplicit, meets_in, read_by, weighs_explicit, two_bytes_kept, tertiary_element_kept, beside_kept, second_of_three, third_of_three, implied, passes}
 
 -- ---- what is collected, and what is live
 module _ (all : CollatorTables) where
@@ -65,8 +65,8 @@ elements_other h = cc
 beside_other : WithSecondary ≡ Primaries → ⊥
 beside_other h = cc
 
-lone_some : (s t : ℕ) → IsTrue (s == 0 && not (t == 0)) → 0 < t
-lone_some s t h = grind (arith, nat_tests)
+tertiary_element_some : (s t : ℕ) → IsTrue (s == 0 && not (t == 0)) → 0 < t
+tertiary_element_some s t h = grind (arith, nat_tests)
 
 above_common : (a : Bool) (t : ℕ) → IsTrue (a && nat_lt common t) → common < t
 above_common a t h = let parts = and_parts a (nat_lt common t) h in grind (arith, nat_tests)
@@ -94,9 +94,9 @@ tertiary_common : (t : ℕ) → IsTrue (has_tertiary_lead t) → t ≢ 0 → t /
 unfolding has_tertiary_lead
 tertiary_common t h some lead = grind (arith, nat_tests)
 
-accent_leads : (s : ℕ) → IsTrue (is_diacritic_weight true s) → IsTrue (has_leads true (of_secondary s))
+diacritic_leads : (s : ℕ) → IsTrue (is_diacritic_weight true s) → IsTrue (has_leads true (of_secondary s))
 unfolding is_diacritic_weight
-accent_leads s h = third_of_three (not (s == 0)) (has_shape (of_secondary s)) (has_leads true (of_secondary s)) h
+diacritic_leads s h = third_of_three (not (s == 0)) (has_shape (of_secondary s)) (has_leads true (of_secondary s)) h
 
 secondary_weight : (x : Element) → weight_at Secondaries x ≡ left_aligned x.secondary
 unfolding weight_at
@@ -108,15 +108,15 @@ tertiary_weight x = refl
 
 -- ---- the conditions
 module _ (all : CollatorTables) (met : LiveMeets all) (tables : AreTables all) where
-  pub lone_meet : LonesAreHigh all.tables → Meets (conditions.Pair of_pair.LoneTertiaries) all
-  lone_meet high first second x is_x y is_y lone beside =
+  pub tertiary_element_meet : TertiaryElementsAreHigh all.tables → Meets (conditions.Pair of_pair.TertiaryElementWeights) all
+  tertiary_element_meet high first second x is_x y is_y tertiary_element beside =
       elim (cases_eq (tertiary_of y) 0) [
-        | inl none ↦ subst (λ t. t < tertiary_of x) (sym none) (lone_some x.secondary (tertiary_of x) lone)
+        | inl none ↦ subst (λ t. t < tertiary_of x) (sym none) (tertiary_element_some x.secondary (tertiary_of x) tertiary_element)
         | inr some ↦ elim (cases_eq (tertiary_of y) common) [
           | inl is ↦ subst (λ t. t < tertiary_of x) (sym is) (above_common _ (tertiary_of x)
-              (implied (is_lone x) (is_high_lone x) ((meets_in all met first).elements of_element.LoneTertiary x is_x) lone))
+              (implied (is_tertiary_element x) (is_high_tertiary_element x) ((meets_in all met first).elements of_element.TertiaryElement x is_x) tertiary_element))
           | inr other ↦ high first second (tertiary_of x) (tertiary_of y)
-              (record { x = x; read = read_by all met first x is_x (weighs_explicit TertiaryElements x (tertiary_of x) elements_other (lone_kept x lone)); weighs = lone_kept x lone })
+              (record { x = x; read = read_by all met first x is_x (weighs_explicit TertiaryElements x (tertiary_of x) elements_other (tertiary_element_kept x tertiary_element)); weighs = tertiary_element_kept x tertiary_element })
               (record { x = y; read = read_by all met second y is_y (weighs_explicit WithSecondary y (tertiary_of y) beside_other (beside_kept y beside some other)); weighs = beside_kept y beside some other })
         ]
       ]
@@ -125,17 +125,17 @@ module _ (all : CollatorTables) (met : LiveMeets all) (tables : AreTables all) w
   entry_leads table given x is =
       passes (λ x. has_leads true x) (final_elements (homed is.home is.entry) is.char) x (given.entries live.Leads is.home is.char is.entry is.live) is.member
 
-  accent_has_leads : (x : Element) → IsOfAccent all.tables.diacritics x → IsTrue (has_leads true x)
-  accent_has_leads x is =
+  diacritic_has_leads : (x : Element) → IsOfLiveDiacritic all.tables.diacritics x → IsTrue (has_leads true x)
+  diacritic_has_leads x is =
       let s : ℕ = slice_index all.tables.diacritics is.place in
       subst (λ x. IsTrue (has_leads true x)) (sym is.is)
-      (accent_leads s (otherwise (is_replaced_index is.place) (is_diacritic_weight true s) (tables.diacritics.weights is.place is.inside) is.kept))
+      (diacritic_leads s (otherwise (is_replaced_index is.place) (is_diacritic_weight true s) (tables.diacritics.weights is.place is.inside) is.kept))
 
   leads_of : (table : DataTable) (x : Element) → IsElementBy table all.tables x → IsTrue (has_leads true x)
   leads_of Root x is = entry_leads Root met.root x is
   leads_of Jamo x is = entry_leads Jamo met.jamo x is
   leads_of Tailoring x is = entry_leads Tailoring met.tailoring x is
-  leads_of Diacritics x is = accent_has_leads x is
+  leads_of Diacritics x is = diacritic_has_leads x is
   leads_of SpecialPrimaries x is = absurd is.live
   leads_of Metadata x is = absurd is.live
   leads_of Reordering x is = absurd is.live

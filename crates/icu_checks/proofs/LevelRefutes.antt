@@ -17,10 +17,10 @@ use Rattle.icu_checks.specs.PairConditions.{BeginsNot, PairMeets}
 use Rattle.icu_checks.specs.GoodTables.{EachPair, MeetsBy, IsOverlapTable}
 use Rattle.icu_checks.specs.inner.Levels.{list_of, overlap_condition, bytes_at}
 use Rattle.icu_checks.specs.LiveElements.{IsElementBy}
-use Rattle.icu_checks.specs.inner.PairFaults.{IsClashTable}
+use Rattle.icu_checks.specs.inner.PairViolations.{IsClashTable}
 use Rattle.icu_checks.specs.inner.Weights.{IsWeightBy}
 use Rattle.icu_checks.proofs.BeginningLemmas.{moved_up_bytes}
-use Rattle.icu_checks.proofs.LevelLemmas.{element_by, primary_weighs, secondary_weighs, tertiary_weighs, lone_weighs, beside_weighs}
+use Rattle.icu_checks.proofs.LevelLemmas.{element_by, primary_weighs, secondary_weighs, tertiary_weighs, tertiary_element_weighs, beside_weighs}
 
 -- two weights of two bytes clash where they do with two zero bytes after them
 two_bytes_clash : (s r v w : ℕ) → (s ≢ 0) × (s * 2 ^ 16 ≡ v) → (r ≢ 0) × (r * 2 ^ 16 ≡ w) → v < 2 ^ 32 → w < 2 ^ 32 → v ≢ w
@@ -44,9 +44,9 @@ module _ (all : CollatorTables) (t u : DataTable) (v w : ℕ) where
       two_bytes_clash (tertiary_of a.x) (tertiary_of b.x) v w (tertiary_weighs a.x v a.weighs) (tertiary_weighs b.x w b.weighs) fits_v fits_w differ begins
       (each a.x (element_by all.tables t a.x a.read) b.x (element_by all.tables u b.x b.read))
 
-  pub refute_lone : IsWeightBy TertiaryElements t all.tables v → IsWeightBy WithSecondary u all.tables w → v ≤ w → EachPair (PairMeets of_pair.LoneTertiaries all) t u all → ⊥
-  refute_lone a b at_most each =
-      let p = lone_weighs a.x v a.weighs in
+  pub refute_tertiary_element : IsWeightBy TertiaryElements t all.tables v → IsWeightBy WithSecondary u all.tables w → v ≤ w → EachPair (PairMeets of_pair.TertiaryElementWeights all) t u all → ⊥
+  refute_tertiary_element a b at_most each =
+      let p = tertiary_element_weighs a.x v a.weighs in
       let q = beside_weighs b.x w b.weighs in
       below (tertiary_of a.x) (tertiary_of b.x) p.1 q.1 at_most (each a.x (element_by all.tables t a.x a.read) b.x (element_by all.tables u b.x b.read) p.0 q.0)
     where

@@ -8,10 +8,10 @@ pub mod OverlapLemmas
 pub mod LeadLemmas
 pub mod AlikeLemmas
 pub mod LeadMeetings
-pub mod EntryFaultLemmas
-pub mod LiveFaultLemmas
-pub mod LentFaultLemmas
-pub mod FaultPairs
+pub mod EntryViolationLemmas
+pub mod LiveViolationLemmas
+pub mod LentViolationLemmas
+pub mod ViolationPairs
 pub mod CollectLemmas
 pub mod LevelLemmas
 pub mod LevelRefutes

@@ -24,7 +24,7 @@ use Rattle.icu_checks.specs.declared.check.weights.WeightList.TheVariants.{Prima
 use Rattle.icu_provider.specs.CollatorTables.{CollatorTables, reorder_by, reorder, new_lead}
 use Rattle.icu_checks.specs.LiveElements.{IsElementBy, IsOfEntryBy}
 use Rattle.icu_checks.specs.ElementConditions.{implicit_lead, has_low_bytes, is_apart, primary_meets}
-use Rattle.icu_checks.specs.inner.EntryFaults.{MeetsIn, LiveMeets}
+use Rattle.icu_checks.specs.inner.EntryViolations.{MeetsIn, LiveMeets}
 use Rattle.icu_checks.specs.GoodTables.{AreTables, Meets}
 use Rattle.icu_checks.specs.LeadConditions.{LeadMeets}
 use Rattle.icu_checks.specs.Leads.{is_middle}

@@ -1,4 +1,4 @@
--- Lists of weights, and the faults that they show.
+-- Lists of weights, and the violations that they show.
 use Rattle.std.proofs.Common.{◌≡◌, ◌↔◌, ℕ, Bool, true, false, List, [], Some, None, refl, sym, ap, ◌∙◌, subst, inl, inr, arith, option_map}
 use Rattle.std.specs.List.{Contains}
 use Rattle.icu_entries.specs.declared.error.DataTable.{DataTable}
@@ -20,7 +20,7 @@ use Rattle.icu_checks.specs.inner.Overlaps.{Overlaps}
 use Rattle.icu_checks.specs.inner.Levels.{list_of, bytes_at}
 use Rattle.icu_checks.specs.GoodTables.{MeetsBy}
 use Rattle.icu_checks.specs.inner.Weights.{IsWeightBy, Adds}
-use Rattle.icu_checks.specs.inner.PairFaults.{IsListedWeight, AreListed, HoldsAll, HoldsLevel, AreClashing, AreAlike}
+use Rattle.icu_checks.specs.inner.PairViolations.{IsListedWeight, AreListed, HoldsAll, HoldsLevel, AreClashing, AreAlike}
 use Rattle.icu_checks.proofs.CollectLemmas.{special_none, metadata_none, reordering_none}
 use Rattle.icu_checks.proofs.LevelRefutes.{refute_compression}
 

@@ -5,7 +5,7 @@ use Rattle.icu_entries.specs.ElementConditions.{tertiary_of}
 use Rattle.icu_provider.specs.Reorderings.{lead_byte}
 use Rattle.icu_provider.specs.SpecialPrimaries.{is_compressible}
 use Rattle.icu_checks.specs.declared.condition.ElementCondition.{ElementCondition}
-use Rattle.icu_checks.specs.declared.condition.ElementCondition.TheVariants.{Width, BackwardLead, LoneTertiary, MiddleLead, ImplicitLength, NumericLead, SharedLead, SecondByte}
+use Rattle.icu_checks.specs.declared.condition.ElementCondition.TheVariants.{Width, BackwardLead, TertiaryElement, MiddleLead, ImplicitLength, NumericLead, SharedLead, SecondByte}
 use Rattle.icu_checks.specs.Leads.{is_middle}
 use Rattle.icu_provider.specs.CollatorTables.{CollatorTables, is_forward, reorder, new_lead}
 
@@ -14,15 +14,15 @@ abbrev pub implicit_lead : ℕ
 implicit_lead = 0xFE
 
 -- an element with a tertiary weight and no secondary weight
-abbrev pub is_lone : Element → Bool
-is_lone x = x.secondary == 0 && not (tertiary_of x == 0)
+abbrev pub is_tertiary_element : Element → Bool
+is_tertiary_element x = x.secondary == 0 && not (tertiary_of x == 0)
 
 -- upper case: of the two case bits the higher one
 abbrev pub upper_case : ℕ
 upper_case = 0x8000
 
-abbrev pub is_high_lone : Element → Bool
-is_high_lone x = bit_and x.lower case_mask == upper_case && nat_lt common (tertiary_of x)
+abbrev pub is_high_tertiary_element : Element → Bool
+is_high_tertiary_element x = bit_and x.lower case_mask == upper_case && nat_lt common (tertiary_of x)
 
 -- a weight has this lead byte, or isn't taken to where the weights with it go
 abbrev pub is_apart : CollatorTables → ℕ → ℕ → Bool
@@ -49,9 +49,9 @@ primary_meets _ all p = true
 abbrev pub element_meets : ElementCondition → CollatorTables → Element → Bool
 element_meets Width all x = nat_lt x.primary (2 ^ 32) && nat_lt x.secondary (2 ^ 16) && nat_lt x.lower (2 ^ 16)
 element_meets BackwardLead all x = is_forward all || not (x.secondary / 256 == 2)
-element_meets LoneTertiary all x = not (is_lone x) || is_high_lone x
+element_meets TertiaryElement all x = not (is_tertiary_element x) || is_high_tertiary_element x
 element_meets condition all x = x.primary == 0 || primary_meets condition all x.primary
 
 -- all of them, in the order in which a refusal names them
 abbrev pub element_conditions : List ElementCondition
-element_conditions = Width ∷ BackwardLead ∷ LoneTertiary ∷ MiddleLead ∷ ImplicitLength ∷ NumericLead ∷ SharedLead ∷ SecondByte ∷ []
+element_conditions = Width ∷ BackwardLead ∷ TertiaryElement ∷ MiddleLead ∷ ImplicitLength ∷ NumericLead ∷ SharedLead ∷ SecondByte ∷ []

@@ -4,7 +4,7 @@ use Rattle.icu_entries.specs.Elements.{Element}
 use Rattle.icu_checks.specs.declared.condition.Condition.{Condition}
 use Rattle.icu_checks.specs.declared.condition.Condition.TheVariants as conditions
 use Rattle.icu_checks.specs.declared.condition.PairCondition.{PairCondition}
-use Rattle.icu_checks.specs.declared.condition.PairCondition.TheVariants.{LoneTertiaries, Primaries, Secondaries, Tertiaries, Compression}
+use Rattle.icu_checks.specs.declared.condition.PairCondition.TheVariants.{TertiaryElementWeights, Primaries, Secondaries, Tertiaries, Compression}
 use Rattle.icu_checks.specs.declared.condition.LeadCondition.{LeadCondition}
 use Rattle.icu_checks.specs.declared.condition.LeadCondition.TheVariants.{Separator, HighLead, ImplicitLead, NumericLead, LeadsApart, NumericWhole}
 use Rattle.icu_provider.specs.CollatorTables.{CollatorTables}
@@ -13,7 +13,7 @@ use Rattle.icu_checks.specs.LeadConditions.{LeadMeets}
 use Rattle.icu_checks.specs.GoodTables.{Meets, IsGoodTables}
 
 pair_prop : (all : CollatorTables) (condition : PairCondition) (x y : Element) → IsProp (PairMeets condition all x y)
-pair_prop all LoneTertiaries x y = hlevel props
+pair_prop all TertiaryElementWeights x y = hlevel props
 pair_prop all Primaries x y = hlevel props
 pair_prop all Secondaries x y = hlevel props
 pair_prop all Tertiaries x y = hlevel props

@@ -68,7 +68,7 @@ group_of_entry of_entry.Primaries = Primaries
 abbrev pub group_of_element : ElementCondition → ConditionGroup
 group_of_element of_element.Width = Shapes
 group_of_element of_element.BackwardLead = Leads
-group_of_element of_element.LoneTertiary = TertiaryElements
+group_of_element of_element.TertiaryElement = TertiaryElements
 group_of_element of_element.MiddleLead = KeptLeads
 group_of_element of_element.ImplicitLength = OwnLeads
 group_of_element of_element.NumericLead = OwnLeads
@@ -76,7 +76,7 @@ group_of_element of_element.SharedLead = ReorderedLeads
 group_of_element of_element.SecondByte = Compression
 
 abbrev pub group_of_pair : PairCondition → ConditionGroup
-group_of_pair of_pair.LoneTertiaries = TertiaryElements
+group_of_pair of_pair.TertiaryElementWeights = TertiaryElements
 group_of_pair of_pair.Primaries = Overlaps
 group_of_pair of_pair.Secondaries = Overlaps
 group_of_pair of_pair.Tertiaries = Overlaps

@@ -26,7 +26,7 @@ pub record IsOfEntryBy (table : DataTable) (tables : Tables) (x : Element) : Typ
   pub member : Contains (final_elements (homed home entry) char) x
 
 -- the element of a diacritic that decomposed texts have
-pub record IsOfAccent (secondaries : List ℕ) (x : Element) : Type 0 where
+pub record IsOfLiveDiacritic (secondaries : List ℕ) (x : Element) : Type 0 where
   pub place : ℕ
   pub inside : place < length secondaries
   pub kept : is_replaced_index place ≡ false
@@ -34,5 +34,5 @@ pub record IsOfAccent (secondaries : List ℕ) (x : Element) : Type 0 where
 
 -- the element is live by a table
 abbrev pub IsElementBy : DataTable → Tables → Element → Type 0
-IsElementBy Diacritics tables x = IsOfAccent tables.diacritics x
+IsElementBy Diacritics tables x = IsOfLiveDiacritic tables.diacritics x
 IsElementBy table tables x = IsOfEntryBy table tables x

@@ -7,9 +7,9 @@ use Rattle.icu_entries.specs.ElementConditions.{tertiary_of}
 use Rattle.icu_provider.specs.Reorderings.{lead_byte}
 use Rattle.icu_provider.specs.SpecialPrimaries.{is_compressible}
 use Rattle.icu_checks.specs.declared.condition.PairCondition.{PairCondition}
-use Rattle.icu_checks.specs.declared.condition.PairCondition.TheVariants.{LoneTertiaries, Primaries, Secondaries, Tertiaries, Compression}
+use Rattle.icu_checks.specs.declared.condition.PairCondition.TheVariants.{TertiaryElementWeights, Primaries, Secondaries, Tertiaries, Compression}
 use Rattle.icu_provider.specs.CollatorTables.{CollatorTables, reorder}
-use Rattle.icu_checks.specs.ElementConditions.{is_lone}
+use Rattle.icu_checks.specs.ElementConditions.{is_tertiary_element}
 
 -- the first of two different weights isn't written as a beginning of the second (UTS #10, "Large Weight Values")
 abbrev pub BeginsNot : (ℕ → List ℕ) → ℕ → ℕ → Type 0
@@ -27,7 +27,7 @@ CompressAlike all p q =
 
 -- what each condition asks of two elements
 abbrev pub PairMeets : PairCondition → CollatorTables → Element → Element → Type 0
-PairMeets LoneTertiaries all x y = IsTrue (is_lone x) → y.secondary ≢ 0 → tertiary_of y < tertiary_of x
+PairMeets TertiaryElementWeights all x y = IsTrue (is_tertiary_element x) → y.secondary ≢ 0 → tertiary_of y < tertiary_of x
 PairMeets Primaries all x y = BeginsNot (λ p. weight_bytes 4 (reorder all p)) x.primary y.primary
 PairMeets Secondaries all x y = BeginsNot (weight_bytes 2) x.secondary y.secondary
 PairMeets Tertiaries all x y = BeginsNot (weight_bytes 2) (tertiary_of x) (tertiary_of y)

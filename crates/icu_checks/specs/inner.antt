@@ -1,10 +1,10 @@
 -- Words of private contracts and proofs only: no public contract names them.
 pub mod Weights
-pub mod PairFaults
+pub mod PairViolations
 pub mod Checks
-pub mod EntryFaults
+pub mod EntryViolations
 pub mod Alike
 pub mod Levels
 pub mod ImplicitOverlaps
 pub mod Overlaps
-pub mod Faults
+pub mod Violations

@@ -4,10 +4,10 @@ ghost use Rattle.std.specs.Option.{ForSome};
 ghost use Rattle.icu_data.specs.StoredData.{data_of};
 ghost use Rattle.icu_provider.specs.StoredTables.{reordering_of};
 ghost use Rattle.icu_provider.specs.TableSets.{tables_in};
-ghost use Rattle.icu_checks.specs.inner.Faults.{IsTrueFault};
+ghost use Rattle.icu_checks.specs.inner.Violations.{IsTrueViolation};
 ghost use Rattle.icu_checks.specs.GoodTables.{HasAscendingContexts, IsReordering, AreTables, HasDiacriticCount, IsGoodTables};
 ghost use Rattle.icu_checks.specs.LeadConditions.{LeadMeets};
-ghost use Rattle.icu_checks.specs.inner.PairFaults.{IsOutcome};
+ghost use Rattle.icu_checks.specs.inner.PairViolations.{IsOutcome};
 ghost use Rattle.icu_checks.specs.inner.Checks.{LeadsMeet, PairsMeet};
 
 pub(crate) mod alike;
@@ -19,89 +19,92 @@ mod lead_conditions;
 pub(crate) mod leads;
 #[cfg(test)]
 mod leads_tests;
-mod live_faults;
+mod live_violations;
 mod lookups;
 pub(crate) mod overlap;
-pub(crate) mod overlap_faults;
 mod overlap_tables;
-pub(crate) mod primary_faults;
-pub(crate) mod tertiary_faults;
+pub(crate) mod overlap_violations;
+pub(crate) mod primary_violations;
+pub(crate) mod tertiary_violations;
 pub(crate) mod weight_list;
 pub(crate) mod weights;
 
-use crate::check::live_faults::live_fault;
-use crate::check::overlap_faults::level_fault;
-use crate::check::primary_faults::primary_fault;
-use crate::check::tertiary_faults::tertiary_fault;
+use crate::check::live_violations::live_violation;
+use crate::check::overlap_violations::level_violation;
+use crate::check::primary_violations::primary_violation;
+use crate::check::tertiary_violations::tertiary_violation;
 use crate::check::weights::Level;
 use crate::condition::{Condition, LeadCondition};
-use crate::fault::Fault;
+use crate::violation::Violation;
 use icu_data::CollationData;
-use icu_data::fault::earlier;
+use icu_data::violation::earlier;
 use icu_entries::DataTable;
 use icu_provider::{CollationReordering, TableSet};
 use std::alloc::{AllocError, Global};
 
-/// The fault of a condition on lead bytes.
-fn lead_fault(tables: TableSet<'_>, condition: LeadCondition) -> Option<Fault>
+/// The violation of a condition on lead bytes.
+fn lead_violation(tables: TableSet<'_>, condition: LeadCondition) -> Option<Violation>
     ensures none { result ≡ None → LeadMeets condition (tables_in tables.entry) }
-    ensures some { IfSome result (IsTrueFault (tables_in tables.entry)) }
+    ensures some { IfSome result (IsTrueViolation (tables_in tables.entry)) }
 {
     if condition.holds(tables) {
         None
     } else {
-        Some(Fault {
+        Some(Violation {
             condition: Condition::Lead(condition),
             table: condition.table(),
         })
     }
 }
 
-/// The first fault of lead bytes.
-fn leads_fault(tables: TableSet<'_>) -> Option<Fault>
+/// The first violation of lead bytes.
+fn leads_violation(tables: TableSet<'_>) -> Option<Violation>
     ensures none { result ≡ None → LeadsMeet (tables_in tables.entry) }
-    ensures some { IfSome result (IsTrueFault (tables_in tables.entry)) }
+    ensures some { IfSome result (IsTrueViolation (tables_in tables.entry)) }
 {
     let kept = earlier(
-        lead_fault(tables, LeadCondition::Separator),
-        lead_fault(tables, LeadCondition::HighLead),
+        lead_violation(tables, LeadCondition::Separator),
+        lead_violation(tables, LeadCondition::HighLead),
     );
     let together = earlier(
-        lead_fault(tables, LeadCondition::ImplicitLead),
-        lead_fault(tables, LeadCondition::NumericLead),
+        lead_violation(tables, LeadCondition::ImplicitLead),
+        lead_violation(tables, LeadCondition::NumericLead),
     );
     let numeric = earlier(
-        lead_fault(tables, LeadCondition::LeadsApart),
-        lead_fault(tables, LeadCondition::NumericWhole),
+        lead_violation(tables, LeadCondition::LeadsApart),
+        lead_violation(tables, LeadCondition::NumericWhole),
     );
     earlier(earlier(kept, together), numeric)
 }
 
-/// The fault of a number of diacritics that is not 79, where they are not tailored.
+/// The violation of a number of diacritics that is not 79, where they are not tailored.
 #[tactic(auto, unfolding(icu_provider::specs::TableSets::tables_in))]
-fn count_fault(tables: TableSet<'_>) -> Option<Fault>
+fn count_violation(tables: TableSet<'_>) -> Option<Violation>
     ensures none { result ≡ None → HasDiacriticCount (tables_in tables.entry) }
-    ensures some { IfSome result (IsTrueFault (tables_in tables.entry)) }
+    ensures some { IfSome result (IsTrueViolation (tables_in tables.entry)) }
 {
     if tables.diacritics.secondaries().len() == 79 || tables.metadata.tailored_diacritics() {
         None
     } else {
-        Some(Fault {
+        Some(Violation {
             condition: Condition::DiacriticCount,
             table: DataTable::Diacritics,
         })
     }
 }
 
-/// The first fault of pairs of live elements.
-fn pairs_fault(alloc: Global, tables: TableSet<'_>) -> Result<Option<Fault>, AllocError>
+/// The first violation of pairs of live elements.
+fn pairs_violation(alloc: Global, tables: TableSet<'_>) -> Result<Option<Violation>, AllocError>
     ensures { IfOk result (IsOutcome (tables_in tables.entry) (PairsMeet (tables_in tables.entry))) }
 {
-    let lone = tertiary_fault(alloc, tables)?;
-    let secondary = level_fault(alloc, tables, Level::Secondary)?;
-    let tertiary = level_fault(alloc, tables, Level::Tertiary)?;
-    let primary = primary_fault(alloc, tables)?;
-    Ok(earlier(earlier(lone, secondary), earlier(tertiary, primary)))
+    let tertiary_element = tertiary_violation(alloc, tables)?;
+    let secondary = level_violation(alloc, tables, Level::Secondary)?;
+    let tertiary = level_violation(alloc, tables, Level::Tertiary)?;
+    let primary = primary_violation(alloc, tables)?;
+    Ok(earlier(
+        earlier(tertiary_element, secondary),
+        earlier(tertiary, primary),
+    ))
 }
 
 /// What each table shows by itself.
@@ -134,15 +137,18 @@ fn show_reordering(reordering: Option<CollationReordering<'_>>)
     }
 }
 
-/// The first fault of all tables. Where the number of diacritics is wrong, that is named alone.
-pub(crate) fn first_fault(alloc: Global, tables: TableSet<'_>) -> Result<Option<Fault>, AllocError>
+/// The first violation of all tables. Where the number of diacritics is wrong, that is named alone.
+pub(crate) fn first_violation(
+    alloc: Global,
+    tables: TableSet<'_>,
+) -> Result<Option<Violation>, AllocError>
     ensures { IfOk result (IsOutcome (tables_in tables.entry) (IsGoodTables (tables_in tables.entry))) }
 {
-    if let Some(fault) = count_fault(tables) {
-        return Ok(Some(fault));
+    if let Some(violation) = count_violation(tables) {
+        return Ok(Some(violation));
     }
     show_tables(tables);
-    let live = live_fault(tables);
-    let pairs = pairs_fault(alloc, tables)?;
-    Ok(earlier(earlier(live, leads_fault(tables)), pairs))
+    let live = live_violation(tables);
+    let pairs = pairs_violation(alloc, tables)?;
+    Ok(earlier(earlier(live, leads_violation(tables)), pairs))
 }

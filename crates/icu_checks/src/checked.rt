@@ -6,7 +6,7 @@ ghost use Rattle.icu_provider.specs.TableSets.{tables_in};
 ghost use Rattle.icu_checks.specs.GoodTables.{IsGoodTables, IsTrueRefusal};
 ghost use Rattle.icu_checks.specs.GoodProps.{good_prop};
 
-use crate::check::first_fault;
+use crate::check::first_violation;
 use icu_data::CollationData;
 use icu_entries::{DataError, DataErrorKind, DataTable};
 use icu_provider::{
@@ -28,9 +28,9 @@ fn check(alloc: Global, tables: TableSet<'_>) -> Result<(), DataError>
     ensures good { IsOk result → IsGoodTables (tables_in tables.entry) }
     ensures refusal { IfErr result (IsTrueRefusal (tables_in tables.entry)) }
 {
-    match first_fault(alloc, tables) {
+    match first_violation(alloc, tables) {
         Ok(None) => Ok(()),
-        Ok(Some(fault)) => Err(fault.error()),
+        Ok(Some(violation)) => Err(violation.error()),
         Err(_) => Err(DataError {
             table: DataTable::Root,
             kind: DataErrorKind::NoMemory,

@@ -5,14 +5,14 @@ use icu_data::live_condition::LiveCondition;
 use icu_entries::DataErrorKind;
 
 /// A condition on one element that is live, beside what other tables say.
-#[derive(Debug, Clone, Copy, PartialEq, Eq)]
+#[derive(Debug, Ctertiary_element, Copy, PartialEq, Eq)]
 pub enum ElementCondition {
     /// Its weights have the widths of their fields, as all that are stored have.
     Width,
     /// Where the second level is compared from the end, no secondary weight leads with 02, which then parts segments.
     BackwardLead,
     /// A tertiary weight alone stands above the common one, in upper case.
-    LoneTertiary,
+    TertiaryElement,
     /// Reordering keeps a lead byte from 03 to FE in that range.
     MiddleLead,
     /// A primary weight with the lead byte of implicit weights has four bytes, as they have.
@@ -26,10 +26,10 @@ pub enum ElementCondition {
 }
 
 /// A condition on two live elements.
-#[derive(Debug, Clone, Copy, PartialEq, Eq)]
+#[derive(Debug, Ctertiary_element, Copy, PartialEq, Eq)]
 pub enum PairCondition {
     /// A tertiary weight alone is greater than one beside a secondary weight.
-    LoneTertiaries,
+    TertiaryElementWeights,
     /// No primary weight, reordered, begins another one.
     Primaries,
     /// No secondary weight begins another one.
@@ -41,7 +41,7 @@ pub enum PairCondition {
 }
 
 /// A condition on what reordering makes of whole lead bytes, and on which of them compress.
-#[derive(Debug, Clone, Copy, PartialEq, Eq)]
+#[derive(Debug, Ctertiary_element, Copy, PartialEq, Eq)]
 pub enum LeadCondition {
     /// Reordering keeps the merge separator.
     Separator,
@@ -58,7 +58,7 @@ pub enum LeadCondition {
 }
 
 /// A condition on the tables of a collator.
-#[derive(Debug, Clone, Copy, PartialEq, Eq)]
+#[derive(Debug, Ctertiary_element, Copy, PartialEq, Eq)]
 pub enum Condition {
     /// There are 79 diacritics, or fewer where they are tailored.
     DiacriticCount,
@@ -166,7 +166,7 @@ fn group_of_element(condition: ElementCondition) -> ConditionGroup
     match condition {
         ElementCondition::Width => ConditionGroup::Shapes,
         ElementCondition::BackwardLead => ConditionGroup::Leads,
-        ElementCondition::LoneTertiary => ConditionGroup::TertiaryElements,
+        ElementCondition::TertiaryElement => ConditionGroup::TertiaryElements,
         ElementCondition::MiddleLead => ConditionGroup::KeptLeads,
         ElementCondition::ImplicitLength | ElementCondition::NumericLead => {
             ConditionGroup::OwnLeads
@@ -180,7 +180,7 @@ fn group_of_pair(condition: PairCondition) -> ConditionGroup
     ensures { result ≡ group_of_pair condition }
 {
     match condition {
-        PairCondition::LoneTertiaries => ConditionGroup::TertiaryElements,
+        PairCondition::TertiaryElementWeights => ConditionGroup::TertiaryElements,
         PairCondition::Primaries | PairCondition::Secondaries | PairCondition::Tertiaries => {
             ConditionGroup::Overlaps
         }

@@ -4,8 +4,8 @@
 mod check;
 pub mod checked;
 pub mod condition;
-mod fault;
 pub mod loads;
+mod violation;
 
 pub use checked::CheckedTables;
 pub use loads::load_tables;

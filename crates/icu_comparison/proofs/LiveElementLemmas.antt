@@ -16,7 +16,7 @@ use Rattle.icu_data.specs.Data.{homed}
 use Rattle.icu_data.specs.Final.{final_elements}
 use Rattle.icu_checks.specs.declared.condition.Condition.TheVariants as conditions
 use Rattle.icu_provider.specs.CollatorTables.{CollatorTables}
-use Rattle.icu_checks.specs.LiveElements.{IsOfEntryBy, IsOfAccent, IsElementBy}
+use Rattle.icu_checks.specs.LiveElements.{IsOfEntryBy, IsOfLiveDiacritic, IsElementBy}
 use Rattle.icu_checks.specs.GoodTables.{IsGoodTables}
 
 -- ---- tests
@@ -35,55 +35,55 @@ where_some n b h some = other_part (n == 0) b h (grind (arith, nat_tests))
 member_passes : (p : Element → Bool) (xs : List Element) (x : Element) → IsTrue (list_all p xs) → Contains xs x → p x ≡ true
 member_passes p xs x passes is = All-contains (λ x. p x ≡ true) xs x (AllPass-from_list_all p xs passes) is
 
-accent-passes : (s : ℕ) → is_diacritic_weight true s ≡ true → (has_shape (of_secondary s) ≡ true) × (has_leads true (of_secondary s) ≡ true)
+diacritic-passes : (s : ℕ) → is_diacritic_weight true s ≡ true → (has_shape (of_secondary s) ≡ true) × (has_leads true (of_secondary s) ≡ true)
 unfolding is_diacritic_weight
-accent-passes s h =
+diacritic-passes s h =
     let parts = and_parts (not (s == 0) && has_shape (of_secondary s)) (has_leads true (of_secondary s)) h in
     ((and_parts (not (s == 0)) (has_shape (of_secondary s)) parts.0).1, parts.1)
 
-accent-primary : (s : ℕ) → has_primary_lead (of_secondary s) ≡ true
+diacritic-primary : (s : ℕ) → has_primary_lead (of_secondary s) ≡ true
 unfolding has_primary_lead
-accent-primary s = refl
+diacritic-primary s = refl
 
 -- ---- live elements
 
 -- what the elements of entries meet, and those of diacritics, all do
 by_source : (P : Element → Type 0) (all : CollatorTables)
     → ((table : DataTable) (x : Element) → IsOfEntryBy table all.tables x → P x)
-    → ((x : Element) → IsOfAccent all.tables.diacritics x → P x)
+    → ((x : Element) → IsOfLiveDiacritic all.tables.diacritics x → P x)
     → (table : DataTable) (x : Element) → IsElementBy table all.tables x → P x
-by_source P all entries accents Root x live = entries Root x live
-by_source P all entries accents Jamo x live = entries Jamo x live
-by_source P all entries accents SpecialPrimaries x live = entries SpecialPrimaries x live
-by_source P all entries accents Metadata x live = entries Metadata x live
-by_source P all entries accents Tailoring x live = entries Tailoring x live
-by_source P all entries accents Reordering x live = entries Reordering x live
-by_source P all entries accents Diacritics x live = accents x live
+by_source P all entries diacritics Root x live = entries Root x live
+by_source P all entries diacritics Jamo x live = entries Jamo x live
+by_source P all entries diacritics SpecialPrimaries x live = entries SpecialPrimaries x live
+by_source P all entries diacritics Metadata x live = entries Metadata x live
+by_source P all entries diacritics Tailoring x live = entries Tailoring x live
+by_source P all entries diacritics Reordering x live = entries Reordering x live
+by_source P all entries diacritics Diacritics x live = diacritics x live
 
 module _ (all : CollatorTables) (good : IsGoodTables all) where
-  accent : (x : Element) → IsOfAccent all.tables.diacritics x → (has_shape x ≡ true) × (has_leads true x ≡ true)
-  accent x is =
+  diacritic : (x : Element) → IsOfLiveDiacritic all.tables.diacritics x → (has_shape x ≡ true) × (has_leads true x ≡ true)
+  diacritic x is =
       let s = slice_index all.tables.diacritics is.place in
       let is_one : is_diacritic_weight true s ≡ true = other_part (is_replaced_index is.place) (is_diacritic_weight true s) (good.tables.diacritics.weights is.place is.inside) is.kept in
-      subst (λ x. (has_shape x ≡ true) × (has_leads true x ≡ true)) (sym is.is) (accent-passes s is_one)
+      subst (λ x. (has_shape x ≡ true) × (has_leads true x ≡ true)) (sym is.is) (diacritic-passes s is_one)
 
   pub live-shape : (table : DataTable) (x : Element) → IsElementBy table all.tables x → has_shape x ≡ true
   live-shape =
       by_source (λ x. has_shape x ≡ true) all
       (λ table x is. member_passes has_shape (final_elements (homed is.home is.entry) is.char) x
       (good.each (conditions.Entry Shapes) table is.home is.char is.entry is.live) is.member)
-      (λ x is. (accent x is).0)
+      (λ x is. (diacritic x is).0)
 
   pub live-leads : (table : DataTable) (x : Element) → IsElementBy table all.tables x → has_leads true x ≡ true
   live-leads =
       by_source (λ x. has_leads true x ≡ true) all
       (λ table x is. member_passes (has_leads true) (final_elements (homed is.home is.entry) is.char) x
       (good.each (conditions.Entry Leads) table is.home is.char is.entry is.live) is.member)
-      (λ x is. (accent x is).1)
+      (λ x is. (diacritic x is).1)
 
   pub live-primary_lead : (table : DataTable) (x : Element) → IsElementBy table all.tables x → has_primary_lead x ≡ true
   live-primary_lead =
       by_source (λ x. has_primary_lead x ≡ true) all
       (λ table x is. member_passes has_primary_lead (final_elements (homed is.home is.entry) is.char) x
       (good.each (conditions.Entry Primaries) table is.home is.char is.entry is.live) is.member)
-      (λ x is. subst (λ x. has_primary_lead x ≡ true) (sym is.is) (accent-primary (slice_index all.tables.diacritics is.place)))
+      (λ x is. subst (λ x. has_primary_lead x ≡ true) (sym is.is) (diacritic-primary (slice_index all.tables.diacritics is.place)))

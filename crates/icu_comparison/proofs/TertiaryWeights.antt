@@ -17,10 +17,10 @@ use Rattle.icu_entries.specs.declared.error.DataTable.{DataTable}
 use Rattle.icu_entries.specs.Elements.{Element, common, case_mask, tertiary_mask}
 use Rattle.icu_entries.specs.ElementConditions.{has_shape, has_whole_weights, has_weights_below, has_lower_half, has_secondary_lead, has_tertiary_lead, tertiary_of}
 use Rattle.icu_checks.specs.declared.condition.Condition.TheVariants as conditions
-use Rattle.icu_checks.specs.declared.condition.ElementCondition.TheVariants.{Width, LoneTertiary}
+use Rattle.icu_checks.specs.declared.condition.ElementCondition.TheVariants.{Width, TertiaryElement}
 use Rattle.icu_checks.specs.declared.condition.PairCondition.TheVariants.{Tertiaries}
 use Rattle.icu_provider.specs.CollatorTables.{CollatorTables}
-use Rattle.icu_checks.specs.ElementConditions.{is_lone, is_high_lone, upper_case}
+use Rattle.icu_checks.specs.ElementConditions.{is_tertiary_element, is_high_tertiary_element, upper_case}
 use Rattle.icu_checks.specs.LiveElements.{IsElementBy}
 use Rattle.icu_checks.specs.GoodTables.{IsGoodTables}
 use Rattle.icu_comparison.specs.LiveWeights.{IsLiveWeight, cased_mask, masked_tertiary, tertiary_in, IsLiveTertiary}
@@ -144,11 +144,11 @@ module _ (all : CollatorTables) (good : IsGoodTables all) where
     rank : x.lower / 0x4000 < 3
     alone : x.secondary ≡ 0 → x.lower / 0x4000 ≡ 2
 
-  alone_case : (x : Element) → x.lower < 2 ^ 16 → tertiary_of x ≢ 0 → (not (is_lone x) || is_high_lone x) ≡ true
+  alone_case : (x : Element) → x.lower < 2 ^ 16 → tertiary_of x ≢ 0 → (not (is_tertiary_element x) || is_high_tertiary_element x) ≡ true
       → x.secondary ≡ 0 → x.lower / 0x4000 ≡ 2
   alone_case x small some h none =
-      let lone : is_lone x ≡ true = grind (arith, nat_tests) in
-      let high = and_parts (bit_and x.lower case_mask == upper_case) (nat_lt common (tertiary_of x)) (implied (is_lone x) (is_high_lone x) h lone) in
+      let tertiary_element : is_tertiary_element x ≡ true = grind (arith, nat_tests) in
+      let high = and_parts (bit_and x.lower case_mask == upper_case) (nat_lt common (tertiary_of x)) (implied (is_tertiary_element x) (is_high_tertiary_element x) h tertiary_element) in
       let case : bit_and x.lower case_mask ≡ 0x8000 = grind (arith, nat_tests) in
       omega (arith, case, case_bits x.lower small)
 
@@ -165,7 +165,7 @@ module _ (all : CollatorTables) (good : IsGoodTables all) where
         small = small;
         some = parts.0;
         rank = parts.1;
-        alone = alone_case x small parts.0 (good.each (conditions.Element LoneTertiary) table x live);
+        alone = alone_case x small parts.0 (good.each (conditions.Element TertiaryElement) table x live);
       }
 
   of_plain : (table : DataTable) (x : Element) → IsElementBy table all.tables x → tertiary_of x ≢ 0 → OfElement WithoutCase (tertiary_of x)

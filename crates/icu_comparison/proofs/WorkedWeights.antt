@@ -10,8 +10,8 @@ use Rattle.icu_comparison.specs.LiveWeights.{tertiary_in, least_secondary_lead, 
 abbrev of_lower : ℕ → Element
 of_lower l = record { primary = 0x61100000; secondary = 0x500; lower = l }
 
-abbrev lone : Element
-lone = record { primary = 0; secondary = 0; lower = 0x8601 }
+abbrev tertiary_element : Element
+tertiary_element = record { primary = 0; secondary = 0; lower = 0x8601 }
 
 small_letter : (tertiary_in WithoutCase (of_lower 0x500) ≡ 0x500) × (tertiary_in LowerFirst (of_lower 0x500) ≡ 0x500) × (tertiary_in UpperFirst (of_lower 0x500) ≡ 0xC500)
 small_letter = (refl, refl, refl)
@@ -22,12 +22,12 @@ capital = (refl, refl, refl)
 mixed : (tertiary_in WithoutCase (of_lower 0x5C00) ≡ 0x1C00) × (tertiary_in LowerFirst (of_lower 0x5C00) ≡ 0x5C00) × (tertiary_in UpperFirst (of_lower 0x5C00) ≡ 0x9C00)
 mixed = (refl, refl, refl)
 
-tertiary_alone : (tertiary_in WithoutCase lone ≡ 0x601) × (tertiary_in LowerFirst lone ≡ 0x8601) × (tertiary_in UpperFirst lone ≡ 0xC601)
+tertiary_alone : (tertiary_in WithoutCase tertiary_element ≡ 0x601) × (tertiary_in LowerFirst tertiary_element ≡ 0x8601) × (tertiary_in UpperFirst tertiary_element ≡ 0xC601)
 tertiary_alone = (refl, refl, refl)
 
 -- two diacritics and nothing else, forward
-abbrev accents_alone : CollatorTables
-accents_alone = record {
+abbrev diacritics_alone : CollatorTables
+diacritics_alone = record {
   tables = record {
     root = record { value = λ c. 0; elements = []; entries = []; contexts = [] };
     tailoring = None;
@@ -39,11 +39,11 @@ accents_alone = record {
   reordering = None;
 }
 
-forward_lead : least_secondary_lead accents_alone ≡ 2
+forward_lead : least_secondary_lead diacritics_alone ≡ 2
 forward_lead = refl
 
-second_accent : IsLiveSecondary accents_alone 0x8A00
-second_accent = inr (record {
+second_diacritic : IsLiveSecondary diacritics_alone 0x8A00
+second_diacritic = inr (record {
   table = Diacritics;
   element = of_secondary 0x8A00;
   live = record { place = 1; inside = lit< tt; kept = refl; is = refl };

@@ -93,7 +93,7 @@ impl Collator {
 }
 
 /// A collator that borrows its tables.
-#[derive(Debug, Clone, Copy)]
+#[derive(Debug, Ctertiary_element, Copy)]
 pub struct CollatorBorrowed<'a> {
     tables: &'a CheckedTables,
     settings: CollatorOptionsBitField,

@@ -17,7 +17,7 @@ use Rattle.icu_entries.specs.EntryConditions.{has_digit, has_known_byte}
 use Rattle.icu_data.specs.LiveConditions.{meets, first_failing}
 use Rattle.icu_data.specs.LiveWeights.{is_stated}
 use Rattle.icu_data.specs.inner.Visitors.{given_elements, collected_at}
-use Rattle.icu_data.proofs.FaultLemmas.{meets_passes}
+use Rattle.icu_data.proofs.ViolationLemmas.{meets_passes}
 
 or_true : (b : Bool) → (b || true) ≡ true
 or_true true = refl

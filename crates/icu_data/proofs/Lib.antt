@@ -4,7 +4,7 @@ pub mod EntryLemmas
 pub mod ElementLemmas
 pub mod ContextLemmas
 pub mod WalkLemmas
-pub mod FaultLemmas
+pub mod ViolationLemmas
 pub mod WeightLemmas
 pub mod ImplicitLemmas
 mod WorkedData

@@ -4,7 +4,7 @@ pub mod Live
 pub mod DataConditions
 pub mod LiveConditions
 pub mod Walks
-pub mod Faults
+pub mod Violations
 pub mod LiveWeights
 pub mod CodePointTables
 pub mod Contexts

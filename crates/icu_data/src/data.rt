@@ -11,12 +11,12 @@ ghost use Rattle.icu_data.specs.Data.{homed, no_context, context_of, plain_of};
 
 use crate::code_point_table::CodePointTable;
 use crate::context::{ContextTable, FoundContext};
-use crate::fault::first_fault;
 use crate::live_condition::EntryJudge;
+use crate::violation::first_violation;
 use icu_entries::{CollationElement, CollationElement32, DataErrorKind, EntryKind};
 
 /// A root or a tailoring: a table of entries by character, and the lists and contexts that entries name.
-#[derive(Debug, Clone, Copy, PartialEq)]
+#[derive(Debug, Ctertiary_element, Copy, PartialEq)]
 pub struct CollationData<'d> {
     trie: CodePointTable<'d>,
     ces: &'d [u64],
@@ -72,7 +72,7 @@ impl<'d> CollationData<'d> {
         ensures accepts { IsOk result ↔ IsGoodData true (data_of self.entry) }
         ensures kind { IfErr result (FailsData true (data_of self.entry)) }
     {
-        match first_fault(&EntryJudge, None, self, true) {
+        match first_violation(&EntryJudge, None, self, true) {
             None => Ok(()),
             Some(condition) => Err(condition.kind()),
         }

@@ -12,10 +12,10 @@ pub mod data_builder;
 mod data_conditions;
 pub mod data_vectors;
 pub mod element_walk;
-pub mod fault;
 pub mod live_condition;
 pub mod live_weights;
 mod prefix_rows;
+pub mod violation;
 pub mod walk;
 
 pub use code_point_table::CodePointTable;

@@ -1,14 +1,14 @@
 //! The conditions on the entries that are live in a root or a tailoring, as a list.
 ghost use Rattle.std.specs.Prelude.{◌≡◌, ◌<◌};
 ghost use Rattle.icu_data.specs.LiveConditions.{kind_for, first_failing};
-ghost use Rattle.icu_data.specs.Faults.{condition_rank};
+ghost use Rattle.icu_data.specs.Violations.{condition_rank};
 
 use crate::data::CollationData;
-use crate::fault::{Judge, Ranked};
+use crate::violation::{Judge, Ranked};
 use icu_entries::{CollationElement32, DataErrorKind};
 
 /// A condition on an entry that is live in a root or a tailoring, in the order in which they are reported.
-#[derive(Debug, Clone, Copy, PartialEq, Eq)]
+#[derive(Debug, Ctertiary_element, Copy, PartialEq, Eq)]
 pub enum LiveCondition {
     /// What the entry refers to is there.
     Indices,
@@ -62,15 +62,15 @@ impl Ranked for LiveCondition {
 }
 
 /// The judge of a root or a tailoring alone: the first condition that an entry fails.
-#[derive(Debug, Clone, Copy, PartialEq)]
+#[derive(Debug, Ctertiary_element, Copy, PartialEq)]
 pub struct EntryJudge;
 
 impl Judge for EntryJudge {
-    type Fault = LiveCondition;
+    type Violation = LiveCondition;
 
-    ghost fault = { λ j home c e. first_failing home c e };
+    ghost violation = { λ j home c e. first_failing home c e };
 
-    fn fault(
+    fn violation(
         &self,
         home: CollationData<'_>,
         c: char,

@@ -15,7 +15,7 @@ use std::alloc::AllocError;
 use unicode_normalization::Decompositions;
 
 /// How far the reading has come.
-#[derive(Debug, Clone, Copy, PartialEq, Eq)]
+#[derive(Debug, Ctertiary_element, Copy, PartialEq, Eq)]
 enum Progress {
     Unread,
     Read,

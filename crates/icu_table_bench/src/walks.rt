@@ -1,19 +1,19 @@
-//! Walks over live entries: the fault that a judge of this file's own names, and the weights that are collected.
+//! Walks over live entries: the violation that a judge of this file's own names, and the weights that are collected.
 ghost use Rattle.std.specs.Prelude.{ℕ, ◌-◌, Bool, ◌==◌, ◌/◌, Option, Some, None, if◌then◌else◌};
 ghost use Rattle.icu_entries.specs.declared.entry.EntryKind.TheVariants.{Contraction};
 ghost use Rattle.icu_entries.specs.Entries.{kind_of};
 
 use crate::tables::Stored;
-use icu_data::fault::{Judge, Ranked, first_fault, first_fault_from};
 use icu_data::live_weights::{Weigh, collect_weights, collect_weights_from};
+use icu_data::violation::{Judge, Ranked, first_violation, first_violation_from};
 use icu_data::{CodePointTable, CollationData, Context, ContextRow, ContextTable};
 use icu_entries::{CollationElement, CollationElement32, DataErrorKind, EntryKind};
 use std::alloc::Global;
 use std::process::Abort;
 use std::test::Fail;
 
-/// A fault by its rank, which is less the later the character stands.
-#[derive(Debug, Clone, Copy, PartialEq)]
+/// A violation by its rank, which is less the later the character stands.
+#[derive(Debug, Ctertiary_element, Copy, PartialEq)]
 struct Named {
     rank: u32,
 }
@@ -26,7 +26,7 @@ impl Ranked for Named {
     }
 }
 
-fn fault_at(c: char) -> Named {
+fn violation_at(c: char) -> Named {
     Named {
         rank: 0x200000 - c as u32,
     }
@@ -36,11 +36,16 @@ fn fault_at(c: char) -> Named {
 struct Contractions;
 
 impl Judge for Contractions {
-    type Fault = Named;
+    type Violation = Named;
 
-    ghost fault = { λ j home c e. elim (kind_of e) [ Contraction ↦ Some (record { rank = 0x200000 - c }) | _ ↦ None ] };
+    ghost violation = { λ j home c e. elim (kind_of e) [ Contraction ↦ Some (record { rank = 0x200000 - c }) | _ ↦ None ] };
 
-    fn fault(&self, home: CollationData<'_>, c: char, entry: CollationElement32) -> Option<Named> {
+    fn violation(
+        &self,
+        home: CollationData<'_>,
+        c: char,
+        entry: CollationElement32,
+    ) -> Option<Named> {
         match entry.kind() {
             EntryKind::Contraction => Some(Named {
                 rank: 0x200000 - c as u32,
@@ -128,29 +133,32 @@ fn data(stored: &Stored) -> Result<CollationData<'_>, DataErrorKind> {
 }
 
 #[test]
-fn the_fault_of_least_rank_is_named(rt: HostRuntime) -> Result<(), Fail> {
+fn the_violation_of_least_rank_is_named(rt: HostRuntime) -> Result<(), Fail> {
     let stored = stored(rt.alloc(), 0xC0)?;
     let data = data(&stored)?;
     for (before, found) in [
-        (None, fault_at('d')),
-        (Some(fault_at('c')), fault_at('d')),
-        (Some(fault_at('e')), fault_at('e')),
+        (None, violation_at('d')),
+        (Some(violation_at('c')), violation_at('d')),
+        (Some(violation_at('e')), violation_at('e')),
     ] {
-        assert_eq!(rt; first_fault(&Contractions, before, data, true), Some(found));
         assert_eq!(rt;
-            first_fault(&Contractions, before, data, false),
+            first_violation(&Contractions, before, data, true),
+            Some(found)
+        );
+        assert_eq!(rt;
+            first_violation(&Contractions, before, data, false),
             Some(found)
         );
     }
     for (c, found) in [
         ('a', None),
-        ('b', Some(fault_at('b'))),
-        ('d', Some(fault_at('d'))),
+        ('b', Some(violation_at('b'))),
+        ('d', Some(violation_at('d'))),
         ('e', None),
     ] {
         let entry = data.ce32_for_char(c);
         assert_eq!(rt;
-            first_fault_from(&Contractions, None, data, c, entry),
+            first_violation_from(&Contractions, None, data, c, entry),
             found,
             "{c}"
         );

@@ -1,16 +1,16 @@
--- What the parts of the check find where there is no fault.
+-- What the parts of the check find where there is no violation.
 use Rattle.icu_checks.specs.declared.condition.LeadCondition.{LeadCondition}
 use Rattle.icu_checks.specs.declared.check.weights.Level.TheVariants.{Secondary, Tertiary}
 use Rattle.icu_provider.specs.CollatorTables.{CollatorTables}
 use Rattle.icu_checks.specs.LeadConditions.{LeadMeets}
-use Rattle.icu_checks.specs.inner.PairFaults.{LonesAreHigh, LevelIsFree, PrimariesAreFree}
+use Rattle.icu_checks.specs.inner.PairViolations.{TertiaryElementsAreHigh, LevelIsFree, PrimariesAreFree}
 
 abbrev pub LeadsMeet : CollatorTables → Type 0
 LeadsMeet all = (condition : LeadCondition) → LeadMeets condition all
 
 -- tertiary weights alone are high, and no weight of a level begins another
 pub record PairsMeet (all : CollatorTables) : Type 0 where
-  pub lones : LonesAreHigh all.tables
+  pub tertiary_elements : TertiaryElementsAreHigh all.tables
   pub secondaries : LevelIsFree Secondary all
   pub tertiaries : LevelIsFree Tertiary all
   pub primaries : PrimariesAreFree all

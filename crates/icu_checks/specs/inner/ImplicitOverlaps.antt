@@ -13,7 +13,7 @@ use Rattle.icu_checks.specs.declared.check.weights.WeightList.TheVariants.{Prima
 use Rattle.icu_provider.specs.CollatorTables.{CollatorTables}
 use Rattle.icu_checks.specs.LiveElements.{IsLiveBy}
 use Rattle.icu_checks.specs.inner.Levels.{bytes_at}
-use Rattle.icu_checks.specs.inner.PairFaults.{IsListedWeight}
+use Rattle.icu_checks.specs.inner.PairViolations.{IsListedWeight}
 
 unfoldable pub is_for_implicit : ℕ → Bool
 is_for_implicit e = elim (kind_of e) [ Implicit ↦ true | _ ↦ false ]

@@ -14,8 +14,8 @@ use Rattle.icu_provider.specs.Tables.{Tables}
 use Rattle.icu_checks.specs.declared.check.weights.WeightList.{WeightList}
 use Rattle.icu_checks.specs.declared.check.weights.WeightList.TheVariants.{Primaries, Secondaries, Tertiaries, TertiaryElements, WithSecondary}
 use Rattle.icu_provider.specs.CollatorTables.{CollatorTables}
-use Rattle.icu_checks.specs.ElementConditions.{is_lone}
-use Rattle.icu_checks.specs.LiveElements.{IsLiveBy, IsOfAccent}
+use Rattle.icu_checks.specs.ElementConditions.{is_tertiary_element}
+use Rattle.icu_checks.specs.LiveElements.{IsLiveBy, IsOfLiveDiacritic}
 
 -- A weight of two bytes with two zero bytes after it. Zero is none; the common weight needs no comparison, since its lead byte is
 -- its alone.
@@ -33,7 +33,7 @@ unfoldable pub weight_at : WeightList → Element → Option ℕ
 weight_at Primaries x = nonzero x.primary
 weight_at Secondaries x = left_aligned x.secondary
 weight_at Tertiaries x = left_aligned (tertiary_of x)
-weight_at TertiaryElements x = if is_lone x then Some (tertiary_of x) else None
+weight_at TertiaryElements x = if is_tertiary_element x then Some (tertiary_of x) else None
 weight_at WithSecondary x = if x.secondary == 0 then None else uncommon (tertiary_of x)
 
 -- an element that a table states for an entry that is live by it
@@ -46,7 +46,7 @@ pub record IsReadOfEntry (table : DataTable) (tables : Tables) (x : Element) : T
   pub member : Contains (final_elements (homed home entry) char) x
 
 abbrev pub IsReadBy : DataTable → Tables → Element → Type 0
-IsReadBy Diacritics tables x = IsOfAccent tables.diacritics x
+IsReadBy Diacritics tables x = IsOfLiveDiacritic tables.diacritics x
 IsReadBy table tables x = IsReadOfEntry table tables x
 
 -- a weight of such an element
@@ -73,6 +73,6 @@ IsJamoWeight list all place w =
     IsWeightAmong (weight_at list) all.tables.root (0x1100 + place) (live_from all.tables.root (slice_index all.tables.jamo place)) w
 
 -- the weight of the diacritic at a place
-pub record IsAccentWeight (list : WeightList) (all : CollatorTables) (place w : ℕ) : Type 0 where
+pub record IsDiacriticWeight (list : WeightList) (all : CollatorTables) (place w : ℕ) : Type 0 where
   pub kept : is_replaced_index place ≡ false
   pub weighs : weight_at list (of_secondary (slice_index all.tables.diacritics place)) ≡ Some w

@@ -2,7 +2,7 @@
 ghost use Rattle.std.specs.Prelude.{◌≡◌, ◌<◌, OnOk, length, slice_index};
 ghost use Rattle.icu_provider.specs.StoredTables.{jamo_of, diacritics_of};
 ghost use Rattle.icu_provider.specs.TableSets.{tables_in};
-ghost use Rattle.icu_checks.specs.inner.Weights.{Adds, IsWeightBy, IsJamoWeight, IsAccentWeight};
+ghost use Rattle.icu_checks.specs.inner.Weights.{Adds, IsWeightBy, IsJamoWeight, IsDiacriticWeight};
 
 use crate::check::lookups::jamo_char;
 use crate::check::weights::WeightList;
@@ -73,7 +73,7 @@ fn collect_jamo(
 }
 
 /// The weight of a diacritic.
-fn collect_accent(
+fn collect_diacritic(
     tables: TableSet<'_>,
     list: WeightList,
     place: usize,
@@ -81,7 +81,7 @@ fn collect_accent(
     weights: &mut Vec<u32>,
 ) -> Result<(), AllocError>
     requires secondary { secondary ≡ slice_index (diacritics_of tables.diacritics) place }
-    ensures { OnOk result (Adds (IsAccentWeight list (tables_in tables.entry) place) weights.old.items weights.new.items) }
+    ensures { OnOk result (Adds (IsDiacriticWeight list (tables_in tables.entry) place) weights.old.items weights.new.items) }
 {
     if is_replaced_index(place) {
         return Ok(());
@@ -92,7 +92,7 @@ fn collect_accent(
     Ok(())
 }
 
-fn collect_accents(
+fn collect_diacritics(
     tables: TableSet<'_>,
     list: WeightList,
     weights: &mut Vec<u32>,
@@ -100,7 +100,7 @@ fn collect_accents(
     ensures { OnOk result (Adds (IsWeightBy list DataTable.Diacritics (tables_in tables.entry).tables) weights.old.items weights.new.items) }
 {
     for (place, secondary) in tables.diacritics.secondaries().iter().enumerate() {
-        collect_accent(tables, list, place, *secondary, weights)?;
+        collect_diacritic(tables, list, place, *secondary, weights)?;
     }
     Ok(())
 }
@@ -118,7 +118,7 @@ pub(crate) fn collect(
         DataTable::Root => collect_root(tables, list, weights),
         DataTable::Jamo => collect_jamo(tables, list, weights),
         DataTable::Tailoring => collect_tailoring(tables, list, weights),
-        DataTable::Diacritics => collect_accents(tables, list, weights),
+        DataTable::Diacritics => collect_diacritics(tables, list, weights),
         DataTable::SpecialPrimaries | DataTable::Metadata | DataTable::Reordering => Ok(()),
     }
 }

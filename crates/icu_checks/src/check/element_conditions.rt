@@ -2,7 +2,7 @@ ghost use Rattle.std.specs.Prelude.{◌≡◌};
 ghost use Rattle.icu_entries.specs.Elements.{Element};
 ghost use Rattle.icu_checks.specs.Leads.{is_middle};
 ghost use Rattle.icu_provider.specs.TableSets.{tables_in};
-ghost use Rattle.icu_checks.specs.ElementConditions.{is_lone, is_high_lone, has_low_bytes, has_second_byte, primary_meets, element_meets};
+ghost use Rattle.icu_checks.specs.ElementConditions.{is_tertiary_element, is_high_tertiary_element, has_low_bytes, has_second_byte, primary_meets, element_meets};
 
 use crate::check::leads::is_middle;
 use crate::check::lookups::is_apart;
@@ -15,15 +15,15 @@ use icu_provider::reordering::lead_byte;
 pub(crate) const IMPLICIT_LEAD: u8 = 0xFE;
 
 /// Whether the element has a tertiary weight and no secondary weight.
-pub(crate) fn is_lone(element: CollationElement) -> bool
-    ensures { result ≡ is_lone element }
+pub(crate) fn is_tertiary_element(element: CollationElement) -> bool
+    ensures { result ≡ is_tertiary_element element }
 {
     element.secondary() == 0 && element.non_primary().tertiary() != 0
 }
 
 /// Whether it is in upper case, and its tertiary weight greater than the common one.
-fn is_high_lone(element: CollationElement) -> bool
-    ensures { result ≡ is_high_lone element }
+fn is_high_tertiary_element(element: CollationElement) -> bool
+    ensures { result ≡ is_high_tertiary_element element }
 {
     element.non_primary().case() == 0x8000 && element.non_primary().tertiary() > 0x500
 }
@@ -63,7 +63,7 @@ impl ElementCondition {
             }
             ElementCondition::Width
             | ElementCondition::BackwardLead
-            | ElementCondition::LoneTertiary => true,
+            | ElementCondition::TertiaryElement => true,
         }
     }
 
@@ -76,7 +76,8 @@ impl ElementCondition {
             ElementCondition::BackwardLead => {
                 tables.is_forward() || element.secondary() >> 8 != 2
             }
-            ElementCondition::LoneTertiary => !is_lone(element) || is_high_lone(element),
+            ElementCondition::TertiaryElement => !is_tertiary_element(element)
+                || is_high_tertiary_element(element),
             _ => element.primary() == 0 || self.primary_meets(tables, element.primary()),
         }
     }

@@ -1,26 +1,26 @@
-//! The faults of what is live in one table.
+//! The violations of what is live in one table.
 ghost use Rattle.std.specs.Prelude.{◌≡◌, true, Option, IsTrue};
-ghost use Rattle.icu_checks.specs.declared.fault.Fault.{Fault};
+ghost use Rattle.icu_checks.specs.declared.violation.Violation.{Violation};
 ghost use Rattle.icu_entries.specs.declared.error.DataTable.{DataTable};
 ghost use Rattle.icu_entries.specs.Elements.{Element};
 ghost use Rattle.icu_data.specs.DataConditions.{is_readable};
 ghost use Rattle.icu_data.specs.StoredData.{data_of};
 ghost use Rattle.icu_provider.specs.CollatorTables.{CollatorTables};
 ghost use Rattle.icu_provider.specs.TableSets.{tables_in};
-ghost use Rattle.icu_checks.specs.inner.EntryFaults.{first_failing_element, element_fault, after_element, judged_element, elements_fault, rows_fault, entry_fault, ImplicitPasses};
+ghost use Rattle.icu_checks.specs.inner.EntryViolations.{first_failing_element, element_violation, after_element, judged_element, elements_violation, rows_violation, entry_violation, ImplicitPasses};
 
 use crate::check::lead_conditions::numeric_lead;
 use crate::condition::{Condition, ElementCondition, LeadCondition};
-use crate::fault::{Fault, later};
+use crate::violation::{Violation, later};
 use icu_data::CollationData;
 use icu_data::element_walk::{VisitElement, visit_elements};
-use icu_data::fault::{Judge, earlier};
+use icu_data::violation::{Judge, earlier};
 use icu_entries::{CollationElement, CollationElement32, DataTable};
 use icu_provider::TableSet;
 use std::convert::Infallible;
 
 /// The first condition that an element fails, in the order in which a refusal names them.
-#[tactic(auto, unfolding(crate::specs::inner::EntryFaults::first_failing_element))]
+#[tactic(auto, unfolding(crate::specs::inner::EntryViolations::first_failing_element))]
 fn first_failing_element(
     tables: TableSet<'_>,
     element: CollationElement,
@@ -31,8 +31,8 @@ fn first_failing_element(
         Some(ElementCondition::Width)
     } else if !ElementCondition::BackwardLead.holds(tables, element) {
         Some(ElementCondition::BackwardLead)
-    } else if !ElementCondition::LoneTertiary.holds(tables, element) {
-        Some(ElementCondition::LoneTertiary)
+    } else if !ElementCondition::TertiaryElement.holds(tables, element) {
+        Some(ElementCondition::TertiaryElement)
     } else if !ElementCondition::MiddleLead.holds(tables, element) {
         Some(ElementCondition::MiddleLead)
     } else if !ElementCondition::ImplicitLength.holds(tables, element) {
@@ -48,16 +48,16 @@ fn first_failing_element(
     }
 }
 
-/// That condition as a fault of an element of a table.
-pub(crate) fn element_fault(
+/// That condition as a violation of an element of a table.
+pub(crate) fn element_violation(
     tables: TableSet<'_>,
     table: DataTable,
     element: CollationElement,
-) -> Option<Fault>
-    ensures { result ≡ element_fault (tables_in tables.entry) table element }
+) -> Option<Violation>
+    ensures { result ≡ element_violation (tables_in tables.entry) table element }
 {
     match first_failing_element(tables, element) {
-        Some(condition) => Some(Fault {
+        Some(condition) => Some(Violation {
             condition: Condition::Element(condition),
             table: later(table, condition.table()),
         }),
@@ -65,42 +65,45 @@ pub(crate) fn element_fault(
     }
 }
 
-/// A visitor that keeps the first fault of elements.
+/// A visitor that keeps the first violation of elements.
 #[derive(Drop)]
-struct FirstElementFault<'d> {
+struct FirstElementViolation<'d> {
     tables: TableSet<'d>,
     table: DataTable,
-    first: Option<Fault>,
+    first: Option<Violation>,
 }
 
-impl<'d> VisitElement for FirstElementFault<'d> {
+impl<'d> VisitElement for FirstElementViolation<'d> {
     type Refusal = Infallible;
 
-    ghost Seen = { (CollatorTables × DataTable) × Option Fault };
+    ghost Seen = { (CollatorTables × DataTable) × Option Violation };
 
     ghost seen = { λ v. ((tables_in v.tables, v.table), v.first) };
 
     ghost after = { judged_element };
 
     fn visit(&mut self, element: CollationElement) -> Result<(), Infallible> {
-        self.first = earlier(self.first, element_fault(self.tables, self.table, element));
+        self.first = earlier(
+            self.first,
+            element_violation(self.tables, self.table, element),
+        );
         Ok(())
     }
 }
 
-/// The first fault of the elements that an entry of a table gives with a character.
-#[tactic(auto, using(crate::proofs::EntryFaultLemmas::judged_elements))]
-fn elements_fault(
+/// The first violation of the elements that an entry of a table gives with a character.
+#[tactic(auto, using(crate::proofs::EntryViolationLemmas::judged_elements))]
+fn elements_violation(
     tables: TableSet<'_>,
     table: DataTable,
     home: CollationData<'_>,
     c: char,
     entry: CollationElement32,
-) -> Option<Fault>
+) -> Option<Violation>
     requires { IsTrue (is_readable (data_of home) c entry) }
-    ensures { result ≡ elements_fault (tables_in tables.entry) table (data_of home.entry) c entry }
+    ensures { result ≡ elements_violation (tables_in tables.entry) table (data_of home.entry) c entry }
 {
-    let mut visitor = FirstElementFault {
+    let mut visitor = FirstElementViolation {
         tables,
         table,
         first: None,
@@ -111,26 +114,26 @@ fn elements_fault(
     }
 }
 
-/// The condition on the rows of a prefix as a fault.
+/// The condition on the rows of a prefix as a violation.
 #[tactic(auto, unfolding(icu_provider::specs::TableSets::tables_in))]
-fn rows_fault(
+fn rows_violation(
     tables: TableSet<'_>,
     home: CollationData<'_>,
     entry: CollationElement32,
-) -> Option<Fault>
-    ensures { result ≡ rows_fault (tables_in tables.entry) (data_of home.entry) entry }
+) -> Option<Violation>
+    ensures { result ≡ rows_violation (tables_in tables.entry) (data_of home.entry) entry }
 {
     if home.avoids_diacritics(tables.diacritics.secondaries().len(), entry) {
         None
     } else {
-        Some(Fault {
+        Some(Violation {
             condition: Condition::PrefixRows,
             table: DataTable::Diacritics,
         })
     }
 }
 
-/// What finds the faults of the entries that are live in a table, by all tables of a collator. Entries for implicit weights, a million
+/// What finds the violations of the entries that are live in a table, by all tables of a collator. Entries for implicit weights, a million
 /// of them, are passed over where reordering leaves these weights a lead byte of their own.
 #[derive(Drop)]
 pub(crate) struct EntryJudge<'d> {
@@ -150,22 +153,27 @@ pub(crate) fn implicit_passes(tables: TableSet<'_>) -> bool
 }
 
 impl<'d> Judge for EntryJudge<'d> {
-    type Fault = Fault;
+    type Violation = Violation;
 
-    ghost fault = { λ j home c e. entry_fault (tables_in j.tables) j.table home c e };
+    ghost violation = { λ j home c e. entry_violation (tables_in j.tables) j.table home c e };
 
-    #[tactic(auto, unfolding(crate::specs::inner::EntryFaults::entry_fault))]
-    fn fault(&self, home: CollationData<'_>, c: char, entry: CollationElement32) -> Option<Fault> {
+    #[tactic(auto, unfolding(crate::specs::inner::EntryViolations::entry_violation))]
+    fn violation(
+        &self,
+        home: CollationData<'_>,
+        c: char,
+        entry: CollationElement32,
+    ) -> Option<Violation> {
         let own = match home.first_failing(c, entry) {
-            Some(condition) => Some(Fault {
+            Some(condition) => Some(Violation {
                 condition: Condition::Entry(condition),
                 table: self.table,
             }),
             None => None,
         };
-        let found = earlier(own, rows_fault(self.tables, home, entry));
+        let found = earlier(own, rows_violation(self.tables, home, entry));
         let of_elements = if home.is_readable(c, entry) {
-            elements_fault(self.tables, self.table, home, c, entry)
+            elements_violation(self.tables, self.table, home, c, entry)
         } else {
             None
         };

@@ -7,19 +7,19 @@ ghost use Rattle.std.specs.List.{list_any};
 ghost use Rattle.icu_data.specs.Live.{live_from};
 ghost use Rattle.icu_data.specs.StoredData.{data_of};
 ghost use Rattle.icu_provider.specs.TableSets.{tables_in};
-ghost use Rattle.icu_checks.specs.inner.Faults.{IsTrueFault};
-ghost use Rattle.icu_checks.specs.inner.PairFaults.{AreListed, IsListedWeight};
+ghost use Rattle.icu_checks.specs.inner.Violations.{IsTrueViolation};
+ghost use Rattle.icu_checks.specs.inner.PairViolations.{AreListed, IsListedWeight};
 ghost use Rattle.icu_checks.specs.inner.ImplicitOverlaps.{is_for_implicit, IsImplicitBy, IsImplicitClash};
 
 use crate::check::collecting::collect;
 use crate::check::element_conditions::IMPLICIT_LEAD;
 use crate::check::overlap::{Overlap, are_overlapping, is_beginning};
-use crate::check::overlap_faults::LIVE_TABLES;
 use crate::check::overlap_tables::{clash_table, table_of};
+use crate::check::overlap_violations::LIVE_TABLES;
 use crate::check::weight_list::sort_and_dedup;
 use crate::check::weights::{Level, WeightList};
 use crate::condition::{Condition, LeadCondition, PairCondition};
-use crate::fault::Fault;
+use crate::violation::Violation;
 use icu_data::CollationData;
 use icu_data::walk::{Visit, visit_from};
 use icu_entries::{CollationElement, CollationElement32, DataTable, EntryKind};
@@ -29,7 +29,7 @@ use std::alloc::{AllocError, Global};
 use std::convert::Infallible;
 
 /// A primary weight of a table that begins the implicit weight of a character, which is live by another table or the same one.
-#[derive(Clone, Copy)]
+#[derive(Ctertiary_element, Copy)]
 pub(crate) struct ImplicitClash {
     pub(crate) primary: u32,
     pub(crate) implicit: u32,
@@ -230,21 +230,21 @@ fn first_clash(
     None
 }
 
-/// The fault of such a clash, named by the first table by which the weight is live.
-fn clash_fault(
+/// The violation of such a clash, named by the first table by which the weight is live.
+fn clash_violation(
     alloc: Global,
     tables: TableSet<'_>,
     clash: ImplicitClash,
-) -> Result<Fault, AllocError>
+) -> Result<Violation, AllocError>
     requires { IsImplicitClash (tables_in tables) clash }
-    ensures { IfOk result (IsTrueFault (tables_in tables.entry)) }
+    ensures { IfOk result (IsTrueViolation (tables_in tables.entry)) }
 {
     let own = table_of(alloc, tables, WeightList::Primaries, clash.primary)?;
     let overlap = Overlap {
         first: clash.primary,
         second: clash.implicit,
     };
-    Ok(Fault {
+    Ok(Violation {
         condition: Condition::Pair(PairCondition::Primaries),
         table: clash_table(Level::Primary, own, clash.table, overlap),
     })
@@ -256,29 +256,29 @@ fn named_clash(
     alloc: Global,
     tables: TableSet<'_>,
     clash: ImplicitClash,
-) -> Result<Fault, AllocError>
+) -> Result<Violation, AllocError>
     requires { IsImplicitClash (tables_in tables) clash }
-    ensures { IfOk result (IsTrueFault (tables_in tables.entry)) }
+    ensures { IfOk result (IsTrueViolation (tables_in tables.entry)) }
 {
     let mut weights = Vec::new(alloc);
     for (index, table) in LIVE_TABLES.iter().enumerate() {
         collect(tables, WeightList::Primaries, *table, &mut weights)?;
         sort_and_dedup(&mut weights);
         if let Some(found) = first_clash(tables, &LIVE_TABLES[..index + 1], &weights, true) {
-            return clash_fault(alloc, tables, found);
+            return clash_violation(alloc, tables, found);
         }
     }
-    clash_fault(alloc, tables, clash)
+    clash_violation(alloc, tables, clash)
 }
 
-/// The first fault of primary weights that begin an implicit one.
-pub(crate) fn implicit_fault(
+/// The first violation of primary weights that begin an implicit one.
+pub(crate) fn implicit_violation(
     alloc: Global,
     tables: TableSet<'_>,
     weights: &[u32],
-) -> Result<Option<Fault>, AllocError>
+) -> Result<Option<Violation>, AllocError>
     requires { AreListed WeightList.Primaries (tables_in tables).tables weights.now }
-    ensures { IfOk result (λ found. IfSome found (IsTrueFault (tables_in tables.entry))) }
+    ensures { IfOk result (λ found. IfSome found (IsTrueViolation (tables_in tables.entry))) }
 {
     match first_clash(tables, &LIVE_TABLES, weights, false) {
         Some(clash) => Ok(Some(named_clash(alloc, tables, clash)?)),

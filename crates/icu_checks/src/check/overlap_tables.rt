@@ -1,17 +1,17 @@
 //! The tables that an overlap of two weights is named by.
 ghost use Rattle.std.specs.Prelude.{◌≡◌, ◌↔◌, IfOk, IsTrue};
 ghost use Rattle.icu_provider.specs.TableSets.{tables_in};
-ghost use Rattle.icu_checks.specs.inner.Faults.{IsTrueFault};
+ghost use Rattle.icu_checks.specs.inner.Violations.{IsTrueViolation};
 ghost use Rattle.icu_checks.specs.inner.Levels.{list_of};
 ghost use Rattle.icu_checks.specs.inner.Weights.{IsWeightBy};
-ghost use Rattle.icu_checks.specs.inner.PairFaults.{IsListedWeight, AreClashing, IsClashTable};
+ghost use Rattle.icu_checks.specs.inner.PairViolations.{IsListedWeight, AreClashing, IsClashTable};
 
 use crate::check::collecting::collect;
 use crate::check::overlap::{Overlap, are_overlapping};
 use crate::check::weight_list::contains;
 use crate::check::weights::{Level, WeightList};
 use crate::condition::Condition;
-use crate::fault::{Fault, later};
+use crate::violation::{Violation, later};
 use icu_entries::DataTable;
 use icu_provider::TableSet;
 use std::alloc::{AllocError, Global};
@@ -74,19 +74,19 @@ pub(crate) fn clash_table(
     }
 }
 
-/// The fault of two weights of which one begins the other, named by the first tables by which they are live.
-pub(crate) fn clash_fault(
+/// The violation of two weights of which one begins the other, named by the first tables by which they are live.
+pub(crate) fn clash_violation(
     alloc: Global,
     tables: TableSet<'_>,
     level: Level,
     overlap: Overlap,
-) -> Result<Fault, AllocError>
+) -> Result<Violation, AllocError>
     requires { AreClashing level (tables_in tables) overlap.first overlap.second }
-    ensures { IfOk result (IsTrueFault (tables_in tables.entry)) }
+    ensures { IfOk result (IsTrueViolation (tables_in tables.entry)) }
 {
     let first = table_of(alloc, tables, level.list(), overlap.first)?;
     let second = table_of(alloc, tables, level.list(), overlap.second)?;
-    Ok(Fault {
+    Ok(Violation {
         condition: Condition::Pair(level.condition()),
         table: clash_table(level, first, second, overlap),
     })

@@ -5,14 +5,14 @@ ghost use Rattle.icu_provider.specs.TableSets.{tables_in};
 ghost use Rattle.icu_checks.specs.inner.Weights.{left_aligned, nonzero, uncommon};
 ghost use Rattle.icu_checks.specs.inner.Levels.{list_of, overlap_condition, reordering_at};
 
-use crate::check::element_conditions::is_lone;
+use crate::check::element_conditions::is_tertiary_element;
 use crate::condition::PairCondition;
 use icu_data::live_weights::Weigh;
 use icu_entries::CollationElement;
 use icu_provider::{CollationReordering, TableSet};
 
 /// A level of weights, none of which may begin another.
-#[derive(Clone, Copy)]
+#[derive(Ctertiary_element, Copy)]
 pub enum Level {
     Primary,
     Secondary,
@@ -20,7 +20,7 @@ pub enum Level {
 }
 
 /// Which weights are compared with one another.
-#[derive(Clone, Copy)]
+#[derive(Ctertiary_element, Copy)]
 pub enum WeightList {
     /// Primary weights.
     Primaries,
@@ -111,7 +111,7 @@ impl Weigh for WeightList {
             WeightList::Secondaries => left_aligned(element.secondary()),
             WeightList::Tertiaries => left_aligned(tertiary),
             WeightList::TertiaryElements => {
-                if is_lone(element) {
+                if is_tertiary_element(element) {
                     Some(u32::from(tertiary))
                 } else {
                     None

@@ -6,16 +6,16 @@ use Rattle.icu_data.specs.Data.{Data, Row, homed}
 use Rattle.icu_data.specs.Final.{final_elements}
 use Rattle.icu_data.specs.LiveWeights.{is_stated}
 use Rattle.icu_entries.specs.ElementConditions.{element_meets}
-use Rattle.icu_data.specs.Faults.{earlier}
+use Rattle.icu_data.specs.Violations.{earlier}
 use Rattle.icu_data.specs.Walks.{after_all}
 
 -- a condition and whether each element so far meets it, after one more
 abbrev pub all_meet : ElementCondition × Bool → Element → ElementCondition × Bool
 all_meet s x = (s.0, s.1 && element_meets s.0 x)
 
--- a judge and the first fault so far, after one more entry
+-- a judge and the first violation so far, after one more entry
 abbrev pub judged : {J F : Type 0} → (F → ℕ) → (J → Data → ℕ → ℕ → Option F) → J × Option F → Data → ℕ → ℕ → J × Option F
-judged rank fault s home c e = (s.0, earlier rank s.1 (fault s.0 home c e))
+judged rank violation s home c e = (s.0, earlier rank s.1 (violation s.0 home c e))
 
 -- after what each row's entry leads to
 abbrev pub after_rows : {V : Type 0} → (V → Data → ℕ → ℕ → V) → (ℕ → List ℕ) → Data → ℕ → List Row → V → V

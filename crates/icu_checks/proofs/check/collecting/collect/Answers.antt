@@ -13,4 +13,4 @@ pub returns-in-Tailoring : goal.returns-in-Tailoring
 returns-in-Tailoring c = subst (λ t. OnOk c.collect_tailoring.result (Adds (IsWeightBy c.args.list t (tables_in c.args.tables).tables) c.args.weights.now.items c.collect_tailoring.new.weights.items)) (sym c.in-Tailoring.is) c.collect_tailoring.ensures
 
 pub returns-in-Diacritics : goal.returns-in-Diacritics
-returns-in-Diacritics c = subst (λ t. OnOk c.collect_accents.result (Adds (IsWeightBy c.args.list t (tables_in c.args.tables).tables) c.args.weights.now.items c.collect_accents.new.weights.items)) (sym c.in-Diacritics.is) c.collect_accents.ensures
+returns-in-Diacritics c = subst (λ t. OnOk c.collect_diacritics.result (Adds (IsWeightBy c.args.list t (tables_in c.args.tables).tables) c.args.weights.now.items c.collect_diacritics.new.weights.items)) (sym c.in-Diacritics.is) c.collect_diacritics.ensures

@@ -1,7 +1,7 @@
 use Rattle.std.proofs.Common.{refl, sym, subst}
 use Rattle.icu_checks.specs.declared.check.weights.WeightList.TheVariants.{Primaries}
 use Rattle.icu_provider.specs.TableSets.{tables_in}
-use Rattle.icu_checks.specs.inner.PairFaults.{AreListed}
+use Rattle.icu_checks.specs.inner.PairViolations.{AreListed}
 use Rattle.icu_checks.proofs.WeightListLemmas.{sorted_listed}
 use Rattle.icu_checks.proofs.check.implicit_overlaps.named_clash.Goals as goal
 

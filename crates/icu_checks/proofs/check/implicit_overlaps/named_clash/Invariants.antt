@@ -1,6 +1,6 @@
 use Rattle.icu_checks.specs.declared.check.weights.WeightList.TheVariants.{Primaries}
 use Rattle.icu_provider.specs.TableSets.{tables_in}
-use Rattle.icu_checks.specs.inner.PairFaults.{AreListed}
+use Rattle.icu_checks.specs.inner.PairViolations.{AreListed}
 use Rattle.icu_checks.proofs.check.implicit_overlaps.named_clash.Given as goal
 
 abbrev pub invariant-loop-index : goal.invariant-loop-index

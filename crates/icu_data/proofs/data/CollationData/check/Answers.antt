@@ -1,6 +1,6 @@
 use Rattle.std.proofs.Common.{true, refl, sym}
 use Rattle.icu_data.specs.StoredData.{data_of}
-use Rattle.icu_data.proofs.FaultLemmas.{good_data, refutes, not_before}
+use Rattle.icu_data.proofs.ViolationLemmas.{good_data, refutes, not_before}
 use Rattle.icu_data.proofs.data.CollationData.check.Goals as goal
 
 pub returns-in-None-clause-accepts : goal.returns-in-None-clause-accepts

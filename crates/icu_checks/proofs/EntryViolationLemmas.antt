@@ -1,0 +1,155 @@
+-- The violations of entries and elements are true, and where there is none every condition is met.
+use Rattle.std.proofs.Common.{◌≡◌, ℕ, Bool, true, false, not, ◌&&◌, List, [], ◌∷◌, Option, Some, None, IfSome, IsTrue, if◌then◌else◌, fold, option_map, length, refl}
+use Rattle.std.proofs.lemmas.Bool.{and_parts}
+use Rattle.std.specs.List.{AllByRecursion, Contains}
+use Rattle.icu_entries.specs.declared.error.DataTable.{DataTable}
+use Rattle.icu_entries.specs.declared.error.DataTable.TheVariants.{Root, Jamo, SpecialPrimaries, Metadata, Tailoring, Reordering, Diacritics}
+use Rattle.icu_data.specs.declared.live_condition.LiveCondition.{LiveCondition}
+use Rattle.icu_data.specs.declared.live_condition.LiveCondition.TheVariants as live
+use Rattle.icu_entries.specs.Elements.{Element}
+use Rattle.icu_data.specs.Data.{Data, homed}
+use Rattle.icu_data.specs.Final.{final_elements}
+use Rattle.icu_data.specs.DataConditions.{is_inside, has_known_members, fits_offset, avoids_diacritics, is_readable}
+use Rattle.icu_entries.specs.EntryConditions.{has_known_byte}
+use Rattle.icu_data.specs.Violations.{earlier}
+use Rattle.icu_data.specs.LiveConditions.{meets, first_failing}
+use Rattle.icu_data.proofs.ViolationLemmas.{find_passes, find_none, not_false, not_true, weaker_some, passes_meets, failing_fails, earlier-none, earlier-keeps}
+use Rattle.icu_data.proofs.ListLemmas.{weaker, all_members}
+use Rattle.icu_checks.specs.declared.condition.Condition.TheVariants as conditions
+use Rattle.icu_checks.specs.declared.condition.ElementCondition.{ElementCondition}
+use Rattle.icu_checks.specs.declared.condition.ElementCondition.TheVariants.{Width, BackwardLead, TertiaryElement, MiddleLead, ImplicitLength, NumericLead, SharedLead, SecondByte}
+use Rattle.icu_checks.specs.declared.violation.Violation.{Violation}
+use Rattle.icu_provider.specs.CollatorTables.{CollatorTables}
+use Rattle.icu_checks.specs.LiveElements.{IsLiveBy, IsElementBy}
+use Rattle.icu_checks.specs.ElementConditions.{element_meets, element_conditions}
+use Rattle.icu_checks.specs.inner.Violations.{violation_rank, IsTrueViolation}
+use Rattle.icu_checks.specs.inner.EntryViolations.{of_element, first_failing_element, element_violation, after_element, judged_element, elements_violation, of_entry, rows_violation, entry_violation}
+
+pub judged_elements : (all : CollatorTables) (table : DataTable) (best : Option Violation) (xs : List Element) → fold judged_element ((all, table), best) xs ≡ ((all, table), fold (after_element all table) best xs)
+judged_elements all table best [] = refl
+judged_elements all table best (x ∷ xs) = judged_elements all table (after_element all table best x) xs
+
+clash : (b : Bool) → b ≡ false → IsTrue b → ⊥
+clash true f t = cc
+clash false f t = cc
+
+no_map : {X Y : Type 0} (f : X → Y) (o : Option X) → option_map f o ≡ None → o ≡ None
+no_map f None h = refl
+no_map f (Some x) h = cc
+
+map_some : {X Y : Type 0} (f : X → Y) (P : X → Type 0) (Q : Y → Type 0) → ((x : X) → P x → Q (f x)) → (o : Option X) → IfSome o P → IfSome (option_map f o) Q
+map_some f P Q g None h = tt
+map_some f P Q g (Some x) h = g x h
+
+-- ---- one element
+
+module _ (all : CollatorTables) where
+  abbrev pub MeetsAll : Element → Type 0
+  MeetsAll x = (condition : ElementCondition) → IsTrue (element_meets condition all x)
+
+  listed : (x : Element) → AllByRecursion (λ condition. not (element_meets condition all x) ≡ false) element_conditions → (condition : ElementCondition) → IsTrue (element_meets condition all x)
+  listed x each Width = not_false _ each.0
+  listed x each BackwardLead = not_false _ each.1.0
+  listed x each TertiaryElement = not_false _ each.1.1.0
+  listed x each MiddleLead = not_false _ each.1.1.1.0
+  listed x each ImplicitLength = not_false _ each.1.1.1.1.0
+  listed x each NumericLead = not_false _ each.1.1.1.1.1.0
+  listed x each SharedLead = not_false _ each.1.1.1.1.1.1.0
+  listed x each SecondByte = not_false _ each.1.1.1.1.1.1.1.0
+
+  pub passes_element : (x : Element) → first_failing_element all x ≡ None → (condition : ElementCondition) → IsTrue (element_meets condition all x)
+  unfolding first_failing_element
+  passes_element x h = listed x (find_none (λ condition. not (element_meets condition all x)) element_conditions h)
+
+  fails_element : (x : Element) → IfSome (first_failing_element all x) (λ condition. element_meets condition all x ≡ false)
+  unfolding first_failing_element
+  fails_element x =
+      weaker_some _ (λ condition. element_meets condition all x ≡ false) (λ condition h. not_true (element_meets condition all x) h) _
+      (find_passes (λ condition. not (element_meets condition all x)) element_conditions)
+
+  pub element_true : (table : DataTable) (x : Element) → IsElementBy table all.tables x → IfSome (element_violation all table x) (IsTrueViolation all)
+  element_true table x is =
+      map_some (of_element table) (λ condition. element_meets condition all x ≡ false) (IsTrueViolation all)
+      (λ condition fails meets. clash (element_meets condition all x) fails (meets table refl x is)) (first_failing_element all x) (fails_element x)
+
+  elements_true : (table : DataTable) (best : Option Violation) (xs : List Element) → IfSome best (IsTrueViolation all) → AllByRecursion (IsElementBy table all.tables) xs → IfSome (fold (after_element all table) best xs) (IsTrueViolation all)
+  elements_true table best [] h is = h
+  elements_true table best (x ∷ xs) h is =
+      elements_true table (after_element all table best x) xs (earlier-keeps violation_rank (IsTrueViolation all) best (element_violation all table x) h (element_true table x is.0)) is.1
+
+  elements_none : (table : DataTable) (best : Option Violation) (xs : List Element) → fold (after_element all table) best xs ≡ None → (best ≡ None) × AllByRecursion MeetsAll xs
+  elements_none table best [] h = (h, tt)
+  elements_none table best (x ∷ xs) h =
+      let later = elements_none table (after_element all table best x) xs h in
+      let both = earlier-none violation_rank best (element_violation all table x) later.0 in
+      (both.0, (passes_element x (no_map (of_element table) (first_failing_element all x) both.1), later.1))
+
+  -- ---- one entry
+
+  pub record EntryPasses (home : Data) (c e : ℕ) : Type 0 where
+    pub own : (condition : LiveCondition) → IsTrue (meets condition home c e)
+    pub rows : IsTrue (avoids_diacritics (length all.tables.diacritics) home e)
+    pub elements : AllByRecursion MeetsAll (final_elements (homed home e) c)
+
+  no_rows : (b : Bool) (f : Violation) → (if b then None else Some f) ≡ None → IsTrue b
+  no_rows true f h = refl
+  no_rows false f h = cc
+
+  read_none : (b : Bool) (o : Option Violation) → IsTrue b → (if b then o else None) ≡ None → o ≡ None
+  read_none true o t h = h
+  read_none false o t h = cc
+
+  all_three : (a b d : Bool) → IsTrue a → IsTrue b → IsTrue d → IsTrue (a && b && d)
+  all_three true true true p q r = refl
+  all_three false b d p q r = cc
+  all_three true false d p q r = cc
+  all_three true true false p q r = cc
+
+  pub readable : (home : Data) (c e : ℕ) → ((condition : LiveCondition) → IsTrue (meets condition home c e)) → IsTrue (is_readable home c e)
+  unfolding is_readable
+  readable home c e own = all_three (is_inside home e) (has_known_members home e) (fits_offset home c e) (own live.Indices) (and_parts (has_known_byte e) (has_known_members home e) (own live.Bytes)).1 (own live.Offsets)
+
+  pub entry_none : (table : DataTable) (home : Data) (c e : ℕ) → entry_violation all table home c e ≡ None → EntryPasses home c e
+  unfolding entry_violation
+  entry_none table home c e h =
+      let of_entries = earlier violation_rank (option_map (of_entry table) (first_failing home c e)) (rows_violation all home e) in
+      let both = earlier-none violation_rank of_entries _ h in
+      let two = earlier-none violation_rank (option_map (of_entry table) (first_failing home c e)) (rows_violation all home e) both.0 in
+      let own = passes_meets home c e (no_map (of_entry table) (first_failing home c e) two.0) in
+      record {
+        own = own;
+        rows = no_rows (avoids_diacritics (length all.tables.diacritics) home e) _ two.1;
+        elements = (elements_none table None (final_elements (homed home e) c) (read_none (is_readable home c e) (elements_violation all table home c e) (readable home c e own) both.1)).1;
+      }
+
+  element_by : (table : DataTable) (home : Data) (c e : ℕ) (x : Element) → IsLiveBy table all.tables home c e → Contains (final_elements (homed home e) c) x → IsElementBy table all.tables x
+  element_by Root home c e x is given = record { home = home; char = c; entry = e; live = is; member = given }
+  element_by Jamo home c e x is given = record { home = home; char = c; entry = e; live = is; member = given }
+  element_by Tailoring home c e x is given = record { home = home; char = c; entry = e; live = is; member = given }
+  element_by SpecialPrimaries home c e x is given = absurd is
+  element_by Metadata home c e x is given = absurd is
+  element_by Reordering home c e x is given = absurd is
+  element_by Diacritics home c e x is given = absurd is
+
+  rows_true : (table : DataTable) (home : Data) (c e : ℕ) → IsLiveBy table all.tables home c e → IfSome (rows_violation all home e) (IsTrueViolation all)
+  rows_true table home c e is = by_test (avoids_diacritics (length all.tables.diacritics) home e) refl
+    where
+      by_test : (b : Bool) → avoids_diacritics (length all.tables.diacritics) home e ≡ b → IfSome (if b then None else Some (record { condition = conditions.PrefixRows; table = Diacritics })) (IsTrueViolation all)
+      by_test true h = tt
+      by_test false h = λ meets. clash (avoids_diacritics (length all.tables.diacritics) home e) h (meets refl table home c e is)
+
+  read_true : (b : Bool) (o : Option Violation) → IfSome o (IsTrueViolation all) → IfSome (if b then o else None) (IsTrueViolation all)
+  read_true true o h = h
+  read_true false o h = tt
+
+  pub entry_true : (table : DataTable) (home : Data) (c e : ℕ) → IsLiveBy table all.tables home c e → IfSome (entry_violation all table home c e) (IsTrueViolation all)
+  unfolding entry_violation
+  entry_true table home c e is =
+      let own : IfSome (option_map (of_entry table) (first_failing home c e)) (IsTrueViolation all) =
+      map_some (of_entry table) (λ condition. meets condition home c e ≡ false) (IsTrueViolation all)
+      (λ condition fails each. clash (meets condition home c e) fails (each home c e is)) (first_failing home c e) (failing_fails home c e) in
+      let given : AllByRecursion (IsElementBy table all.tables) (final_elements (homed home e) c) =
+      weaker (Contains (final_elements (homed home e) c)) (IsElementBy table all.tables) (λ x member. element_by table home c e x is member) _ (all_members (final_elements (homed home e) c)) in
+      earlier-keeps violation_rank (IsTrueViolation all) _ _
+      (earlier-keeps violation_rank (IsTrueViolation all) _ _ own (rows_true table home c e is))
+      (read_true (is_readable home c e) (elements_violation all table home c e) (elements_true table None (final_elements (homed home e) c) tt given))

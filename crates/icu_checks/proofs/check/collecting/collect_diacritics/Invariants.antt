@@ -1,0 +1,7 @@
+use Rattle.icu_provider.specs.TableSets.{tables_in}
+use Rattle.icu_checks.specs.inner.Weights.{Adds, IsBelow, IsDiacriticWeight}
+use Rattle.icu_checks.proofs.check.collecting.collect_diacritics.Given as goal
+
+-- the weights of the places so far were added
+abbrev pub invariant-loop-place : goal.invariant-loop-place
+invariant-loop-place l = Adds (IsBelow (IsDiacriticWeight l.fn.list (tables_in l.fn.tables)) l.place) l.fn.weights.items l.weights.items

@@ -1,7 +1,0 @@
-use Rattle.icu_provider.specs.TableSets.{tables_in}
-use Rattle.icu_checks.specs.inner.Levels.{list_of}
-use Rattle.icu_checks.specs.inner.PairFaults.{AreListed}
-use Rattle.icu_checks.proofs.check.overlap_faults.named_overlap.Given as goal
-
-abbrev pub invariant-loop-table : goal.invariant-loop-table
-invariant-loop-table l = AreListed (list_of l.level) (tables_in l.tables).tables l.weights.items

@@ -1,0 +1,23 @@
+use Rattle.std.proofs.Common.{subst}
+use Rattle.icu_provider.specs.TableSets.{tables_in}
+use Rattle.icu_checks.specs.inner.Violations.{IsTrueViolation}
+use Rattle.icu_checks.specs.inner.PairViolations.{AreAlike}
+use Rattle.icu_checks.proofs.ViolationPairs.{both_none, either_true}
+use Rattle.icu_checks.proofs.check.primary_violations.primary_violation.Goals as goal
+
+pub returns : goal.returns
+returns c =
+    let all = tables_in c.args.tables in
+    let T = IsTrueViolation all in
+    record {
+      none = λ h.
+          let last = both_none _ _ _ c.earlier-2.ensures h in
+          let first = both_none _ _ _ c.earlier.ensures last.0 in
+          record {
+            weights = c.in_ok-weights.weights.items;
+            all_held = c.in_ok-weights.ensures.weights.all;
+            free = c.in_ok-overlap.ensures.none first.0;
+            alike = subst (AreAlike all) c.deref.ensures.value (c.compression_violation-unlike.ensures.none last.1);
+          };
+      some = either_true T _ _ _ c.earlier-2.ensures (either_true T _ _ _ c.earlier.ensures c.in_ok-overlap.ensures.some c.in_ok-implicit.ensures) c.compression_violation-unlike.ensures.some;
+    }

@@ -1,0 +1,80 @@
+ghost use Rattle.std.specs.Prelude.{◌≡◌, ◌<◌};
+ghost use Rattle.icu_checks.specs.inner.Violations.{violation_rank};
+ghost use Rattle.icu_checks.specs.GoodTables.{table_rank, kind_of, later, table_of_element, table_of_lead};
+
+use crate::condition::{Condition, ElementCondition, LeadCondition};
+use icu_data::violation::Ranked;
+use icu_entries::{DataError, DataTable};
+
+/// A condition that fails, and the table by which it is named.
+#[derive(Ctertiary_element, Copy)]
+pub(crate) struct Violation {
+    pub condition: Condition,
+    pub table: DataTable,
+}
+
+fn table_rank(table: DataTable) -> u32
+    ensures value { result ≡ table_rank table }
+    ensures bound { result < 8 }
+{
+    table as u32
+}
+
+/// The later of two tables.
+pub(crate) fn later(a: DataTable, b: DataTable) -> DataTable
+    ensures { result ≡ later a b }
+{
+    if table_rank(a) < table_rank(b) { b } else { a }
+}
+
+impl ElementCondition {
+    /// The table that it speaks of beside an element's own.
+    pub(crate) fn table(self) -> DataTable
+        ensures { result ≡ table_of_element self }
+    {
+        match self {
+            ElementCondition::BackwardLead => DataTable::Metadata,
+            ElementCondition::MiddleLead | ElementCondition::SharedLead => DataTable::Reordering,
+            ElementCondition::NumericLead | ElementCondition::SecondByte => {
+                DataTable::SpecialPrimaries
+            }
+            ElementCondition::Width
+            | ElementCondition::TertiaryElement
+            | ElementCondition::ImplicitLength => DataTable::Root,
+        }
+    }
+}
+
+impl LeadCondition {
+    /// The table that it is named by.
+    pub(crate) fn table(self) -> DataTable
+        ensures { result ≡ table_of_lead self }
+    {
+        match self {
+            LeadCondition::NumericWhole => DataTable::SpecialPrimaries,
+            _ => DataTable::Reordering,
+        }
+    }
+}
+
+impl Ranked for Violation {
+    ghost rank = { violation_rank };
+
+    #[tactic(auto, unfolding(crate::specs::inner::Violations::violation_rank))]
+    fn rank(self) -> u32 {
+        self.condition.group().index() * 8 + table_rank(self.table)
+    }
+}
+
+impl Violation {
+    /// The refusal that names it.
+    pub(crate) fn error(self) -> DataError
+        ensures table { result.table ≡ self.table }
+        ensures kind { result.kind ≡ kind_of self.condition }
+    {
+        DataError {
+            table: self.table,
+            kind: self.condition.kind(),
+        }
+    }
+}
