@@ -20,7 +20,7 @@ use std::process::Abort;
 use std::test::Fail;
 
 /// A provider that answers a request with a type, one for a locale alone, and the empty one each in its way.
-#[derive(Ctertiary_element, Copy)]
+#[derive(Clone, Copy)]
 struct ByRequest<'m> {
     typed: MiniProvider<'m>,
     local: MiniProvider<'m>,

@@ -5,7 +5,7 @@ use icu_data::live_condition::LiveCondition;
 use icu_entries::DataErrorKind;
 
 /// A condition on one element that is live, beside what other tables say.
-#[derive(Debug, Ctertiary_element, Copy, PartialEq, Eq)]
+#[derive(Debug, Clone, Copy, PartialEq, Eq)]
 pub enum ElementCondition {
     /// Its weights have the widths of their fields, as all that are stored have.
     Width,
@@ -26,7 +26,7 @@ pub enum ElementCondition {
 }
 
 /// A condition on two live elements.
-#[derive(Debug, Ctertiary_element, Copy, PartialEq, Eq)]
+#[derive(Debug, Clone, Copy, PartialEq, Eq)]
 pub enum PairCondition {
     /// A tertiary weight alone is greater than one beside a secondary weight.
     TertiaryElementWeights,
@@ -41,7 +41,7 @@ pub enum PairCondition {
 }
 
 /// A condition on what reordering makes of whole lead bytes, and on which of them compress.
-#[derive(Debug, Ctertiary_element, Copy, PartialEq, Eq)]
+#[derive(Debug, Clone, Copy, PartialEq, Eq)]
 pub enum LeadCondition {
     /// Reordering keeps the merge separator.
     Separator,
@@ -58,7 +58,7 @@ pub enum LeadCondition {
 }
 
 /// A condition on the tables of a collator.
-#[derive(Debug, Ctertiary_element, Copy, PartialEq, Eq)]
+#[derive(Debug, Clone, Copy, PartialEq, Eq)]
 pub enum Condition {
     /// There are 79 diacritics, or fewer where they are tailored.
     DiacriticCount,

@@ -24,7 +24,7 @@ const OWN_DIACRITICS: u32 = 16;
 const REORDERED: u32 = 32;
 
 /// The answers to a request with a type, to one for a locale alone, and to the empty request.
-#[derive(Ctertiary_element, Copy)]
+#[derive(Clone, Copy)]
 struct Answers<T> {
     typed: Result<T, DataError>,
     local: Result<T, DataError>,

@@ -7,7 +7,7 @@ use icu_data::violation::Ranked;
 use icu_entries::{DataError, DataTable};
 
 /// A condition that fails, and the table by which it is named.
-#[derive(Ctertiary_element, Copy)]
+#[derive(Clone, Copy)]
 pub(crate) struct Violation {
     pub condition: Condition,
     pub table: DataTable,

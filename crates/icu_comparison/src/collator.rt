@@ -93,7 +93,7 @@ impl Collator {
 }
 
 /// A collator that borrows its tables.
-#[derive(Debug, Ctertiary_element, Copy)]
+#[derive(Debug, Clone, Copy)]
 pub struct CollatorBorrowed<'a> {
     tables: &'a CheckedTables,
     settings: CollatorOptionsBitField,

@@ -8,7 +8,7 @@ use icu_entries::CollationElement;
 use std::cmp::Ordering;
 
 /// A level whose weights are compared as they stand in the tables.
-#[derive(Debug, Ctertiary_element, Copy)]
+#[derive(Debug, Clone, Copy)]
 pub(crate) enum Level {
     Primary,
     Secondary,
@@ -49,7 +49,7 @@ impl Level {
 }
 
 /// The weights of one level that are left of a list of elements.
-#[derive(Debug, Ctertiary_element, Copy)]
+#[derive(Debug, Clone, Copy)]
 struct WeightsLeft<'a> {
     level: Level,
     elements: &'a [CollationElement],

@@ -15,7 +15,7 @@ pub(crate) const CODE_POINT_COUNT: usize = 0x110000;
 
 /// A function from characters to entries. There are 17408 blocks of 64 code points; character c has the value
 /// `values[64 * blocks[c / 64] + c % 64]`.
-#[derive(Debug, Ctertiary_element, Copy, PartialEq)]
+#[derive(Debug, Clone, Copy, PartialEq)]
 pub struct CodePointTable<'d> {
     blocks: &'d [u16],
     values: &'d [u32],

@@ -6,7 +6,7 @@ ghost use Rattle.icu_data.specs.Contexts.{row_of, rows_of, stored_contexts, HasR
 use icu_entries::{CollationElement32, DataErrorKind};
 
 /// A context as it is stored: an entry for all texts but those of its rows, and the range of the rows.
-#[derive(Debug, Ctertiary_element, Copy, PartialEq)]
+#[derive(Debug, Clone, Copy, PartialEq)]
 pub struct Context {
     /// The entry for all other texts.
     pub default: u32,
@@ -17,7 +17,7 @@ pub struct Context {
 }
 
 /// A row of a context as it is stored: the range of its characters, and their entry.
-#[derive(Debug, Ctertiary_element, Copy, PartialEq)]
+#[derive(Debug, Clone, Copy, PartialEq)]
 pub struct ContextRow {
     /// The index of the first character.
     pub chars_start: u32,
@@ -30,7 +30,7 @@ pub struct ContextRow {
 /// What prefix and contraction entries name: an entry for each of some lists of characters, and one for all else. The characters
 /// of a contraction's rows come after the entry's own; those of a prefix's come before it, the nearest first (UTS #35 part 5,
 /// section 3.11 "Context-Sensitive Mappings").
-#[derive(Debug, Ctertiary_element, Copy, PartialEq)]
+#[derive(Debug, Clone, Copy, PartialEq)]
 pub struct ContextTable<'d> {
     contexts: &'d [Context],
     rows: &'d [ContextRow],
@@ -39,7 +39,7 @@ pub struct ContextTable<'d> {
 }
 
 /// A context that was looked up.
-#[derive(Debug, Ctertiary_element, Copy, PartialEq)]
+#[derive(Debug, Clone, Copy, PartialEq)]
 pub struct FoundContext<'d> {
     pub(crate) default: u32,
     pub(crate) rows: &'d [ContextRow],
@@ -48,7 +48,7 @@ pub struct FoundContext<'d> {
 }
 
 /// A row of a context that was looked up: its characters, and their entry.
-#[derive(Debug, Ctertiary_element, Copy, PartialEq)]
+#[derive(Debug, Clone, Copy, PartialEq)]
 pub struct FoundRow<'d> {
     /// The characters.
     pub chars: &'d [char],

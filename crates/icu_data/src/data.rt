@@ -16,7 +16,7 @@ use crate::violation::first_violation;
 use icu_entries::{CollationElement, CollationElement32, DataErrorKind, EntryKind};
 
 /// A root or a tailoring: a table of entries by character, and the lists and contexts that entries name.
-#[derive(Debug, Ctertiary_element, Copy, PartialEq)]
+#[derive(Debug, Clone, Copy, PartialEq)]
 pub struct CollationData<'d> {
     trie: CodePointTable<'d>,
     ces: &'d [u64],

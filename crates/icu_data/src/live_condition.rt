@@ -8,7 +8,7 @@ use crate::violation::{Judge, Ranked};
 use icu_entries::{CollationElement32, DataErrorKind};
 
 /// A condition on an entry that is live in a root or a tailoring, in the order in which they are reported.
-#[derive(Debug, Ctertiary_element, Copy, PartialEq, Eq)]
+#[derive(Debug, Clone, Copy, PartialEq, Eq)]
 pub enum LiveCondition {
     /// What the entry refers to is there.
     Indices,
@@ -62,7 +62,7 @@ impl Ranked for LiveCondition {
 }
 
 /// The judge of a root or a tailoring alone: the first condition that an entry fails.
-#[derive(Debug, Ctertiary_element, Copy, PartialEq)]
+#[derive(Debug, Clone, Copy, PartialEq)]
 pub struct EntryJudge;
 
 impl Judge for EntryJudge {

@@ -15,7 +15,7 @@ use std::alloc::AllocError;
 use unicode_normalization::Decompositions;
 
 /// How far the reading has come.
-#[derive(Debug, Ctertiary_element, Copy, PartialEq, Eq)]
+#[derive(Debug, Clone, Copy, PartialEq, Eq)]
 enum Progress {
     Unread,
     Read,

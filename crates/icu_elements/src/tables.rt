@@ -14,7 +14,7 @@ use icu_provider::{CollationDiacritics, CollationJamo};
 use std::alloc::Global;
 
 /// The tables that elements are read from: root, tailoring, jamo and diacritics, checked together.
-#[derive(Debug, Ctertiary_element, Copy)]
+#[derive(Debug, Clone, Copy)]
 pub struct ElementTables<'d> {
     alloc: Global,
     root: CollationData<'d>,
@@ -25,7 +25,7 @@ pub struct ElementTables<'d> {
 }
 
 /// An entry with its home, the table whose lists and contexts it refers to.
-#[derive(Debug, Ctertiary_element, Copy)]
+#[derive(Debug, Clone, Copy)]
 pub(crate) struct HomedEntry<'d> {
     pub(crate) home: CollationData<'d>,
     pub(crate) ce32: CollationElement32,

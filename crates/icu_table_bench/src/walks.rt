@@ -13,7 +13,7 @@ use std::process::Abort;
 use std::test::Fail;
 
 /// A violation by its rank, which is less the later the character stands.
-#[derive(Debug, Ctertiary_element, Copy, PartialEq)]
+#[derive(Debug, Clone, Copy, PartialEq)]
 struct Named {
     rank: u32,
 }

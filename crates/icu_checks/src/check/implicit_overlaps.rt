@@ -29,7 +29,7 @@ use std::alloc::{AllocError, Global};
 use std::convert::Infallible;
 
 /// A primary weight of a table that begins the implicit weight of a character, which is live by another table or the same one.
-#[derive(Ctertiary_element, Copy)]
+#[derive(Clone, Copy)]
 pub(crate) struct ImplicitClash {
     pub(crate) primary: u32,
     pub(crate) implicit: u32,

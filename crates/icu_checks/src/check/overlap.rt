@@ -20,7 +20,7 @@ use icu_provider::reordering::lead_byte;
 use std::alloc::AllocError;
 
 /// Two weights of which the first is written as a beginning of the second.
-#[derive(Debug, Ctertiary_element, Copy, PartialEq)]
+#[derive(Debug, Clone, Copy, PartialEq)]
 pub struct Overlap {
     /// The weight that begins the other.
     pub first: u32,

@@ -15,7 +15,7 @@ use icu_provider::TableSet;
 use std::alloc::{AllocError, Global};
 
 /// A tertiary weight of an element without a secondary weight, and one beside a secondary weight that it doesn't stand above.
-#[derive(Ctertiary_element, Copy)]
+#[derive(Clone, Copy)]
 pub(crate) struct LowPair {
     pub(crate) alone: u32,
     pub(crate) beside: u32,

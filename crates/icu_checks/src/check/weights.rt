@@ -12,7 +12,7 @@ use icu_entries::CollationElement;
 use icu_provider::{CollationReordering, TableSet};
 
 /// A level of weights, none of which may begin another.
-#[derive(Ctertiary_element, Copy)]
+#[derive(Clone, Copy)]
 pub enum Level {
     Primary,
     Secondary,
@@ -20,7 +20,7 @@ pub enum Level {
 }
 
 /// Which weights are compared with one another.
-#[derive(Ctertiary_element, Copy)]
+#[derive(Clone, Copy)]
 pub enum WeightList {
     /// Primary weights.
     Primaries,
