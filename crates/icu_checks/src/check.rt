@@ -17,8 +17,6 @@ mod entry_judge;
 pub(crate) mod implicit_overlaps;
 mod lead_conditions;
 pub(crate) mod leads;
-#[cfg(test)]
-mod leads_tests;
 mod live_violations;
 mod lookups;
 pub(crate) mod overlap;

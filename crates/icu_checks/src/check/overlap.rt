@@ -138,6 +138,3 @@ pub fn first_common_overlap(
     weights.sort_by_key(|weight| lead_byte(*weight))?;
     Ok(overlapping_neighbours(weights.as_slice(), reordering))
 }
-
-#[cfg(test)]
-mod tests;
