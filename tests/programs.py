@@ -228,7 +228,7 @@ CARELESS_RUNS = 3 * 2 + 2 * 2 + 2
 FAULTY = [
     ("status 0 whatever happens", '"$COLLATE" "$@"; exit 0', "words"),
     ("faults on standard output", 'exec "$COLLATE" "$@" 2>&1', "words"),
-    ("an argument that isn't UTF-8 called want of memory",
+    ("an argument that isn't UTF-8 called out of memory",
      '"$COLLATE" "$@" 2>/dev/null && exit; echo "collate: no memory" >&2; exit 1', "arguments that aren't UTF-8"),
     ("giving up on a long input",
      'for word; do if [ ${#word} -gt 5000 ]; then echo "collate: no memory" >&2; exit 1; fi; done; exec "$COLLATE" "$@"',

@@ -1,4 +1,4 @@
--- What keeps an answer from being found: want of memory, or tables that are refused for cause.
+-- What keeps an answer from being found: memory ran out, or tables that are refused for cause.
 use Rattle.std.specs.Prelude.{◌≡◌, Ok}
 use Rattle.icu_provider.specs.CollatorTables.{CollatorTables}
 use Rattle.icu_checks.specs.GoodTables.{IsGoodTables}

@@ -26,7 +26,7 @@ PrintsAnswer old new asked = (line : List ℕ) × IsAnswer asked line × Appends
 abbrev pub PrintsBeginning : Known → Known → Comparing → Type 0
 PrintsBeginning old new asked = (line : List ℕ) × IsAnswer asked line × AppendsBeginning old new line
 
--- the run stopped for want of memory, and printed nothing
+-- the run ran out of memory, and printed nothing
 pub record LacksMemory (old_output new_output old_faults new_faults : Known) : Type 0 where
   pub nothing : Keeps old_output new_output
   pub said : Says NoMemory old_faults new_faults

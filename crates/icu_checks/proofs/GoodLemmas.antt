@@ -18,7 +18,7 @@ meets_by all (conditions.Element condition) table meets = λ own is. meets own
 meets_by all (conditions.Pair condition) table meets = λ first second x is_x y is_y named. meets first second x is_x y is_y
 meets_by all (conditions.Lead condition) table meets = λ is. meets
 
--- tables that meet the conditions are refused for want of memory alone
+-- tables that meet the conditions are refused only where memory ran out
 pub fails_not_good : (all : CollatorTables) (table : DataTable) (kind : DataErrorKind) → FailsBy table kind all → IsGoodTables all → ⊥
 fails_not_good all table kind fails good = fails.fails (meets_by all fails.condition table (good.each fails.condition))
 

@@ -147,6 +147,6 @@ pub record FailsBy (table : DataTable) (kind : DataErrorKind) (all : CollatorTab
   pub of_kind : kind_of condition ≡ kind
   pub fails : MeetsBy condition table all → ⊥
 
--- The refusal is true. Want of memory says nothing of the tables.
+-- The refusal is true. That memory ran out says nothing of the tables.
 abbrev pub IsTrueRefusal : CollatorTables → DataError → Type 0
 IsTrueRefusal all e = (e.kind ≡ kinds.NoMemory) ⊎ FailsBy e.table e.kind all

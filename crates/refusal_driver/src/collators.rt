@@ -23,7 +23,7 @@ fn name_of(table: DataTable) -> &'static str {
     }
 }
 
-/// Says which table a refusal names. Refused for want of memory, a call may be made again.
+/// Says which table a refusal names. A call that ran out of memory may be made again.
 fn may_ask_again(rt: &HostRuntime, refusal: DataError) -> bool {
     let _ = eprintln!(rt; "refused: {}", name_of(refusal.table));
     refusal.kind == DataErrorKind::NoMemory
