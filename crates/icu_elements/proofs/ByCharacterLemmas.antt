@@ -10,7 +10,7 @@ use Rattle.icu_entries.specs.Entries.{kind_of}
 use Rattle.icu_data.specs.Data.{Data, HomedEntry, homed}
 use Rattle.icu_provider.specs.Tables.{Tables, entry_of, diacritic_of}
 use Rattle.icu_data.specs.Final.{final_elements}
-use Rattle.icu_elements.specs.Matches.{Match, after_prefix, match_from, match_of}
+use Rattle.icu_matches.specs.Matches.{Match, after_prefix, match_from, match_of}
 use Rattle.icu_elements.specs.TextElements.{Reading, Step, entry_step, matched_step, step, elements_along, elements_after, elements_of}
 use Rattle.icu_provider.specs.LiveTables.{AllLive, IsLive}
 use Rattle.icu_elements.specs.ByCharacter.{non_numeric_reading, non_numeric_entry, elements_of_char, elements_by_char, needs_no_context, IsContextFree}

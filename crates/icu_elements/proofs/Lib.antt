@@ -1,6 +1,4 @@
 pub mod IterLemmas
-pub mod ChoiceLemmas
-pub mod LiveLemmas
 pub mod DecomposedLemmas
 pub mod PartLemmas
 pub mod SourceLemmas

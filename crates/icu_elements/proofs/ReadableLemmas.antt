@@ -27,7 +27,8 @@ use Rattle.icu_checks.specs.declared.condition.Condition.TheVariants as conditio
 use Rattle.icu_provider.specs.CollatorTables.{CollatorTables}
 use Rattle.icu_checks.specs.GoodTables.{IsGoodTables}
 use Rattle.icu_elements.specs.declared.tables.ElementTables.{ElementTables}
-use Rattle.icu_elements.specs.inner.Readable.{AreReadable, IsGoodFrom, tables_from}
+use Rattle.icu_matches.specs.GoodEntries.{IsGoodFrom}
+use Rattle.icu_elements.specs.inner.Readable.{AreReadable, tables_from}
 use Rattle.icu_elements.specs.Reading.{element_tables}
 use Rattle.icu_elements.proofs.PartLemmas.{live_from-head, entry_of-live, AllLive-weaker}
 use Rattle.icu_elements.proofs.SourceLemmas.{all_live}

@@ -6,7 +6,7 @@ ghost use Rattle.icu_data.specs.Data.{homed};
 ghost use Rattle.icu_data.specs.DataConditions.{is_readable};
 ghost use Rattle.icu_data.specs.StoredData.{data_of};
 ghost use Rattle.icu_elements.specs.ByCharacter.{non_numeric_entry, elements_of_char, elements_by_char};
-ghost use Rattle.icu_elements.specs.inner.Readable.{IsGoodFrom};
+ghost use Rattle.icu_matches.specs.GoodEntries.{IsGoodFrom};
 ghost use Rattle.icu_elements.specs.Reading.{element_tables};
 
 use crate::element_list::ElementList;

@@ -5,7 +5,8 @@ ghost use Rattle.icu_provider.specs.Tables.{entry_of, diacritic_of};
 ghost use Rattle.icu_data.specs.Data.{homed};
 ghost use Rattle.icu_data.specs.StoredData.{data_of};
 ghost use Rattle.icu_checks.specs.Checked.{checked_tables};
-ghost use Rattle.icu_elements.specs.inner.Readable.{AreReadable, IsGoodFrom, tables_from};
+ghost use Rattle.icu_matches.specs.GoodEntries.{IsGoodFrom};
+ghost use Rattle.icu_elements.specs.inner.Readable.{AreReadable, tables_from};
 
 use icu_checks::CheckedTables;
 use icu_data::CollationData;

@@ -9,8 +9,8 @@ use Rattle.icu_entries.specs.Entries.{kind_of}
 use Rattle.icu_data.specs.Data.{Row, Context, Data, HomedEntry, homed, context_of, row_entry, better, longest_from, longest_row}
 use Rattle.icu_data.specs.Live.{context_entries, named_entries, live_digit, live_contraction, live_from}
 use Rattle.icu_data.proofs.ListLemmas.{all_append, all_first, all_second}
-use Rattle.icu_elements.proofs.ChoiceLemmas.{either, maybe}
-use Rattle.icu_elements.specs.Matches.{Match, after_prefix, is_blocked, with_marks, contracted, match_from, match_of}
+use Rattle.icu_matches.proofs.ChoiceLemmas.{either, maybe}
+use Rattle.icu_matches.specs.Matches.{Match, after_prefix, is_blocked, with_marks, contracted, match_from, match_of}
 
 -- ---- lists
 

@@ -1,0 +1,3 @@
+pub mod GoodEntries
+pub mod Matches
+pub mod Texts
