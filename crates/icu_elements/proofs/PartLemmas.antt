@@ -29,7 +29,7 @@ digit_head : (P : ℕ → Type 0) (k : EntryKind) (e p : ℕ) → AllByRecursion
 digit_head P Digit e p h = h.0
 digit_head P _ e p h = h.0
 
-live_digit-head : (P : ℕ → Type 0) (home : Data) (e : ℕ) → AllByRecursion P (live_digit home e) → P e
+pub live_digit-head : (P : ℕ → Type 0) (home : Data) (e : ℕ) → AllByRecursion P (live_digit home e) → P e
 unfolding live_digit
 live_digit-head P home e h = digit_head P (kind_of e) e _ h
 

@@ -6,6 +6,7 @@ mod element_list;
 pub mod iter;
 pub mod laws;
 mod read;
+mod reader;
 pub mod tables;
 pub mod whole;
 

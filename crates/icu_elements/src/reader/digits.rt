@@ -3,11 +3,11 @@
 ghost use Rattle.std.specs.Prelude.{◌≡◌, ◌<◌, ◌∷◌, ◌++◌, All, OnOk, IfOk, MatchOption, map};
 ghost use Rattle.icu_entries.specs.declared.entry.EntryKind.TheVariants.{Digit};
 ghost use Rattle.icu_entries.specs.Entries.{kind_of, digit_value};
-ghost use Rattle.icu_matches.specs.Matches.{Match};
+ghost use Rattle.icu_matches.specs.Texts.{unread};
 ghost use Rattle.icu_elements.specs.Reading.{element_tables};
 ghost use Rattle.icu_elements.specs.TextElements.{begins_with_mark, digit_of};
-ghost use Rattle.icu_elements.specs.inner.Reading.{unread_at};
-ghost use Rattle.icu_elements.specs.inner.Digits.{IsNoDigit, IsDigitTaken, IsRunTaken, IsNumberTaken, matched};
+ghost use Rattle.icu_elements.specs.inner.Positions.{unread_at};
+ghost use Rattle.icu_elements.specs.inner.Digits.{IsNoDigit, IsDigitTaken, IsRunTaken, IsNumberTaken, matched, stands_alone};
 
 use crate::reader::position::Position;
 use crate::tables::ElementTables;
@@ -53,6 +53,13 @@ fn begins_with_mark(text: &Text) -> bool
     }
 }
 
+/// Whether a digit is a number by itself, since its match consumed a suffix or a mark follows.
+fn stands_alone(found: &Matched, text: &Text) -> bool
+    ensures { result ≡ stands_alone (matched found.now (unread text.now)) }
+{
+    !found.suffix.is_empty() || begins_with_mark(text)
+}
+
 /// Takes the characters of a number, at a digit whose match is done, and gives the number's digits: the digit and the run of digits
 /// after it, or the digit alone where its match consumed a suffix or a mark follows.
 pub(crate) fn take_number(
@@ -69,8 +76,9 @@ pub(crate) fn take_number(
     let mut digits = Vec::new(tables.allocator());
     digits.push(found.ce32.digit())?;
     at.recent.push_with(c, found.suffix.as_slice());
-    if found.suffix.is_empty() && !begins_with_mark(&at.text) {
-        take_run(tables, at, &mut digits)?;
+    if stands_alone(found, &at.text) {
+        return Ok(digits);
     }
+    take_run(tables, at, &mut digits)?;
     Ok(digits)
 }

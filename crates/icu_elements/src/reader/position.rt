@@ -14,7 +14,7 @@ pub(crate) struct Position {
 }
 
 impl Position {
-    ghost use Rattle.icu_elements.specs.inner.Reading.{consumed_last, unread_at};
+    ghost use Rattle.icu_elements.specs.inner.Positions.{consumed_last, unread_at};
 
     /// The beginning of a decomposed text.
     pub(crate) fn at_start(chars: Vec<char>) -> Position

@@ -13,10 +13,10 @@ pub(crate) struct RecentChars {
 }
 
 impl RecentChars {
-    ghost use Rattle.icu_elements.specs.inner.Reading.{recent_chars};
+    ghost use Rattle.icu_elements.specs.inner.Positions.{recent_chars};
 
     /// No character was consumed yet.
-    #[tactic(auto, unfolding(crate::specs::inner::Reading::recent_chars))]
+    #[tactic(auto, unfolding(crate::specs::inner::Positions::recent_chars))]
     pub(crate) fn new() -> RecentChars
         ensures { recent_chars result ≡ [] }
     {
@@ -27,7 +27,7 @@ impl RecentChars {
     }
 
     /// The characters, the nearest first.
-    #[tactic(auto, unfolding(crate::specs::inner::Reading::recent_chars))]
+    #[tactic(auto, unfolding(crate::specs::inner::Positions::recent_chars))]
     pub(crate) fn as_slice(&self) -> &[char]
         ensures { result.now ≡ recent_chars self.now }
     {
@@ -35,7 +35,7 @@ impl RecentChars {
     }
 
     /// One more character was consumed.
-    #[tactic(auto, using(crate::proofs::ReaderLemmas::one_more), unfolding(crate::specs::inner::Reading::recent_chars))]
+    #[tactic(auto, using(crate::proofs::ReaderLemmas::one_more), unfolding(crate::specs::inner::Positions::recent_chars))]
     pub(crate) fn push(&mut self, c: char)
         ensures { recent_chars self.new ≡ last_two (recent_chars self.old) (c ∷ []) }
     {

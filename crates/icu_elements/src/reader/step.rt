@@ -2,7 +2,7 @@
 
 ghost use Rattle.std.specs.Prelude.{◌≡◌, ◌<◌, ◌++◌, [], length, IfOk, OnOk, MatchBool};
 ghost use Rattle.icu_elements.specs.TextElements.{is_silent_dot, diacritic_step, step};
-ghost use Rattle.icu_elements.specs.inner.Reading.{IsStep, reading_by_tables, consumed_last, unread_at, elements_left};
+ghost use Rattle.icu_elements.specs.inner.Positions.{IsStep, reading_by_tables, consumed_last, unread_at, elements_left};
 ghost use Rattle.icu_matches.specs.Texts.{unread};
 
 use crate::element_list::ElementList;

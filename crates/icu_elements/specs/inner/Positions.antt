@@ -30,5 +30,5 @@ elements_left reading p = elements_after (reading_by_tables reading) (consumed_l
 -- is left.
 pub record IsStep (s : Step) (c : ℕ) (before : List ℕ) (old new : List Element) (p : Position) : Type 0 where
   pub elements : new ≡ old ++ s.elements
-  pub before : consumed_last p ≡ last_two before (consumed c s)
+  pub recent : consumed_last p ≡ last_two before (consumed c s)
   pub rest : unread_at p ≡ s.rest
