@@ -15,7 +15,7 @@ use Rattle.icu_entries.specs.declared.entry.EntryKind.TheVariants.{Expansion32, 
 use Rattle.icu_entries.specs.Entries.{kind_of, entry_index, digit_value}
 use Rattle.icu_data.specs.DataConditions.{is_inside, is_readable}
 use Rattle.icu_entries.specs.EntryConditions.{has_digit}
-use Rattle.icu_data.specs.Live.{live_digit, live_contraction, live_from}
+use Rattle.icu_data.specs.Live.{live_digit, live_from}
 use Rattle.icu_data.specs.LiveConditions.{meets}
 use Rattle.icu_provider.specs.LiveTables.{HasDigits, IsLive}
 use Rattle.icu_data.specs.StoredData.{data_of}
@@ -132,23 +132,3 @@ module _ (home : Data) (c e : ℕ) (good : IsGoodMatch home c e) where
 
   pub match_decimal : kind_of e ≡ Digit → digit_value e < 10
   match_decimal is = decimal_among home c e (live_digit home e) good (matched_itself home e) is
-
--- ---- the same from an entry that none was matched by
-
-pub readable_itself : (home : Data) (c e : ℕ) → IsGoodFrom home c e → IsTrue (is_readable home c e)
-readable_itself home c e good = readable_among home c e (live_from home e) good (itself home e)
-
-second : (P : ℕ → Type 0) (k : EntryKind) (e f : ℕ) (xs ys zs : List ℕ) → k ≡ Digit → AllByRecursion P (elim k as (λ _. List ℕ) [ Prefix ↦ xs | _ ↦ elim k as (λ _. List ℕ) [ Contraction ↦ ys | _ ↦ elim k as (λ _. List ℕ) [ Digit ↦ e ∷ f ∷ [] | _ ↦ zs ] ] ]) → P f
-second P Digit e f xs ys zs is all = all.1.0
-second P _ e f xs ys zs is all = cc
-
-non_numeric_among : (home : Data) (e : ℕ) → kind_of e ≡ Digit → Contains (live_from home e) (plain_of home e)
-unfolding live_from live_contraction live_digit
-non_numeric_among home e is =
-    second (Contains (live_from home e)) (kind_of e) e (plain_of home e) _ _ _ is (all_members (live_from home e))
-
-pub readable_non_numeric : (home : Data) (c e : ℕ) → IsGoodFrom home c e → kind_of e ≡ Digit → IsTrue (is_readable home c (plain_of home e))
-readable_non_numeric home c e good is = readable_among home c (plain_of home e) (live_from home e) good (non_numeric_among home e is)
-
-pub non_numeric_inside : (home : Data) (c e : ℕ) → IsGoodFrom home c e → kind_of e ≡ Digit → entry_index e < length home.entries
-non_numeric_inside home c e good is = inside_among home c e (live_from home e) good (itself home e) is

@@ -1,5 +1,5 @@
 -- What reading a text keeps: the characters consumed last, and what the digits that are still to be taken come to.
-use Rattle.std.proofs.Common.{◌≡◌, ℕ, ◌+◌, ◌≤◌, ◌<◌, zero, suc, Bool, true, false, List, [], ◌∷◌, ◌++◌, length, take, drop, map, take_while, reverse, min, get_or, Option, Some, None, Result, Ok, Err, OnOk, All, fold, refl, sym, ap, ap₂, ◌∙◌, append_assoc, append-nil, take_all, length-take, arith, slice_get, if◌then◌else◌, cond}
+use Rattle.std.proofs.Common.{◌≡◌, ℕ, ◌+◌, ◌≤◌, ◌<◌, zero, suc, Bool, true, false, List, [], ◌∷◌, ◌++◌, length, take, drop, map, reverse, min, get_or, Some, None, Result, Ok, Err, OnOk, fold, refl, sym, ap, ap₂, ◌∙◌, append_assoc, append-nil, take_all, length-take, arith, slice_get, if◌then◌else◌}
 use Rattle.std.proofs.lemmas.List.{reverse-append, take-take, take_more}
 use Rattle.std.specs.List.{push}
 use Rattle.std.proofs.lemmas.List.Sums.{take_while-cons}
@@ -11,9 +11,10 @@ use Rattle.icu_provider.specs.Tables.{Tables}
 use Rattle.icu_matches.specs.Matches.{Match}
 use Rattle.icu_elements.specs.declared.reader.recent.RecentChars.{RecentChars}
 use Rattle.icu_elements.specs.declared.reader.position.Position.{Position}
-use Rattle.icu_elements.specs.TextElements.{Reading, Step, is_digit_kind, begins_with_mark, continues_number, digit_of, number_elements, number_step, step, consumed, last_two, elements_after}
-use Rattle.icu_elements.proofs.StepLemmas.{Rests-step, elements_after_cons}
-use Rattle.icu_elements.specs.inner.Positions.{recent_chars, consumed_last, unread_at, IsStep}
+use Rattle.icu_elements.specs.declared.reader.TextReading.{TextReading}
+use Rattle.icu_elements.specs.TextElements.{Reading, Step, is_digit_kind, begins_with_mark, continues_number, digit_of, number_elements, number_step, step, last_two, elements_after}
+use Rattle.icu_elements.proofs.StepLemmas.{Rests-step, elements_after_cons, elements_after_nil}
+use Rattle.icu_elements.specs.inner.Positions.{recent_chars, reading_by_tables, consumed_last, unread_at, elements_left, IsStep}
 use Rattle.icu_elements.specs.inner.Digits.{run_of, IsNoDigit, IsDigitTaken, IsRunTaken, stands_alone, number_run, IsNumberTaken}
 
 -- ---- the characters consumed last
@@ -225,6 +226,11 @@ step_elements reading before c text whole es fs p is h =
     (ap₂ (λ (b t : List ℕ). s.elements ++ elements_after reading b t) h.recent h.rest
     ∙ sym (elements_after_cons reading before c text)
     ∙ ap (elements_after reading before) (sym is))
+
+-- nothing has no elements
+pub none_unread : (reading : TextReading) (p : Position) → unread_at p ≡ [] → elements_left reading p ≡ []
+none_unread reading p none =
+    ap (elements_after (reading_by_tables reading) (consumed_last p)) none ∙ elements_after_nil (reading_by_tables reading) (consumed_last p)
 
 -- it leaves fewer characters
 pub step_shorter : (reading : Reading) (before : List ℕ) (c : ℕ) (text whole : List ℕ) (es fs : List Element) (p : Position) → whole ≡ c ∷ text

@@ -18,7 +18,6 @@ pub use Rattle.icu_checks.specs.LiveElements
 pub use Rattle.icu_matches.specs.Matches
 pub use Rattle.icu_matches.specs.GoodEntries
 pub mod TextElements
-pub mod ByCharacter
 pub mod Reading
 pub mod CollationElements
 pub mod TextParts

@@ -18,6 +18,10 @@ pub record Reading : Type 0 where
   pub numeric : Option ℕ
   pub lithuanian : Bool
 
+-- how a text is read whose digits are letters like others
+abbrev pub non_numeric_reading : Tables → Reading
+non_numeric_reading tables = record { tables = tables; numeric = None; lithuanian = false }
+
 -- what reading at one character gives: elements, the characters consumed after it, and the text that is left
 pub record Step : Type 0 where
   pub elements : List Element

@@ -1,7 +1,6 @@
 //! The collation elements of a text.
 #![tactic(auto)]
 
-mod by_character;
 mod element_list;
 pub mod iter;
 pub mod laws;

@@ -35,7 +35,8 @@ fn push_number(
 {
     let weights = digit_run_weights(alloc, lead, digits)?;
     for weight in &weights {
-        list.elements.push(CollationElement::new_from_primary(*weight))?;
+        list.elements
+            .push(CollationElement::new_from_primary(*weight))?;
     }
     Ok(())
 }

@@ -1,4 +1,4 @@
-use Rattle.std.proofs.Common.{◌≡◌, ◌<◌, ◌++◌, [], ◌∷◌, ℕ, List, All, rules, subst, sym, length, arith}
+use Rattle.std.proofs.Common.{◌≡◌, ◌<◌, ◌++◌, [], ◌∷◌, ℕ, List, All, rules, subst, sym}
 use Rattle.std.proofs.lemmas.List.Elements.{All-push}
 use Rattle.icu_elements.specs.Reading.{element_tables}
 use Rattle.icu_elements.proofs.ReaderLemmas.{ComesTo, ComesTo-itself, ComesTo-taken, IsRunTaken-end, fewer}

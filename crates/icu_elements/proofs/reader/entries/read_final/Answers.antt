@@ -1,4 +1,4 @@
-use Rattle.std.proofs.Common.{◌≡◌, ◌++◌, refl, ap, ◌∙◌, ◌∷◌, List, ℕ}
+use Rattle.std.proofs.Common.{refl, ap, ◌∙◌, ◌∷◌, List, ℕ}
 use Rattle.icu_data.specs.Data.{homed}
 use Rattle.icu_data.specs.Final.{final_elements}
 use Rattle.icu_data.specs.StoredData.{data_of}
