@@ -1,3 +1,4 @@
 pub mod ChoiceLemmas
 pub mod LiveLemmas
 pub mod OrderLemmas
+pub mod TextLemmas
