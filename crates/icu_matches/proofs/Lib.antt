@@ -1,4 +1,6 @@
 pub mod ChoiceLemmas
+pub mod CommonLemmas
 pub mod LiveLemmas
 pub mod OrderLemmas
+pub mod RowLemmas
 pub mod TextLemmas

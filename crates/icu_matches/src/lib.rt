@@ -2,6 +2,7 @@
 #![tactic(auto)]
 
 pub mod matched;
+mod rows;
 pub mod text;
 
 pub use matched::{Matched, find_match};
