@@ -1,6 +1,5 @@
 -- What a good entry says of what its match comes to.
-use Rattle.std.proofs.Common.{◌≡◌, ℕ, ◌<◌, Bool, true, List, [], ◌∷◌, length, subst, arith, IsTrue}
-use Rattle.std.specs.Prelude.{nat_lt}
+use Rattle.std.proofs.Common.{◌≡◌, ℕ, ◌<◌, Bool, true, List, ◌∷◌, length, IsTrue}
 use Rattle.std.specs.List.{AllByRecursion, Contains}
 use Rattle.std.proofs.lemmas.Bool.{ltb-true}
 use Rattle.icu_entries.specs.declared.entry.EntryKind.{EntryKind}
@@ -8,7 +7,7 @@ use Rattle.icu_entries.specs.declared.entry.EntryKind.TheVariants.{Expansion32, 
 use Rattle.icu_entries.specs.Entries.{kind_of, entry_index}
 use Rattle.icu_data.specs.declared.live_condition.LiveCondition.{LiveCondition}
 use Rattle.icu_data.specs.declared.live_condition.LiveCondition.TheVariants.{Indices}
-use Rattle.icu_data.specs.Data.{Data, HomedEntry, homed}
+use Rattle.icu_data.specs.Data.{Data, homed}
 use Rattle.icu_data.specs.DataConditions.{is_inside}
 use Rattle.icu_data.specs.Live.{live_digit, live_contraction, live_from}
 use Rattle.icu_data.specs.LiveConditions.{meets}

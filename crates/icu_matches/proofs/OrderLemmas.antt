@@ -1,10 +1,10 @@
 -- The order of lists of characters, and which of them begin a text.
-use Rattle.std.proofs.Common.{◌≡◌, ℕ, ◌+◌, ◌<◌, ◌≤◌, Bool, true, false, ◌&&◌, List, [], ◌∷◌, length, take, drop, refl, sym, ap, subst, ◌∙◌, arith, inl, inr, bytes_eq, Ordering, Less, Equal, Greater}
-use Rattle.std.specs.Prelude.{nat_lt, nat_eq}
+use Rattle.std.proofs.Common.{◌≡◌, ℕ, ◌<◌, ◌≤◌, Bool, true, false, List, [], ◌∷◌, length, refl, sym, ap, subst, ◌∙◌, arith, inl, inr, bytes_eq, Ordering, Less, Equal, Greater}
+use Rattle.std.specs.Prelude.{nat_eq}
 use Rattle.std.specs.List.{starts_with}
-use Rattle.std.specs.Ordering.{is_lt, is_eq, nat_cmp, ordering_reverse, ordering_then}
-use Rattle.std.specs.Cmp.Lexicographic.{slice_cmp, bytes_decides}
-use Rattle.std.proofs.lemmas.Bool.{and_parts, and_from, eqb-true, eq-eqb, ltb-true, le-ltb, lt-ltb, cases_order, cases_Bool, false≢true}
+use Rattle.std.specs.Ordering.{is_lt, is_eq, ordering_reverse}
+use Rattle.std.specs.Cmp.Lexicographic.{bytes_decides}
+use Rattle.std.proofs.lemmas.Bool.{and_parts, and_from, eqb-true, eq-eqb, le-ltb, lt-ltb, cases_order, cases_Bool, false≢true}
 use Rattle.std.proofs.lemmas.Cmp.{nat_list_cmp_total}
 use Rattle.std.proofs.lemmas.Map.Text.{is_eq-slice_cmp}
 use Rattle.icu_data.specs.Contexts.{is_before}

@@ -1,6 +1,6 @@
 -- Rows that ascend: which one a text begins with, and which one it is.
-use Rattle.std.proofs.Common.{◌≡◌, ◌≢◌, ℕ, zero, suc, ◌+◌, ◌-◌, ◌<◌, ◌≤◌, Bool, true, false, ◌&&◌, List, [], ◌∷◌, length, Option, Some, None, refl, sym, ap, subst, ◌∙◌, arith, inl, inr, bytes_eq, IsTrue}
-use Rattle.std.specs.Prelude.{slice_get, nat_lt, nat_eq}
+use Rattle.std.proofs.Common.{◌≡◌, ℕ, zero, suc, ◌+◌, ◌<◌, Bool, true, false, ◌&&◌, List, [], ◌∷◌, length, Option, Some, None, refl, sym, ap, subst, ◌∙◌, arith, inl, inr, bytes_eq}
+use Rattle.std.specs.Prelude.{slice_get, nat_eq}
 use Rattle.std.specs.List.{starts_with}
 use Rattle.std.proofs.lemmas.Bool.{and_parts, and_from, cases_Bool, cases_eq, cases_lt, cases_order, lt-ltb, false≢true}
 use Rattle.icu_data.specs.Contexts.{is_before, ascend_from}
@@ -91,7 +91,7 @@ one_best best (x ∷ xs) text zero row at b l below above =
     subst (λ (r : Row). longest_from best (r ∷ xs) text ≡ Some row) (sym e) (rw (and_from _ _ b l) rest)
 one_best best (x ∷ xs) text (suc i) row at b l below above =
     let later : (c : Option Row) → is_longer row c ≡ true → longest_from c xs text ≡ Some row =
-        λ c m. one_best c xs text i row at b m (λ k r less is. below (suc k) r (omega (arith, less)) is) (λ k r more is. above (suc k) r (omega (arith, more)) is) in
+    λ c m. one_best c xs text i row at b m (λ k r less is. below (suc k) r (omega (arith, less)) is) (λ k r more is. above (suc k) r (omega (arith, more)) is) in
     elim (cases_Bool (starts_with nat_eq text x.chars && is_longer x best)) [
       | inl t ↦ rw t (later (Some x) (lt-ltb _ _ (below zero x (omega arith) refl (and_parts _ _ t).0)))
       | inr f ↦ rw f (later best l)

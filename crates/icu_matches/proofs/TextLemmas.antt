@@ -1,5 +1,5 @@
 -- A part of a list in which the last member was moved to the front.
-use Rattle.std.proofs.Common.{◌≡◌, ℕ, ◌+◌, ◌-◌, ◌<◌, ◌≤◌, List, [], ◌∷◌, ◌++◌, length, take, drop, get_or, refl, sym, ap, ap₂, ◌∙◌, arith, length-drop, length-append}
+use Rattle.std.proofs.Common.{◌≡◌, ℕ, ◌+◌, ◌-◌, ◌<◌, ◌≤◌, List, [], ◌∷◌, ◌++◌, length, take, drop, get_or, sym, ap, ap₂, ◌∙◌, arith, length-drop, length-append}
 use Rattle.std.proofs.lemmas.List.{take-append-le, take-append-drop, drop-take, drop_more, length-take-le}
 use Rattle.std.proofs.Math.Seq.{drop-append-add, take-append_seam}
 
@@ -26,12 +26,12 @@ moved_to_front xs n i len inside whole part new is made =
     let part_len : length part ≡ i + 1 = ap length is ∙ length-take-le (i + 1) t (omega arith) in
     let counted : length part - 1 ≡ i = omega (arith, part_len) in
     let turned : new ≡ get_or t i 0 ∷ take i t =
-        made ∙ ap (λ k. drop k part ++ take k part) counted ∙ ap (λ p. drop i p ++ take i p) is
-        ∙ ap₂ (λ (a b : List ℕ). a ++ b) (last_alone t i within) (others_before t i within) in
+    made ∙ ap (λ k. drop k part ++ take k part) counted ∙ ap (λ p. drop i p ++ take i p) is
+    ∙ ap₂ (λ (a b : List ℕ). a ++ b) (last_alone t i within) (others_before t i within) in
     let front : length (take n xs) ≡ n = length-take-le n xs (omega arith) in
     let new_len : length new ≡ i + 1 = omega (arith, ap length turned, length-take-le i t (omega arith)) in
     let all_len : length (take n xs ++ (new ++ rest)) ≡ n + (i + 1 + (length xs - n - (i + 1))) =
-        omega (arith, length-append (take n xs) (new ++ rest), length-append new rest, front, new_len, length-drop (i + 1) t, long) in
+    omega (arith, length-append (take n xs) (new ++ rest), length-append new rest, front, new_len, length-drop (i + 1) t, long) in
     ap (drop (n + 1)) (written xs (take n xs ++ (new ++ rest)) len (omega (arith, all_len)))
     ∙ ap (λ k. drop (k + 1) (take n xs ++ (new ++ rest))) (sym front) ∙ drop-append-add (take n xs) (new ++ rest) 1
     ∙ ap (λ (a : List ℕ). drop 1 (a ++ rest)) turned

@@ -35,10 +35,7 @@ fn rows_up_to(context: FoundContext<'_>, text: &[char]) -> usize
 }
 
 /// The entry of the row with these characters.
-pub(crate) fn find_row(
-    context: FoundContext<'_>,
-    wanted: &[char],
-) -> Option<CollationElement32>
+pub(crate) fn find_row(context: FoundContext<'_>, wanted: &[char]) -> Option<CollationElement32>
     requires { IsTrue (has_ascending_rows (found_context context)) }
     ensures { result ≡ row_entry (found_context context.entry).rows wanted.now }
 {

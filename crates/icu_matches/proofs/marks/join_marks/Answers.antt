@@ -1,16 +1,16 @@
-use Rattle.std.proofs.Common.{◌≡◌, ◌+◌, ◌-◌, ◌<◌, ◌≤◌, ℕ, List, true, false, Some, None, [], ◌∷◌, ◌++◌, length, take, drop, refl, sym, ap, ap₂, ◌∙◌, inl, inr, rules, arith, length-drop, length-append}
+use Rattle.std.proofs.Common.{◌≡◌, ◌+◌, ◌<◌, ◌≤◌, ℕ, List, true, false, Some, None, [], ◌∷◌, ◌++◌, length, take, drop, refl, sym, ap, ap₂, ◌∙◌, rules, arith, length-drop, length-append}
 use Rattle.std.specs.Prelude.{slice_get, nat_le, max}
-use Rattle.std.proofs.lemmas.Bool.{eq-eqb, ne_eqb, lt-leb, le-leb}
+use Rattle.std.proofs.lemmas.Bool.{lt-leb, le-leb}
 use Rattle.std.proofs.lemmas.List.{take-append-drop, length-take-le, append-nil}
 use Rattle.std.proofs.lemmas.Option.{slice_get_within}
 use Rattle.std.proofs.Math.ListN.{drop_of_length-le}
 use Rattle.ucd_normal.specs.CanonicalCombiningClass.{canonical_combining_class as class_of}
 use Rattle.unicode_normalization.specs.Order.{is_starter}
 use Rattle.icu_data.specs.StoredData.{found_context}
-use Rattle.icu_data.specs.Data.{Row, row_entry}
+use Rattle.icu_data.specs.Data.{Row}
 use Rattle.icu_matches.specs.Texts.{unread}
 use Rattle.icu_matches.specs.Matches.{Match, is_blocked, with_marks}
-use Rattle.icu_matches.specs.inner.Joining.{greatest_class, match_on}
+use Rattle.icu_matches.specs.inner.Joining.{greatest_class}
 use Rattle.icu_matches.proofs.MarkLemmas.{one_more, blocked_by_greatest, greatest_more, at_starter, at_blocked, at_joining, at_other, at_end, removed_after, removed_before, nothing_there}
 use Rattle.icu_matches.proofs.marks.join_marks.Goals as goal
 use Rattle.icu_matches.proofs.marks.join_marks.Goals.{then-class-greatest+in_ok-join_mark+else-branch, else-class-greatest}
@@ -44,7 +44,7 @@ marks-smaller-then-branch c =
     let is : slice_get text l.passed ≡ Some c.in-Some.mark = search rules in
     let within : l.passed < length text = slice_get_within text l.passed c.in-Some.mark is in
     let long : length new ≡ length (take l.passed text) + length (drop (l.passed + 1) text) =
-        ap length c.remove.ensures.rest ∙ length-append (take l.passed text) (drop (l.passed + 1) text) in
+    ap length c.remove.ensures.rest ∙ length-append (take l.passed text) (drop (l.passed + 1) text) in
     let shorter : length new < length text = omega (arith, within, long, length-take-le l.passed text (omega (arith, within)), length-drop (l.passed + 1) text) in
     omega (arith, shorter, within)
 
@@ -60,7 +60,7 @@ marks-preserved-then-branch c =
     let class : class_of m ≡ c.canonical_combining_class-class.result = search rules in
     let above : l.greatest < class_of m = omega (arith, class, c.if-class-greatest.true) in
     let free : is_blocked (take l.passed text) m ≡ false =
-        blocked_by_greatest (take l.passed text) m (omega (arith, above)) ∙ lt-leb _ _ (omega (arith, above, l.invariant.greatest)) in
+    blocked_by_greatest (take l.passed text) m (omega (arith, above)) ∙ lt-leb _ _ (omega (arith, above, l.invariant.greatest)) in
     let joins = rw c.if-branch.true at c.in_ok-join_mark.ensures in
     let new : List ℕ = unread c.remove.new.self in
     let before : take l.passed new ≡ take l.passed text = removed_before text l.passed new within c.remove.ensures.rest in
@@ -68,7 +68,7 @@ marks-preserved-then-branch c =
     let entry : ℕ = c.join_mark.new.matched.ce32 in
     let suffix : List ℕ = c.join_mark.new.matched.suffix.items in
     let long : length new ≡ length (take l.passed text) + length (drop (l.passed + 1) text) =
-        ap length c.remove.ensures.rest ∙ length-append (take l.passed text) (drop (l.passed + 1) text) in
+    ap length c.remove.ensures.rest ∙ length-append (take l.passed text) (drop (l.passed + 1) text) in
     record {
       inside = omega (arith, long, length-take-le l.passed text (omega (arith, within)));
       greatest = l.invariant.greatest ∙ ap greatest_class (sym before);
@@ -154,5 +154,5 @@ returns c =
     let past : length text ≤ l.passed = nothing_there text l.passed none in
     let ended : List ℕ → Match = λ r. record { entry = l.matched.ce32; suffix = l.matched.suffix.items; rest = r } in
     let whole : take l.passed text ≡ text =
-        sym (append-nil (take l.passed text)) ∙ (ap (λ (r : List ℕ). take l.passed text ++ r) (sym (drop_of_length-le text past)) ∙ take-append-drop l.passed text) in
+    sym (append-nil (take l.passed text)) ∙ (ap (λ (r : List ℕ). take l.passed text ++ r) (sym (drop_of_length-le text past)) ∙ take-append-drop l.passed text) in
     ap ended (sym whole) ∙ (sym (at_end rows l.matched.ce32 l.matched.suffix.items (take l.passed text) text l.passed past) ∙ l.invariant.whole)

@@ -1,8 +1,10 @@
-use Rattle.std.proofs.Common.{◌≡◌, ℕ, IfOk, Ok, Err, subst, sym, ap, rules, Result}
-use Rattle.icu_data.specs.Data.{homed}
+use Rattle.std.proofs.Common.{◌≡◌, ℕ, List, subst, sym, ap}
+use Rattle.std.proofs.lemmas.Result.{IfOk-weaker}
+use Rattle.icu_data.specs.Data.{Data, homed}
 use Rattle.icu_data.specs.StoredData.{data_of}
 use Rattle.icu_matches.specs.GoodEntries.{IsGoodMatch}
-use Rattle.icu_matches.specs.Matches.{Match, after_prefix, match_of}
+use Rattle.icu_matches.specs.Matches.{Match, match_of}
+use Rattle.icu_matches.specs.declared.matched.Matched.{Matched}
 use Rattle.icu_matches.specs.Texts.{unread}
 use Rattle.icu_matches.proofs.MatchLemmas.{good_match, prefix_inside, contraction_inside}
 use Rattle.icu_matches.proofs.matched.find_match.Goals as goal
@@ -14,4 +16,10 @@ pub found-requires : goal.found-requires
 found-requires c = rw c.after_prefix.ensures (contraction_inside (data_of c.args.home) c.args.c c.args.ce32 c.args.before.now c.requires)
 
 pub returns-clause-good : goal.returns-clause-good
-returns-clause-good c = ?
+returns-clause-good c =
+    let home : Data = data_of c.args.home in
+    let before : List ℕ = c.args.before.now in
+    let text : List ℕ = unread c.args.text.now in
+    let of_match : (m : Matched) → record { entry = m.ce32; suffix = m.suffix.items; rest = unread c.found.new.text } ≡ match_of (homed home c.args.ce32) before text → IsGoodMatch home c.args.c m.ce32 =
+    λ m is. subst (IsGoodMatch home c.args.c) (sym (ap (λ (x : Match). x.entry) is)) (good_match home c.args.c c.args.ce32 before text c.requires) in
+    IfOk-weaker c.found.result _ _ of_match (rw c.after_prefix.ensures at c.found.ensures)

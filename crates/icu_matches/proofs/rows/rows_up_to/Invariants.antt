@@ -1,4 +1,4 @@
-use Rattle.std.proofs.Common.{◌≡◌, ◌-◌, ◌≤◌, length}
+use Rattle.std.proofs.Common.{◌-◌, ◌≤◌, length}
 use Rattle.icu_data.specs.StoredData.{found_context}
 use Rattle.icu_matches.specs.inner.Rows.{IsUpTo, ComeAfter}
 use Rattle.icu_matches.proofs.rows.rows_up_to.Given as goal

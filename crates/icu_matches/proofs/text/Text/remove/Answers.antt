@@ -1,4 +1,4 @@
-use Rattle.std.proofs.Common.{◌≡◌, ◌+◌, ◌-◌, ◌<◌, ◌≤◌, ◌++◌, ℕ, List, length, take, drop, rules, arith, length-drop, ap}
+use Rattle.std.proofs.Common.{◌≡◌, ◌+◌, ◌-◌, ◌<◌, ◌++◌, ℕ, List, length, take, drop, rules, arith, length-drop}
 use Rattle.icu_matches.specs.Texts.{unread}
 use Rattle.icu_matches.proofs.TextLemmas.{moved_to_front}
 use Rattle.icu_matches.proofs.text.Text.remove.Goals as goal
