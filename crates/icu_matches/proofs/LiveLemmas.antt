@@ -88,7 +88,7 @@ choose_row Q (Some r) d h p = h
 choose_row Q None d h p = p
 
 -- the entry that a prefix leads to
-after_prefix-live : (P : ℕ → Type 0) (h : HomedEntry) (before : List ℕ) → AllByRecursion P (live_from h.home h.entry) → AllByRecursion P (live_contraction h.home (after_prefix h before))
+pub after_prefix-live : (P : ℕ → Type 0) (h : HomedEntry) (before : List ℕ) → AllByRecursion P (live_from h.home h.entry) → AllByRecursion P (live_contraction h.home (after_prefix h before))
 unfolding live_from after_prefix
 after_prefix-live P h before live =
     let Q : ℕ → Type 0 = λ e. AllByRecursion P (live_contraction h.home e) in

@@ -1,15 +1,18 @@
 //! The match of an entry.
 
-ghost use Rattle.std.specs.Prelude.{◌≡◌, IfOk};
+ghost use Rattle.std.specs.Prelude.{◌≡◌, ◌<◌, IfOk, length};
 ghost use Rattle.icu_data.specs.Data.{homed};
 ghost use Rattle.icu_data.specs.StoredData.{data_of};
 ghost use Rattle.icu_matches.specs.GoodEntries.{IsGoodFrom, IsGoodMatch};
-ghost use Rattle.icu_matches.specs.Matches.{match_of};
+ghost use Rattle.icu_entries.specs.Entries.{kind_of, entry_index};
+ghost use Rattle.icu_matches.specs.Matches.{match_from, match_of};
 ghost use Rattle.icu_matches.specs.Texts.{unread};
+ghost use Rattle.icu_matches.specs.inner.Joining.{match_left};
 
+use crate::contexts::{after_prefix, contract};
 use crate::text::Text;
 use icu_data::CollationData;
-use icu_entries::CollationElement32;
+use icu_entries::{CollationElement32, EntryKind};
 use std::alloc::{AllocError, Global};
 
 /// What an entry matched: the entry that it came to, and the characters that it consumed after its first.
@@ -19,6 +22,26 @@ pub struct Matched {
     pub ce32: CollationElement32,
     /// The characters that the match consumed after its first, in the order in which they were consumed.
     pub suffix: Vec<char>,
+}
+
+/// The match of an entry before a text, once its prefix is decided.
+#[tactic(auto, unfolding(crate::specs::Matches::match_from))]
+fn found(
+    alloc: Global,
+    home: CollationData<'_>,
+    ce32: CollationElement32,
+    text: &mut Text,
+) -> Result<Matched, AllocError>
+    requires { kind_of ce32 ≡ EntryKind.Contraction → entry_index ce32 < length (data_of home).contexts }
+    ensures { IfOk result (λ m. match_left m text.new ≡ match_from (data_of home.entry) ce32 (unread text.old)) }
+{
+    match ce32.kind() {
+        EntryKind::Contraction => contract(alloc, home.get_context(ce32.index()), text),
+        _ => Ok(Matched {
+            ce32,
+            suffix: Vec::new(alloc),
+        }),
+    }
 }
 
 /// The match of a character's entry, after the characters that were consumed, nearest first, and before a decomposed text, from which
@@ -38,5 +61,5 @@ pub fn find_match(
     ensures value { IfOk result (λ m. record { entry = m.ce32; suffix = m.suffix.items; rest = unread text.new } ≡ match_of (homed (data_of home.entry) ce32) before.now (unread text.old)) }
     ensures good { IfOk result (λ m. IsGoodMatch (data_of home.entry) c m.ce32) }
 {
-    Err(AllocError)
+    found(alloc, home, after_prefix(home, ce32, before), text)
 }

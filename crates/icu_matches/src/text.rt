@@ -1,6 +1,6 @@
 //! The characters of a text that are still to be read.
 
-ghost use Rattle.std.specs.Prelude.{◌≡◌, ◌↔◌, ◌<◌, ◌≤◌, ◌+◌, ◌++◌, [], length, take, drop, slice_get, option_to_list, Some, None};
+ghost use Rattle.std.specs.Prelude.{◌≡◌, ◌↔◌, ◌<◌, ◌≤◌, ◌+◌, ◌++◌, [], length, take, drop, slice_get, option_to_list, Some, None, true};
 
 /// A decomposed text, of which some characters were read: the others are still to be read, in order. Taking one out costs
 /// as many steps as characters stand before it, however long the text is. No call allocates.
