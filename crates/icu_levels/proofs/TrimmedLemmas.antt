@@ -4,7 +4,7 @@ use Rattle.std.proofs.lemmas.List.{take_more}
 use Rattle.std.proofs.Math.Seq.{take-length}
 use Rattle.icu_levels.specs.WeightBytes.{before_nonzero, without_last_zeros}
 
-zero_dropped : (xs : List ℕ) → without_last_zeros (xs ++ 0 ∷ []) ≡ without_last_zeros xs
+pub zero_dropped : (xs : List ℕ) → without_last_zeros (xs ++ 0 ∷ []) ≡ without_last_zeros xs
 zero_dropped [] = refl
 zero_dropped (x ∷ xs) = ap (before_nonzero x) (zero_dropped xs)
 
@@ -13,7 +13,7 @@ before_some zero y ys = refl
 before_some (suc x) y ys = refl
 
 -- a list that ends in another number has none
-kept_whole : (xs : List ℕ) (y : ℕ) → without_last_zeros (xs ++ suc y ∷ []) ≡ xs ++ suc y ∷ []
+pub kept_whole : (xs : List ℕ) (y : ℕ) → without_last_zeros (xs ++ suc y ∷ []) ≡ xs ++ suc y ∷ []
 kept_whole [] y = refl
 kept_whole (x ∷ []) y = before_some x (suc y) []
 kept_whole (x ∷ (z ∷ xs)) y = ap (before_nonzero x) (kept_whole (z ∷ xs) y) ∙ before_some x z (xs ++ suc y ∷ [])
