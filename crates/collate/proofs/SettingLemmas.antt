@@ -40,7 +40,7 @@ unfolding settings_by
 merged strength p is =
     ap (λ c. settings_by strength c p.numeric_ordering) is.case_first ∙ ap (λ n. settings_by strength None n) is.numeric_ordering
 
-module _ (m : Mini) (mini : IsMini m) (strength : Strength) (few : IsTrue (is_at_most_tertiary strength)) where
+module _ (m : Mini) (strength : Strength) (few : IsTrue (is_at_most_tertiary strength)) where
   by_settings : ComparesBy strength (collator_tables m) (all_tables m) (settings_by strength None None)
   unfolding settings_by
   by_settings = record {
