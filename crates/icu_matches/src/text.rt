@@ -65,7 +65,7 @@ impl Text {
         ensures ends { result ≡ None ↔ unread self.old ≡ [] }
     {
         let c = self.first()?;
-        self.next += 1;
+        self.skip(1);
         Some(c)
     }
 
