@@ -6,6 +6,7 @@ pub mod ReadableLemmas
 pub mod LiveTextLemmas
 pub mod StepLemmas
 pub mod ReaderLemmas
+pub mod DigitLemmas
 pub mod Computing
 pub mod WorkedTables
 mod WorkedTexts
