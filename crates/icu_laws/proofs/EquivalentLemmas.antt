@@ -53,15 +53,20 @@ own_levels c f t =
     all_tie _ _ _ _ _ _ (same_lists_order (map c.reorder t.primaries) (map c.reorder t.primaries) refl) (own_secondaries t f.secondary)
     (own_cases t f.cases) (own_tertiaries t f.tertiary) (own_quaternaries t f.quaternary) (own_characters t f.identical)
 
--- the last of six orders, where they tie
-last_ties : (a b c d e f : Ordering) → in_turn (a ∷ b ∷ c ∷ d ∷ e ∷ f ∷ []) ≡ Equal → f ≡ Equal
-last_ties a b c d e f h =
-    let after_a = both_tie a (in_turn (b ∷ c ∷ d ∷ e ∷ f ∷ [])) h in
-    let after_b = both_tie b (in_turn (c ∷ d ∷ e ∷ f ∷ [])) after_a.1 in
-    let after_c = both_tie c (in_turn (d ∷ e ∷ f ∷ [])) after_b.1 in
-    let after_d = both_tie d (in_turn (e ∷ f ∷ [])) after_c.1 in
-    let after_e = both_tie e (in_turn (f ∷ [])) after_d.1 in
-    (both_tie f Equal after_e.1).0
+-- the last level of two texts that tie
+last_level : (c : Compression) (f : KeyForm) (t u : LevelLists) → levels_order c f t u ≡ Equal → characters_order f.identical t u ≡ Equal
+last_level c f t u h =
+    let o1 = secondaries_order f.secondary t u in
+    let o2 = cases_order f.cases t u in
+    let o3 = tertiaries_order f.tertiary t u in
+    let o4 = quaternaries_order f.quaternary t u in
+    let o5 = characters_order f.identical t u in
+    let after0 = both_tie (primaries_order c t u) (in_turn (o1 ∷ o2 ∷ o3 ∷ o4 ∷ o5 ∷ [])) h in
+    let after1 = both_tie o1 (in_turn (o2 ∷ o3 ∷ o4 ∷ o5 ∷ [])) after0.1 in
+    let after2 = both_tie o2 (in_turn (o3 ∷ o4 ∷ o5 ∷ [])) after1.1 in
+    let after3 = both_tie o3 (in_turn (o4 ∷ o5 ∷ [])) after2.1 in
+    let after4 = both_tie o4 (in_turn (o5 ∷ [])) after3.1 in
+    (both_tie o5 Equal after4.1).0
 
 same_characters : (t u : LevelLists) → characters_order true t u ≡ Equal → t.characters ≡ u.characters
 same_characters t u e =
@@ -89,4 +94,6 @@ module _ (all : CollatorTables) (settings : Settings) (t u : List ℕ) where
 
   pub identical_equivalent : settings.strength ≡ Identical → text_order all settings t u ≡ Equal → nfd t ≡ nfd u
   unfolding text_order
-  identical_equivalent is e = characters_tie settings.strength is (last_ties _ _ _ _ _ _ e)
+  identical_equivalent is e =
+      characters_tie settings.strength is
+      (last_level (compression_of all) (form_by all settings) (lists_by all settings (nfd t)) (lists_by all settings (nfd u)) e)

@@ -14,3 +14,7 @@ pub mod TextTies
 pub mod EachLevel
 pub mod TextOrders
 mod WorkedWeights
+pub mod Computing
+pub mod WorkedSettings
+mod WorkedTextKeys
+mod WorkedTextOrders
