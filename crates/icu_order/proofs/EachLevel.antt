@@ -1,5 +1,4 @@
 -- Each level of two keys by itself.
-use Rattle.std.proofs.Common.{◌≡◌}
 use Rattle.icu_levels.specs.Primaries.{Compression}
 use Rattle.icu_levels.specs.Keys.{LevelLists}
 use Rattle.icu_levels.specs.KeyPremises.{LiveWeights, AreWeights, AreLists, AreParallel}

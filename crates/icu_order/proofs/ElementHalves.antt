@@ -1,5 +1,5 @@
 -- What the elements of texts have on each level, by tables that meet the conditions.
-use Rattle.std.proofs.Common.{◌≡◌, ◌≢◌, ◌⊎◌, ℕ, ◌*◌, ◌/◌, ◌^◌, ◌<◌, Bool, true, false, not, ◌&&◌, ◌||◌, ◌==◌, nat_lt, refl, sym, ap, ◌∙◌, subst, arith, inl, inr, lit<, Option, Some, None}
+use Rattle.std.proofs.Common.{◌≡◌, ◌≢◌, ◌⊎◌, ℕ, ◌*◌, ◌/◌, ◌^◌, ◌<◌, true, false, not, ◌&&◌, ◌||◌, ◌==◌, nat_lt, refl, sym, ap, ◌∙◌, subst, arith, inl, inr, lit<}
 use Rattle.std.specs.Prelude.{bit_and}
 use Rattle.std.proofs.lemmas.Nat.{and_le_r}
 use Rattle.std.proofs.lemmas.Bool.{and_parts, cases_Bool}
@@ -25,7 +25,7 @@ use Rattle.icu_order.proofs.TertiaryWeights.{case_bits, cased_low}
 use Rattle.icu_order.proofs.HandledLemmas.{not_zero}
 use Rattle.icu_order.proofs.CountLemmas.{ReadAlike, PartsWithSecondary}
 use Rattle.icu_order.proofs.NumberLists.{not_variable}
-use Rattle.icu_order.proofs.TextSources.{IsSource, live_primary, under}
+use Rattle.icu_order.proofs.TextSources.{IsSource, live_primary}
 
 -- ---- lower halves
 

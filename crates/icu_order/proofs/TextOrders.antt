@@ -1,5 +1,5 @@
 -- Keys keep the order of texts.
-use Rattle.std.proofs.Common.{◌≡◌, ◌↔◌, ℕ, ◌<◌, Bool, true, false, not, List, Option, Some, None, Equal, refl, sym, ◌∙◌, arith, inl, inr}
+use Rattle.std.proofs.Common.{◌≡◌, ◌↔◌, ℕ, ◌<◌, Bool, true, false, not, List, Some, None, Equal, refl, sym, ◌∙◌, arith}
 use Rattle.std.proofs.lemmas.Bool.Decides.{nat_tests}
 use Rattle.std.specs.Char.{IsScalar}
 use Rattle.std.specs.List.{AllByRecursion}
@@ -16,7 +16,7 @@ use Rattle.icu_levels.specs.KeyLaws.{HaveSameLists}
 use Rattle.icu_levels.specs.KeyPremises.{AreWeights, AreLists, AreParallel}
 use Rattle.icu_levels.specs.declared.forms.QuaternaryForm.{QuaternaryForm}
 use Rattle.icu_levels.specs.declared.forms.QuaternaryForm.TheVariants.{MayShift, Unshifted}
-use Rattle.icu_levels.specs.declared.forms.SecondaryForm.TheVariants.{Forward, Backward}
+use Rattle.icu_levels.specs.declared.forms.SecondaryForm.TheVariants.{Backward}
 use Rattle.icu_levels.specs.declared.forms.TertiaryForm.{TertiaryForm}
 use Rattle.icu_levels.proofs.Order.{same_lists_order, tied_lists}
 use Rattle.icu_levels.proofs.KeyOrder.{keys_order}
@@ -24,7 +24,7 @@ use Rattle.icu_levels.proofs.SameKeys.{same_levels, same_keys}
 use Rattle.icu_entries.specs.Elements.{Element}
 use Rattle.icu_data.proofs.CharLemmas.{scalar_below}
 use Rattle.icu_data.proofs.ListLemmas.{weaker}
-use Rattle.icu_provider.specs.CollatorTables.{CollatorTables, is_forward}
+use Rattle.icu_provider.specs.CollatorTables.{CollatorTables}
 use Rattle.icu_checks.specs.GoodTables.{IsGoodTables}
 use Rattle.icu_elements.specs.TextElements.{elements_of}
 use Rattle.icu_elements.specs.TextParts.{IsDecomposed}

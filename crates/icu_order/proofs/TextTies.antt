@@ -1,5 +1,5 @@
 -- What equal earlier lists give of two texts: as many cases, and where no element is shifted as many quaternaries.
-use Rattle.std.proofs.Common.{◌≡◌, ℕ, List, [], map, length, Equal, Option, Some, None, refl, sym, ap, ◌∙◌, arith}
+use Rattle.std.proofs.Common.{◌≡◌, ℕ, List, map, length, Equal, Option, Some, None, refl, sym, ap, ◌∙◌, arith}
 use Rattle.std.proofs.lemmas.List.{length-map}
 use Rattle.std.specs.List.{AllByRecursion}
 use Rattle.icu_levels.specs.ListOrder.{list_order}

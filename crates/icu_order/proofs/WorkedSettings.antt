@@ -1,5 +1,5 @@
 -- Tables and settings that worked texts are compared by: the test table Mini and its variants, with all other tables.
-use Rattle.std.proofs.Common.{ℕ, ◌*◌, Bool, true, false, ◌==◌, List, [], ◌∷◌, ◌++◌, map, Option, Some, None, if◌then◌else◌}
+use Rattle.std.proofs.Common.{ℕ, true, false, ◌==◌, List, [], ◌∷◌, map, Some, None, if◌then◌else◌}
 use Rattle.std.specs.List.{range_with_len}
 use Rattle.icu_options.specs.Settings.{Settings}
 use Rattle.icu_options.specs.declared.settings.Strength.{Strength}
@@ -8,8 +8,6 @@ use Rattle.icu_options.specs.declared.settings.CollationCaseFirst.TheVariants.{F
 use Rattle.icu_options.specs.declared.settings.MaxVariable.TheVariants.{Punctuation, Currency}
 use Rattle.icu_entries.specs.Elements.{Element, element_of}
 use Rattle.icu_data.specs.Data.{Context}
-use Rattle.icu_provider.specs.Reorderings.{Reordering}
-use Rattle.icu_provider.specs.SpecialPrimaries.{SpecialPrimaries}
 use Rattle.icu_provider.specs.Tables.{Tables}
 use Rattle.icu_provider.specs.CollatorTables.{CollatorTables}
 use Rattle.icu_elements.proofs.WorkedTables.{mini as mini_tables, ring, offsets}

@@ -1,5 +1,5 @@
 -- Orders of two texts, computed by the definitions.
-use Rattle.std.proofs.Common.{◌≡◌, ℕ, refl, List, [], ◌∷◌, ◌++◌, Less, Equal, Greater}
+use Rattle.std.proofs.Common.{◌≡◌, refl, [], ◌∷◌, Less, Equal, Greater}
 use Rattle.std.specs.Prelude.{replicate}
 use Rattle.icu_options.specs.declared.settings.Strength.TheVariants.{Primary, Secondary, Tertiary, Quaternary, Identical}
 use Rattle.icu_order.specs.TextOrder.{text_order}
