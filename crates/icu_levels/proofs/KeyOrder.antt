@@ -36,7 +36,7 @@ closed_determines ps qs o h s t u v =
     ∙ (rw (append_assoc ps (1 ∷ []) s, append_assoc qs (1 ∷ []) t) (h (1 ∷ s) (1 ∷ t) (lit< tt) (lit< tt))
     ∙ ap (ordering_then o) (same_head 1 s t))
 
-part_determines : (p q : LevelPart) (o : Ordering) → PartDetermines p q o → Determines (part_bytes p) (part_bytes q) o
+pub part_determines : (p q : LevelPart) (o : Ordering) → PartDetermines p q o → Determines (part_bytes p) (part_bytes q) o
 part_determines absent absent o h s t u v = rw h refl
 part_determines absent (opened qs) o h s t u v = absurd h
 part_determines absent (closed qs) o h s t u v = absurd h

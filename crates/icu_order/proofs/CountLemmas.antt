@@ -1,13 +1,13 @@
 -- How many members the lists of a text have.
 use Rattle.std.proofs.Common.{◌≡◌, ◌≢◌, ℕ, suc, ◌+◌, Bool, true, false, ◌==◌, List, [], ◌∷◌, length, map, reverse, ap₂, if◌then◌else◌, refl, sym, ap, ◌∙◌, arith}
 use Rattle.std.proofs.lemmas.List.{length-map, length-reverse}
-use Rattle.std.proofs.lemmas.Bool.Decides.{nat_tests}
+use Rattle.std.proofs.lemmas.Bool.{eqb-true}
 use Rattle.std.specs.List.{AllByRecursion}
 use Rattle.icu_entries.specs.Elements.{Element}
 use Rattle.icu_entries.specs.ElementConditions.{separator_primary, tertiary_of}
 use Rattle.icu_order.specs.Handled.{HandledElement, stayed, shifted_primary, stayed_elements}
 use Rattle.icu_order.specs.Levels.{weights, secondary_of, parted, segments, quaternary_weight, quaternaries}
-use Rattle.icu_order.proofs.HandledLemmas.{choose, HoldsOf}
+use Rattle.icu_order.proofs.HandledLemmas.{by_test, HoldsOf}
 
 -- two ifs on one test
 both_ifs : {X Y : Type 0} (R : X → Y → Type 0) (b : Bool) (x x' : X) (y y' : Y) → (b ≡ true → R x y) → (b ≡ false → R x' y') → R (if b then x else x') (if b then y else y')
@@ -47,9 +47,6 @@ total (xs ∷ xss) = length xs + total xss
 abbrev pub PartsWithSecondary : Element → Type 0
 PartsWithSecondary x = x.primary ≡ separator_primary → secondary_of x ≢ 0
 
-eq_from : (m n : ℕ) → (m == n) ≡ true → m ≡ n
-eq_from m n h = grind (arith, nat_tests)
-
 abbrev CountsWith : List ℕ → List ℕ × List (List ℕ) → Type 0
 CountsWith ws p = suc (length ws) ≡ total (p.0 ∷ p.1) + length (p.0 ∷ p.1)
 
@@ -59,10 +56,10 @@ unfolding weights parted
 parts_count has [] h = omega arith
 parts_count has (x ∷ xs) h =
     let more : CountsWith (weights secondary_of has xs) (parted xs) = parts_count has xs h.1 in
-    choose (CountsWith (if secondary_of x == 0 then weights secondary_of has xs else has x ∷ weights secondary_of has xs))
+    by_test (CountsWith (if secondary_of x == 0 then weights secondary_of has xs else has x ∷ weights secondary_of has xs))
     (x.primary == separator_primary) _ _
-    (λ s. choose (λ (ws : List ℕ). CountsWith ws ([], (parted xs).0 ∷ (parted xs).1)) (secondary_of x == 0) _ _
-    (λ z. absurd (h.0 (eq_from x.primary separator_primary s) (eq_from (secondary_of x) 0 z)))
+    (λ s. by_test (λ (ws : List ℕ). CountsWith ws ([], (parted xs).0 ∷ (parted xs).1)) (secondary_of x == 0) _ _
+    (λ z. absurd (h.0 (eqb-true x.primary separator_primary s) (eqb-true (secondary_of x) 0 z)))
     (λ _. omega (arith, more)))
     (λ _. both_ifs CountsWith (x.secondary == 0) _ _ _ _ (λ _. more) (λ _. omega (arith, more)))
 

@@ -2,7 +2,7 @@
 use Rattle.std.proofs.Common.{◌≡◌, ◌≢◌, ◌⊎◌, ℕ, ◌*◌, ◌/◌, ◌^◌, ◌<◌, true, false, not, ◌&&◌, ◌||◌, ◌==◌, nat_lt, refl, sym, ap, ◌∙◌, subst, arith, inl, inr, lit<}
 use Rattle.std.specs.Prelude.{bit_and}
 use Rattle.std.proofs.lemmas.Nat.{and_le_r}
-use Rattle.std.proofs.lemmas.Bool.{and_parts, cases_Bool}
+use Rattle.std.proofs.lemmas.Bool.{and_parts, cases_Bool, eqb-false}
 use Rattle.std.proofs.lemmas.Bool.Decides.{nat_tests}
 use Rattle.icu_levels.specs.Tertiaries.{tertiary_runs}
 use Rattle.icu_levels.specs.Premises.{IsRank, IsUnshifted}
@@ -22,7 +22,6 @@ use Rattle.icu_order.specs.Levels.{secondary_of, case_rank, cased_mask, masked_t
 use Rattle.icu_order.specs.LiveWeights.{IsLivePrimary, IsLiveSecondary, IsLiveTertiary}
 use Rattle.icu_order.proofs.LiveElementLemmas.{live-shape, live-primary_lead, other_part}
 use Rattle.icu_order.proofs.TertiaryWeights.{case_bits, cased_low}
-use Rattle.icu_order.proofs.HandledLemmas.{not_zero}
 use Rattle.icu_order.proofs.CountLemmas.{ReadAlike, PartsWithSecondary}
 use Rattle.icu_order.proofs.NumberLists.{not_variable}
 use Rattle.icu_order.proofs.TextSources.{IsSource, live_primary}
@@ -46,7 +45,7 @@ cased_alike l h = by (cases_Bool (bit_and l tertiary_mask == 0))
     by : ((bit_and l tertiary_mask == 0) ≡ true) ⊎ ((bit_and l tertiary_mask == 0) ≡ false) → (bit_and l cased_mask == 0) ≡ (bit_and l tertiary_mask == 0)
     by (inl none) = rw (empty_half l h none) refl
     by (inr some) =
-        let other : bit_and l tertiary_mask ≢ 0 = not_zero (bit_and l tertiary_mask) some in
+        let other : bit_and l tertiary_mask ≢ 0 = eqb-false (bit_and l tertiary_mask) 0 some in
         let low = cased_low l in
         let cased : bit_and l cased_mask ≢ 0 = λ z. other (omega (arith, low, z)) in
         grind (arith, nat_tests)

@@ -1,5 +1,6 @@
 -- The primaries of a text may stand where they are: numbers stay whole, since none of their elements is variable.
 use Rattle.std.proofs.Common.{◌≡◌, ◌≢◌, ℕ, ◌*◌, ◌^◌, ◌<◌, ◌≤◌, Bool, true, false, ◌&&◌, ◌==◌, List, [], ◌∷◌, ◌++◌, map, refl, sym, ap, ◌∙◌, subst, arith, inl, inr, ne_eqb}
+use Rattle.std.proofs.lemmas.Bool.{eqb-false}
 use Rattle.std.proofs.lemmas.Bool.Decides.{nat_tests}
 use Rattle.std.specs.List.{AllByRecursion}
 use Rattle.icu_levels.specs.Primaries.{lead}
@@ -15,7 +16,7 @@ use Rattle.icu_order.specs.Handled.{HandledElement, is_variable, handled, stayed
 use Rattle.icu_order.specs.Levels.{weights, primaries}
 use Rattle.icu_order.specs.Forms.{compression_of}
 use Rattle.icu_order.specs.LiveWeights.{IsLivePrimary}
-use Rattle.icu_order.proofs.HandledLemmas.{choose, not_zero}
+use Rattle.icu_order.proofs.HandledLemmas.{by_test}
 use Rattle.icu_order.proofs.PrimaryWeights.{live_primaries}
 use Rattle.icu_order.proofs.SpecialBounds.{numeric_high, numeric_low}
 
@@ -65,11 +66,11 @@ module _ (all : CollatorTables) (good : IsGoodTables all) (last : ℕ) (under : 
   unfolding handled weights
   live_stand x live es h after =
       let C : List HandledElement → Type 0 = λ hs. MayFollow (primaries (stayed_elements hs)) in
-      choose C (is_variable last x) _ _ (λ _. h true)
-      (λ _. choose C (after && x.primary == 0) _ _ (λ _. h true)
-      (λ _. choose MayFollow (x.primary == 0) _ _ (λ _. h false)
+      by_test C (is_variable last x) _ _ (λ _. h true)
+      (λ _. by_test C (after && x.primary == 0) _ _ (λ _. h true)
+      (λ _. by_test MayFollow (x.primary == 0) _ _ (λ _. h false)
       (λ n. live_stands (compression_of all) all.special.numeric (IsLivePrimary all) (live_primaries all good) x.primary _
-      (live (not_zero x.primary n)) (h false))))
+      (live (eqb-false x.primary 0 n)) (h false))))
 
   pub all_stand : (xs : List Element) → AllByRecursion (λ x. x.primary ≢ 0 → IsLivePrimary all x.primary) xs → (es : List Element) → Stands es
       → Stands (xs ++ es)

@@ -1,5 +1,6 @@
 -- The lists of a text have only weights that its tables can give.
 use Rattle.std.proofs.Common.{◌≡◌, ◌≢◌, ℕ, ◌<◌, false, ◌==◌, List, [], ◌∷◌, length, map, reverse, Option, Some, None, refl, sym, ap, subst, arith, inl, inr}
+use Rattle.std.proofs.lemmas.Bool.{eqb-false}
 use Rattle.std.proofs.lemmas.List.{reverse-append}
 use Rattle.std.specs.List.{AllByRecursion}
 use Rattle.icu_levels.specs.Premises.{IsRank, IsUnshifted, IsQuaternary, IsPrimaryList}
@@ -20,7 +21,7 @@ use Rattle.icu_checks.specs.GoodTables.{IsGoodTables}
 use Rattle.icu_order.specs.Handled.{HandledElement, stayed, shifted_primary, stayed_elements}
 use Rattle.icu_order.specs.Levels.{primaries, secondary_of, parted, segments, case_reads, case_rank, cases_in, masked_tertiary, tertiary_in, tertiaries_in, quaternaries, level_lists}
 use Rattle.icu_order.specs.LiveWeights.{IsLivePrimary, IsShiftedPrimary, IsLiveSecondary, IsLiveTertiary, IsTertiaryOf, live_weights}
-use Rattle.icu_order.proofs.HandledLemmas.{choose, HoldsOf, stayed_hold, weights_hold, not_zero}
+use Rattle.icu_order.proofs.HandledLemmas.{by_test, HoldsOf, stayed_hold, weights_hold}
 use Rattle.icu_order.proofs.TextSources.{IsSource}
 use Rattle.icu_order.proofs.ElementHalves.{bits_unshifted, secondary_live, tertiary_live, has_rank}
 
@@ -38,8 +39,8 @@ module _ (IsElement : Element → Type 0) (P : ℕ → Type 0) (has : (x : Eleme
   parts_hold [] h = (tt, tt)
   parts_hold (x ∷ xs) h =
       let more : HoldInParts P (parted xs) = parts_hold xs h.1 in
-      choose (HoldInParts P) (x.primary == separator_primary) _ _ (λ _. (tt, (more.0, more.1)))
-      (λ _. choose (HoldInParts P) (x.secondary == 0) _ _ (λ _. more) (λ n. ((has x h.0 (not_zero x.secondary n), more.0), more.1)))
+      by_test (HoldInParts P) (x.primary == separator_primary) _ _ (λ _. (tt, (more.0, more.1)))
+      (λ _. by_test (HoldInParts P) (x.secondary == 0) _ _ (λ _. more) (λ n. ((has x h.0 (eqb-false x.secondary 0 n), more.0), more.1)))
 
   all_reversed : (xs : List ℕ) → AllByRecursion P xs → AllByRecursion P (reverse xs)
   all_reversed [] h = tt
@@ -63,7 +64,7 @@ module _ (all : CollatorTables) (good : IsGoodTables all) where
   unfolding quaternaries
   quaternaries_hold [] h = tt
   quaternaries_hold (stayed x ∷ hs) h =
-      choose (AllByRecursion (IsQuaternary (IsShiftedPrimary all))) (tertiary_of x == 0) _ _ (λ _. quaternaries_hold hs h.1)
+      by_test (AllByRecursion (IsQuaternary (IsShiftedPrimary all))) (tertiary_of x == 0) _ _ (λ _. quaternaries_hold hs h.1)
       (λ _. (inr (bits_unshifted x), quaternaries_hold hs h.1))
   quaternaries_hold (shifted_primary p ∷ hs) h =
       (inl (record { table = h.0.table; element = h.0.element; live = h.0.live; some = h.0.some; is = ap (reorder all) h.0.is }), quaternaries_hold hs h.1)
@@ -73,7 +74,7 @@ module _ (all : CollatorTables) (good : IsGoodTables all) where
   unfolding quaternaries
   unshifted_hold [] h = tt
   unshifted_hold (stayed x ∷ hs) h =
-      choose (AllByRecursion IsUnshifted) (tertiary_of x == 0) _ _ (λ _. unshifted_hold hs h.1) (λ _. (bits_unshifted x, unshifted_hold hs h.1))
+      by_test (AllByRecursion IsUnshifted) (tertiary_of x == 0) _ _ (λ _. unshifted_hold hs h.1) (λ _. (bits_unshifted x, unshifted_hold hs h.1))
   unshifted_hold (shifted_primary p ∷ hs) h = absurd h.0
 
   -- ---- the lists of a text, by its form

@@ -33,14 +33,14 @@ use Rattle.icu_order.specs.Handled.{is_variable, handled}
 use Rattle.icu_order.specs.Forms.{compression_of, direction, secondary_form, tertiary_form, quaternary_form, handling_form, form_by, last_variable, last_variable_by}
 use Rattle.icu_order.specs.TextOrder.{reading_by, handled_by, lists_by, text_order, text_key}
 use Rattle.icu_order.specs.LiveWeights.{IsLivePrimary, live_weights}
-use Rattle.icu_order.specs.TextLaws.{LevelsDetermine}
+use Rattle.icu_order.specs.TextLaws.{LevelsKeep}
 use Rattle.icu_order.proofs.HandledLemmas.{HoldsOf, handled_hold}
 use Rattle.icu_order.proofs.FormWeights.{weights_live}
 use Rattle.icu_order.proofs.TextSources.{IsSource, under, text_sources, text_stands}
 use Rattle.icu_order.proofs.ElementHalves.{variable_live}
 use Rattle.icu_order.proofs.TextMembers.{AreHandled, lists_live}
 use Rattle.icu_order.proofs.TextTies.{texts_parallel}
-use Rattle.icu_order.proofs.EachLevel.{levels_determine}
+use Rattle.icu_order.proofs.EachLevel.{levels_keep}
 
 -- ---- forms that settings name
 
@@ -124,9 +124,9 @@ module _ (all : CollatorTables) (good : IsGoodTables all) (settings : Settings) 
       λ e. sym keys_keep ∙ same_lists_order (text_key all settings t) (text_key all settings u) e,
     )
 
-    pub levels_keep : LevelsDetermine (compression_of all) (form_by all settings) (lists_by all settings (nfd t)) (lists_by all settings (nfd u))
-    levels_keep =
-        levels_determine (compression_of all) (form_by all settings) (live_weights all (form_by all settings)) (lists_by all settings (nfd t))
+    pub each_level : LevelsKeep (compression_of all) (form_by all settings) (lists_by all settings (nfd t)) (lists_by all settings (nfd u))
+    each_level =
+        levels_keep (compression_of all) (form_by all settings) (live_weights all (form_by all settings)) (lists_by all settings (nfd t))
         (lists_by all settings (nfd u)) weights_good (lists_good t p) (lists_good u q) (lists_parallel t u p q)
 
     pub keys_determine : (text_key all settings t ≡ text_key all settings u)

@@ -1,12 +1,14 @@
 -- The order theorem: sort keys order as texts do.
-use Rattle.std.specs.Prelude.{ℕ, ◌≡◌, ◌↔◌, List}
+use Rattle.std.specs.Prelude.{ℕ, ◌≡◌, ◌↔◌, List, map}
+use Rattle.std.specs.declared.cmp.Ordering.{Ordering}
 use Rattle.std.specs.declared.cmp.Ordering.TheVariants.{Equal}
 use Rattle.unicode_normalization.specs.Forms.{nfd}
 use Rattle.icu_options.specs.Settings.{Settings}
 use Rattle.icu_levels.specs.ListOrder.{list_order}
 use Rattle.icu_levels.specs.Primaries.{Compression, primary_level}
-use Rattle.icu_levels.specs.Keys.{LevelLists, Determines, PartDetermines, secondary_part, case_part, tertiary_part, quaternary_part, identical_part, primaries_order, secondaries_order, cases_order, tertiaries_order, quaternaries_order, characters_order}
-use Rattle.icu_levels.specs.KeyLaws.{HaveSameLists}
+use Rattle.icu_levels.specs.Keys.{LevelPart, part_bytes, LevelLists, PartDetermines, secondary_part, case_part, tertiary_part, quaternary_part, identical_part, primaries_order, secondaries_order, cases_order, tertiaries_order, quaternaries_order, characters_order}
+use Rattle.icu_levels.specs.LevelLaws.{KeepOrder}
+use Rattle.icu_levels.specs.KeyLaws.{SameSecondaries, SameCases, SameTertiaries, SameQuaternaries, SameCharacters, HaveSameLists}
 use Rattle.icu_levels.specs.declared.forms.KeyForm.{KeyForm}
 use Rattle.icu_provider.specs.CollatorTables.{CollatorTables}
 use Rattle.icu_checks.specs.GoodTables.{IsGoodTables}
@@ -33,23 +35,32 @@ KeysDetermineTextLists =
     OfTexts (λ all settings t u. (text_key all settings t ≡ text_key all settings u)
     ↔ HaveSameLists (compression_of all) (form_by all settings) (lists_by all settings (nfd t)) (lists_by all settings (nfd u)))
 
--- Each level by itself: where all earlier levels tie, its bytes determine the order of its lists, whatever follows them
-pub record LevelsDetermine (c : Compression) (f : KeyForm) (t u : LevelLists) : Type 0 where
-  pub primaries : Determines (primary_level c 0 t.primaries) (primary_level c 0 u.primaries) (primaries_order c t u)
+-- A level of two keys: its bytes determine the order, whatever follows them, and the same bytes mean the same list
+pub record LevelKeeps (p q : LevelPart) (order : Ordering) (Same : Type 0) : Type 0 where
+  pub determines : PartDetermines p q order
+  pub same : part_bytes p ≡ part_bytes q → Same
+
+-- each level by itself, where all earlier levels tie
+pub record LevelsKeep (c : Compression) (f : KeyForm) (t u : LevelLists) : Type 0 where
+  pub primaries : KeepOrder (primary_level c 0 t.primaries) (primary_level c 0 u.primaries) (map c.reorder t.primaries) (map c.reorder u.primaries)
   pub secondaries : primaries_order c t u ≡ Equal
-      → PartDetermines (secondary_part f.secondary t) (secondary_part f.secondary u) (secondaries_order f.secondary t u)
+      → LevelKeeps (secondary_part f.secondary t) (secondary_part f.secondary u) (secondaries_order f.secondary t u)
+      (SameSecondaries f.secondary t u)
   pub cases : primaries_order c t u ≡ Equal → secondaries_order f.secondary t u ≡ Equal
-      → PartDetermines (case_part f.cases t) (case_part f.cases u) (cases_order f.cases t u)
+      → LevelKeeps (case_part f.cases t) (case_part f.cases u) (cases_order f.cases t u) (SameCases f.cases t u)
   pub tertiaries : primaries_order c t u ≡ Equal → secondaries_order f.secondary t u ≡ Equal → cases_order f.cases t u ≡ Equal
-      → PartDetermines (tertiary_part f.tertiary t) (tertiary_part f.tertiary u) (tertiaries_order f.tertiary t u)
+      → LevelKeeps (tertiary_part f.tertiary t) (tertiary_part f.tertiary u) (tertiaries_order f.tertiary t u)
+      (SameTertiaries f.tertiary t u)
   pub quaternaries : primaries_order c t u ≡ Equal → secondaries_order f.secondary t u ≡ Equal → cases_order f.cases t u ≡ Equal
       → tertiaries_order f.tertiary t u ≡ Equal
-      → PartDetermines (quaternary_part f.quaternary t) (quaternary_part f.quaternary u) (quaternaries_order f.quaternary t u)
+      → LevelKeeps (quaternary_part f.quaternary t) (quaternary_part f.quaternary u) (quaternaries_order f.quaternary t u)
+      (SameQuaternaries f.quaternary t u)
   pub characters : primaries_order c t u ≡ Equal → secondaries_order f.secondary t u ≡ Equal → cases_order f.cases t u ≡ Equal
       → tertiaries_order f.tertiary t u ≡ Equal → quaternaries_order f.quaternary t u ≡ Equal
-      → PartDetermines (identical_part f.identical t) (identical_part f.identical u) (characters_order f.identical t u)
+      → LevelKeeps (identical_part f.identical t) (identical_part f.identical u) (characters_order f.identical t u)
+      (SameCharacters f.identical t u)
 
 abbrev pub LevelsKeepTextOrder : Type 0
 LevelsKeepTextOrder =
-    OfTexts (λ all settings t u. LevelsDetermine (compression_of all) (form_by all settings) (lists_by all settings (nfd t))
+    OfTexts (λ all settings t u. LevelsKeep (compression_of all) (form_by all settings) (lists_by all settings (nfd t))
     (lists_by all settings (nfd u)))

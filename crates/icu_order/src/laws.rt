@@ -14,8 +14,8 @@ pub fn good_tables_serve_levels()
 {}
 
 /// Each level of the keys of two texts by itself, for all tables that meet the conditions and all settings: where all
-/// earlier levels tie, its bytes determine the order of its lists, whatever follows them (UTS #10, section 7.3 "Form
-/// Sort Keys").
+/// earlier levels tie, its bytes determine the order of its lists, whatever follows them, and the same bytes mean the same
+/// list (UTS #10, section 7.3 "Form Sort Keys").
 pub fn levels_keep_text_order()
     ensures { LevelsKeepTextOrder }
 {}
