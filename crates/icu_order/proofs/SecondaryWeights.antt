@@ -11,8 +11,9 @@ use Rattle.icu_checks.specs.declared.condition.ElementCondition.TheVariants.{Wid
 use Rattle.icu_checks.specs.declared.condition.PairCondition.TheVariants.{Secondaries}
 use Rattle.icu_provider.specs.CollatorTables.{CollatorTables, is_forward}
 use Rattle.icu_checks.specs.GoodTables.{IsGoodTables}
-use Rattle.icu_comparison.specs.LiveWeights.{IsLiveWeight, secondary_of, IsLiveSecondary, least_secondary_lead}
-use Rattle.icu_comparison.proofs.LiveElementLemmas.{live-leads}
+use Rattle.icu_order.specs.Levels.{secondary_of}
+use Rattle.icu_order.specs.LiveWeights.{IsLiveWeight, IsLiveSecondary, least_secondary_lead}
+use Rattle.icu_order.proofs.LiveElementLemmas.{live-leads}
 
 -- the leads of secondaries, from the least one on
 abbrev HasLead : ℕ → ℕ → Type 0

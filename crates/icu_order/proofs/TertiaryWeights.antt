@@ -23,8 +23,9 @@ use Rattle.icu_provider.specs.CollatorTables.{CollatorTables}
 use Rattle.icu_checks.specs.ElementConditions.{is_tertiary_element, is_high_tertiary_element, upper_case}
 use Rattle.icu_checks.specs.LiveElements.{IsElementBy}
 use Rattle.icu_checks.specs.GoodTables.{IsGoodTables}
-use Rattle.icu_comparison.specs.LiveWeights.{IsLiveWeight, cased_mask, masked_tertiary, tertiary_in, IsLiveTertiary}
-use Rattle.icu_comparison.proofs.LiveElementLemmas.{live-shape, live-leads, other_part, implied}
+use Rattle.icu_order.specs.Levels.{cased_mask, masked_tertiary, tertiary_in}
+use Rattle.icu_order.specs.LiveWeights.{IsLiveWeight, IsLiveTertiary}
+use Rattle.icu_order.proofs.LiveElementLemmas.{live-shape, live-leads, other_part, implied}
 
 -- ---- bits of a lower half
 
@@ -32,10 +33,10 @@ tertiary_small : (l : ℕ) → bit_and l tertiary_mask < 0x4000
 tertiary_small l = omega (arith, and_le_r l tertiary_mask)
 
 -- the case of a half
-case_bits : (l : ℕ) → l < 2 ^ 16 → bit_and l case_mask ≡ l / 0x4000 * 0x4000
+pub case_bits : (l : ℕ) → l < 2 ^ 16 → bit_and l case_mask ≡ l / 0x4000 * 0x4000
 case_bits l small = omega (arith, and_high l 2 14)
 
-cased_low : (l : ℕ) → bit_and l cased_mask % 0x4000 ≡ bit_and l tertiary_mask
+pub cased_low : (l : ℕ) → bit_and l cased_mask % 0x4000 ≡ bit_and l tertiary_mask
 cased_low l = omega (arith, and_mod l cased_mask 14, and_mod l tertiary_mask 14, tertiary_small l)
 
 cased_high : (l : ℕ) → l < 2 ^ 16 → bit_and l cased_mask / 0x4000 ≡ l / 0x4000

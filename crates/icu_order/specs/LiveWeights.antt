@@ -1,24 +1,19 @@
 -- The weights that the tables of a collator can give, level by level (UTS #10, section 7.3 "Form Sort Keys"; UTS #35 part 5,
 -- "Collation Reordering" and "Case Parameters"), and that they are as the levels of sort keys ask.
-use Rattle.std.specs.Prelude.{false, Option, Some, None, ℕ, ◌+◌, ◌≡◌, ◌≢◌, ◌⊎◌, ◌==◌, bit_and, bit_xor, if◌then◌else◌}
-use Rattle.icu_levels.specs.Primaries.{Compression}
+use Rattle.std.specs.Prelude.{false, Option, Some, None, ℕ, ◌≡◌, ◌≢◌, ◌⊎◌, if◌then◌else◌}
 use Rattle.icu_levels.specs.Tertiaries.{tertiary_runs}
 use Rattle.icu_levels.specs.declared.forms.KeyForm.{KeyForm}
 use Rattle.icu_levels.specs.declared.forms.SecondaryForm.TheVariants.{Backward}
 use Rattle.icu_levels.specs.declared.forms.TertiaryForm.{TertiaryForm}
-use Rattle.icu_levels.specs.declared.forms.TertiaryForm.TheVariants.{WithoutCase, LowerFirst, UpperFirst}
 use Rattle.icu_levels.specs.Premises.{forward_least, backward_least}
 use Rattle.icu_levels.specs.KeyPremises.{LiveWeights, AreWeights}
 use Rattle.icu_entries.specs.declared.error.DataTable.{DataTable}
-use Rattle.icu_entries.specs.Elements.{Element, common, case_mask, tertiary_mask}
-use Rattle.icu_provider.specs.SpecialPrimaries.{is_compressible}
+use Rattle.icu_entries.specs.Elements.{Element, common}
 use Rattle.icu_provider.specs.CollatorTables.{CollatorTables, is_forward, reorder}
 use Rattle.icu_checks.specs.LiveElements.{IsElementBy}
 use Rattle.icu_checks.specs.GoodTables.{IsGoodTables}
-
--- how the primaries of a collator are written
-abbrev pub compression_of : CollatorTables → Compression
-compression_of all = record { reorder = reorder all; is_compressible = is_compressible all.special }
+use Rattle.icu_order.specs.Levels.{primary_of, secondary_of, masked_tertiary, tertiary_in}
+use Rattle.icu_order.specs.Forms.{compression_of}
 
 -- An element is live by one of the tables, what a level reads of it isn't 0, and the weight is what the level has for it
 pub record IsLiveWeight (reads has : Element → ℕ) (all : CollatorTables) (w : ℕ) : Type 0 where
@@ -30,9 +25,6 @@ pub record IsLiveWeight (reads has : Element → ℕ) (all : CollatorTables) (w 
 
 -- ---- primaries
 
-abbrev pub primary_of : Element → ℕ
-primary_of x = x.primary
-
 -- before reordering
 abbrev pub IsLivePrimary : CollatorTables → ℕ → Type 0
 IsLivePrimary all = IsLiveWeight primary_of primary_of all
@@ -43,9 +35,6 @@ IsShiftedPrimary all = IsLiveWeight primary_of (λ x. reorder all x.primary) all
 
 -- ---- secondaries
 
-abbrev pub secondary_of : Element → ℕ
-secondary_of x = x.secondary
-
 -- the common one, which numbers have, and those of live elements
 abbrev pub IsLiveSecondary : CollatorTables → ℕ → Type 0
 IsLiveSecondary all s = (s ≡ common) ⊎ IsLiveWeight secondary_of secondary_of all s
@@ -55,23 +44,6 @@ abbrev pub least_secondary_lead : CollatorTables → ℕ
 least_secondary_lead all = if is_forward all then forward_least else backward_least
 
 -- ---- tertiaries
-
--- a lower half with its case bits and without its quaternary
-abbrev pub cased_mask : ℕ
-cased_mask = 0xFF3F
-
--- what a form reads of an element
-abbrev pub masked_tertiary : TertiaryForm → Element → ℕ
-masked_tertiary WithoutCase x = bit_and x.lower tertiary_mask
-masked_tertiary LowerFirst x = bit_and x.lower cased_mask
-masked_tertiary UpperFirst x = bit_and x.lower cased_mask
-
--- What a form has for an element that it reads something of. Upper case first inverts the case bits; an element with a tertiary
--- alone, whose case bits are 10, has 11 then, the greatest
-abbrev pub tertiary_in : TertiaryForm → Element → ℕ
-tertiary_in UpperFirst x =
-    if x.secondary == 0 then masked_tertiary UpperFirst x + 0x4000 else bit_xor (masked_tertiary UpperFirst x) case_mask
-tertiary_in form x = masked_tertiary form x
 
 -- the common one, which numbers have, and those of live elements
 abbrev pub IsLiveTertiary : CollatorTables → TertiaryForm → ℕ → Type 0
