@@ -15,7 +15,7 @@ use Rattle.icu_options.specs.declared.settings.MaxVariable.TheVariants.{Punctuat
 use Rattle.icu_provider.specs.CollatorTables.{CollatorTables}
 use Rattle.icu_comparison.specs.Order.{is_at_most_tertiary}
 use Rattle.icu_mini.specs.declared.mini.Mini.{Mini}
-use Rattle.icu_mini.specs.Mini.{IsMini, collator_tables}
+use Rattle.icu_mini.specs.Mini.{collator_tables}
 use Rattle.collate.specs.Answers.{ComparesBy}
 use Rattle.collate.proofs.MiniLemmas.{all_tables}
 
