@@ -10,10 +10,13 @@ use Rattle.icu_keys.specs.declared.held.backward.HeldSegments.{HeldSegments}
 use Rattle.icu_keys.specs.declared.held.cases.HeldCases.{HeldCases}
 use Rattle.icu_keys.specs.declared.held.tertiaries.HeldTertiaries.{HeldTertiaries}
 use Rattle.icu_keys.specs.declared.held.quaternaries.HeldQuaternaries.{HeldQuaternaries}
-use Rattle.icu_order.specs.Handled.{HandledElement}
+use Rattle.icu_order.specs.Handled.{HandledElement, stayed_elements}
 use Rattle.icu_order.specs.Levels.{secondaries, parted, weights, case_reads, case_rank, tertiaries, quaternaries}
-use Rattle.icu_text_keys.specs.declared.later_levels.SecondaryLevel.{SecondaryLevel}
-use Rattle.icu_text_keys.specs.declared.later_levels.SecondaryLevel.TheVariants.{Absent, Forward, Backward}
+use Rattle.icu_text_keys.specs.declared.later_levels.LaterLevels.{LaterLevels}
+use Rattle.icu_text_keys.specs.declared.level.SecondaryLevel.{SecondaryLevel}
+use Rattle.icu_text_keys.specs.declared.level.SecondaryLevel.TheVariants.{Absent, Forward, Backward}
+use Rattle.icu_text_keys.specs.declared.parts.LevelBytes.{LevelBytes}
+use Rattle.icu_text_keys.specs.declared.parts.LevelBytes.TheVariants.{NoLevel, Opened, Closed}
 
 -- further elements
 abbrev pub forward_left : HeldSecondaries → List Element → List ℕ
@@ -46,3 +49,15 @@ quaternaries_left reorder (Some l) hs = closed (held_quaternaries l (quaternarie
 abbrev pub characters_left : Bool → List ℕ → LevelPart
 characters_left false cs = absent
 characters_left true cs = opened (identical_level cs)
+
+-- all levels after the primary one, in their order: further elements, as they are handled, and all characters
+abbrev pub levels_left : (ℕ → ℕ) → LaterLevels → List ℕ → List HandledElement → List LevelPart
+levels_left reorder l cs hs =
+    secondaries_left l.secondary (stayed_elements hs) ∷ cases_left l.before l.cases (stayed_elements hs)
+    ∷ tertiaries_left l.tertiary (stayed_elements hs) ∷ quaternaries_left reorder l.quaternary hs ∷ characters_left l.identical cs ∷ []
+
+-- a level whose bytes are held, at its end
+abbrev pub part_of : LevelBytes → LevelPart
+part_of NoLevel = absent
+part_of (Opened bytes) = opened bytes.items
+part_of (Closed bytes) = closed bytes.items

@@ -7,9 +7,17 @@
 #![tactic(auto)]
 
 pub mod compression;
-pub mod element_weights;
+mod element_weights;
 pub mod form;
+pub mod handled;
 pub mod later_levels;
+mod level;
+pub mod parts;
+pub mod whole_key;
+pub mod writer;
 
 pub use compression::TableCompression;
 pub use form::key_form;
+pub use handled::{Handled, HandledSource};
+pub use whole_key::write_key;
+pub use writer::KeyWriter;
