@@ -15,9 +15,9 @@ use Rattle.icu_options.specs.declared.settings.MaxVariable.TheVariants.{Punctuat
 use Rattle.icu_provider.specs.CollatorTables.{CollatorTables}
 use Rattle.icu_comparison.specs.Order.{is_at_most_tertiary}
 use Rattle.icu_mini.specs.declared.mini.Mini.{Mini}
-use Rattle.icu_mini.specs.Mini.{IsMini, collator_tables}
+use Rattle.icu_mini.specs.Mini.{collator_tables}
 use Rattle.collate.specs.Answers.{ComparesBy}
-use Rattle.collate.proofs.MiniLemmas.{all_tables, mini-plain}
+use Rattle.collate.proofs.MiniLemmas.{all_tables}
 
 -- options that set a strength alone
 abbrev pub at_strength : Strength → CollatorOptions
@@ -40,12 +40,11 @@ unfolding settings_by
 merged strength p is =
     ap (λ c. settings_by strength c p.numeric_ordering) is.case_first ∙ ap (λ n. settings_by strength None n) is.numeric_ordering
 
-module _ (m : Mini) (mini : IsMini m) (strength : Strength) (few : IsTrue (is_at_most_tertiary strength)) where
+module _ (m : Mini) (strength : Strength) (few : IsTrue (is_at_most_tertiary strength)) where
   by_settings : ComparesBy strength (collator_tables m) (all_tables m) (settings_by strength None None)
   unfolding settings_by
   by_settings = record {
     plain = record {
-      reading = mini-plain m mini;
       reordering = refl;
       forward = refl;
       alternate_handling = refl;

@@ -1,5 +1,5 @@
 -- What a collator is asked for, and what decides between two texts in it.
-use Rattle.std.specs.Prelude.{◌≡◌, false, Some, None, Result, option_map, IsTrue, if◌then◌else◌}
+use Rattle.std.specs.Prelude.{◌≡◌, false, None, Result, option_map, IsTrue}
 use Rattle.icu_options.specs.Settings.{Settings}
 use Rattle.icu_options.specs.FlaggedSettings.{values_of}
 use Rattle.icu_options.specs.Metadata.{is_backward}
@@ -9,15 +9,13 @@ use Rattle.icu_options.specs.declared.settings.AlternateHandling.TheVariants.{No
 use Rattle.icu_options.specs.declared.settings.CollationCaseFirst.TheVariants as case_first
 use Rattle.icu_entries.specs.declared.error.DataError.{DataError}
 use Rattle.icu_provider.specs.Loads.{Loads}
-use Rattle.icu_provider.specs.Metadata.{is_lithuanian}
 use Rattle.icu_provider.specs.Requests.{Request}
 use Rattle.icu_provider.specs.Tables.{Tables}
 use Rattle.icu_checks.specs.Checked.{checked_tables}
 use Rattle.icu_provider.specs.CollatorTables.{CollatorTables}
 use Rattle.icu_checks.specs.Loads.{lent_tables}
-use Rattle.icu_elements.specs.TextElements.{Reading}
-use Rattle.icu_elements.specs.ByCharacter.{IsContextFree, non_numeric_reading}
-use Rattle.icu_elements.specs.LiveTexts.{collator_reading}
+use Rattle.icu_elements.specs.TextElements.{non_numeric_reading}
+use Rattle.icu_order.specs.TextOrder.{reading_by}
 use Rattle.icu_comparison.specs.declared.collator.Collator.{Collator}
 use Rattle.icu_comparison.specs.declared.collator.CollatorBorrowed.{CollatorBorrowed}
 use Rattle.icu_comparison.specs.Order.{Comparison, is_at_most_tertiary}
@@ -50,11 +48,6 @@ settings_borrowed c = values_of c.settings
 
 -- ---- what decides between two texts
 
--- how texts are read: digits as numbers where the settings say so, and silent dots where the metadata does
-abbrev pub reading_by : CollatorTables → Settings → Reading
-reading_by all settings =
-    collator_reading all (if settings.numeric then Some all.special.numeric else None) (is_lithuanian all.bits)
-
 abbrev pub comparison_by : CollatorTables → Settings → Comparison
 comparison_by all settings = record { strength = settings.strength; reading = reading_by all settings }
 
@@ -62,11 +55,10 @@ comparison_by all settings = record { strength = settings.strength; reading = re
 abbrev pub non_numeric_comparison : Strength → Tables → Comparison
 non_numeric_comparison strength tables = record { strength = strength; reading = non_numeric_reading tables }
 
--- The order needs no more than the primary, secondary and tertiary weights of each character by itself, as they are: the reading
--- is free of contexts, leads aren't reordered, the secondary level is compared from the front, which the metadata says, variable
--- elements are like others, and neither case nor a level after the tertiary one counts.
+-- The order needs no more than the primary, secondary and tertiary weights of elements, as they are: leads aren't reordered, the
+-- secondary level is compared from the front, which the metadata says, variable elements are like others, and neither case nor a
+-- level after the tertiary one counts.
 pub record IsSupportedComparison (all : CollatorTables) (settings : Settings) : Type 0 where
-  pub reading : IsContextFree (reading_by all settings)
   pub reordering : all.reordering ≡ None
   pub forward : is_backward all.bits ≡ false
   pub alternate_handling : settings.alternate_handling ≡ NonIgnorable

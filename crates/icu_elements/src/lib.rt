@@ -1,11 +1,12 @@
-//! The collation elements of a text.
+//! The collation elements of a text (UTS #10, section 7.2): by contractions and prefixes, tailorings, numbers where digits are read as
+//! numbers, and the Lithuanian rule where it is asked for.
 #![tactic(auto)]
 
-mod by_character;
 mod element_list;
 pub mod iter;
 pub mod laws;
 mod read;
+mod reader;
 pub mod tables;
 pub mod whole;
 

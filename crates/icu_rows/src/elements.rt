@@ -3,16 +3,18 @@ ghost use Rattle.icu_elements.specs.CollationElements.{CanGive};
 
 use crate::base::tables;
 use crate::notation::text;
+use crate::order::preferences;
 use icu_comparison::Collator;
 use icu_elements::{CollationElements, all_elements};
 use icu_entries::CollationElement;
 use icu_options::{CollatorOptions, CollatorPreferences};
 use std::alloc::Global;
 
-/// A row is tables and a text. Its elements are printed in hexadecimal, of equal ones in a row the first and how many there
-/// are. They are read as one list, and one by one until the end element has come twice.
+/// A row is tables, settings and a text. Its elements are printed in hexadecimal, of equal ones in a row the first and how many
+/// there are. They are read as one list, and one by one until the end element has come twice.
 pub(crate) fn elements(alloc: Global, row: &str) -> Option<String> {
     let (written, row) = row.split_once('|')?;
+    let (settings, row) = row.split_once('|')?;
     let mini = tables(alloc, written)?;
     let collator = Collator::try_new_unstable(
         alloc,
@@ -23,8 +25,12 @@ pub(crate) fn elements(alloc: Global, row: &str) -> Option<String> {
     .ok()?;
     let text = text(alloc, row.trim())?;
     let tables = collator.as_borrowed().tables();
-    let all = all_elements(tables, text.as_str().chars(), None, false).ok()?;
-    let elements = CollationElements::new(text.as_str().chars(), tables, None, false);
+    let lead = preferences(settings.trim())?
+        .numeric_ordering
+        .map(|_| mini.numeric_primary);
+    let dot = mini.metadata.lithuanian_dot_above();
+    let all = all_elements(tables, text.as_str().chars(), lead, dot).ok()?;
+    let elements = CollationElements::new(text.as_str().chars(), tables, lead, dot);
     if !gives(elements, all.as_slice())? {
         return String::from_str(alloc, "another list one by one").ok();
     }
