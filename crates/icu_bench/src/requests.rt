@@ -1,9 +1,10 @@
-//! Collators by providers that answer by locale and type, and that refuse.
+//! What a provider is asked for, in which order, and what is made of its refusals.
 ghost use Rattle.std.specs.Prelude.{◌≡◌};
-ghost use Rattle.icu_checks.specs.WorkedLoads.{by_request};
+ghost use Rattle.icu_bench.specs.Answering.{by_request};
 ghost use Rattle.icu_mini.specs.Provider.{loads_of};
 ghost use Rattle.icu_provider.specs.Requests.{request_of};
 
+use icu_checks::load_tables;
 use icu_comparison::Collator;
 use icu_data::CollationData;
 use icu_entries::{DataError, DataErrorKind, DataTable};
@@ -15,25 +16,32 @@ use icu_provider::{
     CollationSpecialPrimaries, DataRequest,
 };
 use std::alloc::Global;
+use std::cell::RefCell;
 use std::cmp::Ordering;
 use std::process::Abort;
 use std::test::Fail;
 
-/// A provider that answers a request with a type, one for a locale alone, and the empty one each in its way.
-#[derive(Clone, Copy)]
+/// A request as the provider saw it: for which table, and whether it named a type.
+type Asked = (DataTable, bool);
+
+/// A provider that answers a request with a type, one for a locale alone, and the empty one each in its way, and writes
+/// down what it is asked for.
+#[derive(Drop)]
 struct ByRequest<'m> {
     typed: MiniProvider<'m>,
     local: MiniProvider<'m>,
     empty: MiniProvider<'m>,
+    asked: RefCell<Vec<Asked>>,
 }
 
 impl<'m> ByRequest<'m> {
     /// The same answers to all requests.
-    fn same(provider: MiniProvider<'m>) -> ByRequest<'m> {
+    fn same(alloc: Global, provider: MiniProvider<'m>) -> ByRequest<'m> {
         ByRequest {
             typed: provider,
             local: provider,
             empty: provider,
+            asked: RefCell::new(Vec::new(alloc)),
         }
     }
 
@@ -46,6 +54,19 @@ impl<'m> ByRequest<'m> {
             self.empty
         } else {
             self.local
+        }
+    }
+
+    fn note(&self, table: DataTable, typed: bool) {
+        if let Ok(mut asked) = self.asked.try_borrow_mut() {
+            let _ = asked.push((table, typed));
+        }
+    }
+
+    fn was_asked(&self, expected: &[Asked]) -> bool {
+        match self.asked.try_borrow() {
+            Ok(asked) => asked.as_slice() == expected,
+            Err(_) => false,
         }
     }
 
@@ -72,22 +93,27 @@ impl<'m> CollationProvider for ByRequest<'m> {
     } };
 
     fn load_root(&self) -> Result<CollationData<'_>, DataError> {
+        self.note(DataTable::Root, false);
         self.empty.root
     }
 
     fn load_jamo(&self) -> Result<CollationJamo<'_>, DataError> {
+        self.note(DataTable::Jamo, false);
         self.empty.jamo
     }
 
     fn load_special_primaries(&self) -> Result<CollationSpecialPrimaries<'_>, DataError> {
+        self.note(DataTable::SpecialPrimaries, false);
         self.empty.special
     }
 
     fn load_metadata(&self, request: DataRequest<'_>) -> Result<CollationMetadata, DataError> {
+        self.note(DataTable::Metadata, request.collation_type.is_some());
         self.answering(request).metadata
     }
 
     fn load_tailoring(&self, request: DataRequest<'_>) -> Result<CollationData<'_>, DataError> {
+        self.note(DataTable::Tailoring, request.collation_type.is_some());
         self.answering(request).tailoring
     }
 
@@ -95,6 +121,7 @@ impl<'m> CollationProvider for ByRequest<'m> {
         &self,
         request: DataRequest<'_>,
     ) -> Result<CollationReordering<'_>, DataError> {
+        self.note(DataTable::Reordering, request.collation_type.is_some());
         self.answering(request).reordering
     }
 
@@ -102,6 +129,7 @@ impl<'m> CollationProvider for ByRequest<'m> {
         &self,
         request: DataRequest<'_>,
     ) -> Result<CollationDiacritics<'_>, DataError> {
+        self.note(DataTable::Diacritics, request.collation_type.is_some());
         self.answering(request).diacritics
     }
 }
@@ -113,19 +141,213 @@ fn absent(table: DataTable) -> DataError {
     }
 }
 
+/// Which requests a provider refuses: those with a type, or those for a locale alone.
+#[derive(Clone, Copy)]
+enum Refusing {
+    Typed,
+    Local,
+}
+
+/// Makes a provider refuse the table that the error names.
+fn refuse(provider: &mut MiniProvider<'_>, error: DataError) {
+    match error.table {
+        DataTable::Root => provider.root = Err(error),
+        DataTable::Jamo => provider.jamo = Err(error),
+        DataTable::SpecialPrimaries => provider.special = Err(error),
+        DataTable::Metadata => provider.metadata = Err(error),
+        DataTable::Tailoring => provider.tailoring = Err(error),
+        DataTable::Reordering => provider.reordering = Err(error),
+        DataTable::Diacritics => provider.diacritics = Err(error),
+    }
+}
+
+const TAILORED: u32 = 8;
+
+const OWN_DIACRITICS: u32 = 16;
+
+const REORDERED: u32 = 32;
+
+/// The requests that come first for every locale and type.
+const ROOT: [Asked; 3] = [
+    (DataTable::Root, false),
+    (DataTable::Jamo, false),
+    (DataTable::SpecialPrimaries, false),
+];
+
+/// What metadata names, what is refused, and with which type tables are asked for; the requests after those for the root, in
+/// turn, and the refusal.
+struct Row {
+    what: &'static str,
+    bits: u32,
+    refused: &'static [(Refusing, DataTable, DataErrorKind)],
+    collation_type: Option<&'static str>,
+    asked: &'static [Asked],
+    refusal: Option<(DataTable, DataErrorKind)>,
+}
+
+const ROWS: [Row; 8] = [
+    Row {
+        what: "all tables",
+        bits: TAILORED | REORDERED | OWN_DIACRITICS,
+        refused: &[],
+        collation_type: Some("phonebk"),
+        asked: &[
+            (DataTable::Metadata, true),
+            (DataTable::Tailoring, true),
+            (DataTable::Reordering, true),
+            (DataTable::Diacritics, true),
+        ],
+        refusal: None,
+    },
+    Row {
+        what: "no table that metadata does not name",
+        bits: 0,
+        refused: &[
+            (
+                Refusing::Typed,
+                DataTable::Diacritics,
+                DataErrorKind::Absent,
+            ),
+            (
+                Refusing::Local,
+                DataTable::Diacritics,
+                DataErrorKind::Absent,
+            ),
+        ],
+        collation_type: Some("phonebk"),
+        asked: &[(DataTable::Metadata, true), (DataTable::Diacritics, false)],
+        refusal: None,
+    },
+    Row {
+        what: "tables without a type after a refusal",
+        bits: TAILORED | REORDERED,
+        refused: &[
+            (Refusing::Typed, DataTable::Metadata, DataErrorKind::Absent),
+            (Refusing::Typed, DataTable::Tailoring, DataErrorKind::Absent),
+            (
+                Refusing::Typed,
+                DataTable::Reordering,
+                DataErrorKind::Absent,
+            ),
+        ],
+        collation_type: Some("phonebk"),
+        asked: &[
+            (DataTable::Metadata, true),
+            (DataTable::Metadata, false),
+            (DataTable::Tailoring, true),
+            (DataTable::Tailoring, false),
+            (DataTable::Reordering, true),
+            (DataTable::Reordering, false),
+            (DataTable::Diacritics, false),
+        ],
+        refusal: None,
+    },
+    Row {
+        what: "diacritics of a type have no substitute",
+        bits: OWN_DIACRITICS,
+        refused: &[(
+            Refusing::Typed,
+            DataTable::Diacritics,
+            DataErrorKind::Absent,
+        )],
+        collation_type: Some("phonebk"),
+        asked: &[(DataTable::Metadata, true), (DataTable::Diacritics, true)],
+        refusal: Some((DataTable::Diacritics, DataErrorKind::Absent)),
+    },
+    Row {
+        what: "metadata without a type is asked for once",
+        bits: TAILORED | REORDERED,
+        refused: &[(Refusing::Local, DataTable::Metadata, DataErrorKind::Absent)],
+        collation_type: None,
+        asked: &[(DataTable::Metadata, false)],
+        refusal: Some((DataTable::Metadata, DataErrorKind::Absent)),
+    },
+    Row {
+        what: "a tailoring without a type is asked for once",
+        bits: TAILORED | REORDERED,
+        refused: &[(Refusing::Local, DataTable::Tailoring, DataErrorKind::Absent)],
+        collation_type: None,
+        asked: &[(DataTable::Metadata, false), (DataTable::Tailoring, false)],
+        refusal: Some((DataTable::Tailoring, DataErrorKind::Absent)),
+    },
+    Row {
+        what: "a reordering without a type is asked for once",
+        bits: TAILORED | REORDERED,
+        refused: &[(
+            Refusing::Local,
+            DataTable::Reordering,
+            DataErrorKind::Absent,
+        )],
+        collation_type: None,
+        asked: &[
+            (DataTable::Metadata, false),
+            (DataTable::Tailoring, false),
+            (DataTable::Reordering, false),
+        ],
+        refusal: Some((DataTable::Reordering, DataErrorKind::Absent)),
+    },
+    Row {
+        what: "the last refusal of a table",
+        bits: 0,
+        refused: &[
+            (Refusing::Typed, DataTable::Metadata, DataErrorKind::Absent),
+            (Refusing::Local, DataTable::Metadata, DataErrorKind::Length),
+        ],
+        collation_type: Some("phonebk"),
+        asked: &[(DataTable::Metadata, true), (DataTable::Metadata, false)],
+        refusal: Some((DataTable::Metadata, DataErrorKind::Length)),
+    },
+];
+
+#[test]
+fn tables_are_asked_for_in_turn(rt: HostRuntime) -> Result<(), Fail> {
+    let mut mini = Mini::with_swapped_leads(rt.alloc())?;
+    'rows: for row in &ROWS {
+        mini.metadata.bits = row.bits;
+        let lent = mini.provider();
+        let all = MiniProvider {
+            tailoring: lent.root,
+            ..lent
+        };
+        let mut provider = ByRequest::same(rt.alloc(), all);
+        'refused: for (refusing, table, kind) in row.refused {
+            let error = DataError {
+                table: *table,
+                kind: *kind,
+            };
+            match refusing {
+                Refusing::Typed => refuse(&mut provider.typed, error),
+                Refusing::Local => refuse(&mut provider.local, error),
+            }
+        }
+        let refusal = load_tables(&provider, "de", row.collation_type).err();
+        let expected = row.refusal.map(|(table, kind)| DataError { table, kind });
+        assert_eq!(rt; refusal, expected, "{}", row.what);
+        let mut asked = Vec::from_slice(rt.alloc(), &ROOT)?;
+        asked.extend_from_slice(row.asked)?;
+        assert!(rt; provider.was_asked(asked.as_slice()), "{}", row.what);
+    }
+    Ok(())
+}
+
+#[test]
+fn the_first_table_that_is_refused_is_named(rt: HostRuntime) -> Result<(), Fail> {
+    let mini = Mini::new(rt.alloc())?;
+    let mut provider = ByRequest::same(rt.alloc(), mini.provider());
+    refuse(&mut provider.empty, absent(DataTable::Root));
+    refuse(&mut provider.empty, absent(DataTable::Jamo));
+    let refusal = provider.collator(rt.alloc(), Some("trad")).err();
+    assert_eq!(rt; refusal, Some(absent(DataTable::Root)));
+    assert!(rt; provider.was_asked(&ROOT[..1]));
+    Ok(())
+}
+
 #[test]
 fn tables_of_the_locale_serve_where_its_type_has_none(rt: HostRuntime) -> Result<(), Fail> {
     let tailored = Mini::with_offsets(rt.alloc())?;
-    let lent = tailored.provider();
-    let typed = MiniProvider {
-        metadata: Err(absent(DataTable::Metadata)),
-        tailoring: Err(absent(DataTable::Tailoring)),
-        ..lent
-    };
-    let provider = ByRequest {
-        typed,
-        ..ByRequest::same(lent)
-    };
+    let mut provider = ByRequest::same(rt.alloc(), tailored.provider());
+    refuse(&mut provider.typed, absent(DataTable::Metadata));
+    refuse(&mut provider.typed, absent(DataTable::Tailoring));
     let collator = provider.collator(rt.alloc(), Some("trad"))?;
     let order = collator.as_borrowed().compare("α", "\u{370}")?;
     assert_eq!(rt; order, Ordering::Less, "alpha has its tailored weight");
@@ -136,67 +358,12 @@ fn tables_of_the_locale_serve_where_its_type_has_none(rt: HostRuntime) -> Result
 fn the_type_comes_before_the_locale_alone(rt: HostRuntime) -> Result<(), Fail> {
     let root = Mini::new(rt.alloc())?;
     let tailored = Mini::with_offsets(rt.alloc())?;
-    let provider = ByRequest {
-        typed: tailored.provider(),
-        ..ByRequest::same(root.provider())
-    };
+    let mut provider = ByRequest::same(rt.alloc(), root.provider());
+    provider.typed = tailored.provider();
     for (collation_type, expected) in [(Some("trad"), Ordering::Less), (None, Ordering::Greater)] {
         let collator = provider.collator(rt.alloc(), collation_type)?;
         let order = collator.as_borrowed().compare("α", "\u{370}")?;
         assert_eq!(rt; order, expected, "{collation_type:?}");
     }
-    Ok(())
-}
-
-#[test]
-fn diacritics_of_a_type_have_no_substitute(rt: HostRuntime) -> Result<(), Fail> {
-    let mut mini = Mini::new(rt.alloc())?;
-    mini.metadata.bits |= 0x10;
-    let lent = mini.provider();
-    let typed = MiniProvider {
-        diacritics: Err(absent(DataTable::Diacritics)),
-        ..lent
-    };
-    let provider = ByRequest {
-        typed,
-        ..ByRequest::same(lent)
-    };
-    let refusal = provider.collator(rt.alloc(), Some("trad")).err();
-    assert_eq!(rt; refusal, Some(absent(DataTable::Diacritics)));
-    Ok(())
-}
-
-#[test]
-fn a_tailoring_that_is_named_must_be_lent(rt: HostRuntime) -> Result<(), Fail> {
-    let tailored = Mini::with_offsets(rt.alloc())?;
-    let lent = tailored.provider();
-    let local = MiniProvider {
-        tailoring: Err(absent(DataTable::Tailoring)),
-        ..lent
-    };
-    let provider = ByRequest {
-        local,
-        ..ByRequest::same(lent)
-    };
-    let refusal = provider.collator(rt.alloc(), None).err();
-    assert_eq!(rt; refusal, Some(absent(DataTable::Tailoring)));
-    Ok(())
-}
-
-#[test]
-fn the_first_table_that_is_refused_is_named(rt: HostRuntime) -> Result<(), Fail> {
-    let mini = Mini::new(rt.alloc())?;
-    let lent = mini.provider();
-    let empty = MiniProvider {
-        root: Err(absent(DataTable::Root)),
-        jamo: Err(absent(DataTable::Jamo)),
-        ..lent
-    };
-    let provider = ByRequest {
-        empty,
-        ..ByRequest::same(lent)
-    };
-    let refusal = provider.collator(rt.alloc(), Some("trad")).err();
-    assert_eq!(rt; refusal, Some(absent(DataTable::Root)));
     Ok(())
 }

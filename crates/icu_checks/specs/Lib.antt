@@ -8,5 +8,4 @@ pub mod GoodProps
 pub mod Leads
 pub mod Checked
 pub mod Loads
-pub mod WorkedLoads
 pub mod inner

@@ -9,6 +9,3 @@ mod violation;
 
 pub use checked::CheckedTables;
 pub use loads::load_tables;
-
-#[cfg(test)]
-mod loads_tests;

@@ -10,6 +10,7 @@ pub use Rattle.icu_checks.specs.Loads
 pub use Rattle.icu_elements.specs.TextElements
 pub use Rattle.icu_elements.specs.Reading
 pub use Rattle.icu_elements.specs.CollationElements
-pub use Rattle.icu_comparison.specs.Levels
+pub use Rattle.icu_order.specs.Levels
+pub use Rattle.icu_order.specs.TextOrder
 pub use Rattle.icu_comparison.specs.Order
 pub use Rattle.icu_comparison.specs.Collators

@@ -7,7 +7,7 @@ use Rattle.icu_options.specs.declared.settings.Strength.TheVariants.{Primary, Se
 use Rattle.icu_provider.specs.Tables.{Tables}
 use Rattle.icu_elements.proofs.Computing.{icu_elements}
 use Rattle.icu_elements.proofs.WorkedTables.{mini, sharp_s}
-use Rattle.icu_comparison.specs.Levels.{weights}
+use Rattle.icu_order.specs.Levels.{weights}
 use Rattle.icu_comparison.specs.Order.{order_of_elements, order_of}
 use Rattle.icu_comparison.specs.Collators.{non_numeric_comparison}
 

@@ -1,5 +1,5 @@
 -- What a collator is asked for, and what decides between two texts in it.
-use Rattle.std.specs.Prelude.{◌≡◌, false, Some, None, Result, option_map, IsTrue, if◌then◌else◌}
+use Rattle.std.specs.Prelude.{◌≡◌, false, None, Result, option_map, IsTrue}
 use Rattle.icu_options.specs.Settings.{Settings}
 use Rattle.icu_options.specs.FlaggedSettings.{values_of}
 use Rattle.icu_options.specs.Metadata.{is_backward}
@@ -9,14 +9,13 @@ use Rattle.icu_options.specs.declared.settings.AlternateHandling.TheVariants.{No
 use Rattle.icu_options.specs.declared.settings.CollationCaseFirst.TheVariants as case_first
 use Rattle.icu_entries.specs.declared.error.DataError.{DataError}
 use Rattle.icu_provider.specs.Loads.{Loads}
-use Rattle.icu_provider.specs.Metadata.{is_lithuanian}
 use Rattle.icu_provider.specs.Requests.{Request}
 use Rattle.icu_provider.specs.Tables.{Tables}
 use Rattle.icu_checks.specs.Checked.{checked_tables}
 use Rattle.icu_provider.specs.CollatorTables.{CollatorTables}
 use Rattle.icu_checks.specs.Loads.{lent_tables}
-use Rattle.icu_elements.specs.TextElements.{Reading, non_numeric_reading}
-use Rattle.icu_elements.specs.LiveTexts.{collator_reading}
+use Rattle.icu_elements.specs.TextElements.{non_numeric_reading}
+use Rattle.icu_order.specs.TextOrder.{reading_by}
 use Rattle.icu_comparison.specs.declared.collator.Collator.{Collator}
 use Rattle.icu_comparison.specs.declared.collator.CollatorBorrowed.{CollatorBorrowed}
 use Rattle.icu_comparison.specs.Order.{Comparison, is_at_most_tertiary}
@@ -48,11 +47,6 @@ abbrev pub settings_borrowed : CollatorBorrowed → Settings
 settings_borrowed c = values_of c.settings
 
 -- ---- what decides between two texts
-
--- how texts are read: digits as numbers where the settings say so, and silent dots where the metadata does
-abbrev pub reading_by : CollatorTables → Settings → Reading
-reading_by all settings =
-    collator_reading all (if settings.numeric then Some all.special.numeric else None) (is_lithuanian all.bits)
 
 abbrev pub comparison_by : CollatorTables → Settings → Comparison
 comparison_by all settings = record { strength = settings.strength; reading = reading_by all settings }

@@ -5,8 +5,8 @@ pub use Rattle.icu_data.specs.Data
 pub use Rattle.icu_provider.specs.Tables
 pub use Rattle.icu_elements.specs.TextElements
 pub use Rattle.icu_elements.specs.Reading
-pub mod Levels
+pub use Rattle.icu_order.specs.Levels
+pub use Rattle.icu_order.specs.TextOrder
 pub mod Order
 pub mod Collators
-pub mod LiveWeights
 pub mod inner

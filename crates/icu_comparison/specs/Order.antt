@@ -7,9 +7,10 @@ use Rattle.unicode_normalization.specs.Forms.{nfd}
 use Rattle.icu_options.specs.declared.settings.Strength.{Strength}
 use Rattle.icu_options.specs.declared.settings.Strength.TheVariants.{Primary, Secondary, Quaternary, Identical}
 use Rattle.icu_levels.specs.ListOrder.{list_order}
+use Rattle.icu_levels.specs.declared.forms.TertiaryForm.TheVariants.{WithoutCase}
 use Rattle.icu_entries.specs.Elements.{Element}
 use Rattle.icu_elements.specs.TextElements.{Reading, elements_of}
-use Rattle.icu_comparison.specs.Levels.{primaries, secondaries, tertiaries}
+use Rattle.icu_order.specs.Levels.{primaries, secondaries, tertiaries}
 
 -- what decides between two texts: how they are read, and how many levels count
 pub record Comparison : Type 0 where
@@ -40,7 +41,7 @@ unfoldable pub order_of_elements : Strength → List Element → List Element �
 order_of_elements strength xs ys =
     ordering_then (list_order (primaries xs) (primaries ys)) (
     ordering_then (where_counted (has_secondaries strength) (list_order (secondaries xs) (secondaries ys)))
-    (where_counted (has_tertiaries strength) (list_order (tertiaries xs) (tertiaries ys))))
+    (where_counted (has_tertiaries strength) (list_order (tertiaries WithoutCase xs) (tertiaries WithoutCase ys))))
 
 -- the order of two texts
 abbrev pub order_of : Comparison → List ℕ → List ℕ → Ordering

@@ -102,7 +102,8 @@ pub struct CollatorBorrowed<'a> {
 
 impl<'a> CollatorBorrowed<'a> {
     ghost use Rattle.icu_comparison.specs.Collators.{IsSupportedComparison, comparison_by};
-    ghost use Rattle.icu_comparison.specs.Collators.{reading_by, tables_borrowed, settings_borrowed};
+    ghost use Rattle.icu_comparison.specs.Collators.{tables_borrowed, settings_borrowed};
+    ghost use Rattle.icu_order.specs.TextOrder.{reading_by};
 
     /// The settings that the collator works by.
     pub fn resolved_options(&self) -> ResolvedCollatorOptions

@@ -65,7 +65,7 @@ impl<'a> WeightsLeft<'a> {
     }
 
     /// The next weight, or 0 after the last one.
-    #[tactic(auto, unfolding(crate::specs::Levels::weights))]
+    #[tactic(auto, unfolding(icu_order::specs::Levels::weights))]
     fn next(&mut self) -> u32
         ensures level { self.new.level ≡ self.old.level }
         ensures size { length self.new.elements.now ≤ length self.old.elements.now }

@@ -2,7 +2,6 @@
 #![tactic(auto)]
 
 pub mod collator;
-pub mod laws;
 mod levels;
 mod order;
 

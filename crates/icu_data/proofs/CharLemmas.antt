@@ -33,7 +33,7 @@ each_of : (P : ℕ → Type 0) → ((c : ℕ) → IsScalar c → P c) → (cs : 
 each_of P f [] s = tt
 each_of P f (c ∷ cs) s = (f c s.0, each_of P f cs s.1)
 
-scalar_below : (c : ℕ) → IsScalar c → c < 0x110000
+pub scalar_below : (c : ℕ) → IsScalar c → c < 0x110000
 scalar_below c s = elim (scalar_cases c s) [ inl low ↦ omega arith | inr high ↦ omega (arith, high.1) ]
 
 abbrev AllChars : (ℕ → Type 0) → ℕ → Type 0

@@ -36,7 +36,7 @@ closed_determines ps qs o h s t u v =
     ∙ (rw (append_assoc ps (1 ∷ []) s, append_assoc qs (1 ∷ []) t) (h (1 ∷ s) (1 ∷ t) (lit< tt) (lit< tt))
     ∙ ap (ordering_then o) (same_head 1 s t))
 
-part_determines : (p q : LevelPart) (o : Ordering) → PartDetermines p q o → Determines (part_bytes p) (part_bytes q) o
+pub part_determines : (p q : LevelPart) (o : Ordering) → PartDetermines p q o → Determines (part_bytes p) (part_bytes q) o
 part_determines absent absent o h s t u v = rw h refl
 part_determines absent (opened qs) o h s t u v = absurd h
 part_determines absent (closed qs) o h s t u v = absurd h
@@ -86,26 +86,26 @@ levels_determine ps qs o parts h rest =
     ∙ then_equal (ordering_then o (in_turn (map (λ p. p.order) parts)))))
 
 -- ---- the six levels
-secondary_determines : (f : Option SecondaryForm) (IsLive : ℕ → Type 0) (t u : LevelLists) → SecondaryWeights f IsLive → SecondaryMembers f IsLive t
+pub secondary_determines : (f : Option SecondaryForm) (IsLive : ℕ → Type 0) (t u : LevelLists) → SecondaryWeights f IsLive → SecondaryMembers f IsLive t
     → SecondaryMembers f IsLive u
     → PartDetermines (secondary_part f t) (secondary_part f u) (secondaries_order f t u)
 secondary_determines None IsLive t u good p q = refl
 secondary_determines (Some Forward) IsLive t u good p q = λ x y k l. secondary_order IsLive good t.secondaries u.secondaries x y p q k l
 secondary_determines (Some Backward) IsLive t u good p q = λ x y k l. backward_order IsLive good t.segments u.segments x y p.0 q.0 p.1 q.1 k l
 
-case_determines : (f : Option CaseForm) (t u : LevelLists) → AllByRecursion (λ r. r < 3) t.cases → AllByRecursion (λ r. r < 3) u.cases
+pub case_determines : (f : Option CaseForm) (t u : LevelLists) → AllByRecursion (λ r. r < 3) t.cases → AllByRecursion (λ r. r < 3) u.cases
     → (f ≡ Some LowerFirst → length t.cases ≡ length u.cases) → PartDetermines (case_part f t) (case_part f u) (cases_order f t u)
 case_determines None t u p q e = refl
 case_determines (Some LowerFirst) t u p q e = λ x y k l. lower_first_order t.cases u.cases x y p q k l (e refl)
 case_determines (Some UpperFirst) t u p q e = λ x y k l. upper_first_order t.cases u.cases x y p q k l
 
-tertiary_determines : (f : Option TertiaryForm) (IsLive : ℕ → Type 0) (t u : LevelLists) → TertiaryWeights f IsLive → TertiaryMembers f IsLive t
+pub tertiary_determines : (f : Option TertiaryForm) (IsLive : ℕ → Type 0) (t u : LevelLists) → TertiaryWeights f IsLive → TertiaryMembers f IsLive t
     → TertiaryMembers f IsLive u
     → PartDetermines (tertiary_part f t) (tertiary_part f u) (tertiaries_order f t u)
 tertiary_determines None IsLive t u good p q = refl
 tertiary_determines (Some form) IsLive t u good p q = λ x y k l. tertiary_order IsLive form good t.tertiaries u.tertiaries x y p q k l
 
-quaternary_determines : (f : Option QuaternaryForm) (IsLive : ℕ → Type 0) (t u : LevelLists) → QuaternaryWeights f IsLive
+pub quaternary_determines : (f : Option QuaternaryForm) (IsLive : ℕ → Type 0) (t u : LevelLists) → QuaternaryWeights f IsLive
     → QuaternaryMembers f IsLive t → QuaternaryMembers f IsLive u
     → (f ≡ Some Unshifted → length t.quaternaries ≡ length u.quaternaries)
     → PartDetermines (quaternary_part f t) (quaternary_part f u) (quaternaries_order f t u)
@@ -113,7 +113,7 @@ quaternary_determines None IsLive t u good p q e = refl
 quaternary_determines (Some MayShift) IsLive t u good p q e = λ x y k l. quaternary_order IsLive good t.quaternaries u.quaternaries x y p q k l
 quaternary_determines (Some Unshifted) IsLive t u good p q e = λ x y k l. unshifted_order t.quaternaries u.quaternaries x y p q k l (e refl)
 
-identical_determines : (f : Bool) (t u : LevelLists) → AllByRecursion (λ c. c < 0x110000) t.characters
+pub identical_determines : (f : Bool) (t u : LevelLists) → AllByRecursion (λ c. c < 0x110000) t.characters
     → AllByRecursion (λ c. c < 0x110000) u.characters
     → PartDetermines (identical_part f t) (identical_part f u) (characters_order f t u)
 identical_determines false t u p q = refl

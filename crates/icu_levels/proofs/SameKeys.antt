@@ -18,24 +18,24 @@ use Rattle.icu_levels.specs.declared.forms.TertiaryForm.{TertiaryForm}
 
 module _ (t u : LevelLists) where
   -- ---- a level that ties has the same list
-  secondaries_from : (f : Option SecondaryForm) → secondaries_order f t u ≡ Equal → SameSecondaries f t u
+  pub secondaries_from : (f : Option SecondaryForm) → secondaries_order f t u ≡ Equal → SameSecondaries f t u
   secondaries_from None e = tt
   secondaries_from (Some Forward) e = tied_lists t.secondaries u.secondaries e
   secondaries_from (Some Backward) e = tied_segments t.segments u.segments e
 
-  cases_from : (f : Option CaseForm) → cases_order f t u ≡ Equal → SameCases f t u
+  pub cases_from : (f : Option CaseForm) → cases_order f t u ≡ Equal → SameCases f t u
   cases_from None e = tt
   cases_from (Some form) e = tied_lists t.cases u.cases e
 
-  tertiaries_from : (f : Option TertiaryForm) → tertiaries_order f t u ≡ Equal → SameTertiaries f t u
+  pub tertiaries_from : (f : Option TertiaryForm) → tertiaries_order f t u ≡ Equal → SameTertiaries f t u
   tertiaries_from None e = tt
   tertiaries_from (Some form) e = tied_lists t.tertiaries u.tertiaries e
 
-  quaternaries_from : (f : Option QuaternaryForm) → quaternaries_order f t u ≡ Equal → SameQuaternaries f t u
+  pub quaternaries_from : (f : Option QuaternaryForm) → quaternaries_order f t u ≡ Equal → SameQuaternaries f t u
   quaternaries_from None e = tt
   quaternaries_from (Some form) e = tied_lists t.quaternaries u.quaternaries e
 
-  characters_from : (f : Bool) → characters_order f t u ≡ Equal → SameCharacters f t u
+  pub characters_from : (f : Bool) → characters_order f t u ≡ Equal → SameCharacters f t u
   characters_from false e = tt
   characters_from true e =
       same_from_ranks t.characters u.characters (tied_lists (map identical_rank t.characters) (map identical_rank u.characters) e)

@@ -20,7 +20,7 @@ const RING: char = '\u{30A}';
 
 const DOT_BELOW: char = '\u{323}';
 
-// The entries of letters, which are told apart by their lead bytes.
+// The entries of letters, each with a primary weight of its own.
 const A: u32 = 0x6110_0505;
 
 const A_RING: u32 = 0x6111_0505;
@@ -190,6 +190,7 @@ fn table(alloc: Global) -> Result<DataVectors, Fail> {
     builder.add_context(C, &[(&['b'], C_AFTER_B), (&['b', 'a'], C_AFTER_BA)])?;
     builder.add_context(D, &[(&['e'], D_AFTER_BE)])?;
     builder.add_context(D, &[(&['b'], 0x40C9)])?;
+    // the low byte of a contraction, or of a prefix, and from bit 13 on its context; bit 9 says that each row of `a` begins with a mark
     builder.set_entry('a', 0x2C9);
     builder.set_entry('c', 0x20C8);
     builder.set_entry('d', 0x60C8);
@@ -240,7 +241,7 @@ fn worked_matches(rt: HostRuntime) -> Result<(), Fail> {
     Ok(())
 }
 
-/// Ten thousand marks, of which each second one joins nothing, and the last two join.
+/// Ten thousand marks, of which the last two join.
 #[test]
 fn many_marks(rt: HostRuntime) -> Result<(), Fail> {
     let vectors = table(rt.alloc())?;

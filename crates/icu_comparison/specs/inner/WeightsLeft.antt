@@ -2,11 +2,10 @@
 use Rattle.std.specs.Prelude.{ℕ, List}
 use Rattle.icu_entries.specs.Elements.{Element}
 use Rattle.icu_entries.specs.ElementConditions.{tertiary_of}
+use Rattle.icu_order.specs.Levels.{weights, primary_of, secondary_of}
 use Rattle.icu_comparison.specs.declared.levels.Level.{Level}
 use Rattle.icu_comparison.specs.declared.levels.Level.TheVariants.{Primary, Secondary, Tertiary}
 use Rattle.icu_comparison.specs.declared.levels.WeightsLeft.{WeightsLeft}
-use Rattle.icu_comparison.specs.Levels.{weights}
-use Rattle.icu_comparison.specs.LiveWeights.{primary_of, secondary_of}
 
 -- what a level reads of an element
 abbrev pub weight_in : Level → Element → ℕ

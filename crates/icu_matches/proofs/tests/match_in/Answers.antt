@@ -1,8 +1,7 @@
-use Rattle.std.proofs.Common.{◌≡◌, ℕ, Bool, true, false, ◌==◌, List, [], if◌then◌else◌, IsTrue, subst, rules}
-use Rattle.std.specs.List.{AllByRecursion, Contains}
+use Rattle.std.proofs.Common.{◌≡◌, ℕ, Bool, true, false, ◌==◌, List, [], if◌then◌else◌, IsTrue, rules}
+use Rattle.std.specs.List.{AllByRecursion}
 use Rattle.std.specs.Char.{IsScalar}
 use Rattle.icu_entries.specs.Entries.{fallback_entry}
-use Rattle.icu_data.specs.declared.live_condition.LiveCondition.{LiveCondition}
 use Rattle.icu_data.specs.Data.{Data}
 use Rattle.icu_data.specs.Live.{live_from}
 use Rattle.icu_data.specs.LiveConditions.{IsGoodData, meets}

@@ -5,7 +5,8 @@ use Rattle.unicode_normalization.proofs.IterLemmas.{Spells-chars}
 use Rattle.icu_provider.specs.Metadata.{is_lithuanian}
 use Rattle.icu_elements.specs.Reading.{reading_of}
 use Rattle.icu_elements.specs.TextElements.{Reading, elements_of}
-use Rattle.icu_comparison.specs.Collators.{reading_by, tables_borrowed, settings_borrowed}
+use Rattle.icu_order.specs.TextOrder.{reading_by}
+use Rattle.icu_comparison.specs.Collators.{tables_borrowed, settings_borrowed}
 use Rattle.icu_comparison.proofs.collator.CollatorBorrowed.elements.Goals as goal
 
 pub returns : goal.returns

@@ -1,0 +1,99 @@
+-- Canonically equivalent texts have the same lists, and at the identical level they alone.
+use Rattle.std.proofs.Common.{◌≡◌, ℕ, Bool, true, false, List, [], ◌∷◌, map, Option, Some, None, Ordering, Equal, refl, ap, ◌∙◌, subst}
+use Rattle.unicode_normalization.specs.Forms.{nfd}
+use Rattle.icu_options.specs.Settings.{Settings}
+use Rattle.icu_options.specs.declared.settings.Strength.{Strength}
+use Rattle.icu_options.specs.declared.settings.Strength.TheVariants.{Identical}
+use Rattle.icu_levels.specs.Identical.{identical_rank}
+use Rattle.icu_levels.specs.Primaries.{Compression}
+use Rattle.icu_levels.specs.Keys.{LevelLists, in_turn, levels_order, primaries_order, secondaries_order, cases_order, tertiaries_order, quaternaries_order, characters_order}
+use Rattle.icu_levels.specs.declared.forms.CaseForm.{CaseForm}
+use Rattle.icu_levels.specs.declared.forms.KeyForm.{KeyForm}
+use Rattle.icu_levels.specs.declared.forms.QuaternaryForm.{QuaternaryForm}
+use Rattle.icu_levels.specs.declared.forms.SecondaryForm.{SecondaryForm}
+use Rattle.icu_levels.specs.declared.forms.SecondaryForm.TheVariants.{Forward, Backward}
+use Rattle.icu_levels.specs.declared.forms.TertiaryForm.{TertiaryForm}
+use Rattle.icu_levels.proofs.Order.{same_lists_order, tied_lists}
+use Rattle.icu_levels.proofs.KeepLemmas.{both_tie, same_segments_order}
+use Rattle.icu_levels.proofs.IdenticalOrder.{same_from_ranks}
+use Rattle.icu_provider.specs.CollatorTables.{CollatorTables}
+use Rattle.icu_order.specs.Forms.{compression_of, form_by, is_identical}
+use Rattle.icu_order.specs.TextOrder.{lists_by, text_order, text_key}
+
+-- ---- a text ties with itself
+
+module _ (t : LevelLists) where
+  own_secondaries : (f : Option SecondaryForm) → secondaries_order f t t ≡ Equal
+  own_secondaries None = refl
+  own_secondaries (Some Forward) = same_lists_order t.secondaries t.secondaries refl
+  own_secondaries (Some Backward) = same_segments_order t.segments t.segments refl
+
+  own_cases : (f : Option CaseForm) → cases_order f t t ≡ Equal
+  own_cases None = refl
+  own_cases (Some form) = same_lists_order t.cases t.cases refl
+
+  own_tertiaries : (f : Option TertiaryForm) → tertiaries_order f t t ≡ Equal
+  own_tertiaries None = refl
+  own_tertiaries (Some form) = same_lists_order t.tertiaries t.tertiaries refl
+
+  own_quaternaries : (f : Option QuaternaryForm) → quaternaries_order f t t ≡ Equal
+  own_quaternaries None = refl
+  own_quaternaries (Some form) = same_lists_order t.quaternaries t.quaternaries refl
+
+  own_characters : (f : Bool) → characters_order f t t ≡ Equal
+  own_characters false = refl
+  own_characters true = same_lists_order (map identical_rank t.characters) (map identical_rank t.characters) refl
+
+all_tie : (a b c d e f : Ordering) → a ≡ Equal → b ≡ Equal → c ≡ Equal → d ≡ Equal → e ≡ Equal → f ≡ Equal
+    → in_turn (a ∷ b ∷ c ∷ d ∷ e ∷ f ∷ []) ≡ Equal
+all_tie a b c d e f g h i j k l = rw (g, h, i, j, k, l) refl
+
+own_levels : (c : Compression) (f : KeyForm) (t : LevelLists) → levels_order c f t t ≡ Equal
+own_levels c f t =
+    all_tie _ _ _ _ _ _ (same_lists_order (map c.reorder t.primaries) (map c.reorder t.primaries) refl) (own_secondaries t f.secondary)
+    (own_cases t f.cases) (own_tertiaries t f.tertiary) (own_quaternaries t f.quaternary) (own_characters t f.identical)
+
+-- the last level of two texts that tie
+last_level : (c : Compression) (f : KeyForm) (t u : LevelLists) → levels_order c f t u ≡ Equal → characters_order f.identical t u ≡ Equal
+last_level c f t u h =
+    let o1 = secondaries_order f.secondary t u in
+    let o2 = cases_order f.cases t u in
+    let o3 = tertiaries_order f.tertiary t u in
+    let o4 = quaternaries_order f.quaternary t u in
+    let o5 = characters_order f.identical t u in
+    let after0 = both_tie (primaries_order c t u) (in_turn (o1 ∷ o2 ∷ o3 ∷ o4 ∷ o5 ∷ [])) h in
+    let after1 = both_tie o1 (in_turn (o2 ∷ o3 ∷ o4 ∷ o5 ∷ [])) after0.1 in
+    let after2 = both_tie o2 (in_turn (o3 ∷ o4 ∷ o5 ∷ [])) after1.1 in
+    let after3 = both_tie o3 (in_turn (o4 ∷ o5 ∷ [])) after2.1 in
+    let after4 = both_tie o4 (in_turn (o5 ∷ [])) after3.1 in
+    (both_tie o5 Equal after4.1).0
+
+same_characters : (t u : LevelLists) → characters_order true t u ≡ Equal → t.characters ≡ u.characters
+same_characters t u e =
+    same_from_ranks t.characters u.characters (tied_lists (map identical_rank t.characters) (map identical_rank u.characters) e)
+
+module _ (all : CollatorTables) (settings : Settings) (t u : List ℕ) where
+  abbrev order_of_decomposed : List ℕ → List ℕ → Ordering
+  order_of_decomposed text other =
+      levels_order (compression_of all) (form_by all settings) (lists_by all settings text) (lists_by all settings other)
+
+  pub equivalent_tie : nfd t ≡ nfd u → text_order all settings t u ≡ Equal
+  unfolding text_order
+  equivalent_tie e =
+      ap (λ text. order_of_decomposed text (nfd u)) e ∙ own_levels (compression_of all) (form_by all settings) (lists_by all settings (nfd u))
+
+  pub equivalent_key : nfd t ≡ nfd u → text_key all settings t ≡ text_key all settings u
+  unfolding text_key
+  equivalent_key e = rw e refl
+
+  characters_tie : (s : Strength) → s ≡ Identical → characters_order (is_identical s) (lists_by all settings (nfd t)) (lists_by all settings (nfd u)) ≡ Equal → nfd t ≡ nfd u
+  unfolding lists_by
+  characters_tie s is e =
+      same_characters (lists_by all settings (nfd t)) (lists_by all settings (nfd u))
+      (subst (λ s. characters_order (is_identical s) (lists_by all settings (nfd t)) (lists_by all settings (nfd u)) ≡ Equal) is e)
+
+  pub identical_equivalent : settings.strength ≡ Identical → text_order all settings t u ≡ Equal → nfd t ≡ nfd u
+  unfolding text_order
+  identical_equivalent is e =
+      characters_tie settings.strength is
+      (last_level (compression_of all) (form_by all settings) (lists_by all settings (nfd t)) (lists_by all settings (nfd u)) e)

@@ -1,0 +1,5 @@
+use Rattle.icu_laws.proofs.OrderLemmas.{texts_ordered}
+use Rattle.icu_laws.proofs.texts_are_ordered.Goals as goal
+
+pub returns : goal.returns
+returns c = λ all settings good. texts_ordered all good settings

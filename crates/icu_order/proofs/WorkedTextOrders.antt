@@ -1,0 +1,140 @@
+-- Orders of two texts, computed by the definitions.
+use Rattle.std.proofs.Common.{◌≡◌, refl, [], ◌∷◌, Less, Equal, Greater}
+use Rattle.std.specs.Prelude.{replicate}
+use Rattle.icu_options.specs.declared.settings.Strength.TheVariants.{Primary, Secondary, Tertiary, Quaternary, Identical}
+use Rattle.icu_order.specs.TextOrder.{text_order}
+use Rattle.icu_order.proofs.Computing.{icu_order}
+use Rattle.icu_order.proofs.WorkedSettings.{plain_at, shifted_at, numeric_at, upper_first_at, case_level_at, upper_case_level_at, mini, backward, lithuanian, spanish, kana, with_tertiary, with_secondary, swapped, split}
+
+-- ---- how texts are read
+
+-- "a10b" and "a2b"
+as_numbers : text_order mini (numeric_at Primary) (97 ∷ 49 ∷ 48 ∷ 98 ∷ []) (97 ∷ 50 ∷ 98 ∷ []) ≡ Greater
+unfolding icu_order
+as_numbers = refl
+
+as_digits : text_order mini (plain_at Primary) (97 ∷ 49 ∷ 48 ∷ 98 ∷ []) (97 ∷ 50 ∷ 98 ∷ []) ≡ Less
+unfolding icu_order
+as_digits = refl
+
+-- "a" with a dot and an acute, and a acute: the dot is silent
+silent_dot : text_order lithuanian (plain_at Tertiary) (97 ∷ 0x307 ∷ 0x301 ∷ []) (0xE1 ∷ []) ≡ Equal
+unfolding icu_order
+silent_dot = refl
+
+-- "pollo" and "polvo"
+two_letters : text_order mini (plain_at Primary) (112 ∷ 111 ∷ 108 ∷ 108 ∷ 111 ∷ []) (112 ∷ 111 ∷ 108 ∷ 118 ∷ 111 ∷ []) ≡ Less
+unfolding icu_order
+two_letters = refl
+
+one_letter : text_order spanish (plain_at Primary) (112 ∷ 111 ∷ 108 ∷ 108 ∷ 111 ∷ []) (112 ∷ 111 ∷ 108 ∷ 118 ∷ 111 ∷ []) ≡ Greater
+unfolding icu_order
+one_letter = refl
+
+-- ---- reordering
+
+-- "å" and "a", where their lead bytes change places
+changed_places : text_order swapped (plain_at Primary) (0xE5 ∷ []) (97 ∷ []) ≡ Less
+unfolding icu_order
+changed_places = refl
+
+-- "a" and "m", where the letters before m are moved behind all others
+moved_behind : text_order split (plain_at Primary) (97 ∷ []) (109 ∷ []) ≡ Greater
+unfolding icu_order
+moved_behind = refl
+
+-- ---- variable elements
+
+-- "a b" and "ab"
+space_at_tertiary : text_order mini (shifted_at Tertiary) (97 ∷ 32 ∷ 98 ∷ []) (97 ∷ 98 ∷ []) ≡ Equal
+unfolding icu_order
+space_at_tertiary = refl
+
+space_at_quaternary : text_order mini (shifted_at Quaternary) (97 ∷ 32 ∷ 98 ∷ []) (97 ∷ 98 ∷ []) ≡ Less
+unfolding icu_order
+space_at_quaternary = refl
+
+-- "a-" with an acute on the hyphen and "b", and "ab": the acute vanishes with the hyphen
+mark_after_hyphen : text_order mini (shifted_at Tertiary) (97 ∷ 45 ∷ 0x301 ∷ 98 ∷ []) (97 ∷ 98 ∷ []) ≡ Equal
+unfolding icu_order
+mark_after_hyphen = refl
+
+-- U+034F after a hyphen vanishes, after a letter it counts
+secondary_after_hyphen : text_order with_secondary (shifted_at Secondary) (45 ∷ 0x34F ∷ []) (45 ∷ []) ≡ Equal
+unfolding icu_order
+secondary_after_hyphen = refl
+
+secondary_after_letter : text_order with_secondary (shifted_at Secondary) (97 ∷ 0x34F ∷ []) (97 ∷ []) ≡ Greater
+unfolding icu_order
+secondary_after_letter = refl
+
+-- ---- secondaries
+
+-- "coté" and "côte": the first accent decides, or the last
+first_accent : text_order mini (plain_at Secondary) (99 ∷ 111 ∷ 116 ∷ 0xE9 ∷ []) (99 ∷ 0xF4 ∷ 116 ∷ 101 ∷ []) ≡ Less
+unfolding icu_order
+first_accent = refl
+
+last_accent : text_order backward (plain_at Secondary) (99 ∷ 111 ∷ 116 ∷ 0xE9 ∷ []) (99 ∷ 0xF4 ∷ 116 ∷ 101 ∷ []) ≡ Greater
+unfolding icu_order
+last_accent = refl
+
+-- "cote" and "coté" with U+FFFE between them, and "côte" and "cote": the first field that differs decides
+first_field : text_order backward (plain_at Secondary) (99 ∷ 111 ∷ 116 ∷ 101 ∷ 0xFFFE ∷ 99 ∷ 111 ∷ 116 ∷ 0xE9 ∷ []) (99 ∷ 0xF4 ∷ 116 ∷ 101 ∷ 0xFFFE ∷ 99 ∷ 111 ∷ 116 ∷ 101 ∷ []) ≡ Less
+unfolding icu_order
+first_field = refl
+
+-- ---- case
+
+-- "AB" and "ab"
+capitals_last : text_order mini (plain_at Tertiary) (65 ∷ 66 ∷ []) (97 ∷ 98 ∷ []) ≡ Greater
+unfolding icu_order
+capitals_last = refl
+
+capitals_first : text_order mini (upper_first_at Tertiary) (65 ∷ 66 ∷ []) (97 ∷ 98 ∷ []) ≡ Less
+unfolding icu_order
+capitals_first = refl
+
+-- "dejavu", "dejAvu" and "déjavu", with a case level and without secondaries
+capital_counts : text_order mini (case_level_at Primary) (100 ∷ 101 ∷ 106 ∷ 97 ∷ 118 ∷ 117 ∷ []) (100 ∷ 101 ∷ 106 ∷ 65 ∷ 118 ∷ 117 ∷ []) ≡ Less
+unfolding icu_order
+capital_counts = refl
+
+accent_ignored : text_order mini (case_level_at Primary) (100 ∷ 101 ∷ 106 ∷ 97 ∷ 118 ∷ 117 ∷ []) (100 ∷ 0xE9 ∷ 106 ∷ 97 ∷ 118 ∷ 117 ∷ []) ≡ Equal
+unfolding icu_order
+accent_ignored = refl
+
+-- 14 times "a", and "aaA" and 11 times "a", upper case first
+capital_in_a_run : text_order mini (upper_case_level_at Primary) (replicate 14 97) (97 ∷ 97 ∷ 65 ∷ replicate 11 97) ≡ Greater
+unfolding icu_order
+capital_in_a_run = refl
+
+-- "a", U+0001 and "b", and "ab": with a case level tertiaries have no case bits
+tertiary_between : text_order with_tertiary (upper_case_level_at Tertiary) (97 ∷ 1 ∷ 98 ∷ []) (97 ∷ 98 ∷ []) ≡ Greater
+unfolding icu_order
+tertiary_between = refl
+
+-- ---- quaternary and identical levels
+
+-- Hiragana and Katakana a
+kana_at_tertiary : text_order kana (plain_at Tertiary) (0x3042 ∷ []) (0x30A2 ∷ []) ≡ Equal
+unfolding icu_order
+kana_at_tertiary = refl
+
+kana_at_quaternary : text_order kana (plain_at Quaternary) (0x3042 ∷ []) (0x30A2 ∷ []) ≡ Less
+unfolding icu_order
+kana_at_quaternary = refl
+
+-- a acute, composed and in parts
+equivalent : text_order mini (plain_at Identical) (0xE1 ∷ []) (97 ∷ 0x301 ∷ []) ≡ Equal
+unfolding icu_order
+equivalent = refl
+
+-- U+FFFE before U+0000, and after it: U+FFFE is lowest, but it has a primary and U+0000 has none
+lowest_first : text_order mini (plain_at Identical) (0xFFFE ∷ 0 ∷ []) (0 ∷ 0xFFFE ∷ []) ≡ Less
+unfolding icu_order
+lowest_first = refl
+
+primary_decides : text_order mini (plain_at Identical) (0xFFFE ∷ []) (0 ∷ []) ≡ Greater
+unfolding icu_order
+primary_decides = refl

@@ -1,0 +1,91 @@
+-- Which levels tables and settings name, in which form, and which elements are variable (UTS #35 part 5, "Setting Options").
+use Rattle.std.specs.Prelude.{ℕ, Bool, true, false, Option, Some, None}
+use Rattle.icu_options.specs.Settings.{Settings}
+use Rattle.icu_options.specs.Metadata.{is_backward}
+use Rattle.icu_options.specs.declared.settings.Strength.{Strength}
+use Rattle.icu_options.specs.declared.settings.Strength.TheVariants.{Primary, Secondary, Quaternary, Identical}
+use Rattle.icu_options.specs.declared.settings.AlternateHandling.{AlternateHandling}
+use Rattle.icu_options.specs.declared.settings.AlternateHandling.TheVariants.{NonIgnorable, Shifted}
+use Rattle.icu_options.specs.declared.settings.CollationCaseFirst.{CollationCaseFirst}
+use Rattle.icu_options.specs.declared.settings.CollationCaseFirst.TheVariants as case_first
+use Rattle.icu_options.specs.declared.settings.MaxVariable.{MaxVariable}
+use Rattle.icu_levels.specs.Primaries.{Compression}
+use Rattle.icu_levels.specs.declared.forms.CaseForm.{CaseForm}
+use Rattle.icu_levels.specs.declared.forms.CaseForm.TheVariants as cases
+use Rattle.icu_levels.specs.declared.forms.KeyForm.{KeyForm}
+use Rattle.icu_levels.specs.declared.forms.QuaternaryForm.{QuaternaryForm}
+use Rattle.icu_levels.specs.declared.forms.QuaternaryForm.TheVariants.{MayShift, Unshifted}
+use Rattle.icu_levels.specs.declared.forms.SecondaryForm.{SecondaryForm}
+use Rattle.icu_levels.specs.declared.forms.SecondaryForm.TheVariants.{Forward, Backward}
+use Rattle.icu_levels.specs.declared.forms.TertiaryForm.{TertiaryForm}
+use Rattle.icu_levels.specs.declared.forms.TertiaryForm.TheVariants.{WithoutCase, LowerFirst, UpperFirst}
+use Rattle.icu_provider.specs.SpecialPrimaries.{SpecialPrimaries, is_compressible, last_primary}
+use Rattle.icu_provider.specs.CollatorTables.{CollatorTables, reorder}
+
+-- how the primaries of a collator are written
+abbrev pub compression_of : CollatorTables → Compression
+compression_of all = record { reorder = reorder all; is_compressible = is_compressible all.special }
+
+-- ---- levels
+
+abbrev pub direction : Bool → SecondaryForm
+direction true = Backward
+direction false = Forward
+
+-- secondaries count from Secondary on, backward where the metadata says so
+abbrev pub secondary_form : Strength → SecondaryForm → Option SecondaryForm
+secondary_form Primary form = None
+secondary_form _ form = Some form
+
+-- the case level counts at each strength, where it is on
+abbrev pub case_form : Bool → CollationCaseFirst → Option CaseForm
+case_form false first = None
+case_form true case_first.Upper = Some cases.UpperFirst
+case_form true _ = Some cases.LowerFirst
+
+-- case bits count among tertiaries where case first is set and there is no case level
+abbrev pub cased_form : Bool → CollationCaseFirst → TertiaryForm
+cased_form true first = WithoutCase
+cased_form false case_first.False = WithoutCase
+cased_form false case_first.Lower = LowerFirst
+cased_form false case_first.Upper = UpperFirst
+
+-- tertiaries count from Tertiary on
+abbrev pub tertiary_form : Strength → TertiaryForm → Option TertiaryForm
+tertiary_form Primary form = None
+tertiary_form Secondary form = None
+tertiary_form _ form = Some form
+
+abbrev pub handling_form : AlternateHandling → QuaternaryForm
+handling_form NonIgnorable = Unshifted
+handling_form Shifted = MayShift
+
+-- quaternaries count from Quaternary on
+abbrev pub quaternary_form : Strength → QuaternaryForm → Option QuaternaryForm
+quaternary_form Quaternary form = Some form
+quaternary_form Identical form = Some form
+quaternary_form _ form = None
+
+-- characters count at Identical
+abbrev pub is_identical : Strength → Bool
+is_identical Identical = true
+is_identical _ = false
+
+abbrev pub form_by : CollatorTables → Settings → KeyForm
+form_by all settings = record {
+  secondary = secondary_form settings.strength (direction (is_backward all.bits));
+  cases = case_form settings.case_level settings.case_first;
+  tertiary = tertiary_form settings.strength (cased_form settings.case_level settings.case_first);
+  quaternary = quaternary_form settings.strength (handling_form settings.alternate_handling);
+  identical = is_identical settings.strength;
+}
+
+-- ---- variable elements
+
+-- the last primary of the groups that are variable, or 0 where none is
+abbrev pub last_variable : SpecialPrimaries → AlternateHandling → MaxVariable → ℕ
+last_variable special NonIgnorable group = 0
+last_variable special Shifted group = last_primary special group
+
+abbrev pub last_variable_by : CollatorTables → Settings → ℕ
+last_variable_by all settings = last_variable all.special settings.alternate_handling settings.max_variable

@@ -1,0 +1,28 @@
+-- What variable weighting leaves of the elements of a text (UTS #10, section 4 "Variable Weighting").
+use Rattle.std.specs.Prelude.{ℕ, Bool, true, false, ◌&&◌, ◌==◌, nat_lt, nat_le, List, [], ◌∷◌, if◌then◌else◌}
+use Rattle.icu_entries.specs.Elements.{Element}
+use Rattle.icu_entries.specs.ElementConditions.{separator_primary}
+
+-- an element that stayed, or the primary of one that is shifted, before reordering
+pub data HandledElement : Type 0 where
+  stayed : Element → HandledElement
+  shifted_primary : ℕ → HandledElement
+
+-- above the merge separator, and up to the last primary of the variable groups: where that is 0, no element is variable
+abbrev pub is_variable : ℕ → Element → Bool
+is_variable last x = nat_lt separator_primary x.primary && nat_le x.primary last
+
+-- From the left: a variable element is shifted, and elements without a primary after it vanish until one that has a primary
+-- stays. The flag says that a variable element came last.
+unfoldable pub handled : ℕ → Bool → List Element → List HandledElement
+handled last after [] = []
+handled last after (x ∷ xs) =
+    if is_variable last x then shifted_primary x.primary ∷ handled last true xs
+    else if after && x.primary == 0 then handled last true xs
+    else stayed x ∷ handled last false xs
+
+-- the elements that stayed: each level before the quaternary one reads these alone
+abbrev pub stayed_elements : List HandledElement → List Element
+stayed_elements [] = []
+stayed_elements (stayed x ∷ hs) = x ∷ stayed_elements hs
+stayed_elements (shifted_primary p ∷ hs) = stayed_elements hs

@@ -1,0 +1,6 @@
+pub mod Handled
+pub mod Levels
+pub mod Forms
+pub mod TextOrder
+pub mod LiveWeights
+pub mod TextLaws

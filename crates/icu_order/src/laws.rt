@@ -1,0 +1,34 @@
+//! The order theorem of texts, and what it rests on, each as a function that makes no call.
+
+ghost use Rattle.icu_order.specs.LiveWeights.{GoodTablesServeLevels};
+ghost use Rattle.icu_order.specs.TextLaws.{EqualTextsHaveOneKey, KeysDetermineTextLists, KeysKeepTextOrder, LevelsKeepTextOrder};
+
+/// The weights that tables give which meet the conditions on all tables of a collator are as the order theorem of sort keys
+/// asks, for keys of each form (UTS #10, section 7.3 "Form Sort Keys"; UTS #35 part 5, "Collation Reordering" and "Case Parameters").
+///
+/// Weights of one level are prefix free (UTS #10, "Large Weight Values"): primaries after reordering, tertiaries with case
+/// bits and without. Leads stand clear of the bytes that keys keep for themselves. Reordering changes leads alone, and keeps
+/// numbers apart from all else. Of primaries that share a lead after it, all leads are compressible or none.
+pub fn good_tables_serve_levels()
+    ensures { GoodTablesServeLevels }
+{}
+
+/// Each level of the keys of two texts by itself, for all tables that meet the conditions and all settings: where all
+/// earlier levels tie, its bytes determine the order of its lists, whatever follows them, and the same bytes mean the same
+/// list (UTS #10, section 7.3 "Form Sort Keys").
+pub fn levels_keep_text_order()
+    ensures { LevelsKeepTextOrder }
+{}
+
+/// The order theorem, for all tables that meet the conditions, all settings and any two texts (UTS #10, section 7.4
+/// "Compare Sort Keys").
+pub fn keys_keep_text_order()
+    // The dictionary order of the two keys is the order of the texts.
+    ensures order { KeysKeepTextOrder }
+
+    // The keys are the same bytes exactly where the texts are equal.
+    ensures same { EqualTextsHaveOneKey }
+
+    // And so they are exactly where the two texts have the same list at each level of the key.
+    ensures lists { KeysDetermineTextLists }
+{}

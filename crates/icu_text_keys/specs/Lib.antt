@@ -1,0 +1,4 @@
+pub mod Compressions
+pub mod LevelRests
+pub mod KeyRests
+pub mod HandledSources

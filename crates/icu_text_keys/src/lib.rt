@@ -1,0 +1,23 @@
+//! The sort key of a text, all its levels in one pass over the elements that variable weighting leaves, to any sink.
+//!
+//! The crate knows neither texts nor how elements are read. A caller feeds the elements, as they were handled, one at a
+//! time; primaries go straight to the caller's sink, and each later level is held inline until the end, when it is
+//! written by one write. The contracts say that the sink took `key_bytes` of the text's level lists, or a beginning of
+//! it.
+#![tactic(auto)]
+
+pub mod compression;
+mod element_weights;
+pub mod form;
+pub mod handled;
+pub mod later_levels;
+mod level;
+pub mod parts;
+pub mod whole_key;
+pub mod writer;
+
+pub use compression::TableCompression;
+pub use form::key_form;
+pub use handled::{Handled, HandledSource};
+pub use whole_key::write_key;
+pub use writer::KeyWriter;

@@ -1,0 +1,77 @@
+//! The key of a text, from its elements as they are handled.
+
+ghost use Rattle.std.specs.Prelude.{◌≡◌, IfOk, IfErr, List};
+ghost use Rattle.std.specs.List.{AllByRecursion};
+ghost use Rattle.icu_levels.specs.Keys.{key_bytes};
+ghost use Rattle.icu_keys.specs.KeyWrites.{KeyWrites, WritesKey};
+ghost use Rattle.icu_order.specs.Levels.{level_lists};
+ghost use Rattle.icu_text_keys.specs.HandledSources.{HasCase, GivesNext};
+ghost use Rattle.icu_text_keys.specs.KeyRests.{key_rest};
+
+use crate::handled::{Handled, HandledSource};
+use crate::writer::KeyWriter;
+use icu_keys::parts::end_key;
+use icu_keys::primaries::PrimaryCompression;
+use icu_keys::{CollationKeySink, SortKeyError};
+use icu_levels::forms::KeyForm;
+use std::alloc::Global;
+
+/// The next element, with the error of a key.
+fn next_element<H: HandledSource, E>(elements: &mut H) -> Result<Option<Handled>, SortKeyError<E>>
+    ensures next { IfOk result (λ next. GivesNext (H.handled_left elements.old) next (H.handled_left elements.new)) }
+    ensures memory { IfErr result (λ error. error ≡ SortKeyError.NoMemory) }
+{
+    match elements.next_handled() {
+        Ok(next) => Ok(next),
+        Err(_) => Err(SortKeyError::NoMemory),
+    }
+}
+
+/// Writes the rest of a key, of the elements that are still to come.
+fn write_elements<S: CollationKeySink, C: PrimaryCompression, H: HandledSource>(
+    sink: &mut S,
+    state: &mut S::State,
+    compression: &C,
+    mut writer: KeyWriter,
+    elements: &mut H,
+    characters: &[char],
+) -> Result<(), SortKeyError<S::Error>>
+    requires sound { S.is_sound sink.old state.old }
+    requires cases { AllByRecursion HasCase (H.handled_left elements.old) }
+    ensures sound { S.is_sound sink.new state.new }
+    ensures bytes { KeyWrites S.took S.refused sink.old state.old
+        (key_rest (C.compression compression.now) writer characters.now (H.handled_left elements.old))
+        result sink.new state.new }
+{
+    'writing: while let Some(element) = next_element(elements)? {
+        writer.push(sink, state, compression, element)?;
+    }
+    writer.close(sink, state, characters)
+}
+
+/// Writes the key of a text to a sink, and ends it, from the state that keys begin with (UTS #10, section 7.3 "Form Sort
+/// Keys"): of its elements, as variable weighting leaves them, and of all characters of its decomposition, which count
+/// at the identical level alone.
+///
+/// `Ok` means that the sink took the whole key, and is what `finish` returned. `Sink` is the sink's own error: what a
+/// write returned after a beginning of the key was taken, or what `finish` returned after the whole key. `NoMemory` says
+/// that an allocation failed, of a level that is held or of what gives the elements; a beginning of the key was taken.
+pub fn write_key<S: CollationKeySink, C: PrimaryCompression, H: HandledSource>(
+    alloc: Global,
+    sink: &mut S,
+    compression: &C,
+    form: KeyForm,
+    elements: &mut H,
+    characters: &[char],
+) -> Result<S::Output, SortKeyError<S::Error>>
+    requires { AllByRecursion HasCase (H.handled_left elements.old) }
+    ensures { WritesKey S.took S.refused S.finished S.State.is_default sink.old
+        (key_bytes (C.compression compression.now) form
+        (level_lists (C.compression compression.now).reorder form (H.handled_left elements.old) characters.now))
+        result sink.new }
+{
+    let mut state = S::State::default();
+    let writer = KeyWriter::begin(alloc, form);
+    let written = write_elements(sink, &mut state, compression, writer, elements, characters);
+    end_key(sink, state, written)
+}

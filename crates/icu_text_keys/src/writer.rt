@@ -1,0 +1,150 @@
+//! The writer of a key, which is fed the elements of a text one at a time.
+
+ghost use Rattle.std.specs.Prelude.{◌≡◌, ◌<◌, ℕ, List, [], ◌∷◌};
+ghost use Rattle.icu_levels.specs.Keys.{key_bytes};
+ghost use Rattle.icu_levels.specs.Primaries.{Compression};
+ghost use Rattle.icu_entries.specs.Elements.{Element};
+ghost use Rattle.icu_keys.specs.KeyWrites.{KeyWrites, KeyFeeds};
+ghost use Rattle.icu_keys.specs.WriterRests.{primary_rest};
+ghost use Rattle.icu_keys.specs.Writes.{Feeds};
+ghost use Rattle.icu_order.specs.Handled.{HandledElement, stayed, shifted_primary};
+ghost use Rattle.icu_order.specs.Levels.{level_lists, primaries};
+ghost use Rattle.icu_text_keys.specs.HandledSources.{HasCase, handled_as};
+
+use crate::handled::Handled;
+use crate::later_levels::LaterLevels;
+use icu_entries::CollationElement;
+use icu_keys::primaries::{PrimaryCompression, PrimaryWriter};
+use icu_keys::{CollationKeySink, SortKeyError};
+use icu_levels::forms::KeyForm;
+use std::alloc::Global;
+
+/// Writes the primary of an element, where it has one. An error is the sink's own.
+#[tactic(auto, unfolding(icu_order::specs::Levels::weights))]
+fn push_primary<S: CollationKeySink, C: PrimaryCompression>(
+    writer: &mut PrimaryWriter,
+    sink: &mut S,
+    state: &mut S::State,
+    compression: &C,
+    element: CollationElement,
+) -> Result<(), S::Error>
+    requires { S.is_sound sink.old state.old }
+    ensures sound { S.is_sound sink.new state.new }
+    ensures bytes { Feeds S.took S.refused sink.old state.old
+        (λ (es : List Element). primary_rest (C.compression compression.now) writer.old (primaries (element ∷ es)))
+        (λ es. primary_rest (C.compression compression.now) writer.new (primaries es))
+        result sink.new state.new }
+{
+    let weight = element.primary();
+    if weight == 0 {
+        return Ok(());
+    }
+    writer.push(sink, state, compression, weight)
+}
+
+/// Writes the key of a text, all levels in one pass over its elements (UTS #10, section 7.3 "Form Sort Keys").
+///
+/// It is fed the elements one at a time, as variable weighting leaves them, and closed at the end. Primaries go straight
+/// to the sink. Each later level is held, inline while it is short, and written by `close`.
+#[derive(Debug, Drop)]
+pub struct KeyWriter {
+    primaries: PrimaryWriter,
+    levels: LaterLevels,
+}
+
+impl KeyWriter {
+    ghost use Rattle.icu_text_keys.specs.KeyRests.{key_rest};
+
+    /// The writer of a key of this form, with nothing written. It allocates nothing.
+    pub fn begin(alloc: Global, form: KeyForm) -> KeyWriter
+        ensures { (c : Compression) (cs : List ℕ) (hs : List HandledElement) →
+            key_rest c result cs hs ≡ key_bytes c form (level_lists c.reorder form hs cs) }
+    {
+        KeyWriter {
+            primaries: PrimaryWriter::new(),
+            levels: LaterLevels::new(alloc, form),
+        }
+    }
+
+    /// Writes what the next element gives, which stayed: it is not variable. After an error, discard the writer.
+    pub fn push_stayed<S: CollationKeySink, C: PrimaryCompression>(
+        &mut self,
+        sink: &mut S,
+        state: &mut S::State,
+        compression: &C,
+        element: CollationElement,
+    ) -> Result<(), SortKeyError<S::Error>>
+        requires sound { S.is_sound sink.old state.old }
+        requires case { element.lower < 0xC000 }
+        ensures sound { S.is_sound sink.new state.new }
+        ensures bytes { (cs : List ℕ) → KeyFeeds S.took S.refused sink.old state.old
+            (λ (hs : List HandledElement). key_rest (C.compression compression.now) self.old cs (stayed element ∷ hs))
+            (key_rest (C.compression compression.now) self.new cs) result sink.new state.new }
+    {
+        if let Err(error) = push_primary(&mut self.primaries, sink, state, compression, element) {
+            return Err(SortKeyError::Sink(error));
+        }
+        match self.levels.push_stayed(element) {
+            Ok(()) => Ok(()),
+            Err(_) => Err(SortKeyError::NoMemory),
+        }
+    }
+
+    /// Holds the primary of the next element, which is shifted: it is variable. The sink takes nothing. After an error,
+    /// discard the writer.
+    pub fn push_shifted<S: CollationKeySink, C: PrimaryCompression>(
+        &mut self,
+        sink: &mut S,
+        state: &mut S::State,
+        compression: &C,
+        primary: u32,
+    ) -> Result<(), SortKeyError<S::Error>>
+        requires { S.is_sound sink.old state.old }
+        ensures sound { S.is_sound sink.new state.new }
+        ensures bytes { (cs : List ℕ) → KeyFeeds S.took S.refused sink.old state.old
+            (λ (hs : List HandledElement). key_rest (C.compression compression.now) self.old cs (shifted_primary primary ∷ hs))
+            (key_rest (C.compression compression.now) self.new cs) result sink.new state.new }
+    {
+        match self.levels.push_shifted(compression, primary) {
+            Ok(()) => Ok(()),
+            Err(_) => Err(SortKeyError::NoMemory),
+        }
+    }
+
+    /// Writes what the next element gives. After an error, discard the writer.
+    pub fn push<S: CollationKeySink, C: PrimaryCompression>(
+        &mut self,
+        sink: &mut S,
+        state: &mut S::State,
+        compression: &C,
+        element: Handled,
+    ) -> Result<(), SortKeyError<S::Error>>
+        requires sound { S.is_sound sink.old state.old }
+        requires case { HasCase (handled_as element) }
+        ensures sound { S.is_sound sink.new state.new }
+        ensures bytes { (cs : List ℕ) → KeyFeeds S.took S.refused sink.old state.old
+            (λ (hs : List HandledElement). key_rest (C.compression compression.now) self.old cs (handled_as element ∷ hs))
+            (key_rest (C.compression compression.now) self.new cs) result sink.new state.new }
+    {
+        match element {
+            Handled::Stayed(element) => self.push_stayed(sink, state, compression, element),
+            Handled::Shifted(primary) => self.push_shifted(sink, state, compression, primary),
+        }
+    }
+
+    /// Writes the rest of the key, given all characters of the decomposed text, which count at the identical level alone.
+    #[tactic(auto, unfolding(icu_order::specs::Levels::weights))]
+    pub fn close<S: CollationKeySink>(
+        self,
+        sink: &mut S,
+        state: &mut S::State,
+        characters: &[char],
+    ) -> Result<(), SortKeyError<S::Error>>
+        requires { S.is_sound sink.old state.old }
+        ensures sound { S.is_sound sink.new state.new }
+        ensures bytes { (c : Compression) → KeyWrites S.took S.refused sink.old state.old
+            (key_rest c self characters.now []) result sink.new state.new }
+    {
+        self.levels.write(sink, state, characters)
+    }
+}
