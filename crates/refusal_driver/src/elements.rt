@@ -1,8 +1,9 @@
-//! The collation elements of texts.
+//! The collation elements of texts, and the weights of numbers.
 use crate::collators::collator;
 use crate::stop::{Stop, twice};
 use icu_elements::{CollationElements, ElementTables, all_elements};
 use icu_mini::mini::Mini;
+use icu_numbers::digit_run_weights;
 use icu_options::Strength;
 use std::alloc::AllocError;
 
@@ -36,5 +37,7 @@ pub(crate) fn run(rt: &HostRuntime) -> Result<(), Stop> {
     ] {
         println!(rt; "{} elements", twice(|| count(tables, text))?)?;
     }
+    let weights = twice(|| digit_run_weights(rt.alloc(), 0x0F, &[1, 2, 3, 4, 5, 6, 7, 8, 9]))?;
+    println!(rt; "{} weights", weights.len())?;
     Ok(())
 }
