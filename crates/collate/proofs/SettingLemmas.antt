@@ -17,7 +17,7 @@ use Rattle.icu_comparison.specs.Order.{is_at_most_tertiary}
 use Rattle.icu_mini.specs.declared.mini.Mini.{Mini}
 use Rattle.icu_mini.specs.Mini.{IsMini, collator_tables}
 use Rattle.collate.specs.Answers.{ComparesBy}
-use Rattle.collate.proofs.MiniLemmas.{all_tables, mini-plain}
+use Rattle.collate.proofs.MiniLemmas.{all_tables}
 
 -- options that set a strength alone
 abbrev pub at_strength : Strength → CollatorOptions
@@ -45,7 +45,6 @@ module _ (m : Mini) (mini : IsMini m) (strength : Strength) (few : IsTrue (is_at
   unfolding settings_by
   by_settings = record {
     plain = record {
-      reading = mini-plain m mini;
       reordering = refl;
       forward = refl;
       alternate_handling = refl;

@@ -14,7 +14,7 @@ use Rattle.icu_provider.specs.Tables.{Tables}
 use Rattle.icu_checks.specs.Checked.{checked_tables}
 use Rattle.icu_provider.specs.CollatorTables.{CollatorTables}
 use Rattle.icu_checks.specs.Loads.{lent_tables}
-use Rattle.icu_elements.specs.ByCharacter.{IsContextFree, non_numeric_reading}
+use Rattle.icu_elements.specs.TextElements.{non_numeric_reading}
 use Rattle.icu_order.specs.TextOrder.{reading_by}
 use Rattle.icu_comparison.specs.declared.collator.Collator.{Collator}
 use Rattle.icu_comparison.specs.declared.collator.CollatorBorrowed.{CollatorBorrowed}
@@ -55,11 +55,10 @@ comparison_by all settings = record { strength = settings.strength; reading = re
 abbrev pub non_numeric_comparison : Strength → Tables → Comparison
 non_numeric_comparison strength tables = record { strength = strength; reading = non_numeric_reading tables }
 
--- The order needs no more than the primary, secondary and tertiary weights of each character by itself, as they are: the reading
--- is free of contexts, leads aren't reordered, the secondary level is compared from the front, which the metadata says, variable
--- elements are like others, and neither case nor a level after the tertiary one counts.
+-- The order needs no more than the primary, secondary and tertiary weights of elements, as they are: leads aren't reordered, the
+-- secondary level is compared from the front, which the metadata says, variable elements are like others, and neither case nor a
+-- level after the tertiary one counts.
 pub record IsSupportedComparison (all : CollatorTables) (settings : Settings) : Type 0 where
-  pub reading : IsContextFree (reading_by all settings)
   pub reordering : all.reordering ≡ None
   pub forward : is_backward all.bits ≡ false
   pub alternate_handling : settings.alternate_handling ≡ NonIgnorable

@@ -8,7 +8,6 @@ ghost use Rattle.icu_options.specs.Metadata.{metadata_settings, is_backward};
 ghost use Rattle.icu_entries.specs.declared.error.DataErrorKind.TheVariants.{NoMemory};
 ghost use Rattle.icu_checks.specs.Checked.{checked_tables};
 ghost use Rattle.icu_checks.specs.GoodTables.{IsGoodTables, IsTrueRefusal};
-ghost use Rattle.icu_elements.specs.ByCharacter.{IsContextFree};
 ghost use Rattle.icu_elements.specs.Reading.{element_tables};
 ghost use Rattle.icu_elements.specs.TextElements.{elements_of};
 ghost use Rattle.icu_comparison.specs.Order.{order_of};
@@ -120,10 +119,9 @@ impl<'a> CollatorBorrowed<'a> {
         ElementTables::new(self.tables)
     }
 
-    /// The order of two texts (UTS #10, section 7.4), where their elements are those of their
-    /// characters and compared as they are (`IsSupportedComparison`). Elsewhere each character is read
-    /// by itself, the weights are compared as they stand in the tables, and levels after the tertiary
-    /// one don't count. Fails only where an allocation does.
+    /// The order of two texts (UTS #10, section 7.4), where their elements are compared as they are
+    /// (`IsSupportedComparison`). Elsewhere the weights are compared as they stand in the tables, and
+    /// levels after the tertiary one don't count. Fails only where an allocation does.
     pub fn compare(&self, left: &str, right: &str) -> Result<Ordering, AllocError>
         ensures { IsSupportedComparison (tables_borrowed self.now) (settings_borrowed self.now)
             → IfOk result (λ o. o ≡ order_of
@@ -139,8 +137,7 @@ impl<'a> CollatorBorrowed<'a> {
     /// The elements of a text.
     fn elements(&self, text: &str) -> Result<Vec<CollationElement>, AllocError>
         ensures { let reading = reading_by (tables_borrowed self.now) (settings_borrowed self.now) in
-            IsContextFree reading
-            → IfOk result (λ es. es.items ≡ elements_of reading (nfd (chars text.now))) }
+            IfOk result (λ es. es.items ≡ elements_of reading (nfd (chars text.now))) }
     {
         all_elements(
             self.tables(),

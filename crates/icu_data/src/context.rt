@@ -194,10 +194,12 @@ impl<'d> ContextTable<'d> {
         self.contexts.len()
     }
 
-    /// The context at an index.
+    /// The context at an index. Its rows ascend by the numbers of their characters.
+    #[tactic(auto, using(crate::proofs::ContextLemmas::ascending_rows))]
     pub fn get(self, index: usize) -> FoundContext<'d>
         requires { index < length (contexts_of self) }
-        ensures { found_context result ≡ slice_index_or (contexts_of self.entry) index no_context }
+        ensures value { found_context result ≡ slice_index_or (contexts_of self.entry) index no_context }
+        ensures ascending { IsTrue (has_ascending_rows (found_context result)) }
     {
         let context = self.contexts[index];
         FoundContext {

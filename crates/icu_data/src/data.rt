@@ -132,11 +132,12 @@ impl<'d> CollationData<'d> {
         self.get_context(index).default()
     }
 
-    /// The context at an index, its entry for all texts and its rows.
+    /// The context at an index, its entry for all texts and its rows, which ascend by the numbers of their characters.
     #[tactic(auto, unfolding(crate::specs::StoredData::data_of))]
     pub fn get_context(self, index: usize) -> FoundContext<'d>
         requires { index < length (data_of self).contexts }
-        ensures { found_context result ≡ slice_index_or (data_of self.entry).contexts index no_context }
+        ensures value { found_context result ≡ slice_index_or (data_of self.entry).contexts index no_context }
+        ensures ascending { IsTrue (has_ascending_rows (found_context result)) }
     {
         self.contexts.get(index)
     }

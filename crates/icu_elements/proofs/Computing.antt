@@ -5,7 +5,7 @@ use Rattle.icu_provider.specs.Tables.{entry_of, diacritic_of}
 use Rattle.icu_data.specs.Data.{row_entry, longest_from}
 use Rattle.icu_data.specs.Final.{final_elements}
 use Rattle.icu_levels.specs.Numbers.{pair_count}
-use Rattle.icu_elements.specs.Matches.{after_prefix, is_blocked, with_marks, contracted, match_from}
+use Rattle.icu_matches.specs.Matches.{after_prefix, is_blocked, with_marks, contracted, match_from}
 use Rattle.icu_elements.specs.TextElements.{number_step, entry_step, matched_step, elements_along, elements_after}
 
 -- `unfolding icu_elements` lets `refl` compute the elements of a short text

@@ -1,15 +1,12 @@
 pub mod IterLemmas
-pub mod ChoiceLemmas
-pub mod LiveLemmas
 pub mod DecomposedLemmas
 pub mod PartLemmas
 pub mod SourceLemmas
 pub mod ReadableLemmas
-pub mod ByCharacterLemmas
 pub mod LiveTextLemmas
 pub mod StepLemmas
+pub mod ReaderLemmas
 pub mod Computing
 pub mod WorkedTables
 mod WorkedTexts
-mod WorkedByCharacter
 mod WorkedLive

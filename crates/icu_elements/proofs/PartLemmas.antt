@@ -16,12 +16,12 @@ use Rattle.icu_provider.specs.Tables.{Tables, is_jamo, tailored_entry, entry_of,
 use Rattle.icu_data.specs.Final.{final_elements}
 use Rattle.icu_data.specs.Live.{live_digit, live_contraction, live_from, EachLive}
 use Rattle.icu_data.proofs.ListLemmas.{weaker}
-use Rattle.icu_elements.specs.Matches.{Match, match_of}
+use Rattle.icu_matches.specs.Matches.{Match, match_of}
 use Rattle.icu_elements.specs.TextElements.{Reading, Step, is_silent_dot, continues_number, begins_with_mark, digit_of, number_elements, number_step, entry_step, diacritic_step, matched_step, step, consumed, last_two, elements_along, elements_after, elements_of}
 use Rattle.icu_provider.specs.LiveTables.{jamo_entry, AllLive, HasDigits}
 use Rattle.icu_elements.specs.TextParts.{IsDecomposed, IsDecomposedText, AreDigits, HasGoodParts, EachPasses, PartsPass}
-use Rattle.icu_elements.proofs.ChoiceLemmas.{either, maybe, at_nil}
-use Rattle.icu_elements.proofs.LiveLemmas.{match_of-live, all_drop}
+use Rattle.icu_matches.proofs.ChoiceLemmas.{either, maybe, at_nil}
+use Rattle.icu_matches.proofs.LiveLemmas.{match_of-live, all_drop}
 
 -- ---- an entry is among those that are live from it
 
@@ -29,7 +29,7 @@ digit_head : (P : ℕ → Type 0) (k : EntryKind) (e p : ℕ) → AllByRecursion
 digit_head P Digit e p h = h.0
 digit_head P _ e p h = h.0
 
-live_digit-head : (P : ℕ → Type 0) (home : Data) (e : ℕ) → AllByRecursion P (live_digit home e) → P e
+pub live_digit-head : (P : ℕ → Type 0) (home : Data) (e : ℕ) → AllByRecursion P (live_digit home e) → P e
 unfolding live_digit
 live_digit-head P home e h = digit_head P (kind_of e) e _ h
 

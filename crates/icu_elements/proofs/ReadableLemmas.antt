@@ -1,5 +1,5 @@
 -- What tables give to those who read texts by them.
-use Rattle.std.proofs.Common.{◌≡◌, ℕ, ◌<◌, Bool, true, List, [], ◌∷◌, length, nat_lt, Option, option_map, subst, arith, inl, inr, IsTrue}
+use Rattle.std.proofs.Common.{◌≡◌, ℕ, ◌<◌, Bool, true, List, [], ◌∷◌, length, nat_le, nat_lt, Option, option_map, subst, arith, inl, inr, IsTrue}
 use Rattle.std.proofs.lemmas.Bool.{and_parts, and_from}
 use Rattle.std.proofs.lemmas.Bool.Decides.{nat_tests}
 use Rattle.std.specs.Char.{IsScalar}
@@ -12,10 +12,10 @@ use Rattle.icu_data.specs.declared.live_condition.LiveCondition.{LiveCondition}
 use Rattle.icu_data.specs.declared.live_condition.LiveCondition.TheVariants.{Indices, Digits, Bytes, Offsets}
 use Rattle.icu_entries.specs.declared.entry.EntryKind.{EntryKind}
 use Rattle.icu_entries.specs.declared.entry.EntryKind.TheVariants.{Expansion32, Expansion, Prefix, Contraction, Digit, Offset}
-use Rattle.icu_entries.specs.Entries.{kind_of, entry_index}
+use Rattle.icu_entries.specs.Entries.{kind_of, entry_index, digit_value}
 use Rattle.icu_data.specs.DataConditions.{is_inside, is_readable}
 use Rattle.icu_entries.specs.EntryConditions.{has_digit}
-use Rattle.icu_data.specs.Live.{live_digit, live_contraction, live_from}
+use Rattle.icu_data.specs.Live.{live_digit, live_from}
 use Rattle.icu_data.specs.LiveConditions.{meets}
 use Rattle.icu_provider.specs.LiveTables.{HasDigits, IsLive}
 use Rattle.icu_data.specs.StoredData.{data_of}
@@ -27,9 +27,10 @@ use Rattle.icu_checks.specs.declared.condition.Condition.TheVariants as conditio
 use Rattle.icu_provider.specs.CollatorTables.{CollatorTables}
 use Rattle.icu_checks.specs.GoodTables.{IsGoodTables}
 use Rattle.icu_elements.specs.declared.tables.ElementTables.{ElementTables}
-use Rattle.icu_elements.specs.inner.Readable.{AreReadable, IsGoodFrom, tables_from}
+use Rattle.icu_matches.specs.GoodEntries.{MeetAll, IsGoodFrom, IsGoodMatch}
+use Rattle.icu_elements.specs.inner.Readable.{AreReadable, tables_from}
 use Rattle.icu_elements.specs.Reading.{element_tables}
-use Rattle.icu_elements.proofs.PartLemmas.{live_from-head, entry_of-live, AllLive-weaker}
+use Rattle.icu_elements.proofs.PartLemmas.{live_digit-head, live_from-head, entry_of-live, AllLive-weaker}
 use Rattle.icu_elements.proofs.SourceLemmas.{all_live}
 
 -- ---- tables that were checked
@@ -70,28 +71,10 @@ good_found t c scalar home e is =
 
 -- ---- an entry that meets the conditions can be read, and so can a digit's other entry
 
-readable_from : (home : Data) (c e f : ℕ) → IsGoodFrom home c e → Contains (live_from home e) f → IsTrue (is_readable home c f)
+readable_among : (home : Data) (c f : ℕ) (es : List ℕ) → MeetAll home c es → Contains es f → IsTrue (is_readable home c f)
 unfolding is_readable
-readable_from home c e f good among =
+readable_among home c f es good among =
     and_from _ _ (and_from _ _ (good Indices f among) (and_parts _ _ (good Bytes f among)).1) (good Offsets f among)
-
-itself : (home : Data) (e : ℕ) → Contains (live_from home e) e
-itself home e = live_from-head (Contains (live_from home e)) home e (all_members (live_from home e))
-
-pub readable_itself : (home : Data) (c e : ℕ) → IsGoodFrom home c e → IsTrue (is_readable home c e)
-readable_itself home c e good = readable_from home c e e good (itself home e)
-
-second : (P : ℕ → Type 0) (k : EntryKind) (e f : ℕ) (xs ys zs : List ℕ) → k ≡ Digit → AllByRecursion P (elim k as (λ _. List ℕ) [ Prefix ↦ xs | _ ↦ elim k as (λ _. List ℕ) [ Contraction ↦ ys | _ ↦ elim k as (λ _. List ℕ) [ Digit ↦ e ∷ f ∷ [] | _ ↦ zs ] ] ]) → P f
-second P Digit e f xs ys zs is all = all.1.0
-second P _ e f xs ys zs is all = cc
-
-non_numeric_among : (home : Data) (e : ℕ) → kind_of e ≡ Digit → Contains (live_from home e) (plain_of home e)
-unfolding live_from live_contraction live_digit
-non_numeric_among home e is =
-    second (Contains (live_from home e)) (kind_of e) e (plain_of home e) _ _ _ is (all_members (live_from home e))
-
-pub readable_non_numeric : (home : Data) (c e : ℕ) → IsGoodFrom home c e → kind_of e ≡ Digit → IsTrue (is_readable home c (plain_of home e))
-readable_non_numeric home c e good is = readable_from home c e (plain_of home e) good (non_numeric_among home e is)
 
 at_digit : (k : EntryKind) (a b d f g h : Bool) → k ≡ Digit → IsTrue (elim k as (λ _. Bool) [ Expansion32 ↦ a | Expansion ↦ b | Prefix ↦ d | Contraction ↦ f | Digit ↦ g | Offset ↦ h | _ ↦ true ]) → IsTrue g
 at_digit Digit a b d f g h is t = t
@@ -100,9 +83,52 @@ at_digit _ a b d f g h is t = cc
 test_inside : (i n : ℕ) → IsTrue (nat_lt i n) → i < n
 test_inside i n h = grind (arith, nat_tests)
 
+test_decimal : (d : ℕ) → IsTrue (nat_le d 9) → d < 10
+test_decimal d h = grind (arith, nat_tests)
+
+small_digit : (k : EntryKind) (small : Bool) → k ≡ Digit → IsTrue (elim k as (λ _. Bool) [ Digit ↦ small | _ ↦ true ]) → IsTrue small
+small_digit Digit small is t = t
+small_digit _ small is t = cc
+
 -- the other entry of a digit is there
-pub non_numeric_inside : (home : Data) (c e : ℕ) → IsGoodFrom home c e → kind_of e ≡ Digit → entry_index e < length home.entries
+inside_among : (home : Data) (c e : ℕ) (es : List ℕ) → MeetAll home c es → Contains es e → kind_of e ≡ Digit → entry_index e < length home.entries
 unfolding is_inside
-non_numeric_inside home c e good is =
-    let inside : IsTrue (is_inside home e) = good Indices e (itself home e) in
+inside_among home c e es good among is =
+    let inside : IsTrue (is_inside home e) = good Indices e among in
     test_inside _ _ (at_digit (kind_of e) _ _ _ _ _ _ is inside)
+
+-- its digit is one
+pub decimal_among : (home : Data) (c e : ℕ) (es : List ℕ) → MeetAll home c es → Contains es e → kind_of e ≡ Digit → digit_value e < 10
+unfolding has_digit
+decimal_among home c e es good among is =
+    let small : IsTrue (has_digit e) = good Digits e among in test_decimal _ (small_digit (kind_of e) _ is small)
+
+pub itself : (home : Data) (e : ℕ) → Contains (live_from home e) e
+itself home e = live_from-head (Contains (live_from home e)) home e (all_members (live_from home e))
+
+-- ---- an entry that a match came to
+
+matched_itself : (home : Data) (e : ℕ) → Contains (live_digit home e) e
+matched_itself home e = live_digit-head (Contains (live_digit home e)) home e (all_members (live_digit home e))
+
+plain_second : (P : ℕ → Type 0) (k : EntryKind) (e f : ℕ) → k ≡ Digit → AllByRecursion P (elim k as (λ _. List ℕ) [ Digit ↦ e ∷ f ∷ [] | _ ↦ e ∷ [] ]) → P f
+plain_second P Digit e f is all = all.1.0
+plain_second P _ e f is all = cc
+
+matched_plain : (home : Data) (e : ℕ) → kind_of e ≡ Digit → Contains (live_digit home e) (plain_of home e)
+unfolding live_digit
+matched_plain home e is =
+    plain_second (Contains (live_digit home e)) (kind_of e) e (plain_of home e) is (all_members (live_digit home e))
+
+module _ (home : Data) (c e : ℕ) (good : IsGoodMatch home c e) where
+  pub match_readable : IsTrue (is_readable home c e)
+  match_readable = readable_among home c e (live_digit home e) good (matched_itself home e)
+
+  pub plain_readable : kind_of e ≡ Digit → IsTrue (is_readable home c (plain_of home e))
+  plain_readable is = readable_among home c (plain_of home e) (live_digit home e) good (matched_plain home e is)
+
+  pub plain_inside : kind_of e ≡ Digit → entry_index e < length home.entries
+  plain_inside is = inside_among home c e (live_digit home e) good (matched_itself home e) is
+
+  pub match_decimal : kind_of e ≡ Digit → digit_value e < 10
+  match_decimal is = decimal_among home c e (live_digit home e) good (matched_itself home e) is

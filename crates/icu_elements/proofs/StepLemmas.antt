@@ -8,9 +8,9 @@ use Rattle.icu_entries.specs.Entries.{kind_of, digit_value}
 use Rattle.icu_data.specs.Data.{Row, Context, Data, HomedEntry, row_entry, longest_row}
 use Rattle.icu_provider.specs.Tables.{Tables, entry_of, diacritic_of}
 use Rattle.unicode_normalization.specs.Order.{is_starter}
-use Rattle.icu_elements.specs.Matches.{Match, after_prefix, is_blocked, with_marks, contracted, match_from, match_of}
+use Rattle.icu_matches.specs.Matches.{Match, after_prefix, is_blocked, with_marks, contracted, match_from, match_of}
 use Rattle.icu_elements.specs.TextElements.{Reading, Step, continues_number, digit_of, number_elements, number_step, entry_step, matched_step, step, consumed, last_two, elements_along, elements_after}
-use Rattle.icu_elements.proofs.ChoiceLemmas.{either, maybe_any, at_nil}
+use Rattle.icu_matches.proofs.ChoiceLemmas.{either, maybe_any, at_nil}
 
 -- ---- matches
 

@@ -3,8 +3,7 @@ use Rattle.std.proofs.Common.{◌≡◌, ℕ, refl, List, [], ◌∷◌, not, �
 use Rattle.std.specs.List.{range_with_len}
 use Rattle.unicode_normalization.specs.Forms.{nfd}
 use Rattle.icu_entries.specs.Elements.{Element, of_primary, of_secondary}
-use Rattle.icu_elements.specs.TextElements.{Reading, elements_of}
-use Rattle.icu_elements.specs.ByCharacter.{non_numeric_reading}
+use Rattle.icu_elements.specs.TextElements.{Reading, non_numeric_reading, elements_of}
 use Rattle.icu_elements.proofs.Computing.{icu_elements}
 use Rattle.icu_elements.proofs.WorkedTables.{mini, sharp_s, kana, offsets, long_jamo, ring, hinted_ring, two_marks, prefixed, numeric, lithuanian}
 

@@ -15,9 +15,9 @@ pub use Rattle.icu_provider.specs.CollatorTables
 pub use Rattle.icu_checks.specs.Checked
 pub use Rattle.icu_checks.specs.GoodTables
 pub use Rattle.icu_checks.specs.LiveElements
-pub mod Matches
+pub use Rattle.icu_matches.specs.Matches
+pub use Rattle.icu_matches.specs.GoodEntries
 pub mod TextElements
-pub mod ByCharacter
 pub mod Reading
 pub mod CollationElements
 pub mod TextParts

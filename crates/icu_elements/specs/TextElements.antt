@@ -9,7 +9,7 @@ use Rattle.icu_entries.specs.Entries.{kind_of, digit_value}
 use Rattle.icu_data.specs.Data.{Data, homed, plain_of}
 use Rattle.icu_provider.specs.Tables.{Tables, entry_of, diacritic_of}
 use Rattle.icu_data.specs.Final.{final_elements}
-use Rattle.icu_elements.specs.Matches.{Match, match_of}
+use Rattle.icu_matches.specs.Matches.{Match, match_of}
 
 -- How a text is read: the tables, the lead byte of numbers where digits are read as numbers, and whether U+0307 before an
 -- diacritic above is silent, as in Lithuanian.
@@ -17,6 +17,10 @@ pub record Reading : Type 0 where
   pub tables : Tables
   pub numeric : Option ℕ
   pub lithuanian : Bool
+
+-- how a text is read whose digits are letters like others
+abbrev pub non_numeric_reading : Tables → Reading
+non_numeric_reading tables = record { tables = tables; numeric = None; lithuanian = false }
 
 -- what reading at one character gives: elements, the characters consumed after it, and the text that is left
 pub record Step : Type 0 where

@@ -1,3 +1,5 @@
 -- Words of private contracts and proofs only: no public contract names them.
 pub mod Readable
 pub mod Iterating
+pub mod Positions
+pub mod Digits

@@ -1,11 +1,11 @@
 //! The collation elements of a text.
 #![tactic(auto)]
 
-mod by_character;
 mod element_list;
 pub mod iter;
 pub mod laws;
 mod read;
+mod reader;
 pub mod tables;
 pub mod whole;
 

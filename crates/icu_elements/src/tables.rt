@@ -1,15 +1,16 @@
 //! The tables that elements are read from.
 
-ghost use Rattle.std.specs.Prelude.{◌≡◌};
+ghost use Rattle.std.specs.Prelude.{◌≡◌, ◌<◌, if◌then◌else◌, IfSome, Some, None};
 ghost use Rattle.icu_provider.specs.Tables.{entry_of, diacritic_of};
 ghost use Rattle.icu_data.specs.Data.{homed};
 ghost use Rattle.icu_data.specs.StoredData.{data_of};
 ghost use Rattle.icu_checks.specs.Checked.{checked_tables};
-ghost use Rattle.icu_elements.specs.inner.Readable.{AreReadable, IsGoodFrom, tables_from};
+ghost use Rattle.icu_matches.specs.GoodEntries.{IsGoodFrom};
+ghost use Rattle.icu_elements.specs.inner.Readable.{AreReadable, tables_from};
 
 use icu_checks::CheckedTables;
 use icu_data::CollationData;
-use icu_entries::CollationElement32;
+use icu_entries::{CollationElement32, EntryKind};
 use icu_provider::{CollationDiacritics, CollationJamo};
 use std::alloc::Global;
 
@@ -33,6 +34,7 @@ pub(crate) struct HomedEntry<'d> {
 
 impl<'d> ElementTables<'d> {
     ghost use Rattle.icu_elements.specs.Reading.{element_tables};
+    ghost use Rattle.icu_elements.specs.TextElements.{continues_number, digit_of};
 
     /// The tables of a collator, borrowed without a second check. Does not allocate.
     #[tactic(auto, unfolding(crate::specs::Reading::element_tables, crate::specs::inner::Readable::tables_from))]
@@ -75,6 +77,22 @@ impl<'d> ElementTables<'d> {
         ensures good { IsGoodFrom (data_of result.home) c result.ce32 }
     {
         self.found(c)
+    }
+
+    /// The digit of a character that goes on a number: no diacritic, and its own entry is a digit's.
+    #[tactic(auto, using(crate::proofs::ReaderLemmas::other_kind))]
+    pub(crate) fn digit(self, c: char) -> Option<u8>
+        ensures value { result ≡ (if continues_number (element_tables self.entry) c then Some (digit_of (element_tables self.entry) c) else None) }
+        ensures decimal { IfSome result (λ d. d < 10) }
+    {
+        if self.diacritic(c).is_some() {
+            return None;
+        }
+        let ce32 = self.entry(c).ce32;
+        match ce32.kind() {
+            EntryKind::Digit => Some(ce32.digit()),
+            _ => None,
+        }
     }
 
     #[tactic(auto, unfolding(icu_provider::specs::Tables::entry_of, crate::specs::Reading::element_tables, crate::specs::inner::Readable::tables_from))]

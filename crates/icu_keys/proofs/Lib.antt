@@ -1,6 +1,5 @@
 pub mod Writing
 pub mod RunSteps
-pub mod TrimmedLemmas
 pub mod BytesLemmas
 pub mod LevelWriting
 pub mod QuaternaryLemmas

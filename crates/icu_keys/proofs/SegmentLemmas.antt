@@ -2,7 +2,7 @@
 use Rattle.std.proofs.Common.{◌≡◌, ℕ, ◌+◌, List, [], ◌∷◌, ◌++◌, sym, ap, ◌∙◌, append_assoc, length, take, get_or, map, reverse}
 use Rattle.std.proofs.lemmas.List.{append-nil, reverse-append}
 use Rattle.icu_levels.specs.Secondaries.{secondary_level, further_segments}
-use Rattle.icu_keys.proofs.TrimmedLemmas.{at_end}
+use Rattle.icu_levels.proofs.TrimmedLemmas.{at_end}
 
 -- a reversed list begins with the last number
 pub reverse_last : (xs : List ℕ) (n : ℕ) → length xs ≡ n + 1 → reverse xs ≡ get_or xs n 0 ∷ reverse (take n xs)

@@ -37,3 +37,4 @@ pub mod NeededPremises
 pub mod CasedTertiaries
 pub mod MetPremises
 pub mod DigitsFromTheEnd
+pub mod TrimmedLemmas

@@ -1,11 +1,9 @@
 -- What reading texts asks of tables.
 use Rattle.std.specs.Prelude.{ℕ, ◌≡◌, length, Option, option_map, IsTrue}
-use Rattle.std.specs.List.{Contains}
 use Rattle.icu_data.specs.declared.data.CollationData.{CollationData}
 use Rattle.icu_provider.specs.declared.diacritics.CollationDiacritics.{CollationDiacritics}
 use Rattle.icu_provider.specs.declared.jamo.CollationJamo.{CollationJamo}
 use Rattle.icu_data.specs.declared.live_condition.LiveCondition.{LiveCondition}
-use Rattle.icu_data.specs.Live.{live_from}
 use Rattle.icu_data.specs.LiveConditions.{meets}
 use Rattle.icu_provider.specs.LiveTables.{IsLive}
 use Rattle.icu_data.specs.StoredData.{data_of}
@@ -17,10 +15,6 @@ use Rattle.icu_provider.specs.Tables.{Tables}
 pub record AreReadable (tables : Tables) : Type 0 where
   pub jamo_count : length tables.jamo ≡ 256
   pub each : (condition : LiveCondition) (home : Data) (c e : ℕ) → IsLive tables home c e → IsTrue (meets condition home c e)
-
--- each entry that is live from this one meets each condition with the character
-abbrev pub IsGoodFrom : Data → ℕ → ℕ → Type 0
-IsGoodFrom home c e = (condition : LiveCondition) (f : ℕ) → Contains (live_from home e) f → IsTrue (meets condition home c f)
 
 -- what a root, a tailoring, jamo and diacritics say together
 unfoldable pub tables_from : CollationData → Option CollationData → CollationJamo → CollationDiacritics → Tables

@@ -1,5 +1,5 @@
 use Rattle.std.proofs.Common.{◌-◌, ℕ, length, get_or, arith, ◌∙◌}
-use Rattle.icu_keys.proofs.TrimmedLemmas.{last_zero, last_other}
+use Rattle.icu_levels.proofs.TrimmedLemmas.{last_zero, last_other}
 use Rattle.icu_keys.proofs.weight_bytes.trimmed.Goals as goal
 
 pub returns-then-last-ne0 : goal.returns-then-last-ne0

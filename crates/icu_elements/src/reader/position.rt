@@ -1,0 +1,29 @@
+//! How far a text is read.
+
+ghost use Rattle.std.specs.Prelude.{◌≡◌, ◌∷◌, ◌++◌, [], option_to_list};
+ghost use Rattle.icu_elements.specs.TextElements.{last_two};
+
+use crate::reader::recent::RecentChars;
+use icu_matches::Text;
+
+/// How far a text is read: the characters that were consumed last, and those that are still to be read.
+#[derive(Debug, Drop)]
+pub(crate) struct Position {
+    pub(crate) recent: RecentChars,
+    pub(crate) text: Text,
+}
+
+impl Position {
+    ghost use Rattle.icu_elements.specs.inner.Positions.{consumed_last, unread_at};
+
+    /// The beginning of a decomposed text.
+    pub(crate) fn at_start(chars: Vec<char>) -> Position
+        ensures before { consumed_last result ≡ [] }
+        ensures unread { unread_at result ≡ chars.items }
+    {
+        Position {
+            recent: RecentChars::new(),
+            text: Text::new(chars),
+        }
+    }
+}

@@ -1,0 +1,4 @@
+pub mod GoodEntries
+pub mod Matches
+pub mod Texts
+pub mod inner

@@ -1,0 +1,81 @@
+//! Prefixes and contractions.
+
+ghost use Rattle.std.specs.Prelude.{◌≡◌, ◌<◌, IsTrue, IfOk, length};
+ghost use Rattle.icu_data.specs.Contexts.{has_ascending_rows};
+ghost use Rattle.icu_data.specs.Data.{homed};
+ghost use Rattle.icu_data.specs.StoredData.{data_of, found_context};
+ghost use Rattle.icu_entries.specs.Entries.{kind_of, entry_index};
+ghost use Rattle.icu_matches.specs.Matches.{after_prefix, contracted};
+ghost use Rattle.icu_matches.specs.Texts.{unread};
+ghost use Rattle.icu_matches.specs.inner.Joining.{match_left, match_on};
+
+use crate::marks::join_marks;
+use crate::matched::Matched;
+use crate::rows::find_longest;
+use crate::text::Text;
+use icu_data::{CollationData, FoundContext};
+use icu_entries::{CollationElement32, EntryKind};
+use std::alloc::{AllocError, Global};
+
+/// The entry that a prefix entry becomes after the characters that were consumed, nearest first; any other entry as it is.
+#[tactic(auto, unfolding(crate::specs::Matches::after_prefix))]
+pub(crate) fn after_prefix(
+    home: CollationData<'_>,
+    ce32: CollationElement32,
+    before: &[char],
+) -> CollationElement32
+    requires { kind_of ce32 ≡ EntryKind.Prefix → entry_index ce32 < length (data_of home).contexts }
+    ensures { result ≡ after_prefix (homed (data_of home.entry) ce32) before.now }
+{
+    match ce32.kind() {
+        EntryKind::Prefix => {
+            let context = home.get_context(ce32.index());
+            match find_longest(context, before) {
+                Some(index) => context.row(index).entry,
+                None => context.default(),
+            }
+        }
+        _ => ce32,
+    }
+}
+
+/// What a contraction matches of the text directly: the longest row that begins it, or nothing.
+#[tactic(auto, unfolding(crate::specs::Matches::contracted))]
+fn begin_match(
+    alloc: Global,
+    context: FoundContext<'_>,
+    text: &mut Text,
+) -> Result<Matched, AllocError>
+    requires { IsTrue (has_ascending_rows (found_context context)) }
+    ensures { IfOk result (λ m. match_on (found_context context.entry).rows m 0 (unread text.new) ≡ contracted (found_context context.entry) (unread text.old)) }
+{
+    match find_longest(context, text.as_slice()) {
+        Some(index) => {
+            let row = context.row(index);
+            let suffix = Vec::from_slice(alloc, row.chars)?;
+            text.skip(row.chars.len());
+            Ok(Matched {
+                ce32: row.entry,
+                suffix,
+            })
+        }
+        None => Ok(Matched {
+            ce32: context.default(),
+            suffix: Vec::new(alloc),
+        }),
+    }
+}
+
+/// The match of a contraction: its longest row that begins the text, or none, and then the marks that join it.
+pub(crate) fn contract(
+    alloc: Global,
+    context: FoundContext<'_>,
+    text: &mut Text,
+) -> Result<Matched, AllocError>
+    requires { IsTrue (has_ascending_rows (found_context context)) }
+    ensures { IfOk result (λ m. match_left m text.new ≡ contracted (found_context context.entry) (unread text.old)) }
+{
+    let mut matched = begin_match(alloc, context, text)?;
+    join_marks(context, text, &mut matched)?;
+    Ok(matched)
+}

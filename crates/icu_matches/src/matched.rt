@@ -1,0 +1,65 @@
+//! The match of an entry.
+
+ghost use Rattle.std.specs.Prelude.{◌≡◌, ◌<◌, IfOk, length};
+ghost use Rattle.icu_data.specs.Data.{homed};
+ghost use Rattle.icu_data.specs.StoredData.{data_of};
+ghost use Rattle.icu_matches.specs.GoodEntries.{IsGoodFrom, IsGoodMatch};
+ghost use Rattle.icu_entries.specs.Entries.{kind_of, entry_index};
+ghost use Rattle.icu_matches.specs.Matches.{match_from, match_of};
+ghost use Rattle.icu_matches.specs.Texts.{unread};
+ghost use Rattle.icu_matches.specs.inner.Joining.{match_left};
+
+use crate::contexts::{after_prefix, contract};
+use crate::text::Text;
+use icu_data::CollationData;
+use icu_entries::{CollationElement32, EntryKind};
+use std::alloc::{AllocError, Global};
+
+/// What an entry matched: the entry that it came to, and the characters that it consumed after its first.
+#[derive(Debug, Drop)]
+pub struct Matched {
+    /// The entry that the match came to, which refers to the lists of the same table.
+    pub ce32: CollationElement32,
+    /// The characters that the match consumed after its first, in the order in which they were consumed.
+    pub suffix: Vec<char>,
+}
+
+/// The match of an entry before a text, once its prefix is decided.
+#[tactic(auto, unfolding(crate::specs::Matches::match_from))]
+fn found(
+    alloc: Global,
+    home: CollationData<'_>,
+    ce32: CollationElement32,
+    text: &mut Text,
+) -> Result<Matched, AllocError>
+    requires { kind_of ce32 ≡ EntryKind.Contraction → entry_index ce32 < length (data_of home).contexts }
+    ensures { IfOk result (λ m. match_left m text.new ≡ match_from (data_of home.entry) ce32 (unread text.old)) }
+{
+    match ce32.kind() {
+        EntryKind::Contraction => contract(alloc, home.get_context(ce32.index()), text),
+        _ => Ok(Matched {
+            ce32,
+            suffix: Vec::new(alloc),
+        }),
+    }
+}
+
+/// The match of a character's entry, after the characters that were consumed, nearest first, and before a decomposed text, from which
+/// the characters that the match consumes are taken out. A prefix entry becomes the entry of its longest row that begins what was
+/// consumed, or its default. A contraction then takes its longest row that begins the text, or none, and after it each mark up to
+/// the next starter that isn't blocked and makes a row of what was taken (UTS #10, steps S2.1 to S2.1.3; UTS #35 part 5,
+/// section 3.11). Hint bits of the entry decide nothing. If an allocation fails, nothing is said of the text.
+pub fn find_match(
+    alloc: Global,
+    home: CollationData<'_>,
+    c: char,
+    ce32: CollationElement32,
+    before: &[char],
+    text: &mut Text,
+) -> Result<Matched, AllocError>
+    requires { IsGoodFrom (data_of home) c ce32 }
+    ensures value { IfOk result (λ m. record { entry = m.ce32; suffix = m.suffix.items; rest = unread text.new } ≡ match_of (homed (data_of home.entry) ce32) before.now (unread text.old)) }
+    ensures good { IfOk result (λ m. IsGoodMatch (data_of home.entry) c m.ce32) }
+{
+    found(alloc, home, after_prefix(home, ce32, before), text)
+}

@@ -1,0 +1,97 @@
+//! The characters of a text that are still to be read.
+
+ghost use Rattle.std.specs.Prelude.{◌≡◌, ◌↔◌, ◌<◌, ◌≤◌, ◌+◌, ◌++◌, [], length, take, drop, slice_get, option_to_list, Some, None, true};
+
+/// A decomposed text, of which some characters were read: the others are still to be read, in order. Taking one out costs
+/// as many steps as characters stand before it, however long the text is. No call allocates.
+#[derive(Debug, Drop)]
+pub struct Text {
+    chars: Vec<char>,
+    next: usize,
+    ghost inside: { next ≤ length chars.items },
+}
+
+impl Text {
+    ghost use Rattle.icu_matches.specs.Texts.{unread};
+
+    /// A text of which nothing was read.
+    #[tactic(auto, unfolding(crate::specs::Texts::unread))]
+    pub fn new(chars: Vec<char>) -> Text
+        ensures { unread result ≡ chars.items }
+    {
+        Text { chars, next: 0 }
+    }
+
+    /// All that is still to be read.
+    #[tactic(auto, unfolding(crate::specs::Texts::unread))]
+    pub fn as_slice(&self) -> &[char]
+        ensures { result.now ≡ unread self.now }
+    {
+        &self.chars[self.next..]
+    }
+
+    /// How many characters are still to be read.
+    pub fn len(&self) -> usize
+        ensures { result ≡ length (unread self.now) }
+    {
+        self.as_slice().len()
+    }
+
+    /// Whether none is still to be read.
+    pub fn is_empty(&self) -> bool
+        ensures { result ≡ true ↔ unread self.now ≡ [] }
+    {
+        self.as_slice().is_empty()
+    }
+
+    /// The next character.
+    pub fn first(&self) -> Option<char>
+        ensures { result ≡ slice_get (unread self.now) 0 }
+    {
+        self.get(0)
+    }
+
+    /// The character so many after the next one.
+    pub fn get(&self, index: usize) -> Option<char>
+        ensures { result ≡ slice_get (unread self.now) index }
+    {
+        self.as_slice().get(index).copied()
+    }
+
+    /// Reads the next character: `None` where nothing is left.
+    #[tactic(auto, unfolding(crate::specs::Texts::unread))]
+    pub fn take_first(&mut self) -> Option<char>
+        ensures taken { unread self.old ≡ option_to_list result ++ unread self.new }
+        ensures ends { result ≡ None ↔ unread self.old ≡ [] }
+    {
+        let c = self.first()?;
+        self.next += 1;
+        Some(c)
+    }
+
+    /// Reads so many characters, or all where there are fewer.
+    #[tactic(auto, unfolding(crate::specs::Texts::unread))]
+    pub fn skip(&mut self, count: usize)
+        ensures { unread self.new ≡ drop count (unread self.old) }
+    {
+        if count < self.len() {
+            self.next += count;
+        } else {
+            self.next = self.chars.len();
+        }
+    }
+
+    /// Takes out the character so many after the next one; the others stay in order.
+    #[tactic(auto, unfolding(crate::specs::Texts::unread))]
+    pub fn remove(&mut self, index: usize) -> char
+        requires { index < length (unread self.old) }
+        ensures value { slice_get (unread self.old) index ≡ Some result }
+        ensures rest { unread self.new ≡ take index (unread self.old) ++ drop (index + 1) (unread self.old) }
+    {
+        let at = self.next + index;
+        let c = self.chars[at];
+        self.chars[self.next..at + 1].rotate_right(1);
+        self.next += 1;
+        c
+    }
+}
