@@ -9,4 +9,5 @@ pub use Rattle.icu_order.specs.Levels
 pub use Rattle.icu_order.specs.TextOrder
 pub mod Order
 pub mod Collators
+pub mod HandledRests
 pub mod inner
