@@ -1,1 +1,1 @@
-mod WorkedOrders
+pub mod SegmentLemmas

@@ -7,7 +7,5 @@ pub use Rattle.icu_elements.specs.TextElements
 pub use Rattle.icu_elements.specs.Reading
 pub use Rattle.icu_order.specs.Levels
 pub use Rattle.icu_order.specs.TextOrder
-pub mod Order
-pub mod Collators
 pub mod HandledRests
 pub mod inner

@@ -1,10 +1,8 @@
 //! The order of texts.
 #![tactic(auto)]
 
-pub mod collator;
 pub mod handled;
 mod levels;
-mod order;
+mod segments;
 
-pub use collator::{Collator, CollatorBorrowed};
 pub use handled::{Handled, HandledElements};
