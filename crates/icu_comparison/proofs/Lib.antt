@@ -1,1 +1,3 @@
+pub mod LevelLemmas
+pub mod OrderLemmas
 pub mod SegmentLemmas
