@@ -24,6 +24,7 @@ use Rattle.icu_data.specs.Building.{with_entries}
 use Rattle.icu_data.specs.OwnedData.{vectors_data}
 use Rattle.icu_mini.specs.Mini.{IsMini, collator_tables, special_held, SaysAny}
 use Rattle.icu_mini.specs.Provider.{LendsMini, loads_of}
+use Rattle.collate.specs.Answers.{mini_tables}
 use Rattle.icu_mini.specs.Characters.{with_characters, mini_characters, run}
 
 -- ---- what is lent
@@ -67,10 +68,6 @@ no_tailoring : (tailoring : Option DataVectors) → SaysAny None tailoring → o
 no_tailoring None is = refl
 no_tailoring (Some d) is = absurd is
 
--- all of Mini's tables
-abbrev pub all_tables : Mini → CollatorTables
-all_tables m = record { tables = collator_tables m; special = special_held m; bits = 1; reordering = None }
-
 made_of : Data → Option Data → List ℕ → List ℕ → SpecialPrimaries → CollatorTables
 made_of root tailoring jamo diacritics special = record {
   tables = record { root = root; tailoring = tailoring; jamo = jamo; diacritics = diacritics };
@@ -79,7 +76,7 @@ made_of root tailoring jamo diacritics special = record {
   reordering = None;
 }
 
-pub mini-lent : (m : Mini) (p : MiniProvider) (r : Request) (all : CollatorTables) → IsMini m → LendsMini m p → lent_tables (loads_of p) r ≡ Ok all → all ≡ all_tables m
+pub mini-lent : (m : Mini) (p : MiniProvider) (r : Request) (all : CollatorTables) → IsMini m → LendsMini m p → lent_tables (loads_of p) r ≡ Ok all → all ≡ mini_tables m
 unfolding lent_tables from_bits made_of
 mini-lent m p r all mini lends h =
     let root = follows _ _ all h in

@@ -1,24 +1,21 @@
 //! The order of two texts.
 use crate::base::tables;
 use crate::notation::text;
+use crate::settings::sources;
 use icu_comparison::Collator;
-use icu_options::{CollatorOptions, CollatorPreferences, Strength};
 use std::alloc::Global;
 
-/// A row is tables, a strength and two texts.
+/// A row is tables, settings, the strength among them, and two texts.
 pub(crate) fn order(alloc: Global, row: &str) -> Option<String> {
     let (written, row) = row.split_once('|')?;
-    let (level, row) = row.split_once('|')?;
+    let (named, row) = row.split_once('|')?;
     let (left, right) = row.split_once('|')?;
-    let options = CollatorOptions {
-        strength: Some(strength(level.trim())?),
-        ..CollatorOptions::default()
-    };
+    let named = sources(alloc, named)?;
     let collator = Collator::try_new_unstable(
         alloc,
         &tables(alloc, written)?.provider(),
-        CollatorPreferences::default(),
-        options,
+        named.preferences,
+        named.options,
     );
     let left = text(alloc, left.trim())?;
     let right = text(alloc, right.trim())?;
@@ -27,13 +24,4 @@ pub(crate) fn order(alloc: Global, row: &str) -> Option<String> {
         .as_borrowed()
         .compare(left.as_str(), right.as_str());
     format!(in alloc; "{:?}", order.ok()?).ok()
-}
-
-fn strength(level: &str) -> Option<Strength> {
-    match level {
-        "1" => Some(Strength::Primary),
-        "2" => Some(Strength::Secondary),
-        "3" => Some(Strength::Tertiary),
-        _ => None,
-    }
 }
