@@ -68,14 +68,12 @@ fn long_text(rt: HostRuntime) -> Result<(), Fail> {
     let mut vector = Vec::new(rt.alloc());
     let mut listed = Listed { rest: &elements };
     write_key(rt.alloc(), &mut vector, &plain, form, &mut listed, &[])?;
+    let front: &'static [u8] = &[0x61, 0x10];
+    let end: &'static [u8] = &[
+        0x10, 1, 0x25, 0x25, 0x25, 0x25, 0x25, 0x25, 0x25, 0x25, 0x25, 7, 1,
+    ];
     assert_eq!(rt; vector.len(), 313);
-    assert_eq!(rt; vector.get(0..2), Some([0x61, 0x10].as_slice()));
-    assert_eq!(rt;
-        vector.get(300..),
-        Some([
-            0x10, 1, 0x25, 0x25, 0x25, 0x25, 0x25, 0x25, 0x25, 0x25, 0x25, 7, 1
-        ]
-        .as_slice())
-    );
+    assert_eq!(rt; vector.get(0..2), Some(front));
+    assert_eq!(rt; vector.get(300..), Some(end));
     Ok(())
 }
