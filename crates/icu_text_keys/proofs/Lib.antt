@@ -1,3 +1,4 @@
 pub mod PartLemmas
 pub mod SourceLemmas
 mod GivenLemmas
+pub mod CaseLemmas

@@ -11,6 +11,7 @@ mod element_weights;
 pub mod form;
 pub mod handled;
 pub mod later_levels;
+pub mod laws;
 mod level;
 pub mod parts;
 pub mod whole_key;
