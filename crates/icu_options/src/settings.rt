@@ -2,8 +2,7 @@
 
 /// How many levels are compared (UTS #10, "Multi-Level Comparison").
 ///
-/// The greater the strength, the more differences count. The numbers are those of ICU. Today the
-/// comparison stops after the tertiary level, whichever greater strength is set.
+/// The greater the strength, the more differences count. The numbers are those of ICU.
 #[derive(Debug, Clone, Copy, PartialEq, Eq, PartialOrd, Ord)]
 pub enum Strength {
     /// Base letters alone: "a" and "á" are equal.
@@ -18,8 +17,7 @@ pub enum Strength {
     Identical = 7,
 }
 
-/// How variable elements, such as spaces, are weighted (UTS #10, "Variable Weighting"). Today the
-/// comparison weights them as other elements, whichever is set.
+/// How variable elements, such as spaces, are weighted (UTS #10, "Variable Weighting").
 #[derive(Debug, Clone, Copy, PartialEq, Eq, PartialOrd, Ord)]
 pub enum AlternateHandling {
     /// They count as other elements do.
@@ -42,7 +40,6 @@ pub enum MaxVariable {
 }
 
 /// Whether case is compared on a level of its own, between the secondary and the tertiary one.
-/// Today the comparison has no such level.
 #[derive(Debug, Clone, Copy, PartialEq, Eq)]
 pub enum CaseLevel {
     /// Case is compared on the tertiary level.
@@ -51,8 +48,7 @@ pub enum CaseLevel {
     On,
 }
 
-/// Whether case comes before other tertiary differences, and which case sorts first. Today the
-/// comparison leaves case out, whichever is set.
+/// Whether case comes before other tertiary differences, and which case sorts first.
 #[derive(Debug, Clone, Copy, PartialEq, Eq)]
 pub enum CollationCaseFirst {
     /// Case is one tertiary difference among others.
@@ -63,8 +59,7 @@ pub enum CollationCaseFirst {
     Upper,
 }
 
-/// Whether a run of decimal digits is compared by its value. Today the comparison reads digits as
-/// letters, whichever is set.
+/// Whether a run of decimal digits is compared by its value.
 #[derive(Debug, Clone, Copy, PartialEq, Eq)]
 pub enum CollationNumericOrdering {
     /// Each digit counts by itself.

@@ -49,7 +49,7 @@ fn with_source(mut sources: Sources, words: &[&str]) -> Option<Sources> {
             sources.options = CollatorOptions::from(resolved);
             sources.preferences = CollatorPreferences::from(resolved);
         }
-        [level] => sources.options.strength = Some(strength_numbered(level)?),
+        [level] => sources.options = at_strength(sources.options, level)?,
         [name @ ("case-first" | "numeric"), value] => {
             sources.preferences = with_preference(sources.preferences, name, value)?;
         }
@@ -102,6 +102,11 @@ fn printed(alloc: Global, sources: Sources) -> Option<String> {
         write!(printed, " {mask:04X}").ok()?;
     }
     Some(printed)
+}
+
+fn at_strength(mut options: CollatorOptions, level: &str) -> Option<CollatorOptions> {
+    options.strength = Some(strength_numbered(level)?);
+    Some(options)
 }
 
 fn strength_numbered(level: &str) -> Option<Strength> {
