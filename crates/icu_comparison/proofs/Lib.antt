@@ -1,1 +1,3 @@
-mod WorkedOrders
+pub mod LevelLemmas
+pub mod OrderLemmas
+pub mod SegmentLemmas

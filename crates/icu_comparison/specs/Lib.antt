@@ -5,8 +5,10 @@ pub use Rattle.icu_data.specs.Data
 pub use Rattle.icu_provider.specs.Tables
 pub use Rattle.icu_elements.specs.TextElements
 pub use Rattle.icu_elements.specs.Reading
+pub use Rattle.icu_order.specs.Handled
 pub use Rattle.icu_order.specs.Levels
+pub use Rattle.icu_order.specs.Forms
 pub use Rattle.icu_order.specs.TextOrder
-pub mod Order
 pub mod Collators
+pub mod HandledRests
 pub mod inner

@@ -1,2 +1,4 @@
 -- Words of private contracts and proofs only: no public contract names them.
-pub mod WeightsLeft
+pub mod LevelWeights
+pub mod SegmentsLeft
+pub mod ElementOrders

@@ -1,6 +1,6 @@
 //! Collators: tables and settings, and the order of texts by them.
 
-ghost use Rattle.std.specs.Prelude.{◌≡◌, Err, Ok, IfErr, IfOk, chars};
+ghost use Rattle.std.specs.Prelude.{◌≡◌, false, Err, Ok, IfErr, IfOk, chars};
 ghost use Rattle.icu_options.specs.Conversions.{resolved_of};
 ghost use Rattle.icu_options.specs.Merge.{merge};
 ghost use Rattle.icu_options.specs.FlaggedSettings.{values_of};
@@ -10,17 +10,26 @@ ghost use Rattle.icu_checks.specs.Checked.{checked_tables};
 ghost use Rattle.icu_checks.specs.GoodTables.{IsGoodTables, IsTrueRefusal};
 ghost use Rattle.icu_elements.specs.Reading.{element_tables};
 ghost use Rattle.icu_elements.specs.TextElements.{elements_of};
-ghost use Rattle.icu_comparison.specs.Order.{order_of};
+ghost use Rattle.icu_levels.specs.ListOrder.{list_order};
+ghost use Rattle.icu_levels.specs.Keys.{characters_order};
+ghost use Rattle.icu_order.specs.Forms.{form_by, last_variable_by};
+ghost use Rattle.icu_order.specs.Handled.{handled};
+ghost use Rattle.icu_order.specs.TextOrder.{reading_by, lists_by, text_order, text_key};
 ghost use Rattle.unicode_normalization.specs.Forms.{nfd};
 
-use crate::order::compare_elements;
+use crate::characters::compare_characters;
+use crate::form::key_form;
+use crate::handled::HandledElements;
+use crate::order::ElementOrder;
 use icu_checks::{CheckedTables, load_tables};
 use icu_elements::{ElementTables, all_elements};
 use icu_entries::{CollationElement, DataError};
+use icu_levels::forms::KeyForm;
 use icu_options::{
-    CollatorOptions, CollatorOptionsBitField, CollatorPreferences, ResolvedCollatorOptions,
+    AlternateHandling, CollatorOptions, CollatorOptionsBitField, CollatorPreferences, ResolvedCollatorOptions,
     merged_options,
 };
+use icu_order::laws::keys_keep_text_order;
 use icu_provider::CollationProvider;
 use std::alloc::{AllocError, Global};
 use std::cmp::Ordering;
@@ -101,9 +110,9 @@ pub struct CollatorBorrowed<'a> {
 }
 
 impl<'a> CollatorBorrowed<'a> {
-    ghost use Rattle.icu_comparison.specs.Collators.{IsSupportedComparison, comparison_by};
     ghost use Rattle.icu_comparison.specs.Collators.{tables_borrowed, settings_borrowed};
-    ghost use Rattle.icu_order.specs.TextOrder.{reading_by};
+    ghost use Rattle.icu_comparison.specs.HandledRests.{handled_rest};
+    ghost use Rattle.icu_comparison.specs.inner.ElementOrders.{elements_order};
 
     /// The settings that the collator works by.
     pub fn resolved_options(&self) -> ResolvedCollatorOptions
@@ -119,19 +128,94 @@ impl<'a> CollatorBorrowed<'a> {
         ElementTables::new(self.tables)
     }
 
-    /// The order of two texts (UTS #10, section 7.4), where their elements are compared as they are
-    /// (`IsSupportedComparison`). Elsewhere the weights are compared as they stand in the tables, and
-    /// levels after the tertiary one don't count. Fails only where an allocation does.
+    /// The order of two texts by the tables and the settings (UTS #10, section 7.4 "Compare Sort
+    /// Keys"), for all of them. The first level that differs decides: primary weights, reordered,
+    /// then secondary weights, forward or backward, cases, tertiary weights, quaternary weights, and
+    /// the characters of the decomposed texts, as far as the settings name these levels. It is the
+    /// dictionary order of the two texts' sort keys. Fails only where an allocation does.
     pub fn compare(&self, left: &str, right: &str) -> Result<Ordering, AllocError>
-        ensures { IsSupportedComparison (tables_borrowed self.now) (settings_borrowed self.now)
-            → IfOk result (λ o. o ≡ order_of
-            (comparison_by (tables_borrowed self.now) (settings_borrowed self.now))
-            (chars left.now) (chars right.now)) }
+        ensures order { IfOk result (λ o. o ≡ text_order (tables_borrowed self.now)
+            (settings_borrowed self.now) (chars left.now) (chars right.now)) }
+        ensures keys { IfOk result (λ o. o ≡ list_order
+            (text_key (tables_borrowed self.now) (settings_borrowed self.now) (chars left.now))
+            (text_key (tables_borrowed self.now) (settings_borrowed self.now) (chars right.now))) }
+    {
+        let order = self.compare_levels(left, right)?;
+        keys_keep_text_order();
+        self.tables.are_good();
+        Ok(order)
+    }
+
+    /// The order of two texts by their levels in turn.
+    fn compare_levels(&self, left: &str, right: &str) -> Result<Ordering, AllocError>
+        ensures { IfOk result (λ o. o ≡ text_order (tables_borrowed self.now)
+            (settings_borrowed self.now) (chars left.now) (chars right.now)) }
+    {
+        let order = self.compare_elements(left, right)?;
+        if order != Ordering::Equal {
+            return Ok(order);
+        }
+        self.compare_characters(left, right)
+    }
+
+    /// The order of two texts by their decomposed characters, where these count.
+    #[tactic(auto, unfolding(icu_order::specs::TextOrder::lists_by))]
+    fn compare_characters(&self, left: &str, right: &str) -> Result<Ordering, AllocError>
+        ensures { let all = tables_borrowed self.now in let settings = settings_borrowed self.now in
+            IfOk result (λ o. o ≡ characters_order (form_by all settings).identical
+            (lists_by all settings (nfd (chars left.now))) (lists_by all settings (nfd (chars right.now)))) }
+    {
+        if self.key_form().identical {
+            compare_characters(self.tables.allocator(), left, right)
+        } else {
+            Ok(Ordering::Equal)
+        }
+    }
+
+    /// The order of two texts by their elements: all levels but the identical one.
+    #[tactic(auto, unfolding(crate::specs::inner::ElementOrders::elements_order, icu_order::specs::TextOrder::lists_by))]
+    fn compare_elements(&self, left: &str, right: &str) -> Result<Ordering, AllocError>
+        ensures { IfOk result (λ o. o ≡ elements_order (tables_borrowed self.now)
+            (settings_borrowed self.now) (nfd (chars left.now)) (nfd (chars right.now))) }
     {
         let left = self.elements(left)?;
         let right = self.elements(right)?;
-        let strength = self.settings.strength();
-        Ok(compare_elements(strength, left.as_slice(), right.as_slice()))
+        let order = ElementOrder {
+            form: self.key_form(),
+            reordering: self.tables.reordering(),
+        };
+        Ok(order.compare(self.handled(left.as_slice()), self.handled(right.as_slice())))
+    }
+
+    /// The levels that count, and their forms.
+    fn key_form(&self) -> KeyForm
+        ensures { result ≡ form_by (tables_borrowed self.now) (settings_borrowed self.now) }
+    {
+        key_form(self.tables, self.settings)
+    }
+
+    /// The elements of a text as the settings handle variable ones (UTS #10, section 4 "Variable
+    /// Weighting").
+    fn handled<'e>(&self, elements: &'e [CollationElement]) -> HandledElements<'e>
+        ensures { handled_rest result ≡ handled
+            (last_variable_by (tables_borrowed self.now) (settings_borrowed self.now))
+            false elements.entry.now }
+    {
+        HandledElements::new(elements, self.last_variable())
+    }
+
+    /// The last primary weight of the groups that are variable, or 0 where none is.
+    fn last_variable(&self) -> u32
+        ensures { result
+            ≡ last_variable_by (tables_borrowed self.now) (settings_borrowed self.now) }
+    {
+        match self.settings.alternate_handling() {
+            AlternateHandling::NonIgnorable => 0,
+            AlternateHandling::Shifted => {
+                let special = self.tables.special_primaries();
+                special.last_primary_for_group(self.settings.max_variable())
+            }
+        }
     }
 
     /// The elements of a text.

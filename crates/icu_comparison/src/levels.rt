@@ -1,86 +1,204 @@
-//! Levels, compared one by one.
+//! The levels that are compared from the front, weight by weight.
 
-ghost use Rattle.std.specs.Prelude.{◌≡◌, ◌≢◌, ◌≤◌, ◌<◌, ◌==◌, [], ◌∷◌, if◌then◌else◌, length};
+ghost use Rattle.std.specs.Prelude.{◌≡◌, ◌≤◌, ◌++◌, ◌+◌, [], length, option_to_list, IfSome, None};
 ghost use Rattle.icu_levels.specs.ListOrder.{list_order};
-ghost use Rattle.icu_comparison.specs.inner.WeightsLeft.{weight_in, weights_in};
+ghost use Rattle.icu_order.specs.Levels.{case_reads, case_rank, masked_tertiary, tertiary_in, quaternary_weight};
+ghost use Rattle.icu_provider.specs.CollatorTables.{reorder_by};
+ghost use Rattle.icu_provider.specs.StoredTables.{reordering_of};
+ghost use Rattle.std.specs.Prelude.{option_map};
+ghost use Rattle.icu_comparison.specs.HandledRests.{handled_as, handled_rest};
+ghost use Rattle.icu_comparison.specs.inner.LevelWeights.{weight_of, read_as, weight_in, level_weights};
 
+use crate::handled::{Handled, HandledElements};
 use icu_entries::CollationElement;
+use icu_levels::forms::{CaseForm, SecondaryForm, TertiaryForm};
+use icu_provider::CollationReordering;
 use std::cmp::Ordering;
 
-/// A level whose weights are compared as they stand in the tables.
+/// The lower half of an element without its quaternary bits.
+const CASED_MASK: u16 = 0xFF3F;
+
+/// The case bits of a lower half.
+const CASE_MASK: u16 = 0xC000;
+
+/// The quaternary bits of a lower half.
+const QUATERNARY_MASK: u16 = 0xC0;
+
+/// A level that is compared from the front (UTS #10, section 7.3 "Form Sort Keys").
 #[derive(Debug, Clone, Copy)]
-pub(crate) enum Level {
-    Primary,
+pub(crate) enum Level<'d> {
+    /// Primary weights, reordered.
+    Primary(Option<CollationReordering<'d>>),
+    /// Secondary weights, forward.
     Secondary,
-    Tertiary,
+    /// Cases of the elements that have a weight of the secondary level, if there is one, or else of
+    /// the primary level.
+    Case(Option<SecondaryForm>, CaseForm),
+    /// Tertiary weights.
+    Tertiary(TertiaryForm),
+    /// Quaternary bits, and the reordered primary weights of shifted elements below them.
+    Quaternary(Option<CollationReordering<'d>>),
 }
 
-impl Level {
-    /// What the level reads of an element: nothing if it is 0.
-    fn weight(self, element: CollationElement) -> u32
-        ensures { result ≡ weight_in self element }
+/// The primary weight as it is compared: reordered, where there is a reordering.
+fn reordered(reordering: Option<CollationReordering<'_>>, primary: u32) -> u32
+    ensures { result ≡ reorder_by (option_map reordering_of reordering.entry) primary }
+{
+    match reordering {
+        Some(reordering) => reordering.reorder(primary),
+        None => primary,
+    }
+}
+
+/// What the case level reads of an element: a case counts where the element has a weight of the
+/// last level before.
+fn case_read(before: Option<SecondaryForm>, element: CollationElement) -> u32
+    ensures { result ≡ case_reads before element }
+{
+    match before {
+        None => element.primary(),
+        Some(_) => u32::from(element.secondary()),
+    }
+}
+
+/// Where the case of an element stands among the three (UTS #35 part 5, "Case Parameters").
+fn case_rank(form: CaseForm, element: CollationElement) -> u64
+    ensures { result ≡ case_rank form element }
+{
+    let rank = u64::from(element.non_primary().tertiary_case_quarternary(0xFFFF) >> 14);
+    match form {
+        CaseForm::LowerFirst => rank,
+        CaseForm::UpperFirst => 2u64.saturating_sub(rank),
+    }
+}
+
+/// What a form of the tertiary level reads of an element.
+fn masked_tertiary(form: TertiaryForm, element: CollationElement) -> u16
+    ensures { result ≡ masked_tertiary form element }
+{
+    let weights = element.non_primary();
+    match form {
+        TertiaryForm::WithoutCase => weights.tertiary(),
+        TertiaryForm::LowerFirst => weights.tertiary_case_quarternary(CASED_MASK),
+        TertiaryForm::UpperFirst => weights.tertiary_case_quarternary(CASED_MASK),
+    }
+}
+
+/// What a form of the tertiary level has for an element. Upper case first inverts the case bits; an
+/// element with a tertiary weight alone comes after all others.
+fn tertiary_weight(form: TertiaryForm, element: CollationElement) -> u64
+    ensures { result ≡ tertiary_in form element }
+{
+    let masked = masked_tertiary(form, element);
+    match form {
+        TertiaryForm::UpperFirst => {
+            if element.secondary() == 0 {
+                u64::from(masked) + 0x4000
+            } else {
+                u64::from(masked ^ CASE_MASK)
+            }
+        }
+        _ => u64::from(masked),
+    }
+}
+
+/// The quaternary weight of an element that stayed: its bits, above all primary weights.
+fn quaternary_weight(element: CollationElement) -> u64
+    ensures { result ≡ quaternary_weight element }
+{
+    let bits = element.non_primary().tertiary_case_quarternary(QUATERNARY_MASK);
+    0x1_0000_0000 + u64::from(bits >> 6)
+}
+
+/// A weight, where the level reads something of the element.
+fn read_as(read: u32, weight: u64) -> Option<u64>
+    ensures { result ≡ read_as read weight }
+{
+    if read == 0 { None } else { Some(weight) }
+}
+
+impl<'d> Level<'d> {
+    /// What the level has for an element, if it reads something of it.
+    fn weight_of(self, element: CollationElement) -> Option<u64>
+        ensures { result ≡ weight_of self.entry element }
     {
         match self {
-            Level::Primary => element.primary(),
-            Level::Secondary => u32::from(element.secondary()),
-            Level::Tertiary => u32::from(element.non_primary().tertiary()),
+            Level::Primary(reordering) => {
+                let primary = element.primary();
+                read_as(primary, u64::from(reordered(reordering, primary)))
+            }
+            Level::Secondary => {
+                let secondary = element.secondary();
+                read_as(u32::from(secondary), u64::from(secondary))
+            }
+            Level::Case(before, form) => {
+                read_as(case_read(before, element), case_rank(form, element))
+            }
+            Level::Tertiary(form) => {
+                let read = masked_tertiary(form, element);
+                read_as(u32::from(read), tertiary_weight(form, element))
+            }
+            Level::Quaternary(_) => {
+                let read = element.non_primary().tertiary();
+                read_as(u32::from(read), quaternary_weight(element))
+            }
+        }
+    }
+
+    /// The same of an element that is handled: the quaternary level alone has something for a
+    /// shifted one.
+    fn weight(self, handled: Handled) -> Option<u64>
+        ensures { result ≡ weight_in self.entry (handled_as handled) }
+    {
+        match handled {
+            Handled::Stayed(element) => self.weight_of(element),
+            Handled::Shifted(primary) => match self {
+                Level::Quaternary(reordering) => Some(u64::from(reordered(reordering, primary))),
+                _ => None,
+            },
         }
     }
 
     /// The order of two lists of elements on this level: the first pair of weights that differs
     /// decides, and a prefix comes first.
-    pub(crate) fn compare(self, left: &[CollationElement], right: &[CollationElement]) -> Ordering
-        ensures { result ≡ list_order (weights_in self left.now) (weights_in self right.now) }
+    pub(crate) fn compare(
+        self,
+        left: HandledElements<'_>,
+        right: HandledElements<'_>,
+    ) -> Ordering
+        ensures { result ≡ list_order (level_weights self.entry (handled_rest left.entry))
+            (level_weights self.entry (handled_rest right.entry)) }
     {
-        let mut left = WeightsLeft::new(self, left);
-        let mut right = WeightsLeft::new(self, right);
+        let mut left = left;
+        let mut right = right;
         'pairs: loop {
-            let one = left.next();
-            let other = right.next();
-            if one == 0 || other == 0 {
-                return (one != 0).cmp(&(other != 0));
-            }
-            let order = one.cmp(&other);
-            if order != Ordering::Equal {
-                return order;
+            match (self.next(&mut left), self.next(&mut right)) {
+                (Some(one), Some(other)) => {
+                    let order = one.cmp(&other);
+                    if order != Ordering::Equal {
+                        return order;
+                    }
+                }
+                (one, other) => return one.is_some().cmp(&other.is_some()),
             }
         }
     }
-}
 
-/// The weights of one level that are left of a list of elements.
-#[derive(Debug, Clone, Copy)]
-struct WeightsLeft<'a> {
-    level: Level,
-    elements: &'a [CollationElement],
-}
-
-impl<'a> WeightsLeft<'a> {
-    ghost use Rattle.icu_comparison.specs.inner.WeightsLeft.{weights_left};
-
-    fn new(level: Level, elements: &'a [CollationElement]) -> WeightsLeft<'a>
-        ensures { weights_left result ≡ weights_in level elements.entry.now }
+    /// The next weight of a text on this level, or `None` after the last one.
+    #[tactic(auto, unfolding(crate::specs::inner::LevelWeights::level_weights))]
+    fn next(self, elements: &mut HandledElements<'_>) -> Option<u64>
+        ensures weights { level_weights self.entry (handled_rest elements.old)
+            ≡ option_to_list result ++ level_weights self.entry (handled_rest elements.new) }
+        ensures end { result ≡ None → level_weights self.entry (handled_rest elements.new) ≡ [] }
+        ensures size { length elements.new.rest.now ≤ length elements.old.rest.now }
+        ensures smaller { IfSome result
+            (λ w. length elements.new.rest.now + 1 ≤ length elements.old.rest.now) }
     {
-        WeightsLeft { level, elements }
-    }
-
-    /// The next weight, or 0 after the last one.
-    #[tactic(auto, unfolding(icu_order::specs::Levels::weights))]
-    fn next(&mut self) -> u32
-        ensures level { self.new.level ≡ self.old.level }
-        ensures size { length self.new.elements.now ≤ length self.old.elements.now }
-        ensures smaller { result ≢ 0
-            → length self.new.elements.now < length self.old.elements.now }
-        ensures weight { weights_left self.old
-            ≡ (if result == 0 then [] else result ∷ weights_left self.new) }
-    {
-        'passing: while let [element, rest @ ..] = self.elements {
-            self.elements = rest;
-            let weight = self.level.weight(*element);
-            if weight != 0 {
-                return weight;
+        'passing: while let Some(handled) = elements.next() {
+            if let Some(weight) = self.weight(handled) {
+                return Some(weight);
             }
         }
-        0
+        None
     }
 }

@@ -1,0 +1,77 @@
+-- Orders one after another, as code tests them.
+use Rattle.std.proofs.Common.{◌≡◌, ℕ, Bool, true, false, not, ◌==◌, List, Option, Result, Ok, Err, IfOk, refl, sym, subst, ◌∙◌, ap}
+use Rattle.std.specs.Ordering.{ordering_then, ordering_index}
+use Rattle.unicode_normalization.specs.Forms.{nfd}
+use Rattle.icu_options.specs.Settings.{Settings}
+use Rattle.icu_levels.specs.Keys.{LevelLists, primaries_order, secondaries_order, cases_order, tertiaries_order, quaternaries_order, characters_order}
+use Rattle.icu_levels.specs.declared.forms.KeyForm.{KeyForm}
+use Rattle.icu_provider.specs.Reorderings.{Reordering}
+use Rattle.icu_provider.specs.CollatorTables.{CollatorTables, reorder_by}
+use Rattle.icu_order.specs.Handled.{HandledElement}
+use Rattle.icu_order.specs.Levels.{level_lists}
+use Rattle.icu_order.specs.Forms.{compression_of, form_by}
+use Rattle.icu_order.specs.TextOrder.{lists_by, text_order}
+use Rattle.icu_comparison.specs.inner.ElementOrders.{before_characters, elements_order}
+use Rattle.std.specs.declared.cmp.Ordering.{Ordering}
+use Rattle.std.specs.declared.cmp.Ordering.TheVariants.{Less, Equal, Greater}
+use Rattle.icu_levels.proofs.Orderings.{then_assoc, then_equal}
+
+decides : (p rest : Ordering) → not (ordering_index p == 1) ≡ true → p ≡ ordering_then p rest
+decides Less rest h = refl
+decides Equal rest h = cc
+decides Greater rest h = refl
+
+ties : (p rest : Ordering) → not (ordering_index p == 1) ≡ false → rest ≡ ordering_then p rest
+ties Less rest h = cc
+ties Equal rest h = refl
+ties Greater rest h = cc
+
+-- a level that differs decides
+pub ends : (p q rest : Ordering) (test : Bool) → test ≡ not (ordering_index p == 1) → test ≡ true → p ≡ q → p ≡ ordering_then q rest
+ends p q rest test is set e = subst (λ o. p ≡ ordering_then o rest) e (decides p rest (sym is ∙ set))
+
+-- one that ties leaves it to the rest
+pub goes_on : (p q rest whole : Ordering) (test : Bool) → test ≡ not (ordering_index p == 1) → test ≡ false → p ≡ q → whole ≡ rest → whole ≡ ordering_then q rest
+goes_on p q rest whole test is unset e r = r ∙ subst (λ o. rest ≡ ordering_then o rest) e (ties p rest (sym is ∙ unset))
+
+last : (o p q r : Ordering) → p ≡ ordering_then q r → ordering_then o p ≡ ordering_then (ordering_then o q) r
+last o p q r e = ap (ordering_then o) e ∙ then_assoc o q r
+
+-- the same, where the rest may fail
+pub goes_on_ok : {E : Type 0} (p q rest : Ordering) (test : Bool) (r : Result Ordering E) → test ≡ not (ordering_index p == 1) → test ≡ false → p ≡ q
+    → IfOk r (λ o. o ≡ rest) → IfOk r (λ o. o ≡ ordering_then q rest)
+goes_on_ok p q rest test (Ok o) is unset e h = goes_on p q rest o test is unset e h
+goes_on_ok p q rest test (Err x) is unset e h = tt
+
+-- the last of six orders, after the other five
+pub sixth : (p s k t q i : Ordering)
+    → ordering_then p (ordering_then s (ordering_then k (ordering_then t (ordering_then q (ordering_then i Equal)))))
+    ≡ ordering_then (ordering_then p (ordering_then s (ordering_then k (ordering_then t q)))) i
+sixth p s k t q i =
+    last p _ (ordering_then s (ordering_then k (ordering_then t q))) i (
+    last s _ (ordering_then k (ordering_then t q)) i (
+    last k _ (ordering_then t q) i (
+    last t _ q i (ap (ordering_then q) (then_equal i)))))
+
+-- the order of two texts is that of their elements, and then that of their characters
+pub order_in_two : (all : CollatorTables) (settings : Settings) (t u : List ℕ)
+    → text_order all settings t u
+    ≡ ordering_then (elements_order all settings (nfd t) (nfd u))
+    (characters_order (form_by all settings).identical (lists_by all settings (nfd t)) (lists_by all settings (nfd u)))
+unfolding text_order elements_order before_characters
+order_in_two all settings t u =
+    let form : KeyForm = form_by all settings in
+    let left : LevelLists = lists_by all settings (nfd t) in
+    let right : LevelLists = lists_by all settings (nfd u) in
+    sixth (primaries_order (compression_of all) left right) (secondaries_order form.secondary left right) (cases_order form.cases left right)
+    (tertiaries_order form.tertiary left right) (quaternaries_order form.quaternary left right) (characters_order form.identical left right)
+
+-- the lists that code reads are those of the definitions
+pub read_alike : (r s : Option Reordering) (f g : KeyForm) (hs hs' ks ks' : List HandledElement) (t u : List ℕ) → r ≡ s → f ≡ g → hs ≡ hs' → ks ≡ ks'
+    → before_characters (reorder_by r) f (level_lists (reorder_by r) f hs t) (level_lists (reorder_by r) f ks u)
+    ≡ before_characters (reorder_by s) g (level_lists (reorder_by s) g hs' t) (level_lists (reorder_by s) g ks' u)
+read_alike r s f g hs hs' ks ks' t u a b c d =
+    ap (λ x. before_characters (reorder_by x) f (level_lists (reorder_by x) f hs t) (level_lists (reorder_by x) f ks u)) a
+    ∙ ap (λ x. before_characters (reorder_by s) x (level_lists (reorder_by s) x hs t) (level_lists (reorder_by s) x ks u)) b
+    ∙ ap (λ x. before_characters (reorder_by s) g (level_lists (reorder_by s) g x t) (level_lists (reorder_by s) g ks u)) c
+    ∙ ap (λ x. before_characters (reorder_by s) g (level_lists (reorder_by s) g hs' t) (level_lists (reorder_by s) g x u)) d

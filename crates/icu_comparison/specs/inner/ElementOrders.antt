@@ -1,0 +1,34 @@
+-- The order of two texts by their elements alone, and the lists that are left of a text.
+use Rattle.std.specs.Prelude.{ℕ, List, map, option_map}
+use Rattle.std.specs.Ordering.{ordering_then}
+use Rattle.std.specs.declared.cmp.Ordering.{Ordering}
+use Rattle.icu_levels.specs.ListOrder.{list_order}
+use Rattle.icu_levels.specs.Keys.{LevelLists, secondaries_order, cases_order, tertiaries_order, quaternaries_order}
+use Rattle.icu_levels.specs.declared.forms.KeyForm.{KeyForm}
+use Rattle.icu_options.specs.Settings.{Settings}
+use Rattle.icu_provider.specs.CollatorTables.{CollatorTables, reorder_by, reorder}
+use Rattle.icu_provider.specs.StoredTables.{reordering_of}
+use Rattle.icu_order.specs.Levels.{level_lists}
+use Rattle.icu_order.specs.Forms.{form_by}
+use Rattle.icu_order.specs.TextOrder.{lists_by}
+use Rattle.icu_comparison.specs.HandledRests.{handled_rest}
+use Rattle.icu_comparison.specs.declared.handled.HandledElements.{HandledElements}
+use Rattle.icu_comparison.specs.declared.order.ElementOrder.{ElementOrder}
+
+-- the lists of the elements that are left and of a decomposed text
+abbrev pub lists_left : ElementOrder → HandledElements → List ℕ → LevelLists
+lists_left by elements text = level_lists (reorder_by (option_map reordering_of by.reordering)) by.form (handled_rest elements) text
+
+-- all levels in turn but the identical one
+unfoldable pub before_characters : (ℕ → ℕ) → KeyForm → LevelLists → LevelLists → Ordering
+before_characters reorder form t u =
+    ordering_then (list_order (map reorder t.primaries) (map reorder u.primaries)) (
+    ordering_then (secondaries_order form.secondary t u) (
+    ordering_then (cases_order form.cases t u) (
+    ordering_then (tertiaries_order form.tertiary t u)
+    (quaternaries_order form.quaternary t u))))
+
+-- the same of two decomposed texts, by the tables and the settings of a collator
+unfoldable pub elements_order : CollatorTables → Settings → List ℕ → List ℕ → Ordering
+elements_order all settings t u =
+    before_characters (reorder all) (form_by all settings) (lists_by all settings t) (lists_by all settings u)

@@ -1,0 +1,100 @@
+//! Which levels are compared, and in which form, by the tables and the settings of a collator.
+
+ghost use Rattle.std.specs.Prelude.{◌≡◌};
+ghost use Rattle.icu_options.specs.FlaggedSettings.{values_of};
+ghost use Rattle.icu_checks.specs.Checked.{checked_tables};
+ghost use Rattle.icu_order.specs.Forms.{direction, secondary_form, case_form, cased_form, tertiary_form, handling_form, quaternary_form, is_identical, form_by};
+
+use icu_checks::CheckedTables;
+use icu_levels::forms::{CaseForm, KeyForm, QuaternaryForm, SecondaryForm, TertiaryForm};
+use icu_options::{AlternateHandling, CollationCaseFirst, CollatorOptionsBitField, Strength};
+
+/// Secondaries count from strength `Secondary` on.
+fn secondary_form(strength: Strength, is_backward: bool) -> Option<SecondaryForm>
+    ensures { result ≡ secondary_form strength (direction is_backward) }
+{
+    match strength {
+        Strength::Primary => None,
+        _ => {
+            if is_backward {
+                Some(SecondaryForm::Backward)
+            } else {
+                Some(SecondaryForm::Forward)
+            }
+        }
+    }
+}
+
+/// The case level counts at each strength, where it is on.
+fn case_form(case_level: bool, case_first: CollationCaseFirst) -> Option<CaseForm>
+    ensures { result ≡ case_form case_level case_first }
+{
+    match (case_level, case_first) {
+        (false, _) => None,
+        (true, CollationCaseFirst::Upper) => Some(CaseForm::UpperFirst),
+        (true, _) => Some(CaseForm::LowerFirst),
+    }
+}
+
+/// Case bits count among tertiaries where case first is set and there is no case level.
+fn cased_form(case_level: bool, case_first: CollationCaseFirst) -> TertiaryForm
+    ensures { result ≡ cased_form case_level case_first }
+{
+    match (case_level, case_first) {
+        (true, _) => TertiaryForm::WithoutCase,
+        (false, CollationCaseFirst::False) => TertiaryForm::WithoutCase,
+        (false, CollationCaseFirst::Lower) => TertiaryForm::LowerFirst,
+        (false, CollationCaseFirst::Upper) => TertiaryForm::UpperFirst,
+    }
+}
+
+/// Tertiaries count from strength `Tertiary` on.
+fn tertiary_form(strength: Strength, form: TertiaryForm) -> Option<TertiaryForm>
+    ensures { result ≡ tertiary_form strength form }
+{
+    match strength {
+        Strength::Primary | Strength::Secondary => None,
+        _ => Some(form),
+    }
+}
+
+/// Quaternaries count from strength `Quaternary` on.
+fn quaternary_form(strength: Strength, handling: AlternateHandling) -> Option<QuaternaryForm>
+    ensures { result ≡ quaternary_form strength (handling_form handling) }
+{
+    let form = match handling {
+        AlternateHandling::NonIgnorable => QuaternaryForm::Unshifted,
+        AlternateHandling::Shifted => QuaternaryForm::MayShift,
+    };
+    match strength {
+        Strength::Quaternary | Strength::Identical => Some(form),
+        _ => None,
+    }
+}
+
+/// Characters count at strength `Identical`.
+fn is_identical(strength: Strength) -> bool
+    ensures { result ≡ is_identical strength }
+{
+    match strength {
+        Strength::Identical => true,
+        _ => false,
+    }
+}
+
+/// The levels that two texts are compared on, and that the key of a text has, with their forms (UTS #35 part 5, "Setting Options"). The secondary level
+/// is backward where the metadata says so.
+pub fn key_form(tables: &CheckedTables, settings: CollatorOptionsBitField) -> KeyForm
+    ensures { result ≡ form_by (checked_tables tables.now) (values_of settings) }
+{
+    let strength = settings.strength();
+    let case_level = settings.case_level();
+    let case_first = settings.case_first();
+    KeyForm {
+        secondary: secondary_form(strength, tables.metadata().backward_second_level()),
+        cases: case_form(case_level, case_first),
+        tertiary: tertiary_form(strength, cased_form(case_level, case_first)),
+        quaternary: quaternary_form(strength, settings.alternate_handling()),
+        identical: is_identical(strength),
+    }
+}
