@@ -18,7 +18,6 @@ ghost use Rattle.icu_order.specs.TextOrder.{reading_by, lists_by, text_order, te
 ghost use Rattle.unicode_normalization.specs.Forms.{nfd};
 
 use crate::characters::compare_characters;
-use crate::form::key_form;
 use crate::handled::HandledElements;
 use crate::order::ElementOrder;
 use icu_checks::{CheckedTables, load_tables};
@@ -31,6 +30,7 @@ use icu_options::{
 };
 use icu_order::laws::keys_keep_text_order;
 use icu_provider::CollationProvider;
+use icu_text_keys::key_form;
 use std::alloc::{AllocError, Global};
 use std::cmp::Ordering;
 
