@@ -1,0 +1,101 @@
+-- What the writer of keys asks of the elements of a text, and what it may leave out.
+use Rattle.std.proofs.Common.{◌≡◌, ◌≢◌, ℕ, ◌/◌, ◌*◌, ◌^◌, ◌<◌, ◌++◌, Bool, true, false, not, ◌&&◌, ◌||◌, ◌==◌, nat_lt, List, [], ◌∷◌, refl, sym, ap, subst, arith, inl, inr, IsTrue, ◌∙◌}
+use Rattle.std.specs.Prelude.{bit_and}
+use Rattle.std.specs.Char.{IsScalar}
+use Rattle.std.specs.List.{AllByRecursion}
+use Rattle.std.proofs.lemmas.Bool.{and_parts}
+use Rattle.std.proofs.lemmas.Bool.Decides.{nat_tests}
+use Rattle.std.proofs.Math.Utf8.{scalar, scalars}
+use Rattle.unicode_normalization.specs.Forms.{nfd}
+use Rattle.icu_options.specs.Settings.{Settings}
+use Rattle.icu_entries.specs.declared.error.DataTable.{DataTable}
+use Rattle.icu_entries.specs.Elements.{Element, case_mask}
+use Rattle.icu_entries.specs.ElementConditions.{has_shape, has_whole_weights, has_weights_below, has_lower_half, tertiary_of}
+use Rattle.icu_data.proofs.ListLemmas.{weaker}
+use Rattle.icu_provider.specs.CollatorTables.{CollatorTables, reorder}
+use Rattle.icu_checks.specs.declared.condition.Condition.TheVariants as conditions
+use Rattle.icu_checks.specs.declared.condition.ElementCondition.TheVariants.{Width}
+use Rattle.icu_checks.specs.GoodTables.{IsGoodTables}
+use Rattle.icu_checks.specs.LiveElements.{IsElementBy}
+use Rattle.icu_elements.specs.TextElements.{elements_of}
+use Rattle.icu_levels.specs.Identical.{identical_level}
+use Rattle.icu_levels.specs.Keys.{LevelLists, LevelPart, opened, key_bytes, secondary_part, case_part, tertiary_part, quaternary_part, identical_part, parts_bytes}
+use Rattle.icu_levels.specs.Primaries.{Compression, primary_level}
+use Rattle.icu_levels.specs.declared.forms.KeyForm.{KeyForm}
+use Rattle.icu_order.specs.Handled.{HandledElement, stayed, shifted_primary, handled}
+use Rattle.icu_order.specs.Levels.{level_lists}
+use Rattle.icu_order.specs.TextOrder.{reading_by, handled_by, lists_by, text_key}
+use Rattle.icu_order.specs.Forms.{compression_of, form_by, last_variable_by}
+use Rattle.icu_order.proofs.HandledLemmas.{HoldsOf, handled_hold}
+use Rattle.icu_order.proofs.LiveElementLemmas.{live-shape}
+use Rattle.icu_order.proofs.TertiaryWeights.{case_bits}
+use Rattle.icu_order.proofs.TextSources.{IsSource, text_sources}
+use Rattle.icu_text_keys.specs.HandledSources.{HasCase}
+
+-- ---- the case bits of a text's elements
+
+-- they are lower, mixed or upper case
+abbrev pub IsCased : Element → Type 0
+IsCased x = x.lower < 0xC000
+
+cased : (all : CollatorTables) → IsGoodTables all → (table : DataTable) (x : Element) → IsElementBy table all.tables x → IsCased x
+unfolding has_shape
+cased all good table x live =
+    let widths = and_parts (nat_lt x.primary (2 ^ 32) && nat_lt x.secondary (2 ^ 16)) (nat_lt x.lower (2 ^ 16))
+    (good.each (conditions.Element Width) table x live) in
+    let small : x.lower < 2 ^ 16 = grind (arith, nat_tests) in
+    let shape = and_parts (has_whole_weights x && has_weights_below x) (has_lower_half x) (live-shape all good table x live) in
+    let half = and_parts (not (tertiary_of x == 0) || x.lower == 0) (not (bit_and x.lower case_mask == case_mask)) shape.1 in
+    let other : bit_and x.lower case_mask ≢ case_mask = grind (arith, nat_tests) in
+    omega (arith, other, case_bits x.lower small)
+
+source_cased : (all : CollatorTables) → IsGoodTables all → (x : Element) → IsSource all x → IsCased x
+source_cased all good x (inl live) = cased all good live.table x live.live
+source_cased all good x (inr number) = subst IsCased (sym number.1.1) (omega arith)
+
+pub text_cased : (all : CollatorTables) (settings : Settings) → IsGoodTables all → (cs : List ℕ) → AllByRecursion IsScalar cs
+    → AllByRecursion IsCased (elements_of (reading_by all settings) (nfd cs))
+text_cased all settings good cs scalars =
+    weaker (IsSource all) IsCased (source_cased all good) _ (text_sources all good settings cs scalars)
+
+has_case : (h : HandledElement) → HoldsOf IsCased (λ p. Unit {0}) h → HasCase h
+has_case (stayed x) h = h
+has_case (shifted_primary p) h = tt
+
+have_case : (hs : List HandledElement) → AllByRecursion (HoldsOf IsCased (λ p. Unit {0})) hs → AllByRecursion HasCase hs
+have_case [] h = tt
+have_case (x ∷ xs) h = (has_case x h.0, have_case xs h.1)
+
+pub handled_cased : (last : ℕ) (es : List Element) → AllByRecursion IsCased es → AllByRecursion HasCase (handled last false es)
+handled_cased last es h = have_case _ (handled_hold IsCased (λ p. Unit {0}) last (λ x c v. tt) false es h)
+
+-- ---- characters that don't count
+
+same_part : (b : Bool) (t u : LevelLists) → (IsTrue b → t.characters ≡ u.characters) → identical_part b t ≡ identical_part b u
+same_part false t u h = refl
+same_part true t u h = ap (λ cs. opened (identical_level cs)) (h tt)
+
+pub same_key : (c : Compression) (f : KeyForm) (hs : List HandledElement) (cs ds : List ℕ) → (IsTrue f.identical → cs ≡ ds)
+    → key_bytes c f (level_lists c.reorder f hs cs) ≡ key_bytes c f (level_lists c.reorder f hs ds)
+same_key c f hs cs ds h =
+    let t : LevelLists = level_lists c.reorder f hs cs in
+    let u : LevelLists = level_lists c.reorder f hs ds in
+    ap (λ (p : LevelPart). primary_level c 0 t.primaries ++ parts_bytes (secondary_part f.secondary t ∷ case_part f.cases t
+    ∷ tertiary_part f.tertiary t ∷ quaternary_part f.quaternary t ∷ p ∷ [])) (same_part f.identical t u h)
+
+-- the key that is written of what was read is that of the text
+pub key_read : (all : CollatorTables) (settings : Settings) (t : List ℕ) (es : List Element) (cs : List ℕ)
+    → es ≡ elements_of (reading_by all settings) (nfd t) → (IsTrue (form_by all settings).identical → cs ≡ nfd t)
+    → key_bytes (compression_of all) (form_by all settings) (level_lists (reorder all) (form_by all settings) (handled (last_variable_by all settings) false es) cs)
+    ≡ text_key all settings t
+unfolding text_key lists_by
+key_read all settings t es cs read same =
+    let form : KeyForm = form_by all settings in
+    ap (λ es. key_bytes (compression_of all) form (level_lists (reorder all) form (handled (last_variable_by all settings) false es) cs)) read
+    ∙ same_key (compression_of all) form (handled_by all settings (nfd t)) cs (nfd t) same
+
+-- ---- texts
+
+pub are_scalars : (cs : List ℕ) → scalars cs ≡ true → AllByRecursion IsScalar cs
+are_scalars [] h = tt
+are_scalars (c ∷ cs) h = let parts = and_parts (scalar c) (scalars cs) h in (parts.0, are_scalars cs parts.1)
