@@ -1,5 +1,5 @@
 -- What the writer of keys asks of the elements of a text, and what it may leave out.
-use Rattle.std.proofs.Common.{◌≡◌, ◌≢◌, ℕ, ◌/◌, ◌*◌, ◌^◌, ◌<◌, ◌++◌, Bool, true, false, not, ◌&&◌, ◌||◌, ◌==◌, nat_lt, List, [], ◌∷◌, refl, sym, ap, subst, arith, inl, inr, IsTrue, ◌∙◌}
+use Rattle.std.proofs.Common.{◌≡◌, ◌≢◌, ℕ, ◌/◌, ◌*◌, ◌^◌, ◌<◌, ◌++◌, Bool, true, false, not, ◌&&◌, ◌||◌, ◌==◌, nat_lt, List, [], ◌∷◌, Option, Some, None, refl, sym, ap, subst, arith, inl, inr, IsTrue, ◌∙◌}
 use Rattle.std.specs.Prelude.{bit_and}
 use Rattle.std.specs.Char.{IsScalar}
 use Rattle.std.specs.List.{AllByRecursion}
@@ -21,7 +21,12 @@ use Rattle.icu_elements.specs.TextElements.{elements_of}
 use Rattle.icu_levels.specs.Identical.{identical_level}
 use Rattle.icu_levels.specs.Keys.{LevelLists, LevelPart, opened, key_bytes, secondary_part, case_part, tertiary_part, quaternary_part, identical_part, parts_bytes}
 use Rattle.icu_levels.specs.Primaries.{Compression, primary_level}
+use Rattle.icu_levels.specs.declared.forms.CaseForm.{CaseForm}
 use Rattle.icu_levels.specs.declared.forms.KeyForm.{KeyForm}
+use Rattle.icu_levels.specs.declared.forms.QuaternaryForm.{QuaternaryForm}
+use Rattle.icu_levels.specs.declared.forms.SecondaryForm.{SecondaryForm}
+use Rattle.icu_levels.specs.declared.forms.SecondaryForm.TheVariants.{Forward, Backward}
+use Rattle.icu_levels.specs.declared.forms.TertiaryForm.{TertiaryForm}
 use Rattle.icu_order.specs.Handled.{HandledElement, stayed, shifted_primary, handled}
 use Rattle.icu_order.specs.Levels.{level_lists}
 use Rattle.icu_order.specs.TextOrder.{reading_by, handled_by, lists_by, text_key}
@@ -51,7 +56,7 @@ cased all good table x live =
 
 source_cased : (all : CollatorTables) → IsGoodTables all → (x : Element) → IsSource all x → IsCased x
 source_cased all good x (inl live) = cased all good live.table x live.live
-source_cased all good x (inr number) = subst IsCased (sym number.1.1) (omega arith)
+source_cased all good x (inr number) = subst IsCased (sym number.2) (omega arith)
 
 pub text_cased : (all : CollatorTables) (settings : Settings) → IsGoodTables all → (cs : List ℕ) → AllByRecursion IsScalar cs
     → AllByRecursion IsCased (elements_of (reading_by all settings) (nfd cs))
@@ -71,17 +76,44 @@ handled_cased last es h = have_case _ (handled_hold IsCased (λ p. Unit {0}) las
 
 -- ---- characters that don't count
 
-same_part : (b : Bool) (t u : LevelLists) → (IsTrue b → t.characters ≡ u.characters) → identical_part b t ≡ identical_part b u
-same_part false t u h = refl
-same_part true t u h = ap (λ cs. opened (identical_level cs)) (h tt)
+module _ (reorder : ℕ → ℕ) (f : KeyForm) (hs : List HandledElement) (cs ds : List ℕ) where
+  abbrev left : LevelLists
+  left = level_lists reorder f hs cs
 
-pub same_key : (c : Compression) (f : KeyForm) (hs : List HandledElement) (cs ds : List ℕ) → (IsTrue f.identical → cs ≡ ds)
+  abbrev right : LevelLists
+  right = level_lists reorder f hs ds
+
+  same_secondary : (o : Option SecondaryForm) → secondary_part o left ≡ secondary_part o right
+  same_secondary None = refl
+  same_secondary (Some Forward) = refl
+  same_secondary (Some Backward) = refl
+
+  same_cases : (o : Option CaseForm) → case_part o left ≡ case_part o right
+  same_cases None = refl
+  same_cases (Some form) = refl
+
+  same_tertiary : (o : Option TertiaryForm) → tertiary_part o left ≡ tertiary_part o right
+  same_tertiary None = refl
+  same_tertiary (Some form) = refl
+
+  same_quaternary : (o : Option QuaternaryForm) → quaternary_part o left ≡ quaternary_part o right
+  same_quaternary None = refl
+  same_quaternary (Some form) = refl
+
+  same_identical : (b : Bool) → (IsTrue b → cs ≡ ds) → identical_part b left ≡ identical_part b right
+  same_identical false h = refl
+  same_identical true h = ap (λ cs. opened (identical_level cs)) (h refl)
+
+same_parts : (a b c d e k l m n o : LevelPart) → a ≡ k → b ≡ l → c ≡ m → d ≡ n → e ≡ o
+    → parts_bytes (a ∷ b ∷ c ∷ d ∷ e ∷ []) ≡ parts_bytes (k ∷ l ∷ m ∷ n ∷ o ∷ [])
+same_parts a b c d e k l m n o p q r s t = rw (p, q, r, s, t)
+
+same_key : (c : Compression) (f : KeyForm) (hs : List HandledElement) (cs ds : List ℕ) → (IsTrue f.identical → cs ≡ ds)
     → key_bytes c f (level_lists c.reorder f hs cs) ≡ key_bytes c f (level_lists c.reorder f hs ds)
 same_key c f hs cs ds h =
-    let t : LevelLists = level_lists c.reorder f hs cs in
-    let u : LevelLists = level_lists c.reorder f hs ds in
-    ap (λ (p : LevelPart). primary_level c 0 t.primaries ++ parts_bytes (secondary_part f.secondary t ∷ case_part f.cases t
-    ∷ tertiary_part f.tertiary t ∷ quaternary_part f.quaternary t ∷ p ∷ [])) (same_part f.identical t u h)
+    ap (λ bytes. primary_level c 0 (level_lists c.reorder f hs cs).primaries ++ bytes)
+    (same_parts _ _ _ _ _ _ _ _ _ _ (same_secondary c.reorder f hs cs ds f.secondary) (same_cases c.reorder f hs cs ds f.cases)
+    (same_tertiary c.reorder f hs cs ds f.tertiary) (same_quaternary c.reorder f hs cs ds f.quaternary) (same_identical c.reorder f hs cs ds f.identical h))
 
 -- the key that is written of what was read is that of the text
 pub key_read : (all : CollatorTables) (settings : Settings) (t : List ℕ) (es : List Element) (cs : List ℕ)
