@@ -23,9 +23,9 @@ pub first_pair_last : (x y : ℕ) (xs ys : List ℕ) (o : Ordering) → length x
 first_pair_last x y xs ys o same =
     let long : length (reverse xs) ≡ length (reverse ys) = length-reverse xs ∙ same ∙ sym (length-reverse ys) in
     let parts : list_order (reverse xs ++ x ∷ []) (reverse ys ++ y ∷ []) ≡ ordering_then (list_order (reverse xs) (reverse ys)) (nat_cmp x y) =
-        beyond (reverse xs) (reverse ys) (x ∷ []) (y ∷ []) long ∙ ap (ordering_then (list_order (reverse xs) (reverse ys))) (then_equal (nat_cmp x y)) in
+    beyond (reverse xs) (reverse ys) (x ∷ []) (y ∷ []) long ∙ ap (ordering_then (list_order (reverse xs) (reverse ys))) (then_equal (nat_cmp x y)) in
     let whole : list_order (reverse (x ∷ xs)) (reverse (y ∷ ys)) ≡ ordering_then (list_order (reverse xs) (reverse ys)) (nat_cmp x y) =
-        rw (reverse_onto xs x [], reverse_onto ys y []) parts in
+    rw (reverse_onto xs x [], reverse_onto ys y []) parts in
     ap (λ p. ordering_then p o) whole ∙ sym (then_assoc (list_order (reverse xs) (reverse ys)) (nat_cmp x y) o)
 
 -- of two lists of which one at least is empty the longer one comes last
@@ -45,10 +45,10 @@ surplus xs ys =
     let left : reverse xs ≡ reverse (drop d xs) ++ reverse (take d xs) = ap reverse (sym (take-append-drop d xs)) ∙ reverse-append (take d xs) (drop d xs) in
     let right : reverse ys ≡ reverse (drop e ys) ++ reverse (take e ys) = ap reverse (sym (take-append-drop e ys)) ∙ reverse-append (take e ys) (drop e ys) in
     let long : length (reverse (drop d xs)) ≡ length (reverse (drop e ys)) =
-        omega (arith, length-reverse (drop d xs), length-reverse (drop e ys), length-drop d xs, length-drop e ys) in
+    omega (arith, length-reverse (drop d xs), length-reverse (drop e ys), length-drop d xs, length-drop e ys) in
     let ends : list_order (reverse (take d xs)) (reverse (take e ys)) ≡ nat_cmp (length xs) (length ys) =
-        ends_order (reverse (take d xs)) (reverse (take e ys)) (length xs) (length ys)
-        (length-reverse (take d xs) ∙ length-take-le d xs (omega arith)) (length-reverse (take e ys) ∙ length-take-le e ys (omega arith)) in
+    ends_order (reverse (take d xs)) (reverse (take e ys)) (length xs) (length ys)
+    (length-reverse (take d xs) ∙ length-take-le d xs (omega arith)) (length-reverse (take e ys) ∙ length-take-le e ys (omega arith)) in
     ap (λ l. list_order l (reverse ys)) left ∙ ap (list_order (reverse (drop d xs) ++ reverse (take d xs))) right
     ∙ beyond (reverse (drop d xs)) (reverse (drop e ys)) (reverse (take d xs)) (reverse (take e ys)) long
     ∙ ap (ordering_then (list_order (reverse (drop d xs)) (reverse (drop e ys)))) ends

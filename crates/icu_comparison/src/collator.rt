@@ -25,8 +25,8 @@ use icu_elements::{ElementTables, all_elements};
 use icu_entries::{CollationElement, DataError};
 use icu_levels::forms::KeyForm;
 use icu_options::{
-    AlternateHandling, CollatorOptions, CollatorOptionsBitField, CollatorPreferences, ResolvedCollatorOptions,
-    merged_options,
+    AlternateHandling, CollatorOptions, CollatorOptionsBitField, CollatorPreferences,
+    ResolvedCollatorOptions, merged_options,
 };
 use icu_order::laws::keys_keep_text_order;
 use icu_provider::CollationProvider;
@@ -184,7 +184,10 @@ impl<'a> CollatorBorrowed<'a> {
             form: self.key_form(),
             reordering: self.tables.reordering(),
         };
-        Ok(order.compare(self.handled(left.as_slice()), self.handled(right.as_slice())))
+        Ok(order.compare(
+            self.handled(left.as_slice()),
+            self.handled(right.as_slice()),
+        ))
     }
 
     /// The levels that count, and their forms.

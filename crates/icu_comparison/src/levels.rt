@@ -83,7 +83,9 @@ fn tertiary_weight(form: TertiaryForm, element: CollationElement) -> u64
 fn quaternary_weight(element: CollationElement) -> u64
     ensures { result ≡ quaternary_weight element }
 {
-    let bits = element.non_primary().tertiary_case_quarternary(QUATERNARY_MASK);
+    let bits = element
+        .non_primary()
+        .tertiary_case_quarternary(QUATERNARY_MASK);
     0x1_0000_0000 + u64::from(bits >> 6)
 }
 
@@ -138,11 +140,7 @@ impl<'d> Level<'d> {
 
     /// The order of two lists of elements on this level: the first pair of weights that differs
     /// decides, and a prefix comes first.
-    pub(crate) fn compare(
-        self,
-        left: HandledElements<'_>,
-        right: HandledElements<'_>,
-    ) -> Ordering
+    pub(crate) fn compare(self, left: HandledElements<'_>, right: HandledElements<'_>) -> Ordering
         ensures { result ≡ list_order (level_weights self.entry (handled_rest left.entry))
             (level_weights self.entry (handled_rest right.entry)) }
     {

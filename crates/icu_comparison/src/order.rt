@@ -29,11 +29,7 @@ impl<'d> ElementOrder<'d> {
 
     /// The order of the primary weights, reordered.
     #[tactic(auto, using(crate::proofs::LevelLemmas::primary_weights))]
-    fn compare_primaries(
-        self,
-        left: HandledElements<'_>,
-        right: HandledElements<'_>,
-    ) -> Ordering
+    fn compare_primaries(self, left: HandledElements<'_>, right: HandledElements<'_>) -> Ordering
         ensures { let reorder = reorder_by (option_map reordering_of self.entry.reordering) in
             result ≡ list_order
             (map reorder (primaries (stayed_elements (handled_rest left.entry))))
@@ -44,11 +40,7 @@ impl<'d> ElementOrder<'d> {
 
     /// The order of the secondary weights, forward or backward, where they count.
     #[tactic(auto, using(crate::proofs::LevelLemmas::secondary_weights))]
-    fn compare_secondaries(
-        self,
-        left: HandledElements<'_>,
-        right: HandledElements<'_>,
-    ) -> Ordering
+    fn compare_secondaries(self, left: HandledElements<'_>, right: HandledElements<'_>) -> Ordering
         ensures { (t u : List ℕ) → result ≡ secondaries_order self.entry.form.secondary
             (lists_left self.entry left.entry t) (lists_left self.entry right.entry u) }
     {
@@ -73,11 +65,7 @@ impl<'d> ElementOrder<'d> {
 
     /// The order of the tertiary weights, with case bits where they count among them.
     #[tactic(auto, using(crate::proofs::LevelLemmas::tertiary_weights))]
-    fn compare_tertiaries(
-        self,
-        left: HandledElements<'_>,
-        right: HandledElements<'_>,
-    ) -> Ordering
+    fn compare_tertiaries(self, left: HandledElements<'_>, right: HandledElements<'_>) -> Ordering
         ensures { (t u : List ℕ) → result ≡ tertiaries_order self.entry.form.tertiary
             (lists_left self.entry left.entry t) (lists_left self.entry right.entry u) }
     {
@@ -89,11 +77,7 @@ impl<'d> ElementOrder<'d> {
 
     /// The order of the quaternary weights, where they count.
     #[tactic(auto, using(crate::proofs::LevelLemmas::quaternary_weights))]
-    fn compare_quaternaries(
-        self,
-        left: HandledElements<'_>,
-        right: HandledElements<'_>,
-    ) -> Ordering
+    fn compare_quaternaries(self, left: HandledElements<'_>, right: HandledElements<'_>) -> Ordering
         ensures { (t u : List ℕ) → result ≡ quaternaries_order self.entry.form.quaternary
             (lists_left self.entry left.entry t) (lists_left self.entry right.entry u) }
     {
@@ -105,11 +89,7 @@ impl<'d> ElementOrder<'d> {
 
     /// The order of two lists of elements: the first level that differs decides.
     #[tactic(auto, unfolding(crate::specs::inner::ElementOrders::before_characters))]
-    pub(crate) fn compare(
-        self,
-        left: HandledElements<'_>,
-        right: HandledElements<'_>,
-    ) -> Ordering
+    pub(crate) fn compare(self, left: HandledElements<'_>, right: HandledElements<'_>) -> Ordering
         ensures { (t u : List ℕ) → result ≡ before_characters
             (reorder_by (option_map reordering_of self.entry.reordering)) self.entry.form
             (lists_left self.entry left.entry t) (lists_left self.entry right.entry u) }

@@ -77,7 +77,14 @@ impl<'a> CollatorBorrowed<'a> {
     {
         let compression = TableCompression::new(self.tables);
         let mut handled = self.handled(elements);
-        write_key(self.tables.allocator(), sink, &compression, self.key_form(), &mut handled, characters)
+        write_key(
+            self.tables.allocator(),
+            sink,
+            &compression,
+            self.key_form(),
+            &mut handled,
+            characters,
+        )
     }
 
     /// The decomposed characters of a text, where they count.

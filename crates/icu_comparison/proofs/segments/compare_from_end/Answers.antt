@@ -18,9 +18,9 @@ pairs-preserved c =
     let ordered : c.then-order.result ≡ ordering_then (nat_cmp one other) c.pairs.order = cc in
     let whole : ordering_then (list_order (reverse (this_segment c.pairs.left)) (reverse (this_segment c.pairs.right))) c.pairs.order
     ≡ ordering_then (list_order (reverse left_rest) (reverse right_rest)) (ordering_then (nat_cmp one other) c.pairs.order) =
-        ap (λ xs. ordering_then (list_order (reverse xs) (reverse (this_segment c.pairs.right))) c.pairs.order) left
-        ∙ ap (λ ys. ordering_then (list_order (reverse (one ∷ left_rest)) (reverse ys)) c.pairs.order) right
-        ∙ first_pair_last one other left_rest right_rest c.pairs.order same in
+    ap (λ xs. ordering_then (list_order (reverse xs) (reverse (this_segment c.pairs.right))) c.pairs.order) left
+    ∙ ap (λ ys. ordering_then (list_order (reverse (one ∷ left_rest)) (reverse ys)) c.pairs.order) right
+    ∙ first_pair_last one other left_rest right_rest c.pairs.order same in
     record {
       same = same;
       order = ap (ordering_then (list_order (reverse left_rest) (reverse right_rest))) ordered ∙ sym whole ∙ c.pairs.invariant.order;

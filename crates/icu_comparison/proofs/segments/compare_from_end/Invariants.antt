@@ -9,8 +9,8 @@ abbrev pub invariant-pairs : goal.invariant-pairs
 invariant-pairs l = record {
   same : length (this_segment l.left) ≡ length (this_segment l.right);
   order :
-    ordering_then (list_order (reverse (this_segment l.left)) (reverse (this_segment l.right))) l.order
-    ≡ ordering_then (list_order (reverse (this_segment l.fn.left)) (reverse (this_segment l.fn.right))) l.fn.otherwise;
+      ordering_then (list_order (reverse (this_segment l.left)) (reverse (this_segment l.right))) l.order
+      ≡ ordering_then (list_order (reverse (this_segment l.fn.left)) (reverse (this_segment l.fn.right))) l.fn.otherwise;
   left_later : next_segments l.left ≡ next_segments l.fn.left;
   left_size : length l.left.rest.now ≤ length l.fn.left.rest.now;
   right_later : next_segments l.right ≡ next_segments l.fn.right;

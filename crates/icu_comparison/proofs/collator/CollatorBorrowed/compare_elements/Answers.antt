@@ -18,7 +18,7 @@ returns c =
     let t = nfd (chars c.args.left.now) in
     let u = nfd (chars c.args.right.now) in
     let left : handled_rest c.handled.result ≡ handled_by all settings t =
-        c.handled.ensures ∙ ap (handled (last_variable_by all settings) false) (c.as_slice.ensures.value ∙ c.in_ok-left.ensures) in
+    c.handled.ensures ∙ ap (handled (last_variable_by all settings) false) (c.as_slice.ensures.value ∙ c.in_ok-left.ensures) in
     let right : handled_rest c.handled-2.result ≡ handled_by all settings u =
-        c.handled-2.ensures ∙ ap (handled (last_variable_by all settings) false) (c.as_slice-2.ensures.value ∙ c.in_ok-right.ensures) in
+    c.handled-2.ensures ∙ ap (handled (last_variable_by all settings) false) (c.as_slice-2.ensures.value ∙ c.in_ok-right.ensures) in
     c.compare.ensures t u ∙ read_alike _ _ _ _ _ _ _ _ t u c.reordering.ensures c.key_form.ensures left right
