@@ -13,11 +13,8 @@ use Rattle.icu_options.specs.declared.settings.CollationCaseFirst.TheVariants as
 use Rattle.icu_options.specs.declared.settings.CollationNumericOrdering.{CollationNumericOrdering}
 use Rattle.icu_options.specs.declared.settings.MaxVariable.TheVariants.{Punctuation}
 use Rattle.icu_provider.specs.CollatorTables.{CollatorTables}
-use Rattle.icu_comparison.specs.Order.{is_at_most_tertiary}
 use Rattle.icu_mini.specs.declared.mini.Mini.{Mini}
-use Rattle.icu_mini.specs.Mini.{collator_tables}
-use Rattle.collate.specs.Answers.{ComparesBy}
-use Rattle.collate.proofs.MiniLemmas.{all_tables}
+use Rattle.collate.specs.Answers.{ComparesBy, mini_tables}
 
 -- options that set a strength alone
 abbrev pub at_strength : Strength → CollatorOptions
@@ -40,27 +37,13 @@ unfolding settings_by
 merged strength p is =
     ap (λ c. settings_by strength c p.numeric_ordering) is.case_first ∙ ap (λ n. settings_by strength None n) is.numeric_ordering
 
-module _ (m : Mini) (strength : Strength) (few : IsTrue (is_at_most_tertiary strength)) where
-  by_settings : ComparesBy strength (collator_tables m) (all_tables m) (settings_by strength None None)
-  unfolding settings_by
-  by_settings = record {
-    plain = record {
-      reordering = refl;
-      forward = refl;
-      alternate_handling = refl;
-      case_level = refl;
-      case_first = refl;
-      strength = few;
-    };
-    same = refl;
-  }
-
-  pub mini-compares : (all : CollatorTables) (settings : Settings) (options : CollatorOptions) (p : CollatorPreferences) → all ≡ all_tables m
-      → options ≡ at_strength strength → SetNothing p → settings ≡ merge options p (metadata_settings all.bits)
-      → ComparesBy strength (collator_tables m) all settings
-  mini-compares all settings options p is at_this_strength none merged_is =
-      let same : settings ≡ settings_by strength None None =
+pub mini-compares : (m : Mini) (strength : Strength) (all : CollatorTables) (settings : Settings) (options : CollatorOptions) (p : CollatorPreferences)
+    → all ≡ mini_tables m → options ≡ at_strength strength → SetNothing p → settings ≡ merge options p (metadata_settings all.bits)
+    → ComparesBy strength m all settings
+unfolding settings_by
+mini-compares m strength all settings options p is at_this_strength none merged_is = record {
+  tables = is;
+  settings =
       merged_is ∙ ap (λ (a : CollatorTables). merge options p (metadata_settings a.bits)) is
-      ∙ ap (λ o. merge o p (metadata_settings 1)) at_this_strength ∙ merged strength p none in
-      subst (λ a. ComparesBy strength (collator_tables m) a settings) (sym is)
-      (subst (ComparesBy strength (collator_tables m) (all_tables m)) (sym same) by_settings)
+      ∙ ap (λ o. merge o p (metadata_settings 1)) at_this_strength ∙ merged strength p none;
+}

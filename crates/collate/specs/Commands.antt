@@ -1,7 +1,7 @@
 -- What the words of a command line ask for.
 use Rattle.std.specs.Prelude.{ℕ, List, [], ◌∷◌, Option, Some, None, if◌then◌else◌, codes, bytes_eq, option_map}
 use Rattle.icu_options.specs.declared.settings.Strength.{Strength}
-use Rattle.icu_options.specs.declared.settings.Strength.TheVariants.{Primary, Secondary, Tertiary}
+use Rattle.icu_options.specs.declared.settings.Strength.TheVariants.{Primary, Secondary, Tertiary, Quaternary, Identical}
 
 -- what is asked for: the order of two texts at a strength
 pub record Comparing : Type 0 where
@@ -15,7 +15,9 @@ strength_named word =
     if bytes_eq word (codes "1") then Some Primary
     else (if bytes_eq word (codes "2") then Some Secondary
     else (if bytes_eq word (codes "3") then Some Tertiary
-    else None))
+    else (if bytes_eq word (codes "4") then Some Quaternary
+    else (if bytes_eq word (codes "i") then Some Identical
+    else None))))
 
 -- `compare STRENGTH A B`; all other words are wrong
 abbrev pub command_of : List (List ℕ) → Option Comparing

@@ -1,8 +1,7 @@
 //! The answer to a command.
-ghost use Rattle.std.specs.Prelude.{◌≡◌, IfOk, IfErr, IsTrue, ◌++◌, ◌∷◌, []};
-ghost use Rattle.icu_comparison.specs.Order.{is_at_most_tertiary};
+ghost use Rattle.std.specs.Prelude.{◌≡◌, IfOk, IfErr, ◌++◌, ◌∷◌, []};
 ghost use Rattle.icu_comparison.specs.Collators.{settings_kept, tables_kept};
-ghost use Rattle.icu_mini.specs.Mini.{IsMini, collator_tables};
+ghost use Rattle.icu_mini.specs.Mini.{IsMini};
 ghost use Rattle.collate.specs.Answers.{ComparesBy, IsAnswer, sign_of};
 ghost use Rattle.collate.specs.Asked.{asked};
 ghost use Rattle.collate.specs.Refusals.{IsRefusal};
@@ -17,9 +16,8 @@ use std::cmp::Ordering;
 
 /// The collator by Mini's tables.
 fn mini_collator(alloc: Global, strength: Strength) -> Result<Collator, Fault>
-    requires { IsTrue (is_at_most_tertiary strength) }
     ensures refused { IfErr result IsRefusal }
-    ensures compares { IfOk result (λ c. (tables : Mini) × IsMini tables × ComparesBy strength (collator_tables tables) (tables_kept c) (settings_kept c)) }
+    ensures compares { IfOk result (λ c. (tables : Mini) × IsMini tables × ComparesBy strength tables (tables_kept c) (settings_kept c)) }
 {
     let mini = Mini::new(alloc)?;
     let options = CollatorOptions {

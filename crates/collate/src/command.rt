@@ -1,6 +1,5 @@
 //! What the words of a command line ask for.
-ghost use Rattle.std.specs.Prelude.{◌≡◌, IfSome, IsTrue, map, string_bytes, option_map};
-ghost use Rattle.icu_comparison.specs.Order.{is_at_most_tertiary};
+ghost use Rattle.std.specs.Prelude.{◌≡◌, map, string_bytes, option_map};
 ghost use Rattle.collate.specs.Commands.{command_of, strength_named};
 
 use icu_options::Strength;
@@ -11,18 +10,18 @@ pub(crate) struct Command<'a> {
     pub(crate) strength: Strength,
     pub(crate) left: &'a str,
     pub(crate) right: &'a str,
-    ghost few_levels: { IsTrue (is_at_most_tertiary strength) },
 }
 
 /// The strength that a word names.
 fn strength_named(word: &str) -> Option<Strength>
-    ensures value { result ≡ strength_named word.now }
-    ensures few_levels { IfSome result (λ s. IsTrue (is_at_most_tertiary s)) }
+    ensures { result ≡ strength_named word.now }
 {
     match word {
         "1" => Some(Strength::Primary),
         "2" => Some(Strength::Secondary),
         "3" => Some(Strength::Tertiary),
+        "4" => Some(Strength::Quaternary),
+        "i" => Some(Strength::Identical),
         _ => None,
     }
 }

@@ -12,5 +12,7 @@ pub use Rattle.icu_elements.specs.Reading
 pub use Rattle.icu_elements.specs.CollationElements
 pub use Rattle.icu_order.specs.Levels
 pub use Rattle.icu_order.specs.TextOrder
-pub use Rattle.icu_comparison.specs.Order
+pub use Rattle.icu_order.specs.Handled
+pub use Rattle.icu_order.specs.Forms
+pub use Rattle.icu_comparison.specs.HandledRests
 pub use Rattle.icu_comparison.specs.Collators

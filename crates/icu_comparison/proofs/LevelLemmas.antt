@@ -1,5 +1,5 @@
 -- The weights that code reads level by level are the lists of the definitions.
-use Rattle.std.proofs.Common.{ℕ, ◌≡◌, ◌==◌, Bool, true, false, List, [], ◌∷◌, ◌++◌, Option, Some, None, option_map, if◌then◌else◌, map, refl, sym, ap, ◌∙◌}
+use Rattle.std.proofs.Common.{ℕ, ◌≡◌, ◌==◌, Bool, true, false, List, [], ◌∷◌, ◌++◌, Option, Some, None, option_map, if◌then◌else◌, map, refl, ap, ◌∙◌}
 use Rattle.std.specs.Prelude.{option_to_list}
 use Rattle.icu_levels.specs.declared.forms.CaseForm.{CaseForm}
 use Rattle.icu_levels.specs.declared.forms.SecondaryForm.{SecondaryForm}
@@ -13,7 +13,7 @@ use Rattle.icu_order.specs.Handled.{HandledElement, stayed, shifted_primary, sta
 use Rattle.icu_order.specs.Levels.{weights, primary_of, primaries, secondary_of, secondaries, case_reads, case_rank, masked_tertiary, tertiary_in, tertiaries, quaternary_weight, quaternaries}
 use Rattle.icu_comparison.specs.declared.levels.Level.{Level}
 use Rattle.icu_comparison.specs.declared.levels.Level.TheVariants.{Primary, Secondary, Case, Tertiary, Quaternary}
-use Rattle.icu_comparison.specs.inner.LevelWeights.{read_as, weight_of, weight_in, level_weights}
+use Rattle.icu_comparison.specs.inner.LevelWeights.{read_as, weight_in, level_weights}
 
 kept : (b : Bool) (w : ℕ) (ws vs : List ℕ) → ws ≡ vs → option_to_list (if b then None else Some w) ++ ws ≡ (if b then vs else w ∷ vs)
 kept true w ws vs e = e

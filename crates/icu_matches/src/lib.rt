@@ -9,6 +9,3 @@ pub mod text;
 
 pub use matched::{Matched, find_match};
 pub use text::Text;
-
-#[cfg(test)]
-mod tests;

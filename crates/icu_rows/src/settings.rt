@@ -9,15 +9,15 @@ use std::alloc::Global;
 
 /// What a row names.
 #[derive(Clone, Copy)]
-struct Sources {
+pub(crate) struct Sources {
     metadata: u32,
-    options: CollatorOptions,
-    preferences: CollatorPreferences<'static>,
+    pub(crate) options: CollatorOptions,
+    pub(crate) preferences: CollatorPreferences<'static>,
 }
 
-/// A row is what is named, with commas between: `metadata` and its bits, or a setting and its value. `resolved` takes what
-/// was named before it, resolved, for the options and the preferences.
-pub(crate) fn settings(alloc: Global, row: &str) -> Option<String> {
+/// What a row names, with commas between: `metadata` and its bits, a setting and its value, or the number of a strength, or
+/// `i` for the identical one. `resolved` takes what was named before it, resolved, for the options and the preferences.
+pub(crate) fn sources(alloc: Global, row: &str) -> Option<Sources> {
     let mut sources = Sources {
         metadata: 0,
         options: CollatorOptions::default(),
@@ -27,7 +27,12 @@ pub(crate) fn settings(alloc: Global, row: &str) -> Option<String> {
         let words: Vec<&str> = written.split_whitespace().collect(alloc).ok()?;
         sources = with_source(sources, words.as_slice())?;
     }
-    printed(alloc, sources)
+    Some(sources)
+}
+
+/// The settings that the sources of a row come to.
+pub(crate) fn settings(alloc: Global, row: &str) -> Option<String> {
+    printed(alloc, sources(alloc, row)?)
 }
 
 fn resolved(sources: Sources) -> ResolvedCollatorOptions {
@@ -44,6 +49,7 @@ fn with_source(mut sources: Sources, words: &[&str]) -> Option<Sources> {
             sources.options = CollatorOptions::from(resolved);
             sources.preferences = CollatorPreferences::from(resolved);
         }
+        [level] => sources.options.strength = Some(strength_numbered(level)?),
         [name @ ("case-first" | "numeric"), value] => {
             sources.preferences = with_preference(sources.preferences, name, value)?;
         }
@@ -96,6 +102,17 @@ fn printed(alloc: Global, sources: Sources) -> Option<String> {
         write!(printed, " {mask:04X}").ok()?;
     }
     Some(printed)
+}
+
+fn strength_numbered(level: &str) -> Option<Strength> {
+    match level {
+        "1" => Some(Strength::Primary),
+        "2" => Some(Strength::Secondary),
+        "3" => Some(Strength::Tertiary),
+        "4" => Some(Strength::Quaternary),
+        "i" => Some(Strength::Identical),
+        _ => None,
+    }
 }
 
 fn strength(name: &str) -> Option<Strength> {

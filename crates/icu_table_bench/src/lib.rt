@@ -4,6 +4,8 @@
 #[cfg(test)]
 mod elements;
 #[cfg(test)]
+mod matches;
+#[cfg(test)]
 mod options;
 #[cfg(test)]
 mod requests;

@@ -1,2 +1,4 @@
 pub mod PartLemmas
 pub mod SourceLemmas
+mod GivenLemmas
+pub mod CaseLemmas

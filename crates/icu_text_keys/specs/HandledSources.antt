@@ -1,5 +1,5 @@
 -- The elements of a text as variable weighting leaves them, as code has them.
-use Rattle.std.specs.Prelude.{ℕ, ◌<◌, ◌≡◌, List, [], ◌∷◌, Option, Some, None}
+use Rattle.std.specs.Prelude.{◌<◌, ◌≡◌, List, [], ◌∷◌, Option, Some, None}
 use Rattle.icu_order.specs.Handled.{HandledElement, stayed, shifted_primary}
 use Rattle.icu_text_keys.specs.declared.handled.Handled.{Handled}
 use Rattle.icu_text_keys.specs.declared.handled.Handled.TheVariants.{Stayed, Shifted}

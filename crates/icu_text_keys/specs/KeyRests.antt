@@ -1,5 +1,5 @@
 -- What is still to be written of a key.
-use Rattle.std.specs.Prelude.{ℕ, ◌<◌, ◌≡◌, List, [], ◌∷◌, ◌++◌, Option, Some, None}
+use Rattle.std.specs.Prelude.{ℕ, List, ◌++◌}
 use Rattle.icu_levels.specs.Primaries.{Compression}
 use Rattle.icu_levels.specs.Keys.{parts_bytes}
 use Rattle.icu_keys.specs.WriterRests.{primary_rest}

@@ -2,3 +2,5 @@ pub mod Compressions
 pub mod LevelRests
 pub mod KeyRests
 pub mod HandledSources
+pub mod inner
+pub mod TextCases

@@ -78,6 +78,8 @@ pub(crate) fn quaternary_weight(element: CollationElement) -> QuaternaryWeight
     ensures value { weight_of result ≡ quaternary_weight element }
     ensures bounded { weight_of result ≤ 2 ^ 32 + 3 }
 {
-    let bits = element.non_primary().tertiary_case_quarternary(QUATERNARY_MASK);
+    let bits = element
+        .non_primary()
+        .tertiary_case_quarternary(QUATERNARY_MASK);
     QuaternaryWeight::Bits((bits >> 6) as u8)
 }

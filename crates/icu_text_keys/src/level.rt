@@ -59,7 +59,10 @@ fn push_forward(level: &mut HeldSecondaries, element: CollationElement) -> Resul
 }
 
 /// Holds the secondary of an element, where there is the level.
-pub(crate) fn push_secondary(level: &mut SecondaryLevel, element: CollationElement) -> Result<(), AllocError>
+pub(crate) fn push_secondary(
+    level: &mut SecondaryLevel,
+    element: CollationElement,
+) -> Result<(), AllocError>
     ensures { OnOk result ((es : List Element) → secondaries_left level.old (element ∷ es) ≡ secondaries_left level.new es) }
 {
     match level {
@@ -143,4 +146,3 @@ pub(crate) fn push_shifted<C: PrimaryCompression>(
         None => Ok(()),
     }
 }
-

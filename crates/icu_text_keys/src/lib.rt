@@ -11,6 +11,7 @@ pub mod element_weights;
 pub mod form;
 pub mod handled;
 pub mod later_levels;
+pub mod laws;
 mod level;
 pub mod parts;
 pub mod whole_key;
@@ -21,3 +22,6 @@ pub use form::key_form;
 pub use handled::{Handled, HandledSource};
 pub use whole_key::write_key;
 pub use writer::KeyWriter;
+
+#[cfg(test)]
+mod tests;

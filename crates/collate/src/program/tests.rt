@@ -127,6 +127,11 @@ fn compares_texts(rt: HostRuntime) -> Result<(), Fail> {
         ("3", "á", "a\u{301}", "=\n"),
         ("3", "\u{AC01}", "\u{1100}\u{1161}\u{11A8}", "=\n"),
         ("3", "á\u{F73}", "a\u{F71}\u{F72}\u{301}", "=\n"),
+        ("4", "A", "\u{24B6}", "<\n"),
+        ("4", "\u{FFFE}\0", "\0\u{FFFE}", "=\n"),
+        ("i", "\u{FFFE}\0", "\0\u{FFFE}", "<\n"),
+        ("i", "\u{FFFE}", "\0", ">\n"),
+        ("i", "á", "a\u{301}", "=\n"),
     ] {
         expect_run(&rt, &["compare", strength, left, right], 0, sign, "")?;
     }
@@ -141,8 +146,8 @@ fn wrong_words_get_the_usage(rt: HostRuntime) -> Result<(), Fail> {
         &["compare", "3", "ab"],
         &["compare", "3", "ab", "aB", "x"],
         &["compare", "0", "ab", "aB"],
-        &["compare", "4", "ab", "aB"],
-        &["compare", "i", "ab", "aB"],
+        &["compare", "5", "ab", "aB"],
+        &["compare", "I", "ab", "aB"],
         &["compare", "33", "ab", "aB"],
         &["Compare", "3", "ab", "aB"],
         &["key", "3", "ab"],

@@ -20,7 +20,7 @@ returns-in-Ok-clause-compares c =
     let mini = c.in_ok-mini.ensures in (
       m,
       mini,
-      mini-compares m c.args.strength c.requires _ _ _ c.default-2.result
+      mini-compares m c.args.strength _ _ _ c.default-2.result
           (mini-lent m c.provider.result (request_in c.default-2.result) _ mini c.provider.ensures c.in-Ok.ensures.keeps)
           (ap (λ (o : CollatorOptions). record o { strength = Some c.args.strength }) c.default.ensures) c.default-2.ensures c.in-Ok.ensures.settings,
     )

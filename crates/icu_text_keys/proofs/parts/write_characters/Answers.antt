@@ -12,7 +12,7 @@ returns-in_err-push-clause-bytes g c =
     let x : ℕ = c.character-item.result in
     let rest : List ℕ = drop (c.loop-character.character-index + 1) c.args.characters.now in
     let opened : drop c.loop-character.character-index c.args.characters.now ≡ x ∷ rest =
-        drop_more c.args.characters.now c.loop-character.character-index x c.loop-character-test.true ∙ ap (λ y. y ∷ rest) (sym c.character-item.is) in
+    drop_more c.args.characters.now c.loop-character.character-index x c.loop-character-test.true ∙ ap (λ y. y ∷ rest) (sym c.character-item.is) in
     let owes = subst (λ (l : List ℕ). Owes g.S.CollationKeySink.took c.args.sink.now c.args.state.now (identical_level c.args.characters.now) (identical_rest c.loop-character.writer l) c.loop-character.sink c.loop-character.state) opened c.loop-character.invariant.owes in
     rw (p.1, p.2) (owes_fails g.S.CollationKeySink.took g.S.CollationKeySink.refused _ _ _ _ _ _ _ _ _
     (λ y z t u b d. g.met.S.CollationKeySink.took_both _ y z _ t u b d c.requires) owes (c.in_err-push.ensures.bytes rest))
@@ -22,7 +22,7 @@ loop-character-preserved g c =
     let x : ℕ = c.character-item.result in
     let rest : List ℕ = drop (c.loop-character.character-index + 1) c.args.characters.now in
     let opened : drop c.loop-character.character-index c.args.characters.now ≡ x ∷ rest =
-        drop_more c.args.characters.now c.loop-character.character-index x c.loop-character-test.true ∙ ap (λ y. y ∷ rest) (sym c.character-item.is) in
+    drop_more c.args.characters.now c.loop-character.character-index x c.loop-character-test.true ∙ ap (λ y. y ∷ rest) (sym c.character-item.is) in
     let owes = subst (λ (l : List ℕ). Owes g.S.CollationKeySink.took c.args.sink.now c.args.state.now (identical_level c.args.characters.now) (identical_rest c.loop-character.writer l) c.loop-character.sink c.loop-character.state) opened c.loop-character.invariant.owes in
     record {
       sound = c.in_ok-push.ensures.sound;

@@ -1,4 +1,4 @@
-use Rattle.std.proofs.Common.{◌≡◌, ℕ, ◌+◌, List, ◌∷◌, ◌++◌, drop, map, refl, sym, ap, ◌∙◌, subst}
+use Rattle.std.proofs.Common.{◌≡◌, ◌+◌, List, ◌∷◌, ◌++◌, drop, map, refl, sym, ap, ◌∙◌, subst}
 use Rattle.std.proofs.lemmas.List.{drop_more}
 use Rattle.std.proofs.lemmas.Result.{err_from_is_err_and}
 use Rattle.icu_levels.specs.Keys.{LevelPart, part_bytes, parts_bytes}
@@ -13,7 +13,7 @@ returns-in_err-write_part-clause-bytes g c =
     let x : LevelBytes = c.part-item.result in
     let rest : List LevelBytes = drop (c.loop-part.part-index + 1) c.args.parts.now in
     let opened : drop c.loop-part.part-index c.args.parts.now ≡ x ∷ rest =
-        drop_more c.args.parts.now c.loop-part.part-index x c.loop-part-test.true ∙ ap (λ y. y ∷ rest) (sym c.part-item.is) in
+    drop_more c.args.parts.now c.loop-part.part-index x c.loop-part-test.true ∙ ap (λ y. y ∷ rest) (sym c.part-item.is) in
     let owes = subst (λ (l : List LevelBytes). Owes g.S.CollationKeySink.took c.args.sink.now c.args.state.now (parts_bytes (map part_of c.args.parts.now)) (parts_bytes (map part_of l)) c.loop-part.sink c.loop-part.state) opened c.loop-part.invariant.owes in
     rw (p.1, p.2) (owes_fails g.S.CollationKeySink.took g.S.CollationKeySink.refused _ _ _ _ _ _ _ _ _
     (λ y z t u b d. g.met.S.CollationKeySink.took_both _ y z _ t u b d c.requires) owes
@@ -24,7 +24,7 @@ loop-part-preserved g c =
     let x : LevelBytes = c.part-item.result in
     let rest : List LevelBytes = drop (c.loop-part.part-index + 1) c.args.parts.now in
     let opened : drop c.loop-part.part-index c.args.parts.now ≡ x ∷ rest =
-        drop_more c.args.parts.now c.loop-part.part-index x c.loop-part-test.true ∙ ap (λ y. y ∷ rest) (sym c.part-item.is) in
+    drop_more c.args.parts.now c.loop-part.part-index x c.loop-part-test.true ∙ ap (λ y. y ∷ rest) (sym c.part-item.is) in
     let owes = subst (λ (l : List LevelBytes). Owes g.S.CollationKeySink.took c.args.sink.now c.args.state.now (parts_bytes (map part_of c.args.parts.now)) (parts_bytes (map part_of l)) c.loop-part.sink c.loop-part.state) opened c.loop-part.invariant.owes in
     record {
       sound = c.in_ok-write_part.ensures.sound;

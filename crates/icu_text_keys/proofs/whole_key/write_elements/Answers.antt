@@ -1,4 +1,4 @@
-use Rattle.std.proofs.Common.{◌≡◌, ℕ, List, [], ◌∷◌, Option, Some, None, Err, refl, sym, subst}
+use Rattle.std.proofs.Common.{◌≡◌, List, [], ◌∷◌, Err, subst}
 use Rattle.std.proofs.lemmas.Result.{err_from_is_err_and}
 use Rattle.std.specs.List.{AllByRecursion}
 use Rattle.icu_levels.specs.Primaries.{Compression}
@@ -6,7 +6,7 @@ use Rattle.icu_keys.proofs.Writing.{Owes, owes_fed}
 use Rattle.icu_keys.proofs.KeyWriting.{key_owed, feeds_stopped}
 use Rattle.icu_order.specs.Handled.{HandledElement}
 use Rattle.icu_text_keys.specs.declared.handled.Handled.{Handled}
-use Rattle.icu_text_keys.specs.HandledSources.{HasCase, GivesNext, handled_as}
+use Rattle.icu_text_keys.specs.HandledSources.{HasCase, handled_as}
 use Rattle.icu_text_keys.specs.KeyRests.{key_rest}
 use Rattle.icu_text_keys.proofs.SourceLemmas.{one_given, none_given, stopped}
 use Rattle.icu_text_keys.proofs.whole_key.write_elements.Goals as goal

@@ -1,4 +1,4 @@
-use Rattle.std.proofs.Common.{ℕ, List, ◌∷◌, sym, subst}
+use Rattle.std.proofs.Common.{List, ◌∷◌, sym, subst}
 use Rattle.icu_keys.specs.KeyWrites.{KeyFeeds}
 use Rattle.icu_order.specs.Handled.{HandledElement}
 use Rattle.icu_text_keys.specs.declared.handled.Handled.{Handled}

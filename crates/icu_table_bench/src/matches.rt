@@ -4,10 +4,9 @@ ghost use Rattle.std.specs.Prelude.{true};
 ghost use Rattle.icu_data.specs.LiveConditions.{IsGoodData};
 ghost use Rattle.icu_data.specs.StoredData.{data_of};
 
-use crate::matched::{Matched, find_match};
-use crate::text::Text;
 use icu_data::{CollationData, DataBuilder, DataVectors};
 use icu_entries::CollationElement32;
+use icu_matches::{Matched, Text, find_match};
 use std::alloc::{AllocError, Global};
 use std::process::Abort;
 use std::test::Fail;

@@ -1,0 +1,2 @@
+-- Words of private contracts, proofs and tests only: no public contract names them.
+pub mod GivenElements

@@ -1,0 +1,5 @@
+//! Worked rows of keys, sinks that refuse, and a long text.
+
+mod given;
+mod rows;
+mod stops;
