@@ -1,4 +1,4 @@
--- What the writer of keys asks of the elements of a text, and what it may leave out.
+-- What the key of a text is written of.
 use Rattle.std.proofs.Common.{◌≡◌, ◌≢◌, ℕ, ◌/◌, ◌*◌, ◌^◌, ◌<◌, ◌++◌, Bool, true, false, not, ◌&&◌, ◌||◌, ◌==◌, nat_lt, List, [], ◌∷◌, Option, Some, None, refl, sym, ap, subst, arith, inl, inr, IsTrue, ◌∙◌}
 use Rattle.std.specs.Prelude.{bit_and}
 use Rattle.std.specs.Char.{IsScalar}
@@ -36,43 +36,6 @@ use Rattle.icu_order.proofs.LiveElementLemmas.{live-shape}
 use Rattle.icu_order.proofs.TertiaryWeights.{case_bits}
 use Rattle.icu_order.proofs.TextSources.{IsSource, text_sources}
 use Rattle.icu_text_keys.specs.HandledSources.{HasCase}
-
--- ---- the case bits of a text's elements
-
--- they are lower, mixed or upper case
-abbrev pub IsCased : Element → Type 0
-IsCased x = x.lower < 0xC000
-
-cased : (all : CollatorTables) → IsGoodTables all → (table : DataTable) (x : Element) → IsElementBy table all.tables x → IsCased x
-unfolding has_shape
-cased all good table x live =
-    let widths = and_parts (nat_lt x.primary (2 ^ 32) && nat_lt x.secondary (2 ^ 16)) (nat_lt x.lower (2 ^ 16))
-    (good.each (conditions.Element Width) table x live) in
-    let small : x.lower < 2 ^ 16 = grind (arith, nat_tests) in
-    let shape = and_parts (has_whole_weights x && has_weights_below x) (has_lower_half x) (live-shape all good table x live) in
-    let half = and_parts (not (tertiary_of x == 0) || x.lower == 0) (not (bit_and x.lower case_mask == case_mask)) shape.1 in
-    let other : bit_and x.lower case_mask ≢ case_mask = grind (arith, nat_tests) in
-    omega (arith, other, case_bits x.lower small)
-
-source_cased : (all : CollatorTables) → IsGoodTables all → (x : Element) → IsSource all x → IsCased x
-source_cased all good x (inl live) = cased all good live.table x live.live
-source_cased all good x (inr number) = subst IsCased (sym number.2) (omega arith)
-
-pub text_cased : (all : CollatorTables) (settings : Settings) → IsGoodTables all → (cs : List ℕ) → AllByRecursion IsScalar cs
-    → AllByRecursion IsCased (elements_of (reading_by all settings) (nfd cs))
-text_cased all settings good cs scalars =
-    weaker (IsSource all) IsCased (source_cased all good) _ (text_sources all good settings cs scalars)
-
-has_case : (h : HandledElement) → HoldsOf IsCased (λ p. Unit {0}) h → HasCase h
-has_case (stayed x) h = h
-has_case (shifted_primary p) h = tt
-
-have_case : (hs : List HandledElement) → AllByRecursion (HoldsOf IsCased (λ p. Unit {0})) hs → AllByRecursion HasCase hs
-have_case [] h = tt
-have_case (x ∷ xs) h = (has_case x h.0, have_case xs h.1)
-
-pub handled_cased : (last : ℕ) (es : List Element) → AllByRecursion IsCased es → AllByRecursion HasCase (handled last false es)
-handled_cased last es h = have_case _ (handled_hold IsCased (λ p. Unit {0}) last (λ x c v. tt) false es h)
 
 -- ---- characters that don't count
 

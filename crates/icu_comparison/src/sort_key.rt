@@ -2,7 +2,6 @@
 
 ghost use Rattle.std.specs.Prelude.{◌≡◌, ◌<◌, false, List, ℕ, chars, IfOk, IsTrue};
 ghost use Rattle.std.specs.List.{AllByRecursion};
-ghost use Rattle.icu_entries.specs.Elements.{Element};
 ghost use Rattle.icu_keys.specs.KeyWrites.{WritesKey};
 ghost use Rattle.icu_levels.specs.Keys.{key_bytes};
 ghost use Rattle.icu_order.specs.Forms.{compression_of, form_by, last_variable_by};
@@ -17,6 +16,7 @@ use crate::characters::decomposed;
 use crate::collator::CollatorBorrowed;
 use icu_entries::CollationElement;
 use icu_keys::{CollationKeySink, SortKeyError};
+use icu_text_keys::laws::texts_have_case;
 use icu_text_keys::{TableCompression, write_key};
 use std::alloc::AllocError;
 
@@ -51,6 +51,7 @@ impl<'a> CollatorBorrowed<'a> {
             (text_key (tables_borrowed self.now) (settings_borrowed self.now) (chars text.now)) result sink.new }
     {
         self.tables.are_good();
+        texts_have_case();
         let Ok(elements) = self.elements(text) else {
             return write_nothing(sink);
         };
@@ -68,7 +69,8 @@ impl<'a> CollatorBorrowed<'a> {
         elements: &[CollationElement],
         characters: &[char],
     ) -> Result<S::Output, SortKeyError<S::Error>>
-        requires cases { AllByRecursion (λ (x : Element). x.lower < 0xC000) elements.now }
+        requires cases { AllByRecursion HasCase (handled
+            (last_variable_by (tables_borrowed self.now) (settings_borrowed self.now)) false elements.now) }
         ensures key { let all = tables_borrowed self.now in let settings = settings_borrowed self.now in
             WritesKey S.took S.refused S.finished S.State.is_default sink.old
             (key_bytes (compression_of all) (form_by all settings) (level_lists (reorder all) (form_by all settings)
