@@ -1,31 +1,21 @@
 -- What Mini lends: its tables say what they are to say.
-use Rattle.std.proofs.Common.{◌≡◌, ℕ, ◌+◌, ◌-◌, ◌*◌, ◌/◌, ◌%◌, ◌<◌, Bool, true, false, List, [], ◌∷◌, ◌++◌, map, Option, Some, None, Result, Ok, Err, IfOk, slice_index, refl, sym, ap, ◌∙◌, subst, suc, zero, arith, inl, inr, if◌then◌else◌, ◌&&◌, nat_le}
-use Rattle.std.proofs.lemmas.Bool.{and_parts}
-use Rattle.std.proofs.Math.Utf8.{scalar_cases}
+use Rattle.std.proofs.Common.{◌≡◌, ℕ, List, Option, Some, None, Result, Ok, Err, IfOk, refl, sym, ap, ◌∙◌, subst}
 use Rattle.std.specs.Option.{option_map}
-use Rattle.std.specs.Char.{IsScalar}
-use Rattle.std.specs.List.{AllByRecursion, range_with_len}
 use Rattle.icu_entries.specs.declared.error.DataError.{DataError}
-use Rattle.icu_entries.specs.declared.entry.EntryKind.{EntryKind}
-use Rattle.icu_entries.specs.declared.entry.EntryKind.TheVariants.{Prefix, Contraction, Digit}
-use Rattle.icu_entries.specs.Entries.{kind_of}
-use Rattle.icu_data.specs.Live.{live_digit, live_contraction, live_from}
 use Rattle.icu_provider.specs.Loads.{Loads, answer}
 use Rattle.icu_provider.specs.Metadata.{is_tailored, has_reordering}
 use Rattle.icu_provider.specs.Requests.{Request}
 use Rattle.icu_provider.specs.SpecialPrimaries.{SpecialPrimaries}
-use Rattle.icu_data.specs.Data.{Data, plain_of}
+use Rattle.icu_data.specs.Data.{Data}
 use Rattle.icu_provider.specs.CollatorTables.{CollatorTables}
 use Rattle.icu_checks.specs.Loads.{and_then, or_else, typed_first, if_named, diacritics_request, lent_tables}
 use Rattle.icu_mini.specs.declared.mini.Mini.{Mini}
 use Rattle.icu_mini.specs.declared.provider.MiniProvider.{MiniProvider}
 use Rattle.icu_data.specs.declared.data_vectors.DataVectors.{DataVectors}
-use Rattle.icu_data.specs.Building.{with_entries}
 use Rattle.icu_data.specs.OwnedData.{vectors_data}
-use Rattle.icu_mini.specs.Mini.{IsMini, collator_tables, special_held, SaysAny}
+use Rattle.icu_mini.specs.Mini.{IsMini, special_held, SaysAny}
 use Rattle.icu_mini.specs.Provider.{LendsMini, loads_of}
 use Rattle.collate.specs.Answers.{mini_tables}
-use Rattle.icu_mini.specs.Characters.{with_characters, mini_characters, run}
 
 -- ---- what is lent
 

@@ -1,5 +1,5 @@
 -- The settings of a collator by Mini's metadata, where a strength is set and nothing else.
-use Rattle.std.proofs.Common.{◌≡◌, false, Option, Some, None, IsTrue, refl, sym, ap, ◌∙◌, subst, unwrap_or, option_map}
+use Rattle.std.proofs.Common.{◌≡◌, false, Option, Some, None, ap, ◌∙◌, unwrap_or, option_map}
 use Rattle.icu_options.specs.Settings.{Settings}
 use Rattle.icu_options.specs.Conversions.{SetNothing, is_numeric}
 use Rattle.icu_options.specs.Merge.{merge}

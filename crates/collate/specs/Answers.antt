@@ -44,6 +44,6 @@ abbrev pub IsAnswer : Comparing → List ℕ → Type 0
 IsAnswer asked line = (tables : Mini) × IsMini tables × (line ≡ sign_of (order_asked tables asked) ++ 10 ∷ [])
 
 -- all tables and settings by which texts are compared by these tables at this strength
-pub record ComparesBy (strength : Strength) (tables : Mini) (all : CollatorTables) (settings : Settings) : Type 0 where
-  pub tables : all ≡ mini_tables tables
-  pub settings : settings ≡ mini_settings strength
+pub record ComparesBy (strength : Strength) (m : Mini) (all : CollatorTables) (merged : Settings) : Type 0 where
+  pub tables : all ≡ mini_tables m
+  pub settings : merged ≡ mini_settings strength

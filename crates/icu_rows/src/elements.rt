@@ -3,14 +3,13 @@ ghost use Rattle.icu_elements.specs.CollationElements.{CanGive};
 
 use crate::base::tables;
 use crate::notation::text;
-use crate::order::preferences;
 use icu_comparison::Collator;
 use icu_elements::{CollationElements, all_elements};
 use icu_entries::CollationElement;
 use icu_options::{CollatorOptions, CollatorPreferences};
 use std::alloc::Global;
 
-/// A row is tables, settings and a text. Its elements are printed in hexadecimal, of equal ones in a row the first and how many
+/// A row is tables, whether digits are read as numbers, and a text. Its elements are printed in hexadecimal, of equal ones in a row the first and how many
 /// there are. They are read as one list, and one by one until the end element has come twice.
 pub(crate) fn elements(alloc: Global, row: &str) -> Option<String> {
     let (written, row) = row.split_once('|')?;
@@ -25,9 +24,11 @@ pub(crate) fn elements(alloc: Global, row: &str) -> Option<String> {
     .ok()?;
     let text = text(alloc, row.trim())?;
     let tables = collator.as_borrowed().tables();
-    let lead = preferences(settings.trim())?
-        .numeric_ordering
-        .map(|_| mini.numeric_primary);
+    let lead = match settings.trim() {
+        "" => None,
+        "numbers" => Some(mini.numeric_primary),
+        _ => return None,
+    };
     let dot = mini.metadata.lithuanian_dot_above();
     let all = all_elements(tables, text.as_str().chars(), lead, dot).ok()?;
     let elements = CollationElements::new(text.as_str().chars(), tables, lead, dot);

@@ -1,7 +1,7 @@
 //! The order of two texts.
 use crate::base::tables;
 use crate::notation::text;
-use crate::settings::sources;
+use crate::settings::named_sources;
 use icu_comparison::Collator;
 use std::alloc::Global;
 
@@ -10,7 +10,7 @@ pub(crate) fn order(alloc: Global, row: &str) -> Option<String> {
     let (written, row) = row.split_once('|')?;
     let (named, row) = row.split_once('|')?;
     let (left, right) = row.split_once('|')?;
-    let named = sources(alloc, named)?;
+    let named = named_sources(alloc, named)?;
     let collator = Collator::try_new_unstable(
         alloc,
         &tables(alloc, written)?.provider(),

@@ -17,7 +17,7 @@ pub(crate) struct Sources {
 
 /// What a row names, with commas between: `metadata` and its bits, a setting and its value, or the number of a strength, or
 /// `i` for the identical one. `resolved` takes what was named before it, resolved, for the options and the preferences.
-pub(crate) fn sources(alloc: Global, row: &str) -> Option<Sources> {
+pub(crate) fn named_sources(alloc: Global, row: &str) -> Option<Sources> {
     let mut sources = Sources {
         metadata: 0,
         options: CollatorOptions::default(),
@@ -32,7 +32,7 @@ pub(crate) fn sources(alloc: Global, row: &str) -> Option<Sources> {
 
 /// The settings that the sources of a row come to.
 pub(crate) fn settings(alloc: Global, row: &str) -> Option<String> {
-    printed(alloc, sources(alloc, row)?)
+    printed(alloc, named_sources(alloc, row)?)
 }
 
 fn resolved(sources: Sources) -> ResolvedCollatorOptions {

@@ -16,7 +16,7 @@ returns-clause-answer c =
     let left = chars c.args.command.left.now in
     let right = chars c.args.command.right.now in
     let order : c.in_ok-order.order ≡ order_asked m (asked c.args.command) =
-        c.in_ok-order.ensures.order
-        ∙ ap (λ (t : CollatorTables). text_order t (settings_borrowed lent) left right) (c.as_borrowed.ensures.tables ∙ by.tables)
-        ∙ ap (λ (s : Settings). text_order (mini_tables m) s left right) (c.as_borrowed.ensures.settings ∙ by.settings) in
+    c.in_ok-order.ensures.order
+    ∙ ap (λ (t : CollatorTables). text_order t (settings_borrowed lent) left right) (c.as_borrowed.ensures.tables ∙ by.tables)
+    ∙ ap (λ (s : Settings). text_order (mini_tables m) s left right) (c.as_borrowed.ensures.settings ∙ by.settings) in
     (m, c.in_ok-collator.ensures.compares.1, c.sign_line.ensures ∙ ap (λ o. sign_of o ++ 10 ∷ []) order)
