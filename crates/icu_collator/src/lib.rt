@@ -2,7 +2,7 @@
 //! `icu_collator`.
 //!
 //! A `Collator` is made of the tables that a `CollationProvider` lends, which are checked together, and of settings;
-//! `as_borrowed` lends it, and `compare` returns the order of two texts. The crate `sort_names` is a program over these
+//! `as_borrowed` lends it, `compare` returns the order of two texts, and `write_sort_key_to` writes the sort key of one. The crate `sort_names` is a program over these
 //! names alone.
 #![tactic(auto)]
 

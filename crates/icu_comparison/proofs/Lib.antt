@@ -1,3 +1,4 @@
+pub mod KeyLemmas
 pub mod LevelLemmas
 pub mod OrderLemmas
 pub mod SegmentLemmas

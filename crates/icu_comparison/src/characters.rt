@@ -10,7 +10,7 @@ use std::cmp::Ordering;
 use unicode_normalization::slice;
 
 /// The canonical decomposition of a text (UAX #15, "Normalization Form D").
-fn decomposed(alloc: Global, text: &str) -> Result<Vec<char>, AllocError>
+pub(crate) fn decomposed(alloc: Global, text: &str) -> Result<Vec<char>, AllocError>
     ensures { IfOk result (λ cs. cs.items ≡ nfd (chars text.now)) }
 {
     let characters: Vec<char> = text.chars().collect(alloc)?;

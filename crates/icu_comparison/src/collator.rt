@@ -18,7 +18,6 @@ ghost use Rattle.icu_order.specs.TextOrder.{reading_by, lists_by, text_order, te
 ghost use Rattle.unicode_normalization.specs.Forms.{nfd};
 
 use crate::characters::compare_characters;
-use crate::form::key_form;
 use crate::handled::HandledElements;
 use crate::order::ElementOrder;
 use icu_checks::{CheckedTables, load_tables};
@@ -31,6 +30,7 @@ use icu_options::{
 };
 use icu_order::laws::keys_keep_text_order;
 use icu_provider::CollationProvider;
+use icu_text_keys::key_form;
 use std::alloc::{AllocError, Global};
 use std::cmp::Ordering;
 
@@ -103,7 +103,7 @@ impl Collator {
 /// A collator that borrows its tables.
 #[derive(Debug, Clone, Copy)]
 pub struct CollatorBorrowed<'a> {
-    tables: &'a CheckedTables,
+    pub(crate) tables: &'a CheckedTables,
     settings: CollatorOptionsBitField,
     ghost backward: { (values_of settings).backward_second_level
         ≡ is_backward (checked_tables tables.now).bits },
@@ -191,7 +191,7 @@ impl<'a> CollatorBorrowed<'a> {
     }
 
     /// The levels that count, and their forms.
-    fn key_form(&self) -> KeyForm
+    pub(crate) fn key_form(&self) -> KeyForm
         ensures { result ≡ form_by (tables_borrowed self.now) (settings_borrowed self.now) }
     {
         key_form(self.tables, self.settings)
@@ -199,7 +199,7 @@ impl<'a> CollatorBorrowed<'a> {
 
     /// The elements of a text as the settings handle variable ones (UTS #10, section 4 "Variable
     /// Weighting").
-    fn handled<'e>(&self, elements: &'e [CollationElement]) -> HandledElements<'e>
+    pub(crate) fn handled<'e>(&self, elements: &'e [CollationElement]) -> HandledElements<'e>
         ensures { handled_rest result ≡ handled
             (last_variable_by (tables_borrowed self.now) (settings_borrowed self.now))
             false elements.entry.now }
@@ -222,7 +222,7 @@ impl<'a> CollatorBorrowed<'a> {
     }
 
     /// The elements of a text.
-    fn elements(&self, text: &str) -> Result<Vec<CollationElement>, AllocError>
+    pub(crate) fn elements(&self, text: &str) -> Result<Vec<CollationElement>, AllocError>
         ensures { let reading = reading_by (tables_borrowed self.now) (settings_borrowed self.now) in
             IfOk result (λ es. es.items ≡ elements_of reading (nfd (chars text.now))) }
     {

@@ -4,15 +4,8 @@ ghost use Rattle.std.specs.Prelude.{◌≡◌, false, ◌≤◌, ◌++◌, ◌+�
 
 use icu_entries::CollationElement;
 use icu_entries::element::MERGE_SEPARATOR_PRIMARY;
-
-/// An element that stayed, or the primary of one that is shifted.
-#[derive(Clone, Copy, Debug, PartialEq)]
-pub enum Handled {
-    /// It counts at each level.
-    Stayed(CollationElement),
-    /// Its primary weight, before reordering, counts at the quaternary level alone.
-    Shifted(u32),
-}
+use icu_text_keys::{Handled, HandledSource};
+use std::alloc::AllocError;
 
 /// The elements of a text that are left, as variable weighting handles them: a variable element is
 /// shifted, and elements without a primary weight after it vanish. It copies nothing and holds no
@@ -25,7 +18,8 @@ pub struct HandledElements<'a> {
 }
 
 impl<'a> HandledElements<'a> {
-    ghost use Rattle.icu_comparison.specs.HandledRests.{handled_as, handled_rest};
+    ghost use Rattle.icu_comparison.specs.HandledRests.{handled_rest};
+    ghost use Rattle.icu_text_keys.specs.HandledSources.{handled_as};
     ghost use Rattle.icu_order.specs.Handled.{handled};
 
     /// All elements of a text. Variable are those with a primary weight above the merge separator's
@@ -70,5 +64,15 @@ impl<'a> HandledElements<'a> {
             }
         }
         None
+    }
+}
+
+impl<'a> HandledSource for HandledElements<'a> {
+    ghost use Rattle.icu_comparison.specs.HandledRests.{handled_rest};
+
+    ghost handled_left = { handled_rest };
+
+    fn next_handled(&mut self) -> Result<Option<Handled>, AllocError> {
+        Ok(self.next())
     }
 }

@@ -2,21 +2,21 @@
 
 ghost use Rattle.std.specs.Prelude.{◌≡◌, ◌≤◌, ◌++◌, ◌+◌, [], length, option_to_list, IfSome, None};
 ghost use Rattle.icu_levels.specs.ListOrder.{list_order};
-ghost use Rattle.icu_order.specs.Levels.{case_reads, case_rank, masked_tertiary, tertiary_in, quaternary_weight};
+ghost use Rattle.icu_order.specs.Levels.{case_rank, tertiary_in, quaternary_weight};
 ghost use Rattle.icu_provider.specs.CollatorTables.{reorder_by};
 ghost use Rattle.icu_provider.specs.StoredTables.{reordering_of};
 ghost use Rattle.std.specs.Prelude.{option_map};
-ghost use Rattle.icu_comparison.specs.HandledRests.{handled_as, handled_rest};
+ghost use Rattle.icu_text_keys.specs.HandledSources.{handled_as};
+ghost use Rattle.icu_comparison.specs.HandledRests.{handled_rest};
 ghost use Rattle.icu_comparison.specs.inner.LevelWeights.{weight_of, read_as, weight_in, level_weights};
 
-use crate::handled::{Handled, HandledElements};
+use crate::handled::HandledElements;
 use icu_entries::CollationElement;
 use icu_levels::forms::{CaseForm, SecondaryForm, TertiaryForm};
 use icu_provider::CollationReordering;
+use icu_text_keys::Handled;
+use icu_text_keys::element_weights::{case_read, masked_tertiary};
 use std::cmp::Ordering;
-
-/// The lower half of an element without its quaternary bits.
-const CASED_MASK: u16 = 0xFF3F;
 
 /// The case bits of a lower half.
 const CASE_MASK: u16 = 0xC000;
@@ -50,17 +50,6 @@ fn reordered(reordering: Option<CollationReordering<'_>>, primary: u32) -> u32
     }
 }
 
-/// What the case level reads of an element: a case counts where the element has a weight of the
-/// last level before.
-fn case_read(before: Option<SecondaryForm>, element: CollationElement) -> u32
-    ensures { result ≡ case_reads before element }
-{
-    match before {
-        None => element.primary(),
-        Some(_) => u32::from(element.secondary()),
-    }
-}
-
 /// Where the case of an element stands among the three (UTS #35 part 5, "Case Parameters").
 fn case_rank(form: CaseForm, element: CollationElement) -> u64
     ensures { result ≡ case_rank form element }
@@ -69,18 +58,6 @@ fn case_rank(form: CaseForm, element: CollationElement) -> u64
     match form {
         CaseForm::LowerFirst => rank,
         CaseForm::UpperFirst => 2u64.saturating_sub(rank),
-    }
-}
-
-/// What a form of the tertiary level reads of an element.
-fn masked_tertiary(form: TertiaryForm, element: CollationElement) -> u16
-    ensures { result ≡ masked_tertiary form element }
-{
-    let weights = element.non_primary();
-    match form {
-        TertiaryForm::WithoutCase => weights.tertiary(),
-        TertiaryForm::LowerFirst => weights.tertiary_case_quarternary(CASED_MASK),
-        TertiaryForm::UpperFirst => weights.tertiary_case_quarternary(CASED_MASK),
     }
 }
 

@@ -3,11 +3,13 @@
 
 mod characters;
 pub mod collator;
-pub mod form;
 pub mod handled;
 mod levels;
 mod order;
 mod segments;
+pub mod sort_key;
 
 pub use collator::{Collator, CollatorBorrowed};
-pub use handled::{Handled, HandledElements};
+pub use handled::HandledElements;
+pub use icu_keys::{CollationKeySink, SortKeyError, TooSmall};
+pub use icu_text_keys::{Handled, HandledSource, key_form};

@@ -8,8 +8,9 @@ ghost use Rattle.icu_order.specs.Handled.{stayed_elements};
 ghost use Rattle.icu_comparison.specs.HandledRests.{handled_rest};
 ghost use Rattle.icu_comparison.specs.inner.SegmentsLeft.{this_segment, next_segments};
 
-use crate::handled::{Handled, HandledElements};
+use crate::handled::HandledElements;
 use icu_entries::element::MERGE_SEPARATOR_PRIMARY;
+use icu_text_keys::Handled;
 use std::cmp::Ordering;
 
 /// The next secondary weight of the segment that a text is in, or `None` at the segment's end.

@@ -1,10 +1,11 @@
-//! Worked rows: tables and what they are refused with, texts and their order and elements, values of tables, settings. The rows stand in
+//! Worked rows: tables and what they are refused with, texts and their order, keys and elements, values of tables, settings. The rows stand in
 //! files, each with what is expected at its end; the program prints the rows that don't hold, and how many do.
 #![tactic(auto)]
 
 mod base;
 mod changes;
 mod elements;
+mod keys;
 mod lists;
 mod notation;
 mod order;
@@ -20,6 +21,7 @@ use std::{fs, io};
 enum Subject {
     Refusals,
     Order,
+    Keys,
     Elements,
     Values,
     Settings,
@@ -30,6 +32,7 @@ impl Subject {
         match self {
             Subject::Refusals => "refusals.txt",
             Subject::Order => "order.txt",
+            Subject::Keys => "keys.txt",
             Subject::Elements => "elements.txt",
             Subject::Values => "values.txt",
             Subject::Settings => "settings.txt",
@@ -41,6 +44,7 @@ impl Subject {
         match self {
             Subject::Refusals => refusals::refusals(alloc, input),
             Subject::Order => order::order(alloc, input),
+            Subject::Keys => keys::key(alloc, input),
             Subject::Elements => elements::elements(alloc, input),
             Subject::Values => values::value(alloc, input),
             Subject::Settings => settings::settings(alloc, input),
@@ -80,6 +84,7 @@ fn check_rows(rt: &HostRuntime, subject: Subject) -> io::Result<()> {
 fn main(rt: HostRuntime) -> io::Result<()> {
     check_rows(&rt, Subject::Refusals)?;
     check_rows(&rt, Subject::Order)?;
+    check_rows(&rt, Subject::Keys)?;
     check_rows(&rt, Subject::Elements)?;
     check_rows(&rt, Subject::Values)?;
     check_rows(&rt, Subject::Settings)

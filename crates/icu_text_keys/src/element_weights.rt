@@ -21,7 +21,7 @@ const CASE_MASK: u16 = 0xC000;
 const QUATERNARY_MASK: u16 = 0xC0;
 
 /// What the case level reads of an element: a case counts where the element has a weight of the last level before.
-pub(crate) fn case_read(before: Option<SecondaryForm>, element: CollationElement) -> u32
+pub fn case_read(before: Option<SecondaryForm>, element: CollationElement) -> u32
     ensures { result ≡ case_reads before element }
 {
     match before {
@@ -43,7 +43,7 @@ pub(crate) fn case_of(element: CollationElement) -> LetterCase
 }
 
 /// What a form of the tertiary level reads of an element.
-pub(crate) fn masked_tertiary(form: TertiaryForm, element: CollationElement) -> u16
+pub fn masked_tertiary(form: TertiaryForm, element: CollationElement) -> u16
     ensures { result ≡ masked_tertiary form element }
 {
     let weights = element.non_primary();

@@ -7,7 +7,7 @@
 #![tactic(auto)]
 
 pub mod compression;
-mod element_weights;
+pub mod element_weights;
 pub mod form;
 pub mod handled;
 pub mod later_levels;

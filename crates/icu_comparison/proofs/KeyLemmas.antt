@@ -1,0 +1,96 @@
+-- What the key of a text is written of.
+use Rattle.std.proofs.Common.{◌≡◌, ◌≢◌, ℕ, ◌/◌, ◌*◌, ◌^◌, ◌<◌, ◌++◌, Bool, true, false, not, ◌&&◌, ◌||◌, ◌==◌, nat_lt, List, [], ◌∷◌, Option, Some, None, refl, sym, ap, subst, arith, inl, inr, IsTrue, ◌∙◌}
+use Rattle.std.specs.Prelude.{bit_and}
+use Rattle.std.specs.Char.{IsScalar}
+use Rattle.std.specs.List.{AllByRecursion}
+use Rattle.std.proofs.lemmas.Bool.{and_parts}
+use Rattle.std.proofs.lemmas.Bool.Decides.{nat_tests}
+use Rattle.std.proofs.Math.Utf8.{scalar, scalars}
+use Rattle.unicode_normalization.specs.Forms.{nfd}
+use Rattle.icu_options.specs.Settings.{Settings}
+use Rattle.icu_entries.specs.declared.error.DataTable.{DataTable}
+use Rattle.icu_entries.specs.Elements.{Element, case_mask}
+use Rattle.icu_entries.specs.ElementConditions.{has_shape, has_whole_weights, has_weights_below, has_lower_half, tertiary_of}
+use Rattle.icu_data.proofs.ListLemmas.{weaker}
+use Rattle.icu_provider.specs.CollatorTables.{CollatorTables, reorder}
+use Rattle.icu_checks.specs.declared.condition.Condition.TheVariants as conditions
+use Rattle.icu_checks.specs.declared.condition.ElementCondition.TheVariants.{Width}
+use Rattle.icu_checks.specs.GoodTables.{IsGoodTables}
+use Rattle.icu_checks.specs.LiveElements.{IsElementBy}
+use Rattle.icu_elements.specs.TextElements.{elements_of}
+use Rattle.icu_levels.specs.Identical.{identical_level}
+use Rattle.icu_levels.specs.Keys.{LevelLists, LevelPart, opened, key_bytes, secondary_part, case_part, tertiary_part, quaternary_part, identical_part, parts_bytes}
+use Rattle.icu_levels.specs.Primaries.{Compression, primary_level}
+use Rattle.icu_levels.specs.declared.forms.CaseForm.{CaseForm}
+use Rattle.icu_levels.specs.declared.forms.KeyForm.{KeyForm}
+use Rattle.icu_levels.specs.declared.forms.QuaternaryForm.{QuaternaryForm}
+use Rattle.icu_levels.specs.declared.forms.SecondaryForm.{SecondaryForm}
+use Rattle.icu_levels.specs.declared.forms.SecondaryForm.TheVariants.{Forward, Backward}
+use Rattle.icu_levels.specs.declared.forms.TertiaryForm.{TertiaryForm}
+use Rattle.icu_order.specs.Handled.{HandledElement, stayed, shifted_primary, handled}
+use Rattle.icu_order.specs.Levels.{level_lists}
+use Rattle.icu_order.specs.TextOrder.{reading_by, handled_by, lists_by, text_key}
+use Rattle.icu_order.specs.Forms.{compression_of, form_by, last_variable_by}
+use Rattle.icu_order.proofs.HandledLemmas.{HoldsOf, handled_hold}
+use Rattle.icu_order.proofs.LiveElementLemmas.{live-shape}
+use Rattle.icu_order.proofs.TertiaryWeights.{case_bits}
+use Rattle.icu_order.proofs.TextSources.{IsSource, text_sources}
+use Rattle.icu_text_keys.specs.HandledSources.{HasCase}
+
+-- ---- characters that don't count
+
+module _ (reorder : ℕ → ℕ) (f : KeyForm) (hs : List HandledElement) (cs ds : List ℕ) where
+  abbrev left : LevelLists
+  left = level_lists reorder f hs cs
+
+  abbrev right : LevelLists
+  right = level_lists reorder f hs ds
+
+  same_secondary : (o : Option SecondaryForm) → secondary_part o left ≡ secondary_part o right
+  same_secondary None = refl
+  same_secondary (Some Forward) = refl
+  same_secondary (Some Backward) = refl
+
+  same_cases : (o : Option CaseForm) → case_part o left ≡ case_part o right
+  same_cases None = refl
+  same_cases (Some form) = refl
+
+  same_tertiary : (o : Option TertiaryForm) → tertiary_part o left ≡ tertiary_part o right
+  same_tertiary None = refl
+  same_tertiary (Some form) = refl
+
+  same_quaternary : (o : Option QuaternaryForm) → quaternary_part o left ≡ quaternary_part o right
+  same_quaternary None = refl
+  same_quaternary (Some form) = refl
+
+  same_identical : (b : Bool) → (IsTrue b → cs ≡ ds) → identical_part b left ≡ identical_part b right
+  same_identical false h = refl
+  same_identical true h = ap (λ cs. opened (identical_level cs)) (h refl)
+
+same_parts : (a b c d e k l m n o : LevelPart) → a ≡ k → b ≡ l → c ≡ m → d ≡ n → e ≡ o
+    → parts_bytes (a ∷ b ∷ c ∷ d ∷ e ∷ []) ≡ parts_bytes (k ∷ l ∷ m ∷ n ∷ o ∷ [])
+same_parts a b c d e k l m n o p q r s t = rw (p, q, r, s, t)
+
+same_key : (c : Compression) (f : KeyForm) (hs : List HandledElement) (cs ds : List ℕ) → (IsTrue f.identical → cs ≡ ds)
+    → key_bytes c f (level_lists c.reorder f hs cs) ≡ key_bytes c f (level_lists c.reorder f hs ds)
+same_key c f hs cs ds h =
+    ap (λ bytes. primary_level c 0 (level_lists c.reorder f hs cs).primaries ++ bytes)
+    (same_parts _ _ _ _ _ _ _ _ _ _ (same_secondary c.reorder f hs cs ds f.secondary) (same_cases c.reorder f hs cs ds f.cases)
+    (same_tertiary c.reorder f hs cs ds f.tertiary) (same_quaternary c.reorder f hs cs ds f.quaternary) (same_identical c.reorder f hs cs ds f.identical h))
+
+-- the key that is written of what was read is that of the text
+pub key_read : (all : CollatorTables) (settings : Settings) (t : List ℕ) (es : List Element) (cs : List ℕ)
+    → es ≡ elements_of (reading_by all settings) (nfd t) → (IsTrue (form_by all settings).identical → cs ≡ nfd t)
+    → key_bytes (compression_of all) (form_by all settings) (level_lists (reorder all) (form_by all settings) (handled (last_variable_by all settings) false es) cs)
+    ≡ text_key all settings t
+unfolding text_key lists_by
+key_read all settings t es cs read same =
+    let form : KeyForm = form_by all settings in
+    ap (λ es. key_bytes (compression_of all) form (level_lists (reorder all) form (handled (last_variable_by all settings) false es) cs)) read
+    ∙ same_key (compression_of all) form (handled_by all settings (nfd t)) cs (nfd t) same
+
+-- ---- texts
+
+pub are_scalars : (cs : List ℕ) → scalars cs ≡ true → AllByRecursion IsScalar cs
+are_scalars [] h = tt
+are_scalars (c ∷ cs) h = let parts = and_parts (scalar c) (scalars cs) h in (parts.0, are_scalars cs parts.1)

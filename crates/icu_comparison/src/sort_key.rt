@@ -1,0 +1,103 @@
+//! The sort keys of texts.
+
+ghost use Rattle.std.specs.Prelude.{◌≡◌, ◌<◌, false, List, ℕ, chars, IfOk, IsTrue};
+ghost use Rattle.std.specs.List.{AllByRecursion};
+ghost use Rattle.icu_keys.specs.KeyWrites.{WritesKey};
+ghost use Rattle.icu_levels.specs.Keys.{key_bytes};
+ghost use Rattle.icu_order.specs.Forms.{compression_of, form_by, last_variable_by};
+ghost use Rattle.icu_order.specs.Handled.{handled};
+ghost use Rattle.icu_order.specs.Levels.{level_lists};
+ghost use Rattle.icu_order.specs.TextOrder.{text_key};
+ghost use Rattle.icu_provider.specs.CollatorTables.{reorder};
+ghost use Rattle.icu_text_keys.specs.HandledSources.{HasCase};
+ghost use Rattle.unicode_normalization.specs.Forms.{nfd};
+
+use crate::characters::decomposed;
+use crate::collator::CollatorBorrowed;
+use icu_entries::CollationElement;
+use icu_keys::{CollationKeySink, SortKeyError};
+use icu_text_keys::laws::texts_have_case;
+use icu_text_keys::{TableCompression, write_key};
+use std::alloc::AllocError;
+
+/// What a call returns that was to write a key and ran out of memory before it wrote anything.
+fn write_nothing<S: CollationKeySink>(sink: &mut S) -> Result<S::Output, SortKeyError<S::Error>>
+    ensures { (key : List ℕ) → WritesKey S.took S.refused S.finished S.State.is_default sink.old key result sink.new }
+{
+    let _state = S::State::default();
+    Err(SortKeyError::NoMemory)
+}
+
+impl<'a> CollatorBorrowed<'a> {
+    ghost use Rattle.icu_comparison.specs.Collators.{tables_borrowed, settings_borrowed};
+
+    /// Writes the sort key of a text by the tables and the settings to a sink, and ends it (UTS #10, section 7.3 "Form
+    /// Sort Keys"; UTS #35 part 5, "Setting Options"). The dictionary order of two texts' keys by the same tables and
+    /// settings is the order of the texts that `compare` returns. Each text has a key, by all tables and settings.
+    ///
+    /// `Ok` means that the sink took the whole key, and is what its `finish` returned. After an error, discard what the
+    /// sink holds.
+    ///
+    /// # Errors
+    ///
+    /// `Sink` is the sink's own error: what a write returned after a beginning of the key was taken, or what `finish`
+    /// returned after the whole key. `NoMemory` says that an allocation failed; the sink took a beginning of the key.
+    pub fn write_sort_key_to<S: CollationKeySink>(
+        &self,
+        text: &str,
+        sink: &mut S,
+    ) -> Result<S::Output, SortKeyError<S::Error>>
+        ensures key { WritesKey S.took S.refused S.finished S.State.is_default sink.old
+            (text_key (tables_borrowed self.now) (settings_borrowed self.now) (chars text.now)) result sink.new }
+    {
+        self.tables.are_good();
+        texts_have_case();
+        let Ok(elements) = self.elements(text) else {
+            return write_nothing(sink);
+        };
+        let Ok(characters) = self.key_characters(text) else {
+            return write_nothing(sink);
+        };
+        self.write_elements(sink, elements.as_slice(), characters.as_slice())
+    }
+
+    /// Writes the key of a text of these elements and these decomposed characters, which count at the identical level
+    /// alone.
+    fn write_elements<S: CollationKeySink>(
+        &self,
+        sink: &mut S,
+        elements: &[CollationElement],
+        characters: &[char],
+    ) -> Result<S::Output, SortKeyError<S::Error>>
+        requires cases { AllByRecursion HasCase (handled
+            (last_variable_by (tables_borrowed self.now) (settings_borrowed self.now)) false elements.now) }
+        ensures key { let all = tables_borrowed self.now in let settings = settings_borrowed self.now in
+            WritesKey S.took S.refused S.finished S.State.is_default sink.old
+            (key_bytes (compression_of all) (form_by all settings) (level_lists (reorder all) (form_by all settings)
+            (handled (last_variable_by all settings) false elements.now) characters.now))
+            result sink.new }
+    {
+        let compression = TableCompression::new(self.tables);
+        let mut handled = self.handled(elements);
+        write_key(
+            self.tables.allocator(),
+            sink,
+            &compression,
+            self.key_form(),
+            &mut handled,
+            characters,
+        )
+    }
+
+    /// The decomposed characters of a text, where they count.
+    fn key_characters(&self, text: &str) -> Result<Vec<char>, AllocError>
+        ensures { IfOk result (λ cs. IsTrue (form_by (tables_borrowed self.now) (settings_borrowed self.now)).identical →
+            cs.items ≡ nfd (chars text.now)) }
+    {
+        if self.key_form().identical {
+            decomposed(self.tables.allocator(), text)
+        } else {
+            Ok(Vec::new(self.tables.allocator()))
+        }
+    }
+}
