@@ -1,7 +1,7 @@
 //! The sort keys of texts.
 use crate::base::tables;
 use crate::notation::text;
-use crate::settings::sources;
+use crate::settings::named_sources;
 use icu_comparison::Collator;
 use std::alloc::Global;
 
@@ -12,7 +12,7 @@ const WRITTEN_OUT: u64 = 9;
 pub(crate) fn key(alloc: Global, row: &str) -> Option<String> {
     let (written, row) = row.split_once('|')?;
     let (named, row) = row.split_once('|')?;
-    let named = sources(alloc, named)?;
+    let named = named_sources(alloc, named)?;
     let collator = Collator::try_new_unstable(
         alloc,
         &tables(alloc, written)?.provider(),
