@@ -317,7 +317,7 @@ def check_collate(report, room, shim):
 
 # The parts of the driver, and the tables that a refused collator names as one allocation after another fails: tables are
 # copied in the order in which they are loaded, the check before that is named by the root.
-PARTS = ["collators", "comparisons", "elements", "sinks"]
+PARTS = ["collators", "comparisons", "keys", "elements", "sinks"]
 OF_MINI = ["Root", "Jamo", "SpecialPrimaries", "Diacritics"]
 OF_SWAPPED_LEADS = ["Root", "Jamo", "SpecialPrimaries", "Tailoring", "Reordering", "Diacritics"]
 NAMED_TABLES = 2 * OF_MINI + 2 * OF_SWAPPED_LEADS

@@ -118,7 +118,7 @@ fn print_order(rt: &HostRuntime, collator: &Collator, left: &str, right: &str) -
 }
 
 /// A text of so many times the same, and then another one.
-fn long_text(alloc: Global, repeated: &str, last: &str) -> Result<String, AllocError> {
+pub(crate) fn long_text(alloc: Global, repeated: &str, last: &str) -> Result<String, AllocError> {
     let mut text = String::new(alloc);
     for _ in 0..LONG {
         text.push_str(repeated)?;

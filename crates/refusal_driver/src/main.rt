@@ -7,6 +7,7 @@
 
 mod collators;
 mod elements;
+mod keys;
 mod sinks;
 mod stop;
 
@@ -33,6 +34,9 @@ fn run(rt: &HostRuntime) -> Result<(), Stop> {
     }
     if wants("comparisons") {
         collators::compare(rt)?;
+    }
+    if wants("keys") {
+        keys::run(rt)?;
     }
     if wants("elements") {
         elements::run(rt)?;
