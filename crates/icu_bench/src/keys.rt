@@ -41,7 +41,10 @@ fn slices_that_are_too_small_say_the_length(rt: HostRuntime) -> Result<(), Fail>
     }
     let mut bytes = [0x7F; 25];
     let mut slice: &mut [u8] = &mut bytes;
-    assert_eq!(rt; collator.as_borrowed().write_sort_key_to("áAbc", &mut slice), Ok(25));
+    assert_eq!(rt;
+        collator.as_borrowed().write_sort_key_to("áAbc", &mut slice),
+        Ok(25)
+    );
     assert_eq!(rt; bytes, KEY);
     Ok(())
 }
