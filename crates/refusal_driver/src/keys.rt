@@ -15,14 +15,19 @@ fn key_length(alloc: Global, collator: &Collator, text: &str) -> Result<usize, A
     }
 }
 
-/// Writes keys of all levels to a vector, short ones and long ones.
+/// Writes the key of a text to a vector, and says how long it is.
+fn say_length(rt: &HostRuntime, collator: &Collator, text: &str) -> Result<(), Stop> {
+    let length = twice(|| key_length(rt.alloc(), collator, text))?;
+    println!(rt; "{length} bytes")?;
+    Ok(())
+}
+
+/// Writes keys of all levels, short ones and a long one.
 pub(crate) fn run(rt: &HostRuntime) -> Result<(), Stop> {
     let mini = twice(|| Mini::new(rt.alloc()))?;
     let collator = collator(rt, &mini, Strength::Identical)?;
+    say_length(rt, &collator, "")?;
+    say_length(rt, &collator, "áAbc")?;
     let long = twice(|| long_text(rt.alloc(), "e\u{301}", "A"))?;
-    for text in ["", "áAbc", long.as_str()] {
-        let length = twice(|| key_length(rt.alloc(), &collator, text))?;
-        println!(rt; "{length} bytes")?;
-    }
-    Ok(())
+    say_length(rt, &collator, long.as_str())
 }
