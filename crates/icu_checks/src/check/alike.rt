@@ -56,7 +56,7 @@ fn have_common_mark(one: &[bool; 256], other: &[bool; 256]) -> bool
     false
 }
 
-/// Whether primary weights that share a lead byte after reordering all have compressible leads, or none of them. Takes no memory,
+/// Whether primary weights that share a lead byte after reordering all have compressible leads, or none of them. Doesn't allocate,
 /// and a time that grows with the number of weights.
 pub fn compress_alike(
     primaries: &[u32],
