@@ -93,6 +93,18 @@ two_marks = with_context 97 0xC9 (record {
 abbrev pub prefixed : Tables
 prefixed = with_context 99 0xC8 (record { default = 0x61180505; rows = record { chars = 98 ∷ 97 ∷ []; entry = 0x611E0505 } ∷ [] })
 
+-- "ab" is a letter, and c after it another one
+abbrev pub letter_before_prefix : Tables
+letter_before_prefix = record mini {
+  tailoring = Some (record {
+    value = λ x. if x == 97 then 0xC9 else if x == 99 then 0x20C8 else 0xC0;
+    elements = [];
+    entries = [];
+    contexts = record { default = 0x61100505; rows = record { chars = 98 ∷ []; entry = 0x62100505 } ∷ [] }
+        ∷ record { default = 0x61180505; rows = record { chars = 98 ∷ 97 ∷ []; entry = 0x611E0505 } ∷ [] } ∷ [];
+  });
+}
+
 abbrev pub numeric : Tables → Reading
 numeric tables = record { tables = tables; numeric = Some 0x0F; lithuanian = false }
 

@@ -5,7 +5,7 @@ use Rattle.unicode_normalization.specs.Forms.{nfd}
 use Rattle.icu_entries.specs.Elements.{Element, of_primary, of_secondary}
 use Rattle.icu_elements.specs.TextElements.{Reading, non_numeric_reading, elements_of}
 use Rattle.icu_elements.proofs.Computing.{icu_elements}
-use Rattle.icu_elements.proofs.WorkedTables.{mini, sharp_s, kana, offsets, long_jamo, ring, hinted_ring, two_marks, prefixed, numeric, lithuanian}
+use Rattle.icu_elements.proofs.WorkedTables.{mini, sharp_s, kana, offsets, long_jamo, ring, hinted_ring, two_marks, prefixed, letter_before_prefix, numeric, lithuanian}
 
 abbrev elements_in : Reading → List ℕ → List Element
 elements_in reading text = elements_of reading (nfd text)
@@ -104,6 +104,11 @@ after_prefix_row = refl
 after_other : primaries_in (non_numeric_reading prefixed) (120 ∷ 98 ∷ 99 ∷ []) ≡ 0x616C0000 ∷ 0x61140000 ∷ 0x61180000 ∷ []
 unfolding icu_elements
 after_other = refl
+
+-- c after the letter "ab": the characters of a contraction come before it too
+after_contraction : primaries_in (non_numeric_reading letter_before_prefix) (97 ∷ 98 ∷ 99 ∷ []) ≡ 0x62100000 ∷ 0x611E0000 ∷ []
+unfolding icu_elements
+after_contraction = refl
 
 -- c after "áb"
 after_diacritic : primaries_in (non_numeric_reading prefixed) (0xE1 ∷ 98 ∷ 99 ∷ []) ≡ 0x61100000 ∷ 0x61140000 ∷ 0x61180000 ∷ []

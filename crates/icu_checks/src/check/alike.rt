@@ -56,8 +56,8 @@ fn have_common_mark(one: &[bool; 256], other: &[bool; 256]) -> bool
     false
 }
 
-/// Whether primary weights that share a lead byte after reordering all have compressible leads, or none of them. Doesn't allocate,
-/// and a time that grows with the number of weights.
+/// Whether primary weights that share a lead byte after reordering all have compressible leads, or none of them. It doesn't allocate,
+/// and its time is linear in the number of weights.
 pub fn compress_alike(
     primaries: &[u32],
     special: CollationSpecialPrimaries<'_>,
