@@ -7,10 +7,8 @@ use crate::settings::{
     Strength,
 };
 
-/// The settings that a caller chooses in code. `None` leaves one to the other sources.
-///
-/// All four are merged and can be read back. Of the comparison only the strength is at work today:
-/// alternate handling, the last variable group and the case level change no answer yet.
+/// The settings that a caller chooses in code. `None` leaves one to the other sources. All four are
+/// merged and can be read back.
 #[derive(Debug, Clone, Copy)]
 pub struct CollatorOptions {
     /// How many levels are compared.
