@@ -190,7 +190,10 @@ fn collators_have_their_names(rt: HostRuntime) -> Result<(), Fail> {
     assert_eq!(rt; borrowed.compare("ab", "aB")?, Ordering::Less);
     let mut key = Vec::new(rt.alloc());
     assert_eq!(rt; borrowed.write_sort_key_to("A", &mut key), Ok(()));
-    assert_eq!(rt; key.as_slice(), [0x61, 0x10, 1, 5, 1, 1, 0xDC, 1].as_slice());
+    assert_eq!(rt;
+        key.as_slice(),
+        [0x61, 0x10, 1, 5, 1, 1, 0xDC, 1].as_slice()
+    );
     assert_eq!(rt; borrowed.resolved_options().strength, Strength::Tertiary);
     assert_eq!(rt;
         elements::all_elements(borrowed.tables(), "".chars(), None, false)?.len(),
