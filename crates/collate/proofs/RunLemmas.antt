@@ -3,12 +3,12 @@ use Rattle.std.proofs.Common.{◌≡◌, Option, Some, None, IfSome, refl, inl, 
 use Rattle.std.specs.Io.KnownBytes.{Keeps}
 use Rattle.collate.specs.declared.fault.Fault.{Fault}
 use Rattle.collate.specs.declared.fault.Fault.TheVariants.{WrongWords, NoMemory, TablesRefused, WriteFailed}
-use Rattle.collate.specs.Commands.{Comparing}
+use Rattle.collate.specs.Commands.{Asked}
 use Rattle.collate.specs.Faults.{status_of}
 use Rattle.collate.specs.Refusals.{TablesFail}
 use Rattle.collate.specs.Runs.{Known, Says, PrintsBeginning, Fails}
 
-pub fails_so : (fault : Fault) (command : Option Comparing) (old_output new_output old_faults new_faults : Known)
+pub fails_so : (fault : Fault) (command : Option Asked) (old_output new_output old_faults new_faults : Known)
     → (fault ≡ NoMemory → Keeps old_output new_output)
     → (fault ≡ TablesRefused → TablesFail)
     → (fault ≡ TablesRefused → Keeps old_output new_output)

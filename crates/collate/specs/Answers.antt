@@ -8,10 +8,11 @@ use Rattle.icu_options.specs.declared.settings.AlternateHandling.TheVariants.{No
 use Rattle.icu_options.specs.declared.settings.CollationCaseFirst.TheVariants as case_first
 use Rattle.icu_options.specs.declared.settings.MaxVariable.TheVariants.{Punctuation}
 use Rattle.icu_provider.specs.CollatorTables.{CollatorTables}
-use Rattle.icu_order.specs.TextOrder.{text_order}
+use Rattle.icu_order.specs.TextOrder.{text_order, text_key}
 use Rattle.icu_mini.specs.declared.mini.Mini.{Mini}
 use Rattle.icu_mini.specs.Mini.{IsMini, collator_tables, special_held}
-use Rattle.collate.specs.Commands.{Comparing}
+use Rattle.collate.specs.Commands.{Asked, for_order, for_key, Comparing, ShowingKey}
+use Rattle.collate.specs.KeyText.{key_text}
 
 -- the sign of an order
 abbrev pub sign_of : Ordering → List ℕ
@@ -39,9 +40,18 @@ mini_settings strength = record {
 abbrev pub order_asked : Mini → Comparing → Ordering
 order_asked tables asked = text_order (mini_tables tables) (mini_settings asked.strength) (chars asked.left) (chars asked.right)
 
--- The line is the sign of the order of the two texts by Mini's tables, and a line feed.
-abbrev pub IsAnswer : Comparing → List ℕ → Type 0
-IsAnswer asked line = (tables : Mini) × IsMini tables × (line ≡ sign_of (order_asked tables asked) ++ 10 ∷ [])
+-- the sort key of the text by these tables
+abbrev pub key_asked : Mini → ShowingKey → List ℕ
+key_asked tables asked = text_key (mini_tables tables) (mini_settings asked.strength) (chars asked.text)
+
+-- by these tables: the sign of the order, or the bytes of the key
+abbrev pub answer_by : Mini → Asked → List ℕ
+answer_by tables (for_order c) = sign_of (order_asked tables c)
+answer_by tables (for_key k) = key_text (key_asked tables k)
+
+-- The line is the answer by Mini's tables, and a line feed.
+abbrev pub IsAnswer : Asked → List ℕ → Type 0
+IsAnswer asked line = (tables : Mini) × IsMini tables × (line ≡ answer_by tables asked ++ 10 ∷ [])
 
 -- all tables and settings by which texts are compared by these tables at this strength
 pub record ComparesBy (strength : Strength) (m : Mini) (all : CollatorTables) (merged : Settings) : Type 0 where

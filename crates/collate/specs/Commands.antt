@@ -3,11 +3,21 @@ use Rattle.std.specs.Prelude.{ℕ, List, [], ◌∷◌, Option, Some, None, if�
 use Rattle.icu_options.specs.declared.settings.Strength.{Strength}
 use Rattle.icu_options.specs.declared.settings.Strength.TheVariants.{Primary, Secondary, Tertiary, Quaternary, Identical}
 
--- what is asked for: the order of two texts at a strength
+-- the order of two texts at a strength
 pub record Comparing : Type 0 where
   pub strength : Strength
   pub left : List ℕ
   pub right : List ℕ
+
+-- the sort key of a text at a strength
+pub record ShowingKey : Type 0 where
+  pub strength : Strength
+  pub text : List ℕ
+
+-- what is asked for
+pub data Asked : Type 0 where
+  for_order : Comparing → Asked
+  for_key : ShowingKey → Asked
 
 -- the strength that a word names
 abbrev pub strength_named : List ℕ → Option Strength
@@ -19,10 +29,14 @@ strength_named word =
     else (if bytes_eq word (codes "i") then Some Identical
     else None))))
 
--- `compare STRENGTH A B`; all other words are wrong
-abbrev pub command_of : List (List ℕ) → Option Comparing
+-- `compare STRENGTH A B` and `key STRENGTH TEXT`; all other words are wrong
+abbrev pub command_of : List (List ℕ) → Option Asked
 command_of (name ∷ strength ∷ left ∷ right ∷ []) =
     if bytes_eq name (codes "compare")
-    then option_map (λ s. record { strength = s; left = left; right = right }) (strength_named strength)
+    then option_map (λ s. for_order (record { strength = s; left = left; right = right })) (strength_named strength)
+    else None
+command_of (name ∷ strength ∷ text ∷ []) =
+    if bytes_eq name (codes "key")
+    then option_map (λ s. for_key (record { strength = s; text = text })) (strength_named strength)
     else None
 command_of _ = None

@@ -1,5 +1,6 @@
 pub mod Commands
 pub mod Asked
+pub mod KeyText
 pub mod Answers
 pub mod Faults
 pub mod Refusals

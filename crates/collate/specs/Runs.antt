@@ -4,7 +4,7 @@ use Rattle.std.specs.Prelude.{ℕ, List, Option, ◌⊎◌}
 use Rattle.std.specs.Io.KnownBytes.{Keeps, Appends}
 use Rattle.collate.specs.declared.fault.Fault.{Fault}
 use Rattle.collate.specs.declared.fault.Fault.TheVariants.{NoMemory, TablesRefused, WriteFailed}
-use Rattle.collate.specs.Commands.{Comparing}
+use Rattle.collate.specs.Commands.{Asked}
 use Rattle.collate.specs.Answers.{IsAnswer}
 use Rattle.collate.specs.Faults.{line_of}
 use Rattle.collate.specs.Refusals.{TablesFail}
@@ -19,11 +19,11 @@ abbrev pub Says : Fault → Known → Known → Type 0
 Says fault old new = AppendsBeginning old new (line_of fault)
 
 -- the answer was printed
-abbrev pub PrintsAnswer : Known → Known → Comparing → Type 0
+abbrev pub PrintsAnswer : Known → Known → Asked → Type 0
 PrintsAnswer old new asked = (line : List ℕ) × IsAnswer asked line × Appends old new line
 
 -- a beginning of the answer was printed
-abbrev pub PrintsBeginning : Known → Known → Comparing → Type 0
+abbrev pub PrintsBeginning : Known → Known → Asked → Type 0
 PrintsBeginning old new asked = (line : List ℕ) × IsAnswer asked line × AppendsBeginning old new line
 
 -- the run ran out of memory, and printed nothing
@@ -38,12 +38,12 @@ pub record RefusesTables (old_output new_output old_faults new_faults : Known) :
   pub said : Says TablesRefused old_faults new_faults
 
 -- the run stopped where a write of the answer failed
-pub record FailsToWrite (asked : Comparing) (old_output new_output old_faults new_faults : Known) : Type 0 where
+pub record FailsToWrite (asked : Asked) (old_output new_output old_faults new_faults : Known) : Type 0 where
   pub beginning : PrintsBeginning old_output new_output asked
   pub said : Says WriteFailed old_faults new_faults
 
 -- a run that ends with status 1
-abbrev pub Fails : Comparing → Known → Known → Known → Known → Type 0
+abbrev pub Fails : Asked → Known → Known → Known → Known → Type 0
 Fails asked old_output new_output old_faults new_faults =
     LacksMemory old_output new_output old_faults new_faults
     ⊎ (RefusesTables old_output new_output old_faults new_faults

@@ -36,22 +36,49 @@ fn mini_collator(alloc: Global, strength: Strength) -> Result<Collator, Fault>
 }
 
 /// The sign of an order, and a line feed.
-fn sign_line(order: Ordering) -> &'static str
+fn sign_line(order: Ordering) -> &'static [u8]
     ensures { result.now ≡ sign_of order ++ 10 ∷ [] }
 {
     match order {
-        Ordering::Less => "<\n",
-        Ordering::Equal => "=\n",
-        Ordering::Greater => ">\n",
+        Ordering::Less => b"<\n",
+        Ordering::Equal => b"=\n",
+        Ordering::Greater => b">\n",
+    }
+}
+
+/// The sign of the order of two texts, and a line feed.
+fn compare(alloc: Global, asked: Comparison<'_>) -> Result<Vec<u8>, Fault>
+    ensures refused { IfErr result IsRefusal }
+    ensures answer { IfOk result (λ line. IsAnswer (asked (Command.Compare asked.entry)) line.items) }
+{
+    let collator = mini_collator(alloc, asked.strength)?;
+    let order = collator.as_borrowed().compare(asked.left, asked.right)?;
+    Ok(Vec::from_slice(alloc, sign_line(order))?)
+}
+
+/// The bytes of the sort key of a text.
+fn sort_key(alloc: Global, asked: KeyOf<'_>) -> Result<Vec<u8>, Fault>
+    ensures refused { IfErr result IsRefusal }
+    ensures key { IfOk result (λ key. IsKey asked.entry key.items) }
+{
+    let collator = mini_collator(alloc, asked.strength)?;
+    let mut key = Vec::new(alloc);
+    match collator.as_borrowed().write_sort_key_to(asked.text, &mut key) {
+        Ok(()) => Ok(key),
+        Err(_) => Err(Fault::NoMemory),
     }
 }
 
 /// The line that answers a command.
-pub(crate) fn answer(alloc: Global, command: Command<'_>) -> Result<&'static str, Fault>
+pub(crate) fn answer(alloc: Global, command: Command<'_>) -> Result<Vec<u8>, Fault>
     ensures refused { IfErr result IsRefusal }
-    ensures answer { IfOk result (λ line. IsAnswer (asked command.entry) line.now) }
+    ensures answer { IfOk result (λ line. IsAnswer (asked command.entry) line.items) }
 {
-    let collator = mini_collator(alloc, command.strength)?;
-    let order = collator.as_borrowed().compare(command.left, command.right)?;
-    Ok(sign_line(order))
+    match command {
+        Command::Compare(asked) => compare(alloc, asked),
+        Command::Key(asked) => {
+            let key = sort_key(alloc, asked)?;
+            Ok(key_line(alloc, key.as_slice())?)
+        }
+    }
 }

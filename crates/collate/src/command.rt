@@ -4,12 +4,26 @@ ghost use Rattle.collate.specs.Commands.{command_of, strength_named};
 
 use icu_options::Strength;
 
-/// What the words of a command line ask for: the order of two texts.
+/// The order of two texts at a strength.
 #[derive(Clone, Copy)]
-pub(crate) struct Command<'a> {
+pub(crate) struct Comparison<'a> {
     pub(crate) strength: Strength,
     pub(crate) left: &'a str,
     pub(crate) right: &'a str,
+}
+
+/// The sort key of a text at a strength.
+#[derive(Clone, Copy)]
+pub(crate) struct KeyOf<'a> {
+    pub(crate) strength: Strength,
+    pub(crate) text: &'a str,
+}
+
+/// What the words of a command line ask for.
+#[derive(Clone, Copy)]
+pub(crate) enum Command<'a> {
+    Compare(Comparison<'a>),
+    Key(KeyOf<'a>),
 }
 
 /// The strength that a word names.
@@ -36,11 +50,18 @@ impl<'a> Command<'a> {
         match words {
             [name, strength, left, right] if name.as_str() == "compare" => {
                 let strength = strength_named(strength.as_str())?;
-                Some(Command {
+                Some(Command::Compare(Comparison {
                     strength,
                     left: left.as_str(),
                     right: right.as_str(),
-                })
+                }))
+            }
+            [name, strength, text] if name.as_str() == "key" => {
+                let strength = strength_named(strength.as_str())?;
+                Some(Command::Key(KeyOf {
+                    strength,
+                    text: text.as_str(),
+                }))
             }
             _ => None,
         }

@@ -1,9 +1,10 @@
-//! The program `collate`: compares texts on the command line.
+//! The program `collate`: compares texts on the command line, and shows their sort keys.
 #![tactic(auto)]
 
 mod answer;
 mod command;
 pub mod fault;
+mod key_line;
 pub mod program;
 mod writing;
 

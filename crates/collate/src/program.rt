@@ -67,7 +67,7 @@ fn print_answer<W: Write>(alloc: Global, words: &[String], output: &mut W) -> Re
         return Err(Fault::WrongWords);
     };
     let line = answer(alloc, command)?;
-    match write_text(output, line.as_bytes()) {
+    match write_text(output, line.as_slice()) {
         Ok(()) => Ok(()),
         Err(_) => Err(Fault::WriteFailed),
     }

@@ -6,6 +6,8 @@ mod checked_tables;
 #[cfg(test)]
 mod keys;
 #[cfg(test)]
+mod limited;
+#[cfg(test)]
 mod requests;
 #[cfg(test)]
 mod settings;

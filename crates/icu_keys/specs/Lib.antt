@@ -2,6 +2,7 @@ pub mod Sinks
 pub mod Writes
 pub mod KeyWrites
 pub mod SliceSinks
+pub mod ListSinkLaws
 pub mod Cases
 pub mod QuaternaryWeights
 pub mod WriterRests

@@ -1,4 +1,2 @@
 -- Words of private contracts, proofs and tests only: no public contract names them.
-pub mod ListSinkLaws
 pub mod SliceSinkLaws
-pub mod WorkedCompression

@@ -29,6 +29,3 @@ mod writes;
 pub use error::SortKeyError;
 pub use sink::CollationKeySink;
 pub use slice_sink::TooSmall;
-
-#[cfg(test)]
-mod tests;

@@ -1,7 +1,7 @@
 //! Lists as sinks: a key is appended to what they hold. A refused write changes nothing.
 
 ghost use Rattle.std.specs.Prelude.{◌≡◌, ◌++◌, IsOk};
-ghost use Rattle.icu_keys.specs.inner.ListSinkLaws.{appended_nothing, appended_both, refused_beginning};
+ghost use Rattle.icu_keys.specs.ListSinkLaws.{appended_nothing, appended_both, refused_beginning};
 
 use crate::sink::CollationKeySink;
 use smallvec::SmallVec;

@@ -1,15 +1,12 @@
 //! The parts of a key: a level between the bytes that open and close it, and the end.
 
-ghost use Rattle.std.specs.Prelude.{◌≡◌, ℕ, List, IfOk, IfErr, IsErr};
+ghost use Rattle.std.specs.Prelude.{◌≡◌, ℕ, List, IfErr, IsErr};
 ghost use Rattle.icu_levels.specs.Keys.{part_bytes, opened, closed};
 ghost use Rattle.icu_keys.specs.Writes.{Writes};
 ghost use Rattle.icu_keys.specs.KeyWrites.{KeyWrites, WritesKey};
 
 use crate::error::SortKeyError;
-use crate::held::INLINE;
 use crate::sink::CollationKeySink;
-use smallvec::SmallVec;
-use std::alloc::AllocError;
 
 /// The byte that opens a level, and closes one.
 const LEVEL: u8 = 1;
@@ -42,50 +39,6 @@ pub fn write_closed<S: CollationKeySink>(
 {
     write_opened(sink, state, bytes)?;
     sink.write_byte(state, LEVEL)
-}
-
-/// Writes a held level, opened, as its `finish` returned it.
-pub fn write_opened_level<S: CollationKeySink>(
-    sink: &mut S,
-    state: &mut S::State,
-    level: Result<SmallVec<u8, INLINE>, AllocError>,
-) -> Result<(), SortKeyError<S::Error>>
-    requires { S.is_sound sink.old state.old }
-    ensures sound { S.is_sound sink.new state.new }
-    ensures memory { IfErr result (λ error. error ≡ SortKeyError.NoMemory → IsErr level) }
-    ensures bytes { (wanted : List ℕ) → IfOk level (λ bytes. bytes.items ≡ wanted) →
-        KeyWrites S.took S.refused sink.old state.old (part_bytes (opened wanted))
-        result sink.new state.new }
-{
-    match level {
-        Ok(bytes) => match write_opened(sink, state, bytes.as_slice()) {
-            Ok(()) => Ok(()),
-            Err(error) => Err(SortKeyError::Sink(error)),
-        },
-        Err(_) => Err(SortKeyError::NoMemory),
-    }
-}
-
-/// Writes a held level, opened and closed, as its `finish` returned it.
-pub fn write_closed_level<S: CollationKeySink>(
-    sink: &mut S,
-    state: &mut S::State,
-    level: Result<SmallVec<u8, INLINE>, AllocError>,
-) -> Result<(), SortKeyError<S::Error>>
-    requires { S.is_sound sink.old state.old }
-    ensures sound { S.is_sound sink.new state.new }
-    ensures memory { IfErr result (λ error. error ≡ SortKeyError.NoMemory → IsErr level) }
-    ensures bytes { (wanted : List ℕ) → IfOk level (λ bytes. bytes.items ≡ wanted) →
-        KeyWrites S.took S.refused sink.old state.old (part_bytes (closed wanted))
-        result sink.new state.new }
-{
-    match level {
-        Ok(bytes) => match write_closed(sink, state, bytes.as_slice()) {
-            Ok(()) => Ok(()),
-            Err(error) => Err(SortKeyError::Sink(error)),
-        },
-        Err(_) => Err(SortKeyError::NoMemory),
-    }
 }
 
 /// Ends a key, as the call that wrote it returned.

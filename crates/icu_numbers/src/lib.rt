@@ -63,6 +63,3 @@ pub fn digit_run_weights(alloc: Global, lead: u8, digits: &[u8]) -> Result<Vec<u
     }
     Ok(weights)
 }
-
-#[cfg(test)]
-mod tests;

@@ -10,6 +10,8 @@ mod options;
 #[cfg(test)]
 mod requests;
 #[cfg(test)]
+mod sinks;
+#[cfg(test)]
 mod tables;
 #[cfg(test)]
 mod walks;

@@ -1,4 +1,3 @@
 pub mod PartLemmas
 pub mod SourceLemmas
-mod GivenLemmas
 pub mod CaseLemmas

@@ -2,5 +2,4 @@ pub mod Compressions
 pub mod LevelRests
 pub mod KeyRests
 pub mod HandledSources
-pub mod inner
 pub mod TextCases

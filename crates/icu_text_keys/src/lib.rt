@@ -22,6 +22,3 @@ pub use form::key_form;
 pub use handled::{Handled, HandledSource};
 pub use whole_key::write_key;
 pub use writer::KeyWriter;
-
-#[cfg(test)]
-mod tests;

@@ -1,4 +1,4 @@
--- The laws of the sinks that append.
+-- The laws of sinks that append, for a sink whose `took` says so.
 use Rattle.std.proofs.Common.{◌≡◌, ℕ, List, [], ◌++◌, refl, sym, ap, ◌∙◌, append_assoc}
 use Rattle.std.proofs.lemmas.List.{append-nil}
 use Rattle.icu_keys.specs.Sinks.{TakesBeginning}

@@ -1,2 +1,0 @@
--- Words of private contracts, proofs and tests only: no public contract names them.
-pub mod GivenElements
