@@ -1,1 +1,5 @@
 pub mod OrderLaws
+pub mod NumberTexts
+pub mod NumberTextLaws
+pub mod IdenticalLaws
+pub mod RunLengthLaws
