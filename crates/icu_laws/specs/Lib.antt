@@ -3,3 +3,4 @@ pub mod NumberTexts
 pub mod NumberTextLaws
 pub mod IdenticalLaws
 pub mod RunLengthLaws
+pub mod KeyBytesLaws

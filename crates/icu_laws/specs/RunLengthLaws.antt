@@ -13,6 +13,7 @@ CommonWeightsAddFew level common count =
     (n : ℕ) (before after : List ℕ)
     → length (level (before ++ (replicate n common ++ after))) ≤ length (level (before ++ after)) + (1 + n / count)
 
+-- forward, or backward in one segment
 abbrev pub CommonSecondariesAddFew : Type 0
 CommonSecondariesAddFew = CommonWeightsAddFew secondary_level SECONDARY_RUNS.common 33
 

@@ -1,11 +1,16 @@
-//! Laws of the order of texts and of their sort keys, over the definitions of `icu_order`. Each is the contract of a function
-//! that takes no value and makes no call.
+//! Laws of the order of texts and of their sort keys, over the definitions of `icu_order` and of the levels and sinks beneath
+//! it. Each is the contract of a function that takes no value and makes no call.
 #![tactic(auto)]
 
 ghost use Rattle.icu_laws.specs.IdenticalLaws.{IdenticalKeysDetermineTexts, IdenticalLevelsDetermineTexts, IdenticalLevelsKeepOrder, IdenticalOrderDeterminesTexts};
+ghost use Rattle.icu_laws.specs.KeyBytesLaws.{HoldsKeyAfter, HoldsKeyInFront};
 ghost use Rattle.icu_laws.specs.NumberTextLaws.{DifferentNumbersOrderByValue, DigitTextsAreNumbers, NumberTextsOrderByValue};
 ghost use Rattle.icu_laws.specs.OrderLaws.{EquivalentTextsAreEqual, EquivalentTextsHaveOneKey, StrengthKeepsOrder, TextsAreOrdered};
 ghost use Rattle.icu_laws.specs.RunLengthLaws.{CommonQuaternariesAddFew, CommonSecondariesAddFew, CommonTertiariesAddFew};
+
+use icu_keys::CollationKeySink;
+use smallvec::SmallVec;
+use std::collections::VecDeque;
 
 /// The order of texts is a total order with ties, for all tables that meet the conditions and all settings: each text is
 /// equal to itself, swapped texts turn the order round, and what comes before one text comes before all texts after it.
@@ -57,4 +62,17 @@ pub fn common_weights_add_few_bytes()
     ensures secondary { CommonSecondariesAddFew }
     ensures tertiary { CommonTertiariesAddFew }
     ensures quaternary { CommonQuaternariesAddFew }
+{}
+
+/// One key has the same bytes in every sink of `icu_keys`: where a call that writes a key (`WritesKey`) returned `Ok`, a list
+/// holds what it held and then the key, and a slice the key at its front. So two such calls for one text gave the same bytes.
+pub fn sinks_hold_one_key<const N: usize>()
+    ensures vector { HoldsKeyAfter ⟦<Vec<u8> as CollationKeySink>⟧.took ⟦<Vec<u8> as CollationKeySink>⟧.refused
+        ⟦<Vec<u8> as CollationKeySink>⟧.finished ⟦<() as Default>⟧.is_default (λ v. v.items) }
+    ensures inline { HoldsKeyAfter ⟦<SmallVec<u8, N> as CollationKeySink>⟧.took ⟦<SmallVec<u8, N> as CollationKeySink>⟧.refused
+        ⟦<SmallVec<u8, N> as CollationKeySink>⟧.finished ⟦<() as Default>⟧.is_default (λ v. v.items) }
+    ensures deque { HoldsKeyAfter ⟦<VecDeque<u8> as CollationKeySink>⟧.took ⟦<VecDeque<u8> as CollationKeySink>⟧.refused
+        ⟦<VecDeque<u8> as CollationKeySink>⟧.finished ⟦<() as Default>⟧.is_default (λ v. v.items) }
+    ensures slice { HoldsKeyInFront ⟦<&'static mut [u8] as CollationKeySink>⟧.took ⟦<&'static mut [u8] as CollationKeySink>⟧.refused
+        ⟦<&'static mut [u8] as CollationKeySink>⟧.finished ⟦<usize as Default>⟧.is_default (λ s. s.now) }
 {}
