@@ -98,8 +98,8 @@ module _ (r : RunBytes) (some : 0 < r.count) (add : CountsAdd r.count) where
             rw (level_other r spell m u (us ++ (replicate n r.common ++ ws)) e, level_other r spell m u (us ++ ws) e)
             (same_front (run_before r m u) _ _ _ (same_front (spell u) (level 0 (us ++ (replicate n r.common ++ ws))) (level 0 (us ++ ws)) (1 + n / r.count) other))
 
-    pub common_weights : CommonWeightsAddFew (level 0) r.common r.count
-    common_weights n before after = add_few n 0 before after
+    pub commons_add : CommonWeightsAddFew (level 0) r.common r.count
+    commons_add n before after = add_few n 0 before after
 
 -- ---- quaternaries
 
@@ -123,12 +123,12 @@ few_unless false xs ys k h = h
 add_hundreds : CountsAdd 113
 add_hundreds n k = omega arith
 
-pub common_quaternaries : (form : QuaternaryForm) → CommonWeightsAddFew (quaternary_level form) QUATERNARY_RUNS.common 113
-common_quaternaries MayShift = common_weights QUATERNARY_RUNS (omega arith) add_hundreds quaternary_bytes
-common_quaternaries Unshifted = λ n before after.
+pub quaternaries_add : (form : QuaternaryForm) → CommonWeightsAddFew (quaternary_level form) QUATERNARY_RUNS.common 113
+quaternaries_add MayShift = commons_add QUATERNARY_RUNS (omega arith) add_hundreds quaternary_bytes
+quaternaries_add Unshifted = λ n before after.
     rw (only_without (2 ^ 32) n before after)
     (few_unless (is_only (2 ^ 32) (before ++ after)) (quaternary_runs (before ++ (replicate n (2 ^ 32) ++ after))) (quaternary_runs (before ++ after))
-    (1 + n / 113) (common_weights QUATERNARY_RUNS (omega arith) add_hundreds quaternary_bytes n before after))
+    (1 + n / 113) (commons_add QUATERNARY_RUNS (omega arith) add_hundreds quaternary_bytes n before after))
 
 pub add_thirties : CountsAdd 33
 add_thirties n k = omega arith

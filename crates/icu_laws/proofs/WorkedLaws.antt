@@ -86,17 +86,17 @@ longer = refl
 
 -- ---- runs of common weights
 
-thousand_secondaries : length (secondary_level (replicate 1000 0x500)) ≡ 1 + 1000 / 33
-thousand_secondaries = refl
+many_secondaries : length (secondary_level (replicate 200 0x500)) ≡ 1 + 200 / 33
+many_secondaries = refl
 
-thousand_tertiaries : length (tertiary_level WithoutCase (replicate 1000 0x500)) ≡ 1 + 1000 / 97
-thousand_tertiaries = refl
+many_tertiaries : length (tertiary_level WithoutCase (replicate 200 0x500)) ≡ 1 + 200 / 97
+many_tertiaries = refl
 
-thousand_quaternaries : length (quaternary_level MayShift (replicate 1000 (2 ^ 32))) ≡ 1 + 1000 / 113
-thousand_quaternaries = refl
+many_quaternaries : length (quaternary_level MayShift (replicate 200 (2 ^ 32))) ≡ 1 + 200 / 113
+many_quaternaries = refl
 
 -- no bytes for common quaternaries alone, where none may be shifted
-no_bytes : quaternary_level Unshifted (replicate 1000 (2 ^ 32)) ≡ []
+no_bytes : quaternary_level Unshifted (replicate 200 (2 ^ 32)) ≡ []
 no_bytes = refl
 
 -- one more between others: a run of 33 in one byte, and of 34 in two
