@@ -20,38 +20,54 @@ use Rattle.icu_provider.specs.CollatorTables.{CollatorTables}
 use Rattle.icu_order.specs.Forms.{compression_of, form_by, is_identical}
 use Rattle.icu_order.specs.TextOrder.{lists_by, text_order, text_key}
 
--- ---- a text ties with itself
+-- ---- a text ties with itself, whatever its characters where they don't count
 
-module _ (t : LevelLists) where
-  own_secondaries : (f : Option SecondaryForm) → secondaries_order f t t ≡ Equal
+module _ (t : LevelLists) (cs : List ℕ) where
+  abbrev u : LevelLists
+  u = record t { characters = cs }
+
+  own_secondaries : (f : Option SecondaryForm) → secondaries_order f t u ≡ Equal
   own_secondaries None = refl
   own_secondaries (Some Forward) = same_lists_order t.secondaries t.secondaries refl
   own_secondaries (Some Backward) = same_segments_order t.segments t.segments refl
 
-  own_cases : (f : Option CaseForm) → cases_order f t t ≡ Equal
+  own_cases : (f : Option CaseForm) → cases_order f t u ≡ Equal
   own_cases None = refl
   own_cases (Some form) = same_lists_order t.cases t.cases refl
 
-  own_tertiaries : (f : Option TertiaryForm) → tertiaries_order f t t ≡ Equal
+  own_tertiaries : (f : Option TertiaryForm) → tertiaries_order f t u ≡ Equal
   own_tertiaries None = refl
   own_tertiaries (Some form) = same_lists_order t.tertiaries t.tertiaries refl
 
-  own_quaternaries : (f : Option QuaternaryForm) → quaternaries_order f t t ≡ Equal
+  own_quaternaries : (f : Option QuaternaryForm) → quaternaries_order f t u ≡ Equal
   own_quaternaries None = refl
   own_quaternaries (Some form) = same_lists_order t.quaternaries t.quaternaries refl
-
-  own_characters : (f : Bool) → characters_order f t t ≡ Equal
-  own_characters false = refl
-  own_characters true = same_lists_order (map identical_rank t.characters) (map identical_rank t.characters) refl
 
 all_tie : (a b c d e f : Ordering) → a ≡ Equal → b ≡ Equal → c ≡ Equal → d ≡ Equal → e ≡ Equal → f ≡ Equal
     → in_turn (a ∷ b ∷ c ∷ d ∷ e ∷ f ∷ []) ≡ Equal
 all_tie a b c d e f g h i j k l = rw (g, h, i, j, k, l) refl
 
+tie_with : (c : Compression) (f : KeyForm) (t : LevelLists) (cs : List ℕ) → characters_order f.identical t (record t { characters = cs }) ≡ Equal
+    → levels_order c f t (record t { characters = cs }) ≡ Equal
+tie_with c f t cs e =
+    all_tie _ _ _ _ _ _ (same_lists_order (map c.reorder t.primaries) (map c.reorder t.primaries) refl) (own_secondaries t cs f.secondary)
+    (own_cases t cs f.cases) (own_tertiaries t cs f.tertiary) (own_quaternaries t cs f.quaternary) e
+
+own_characters : (t : LevelLists) (f : Bool) → characters_order f t t ≡ Equal
+own_characters t false = refl
+own_characters t true = same_lists_order (map identical_rank t.characters) (map identical_rank t.characters) refl
+
 own_levels : (c : Compression) (f : KeyForm) (t : LevelLists) → levels_order c f t t ≡ Equal
-own_levels c f t =
-    all_tie _ _ _ _ _ _ (same_lists_order (map c.reorder t.primaries) (map c.reorder t.primaries) refl) (own_secondaries t f.secondary)
-    (own_cases t f.cases) (own_tertiaries t f.tertiary) (own_quaternaries t f.quaternary) (own_characters t f.identical)
+own_levels c f t = tie_with c f t t.characters (own_characters t f.identical)
+
+uncounted : (f : Bool) (t u : LevelLists) → f ≡ false → characters_order f t u ≡ Equal
+uncounted false t u e = refl
+uncounted true t u e = cc
+
+-- where the characters don't count, texts with all other lists the same tie
+pub uncounted_tie : (c : Compression) (f : KeyForm) (t : LevelLists) (cs : List ℕ) → f.identical ≡ false
+    → levels_order c f t (record t { characters = cs }) ≡ Equal
+uncounted_tie c f t cs e = tie_with c f t cs (uncounted f.identical t (record t { characters = cs }) e)
 
 -- the last level of two texts that tie
 last_level : (c : Compression) (f : KeyForm) (t u : LevelLists) → levels_order c f t u ≡ Equal → characters_order f.identical t u ≡ Equal

@@ -1,3 +1,8 @@
 pub mod OrderLemmas
 pub mod EquivalentLemmas
 pub mod StrengthLemmas
+pub mod IdenticalLemmas
+pub mod DigitTextLemmas
+pub mod NumberTextLemmas
+pub mod RunLengthLemmas
+mod WorkedLaws

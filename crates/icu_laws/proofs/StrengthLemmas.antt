@@ -25,7 +25,7 @@ use Rattle.icu_laws.specs.OrderLaws.{strength_rank, with_strength}
 -- ---- orders one after another
 
 -- what stands after an order that isn't Equal changes nothing
-stays : (o x : Ordering) → o ≢ Equal → ordering_then o x ≡ o
+pub stays : (o x : Ordering) → o ≢ Equal → ordering_then o x ≡ o
 stays Less x n = refl
 stays Equal x n = absurd (n refl)
 stays Greater x n = refl

@@ -40,12 +40,6 @@ abbrev pub EquivalentTextsHaveOneKey : Type 0
 EquivalentTextsHaveOneKey =
     (all : CollatorTables) (settings : Settings) (t u : List ℕ) → AreEquivalent t u → text_key all settings t ≡ text_key all settings u
 
--- at the identical level no others are equal
-abbrev pub IdenticalTextsAreEquivalent : Type 0
-IdenticalTextsAreEquivalent =
-    (all : CollatorTables) (settings : Settings) (t u : List ℕ) → settings.strength ≡ Identical
-    → text_order all settings t u ≡ Equal → AreEquivalent t u
-
 -- ---- strengths
 
 abbrev pub strength_rank : Strength → ℕ

@@ -1,8 +1,16 @@
-//! Laws of the order of texts and of their sort keys, over the definitions of `icu_order`. Each is the contract of a function
-//! that takes no value and makes no call.
+//! Laws of the order of texts and of their sort keys, over the definitions of `icu_order` and of the levels and sinks beneath
+//! it. Each is the contract of a function that takes no value and makes no call.
 #![tactic(auto)]
 
-ghost use Rattle.icu_laws.specs.OrderLaws.{EquivalentTextsAreEqual, EquivalentTextsHaveOneKey, IdenticalTextsAreEquivalent, StrengthKeepsOrder, TextsAreOrdered};
+ghost use Rattle.icu_laws.specs.IdenticalLaws.{IdenticalKeysDetermineTexts, IdenticalLevelsDetermineTexts, IdenticalLevelsKeepOrder, IdenticalOrderDeterminesTexts};
+ghost use Rattle.icu_laws.specs.KeyBytesLaws.{HoldsKeyAfter, HoldsKeyInFront};
+ghost use Rattle.icu_laws.specs.NumberTextLaws.{DifferentNumbersOrderByValue, DigitTextsAreNumbers, NumberTextsOrderByValue};
+ghost use Rattle.icu_laws.specs.OrderLaws.{EquivalentTextsAreEqual, EquivalentTextsHaveOneKey, StrengthKeepsOrder, TextsAreOrdered};
+ghost use Rattle.icu_laws.specs.RunLengthLaws.{CommonQuaternariesAddFew, CommonSecondariesAddFew, CommonTertiariesAddFew};
+
+use icu_keys::CollationKeySink;
+use smallvec::SmallVec;
+use std::collections::VecDeque;
 
 /// The order of texts is a total order with ties, for all tables that meet the conditions and all settings: each text is
 /// equal to itself, swapped texts turn the order round, and what comes before one text comes before all texts after it.
@@ -10,16 +18,61 @@ pub fn texts_are_ordered()
     ensures { TextsAreOrdered }
 {}
 
-/// Canonically equivalent texts (UAX #15) are one to the order and to the key, whatever the tables and the settings; at the
-/// identical level they alone are.
+/// Canonically equivalent texts (UAX #15) are one to the order and to the key, whatever the tables and the settings.
 pub fn equivalent_texts_are_equal()
     ensures order { EquivalentTextsAreEqual }
     ensures key { EquivalentTextsHaveOneKey }
-    ensures identical { IdenticalTextsAreEquivalent }
+{}
+
+/// The identical level determines the decomposed text (UTS #10, section 7.3 "Form Sort Keys" on the identical level; UAX #15):
+/// at the strength Identical, texts are equal or have one key exactly if they are canonically equivalent.
+pub fn identical_level_determines_texts()
+    // The bytes of the level order as the decomposed texts do, U+FFFE lowest.
+    ensures bytes { IdenticalLevelsKeepOrder }
+
+    // The same bytes mean the same decomposed text.
+    ensures same { IdenticalLevelsDetermineTexts }
+    ensures order { IdenticalOrderDeterminesTexts }
+    ensures key { IdenticalKeysDetermineTexts }
 {}
 
 /// Without a case level and with all else the same, texts that differ at a strength keep their order at each higher one
 /// (UTS #35 part 5, section 3.3 on strength).
 pub fn strength_keeps_order()
     ensures { StrengthKeepsOrder }
+{}
+
+/// Numbers order by value (UTS #35 part 5, "Setting Options" on numeric), by tables that meet the conditions, with at most 254
+/// digits after the first zeros of each.
+pub fn number_texts_order_by_value()
+    // A text of digits alone is read as one number.
+    ensures digits { DigitTextsAreNumbers }
+
+    // Two texts, each read as one number, are ordered by the values, at each strength below Identical.
+    ensures value { NumberTextsOrderByValue }
+
+    // Where the values differ, so they are at each strength.
+    ensures different { DifferentNumbersOrderByValue }
+{}
+
+/// However many common weights stand together, keys stay short (UTS #10, "Run-length Compression"): n of them, whatever stands
+/// before and after, add at most 1 + n / 33 bytes to the secondary level, 1 + n / 97 to the tertiary level without case bits,
+/// and 1 + n / 113 to the quaternary level.
+pub fn common_weights_add_few_bytes()
+    ensures secondary { CommonSecondariesAddFew }
+    ensures tertiary { CommonTertiariesAddFew }
+    ensures quaternary { CommonQuaternariesAddFew }
+{}
+
+/// One key has the same bytes in every sink of `icu_keys`: where a call that writes a key (`WritesKey`) returned `Ok`, a list
+/// holds what it held and then the key, and a slice the key at its front. So two such calls for one text gave the same bytes.
+pub fn sinks_hold_one_key<const N: usize>()
+    ensures vector { HoldsKeyAfter ⟦<Vec<u8> as CollationKeySink>⟧.took ⟦<Vec<u8> as CollationKeySink>⟧.refused
+        ⟦<Vec<u8> as CollationKeySink>⟧.finished ⟦<() as Default>⟧.is_default (λ v. v.items) }
+    ensures inline { HoldsKeyAfter ⟦<SmallVec<u8, N> as CollationKeySink>⟧.took ⟦<SmallVec<u8, N> as CollationKeySink>⟧.refused
+        ⟦<SmallVec<u8, N> as CollationKeySink>⟧.finished ⟦<() as Default>⟧.is_default (λ v. v.items) }
+    ensures deque { HoldsKeyAfter ⟦<VecDeque<u8> as CollationKeySink>⟧.took ⟦<VecDeque<u8> as CollationKeySink>⟧.refused
+        ⟦<VecDeque<u8> as CollationKeySink>⟧.finished ⟦<() as Default>⟧.is_default (λ v. v.items) }
+    ensures slice { HoldsKeyInFront ⟦<&'static mut [u8] as CollationKeySink>⟧.took ⟦<&'static mut [u8] as CollationKeySink>⟧.refused
+        ⟦<&'static mut [u8] as CollationKeySink>⟧.finished ⟦<usize as Default>⟧.is_default (λ s. s.now) }
 {}

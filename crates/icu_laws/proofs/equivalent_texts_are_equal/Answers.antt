@@ -1,4 +1,4 @@
-use Rattle.icu_laws.proofs.EquivalentLemmas.{equivalent_tie, equivalent_key, identical_equivalent}
+use Rattle.icu_laws.proofs.EquivalentLemmas.{equivalent_tie, equivalent_key}
 use Rattle.icu_laws.proofs.equivalent_texts_are_equal.Goals as goal
 
 pub returns-clause-order : goal.returns-clause-order
@@ -6,6 +6,3 @@ returns-clause-order c = λ all settings t u e. equivalent_tie all settings t u 
 
 pub returns-clause-key : goal.returns-clause-key
 returns-clause-key c = λ all settings t u e. equivalent_key all settings t u e
-
-pub returns-clause-identical : goal.returns-clause-identical
-returns-clause-identical c = λ all settings t u is e. identical_equivalent all settings t u is e

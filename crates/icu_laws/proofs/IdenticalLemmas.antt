@@ -1,0 +1,46 @@
+-- The identical level determines the decomposed text.
+use Rattle.std.proofs.Common.{◌≡◌, ◌<◌, ◌↔◌, ℕ, List, map, Equal, ap}
+use Rattle.std.specs.List.{AllByRecursion}
+use Rattle.unicode_normalization.specs.Forms.{nfd}
+use Rattle.icu_options.specs.Settings.{Settings}
+use Rattle.icu_options.specs.declared.settings.Strength.TheVariants.{Identical}
+use Rattle.icu_levels.specs.Identical.{identical_level, identical_rank}
+use Rattle.icu_levels.specs.Keys.{Determines}
+use Rattle.icu_levels.proofs.IdenticalOrder.{identical_order, same_from_ranks}
+use Rattle.icu_levels.proofs.KeepLemmas.{tie}
+use Rattle.icu_levels.proofs.Order.{tied_lists}
+use Rattle.icu_data.proofs.CharLemmas.{scalar_below}
+use Rattle.icu_data.proofs.ListLemmas.{weaker}
+use Rattle.icu_provider.specs.CollatorTables.{CollatorTables}
+use Rattle.icu_checks.specs.GoodTables.{IsGoodTables}
+use Rattle.icu_elements.specs.TextLaws.{IsText}
+use Rattle.icu_elements.specs.TextParts.{IsDecomposed}
+use Rattle.icu_elements.proofs.DecomposedLemmas.{IsDecomposedText-nfd}
+use Rattle.icu_order.specs.TextOrder.{text_order, text_key}
+use Rattle.icu_order.proofs.TextOrders.{equal_keys}
+use Rattle.icu_laws.specs.IdenticalLaws.{decomposed_order}
+use Rattle.icu_laws.specs.OrderLaws.{AreEquivalent}
+use Rattle.icu_laws.proofs.EquivalentLemmas.{equivalent_tie, identical_equivalent}
+
+in_range : (t : List ℕ) → IsText t → AllByRecursion (λ c. c < 0x110000) (nfd t)
+in_range t text = weaker IsDecomposed (λ c. c < 0x110000) (λ c d. scalar_below c d.scalar) (nfd t) (IsDecomposedText-nfd t text)
+
+module _ (t u : List ℕ) (p : IsText t) (q : IsText u) where
+  pub levels_order_texts : Determines (identical_level (nfd t)) (identical_level (nfd u)) (decomposed_order t u)
+  levels_order_texts = λ s r a b. identical_order (nfd t) (nfd u) s r (in_range t p) (in_range u q) a b
+
+  pub levels_determine_texts : (identical_level (nfd t) ≡ identical_level (nfd u)) ↔ AreEquivalent t u
+  levels_determine_texts = (
+    λ same. same_from_ranks (nfd t) (nfd u)
+        (tied_lists (map identical_rank (nfd t)) (map identical_rank (nfd u))
+        (tie (identical_level (nfd t)) (identical_level (nfd u)) (decomposed_order t u) levels_order_texts same)),
+    λ same. ap identical_level same,
+  )
+
+module _ (all : CollatorTables) (settings : Settings) (is : settings.strength ≡ Identical) (t u : List ℕ) where
+  pub identical_texts : (text_order all settings t u ≡ Equal) ↔ AreEquivalent t u
+  identical_texts = (λ e. identical_equivalent all settings t u is e, λ e. equivalent_tie all settings t u e)
+
+  pub identical_keys : IsGoodTables all → IsText t → IsText u → (text_key all settings t ≡ text_key all settings u) ↔ AreEquivalent t u
+  identical_keys good p q =
+      let keys = equal_keys all good settings t u p q in (λ e. identical_texts.0 (keys.1 e), λ e. keys.0 (identical_texts.1 e))

@@ -1,0 +1,14 @@
+use Rattle.icu_laws.proofs.IdenticalLemmas.{levels_order_texts, levels_determine_texts, identical_texts, identical_keys}
+use Rattle.icu_laws.proofs.identical_level_determines_texts.Goals as goal
+
+pub returns-clause-bytes : goal.returns-clause-bytes
+returns-clause-bytes c = λ t u p q. levels_order_texts t u p q
+
+pub returns-clause-same : goal.returns-clause-same
+returns-clause-same c = λ t u p q. levels_determine_texts t u p q
+
+pub returns-clause-order : goal.returns-clause-order
+returns-clause-order c = λ all settings is t u. identical_texts all settings is t u
+
+pub returns-clause-key : goal.returns-clause-key
+returns-clause-key c = λ all settings good is t u p q. identical_keys all settings is t u good p q

@@ -1,0 +1,41 @@
+-- The laws of the identical level, as contracts name them.
+use Rattle.std.specs.Prelude.{ℕ, ◌≡◌, ◌↔◌, List, map}
+use Rattle.std.specs.declared.cmp.Ordering.{Ordering}
+use Rattle.std.specs.declared.cmp.Ordering.TheVariants.{Equal}
+use Rattle.unicode_normalization.specs.Forms.{nfd}
+use Rattle.icu_options.specs.Settings.{Settings}
+use Rattle.icu_options.specs.declared.settings.Strength.TheVariants.{Identical}
+use Rattle.icu_levels.specs.Identical.{identical_level, identical_rank}
+use Rattle.icu_levels.specs.Keys.{Determines}
+use Rattle.icu_levels.specs.ListOrder.{list_order}
+use Rattle.icu_provider.specs.CollatorTables.{CollatorTables}
+use Rattle.icu_checks.specs.GoodTables.{IsGoodTables}
+use Rattle.icu_elements.specs.TextLaws.{IsText}
+use Rattle.icu_order.specs.TextOrder.{text_order, text_key}
+use Rattle.icu_laws.specs.OrderLaws.{AreEquivalent}
+
+-- the dictionary order of two decomposed texts, U+FFFE lowest
+abbrev pub decomposed_order : List ℕ → List ℕ → Ordering
+decomposed_order t u = list_order (map identical_rank (nfd t)) (map identical_rank (nfd u))
+
+-- the bytes that the identical level has for two texts order as the decomposed texts do, whatever follows them in a key
+abbrev pub IdenticalLevelsKeepOrder : Type 0
+IdenticalLevelsKeepOrder =
+    (t u : List ℕ) → IsText t → IsText u → Determines (identical_level (nfd t)) (identical_level (nfd u)) (decomposed_order t u)
+
+-- they are the same bytes exactly for texts with one canonical decomposition
+abbrev pub IdenticalLevelsDetermineTexts : Type 0
+IdenticalLevelsDetermineTexts =
+    (t u : List ℕ) → IsText t → IsText u → (identical_level (nfd t) ≡ identical_level (nfd u)) ↔ AreEquivalent t u
+
+-- at the strength Identical those texts alone are equal
+abbrev pub IdenticalOrderDeterminesTexts : Type 0
+IdenticalOrderDeterminesTexts =
+    (all : CollatorTables) (settings : Settings) → settings.strength ≡ Identical
+    → (t u : List ℕ) → (text_order all settings t u ≡ Equal) ↔ AreEquivalent t u
+
+-- and they alone have one key
+abbrev pub IdenticalKeysDetermineTexts : Type 0
+IdenticalKeysDetermineTexts =
+    (all : CollatorTables) (settings : Settings) → IsGoodTables all → settings.strength ≡ Identical
+    → (t u : List ℕ) → IsText t → IsText u → (text_key all settings t ≡ text_key all settings u) ↔ AreEquivalent t u
