@@ -1,0 +1,1 @@
+//! Texts in each encoding, from both ends.

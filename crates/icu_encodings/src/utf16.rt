@@ -1,0 +1,117 @@
+//! UTF-16: pairs of surrogates are joined, and other surrogates are U+FFFD.
+
+ghost use Rattle.std.specs.Prelude.{◌≡◌, ◌&&◌, ℕ, List, ⊤, if◌then◌else◌, unwrap_or, Some, None};
+ghost use Rattle.std.specs.List.{AllByRecursion};
+ghost use Rattle.std.specs.Char.{IsScalar};
+ghost use Rattle.std.specs.Char.Utf16.{is_high_surrogate, is_low_surrogate, surrogate_pair_char, lone_unit_char};
+ghost use Rattle.std.specs.Iterator.{YieldsFirst, YieldsLast, item_count};
+ghost use Rattle.icu_encodings.specs.DecodedTexts.{utf16_text, SpellsText};
+
+use std::alloc::AllocError;
+use std::fmt;
+use std::iter::FusedIterator;
+use std::marker::Model;
+
+/// The character of a lead surrogate and the trail surrogate after it, and `None` of any other two units.
+fn pair_char(lead: u16, trail: u16) -> Option<char>
+    ensures { result ≡ (if is_high_surrogate lead && is_low_surrogate trail then Some (surrogate_pair_char lead trail) else None) }
+{
+    if lead < 0xD800 || lead > 0xDBFF || trail < 0xDC00 || trail > 0xDFFF {
+        return None;
+    }
+    char::from_u32(0x1_0000 + (u32::from(lead) - 0xD800) * 0x400 + (u32::from(trail) - 0xDC00))
+}
+
+/// The character of a unit that is in no pair: U+FFFD of a surrogate.
+fn lone_char(unit: u16) -> char
+    ensures { result ≡ unwrap_or (lone_unit_char unit) 0xFFFD }
+{
+    char::from_u32(u32::from(unit)).unwrap_or(char::REPLACEMENT_CHARACTER)
+}
+
+/// The characters of UTF-16, from both ends. A contract sees it as the list of the characters that are left.
+#[derive(Drop)]
+pub struct Utf16Chars<'a> {
+    units: &'a [u16],
+}
+
+impl<'a> Model for Utf16Chars<'a> {
+    ghost Value = { List ℕ };
+
+    ghost view = { λ it. utf16_text it.units.now };
+}
+
+impl<'a> Utf16Chars<'a> {
+    /// The characters of units of UTF-16: a lead surrogate and the trail surrogate directly after it are one character,
+    /// and each other surrogate is U+FFFD (Unicode Standard, sections 3.9 and 5.22).
+    pub fn new(units: &'a [u16]) -> Self
+        ensures text { result ≡ utf16_text units.now }
+        ensures spells { SpellsText result (utf16_text units.now) }
+        ensures scalars { AllByRecursion IsScalar (utf16_text units.now) }
+    {
+        Utf16Chars { units }
+    }
+
+    /// The units whose characters are left.
+    pub fn as_units(&self) -> &'a [u16]
+        ensures { utf16_text result.now ≡ self.now }
+    {
+        self.units
+    }
+}
+
+impl<'a> Clone for Utf16Chars<'a> {
+    ghost is_clone = { λ it copy. copy ≡ it };
+
+    ghost is_infallible = { λ _. ⊤ };
+
+    fn clone(&self) -> Result<Self, AllocError> {
+        Ok(Utf16Chars { units: self.units })
+    }
+}
+
+impl<'a> fmt::Debug for Utf16Chars<'a> {
+    fn fmt<W: fmt::Write>(&self, f: &mut fmt::Formatter<W>) -> fmt::Result {
+        f.debug_struct("Utf16Chars")
+            .field("units", &self.units)
+            .finish()
+    }
+}
+
+impl<'a> Iterator for Utf16Chars<'a> {
+    type Item = char;
+
+    ghost next_gives = { YieldsFirst (λ left. left) };
+
+    ghost remaining = { item_count (λ left. left) };
+
+    fn next(&mut self) -> Option<char> {
+        let (first, others) = self.units.split_first()?;
+        if let Some((second, rest)) = others.split_first() {
+            if let Some(character) = pair_char(*first, *second) {
+                self.units = rest;
+                return Some(character);
+            }
+        }
+        self.units = others;
+        Some(lone_char(*first))
+    }
+}
+
+impl<'a> DoubleEndedIterator for Utf16Chars<'a> {
+    ghost next_back_gives = { YieldsLast (λ left. left) };
+
+    fn next_back(&mut self) -> Option<char> {
+        let (last, others) = self.units.split_last()?;
+        if let Some((before, rest)) = others.split_last() {
+            if let Some(character) = pair_char(*before, *last) {
+                self.units = rest;
+                return Some(character);
+            }
+        }
+        self.units = others;
+        Some(lone_char(*last))
+    }
+}
+
+impl<'a> FusedIterator for Utf16Chars<'a> {}
