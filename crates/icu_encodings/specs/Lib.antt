@@ -1,1 +1,2 @@
 pub mod DecodedTexts
+pub mod inner

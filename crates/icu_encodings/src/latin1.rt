@@ -24,6 +24,16 @@ impl<'a> Model for Latin1Iter<'a> {
 }
 
 impl<'a> Latin1Iter<'a> {
+    /// The characters of bytes as Latin-1: each byte is the character of its number, U+0000 to U+00FF (Unicode Standard,
+    /// section 7.1).
+    pub fn new(bytes: &'a [u8]) -> Self
+        ensures text { result ≡ latin1_text bytes.now }
+        ensures spells { SpellsText result (latin1_text bytes.now) }
+        ensures scalars { AllByRecursion IsScalar (latin1_text bytes.now) }
+    {
+        Latin1Iter { bytes }
+    }
+
     /// The bytes whose characters are left.
     pub fn as_bytes(&self) -> &'a [u8]
         ensures { latin1_text result.now ≡ self.now }
@@ -93,6 +103,6 @@ impl<'a> Latin1Chars<'a> for &'a [u8] {
     ghost latin1_bytes = { λ bytes. bytes.now };
 
     fn latin1_chars(&self) -> Latin1Iter<'a> {
-        Latin1Iter { bytes: *self }
+        Latin1Iter::new(*self)
     }
 }

@@ -1,11 +1,11 @@
 //! UTF-16: pairs of surrogates are joined, and other surrogates are U+FFFD.
 
-ghost use Rattle.std.specs.Prelude.{◌≡◌, ◌&&◌, ℕ, List, ⊤, if◌then◌else◌, unwrap_or, Some, None};
+ghost use Rattle.std.specs.Prelude.{◌≡◌, ℕ, List, [], ◌∷◌, ◌++◌, MatchOption, ⊤};
 ghost use Rattle.std.specs.List.{AllByRecursion};
 ghost use Rattle.std.specs.Char.{IsScalar};
-ghost use Rattle.std.specs.Char.Utf16.{is_high_surrogate, is_low_surrogate, surrogate_pair_char, lone_unit_char};
 ghost use Rattle.std.specs.Iterator.{YieldsFirst, YieldsLast, item_count};
 ghost use Rattle.icu_encodings.specs.DecodedTexts.{utf16_text, SpellsText};
+ghost use Rattle.icu_encodings.specs.inner.Utf16Units.{pair_char, lone_char};
 
 use std::alloc::AllocError;
 use std::fmt;
@@ -14,7 +14,7 @@ use std::marker::Model;
 
 /// The character of a lead surrogate and the trail surrogate after it, and `None` of any other two units.
 fn pair_char(lead: u16, trail: u16) -> Option<char>
-    ensures { result ≡ (if is_high_surrogate lead && is_low_surrogate trail then Some (surrogate_pair_char lead trail) else None) }
+    ensures { result ≡ pair_char lead trail }
 {
     if lead < 0xD800 || lead > 0xDBFF || trail < 0xDC00 || trail > 0xDFFF {
         return None;
@@ -24,9 +24,38 @@ fn pair_char(lead: u16, trail: u16) -> Option<char>
 
 /// The character of a unit that is in no pair: U+FFFD of a surrogate.
 fn lone_char(unit: u16) -> char
-    ensures { result ≡ unwrap_or (lone_unit_char unit) 0xFFFD }
+    ensures { result ≡ lone_char unit }
 {
     char::from_u32(u32::from(unit)).unwrap_or(char::REPLACEMENT_CHARACTER)
+}
+
+/// The first character and the units after it.
+fn split_first_char(units: &[u16]) -> Option<(char, &[u16])>
+    ensures { MatchOption result (utf16_text units.now ≡ [])
+        (λ p. utf16_text units.now ≡ p.0 ∷ utf16_text p.1.now) }
+{
+    let (first, others) = units.split_first()?;
+    if let Some((second, rest)) = others.split_first() {
+        if let Some(character) = pair_char(*first, *second) {
+            return Some((character, rest));
+        }
+    }
+    Some((lone_char(*first), others))
+}
+
+/// The last character and the units before it. A trail surrogate is in a pair exactly if a lead stands directly before
+/// it, since a lead is never the second unit of a pair.
+fn split_last_char(units: &[u16]) -> Option<(char, &[u16])>
+    ensures { MatchOption result (utf16_text units.now ≡ [])
+        (λ p. utf16_text units.now ≡ utf16_text p.1.now ++ p.0 ∷ []) }
+{
+    let (last, others) = units.split_last()?;
+    if let Some((before, rest)) = others.split_last() {
+        if let Some(character) = pair_char(*before, *last) {
+            return Some((character, rest));
+        }
+    }
+    Some((lone_char(*last), others))
 }
 
 /// The characters of UTF-16, from both ends. A contract sees it as the list of the characters that are left.
@@ -86,15 +115,9 @@ impl<'a> Iterator for Utf16Chars<'a> {
     ghost remaining = { item_count (λ left. left) };
 
     fn next(&mut self) -> Option<char> {
-        let (first, others) = self.units.split_first()?;
-        if let Some((second, rest)) = others.split_first() {
-            if let Some(character) = pair_char(*first, *second) {
-                self.units = rest;
-                return Some(character);
-            }
-        }
-        self.units = others;
-        Some(lone_char(*first))
+        let (character, rest) = split_first_char(self.units)?;
+        self.units = rest;
+        Some(character)
     }
 }
 
@@ -102,15 +125,9 @@ impl<'a> DoubleEndedIterator for Utf16Chars<'a> {
     ghost next_back_gives = { YieldsLast (λ left. left) };
 
     fn next_back(&mut self) -> Option<char> {
-        let (last, others) = self.units.split_last()?;
-        if let Some((before, rest)) = others.split_last() {
-            if let Some(character) = pair_char(*before, *last) {
-                self.units = rest;
-                return Some(character);
-            }
-        }
-        self.units = others;
-        Some(lone_char(*last))
+        let (character, rest) = split_last_char(self.units)?;
+        self.units = rest;
+        Some(character)
     }
 }
 

@@ -1,0 +1,4 @@
+pub mod Latin1Lemmas
+pub mod SpellLemmas
+pub mod Utf16Lemmas
+pub mod Utf8Lemmas
