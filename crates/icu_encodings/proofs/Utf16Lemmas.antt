@@ -1,8 +1,8 @@
 -- How UTF-16 is read from its front and from its back.
-use Rattle.std.proofs.Common.{◌≡◌, ℕ, suc, get_or, ◌<◌, ◌^◌, Bool, true, false, List, [], ◌∷◌, ◌++◌, map, Option, Some, None, if◌then◌else◌, unwrap_or, refl, ap, ◌∙◌, arith}
+use Rattle.std.proofs.Common.{◌≡◌, ℕ, suc, ◌≤◌, length, get_or, ◌<◌, ◌^◌, Bool, true, false, List, [], ◌∷◌, ◌++◌, map, Option, Some, None, if◌then◌else◌, unwrap_or, refl, ap, ◌∙◌, arith}
 use Rattle.std.proofs.lemmas.Bool.{and_parts}
 use Rattle.std.proofs.lemmas.Bool.Decides.{nat_tests}
-use Rattle.std.proofs.lemmas.List.{map-append}
+use Rattle.std.proofs.lemmas.List.{map-append, length-map}
 use Rattle.std.specs.Char.{IsScalar}
 use Rattle.std.specs.List.{AllByRecursion}
 use Rattle.std.specs.Char.Utf16.{is_high_surrogate, is_low_surrogate, surrogate_pair_char, lone_unit_char, utf16_chars}
@@ -150,3 +150,19 @@ in_range top (u ∷ us) h = (h 0, in_range top us (λ i. h (suc i)))
 
 pub utf16_scalars : (us : List ℕ) → ((i : ℕ) → get_or us i 0 < 2 ^ 16) → AllByRecursion IsScalar (utf16_text us)
 utf16_scalars us h = chars_are_scalars us (in_range (2 ^ 16) us h)
+
+-- ---- how many characters
+
+shorter : (t : Bool) (p q : Option ℕ) (xs ys : List (Option ℕ)) (n : ℕ) → length xs ≤ n → length ys ≤ suc n
+    → length (if t then p ∷ xs else q ∷ ys) ≤ suc (suc n)
+shorter true p q xs ys n h k = omega arith
+shorter false p q xs ys n h k = omega arith
+
+chars_length : (us : List ℕ) → length (utf16_chars us) ≤ length us
+unfolding utf16_chars
+chars_length [] = omega arith
+chars_length (u ∷ []) = omega arith
+chars_length (u ∷ v ∷ us) = shorter (is_pair u v) _ _ _ _ (length us) (chars_length us) (chars_length (v ∷ us))
+
+pub text_length : (us : List ℕ) → length (utf16_text us) ≤ length us
+text_length us = omega (arith, chars_length us, length-map (utf16_chars us) (λ o. unwrap_or o 0xFFFD))

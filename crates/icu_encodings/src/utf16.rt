@@ -1,6 +1,6 @@
 //! UTF-16: pairs of surrogates are joined, and other surrogates are U+FFFD.
 
-ghost use Rattle.std.specs.Prelude.{◌≡◌, ℕ, List, [], ◌∷◌, ◌++◌, MatchOption, ⊤};
+ghost use Rattle.std.specs.Prelude.{◌≡◌, ◌≤◌, ℕ, List, [], ◌∷◌, ◌++◌, length, MatchOption, ⊤};
 ghost use Rattle.std.specs.List.{AllByRecursion};
 ghost use Rattle.std.specs.Char.{IsScalar};
 ghost use Rattle.std.specs.Iterator.{YieldsFirst, YieldsLast, item_count};
@@ -77,6 +77,7 @@ impl<'a> Utf16Chars<'a> {
         ensures text { result ≡ utf16_text units.now }
         ensures spells { SpellsText result (utf16_text units.now) }
         ensures scalars { AllByRecursion IsScalar (utf16_text units.now) }
+        ensures len { length result ≤ length units.now }
     {
         Utf16Chars { units }
     }

@@ -1,6 +1,6 @@
 //! UTF-8 that may be damaged.
 
-ghost use Rattle.std.specs.Prelude.{◌≡◌};
+ghost use Rattle.std.specs.Prelude.{◌≡◌, ◌≤◌, length};
 ghost use Rattle.std.specs.List.{AllByRecursion};
 ghost use Rattle.std.specs.Char.{IsScalar};
 ghost use Rattle.icu_encodings.specs.DecodedTexts.{utf8_text, SpellsText};
@@ -13,6 +13,7 @@ pub fn utf8_chars(bytes: &[u8]) -> Chars<'_>
     ensures text { result ≡ utf8_text bytes.now }
     ensures spells { SpellsText result (utf8_text bytes.now) }
     ensures scalars { AllByRecursion IsScalar (utf8_text bytes.now) }
+    ensures len { length result ≤ length bytes.now }
 {
     bytes.chars()
 }
