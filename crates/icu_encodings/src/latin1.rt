@@ -6,13 +6,11 @@ ghost use Rattle.std.specs.Char.{IsScalar};
 ghost use Rattle.std.specs.Iterator.{YieldsFirst, YieldsLast, item_count};
 ghost use Rattle.icu_encodings.specs.DecodedTexts.{latin1_text, SpellsText};
 
-use std::alloc::AllocError;
-use std::fmt;
 use std::iter::FusedIterator;
 use std::marker::Model;
 
 /// The characters of Latin-1 bytes, from both ends. A contract sees it as the list of the characters that are left.
-#[derive(Drop)]
+#[derive(Clone, Debug, Drop)]
 pub struct Latin1Iter<'a> {
     bytes: &'a [u8],
 }
@@ -32,31 +30,6 @@ impl<'a> Latin1Iter<'a> {
         ensures scalars { AllByRecursion IsScalar (latin1_text bytes.now) }
     {
         Latin1Iter { bytes }
-    }
-
-    /// The bytes whose characters are left.
-    pub fn as_bytes(&self) -> &'a [u8]
-        ensures { latin1_text result.now ≡ self.now }
-    {
-        self.bytes
-    }
-}
-
-impl<'a> Clone for Latin1Iter<'a> {
-    ghost is_clone = { λ it copy. copy ≡ it };
-
-    ghost is_infallible = { λ _. ⊤ };
-
-    fn clone(&self) -> Result<Self, AllocError> {
-        Ok(Latin1Iter { bytes: self.bytes })
-    }
-}
-
-impl<'a> fmt::Debug for Latin1Iter<'a> {
-    fn fmt<W: fmt::Write>(&self, f: &mut fmt::Formatter<W>) -> fmt::Result {
-        f.debug_struct("Latin1Iter")
-            .field("bytes", &self.bytes)
-            .finish()
     }
 }
 

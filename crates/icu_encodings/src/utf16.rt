@@ -7,8 +7,6 @@ ghost use Rattle.std.specs.Iterator.{YieldsFirst, YieldsLast, item_count};
 ghost use Rattle.icu_encodings.specs.DecodedTexts.{utf16_text, SpellsText};
 ghost use Rattle.icu_encodings.specs.inner.Utf16Units.{pair_char, lone_char};
 
-use std::alloc::AllocError;
-use std::fmt;
 use std::iter::FusedIterator;
 use std::marker::Model;
 
@@ -59,7 +57,7 @@ fn split_last_char(units: &[u16]) -> Option<(char, &[u16])>
 }
 
 /// The characters of UTF-16, from both ends. A contract sees it as the list of the characters that are left.
-#[derive(Drop)]
+#[derive(Clone, Debug, Drop)]
 pub struct Utf16Chars<'a> {
     units: &'a [u16],
 }
@@ -80,31 +78,6 @@ impl<'a> Utf16Chars<'a> {
         ensures len { length result ≤ length units.now }
     {
         Utf16Chars { units }
-    }
-
-    /// The units whose characters are left.
-    pub fn as_units(&self) -> &'a [u16]
-        ensures { utf16_text result.now ≡ self.now }
-    {
-        self.units
-    }
-}
-
-impl<'a> Clone for Utf16Chars<'a> {
-    ghost is_clone = { λ it copy. copy ≡ it };
-
-    ghost is_infallible = { λ _. ⊤ };
-
-    fn clone(&self) -> Result<Self, AllocError> {
-        Ok(Utf16Chars { units: self.units })
-    }
-}
-
-impl<'a> fmt::Debug for Utf16Chars<'a> {
-    fn fmt<W: fmt::Write>(&self, f: &mut fmt::Formatter<W>) -> fmt::Result {
-        f.debug_struct("Utf16Chars")
-            .field("units", &self.units)
-            .finish()
     }
 }
 
