@@ -87,7 +87,7 @@ text_of_pair u v c e =
 
 -- ---- from the front
 
-apart_from_all : (v : ℕ) (us : List ℕ) → ((w : ℕ) → is_pair v w ≡ false) → IsApart v us
+pub apart_from_all : (v : ℕ) (us : List ℕ) → ((w : ℕ) → is_pair v w ≡ false) → IsApart v us
 apart_from_all v [] h = tt
 apart_from_all v (w ∷ us) h = h w
 

@@ -5,6 +5,7 @@
 #![tactic(auto)]
 
 mod latin1;
+pub mod laws;
 mod utf16;
 mod utf8;
 
