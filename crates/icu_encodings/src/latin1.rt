@@ -1,6 +1,6 @@
 //! Latin-1: a byte is the character of its number.
 
-ghost use Rattle.std.specs.Prelude.{◌≡◌, ℕ, List, ⊤};
+ghost use Rattle.std.specs.Prelude.{◌≡◌, ℕ, List};
 ghost use Rattle.std.specs.List.{AllByRecursion};
 ghost use Rattle.std.specs.Char.{IsScalar};
 ghost use Rattle.std.specs.Iterator.{YieldsFirst, YieldsLast, item_count};
@@ -40,6 +40,7 @@ impl<'a> Iterator for Latin1Iter<'a> {
 
     ghost remaining = { item_count (λ left. left) };
 
+    #[inline]
     fn next(&mut self) -> Option<char> {
         let (first, others) = self.bytes.split_first()?;
         self.bytes = others;
@@ -50,6 +51,7 @@ impl<'a> Iterator for Latin1Iter<'a> {
 impl<'a> DoubleEndedIterator for Latin1Iter<'a> {
     ghost next_back_gives = { YieldsLast (λ left. left) };
 
+    #[inline]
     fn next_back(&mut self) -> Option<char> {
         let (last, others) = self.bytes.split_last()?;
         self.bytes = others;

@@ -1,6 +1,6 @@
 //! UTF-16: pairs of surrogates are joined, and other surrogates are U+FFFD.
 
-ghost use Rattle.std.specs.Prelude.{◌≡◌, ◌≤◌, ℕ, List, [], ◌∷◌, ◌++◌, length, MatchOption, ⊤};
+ghost use Rattle.std.specs.Prelude.{◌≡◌, ◌≤◌, ℕ, List, [], ◌∷◌, ◌++◌, length, MatchOption};
 ghost use Rattle.std.specs.List.{AllByRecursion};
 ghost use Rattle.std.specs.Char.{IsScalar};
 ghost use Rattle.std.specs.Iterator.{YieldsFirst, YieldsLast, item_count};
@@ -11,6 +11,7 @@ use std::iter::FusedIterator;
 use std::marker::Model;
 
 /// The character of a lead surrogate and the trail surrogate after it, and `None` of any other two units.
+#[inline]
 fn pair_char(lead: u16, trail: u16) -> Option<char>
     ensures { result ≡ pair_char lead trail }
 {
@@ -21,6 +22,7 @@ fn pair_char(lead: u16, trail: u16) -> Option<char>
 }
 
 /// The character of a unit that is in no pair: U+FFFD of a surrogate.
+#[inline]
 fn lone_char(unit: u16) -> char
     ensures { result ≡ lone_char unit }
 {
@@ -28,6 +30,7 @@ fn lone_char(unit: u16) -> char
 }
 
 /// The first character and the units after it.
+#[inline]
 fn split_first_char(units: &[u16]) -> Option<(char, &[u16])>
     ensures { MatchOption result (utf16_text units.now ≡ [])
         (λ p. utf16_text units.now ≡ p.0 ∷ utf16_text p.1.now) }
@@ -43,6 +46,7 @@ fn split_first_char(units: &[u16]) -> Option<(char, &[u16])>
 
 /// The last character and the units before it. A trail surrogate is in a pair exactly if a lead stands directly before
 /// it, since a lead is never the second unit of a pair.
+#[inline]
 fn split_last_char(units: &[u16]) -> Option<(char, &[u16])>
     ensures { MatchOption result (utf16_text units.now ≡ [])
         (λ p. utf16_text units.now ≡ utf16_text p.1.now ++ p.0 ∷ []) }
@@ -88,6 +92,7 @@ impl<'a> Iterator for Utf16Chars<'a> {
 
     ghost remaining = { item_count (λ left. left) };
 
+    #[inline]
     fn next(&mut self) -> Option<char> {
         let (character, rest) = split_first_char(self.units)?;
         self.units = rest;
@@ -98,6 +103,7 @@ impl<'a> Iterator for Utf16Chars<'a> {
 impl<'a> DoubleEndedIterator for Utf16Chars<'a> {
     ghost next_back_gives = { YieldsLast (λ left. left) };
 
+    #[inline]
     fn next_back(&mut self) -> Option<char> {
         let (character, rest) = split_last_char(self.units)?;
         self.units = rest;

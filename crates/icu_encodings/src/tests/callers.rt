@@ -15,6 +15,7 @@ fn read_twice<I: Iterator<Item = char> + Clone>(
 ) -> Result<(Vec<char>, Vec<char>), AllocError>
     requires can { I.can_next source }
     requires ends { IsFinite (I.remaining source) }
+    requires clones { I.is_infallible source }
     requires same { (copy : I) → I.is_clone source copy → copy ≡ source }
     ensures { (cs : List ℕ) → AlwaysYields I.next_gives (λ c. c) source cs
         → IfOk result (λ read. (read.0.items ≡ cs) × (read.1.items ≡ cs)) }
