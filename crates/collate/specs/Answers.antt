@@ -49,6 +49,10 @@ abbrev pub answer_by : Mini → Asked → List ℕ
 answer_by tables (for_order c) = sign_of (order_asked tables c)
 answer_by tables (for_key k) = key_text (key_asked tables k)
 
+-- The bytes are the sort key of the text by Mini's tables.
+abbrev pub IsKey : ShowingKey → List ℕ → Type 0
+IsKey asked bytes = (tables : Mini) × IsMini tables × (bytes ≡ key_asked tables asked)
+
 -- The line is the answer by Mini's tables, and a line feed.
 abbrev pub IsAnswer : Asked → List ℕ → Type 0
 IsAnswer asked line = (tables : Mini) × IsMini tables × (line ≡ answer_by tables asked ++ 10 ∷ [])

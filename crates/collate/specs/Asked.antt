@@ -1,8 +1,16 @@
 -- What a command asks for.
 use Rattle.collate.specs.declared.command.Command.{Command}
 use Rattle.collate.specs.declared.command.Command.TheVariants.{Compare, Key}
-use Rattle.collate.specs.Commands.{Asked, for_order, for_key}
+use Rattle.collate.specs.declared.command.Comparison.{Comparison}
+use Rattle.collate.specs.declared.command.KeyOf.{KeyOf}
+use Rattle.collate.specs.Commands.{Asked, Comparing, ShowingKey, for_order, for_key}
+
+abbrev pub comparing : Comparison → Comparing
+comparing c = record { strength = c.strength; left = c.left.now; right = c.right.now }
+
+abbrev pub showing_key : KeyOf → ShowingKey
+showing_key k = record { strength = k.strength; text = k.text.now }
 
 abbrev pub asked : Command → Asked
-asked (Compare c) = for_order (record { strength = c.strength; left = c.left.now; right = c.right.now })
-asked (Key k) = for_key (record { strength = k.strength; text = k.text.now })
+asked (Compare c) = for_order (comparing c)
+asked (Key k) = for_key (showing_key k)

@@ -2,12 +2,14 @@
 ghost use Rattle.std.specs.Prelude.{◌≡◌, IfOk, IfErr, ◌++◌, ◌∷◌, []};
 ghost use Rattle.icu_comparison.specs.Collators.{settings_kept, tables_kept};
 ghost use Rattle.icu_mini.specs.Mini.{IsMini};
-ghost use Rattle.collate.specs.Answers.{ComparesBy, IsAnswer, sign_of};
-ghost use Rattle.collate.specs.Asked.{asked};
+ghost use Rattle.collate.specs.Answers.{ComparesBy, IsAnswer, IsKey, sign_of};
+ghost use Rattle.collate.specs.Asked.{asked, comparing, showing_key};
+ghost use Rattle.collate.specs.Commands.{for_order};
 ghost use Rattle.collate.specs.Refusals.{IsRefusal};
 
-use crate::command::Command;
+use crate::command::{Command, Comparison, KeyOf};
 use crate::fault::Fault;
+use crate::key_line::key_line;
 use icu_comparison::Collator;
 use icu_mini::mini::Mini;
 use icu_options::{CollatorOptions, CollatorPreferences, Strength};
@@ -47,23 +49,23 @@ fn sign_line(order: Ordering) -> &'static [u8]
 }
 
 /// The sign of the order of two texts, and a line feed.
-fn compare(alloc: Global, asked: Comparison<'_>) -> Result<Vec<u8>, Fault>
+fn compare(alloc: Global, texts: Comparison<'_>) -> Result<Vec<u8>, Fault>
     ensures refused { IfErr result IsRefusal }
-    ensures answer { IfOk result (λ line. IsAnswer (asked (Command.Compare asked.entry)) line.items) }
+    ensures answer { IfOk result (λ line. IsAnswer (for_order (comparing texts.entry)) line.items) }
 {
-    let collator = mini_collator(alloc, asked.strength)?;
-    let order = collator.as_borrowed().compare(asked.left, asked.right)?;
+    let collator = mini_collator(alloc, texts.strength)?;
+    let order = collator.as_borrowed().compare(texts.left, texts.right)?;
     Ok(Vec::from_slice(alloc, sign_line(order))?)
 }
 
 /// The bytes of the sort key of a text.
-fn sort_key(alloc: Global, asked: KeyOf<'_>) -> Result<Vec<u8>, Fault>
+fn sort_key(alloc: Global, of: KeyOf<'_>) -> Result<Vec<u8>, Fault>
     ensures refused { IfErr result IsRefusal }
-    ensures key { IfOk result (λ key. IsKey asked.entry key.items) }
+    ensures key { IfOk result (λ key. IsKey (showing_key of.entry) key.items) }
 {
-    let collator = mini_collator(alloc, asked.strength)?;
+    let collator = mini_collator(alloc, of.strength)?;
     let mut key = Vec::new(alloc);
-    match collator.as_borrowed().write_sort_key_to(asked.text, &mut key) {
+    match collator.as_borrowed().write_sort_key_to(of.text, &mut key) {
         Ok(()) => Ok(key),
         Err(_) => Err(Fault::NoMemory),
     }
@@ -75,9 +77,9 @@ pub(crate) fn answer(alloc: Global, command: Command<'_>) -> Result<Vec<u8>, Fau
     ensures answer { IfOk result (λ line. IsAnswer (asked command.entry) line.items) }
 {
     match command {
-        Command::Compare(asked) => compare(alloc, asked),
-        Command::Key(asked) => {
-            let key = sort_key(alloc, asked)?;
+        Command::Compare(texts) => compare(alloc, texts),
+        Command::Key(of) => {
+            let key = sort_key(alloc, of)?;
             Ok(key_line(alloc, key.as_slice())?)
         }
     }
