@@ -1,0 +1,5 @@
+pub mod Latin1Lemmas
+pub mod ReadBackLemmas
+pub mod SpellLemmas
+pub mod Utf16Lemmas
+pub mod Utf8Lemmas

@@ -1,0 +1,3 @@
+pub mod DecodedTexts
+pub mod EncodingLaws
+pub mod inner
