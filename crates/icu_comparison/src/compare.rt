@@ -1,6 +1,7 @@
 //! The order of texts.
 
 ghost use Rattle.std.specs.Prelude.{◌≡◌, IfOk, chars};
+ghost use Rattle.icu_encodings.specs.DecodedTexts.{latin1_text, utf16_text, utf8_text};
 ghost use Rattle.icu_levels.specs.ListOrder.{list_order};
 ghost use Rattle.icu_levels.specs.Keys.{characters_order};
 ghost use Rattle.icu_order.specs.Forms.{form_by};
@@ -10,7 +11,7 @@ ghost use Rattle.unicode_normalization.specs.Forms.{nfd};
 use crate::characters::compare_characters;
 use crate::collator::CollatorBorrowed;
 use crate::order::ElementOrder;
-use crate::texts::EncodedText;
+use crate::texts::{EncodedText, Latin1Text, Utf8Text, Utf16Text};
 use icu_order::laws::keys_keep_text_order;
 use std::alloc::AllocError;
 use std::cmp::Ordering;
@@ -32,6 +33,53 @@ impl<'a> CollatorBorrowed<'a> {
             (text_key (tables_borrowed self.now) (settings_borrowed self.now) (chars right.now))) }
     {
         self.compare_texts(&left, &right)
+    }
+
+    /// The same of two texts in UTF-8 that may be damaged: each maximal ill-formed part is one U+FFFD
+    /// (Unicode Standard, section 3.9). Fails only where an allocation does.
+    pub fn compare_utf8(&self, left: &[u8], right: &[u8]) -> Result<Ordering, AllocError>
+        ensures order { IfOk result (λ o. o ≡ text_order (tables_borrowed self.now)
+            (settings_borrowed self.now) (utf8_text left.now) (utf8_text right.now)) }
+        ensures keys { IfOk result (λ o. o ≡ list_order
+            (text_key (tables_borrowed self.now) (settings_borrowed self.now) (utf8_text left.now))
+            (text_key (tables_borrowed self.now) (settings_borrowed self.now) (utf8_text right.now))) }
+    {
+        self.compare_texts(&Utf8Text(left), &Utf8Text(right))
+    }
+
+    /// The same of two texts in UTF-16: each unpaired surrogate is U+FFFD (Unicode Standard, section
+    /// 3.9). Fails only where an allocation does.
+    pub fn compare_utf16(&self, left: &[u16], right: &[u16]) -> Result<Ordering, AllocError>
+        ensures order { IfOk result (λ o. o ≡ text_order (tables_borrowed self.now)
+            (settings_borrowed self.now) (utf16_text left.now) (utf16_text right.now)) }
+        ensures keys { IfOk result (λ o. o ≡ list_order
+            (text_key (tables_borrowed self.now) (settings_borrowed self.now) (utf16_text left.now))
+            (text_key (tables_borrowed self.now) (settings_borrowed self.now) (utf16_text right.now))) }
+    {
+        self.compare_texts(&Utf16Text(left), &Utf16Text(right))
+    }
+
+    /// The same of two texts in Latin-1: each byte is the character of its number (Unicode Standard,
+    /// section 7.1). Fails only where an allocation does.
+    pub fn compare_latin1(&self, left: &[u8], right: &[u8]) -> Result<Ordering, AllocError>
+        ensures order { IfOk result (λ o. o ≡ text_order (tables_borrowed self.now)
+            (settings_borrowed self.now) (latin1_text left.now) (latin1_text right.now)) }
+        ensures keys { IfOk result (λ o. o ≡ list_order
+            (text_key (tables_borrowed self.now) (settings_borrowed self.now) (latin1_text left.now))
+            (text_key (tables_borrowed self.now) (settings_borrowed self.now) (latin1_text right.now))) }
+    {
+        self.compare_texts(&Latin1Text(left), &Latin1Text(right))
+    }
+
+    /// The same of a text in Latin-1 and one in UTF-16. Fails only where an allocation does.
+    pub fn compare_latin1_utf16(&self, left: &[u8], right: &[u16]) -> Result<Ordering, AllocError>
+        ensures order { IfOk result (λ o. o ≡ text_order (tables_borrowed self.now)
+            (settings_borrowed self.now) (latin1_text left.now) (utf16_text right.now)) }
+        ensures keys { IfOk result (λ o. o ≡ list_order
+            (text_key (tables_borrowed self.now) (settings_borrowed self.now) (latin1_text left.now))
+            (text_key (tables_borrowed self.now) (settings_borrowed self.now) (utf16_text right.now))) }
+    {
+        self.compare_texts(&Latin1Text(left), &Utf16Text(right))
     }
 
     /// The order of two texts, whatever their encodings.

@@ -2,6 +2,7 @@
 
 ghost use Rattle.std.specs.Prelude.{◌≡◌, ◌<◌, List, ℕ, chars, IfOk, IsTrue};
 ghost use Rattle.std.specs.List.{AllByRecursion};
+ghost use Rattle.icu_encodings.specs.DecodedTexts.{utf16_text, utf8_text};
 ghost use Rattle.icu_keys.specs.KeyWrites.{WritesKey};
 ghost use Rattle.icu_levels.specs.Keys.{key_bytes};
 ghost use Rattle.icu_order.specs.Forms.{compression_of, form_by};
@@ -11,7 +12,7 @@ ghost use Rattle.icu_provider.specs.CollatorTables.{reorder};
 ghost use Rattle.icu_text_keys.specs.HandledSources.{HasCase};
 
 use crate::collator::CollatorBorrowed;
-use crate::texts::{EncodedText, decomposed};
+use crate::texts::{EncodedText, Utf8Text, Utf16Text, decomposed};
 use icu_keys::{CollationKeySink, SortKeyError};
 use icu_text_keys::laws::texts_have_case;
 use icu_text_keys::{TableCompression, write_key};
@@ -48,6 +49,39 @@ impl<'a> CollatorBorrowed<'a> {
             (text_key (tables_borrowed self.now) (settings_borrowed self.now) (chars text.now)) result sink.new }
     {
         self.write_key_of(&text, sink)
+    }
+
+    /// The same of a text in UTF-8 that may be damaged: each maximal ill-formed part is one U+FFFD (Unicode Standard,
+    /// section 3.9).
+    ///
+    /// # Errors
+    ///
+    /// Those of `write_sort_key_to`.
+    pub fn write_sort_key_utf8_to<S: CollationKeySink>(
+        &self,
+        text: &[u8],
+        sink: &mut S,
+    ) -> Result<S::Output, SortKeyError<S::Error>>
+        ensures key { WritesKey S.took S.refused S.finished S.State.is_default sink.old
+            (text_key (tables_borrowed self.now) (settings_borrowed self.now) (utf8_text text.now)) result sink.new }
+    {
+        self.write_key_of(&Utf8Text(text), sink)
+    }
+
+    /// The same of a text in UTF-16: each unpaired surrogate is U+FFFD (Unicode Standard, section 3.9).
+    ///
+    /// # Errors
+    ///
+    /// Those of `write_sort_key_to`.
+    pub fn write_sort_key_utf16_to<S: CollationKeySink>(
+        &self,
+        text: &[u16],
+        sink: &mut S,
+    ) -> Result<S::Output, SortKeyError<S::Error>>
+        ensures key { WritesKey S.took S.refused S.finished S.State.is_default sink.old
+            (text_key (tables_borrowed self.now) (settings_borrowed self.now) (utf16_text text.now)) result sink.new }
+    {
+        self.write_key_of(&Utf16Text(text), sink)
     }
 
     /// Writes the key of a text, whatever its encoding.

@@ -2,11 +2,13 @@
 
 ghost use Rattle.std.specs.Prelude.{◌≡◌, List, ℕ, chars, IfOk};
 ghost use Rattle.std.specs.Iterator.{IsFinite};
+ghost use Rattle.icu_encodings.specs.DecodedTexts.{latin1_text, utf16_text, utf8_text};
 ghost use Rattle.unicode_normalization.specs.Forms.{nfd};
 ghost use Rattle.unicode_normalization.specs.Iter.{Spells};
 ghost use Rattle.icu_elements.specs.TextLaws.{IsText};
 
 use icu_elements::decomposed_text;
+use icu_encodings::{Latin1Iter, Utf16Chars, utf8_chars};
 use std::alloc::{AllocError, Global};
 use std::str::Chars;
 
@@ -40,6 +42,48 @@ impl<'a> EncodedText for &'a str {
 
     fn characters(&self) -> Chars<'a> {
         self.chars()
+    }
+}
+
+/// UTF-8 that may be damaged.
+#[derive(Clone, Copy)]
+pub(crate) struct Utf8Text<'a>(pub(crate) &'a [u8]);
+
+impl<'a> EncodedText for Utf8Text<'a> {
+    type Characters = bstr::Chars<'a>;
+
+    ghost text = { λ t. utf8_text t.0.now };
+
+    fn characters(&self) -> bstr::Chars<'a> {
+        utf8_chars(self.0)
+    }
+}
+
+/// UTF-16 that may have unpaired surrogates.
+#[derive(Clone, Copy)]
+pub(crate) struct Utf16Text<'a>(pub(crate) &'a [u16]);
+
+impl<'a> EncodedText for Utf16Text<'a> {
+    type Characters = Utf16Chars<'a>;
+
+    ghost text = { λ t. utf16_text t.0.now };
+
+    fn characters(&self) -> Utf16Chars<'a> {
+        Utf16Chars::new(self.0)
+    }
+}
+
+/// Latin-1.
+#[derive(Clone, Copy)]
+pub(crate) struct Latin1Text<'a>(pub(crate) &'a [u8]);
+
+impl<'a> EncodedText for Latin1Text<'a> {
+    type Characters = Latin1Iter<'a>;
+
+    ghost text = { λ t. latin1_text t.0.now };
+
+    fn characters(&self) -> Latin1Iter<'a> {
+        Latin1Iter::new(self.0)
     }
 }
 
