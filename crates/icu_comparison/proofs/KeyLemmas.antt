@@ -1,23 +1,12 @@
 -- What the key of a text is written of.
-use Rattle.std.proofs.Common.{◌≡◌, ◌≢◌, ℕ, ◌/◌, ◌*◌, ◌^◌, ◌<◌, ◌++◌, Bool, true, false, not, ◌&&◌, ◌||◌, ◌==◌, nat_lt, List, [], ◌∷◌, Option, Some, None, refl, sym, ap, subst, arith, inl, inr, IsTrue, ◌∙◌}
-use Rattle.std.specs.Prelude.{bit_and}
+use Rattle.std.proofs.Common.{◌≡◌, ℕ, ◌++◌, Bool, true, false, List, [], ◌∷◌, Option, Some, None, refl, ap, IsTrue, ◌∙◌}
 use Rattle.std.specs.Char.{IsScalar}
 use Rattle.std.specs.List.{AllByRecursion}
 use Rattle.std.proofs.lemmas.Bool.{and_parts}
-use Rattle.std.proofs.lemmas.Bool.Decides.{nat_tests}
 use Rattle.std.proofs.Math.Utf8.{scalar, scalars}
 use Rattle.unicode_normalization.specs.Forms.{nfd}
 use Rattle.icu_options.specs.Settings.{Settings}
-use Rattle.icu_entries.specs.declared.error.DataTable.{DataTable}
-use Rattle.icu_entries.specs.Elements.{Element, case_mask}
-use Rattle.icu_entries.specs.ElementConditions.{has_shape, has_whole_weights, has_weights_below, has_lower_half, tertiary_of}
-use Rattle.icu_data.proofs.ListLemmas.{weaker}
 use Rattle.icu_provider.specs.CollatorTables.{CollatorTables, reorder}
-use Rattle.icu_checks.specs.declared.condition.Condition.TheVariants as conditions
-use Rattle.icu_checks.specs.declared.condition.ElementCondition.TheVariants.{Width}
-use Rattle.icu_checks.specs.GoodTables.{IsGoodTables}
-use Rattle.icu_checks.specs.LiveElements.{IsElementBy}
-use Rattle.icu_elements.specs.TextElements.{elements_of}
 use Rattle.icu_levels.specs.Identical.{identical_level}
 use Rattle.icu_levels.specs.Keys.{LevelLists, LevelPart, opened, key_bytes, secondary_part, case_part, tertiary_part, quaternary_part, identical_part, parts_bytes}
 use Rattle.icu_levels.specs.Primaries.{Compression, primary_level}
@@ -27,15 +16,10 @@ use Rattle.icu_levels.specs.declared.forms.QuaternaryForm.{QuaternaryForm}
 use Rattle.icu_levels.specs.declared.forms.SecondaryForm.{SecondaryForm}
 use Rattle.icu_levels.specs.declared.forms.SecondaryForm.TheVariants.{Forward, Backward}
 use Rattle.icu_levels.specs.declared.forms.TertiaryForm.{TertiaryForm}
-use Rattle.icu_order.specs.Handled.{HandledElement, stayed, shifted_primary, handled}
+use Rattle.icu_order.specs.Handled.{HandledElement}
 use Rattle.icu_order.specs.Levels.{level_lists}
-use Rattle.icu_order.specs.TextOrder.{reading_by, handled_by, lists_by, text_key}
-use Rattle.icu_order.specs.Forms.{compression_of, form_by, last_variable_by}
-use Rattle.icu_order.proofs.HandledLemmas.{HoldsOf, handled_hold}
-use Rattle.icu_order.proofs.LiveElementLemmas.{live-shape}
-use Rattle.icu_order.proofs.TertiaryWeights.{case_bits}
-use Rattle.icu_order.proofs.TextSources.{IsSource, text_sources}
-use Rattle.icu_text_keys.specs.HandledSources.{HasCase}
+use Rattle.icu_order.specs.TextOrder.{handled_by, lists_by, text_key}
+use Rattle.icu_order.specs.Forms.{compression_of, form_by}
 
 -- ---- characters that don't count
 
@@ -78,16 +62,15 @@ same_key c f hs cs ds h =
     (same_parts _ _ _ _ _ _ _ _ _ _ (same_secondary c.reorder f hs cs ds f.secondary) (same_cases c.reorder f hs cs ds f.cases)
     (same_tertiary c.reorder f hs cs ds f.tertiary) (same_quaternary c.reorder f hs cs ds f.quaternary) (same_identical c.reorder f hs cs ds f.identical h))
 
--- the key that is written of what was read is that of the text
-pub key_read : (all : CollatorTables) (settings : Settings) (t : List ℕ) (es : List Element) (cs : List ℕ)
-    → es ≡ elements_of (reading_by all settings) (nfd t) → (IsTrue (form_by all settings).identical → cs ≡ nfd t)
-    → key_bytes (compression_of all) (form_by all settings) (level_lists (reorder all) (form_by all settings) (handled (last_variable_by all settings) false es) cs)
+-- the key that is written of a decomposed text, and of characters that are its own where they count, is that of the text
+pub key_read : (all : CollatorTables) (settings : Settings) (t ds cs : List ℕ) → ds ≡ nfd t → (IsTrue (form_by all settings).identical → cs ≡ ds)
+    → key_bytes (compression_of all) (form_by all settings) (level_lists (reorder all) (form_by all settings) (handled_by all settings ds) cs)
     ≡ text_key all settings t
 unfolding text_key lists_by
-key_read all settings t es cs read same =
+key_read all settings t ds cs read same =
     let form : KeyForm = form_by all settings in
-    ap (λ es. key_bytes (compression_of all) form (level_lists (reorder all) form (handled (last_variable_by all settings) false es) cs)) read
-    ∙ same_key (compression_of all) form (handled_by all settings (nfd t)) cs (nfd t) same
+    ap (λ (l : List ℕ). key_bytes (compression_of all) form (level_lists (reorder all) form (handled_by all settings l) cs)) read
+    ∙ same_key (compression_of all) form (handled_by all settings (nfd t)) cs (nfd t) (λ on. same on ∙ read)
 
 -- ---- texts
 

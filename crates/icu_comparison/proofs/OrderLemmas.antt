@@ -1,5 +1,5 @@
 -- Orders one after another, as code tests them.
-use Rattle.std.proofs.Common.{◌≡◌, ℕ, Bool, true, false, not, ◌==◌, List, Option, Result, Ok, Err, IfOk, refl, sym, subst, ◌∙◌, ap}
+use Rattle.std.proofs.Common.{◌≡◌, ℕ, Bool, true, false, not, ◌==◌, List, [], Option, Result, Ok, Err, IfOk, refl, sym, subst, ◌∙◌, ap}
 use Rattle.std.specs.Ordering.{ordering_then, ordering_index}
 use Rattle.unicode_normalization.specs.Forms.{nfd}
 use Rattle.icu_options.specs.Settings.{Settings}
@@ -7,10 +7,13 @@ use Rattle.icu_levels.specs.Keys.{LevelLists, primaries_order, secondaries_order
 use Rattle.icu_levels.specs.declared.forms.KeyForm.{KeyForm}
 use Rattle.icu_provider.specs.Reorderings.{Reordering}
 use Rattle.icu_provider.specs.CollatorTables.{CollatorTables, reorder_by}
-use Rattle.icu_order.specs.Handled.{HandledElement}
+use Rattle.icu_entries.specs.Elements.{Element}
+use Rattle.icu_order.specs.Handled.{HandledElement, handled}
 use Rattle.icu_order.specs.Levels.{level_lists}
 use Rattle.icu_order.specs.Forms.{compression_of, form_by}
 use Rattle.icu_order.specs.TextOrder.{lists_by, text_order}
+use Rattle.icu_comparison.specs.HandledRests.{handled_after}
+use Rattle.icu_comparison.specs.declared.weighting.VariableWeighting.{VariableWeighting}
 use Rattle.icu_comparison.specs.inner.ElementOrders.{before_characters, elements_order}
 use Rattle.std.specs.declared.cmp.Ordering.{Ordering}
 use Rattle.std.specs.declared.cmp.Ordering.TheVariants.{Less, Equal, Greater}
@@ -75,3 +78,8 @@ read_alike r s f g hs hs' ks ks' t u a b c d =
     ∙ ap (λ x. before_characters (reorder_by s) x (level_lists (reorder_by s) x hs t) (level_lists (reorder_by s) x ks u)) b
     ∙ ap (λ x. before_characters (reorder_by s) g (level_lists (reorder_by s) g x t) (level_lists (reorder_by s) g ks u)) c
     ∙ ap (λ x. before_characters (reorder_by s) g (level_lists (reorder_by s) g hs' t) (level_lists (reorder_by s) g x u)) d
+
+-- where no element comes, none is handled
+pub none_handled : (w : VariableWeighting) (es : List Element) → es ≡ [] → handled_after w es ≡ []
+unfolding handled
+none_handled w es none = rw none refl

@@ -1,3 +1,4 @@
+pub use Rattle.icu_encodings.specs.DecodedTexts
 pub use Rattle.icu_levels.specs.ListOrder
 pub use Rattle.icu_data.specs.StoredData
 pub use Rattle.icu_provider.specs.StoredTables

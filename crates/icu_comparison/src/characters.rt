@@ -1,23 +1,13 @@
 //! The identical level: the characters of the decomposed texts.
 
-ghost use Rattle.std.specs.Prelude.{◌≡◌, ◌≤◌, map, chars, IfOk};
+ghost use Rattle.std.specs.Prelude.{◌≡◌, ◌≤◌, map, IfOk};
 ghost use Rattle.unicode_normalization.specs.Forms.{nfd};
 ghost use Rattle.icu_levels.specs.ListOrder.{list_order};
 ghost use Rattle.icu_levels.specs.Identical.{identical_rank};
 
+use crate::texts::{EncodedText, decomposed};
 use std::alloc::{AllocError, Global};
 use std::cmp::Ordering;
-use unicode_normalization::slice;
-
-/// The canonical decomposition of a text (UAX #15, "Normalization Form D").
-pub(crate) fn decomposed(alloc: Global, text: &str) -> Result<Vec<char>, AllocError>
-    ensures { IfOk result (λ cs. cs.items ≡ nfd (chars text.now)) }
-{
-    let characters: Vec<char> = text.chars().collect(alloc)?;
-    let mut decomposed = Vec::new(alloc);
-    slice::extend_nfd(&mut decomposed, characters.as_slice())?;
-    Ok(decomposed)
-}
 
 /// Where a character stands: U+FFFE, which parts merged texts, comes first, and then each by its
 /// number.
@@ -61,13 +51,13 @@ fn compare_lists(left: &[char], right: &[char]) -> Ordering
 /// The order of two texts by all their decomposed characters (UTS #10, section 7.3 "Form Sort Keys"
 /// on the identical level; UTS #35 part 5, "Root Collation" on U+FFFE). Fails only where an
 /// allocation does.
-pub(crate) fn compare_characters(
+pub(crate) fn compare_characters<L: EncodedText, R: EncodedText>(
     alloc: Global,
-    left: &str,
-    right: &str,
+    left: &L,
+    right: &R,
 ) -> Result<Ordering, AllocError>
-    ensures { IfOk result (λ o. o ≡ list_order (map identical_rank (nfd (chars left.now)))
-        (map identical_rank (nfd (chars right.now)))) }
+    ensures { IfOk result (λ o. o ≡ list_order (map identical_rank (nfd (L.text left.now)))
+        (map identical_rank (nfd (R.text right.now)))) }
 {
     let left = decomposed(alloc, left)?;
     let right = decomposed(alloc, right)?;

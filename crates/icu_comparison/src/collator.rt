@@ -1,6 +1,6 @@
-//! Collators: tables and settings, and the order of texts by them.
+//! Collators: tables and settings.
 
-ghost use Rattle.std.specs.Prelude.{◌≡◌, false, Err, Ok, IfErr, IfOk, chars};
+ghost use Rattle.std.specs.Prelude.{◌≡◌, false, Err, Ok, IfErr, IfOk};
 ghost use Rattle.icu_options.specs.Conversions.{resolved_of};
 ghost use Rattle.icu_options.specs.Merge.{merge};
 ghost use Rattle.icu_options.specs.FlaggedSettings.{values_of};
@@ -8,31 +8,27 @@ ghost use Rattle.icu_options.specs.Metadata.{metadata_settings, is_backward};
 ghost use Rattle.icu_entries.specs.declared.error.DataErrorKind.TheVariants.{NoMemory};
 ghost use Rattle.icu_checks.specs.Checked.{checked_tables};
 ghost use Rattle.icu_checks.specs.GoodTables.{IsGoodTables, IsTrueRefusal};
+ghost use Rattle.icu_elements.specs.ElementReaders.{elements_to_come};
 ghost use Rattle.icu_elements.specs.Reading.{element_tables};
 ghost use Rattle.icu_elements.specs.TextElements.{elements_of};
-ghost use Rattle.icu_levels.specs.ListOrder.{list_order};
-ghost use Rattle.icu_levels.specs.Keys.{characters_order};
 ghost use Rattle.icu_order.specs.Forms.{form_by, last_variable_by};
 ghost use Rattle.icu_order.specs.Handled.{handled};
-ghost use Rattle.icu_order.specs.TextOrder.{reading_by, lists_by, text_order, text_key};
+ghost use Rattle.icu_order.specs.TextOrder.{reading_by, handled_by};
 ghost use Rattle.unicode_normalization.specs.Forms.{nfd};
 
-use crate::characters::compare_characters;
-use crate::handled::HandledElements;
-use crate::order::ElementOrder;
+use crate::handled::{HandledElements, HandledReader};
+use crate::texts::EncodedText;
 use icu_checks::{CheckedTables, load_tables};
-use icu_elements::{ElementTables, all_elements};
+use icu_elements::{ElementReader, ElementTables, all_elements};
 use icu_entries::{CollationElement, DataError};
 use icu_levels::forms::KeyForm;
 use icu_options::{
     AlternateHandling, CollatorOptions, CollatorOptionsBitField, CollatorPreferences,
     ResolvedCollatorOptions, merged_options,
 };
-use icu_order::laws::keys_keep_text_order;
 use icu_provider::CollationProvider;
 use icu_text_keys::key_form;
 use std::alloc::{AllocError, Global};
-use std::cmp::Ordering;
 
 /// Compares texts by a language's rules (UTS #10). Owns copies of its tables, which were checked
 /// together, and its settings.
@@ -111,8 +107,7 @@ pub struct CollatorBorrowed<'a> {
 
 impl<'a> CollatorBorrowed<'a> {
     ghost use Rattle.icu_comparison.specs.Collators.{tables_borrowed, settings_borrowed};
-    ghost use Rattle.icu_comparison.specs.HandledRests.{handled_rest};
-    ghost use Rattle.icu_comparison.specs.inner.ElementOrders.{elements_order};
+    ghost use Rattle.icu_comparison.specs.HandledRests.{handled_rest, handled_to_come};
 
     /// The settings that the collator works by.
     pub fn resolved_options(&self) -> ResolvedCollatorOptions
@@ -126,68 +121,6 @@ impl<'a> CollatorBorrowed<'a> {
         ensures { element_tables result ≡ (tables_borrowed self.now).tables }
     {
         ElementTables::new(self.tables)
-    }
-
-    /// The order of two texts by the tables and the settings (UTS #10, section 7.4 "Compare Sort
-    /// Keys"), for all of them. The first level that differs decides: primary weights, reordered,
-    /// then secondary weights, forward or backward, cases, tertiary weights, quaternary weights, and
-    /// the characters of the decomposed texts, as far as the settings name these levels. It is the
-    /// dictionary order of the two texts' sort keys. Fails only where an allocation does.
-    pub fn compare(&self, left: &str, right: &str) -> Result<Ordering, AllocError>
-        ensures order { IfOk result (λ o. o ≡ text_order (tables_borrowed self.now)
-            (settings_borrowed self.now) (chars left.now) (chars right.now)) }
-        ensures keys { IfOk result (λ o. o ≡ list_order
-            (text_key (tables_borrowed self.now) (settings_borrowed self.now) (chars left.now))
-            (text_key (tables_borrowed self.now) (settings_borrowed self.now) (chars right.now))) }
-    {
-        let order = self.compare_levels(left, right)?;
-        keys_keep_text_order();
-        self.tables.are_good();
-        Ok(order)
-    }
-
-    /// The order of two texts by their levels in turn.
-    fn compare_levels(&self, left: &str, right: &str) -> Result<Ordering, AllocError>
-        ensures { IfOk result (λ o. o ≡ text_order (tables_borrowed self.now)
-            (settings_borrowed self.now) (chars left.now) (chars right.now)) }
-    {
-        let order = self.compare_elements(left, right)?;
-        if order != Ordering::Equal {
-            return Ok(order);
-        }
-        self.compare_characters(left, right)
-    }
-
-    /// The order of two texts by their decomposed characters, where these count.
-    #[tactic(auto, unfolding(icu_order::specs::TextOrder::lists_by))]
-    fn compare_characters(&self, left: &str, right: &str) -> Result<Ordering, AllocError>
-        ensures { let all = tables_borrowed self.now in let settings = settings_borrowed self.now in
-            IfOk result (λ o. o ≡ characters_order (form_by all settings).identical
-            (lists_by all settings (nfd (chars left.now))) (lists_by all settings (nfd (chars right.now)))) }
-    {
-        if self.key_form().identical {
-            compare_characters(self.tables.allocator(), left, right)
-        } else {
-            Ok(Ordering::Equal)
-        }
-    }
-
-    /// The order of two texts by their elements: all levels but the identical one.
-    #[tactic(auto, unfolding(crate::specs::inner::ElementOrders::elements_order, icu_order::specs::TextOrder::lists_by))]
-    fn compare_elements(&self, left: &str, right: &str) -> Result<Ordering, AllocError>
-        ensures { IfOk result (λ o. o ≡ elements_order (tables_borrowed self.now)
-            (settings_borrowed self.now) (nfd (chars left.now)) (nfd (chars right.now))) }
-    {
-        let left = self.elements(left)?;
-        let right = self.elements(right)?;
-        let order = ElementOrder {
-            form: self.key_form(),
-            reordering: self.tables.reordering(),
-        };
-        Ok(order.compare(
-            self.handled(left.as_slice()),
-            self.handled(right.as_slice()),
-        ))
     }
 
     /// The levels that count, and their forms.
@@ -222,13 +155,37 @@ impl<'a> CollatorBorrowed<'a> {
     }
 
     /// The elements of a text.
-    pub(crate) fn elements(&self, text: &str) -> Result<Vec<CollationElement>, AllocError>
+    pub(crate) fn elements<T: EncodedText>(
+        &self,
+        text: &T,
+    ) -> Result<Vec<CollationElement>, AllocError>
         ensures { let reading = reading_by (tables_borrowed self.now) (settings_borrowed self.now) in
-            IfOk result (λ es. es.items ≡ elements_of reading (nfd (chars text.now))) }
+            IfOk result (λ es. es.items ≡ elements_of reading (nfd (T.text text.now))) }
     {
         all_elements(
             self.tables(),
-            text.chars(),
+            text.characters(),
+            self.numeric_primary(),
+            self.tables.metadata().lithuanian_dot_above(),
+        )
+    }
+
+    /// Reads the elements of a decomposed text, as the settings handle variable ones.
+    pub(crate) fn handled_text(&self, text: Vec<char>) -> HandledReader<'a>
+        ensures { handled_to_come result
+            ≡ handled_by (tables_borrowed self.now) (settings_borrowed self.now) text.items }
+    {
+        HandledReader::new(self.element_reader(text), self.last_variable())
+    }
+
+    /// Reads the elements of a decomposed text.
+    fn element_reader(&self, text: Vec<char>) -> ElementReader<'a>
+        ensures { let reading = reading_by (tables_borrowed self.now) (settings_borrowed self.now) in
+            elements_to_come result ≡ elements_of reading text.items }
+    {
+        ElementReader::new(
+            text,
+            self.tables(),
             self.numeric_primary(),
             self.tables.metadata().lithuanian_dot_above(),
         )

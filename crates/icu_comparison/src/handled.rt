@@ -1,9 +1,10 @@
 //! The elements of a text as variable weighting leaves them (UTS #10, section 4 "Variable Weighting").
 
-ghost use Rattle.std.specs.Prelude.{◌≡◌, false, ◌≤◌, ◌++◌, ◌+◌, [], length, option_map, option_to_list, IfSome, None};
+ghost use Rattle.std.specs.Prelude.{◌≡◌, false, ◌≤◌, ◌++◌, ◌+◌, [], length, option_map, option_to_list, IfSome, IfOk, None};
 
+use crate::weighting::VariableWeighting;
+use icu_elements::ElementReader;
 use icu_entries::CollationElement;
-use icu_entries::element::MERGE_SEPARATOR_PRIMARY;
 use icu_text_keys::{Handled, HandledSource};
 use std::alloc::AllocError;
 
@@ -13,8 +14,7 @@ use std::alloc::AllocError;
 #[derive(Clone, Copy, Debug)]
 pub struct HandledElements<'a> {
     rest: &'a [CollationElement],
-    last_variable: u32,
-    after_variable: bool,
+    weighting: VariableWeighting,
 }
 
 impl<'a> HandledElements<'a> {
@@ -29,8 +29,7 @@ impl<'a> HandledElements<'a> {
     {
         HandledElements {
             rest: elements,
-            last_variable,
-            after_variable: false,
+            weighting: VariableWeighting::new(last_variable),
         }
     }
 
@@ -53,14 +52,9 @@ impl<'a> HandledElements<'a> {
     {
         'passing: while let [element, rest @ ..] = self.rest {
             self.rest = rest;
-            let primary = element.primary();
-            if primary > MERGE_SEPARATOR_PRIMARY && primary <= self.last_variable {
-                self.after_variable = true;
-                return Some(Handled::Shifted(primary));
-            }
-            if !(self.after_variable && primary == 0) {
-                self.after_variable = false;
-                return Some(Handled::Stayed(*element));
+            let next = self.weighting.handle(*element);
+            if next.is_some() {
+                return next;
             }
         }
         None
@@ -74,5 +68,47 @@ impl<'a> HandledSource for HandledElements<'a> {
 
     fn next_handled(&mut self) -> Result<Option<Handled>, AllocError> {
         Ok(self.next())
+    }
+}
+
+/// The elements of a decomposed text, handled the same way as they are read: no list of elements is
+/// made.
+#[derive(Drop)]
+pub struct HandledReader<'d> {
+    elements: ElementReader<'d>,
+    weighting: VariableWeighting,
+}
+
+impl<'d> HandledReader<'d> {
+    ghost use Rattle.icu_comparison.specs.HandledRests.{handled_to_come};
+    ghost use Rattle.icu_elements.specs.ElementReaders.{elements_to_come};
+    ghost use Rattle.icu_order.specs.Handled.{handled};
+
+    /// All elements that a reader still gives. Variable are those with a primary weight above the
+    /// merge separator's and up to `last_variable`: none, where that is 0.
+    pub fn new(elements: ElementReader<'d>, last_variable: u32) -> HandledReader<'d>
+        ensures { handled_to_come result
+            ≡ handled last_variable false (elements_to_come elements.entry) }
+    {
+        HandledReader {
+            elements,
+            weighting: VariableWeighting::new(last_variable),
+        }
+    }
+}
+
+impl<'d> HandledSource for HandledReader<'d> {
+    ghost use Rattle.icu_comparison.specs.HandledRests.{handled_to_come};
+
+    ghost handled_left = { handled_to_come };
+
+    fn next_handled(&mut self) -> Result<Option<Handled>, AllocError> {
+        'passing: while let Some(element) = self.elements.next()? {
+            let next = self.weighting.handle(element);
+            if next.is_some() {
+                return Ok(next);
+            }
+        }
+        Ok(None)
     }
 }

@@ -3,13 +3,16 @@
 
 mod characters;
 pub mod collator;
+pub mod compare;
 pub mod handled;
 mod levels;
 mod order;
 mod segments;
 pub mod sort_key;
+mod texts;
+mod weighting;
 
 pub use collator::{Collator, CollatorBorrowed};
-pub use handled::HandledElements;
+pub use handled::{HandledElements, HandledReader};
 pub use icu_keys::{CollationKeySink, SortKeyError, TooSmall};
 pub use icu_text_keys::{Handled, HandledSource, key_form};

@@ -1,20 +1,18 @@
 //! The sort keys of texts.
 
-ghost use Rattle.std.specs.Prelude.{◌≡◌, ◌<◌, false, List, ℕ, chars, IfOk, IsTrue};
+ghost use Rattle.std.specs.Prelude.{◌≡◌, ◌<◌, List, ℕ, chars, IfOk, IsTrue};
 ghost use Rattle.std.specs.List.{AllByRecursion};
+ghost use Rattle.icu_encodings.specs.DecodedTexts.{utf16_text, utf8_text};
 ghost use Rattle.icu_keys.specs.KeyWrites.{WritesKey};
 ghost use Rattle.icu_levels.specs.Keys.{key_bytes};
-ghost use Rattle.icu_order.specs.Forms.{compression_of, form_by, last_variable_by};
-ghost use Rattle.icu_order.specs.Handled.{handled};
+ghost use Rattle.icu_order.specs.Forms.{compression_of, form_by};
 ghost use Rattle.icu_order.specs.Levels.{level_lists};
-ghost use Rattle.icu_order.specs.TextOrder.{text_key};
+ghost use Rattle.icu_order.specs.TextOrder.{handled_by, text_key};
 ghost use Rattle.icu_provider.specs.CollatorTables.{reorder};
 ghost use Rattle.icu_text_keys.specs.HandledSources.{HasCase};
-ghost use Rattle.unicode_normalization.specs.Forms.{nfd};
 
-use crate::characters::decomposed;
 use crate::collator::CollatorBorrowed;
-use icu_entries::CollationElement;
+use crate::texts::{EncodedText, Utf8Text, Utf16Text, decomposed};
 use icu_keys::{CollationKeySink, SortKeyError};
 use icu_text_keys::laws::texts_have_case;
 use icu_text_keys::{TableCompression, write_key};
@@ -50,35 +48,81 @@ impl<'a> CollatorBorrowed<'a> {
         ensures key { WritesKey S.took S.refused S.finished S.State.is_default sink.old
             (text_key (tables_borrowed self.now) (settings_borrowed self.now) (chars text.now)) result sink.new }
     {
-        self.tables.are_good();
-        texts_have_case();
-        let Ok(elements) = self.elements(text) else {
-            return write_nothing(sink);
-        };
-        let Ok(characters) = self.key_characters(text) else {
-            return write_nothing(sink);
-        };
-        self.write_elements(sink, elements.as_slice(), characters.as_slice())
+        self.write_key_of(&text, sink)
     }
 
-    /// Writes the key of a text of these elements and these decomposed characters, which count at the identical level
-    /// alone.
-    fn write_elements<S: CollationKeySink>(
+    /// The same of a text in UTF-8 that may be damaged: each maximal ill-formed part is one U+FFFD (Unicode Standard,
+    /// section 3.9).
+    ///
+    /// # Errors
+    ///
+    /// Those of `write_sort_key_to`.
+    pub fn write_sort_key_utf8_to<S: CollationKeySink>(
         &self,
+        text: &[u8],
         sink: &mut S,
-        elements: &[CollationElement],
-        characters: &[char],
     ) -> Result<S::Output, SortKeyError<S::Error>>
-        requires cases { AllByRecursion HasCase (handled
-            (last_variable_by (tables_borrowed self.now) (settings_borrowed self.now)) false elements.now) }
+        ensures key { WritesKey S.took S.refused S.finished S.State.is_default sink.old
+            (text_key (tables_borrowed self.now) (settings_borrowed self.now) (utf8_text text.now)) result sink.new }
+    {
+        self.write_key_of(&Utf8Text(text), sink)
+    }
+
+    /// The same of a text in UTF-16: each unpaired surrogate is U+FFFD (Unicode Standard, section 3.9).
+    ///
+    /// # Errors
+    ///
+    /// Those of `write_sort_key_to`.
+    pub fn write_sort_key_utf16_to<S: CollationKeySink>(
+        &self,
+        text: &[u16],
+        sink: &mut S,
+    ) -> Result<S::Output, SortKeyError<S::Error>>
+        ensures key { WritesKey S.took S.refused S.finished S.State.is_default sink.old
+            (text_key (tables_borrowed self.now) (settings_borrowed self.now) (utf16_text text.now)) result sink.new }
+    {
+        self.write_key_of(&Utf16Text(text), sink)
+    }
+
+    /// Writes the key of a text, whatever its encoding.
+    fn write_key_of<T: EncodedText, S: CollationKeySink>(
+        &self,
+        text: &T,
+        sink: &mut S,
+    ) -> Result<S::Output, SortKeyError<S::Error>>
+        ensures key { WritesKey S.took S.refused S.finished S.State.is_default sink.old
+            (text_key (tables_borrowed self.now) (settings_borrowed self.now) (T.text text.now)) result sink.new }
+    {
+        self.tables.are_good();
+        texts_have_case();
+        text.is_text();
+        let Ok(text) = decomposed(self.tables.allocator(), text) else {
+            return write_nothing(sink);
+        };
+        let Ok(characters) = self.key_characters(text.as_slice()) else {
+            return write_nothing(sink);
+        };
+        self.write_decomposed(text, characters.as_slice(), sink)
+    }
+
+    /// Writes the key of a decomposed text, and of these characters at the identical level. Its elements are written as
+    /// they are read: no list of them is made.
+    fn write_decomposed<S: CollationKeySink>(
+        &self,
+        text: Vec<char>,
+        characters: &[char],
+        sink: &mut S,
+    ) -> Result<S::Output, SortKeyError<S::Error>>
+        requires cases { AllByRecursion HasCase
+            (handled_by (tables_borrowed self.now) (settings_borrowed self.now) text.items) }
         ensures key { let all = tables_borrowed self.now in let settings = settings_borrowed self.now in
             WritesKey S.took S.refused S.finished S.State.is_default sink.old
             (key_bytes (compression_of all) (form_by all settings) (level_lists (reorder all) (form_by all settings)
-            (handled (last_variable_by all settings) false elements.now) characters.now))
+            (handled_by all settings text.items) characters.now))
             result sink.new }
     {
         let compression = TableCompression::new(self.tables);
-        let mut handled = self.handled(elements);
+        let mut handled = self.handled_text(text);
         write_key(
             self.tables.allocator(),
             sink,
@@ -89,15 +133,16 @@ impl<'a> CollatorBorrowed<'a> {
         )
     }
 
-    /// The decomposed characters of a text, where they count.
-    fn key_characters(&self, text: &str) -> Result<Vec<char>, AllocError>
+    /// The characters of a decomposed text, where they count: reading its elements takes the text apart.
+    fn key_characters(&self, text: &[char]) -> Result<Vec<char>, AllocError>
         ensures { IfOk result (λ cs. IsTrue (form_by (tables_borrowed self.now) (settings_borrowed self.now)).identical →
-            cs.items ≡ nfd (chars text.now)) }
+            cs.items ≡ text.now) }
     {
+        let alloc = self.tables.allocator();
         if self.key_form().identical {
-            decomposed(self.tables.allocator(), text)
+            text.to_vec(alloc)
         } else {
-            Ok(Vec::new(self.tables.allocator()))
+            Ok(Vec::new(alloc))
         }
     }
 }

@@ -1,59 +1,38 @@
--- What is left of an iterator of elements, at each progress.
-use Rattle.std.proofs.Common.{◌≡◌, ℕ, ◌+◌, ◌<◌, ◌≤◌, List, [], ◌∷◌, ◌++◌, ◌-◌, length, length-drop, drop, get_or, Option, refl, sym, ap, ap₂, subst, ◌∙◌, arith}
+-- What is left of an iterator of elements, at each progress, and of the reader that it reads by.
+use Rattle.std.proofs.Common.{◌≡◌, ℕ, ◌+◌, ◌<◌, ◌≤◌, List, [], ◌∷◌, ◌++◌, ◌-◌, length, length-drop, drop, get_or, Option, Some, None, unwrap_or, Result, Ok, Err, IfOk, refl, sym, ap, ap₂, subst, ◌∙◌, arith}
+use Rattle.std.specs.Prelude.{option_to_list}
 use Rattle.std.proofs.lemmas.List.{drop_more}
 use Rattle.std.proofs.Math.ListN.{drop_of_length-le}
 use Rattle.std.specs.Iterator.{Count}
 use Rattle.unicode_normalization.specs.Decompositions.{CanDecompose}
-use Rattle.icu_entries.specs.Elements.{Element}
+use Rattle.icu_entries.specs.Elements.{Element, end_element}
+use Rattle.icu_elements.specs.declared.element_reader.ElementReader.{ElementReader}
+use Rattle.icu_elements.specs.declared.reader.position.Position.{Position}
 use Rattle.icu_elements.specs.declared.iter.Progress.TheVariants.{Unread, Read, Refused}
 use Rattle.icu_elements.specs.declared.iter.CollationElements.{CollationElements}
-use Rattle.icu_elements.specs.TextElements.{elements_after, elements_of}
-use Rattle.icu_elements.specs.CollationElements.{ready_elements, all_left, IsFilled, HasSource, IsUnreadAt, StillGives, IsReadyAt, CanGive, first_of, rest_of}
-use Rattle.icu_elements.specs.inner.Iterating.{StillReads}
-use Rattle.icu_elements.specs.inner.Positions.{reading_by_tables, consumed_last, unread_at}
+use Rattle.icu_elements.specs.TextElements.{elements_after}
+use Rattle.icu_elements.specs.CollationElements.{HasSource, IsLeftAt, StillGives, IsReadyAt, CanGive, first_of, rest_of}
+use Rattle.icu_elements.specs.ElementReaders.{elements_to_come}
+use Rattle.icu_elements.specs.inner.Positions.{reading_by_tables, consumed_last, elements_left}
+use Rattle.icu_elements.specs.inner.ReadyElements.{ready_elements, IsFilled}
 use Rattle.icu_elements.proofs.StepLemmas.{elements_after_nil}
 
--- a text that is still to be read, and its elements
-pub record HasUnread {I : Type 0} (steps : I → Option ℕ → I → Type 0) (s : CollationElements I) (es : List Element) : Type 0 where
-  pub text : List ℕ
-  pub source : StillReads steps s.source text
-  pub none_ready : ready_elements s ≡ []
-  pub elements : es ≡ elements_of (reading_by_tables s.reading) text
-
 module _ {I : Type 0} (steps : I → Option ℕ → I → Type 0) (s : CollationElements I) (es : List Element) where
-  pub HasUnread-StillGives : s.progress ≡ Unread → StillGives steps s es → HasUnread steps s es
+  pub HasSource-StillGives : s.progress ≡ Unread → StillGives steps s es → HasSource steps s es
   unfolding StillGives
-  HasUnread-StillGives e h =
-      let has : HasSource steps s h.unread = subst (λ p. IsUnreadAt p steps s h.unread) e h.is_unread in
-      record {
-        text = h.unread;
-        source = has.source;
-        none_ready = has.none_ready;
-        elements = h.elements ∙ ap₂ (λ (l : List Element) (b : List ℕ). l ++ elements_after (reading_by_tables s.reading) b h.unread) has.none_ready has.none_consumed;
-      }
+  HasSource-StillGives e h = subst (λ p. IsLeftAt p steps s es) e h
 
-  pub StillGives-unread : s.progress ≡ Unread → ready_elements s ≡ [] → consumed_last s.position ≡ [] → (text : List ℕ) → StillReads steps s.source text
-      → es ≡ elements_of (reading_by_tables s.reading) text → StillGives steps s es
+  pub StillGives-source : s.progress ≡ Unread → HasSource steps s es → StillGives steps s es
   unfolding StillGives
-  StillGives-unread e none first text source is = record {
-    unread = text;
-    is_unread = subst (λ p. IsUnreadAt p steps s text) (sym e) (record { source = source; none_ready = none; none_consumed = first });
-    elements = is ∙ ap₂ (λ (l : List Element) (b : List ℕ). l ++ elements_after (reading_by_tables s.reading) b text) (sym none) (sym first);
-  }
+  StillGives-source e h = subst (λ p. IsLeftAt p steps s es) (sym e) h
 
-  pub left-StillGives : s.progress ≡ Read → StillGives steps s es → es ≡ all_left s
+  pub left-StillGives : s.progress ≡ Read → StillGives steps s es → es ≡ elements_to_come s.reader
   unfolding StillGives
-  left-StillGives e h =
-      let rest : h.unread ≡ unread_at s.position = subst (λ p. IsUnreadAt p steps s h.unread) e h.is_unread in
-      h.elements ∙ ap (λ (cs : List ℕ). ready_elements s ++ elements_after (reading_by_tables s.reading) (consumed_last s.position) cs) rest
+  left-StillGives e h = subst (λ p. IsLeftAt p steps s es) e h
 
-  pub StillGives-left : s.progress ≡ Read → es ≡ all_left s → StillGives steps s es
+  pub StillGives-left : s.progress ≡ Read → es ≡ elements_to_come s.reader → StillGives steps s es
   unfolding StillGives
-  StillGives-left e h = record {
-    unread = unread_at s.position;
-    is_unread = subst (λ p. IsUnreadAt p steps s (unread_at s.position)) (sym e) refl;
-    elements = h;
-  }
+  StillGives-left e h = subst (λ p. IsLeftAt p steps s es) (sym e) h
 
 module _ {I : Type 0} (can : I → Type 0) (left : I → Count) (s : CollationElements I) where
   pub CanDecompose-CanGive : s.progress ≡ Unread → CanGive can left s → CanDecompose can left s.source
@@ -70,21 +49,50 @@ module _ {I : Type 0} (can : I → Type 0) (left : I → Count) (s : CollationEl
 
 -- ---- the first of what is left
 
+-- an element that is given, or none where none is left, is the first, and the others are left
+pub first_given : (es before after : List Element) (o : Option Element) → es ≡ before → before ≡ option_to_list o ++ after → (o ≡ None → before ≡ [])
+    → (unwrap_or o end_element ≡ first_of es) × (after ≡ rest_of es)
+first_given es before after (Some x) e split end = let all : es ≡ x ∷ after = e ∙ split in rw all (refl, refl)
+first_given es before after None e split end =
+    let none : es ≡ [] = e ∙ end refl in
+    let left : after ≡ [] = sym split ∙ end refl in
+    rw none (refl, left)
+
+-- the same, where a call may fail
+pub given_ok : {E : Type 0} (es before after : List Element) (r : Result (Option Element) E) → es ≡ before
+    → IfOk r (λ o. before ≡ option_to_list o ++ after) → IfOk r (λ o. o ≡ None → before ≡ [])
+    → IfOk r (λ o. (unwrap_or o end_element ≡ first_of es) × (after ≡ rest_of es))
+given_ok es before after (Ok o) e split end = first_given es before after o e split end
+given_ok es before after (Err x) e split end = tt
+
+-- where none was read ahead, those of the text are left
+pub none_ready : (xs ys : List Element) → xs ≡ [] → drop 0 xs ++ ys ≡ ys
+none_ready xs ys none = rw none refl
+
+-- what a step appends and leaves, after all that stood ready was taken, is what there was
+pub one_step : (r : ElementReader) (es fs : List Element) (p : Position) → length r.ready.elements.items ≤ r.next → es ≡ []
+    → fs ++ elements_left r.reading p ≡ es ++ elements_left r.reading r.position → fs ++ elements_left r.reading p ≡ elements_to_come r
+unfolding elements_to_come
+one_step r es fs p past none h =
+    h ∙ ap (λ (l : List Element). l ++ elements_left r.reading r.position) (none ∙ sym (drop_of_length-le r.ready.elements.items past))
+
 -- where one stands ready, it is the first
-pub first_ready : (xs : List Element) (i : ℕ) (rest : List Element) (e : Element) → i < length xs → e ≡ get_or xs i e
-    → (e ≡ first_of (drop i xs ++ rest)) × (drop (i + 1) xs ++ rest ≡ rest_of (drop i xs ++ rest))
-first_ready xs i rest e inside is =
-    let now : drop i xs ≡ e ∷ drop (i + 1) xs = drop_more xs i e inside ∙ ap (λ x. x ∷ drop (i + 1) xs) (sym is) in
-    rw now (refl, refl)
+pub first_ready : (r : ElementReader) (e : Element) → r.next < length r.ready.elements.items → e ≡ get_or r.ready.elements.items r.next e
+    → elements_to_come r ≡ e ∷ (drop (r.next + 1) r.ready.elements.items ++ elements_left r.reading r.position)
+unfolding elements_to_come
+first_ready r e inside is =
+    ap (λ (l : List Element). l ++ elements_left r.reading r.position)
+    (drop_more r.ready.elements.items r.next e inside ∙ ap (λ x. x ∷ drop (r.next + 1) r.ready.elements.items) (sym is))
 
 -- where none does, none is left
-pub none_left : {I : Type 0} (s : CollationElements I) → IsFilled s → length s.ready.elements.items ≤ s.next → all_left s ≡ []
-none_left s filled past =
-    let none : ready_elements s ≡ [] = drop_of_length-le s.ready.elements.items past in
-    ap₂ (λ (l : List Element) (cs : List ℕ). l ++ elements_after (reading_by_tables s.reading) (consumed_last s.position) cs) none (filled none)
-    ∙ elements_after_nil (reading_by_tables s.reading) (consumed_last s.position)
+pub none_left : (r : ElementReader) → IsFilled r → length r.ready.elements.items ≤ r.next → elements_to_come r ≡ []
+unfolding elements_to_come
+none_left r filled past =
+    let none : ready_elements r ≡ [] = drop_of_length-le r.ready.elements.items past in
+    ap₂ (λ (l : List Element) (cs : List ℕ). l ++ elements_after (reading_by_tables r.reading) (consumed_last r.position) cs) none (filled none)
+    ∙ elements_after_nil (reading_by_tables r.reading) (consumed_last r.position)
 
-pub filled_ready : {I : Type 0} (s : CollationElements I) → s.next < length s.ready.elements.items → IsFilled s
-filled_ready s inside = λ none.
-    let counted : length (ready_elements s) ≡ length s.ready.elements.items - s.next = length-drop s.next s.ready.elements.items in
-    let nothing : length (ready_elements s) ≡ 0 = ap length none in absurd (omega arith)
+pub filled_ready : (r : ElementReader) → r.next < length r.ready.elements.items → IsFilled r
+filled_ready r inside = λ none.
+    let counted : length (ready_elements r) ≡ length r.ready.elements.items - r.next = length-drop r.next r.ready.elements.items in
+    let nothing : length (ready_elements r) ≡ 0 = ap length none in absurd (omega arith)

@@ -1,49 +1,32 @@
 -- What an iterator of elements still gives, and that it may be called.
-use Rattle.std.specs.Prelude.{◌≡◌, ℕ, List, [], ◌∷◌, ◌++◌, drop, Option, ⊤}
+use Rattle.std.specs.Prelude.{◌≡◌, ℕ, List, [], ◌∷◌, Option, ⊤}
 use Rattle.std.specs.Iterator.{Count}
 use Rattle.unicode_normalization.specs.Decompositions.{CanDecompose}
 use Rattle.icu_entries.specs.Elements.{Element, end_element}
 use Rattle.icu_elements.specs.declared.iter.Progress.{Progress}
 use Rattle.icu_elements.specs.declared.iter.Progress.TheVariants.{Unread, Read, Refused}
 use Rattle.icu_elements.specs.declared.iter.CollationElements.{CollationElements}
-use Rattle.icu_elements.specs.TextElements.{elements_after}
+use Rattle.icu_elements.specs.TextElements.{elements_of}
+use Rattle.icu_elements.specs.ElementReaders.{elements_to_come}
 use Rattle.icu_elements.specs.inner.Iterating.{StillReads}
-use Rattle.icu_elements.specs.inner.Positions.{reading_by_tables, consumed_last, unread_at, elements_left}
+use Rattle.icu_elements.specs.inner.Positions.{reading_by_tables}
 
--- the elements that stand ready
-abbrev pub ready_elements : {I : Type 0} → CollationElements I → List Element
-ready_elements s = drop s.next s.ready.elements.items
+-- decomposed characters are still to come from the source, and these are their elements
+pub record HasSource {I : Type 0} (steps : I → Option ℕ → I → Type 0) (s : CollationElements I) (es : List Element) : Type 0 where
+  pub text : List ℕ
+  pub source : StillReads steps s.source text
+  pub elements : es ≡ elements_of (reading_by_tables s.reader.reading) text
 
--- those, and the elements of the characters that were decomposed and are still to be read
-abbrev pub all_left : {I : Type 0} → CollationElements I → List Element
-all_left s = ready_elements s ++ elements_left s.reading s.position
-
--- one stands ready, or none is left
-abbrev pub IsFilled : {I : Type 0} → CollationElements I → Type 0
-IsFilled s = ready_elements s ≡ [] → unread_at s.position ≡ []
-
--- no element stands ready yet, nothing was consumed, and these decomposed characters are still to come from the source
-pub record HasSource {I : Type 0} (steps : I → Option ℕ → I → Type 0) (s : CollationElements I) (cs : List ℕ) : Type 0 where
-  pub source : StillReads steps s.source cs
-  pub none_ready : ready_elements s ≡ []
-  pub none_consumed : consumed_last s.position ≡ []
-
--- the decomposed characters that are still to be read
-abbrev pub IsUnreadAt : {I : Type 0} → Progress → (I → Option ℕ → I → Type 0) → CollationElements I → List ℕ → Type 0
-IsUnreadAt Unread steps s cs = HasSource steps s cs
-IsUnreadAt Read steps s cs = cs ≡ unread_at s.position
-IsUnreadAt Refused steps s cs = cs ≡ []
-
--- These elements are left: those that stand ready, and those of the characters that are still to be read, after those that were
--- consumed.
-pub record IsLeft {I : Type 0} (steps : I → Option ℕ → I → Type 0) (s : CollationElements I) (es : List Element) : Type 0 where
-  pub unread : List ℕ
-  pub is_unread : IsUnreadAt s.progress steps s unread
-  pub elements : es ≡ ready_elements s ++ elements_after (reading_by_tables s.reading) (consumed_last s.position) unread
+-- Before the source was read, these are the elements of what it has; then they are those that the reader has yet to give. After an
+-- allocation failed no element comes.
+abbrev pub IsLeftAt : {I : Type 0} → Progress → (I → Option ℕ → I → Type 0) → CollationElements I → List Element → Type 0
+IsLeftAt Unread steps s es = HasSource steps s es
+IsLeftAt Read steps s es = es ≡ elements_to_come s.reader
+IsLeftAt Refused steps s es = es ≡ []
 
 -- these elements are still to come, and then the end element for ever, unless an allocation fails
 unfoldable pub StillGives : {I : Type 0} → (I → Option ℕ → I → Type 0) → CollationElements I → List Element → Type 0
-StillGives steps s es = IsLeft steps s es
+StillGives steps s es = IsLeftAt s.progress steps s es
 
 abbrev pub IsReadyAt : {I : Type 0} → Progress → (I → Type 0) → (I → Count) → CollationElements I → Type 0
 IsReadyAt Unread can left s = CanDecompose can left s.source

@@ -19,6 +19,7 @@ pub use Rattle.icu_matches.specs.Matches
 pub use Rattle.icu_matches.specs.GoodEntries
 pub mod TextElements
 pub mod Reading
+pub mod ElementReaders
 pub mod CollationElements
 pub mod TextParts
 pub mod TextLaws

@@ -3,3 +3,4 @@ pub mod Readable
 pub mod Iterating
 pub mod Positions
 pub mod Digits
+pub mod ReadyElements

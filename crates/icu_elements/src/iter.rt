@@ -1,17 +1,15 @@
 //! The elements of a text, one by one.
 
-ghost use Rattle.std.specs.Prelude.{◌≡◌, ℕ, List, [], IsErr, IfOk, OnOk, OnErr};
+ghost use Rattle.std.specs.Prelude.{◌≡◌, ℕ, List, unwrap_or, IsErr, IfOk, OnOk, OnErr};
 ghost use Rattle.std.specs.Iterator.{IsFinite};
-ghost use Rattle.icu_entries.specs.Elements.{Element};
+ghost use Rattle.icu_entries.specs.Elements.{Element, end_element};
 ghost use Rattle.unicode_normalization.specs.Decompositions.{CanDecompose};
 ghost use Rattle.unicode_normalization.specs.Forms.{nfd};
 ghost use Rattle.unicode_normalization.specs.Iter.{Spells};
 
-use crate::element_list::ElementList;
+use crate::element_reader::ElementReader;
 use crate::read::whole_text;
 use crate::reader::TextReading;
-use crate::reader::position::Position;
-use crate::reader::step::read_step;
 use crate::tables::ElementTables;
 use icu_entries::CollationElement;
 use std::alloc::AllocError;
@@ -29,10 +27,7 @@ enum Progress {
 #[derive(Drop)]
 pub struct CollationElements<'d, I> {
     source: Decompositions<I>,
-    reading: TextReading<'d>,
-    position: Position,
-    ready: ElementList,
-    next: usize,
+    reader: ElementReader<'d>,
     progress: Progress,
 }
 
@@ -41,8 +36,8 @@ impl<'d, I: Iterator<Item = char> + Drop> CollationElements<'d, I> {
     ghost use Rattle.icu_elements.specs.Reading.{reading_of};
     ghost use Rattle.icu_elements.specs.CollationElements.{StillGives, CanGive, IsRefused};
     ghost use Rattle.icu_elements.specs.CollationElements.{first_of, rest_of};
-    ghost use Rattle.icu_elements.specs.CollationElements.{ready_elements, all_left, IsFilled};
-    ghost use Rattle.icu_elements.specs.inner.Positions.{reading_by_tables, elements_left};
+    ghost use Rattle.icu_elements.specs.ElementReaders.{elements_to_come};
+    ghost use Rattle.icu_elements.specs.inner.Positions.{reading_by_tables};
     ghost use Rattle.icu_elements.specs.inner.Iterating.{StillReads};
 
     /// Reads the text that `delegate` spells, by these tables. `numeric_primary` is the lead byte of
@@ -62,18 +57,14 @@ impl<'d, I: Iterator<Item = char> + Drop> CollationElements<'d, I> {
             → CanGive I.can_next I.remaining result }
     {
         let alloc = tables.allocator();
+        let reading = TextReading {
+            tables,
+            numeric_primary,
+            lithuanian_dot_above,
+        };
         CollationElements {
             source: Decompositions::new_canonical(alloc, delegate),
-            reading: TextReading {
-                tables,
-                numeric_primary,
-                lithuanian_dot_above,
-            },
-            position: Position::at_start(Vec::new(alloc)),
-            ready: ElementList {
-                elements: Vec::new(alloc),
-            },
-            next: 0,
+            reader: ElementReader::at_start(reading, Vec::new(alloc)),
             progress: Progress::Unread,
         }
     }
@@ -89,19 +80,21 @@ impl<'d, I: Iterator<Item = char> + Drop> CollationElements<'d, I> {
         ensures refused { OnErr result (IsRefused self.new) }
         ensures stays_refused { IsRefused self.old → IsErr result }
     {
-        if let Err(error) = self.prepare() {
-            self.progress = Progress::Refused;
-            return Err(error);
+        match self.read_next() {
+            Err(error) => {
+                self.progress = Progress::Refused;
+                Err(error)
+            }
+            Ok(next) => Ok(next.unwrap_or(CollationElement::default())),
         }
-        Ok(self.advance())
     }
 
-    /// Reads on until an element stands ready, or none is left.
-    fn prepare(&mut self) -> Result<(), AllocError>
+    /// The next element, or `None` after the last one. Fails once an allocation failed.
+    fn read_next(&mut self) -> Result<Option<CollationElement>, AllocError>
         requires { CanGive I.can_next I.remaining self.old }
         ensures gives { (es : List Element) → StillGives I.next_gives self.old es
-            → OnOk result (es ≡ all_left self.new) }
-        ensures filled { OnOk result (IsFilled self.new) }
+            → IfOk result (λ next. (unwrap_or next end_element ≡ first_of es)
+            × (elements_to_come self.new.reader ≡ rest_of es)) }
         ensures is_read { OnOk result (self.new.progress ≡ Progress.Read) }
         ensures refused { IsRefused self.old → IsErr result }
     {
@@ -109,10 +102,9 @@ impl<'d, I: Iterator<Item = char> + Drop> CollationElements<'d, I> {
             Progress::Refused => Err(AllocError),
             Progress::Unread => {
                 self.load()?;
-                self.progress = Progress::Read;
-                self.fill()
+                self.reader.next()
             }
-            Progress::Read => self.fill(),
+            Progress::Read => self.reader.next(),
         }
     }
 
@@ -120,43 +112,14 @@ impl<'d, I: Iterator<Item = char> + Drop> CollationElements<'d, I> {
     fn load(&mut self) -> Result<(), AllocError>
         requires { CanDecompose I.can_next I.remaining self.old.source }
         ensures elements { (cs : List ℕ) → StillReads I.next_gives self.old.source cs
-            → OnOk result (elements_left self.new.reading self.new.position
-            ≡ elements_of (reading_by_tables self.old.reading) cs) }
-        ensures ready { OnOk result (ready_elements self.new ≡ ready_elements self.old) }
+            → OnOk result (elements_to_come self.new.reader
+            ≡ elements_of (reading_by_tables self.old.reader.reading) cs) }
+        ensures is_read { OnOk result (self.new.progress ≡ Progress.Read) }
     {
-        let text = whole_text(self.reading.tables.allocator(), &mut self.source)?;
-        self.position = Position::at_start(text);
+        let reading = self.reader.reading;
+        let text = whole_text(reading.tables.allocator(), &mut self.source)?;
+        self.reader = ElementReader::at_start(reading, text);
+        self.progress = Progress::Read;
         Ok(())
-    }
-
-    /// Reads on, step by step, until an element stands ready, or none is left.
-    fn fill(&mut self) -> Result<(), AllocError>
-        ensures same { OnOk result (all_left self.new ≡ all_left self.old) }
-        ensures filled { OnOk result (IsFilled self.new) }
-        ensures progress { OnOk result (self.new.progress ≡ self.old.progress) }
-    {
-        'steps: while self.next >= self.ready.elements.len() {
-            self.next = 0;
-            self.ready.elements.clear();
-            if !read_step(self.reading, &mut self.position, &mut self.ready)? {
-                return Ok(());
-            }
-        }
-        Ok(())
-    }
-
-    /// The first of the elements that stand ready, or the end element.
-    fn advance(&mut self) -> CollationElement
-        requires { IsFilled self.old }
-        ensures element { result ≡ first_of (all_left self.old) }
-        ensures rest { all_left self.new ≡ rest_of (all_left self.old) }
-        ensures progress { self.new.progress ≡ self.old.progress }
-    {
-        if self.next < self.ready.elements.len() {
-            let element = self.ready.elements[self.next];
-            self.next += 1;
-            return element;
-        }
-        CollationElement::default()
     }
 }

@@ -3,14 +3,17 @@
 #![tactic(auto)]
 
 mod element_list;
+pub mod element_reader;
 pub mod iter;
 pub mod laws;
-mod read;
+pub mod read;
 mod reader;
 pub mod tables;
 pub mod whole;
 
+pub use element_reader::ElementReader;
 pub use icu_entries::{CollationElement, CollationElement32, NonPrimary, Tag};
 pub use iter::CollationElements;
+pub use read::decomposed_text;
 pub use tables::ElementTables;
 pub use whole::all_elements;

@@ -7,12 +7,11 @@ ghost use Rattle.unicode_normalization.specs.Iter.{Spells};
 ghost use Rattle.icu_elements.specs.TextElements.{elements_of};
 ghost use Rattle.icu_elements.specs.Reading.{reading_of};
 
-use crate::read::whole_text;
+use crate::read::decomposed_text;
 use crate::reader::{TextReading, read_text};
 use crate::tables::ElementTables;
 use icu_entries::CollationElement;
 use std::alloc::AllocError;
-use unicode_normalization::Decompositions;
 
 /// All elements of the text that an iterator spells (UTS #10, section 7.2). `numeric_primary` is the
 /// lead byte of numbers, where digits are read as numbers. With `lithuanian_dot_above`, U+0307 before
@@ -29,9 +28,7 @@ pub fn all_elements<I: Iterator<Item = char> + Drop>(
         (cs : List ℕ) → Spells I.next_gives delegate cs
         → IfOk result (λ es. es.items ≡ elements_of reading (nfd cs)) }
 {
-    let alloc = tables.allocator();
-    let mut source = Decompositions::new_canonical(alloc, delegate);
-    let text = whole_text(alloc, &mut source)?;
+    let text = decomposed_text(tables.allocator(), delegate)?;
     let reading = TextReading {
         tables,
         numeric_primary,

@@ -1,5 +1,5 @@
 -- The elements that are left at the start are those of the whole texts.
-use Rattle.std.proofs.Common.{◌≡◌, ◌∙◌, ap, false, chars}
+use Rattle.std.proofs.Common.{◌≡◌, ◌∙◌, ap, false}
 use Rattle.unicode_normalization.specs.Forms.{nfd}
 use Rattle.icu_order.specs.Handled.{handled}
 use Rattle.icu_order.specs.Forms.{last_variable_by}
@@ -12,11 +12,11 @@ use Rattle.icu_comparison.proofs.collator.CollatorBorrowed.compare_elements.Goal
 
 pub returns : goal.returns
 unfolding elements_order lists_by
-returns c =
+returns g c =
     let all = tables_borrowed c.args.self.now in
     let settings = settings_borrowed c.args.self.now in
-    let t = nfd (chars c.args.left.now) in
-    let u = nfd (chars c.args.right.now) in
+    let t = nfd (g.L.EncodedText.text c.args.left.now) in
+    let u = nfd (g.R.EncodedText.text c.args.right.now) in
     let left : handled_rest c.handled.result ≡ handled_by all settings t =
     c.handled.ensures ∙ ap (handled (last_variable_by all settings) false) (c.as_slice.ensures.value ∙ c.in_ok-left.ensures) in
     let right : handled_rest c.handled-2.result ≡ handled_by all settings u =

@@ -1,17 +1,17 @@
 -- The order of the elements decides, or the characters do.
-use Rattle.std.proofs.Common.{◌≡◌, ◌∙◌, sym, subst, chars, IfOk}
+use Rattle.std.proofs.Common.{◌≡◌, ◌∙◌, sym, subst, IfOk}
 use Rattle.std.specs.declared.cmp.Ordering.{Ordering}
 use Rattle.icu_comparison.specs.Collators.{tables_borrowed, settings_borrowed}
 use Rattle.icu_comparison.proofs.OrderLemmas.{ends, goes_on_ok, order_in_two}
 use Rattle.icu_comparison.proofs.collator.CollatorBorrowed.compare_levels.Goals as goal
 
 pub returns-then-ne : goal.returns-then-ne
-returns-then-ne c =
+returns-then-ne g c =
     ends _ _ _ _ c.ne.ensures c.if-ne.true c.in_ok-order.ensures
-    ∙ sym (order_in_two (tables_borrowed c.args.self.now) (settings_borrowed c.args.self.now) (chars c.args.left.now) (chars c.args.right.now))
+    ∙ sym (order_in_two (tables_borrowed c.args.self.now) (settings_borrowed c.args.self.now) (g.L.EncodedText.text c.args.left.now) (g.R.EncodedText.text c.args.right.now))
 
 pub returns : goal.returns
-returns c =
-    let parts = order_in_two (tables_borrowed c.args.self.now) (settings_borrowed c.args.self.now) (chars c.args.left.now) (chars c.args.right.now) in
+returns g c =
+    let parts = order_in_two (tables_borrowed c.args.self.now) (settings_borrowed c.args.self.now) (g.L.EncodedText.text c.args.left.now) (g.R.EncodedText.text c.args.right.now) in
     subst (λ (w : Ordering). IfOk c.compare_characters.result (λ o. o ≡ w)) (sym parts)
     (goes_on_ok _ _ _ _ c.compare_characters.result c.ne.ensures c.if-ne.false c.in_ok-order.ensures c.compare_characters.ensures)

@@ -1,12 +1,15 @@
 use Rattle.std.proofs.Common.{refl, rules}
 use Rattle.unicode_normalization.specs.Forms.{nfd}
 use Rattle.icu_elements.specs.CollationElements.{CanGive}
-use Rattle.icu_elements.proofs.IterLemmas.{StillGives-unread}
+use Rattle.icu_elements.proofs.IterLemmas.{StillGives-source}
 use Rattle.icu_elements.proofs.iter.CollationElements.new.Goals as goal
 
 pub returns-clause-text : goal.returns-clause-text
-returns-clause-text g c = λ cs h.
-    StillGives-unread _ _ _ refl (search rules) c.at_start.ensures.before (nfd cs) (c.new_canonical.ensures.text cs h) refl
+returns-clause-text g c = λ cs h. StillGives-source _ _ _ refl (record {
+  text = nfd cs;
+  source = c.new_canonical.ensures.text cs h;
+  elements = search rules;
+})
 
 pub returns-clause-ready : goal.returns-clause-ready
 unfolding CanGive

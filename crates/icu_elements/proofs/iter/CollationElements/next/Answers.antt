@@ -1,18 +1,17 @@
-use Rattle.std.proofs.Common.{refl, sym, ap, ◌∙◌}
-use Rattle.icu_elements.specs.CollationElements.{first_of, rest_of}
+use Rattle.std.proofs.Common.{refl, sym, ap, ◌∙◌, unwrap_or}
+use Rattle.icu_elements.specs.CollationElements.{rest_of}
 use Rattle.icu_elements.proofs.IterLemmas.{StillGives-left, CanGive-read, CanGive-refused}
 use Rattle.icu_elements.proofs.iter.CollationElements.next.Goals as goal
 
 pub returns-in-Err-clause-again : goal.returns-in-Err-clause-again
 returns-in-Err-clause-again g c = CanGive-refused _ _ _ refl
 
-pub returns-clause-again : goal.returns-clause-again
-returns-clause-again g c =
-    CanGive-read g.I.Iterator.can_next g.I.Iterator.remaining c.advance.new.self (c.advance.ensures.progress ∙ c.in_default.ensures.is_read)
+pub returns-in-Ok-clause-again : goal.returns-in-Ok-clause-again
+returns-in-Ok-clause-again g c = CanGive-read g.I.Iterator.can_next g.I.Iterator.remaining c.read_next.new.self c.in-Ok.ensures.is_read
 
-pub returns-clause-gives : goal.returns-clause-gives
-returns-clause-gives g c = λ es h.
-    let left = c.in_default.ensures.gives es h in (
-      c.advance.ensures.element ∙ ap first_of (sym left),
-      StillGives-left g.I.Iterator.next_gives c.advance.new.self (rest_of es) (c.advance.ensures.progress ∙ c.in_default.ensures.is_read) (ap rest_of left ∙ sym c.advance.ensures.rest),
+pub returns-in-Ok-clause-gives : goal.returns-in-Ok-clause-gives
+returns-in-Ok-clause-gives g c = λ es h.
+    let given = c.in-Ok.ensures.gives es h in (
+      c.unwrap_or.ensures ∙ ap (unwrap_or c.in-Ok.next) c.default.ensures ∙ given.0,
+      StillGives-left g.I.Iterator.next_gives c.read_next.new.self (rest_of es) c.in-Ok.ensures.is_read (sym given.1),
     )

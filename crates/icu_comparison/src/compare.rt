@@ -1,0 +1,160 @@
+//! The order of texts.
+
+ghost use Rattle.std.specs.Prelude.{◌≡◌, IfOk, chars};
+ghost use Rattle.icu_encodings.specs.DecodedTexts.{latin1_text, utf16_text, utf8_text};
+ghost use Rattle.icu_levels.specs.ListOrder.{list_order};
+ghost use Rattle.icu_levels.specs.Keys.{characters_order};
+ghost use Rattle.icu_order.specs.Forms.{form_by};
+ghost use Rattle.icu_order.specs.TextOrder.{lists_by, text_order, text_key};
+ghost use Rattle.unicode_normalization.specs.Forms.{nfd};
+
+use crate::characters::compare_characters;
+use crate::collator::CollatorBorrowed;
+use crate::order::ElementOrder;
+use crate::texts::{EncodedText, Latin1Text, Utf8Text, Utf16Text};
+use icu_order::laws::keys_keep_text_order;
+use std::alloc::AllocError;
+use std::cmp::Ordering;
+
+impl<'a> CollatorBorrowed<'a> {
+    ghost use Rattle.icu_comparison.specs.Collators.{tables_borrowed, settings_borrowed};
+    ghost use Rattle.icu_comparison.specs.inner.ElementOrders.{elements_order};
+
+    /// The order of two texts by the tables and the settings (UTS #10, section 7.4 "Compare Sort
+    /// Keys"), for all of them. The first level that differs decides: primary weights, reordered,
+    /// then secondary weights, forward or backward, cases, tertiary weights, quaternary weights, and
+    /// the characters of the decomposed texts, as far as the settings name these levels. It is the
+    /// dictionary order of the two texts' sort keys. Fails only where an allocation does.
+    pub fn compare(&self, left: &str, right: &str) -> Result<Ordering, AllocError>
+        ensures order { IfOk result (λ o. o ≡ text_order (tables_borrowed self.now)
+            (settings_borrowed self.now) (chars left.now) (chars right.now)) }
+        ensures keys { IfOk result (λ o. o ≡ list_order
+            (text_key (tables_borrowed self.now) (settings_borrowed self.now) (chars left.now))
+            (text_key (tables_borrowed self.now) (settings_borrowed self.now) (chars right.now))) }
+    {
+        self.compare_texts(&left, &right)
+    }
+
+    /// The same of two texts in UTF-8 that may be damaged: each maximal ill-formed part is one U+FFFD
+    /// (Unicode Standard, section 3.9). Fails only where an allocation does.
+    pub fn compare_utf8(&self, left: &[u8], right: &[u8]) -> Result<Ordering, AllocError>
+        ensures order { IfOk result (λ o. o ≡ text_order (tables_borrowed self.now)
+            (settings_borrowed self.now) (utf8_text left.now) (utf8_text right.now)) }
+        ensures keys { IfOk result (λ o. o ≡ list_order
+            (text_key (tables_borrowed self.now) (settings_borrowed self.now) (utf8_text left.now))
+            (text_key (tables_borrowed self.now) (settings_borrowed self.now) (utf8_text right.now))) }
+    {
+        self.compare_texts(&Utf8Text(left), &Utf8Text(right))
+    }
+
+    /// The same of two texts in UTF-16: each unpaired surrogate is U+FFFD (Unicode Standard, section
+    /// 3.9). Fails only where an allocation does.
+    pub fn compare_utf16(&self, left: &[u16], right: &[u16]) -> Result<Ordering, AllocError>
+        ensures order { IfOk result (λ o. o ≡ text_order (tables_borrowed self.now)
+            (settings_borrowed self.now) (utf16_text left.now) (utf16_text right.now)) }
+        ensures keys { IfOk result (λ o. o ≡ list_order
+            (text_key (tables_borrowed self.now) (settings_borrowed self.now) (utf16_text left.now))
+            (text_key (tables_borrowed self.now) (settings_borrowed self.now) (utf16_text right.now))) }
+    {
+        self.compare_texts(&Utf16Text(left), &Utf16Text(right))
+    }
+
+    /// The same of two texts in Latin-1: each byte is the character of its number (Unicode Standard,
+    /// section 7.1). Fails only where an allocation does.
+    pub fn compare_latin1(&self, left: &[u8], right: &[u8]) -> Result<Ordering, AllocError>
+        ensures order { IfOk result (λ o. o ≡ text_order (tables_borrowed self.now)
+            (settings_borrowed self.now) (latin1_text left.now) (latin1_text right.now)) }
+        ensures keys { IfOk result (λ o. o ≡ list_order
+            (text_key (tables_borrowed self.now) (settings_borrowed self.now) (latin1_text left.now))
+            (text_key (tables_borrowed self.now) (settings_borrowed self.now) (latin1_text right.now))) }
+    {
+        self.compare_texts(&Latin1Text(left), &Latin1Text(right))
+    }
+
+    /// The same of a text in Latin-1 and one in UTF-16. Fails only where an allocation does.
+    pub fn compare_latin1_utf16(&self, left: &[u8], right: &[u16]) -> Result<Ordering, AllocError>
+        ensures order { IfOk result (λ o. o ≡ text_order (tables_borrowed self.now)
+            (settings_borrowed self.now) (latin1_text left.now) (utf16_text right.now)) }
+        ensures keys { IfOk result (λ o. o ≡ list_order
+            (text_key (tables_borrowed self.now) (settings_borrowed self.now) (latin1_text left.now))
+            (text_key (tables_borrowed self.now) (settings_borrowed self.now) (utf16_text right.now))) }
+    {
+        self.compare_texts(&Latin1Text(left), &Utf16Text(right))
+    }
+
+    /// The order of two texts, whatever their encodings.
+    fn compare_texts<L: EncodedText, R: EncodedText>(
+        &self,
+        left: &L,
+        right: &R,
+    ) -> Result<Ordering, AllocError>
+        ensures order { IfOk result (λ o. o ≡ text_order (tables_borrowed self.now)
+            (settings_borrowed self.now) (L.text left.now) (R.text right.now)) }
+        ensures keys { IfOk result (λ o. o ≡ list_order
+            (text_key (tables_borrowed self.now) (settings_borrowed self.now) (L.text left.now))
+            (text_key (tables_borrowed self.now) (settings_borrowed self.now) (R.text right.now))) }
+    {
+        let order = self.compare_levels(left, right)?;
+        keys_keep_text_order();
+        self.tables.are_good();
+        left.is_text();
+        right.is_text();
+        Ok(order)
+    }
+
+    /// The order of two texts by their levels in turn.
+    fn compare_levels<L: EncodedText, R: EncodedText>(
+        &self,
+        left: &L,
+        right: &R,
+    ) -> Result<Ordering, AllocError>
+        ensures { IfOk result (λ o. o ≡ text_order (tables_borrowed self.now)
+            (settings_borrowed self.now) (L.text left.now) (R.text right.now)) }
+    {
+        let order = self.compare_elements(left, right)?;
+        if order != Ordering::Equal {
+            return Ok(order);
+        }
+        self.compare_characters(left, right)
+    }
+
+    /// The order of two texts by their decomposed characters, where these count.
+    #[tactic(auto, unfolding(icu_order::specs::TextOrder::lists_by))]
+    fn compare_characters<L: EncodedText, R: EncodedText>(
+        &self,
+        left: &L,
+        right: &R,
+    ) -> Result<Ordering, AllocError>
+        ensures { let all = tables_borrowed self.now in let settings = settings_borrowed self.now in
+            IfOk result (λ o. o ≡ characters_order (form_by all settings).identical
+            (lists_by all settings (nfd (L.text left.now))) (lists_by all settings (nfd (R.text right.now)))) }
+    {
+        if self.key_form().identical {
+            compare_characters(self.tables.allocator(), left, right)
+        } else {
+            Ok(Ordering::Equal)
+        }
+    }
+
+    /// The order of two texts by their elements: all levels but the identical one.
+    #[tactic(auto, unfolding(crate::specs::inner::ElementOrders::elements_order, icu_order::specs::TextOrder::lists_by))]
+    fn compare_elements<L: EncodedText, R: EncodedText>(
+        &self,
+        left: &L,
+        right: &R,
+    ) -> Result<Ordering, AllocError>
+        ensures { IfOk result (λ o. o ≡ elements_order (tables_borrowed self.now)
+            (settings_borrowed self.now) (nfd (L.text left.now)) (nfd (R.text right.now))) }
+    {
+        let left = self.elements(left)?;
+        let right = self.elements(right)?;
+        let order = ElementOrder {
+            form: self.key_form(),
+            reordering: self.tables.reordering(),
+        };
+        Ok(order.compare(
+            self.handled(left.as_slice()),
+            self.handled(right.as_slice()),
+        ))
+    }
+}

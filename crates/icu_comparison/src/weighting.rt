@@ -1,0 +1,53 @@
+//! Variable weighting, one element at a time (UTS #10, section 4 "Variable Weighting").
+
+ghost use Rattle.std.specs.Prelude.{◌≡◌, List, false, ◌∷◌, ◌++◌, option_map, option_to_list};
+ghost use Rattle.icu_entries.specs.Elements.{Element};
+
+use icu_entries::CollationElement;
+use icu_entries::element::MERGE_SEPARATOR_PRIMARY;
+use icu_text_keys::Handled;
+
+/// What of the elements so far decides how the next one is handled: whether a variable one came
+/// last. Variable are those with a primary weight above the merge separator's and up to
+/// `last_variable`: none, where that is 0.
+#[derive(Clone, Copy, Debug)]
+pub(crate) struct VariableWeighting {
+    last_variable: u32,
+    after_variable: bool,
+}
+
+impl VariableWeighting {
+    ghost use Rattle.icu_comparison.specs.HandledRests.{handled_after};
+    ghost use Rattle.icu_text_keys.specs.HandledSources.{handled_as};
+    ghost use Rattle.icu_order.specs.Handled.{handled};
+
+    /// Before the first element.
+    pub(crate) fn new(last_variable: u32) -> VariableWeighting
+        ensures { (es : List Element) → handled_after result es ≡ handled last_variable false es }
+    {
+        VariableWeighting {
+            last_variable,
+            after_variable: false,
+        }
+    }
+
+    /// Handles the next element: a variable one is shifted, and one without a primary weight
+    /// vanishes after it.
+    #[inline]
+    #[tactic(auto, unfolding(icu_order::specs::Handled::handled))]
+    pub(crate) fn handle(&mut self, element: CollationElement) -> Option<Handled>
+        ensures { (es : List Element) → handled_after self.old (element ∷ es)
+            ≡ option_to_list (option_map handled_as result) ++ handled_after self.new es }
+    {
+        let primary = element.primary();
+        if primary > MERGE_SEPARATOR_PRIMARY && primary <= self.last_variable {
+            self.after_variable = true;
+            return Some(Handled::Shifted(primary));
+        }
+        if self.after_variable && primary == 0 {
+            return None;
+        }
+        self.after_variable = false;
+        Some(Handled::Stayed(element))
+    }
+}

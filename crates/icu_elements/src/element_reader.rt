@@ -1,0 +1,106 @@
+//! The elements of a decomposed text, one by one.
+
+ghost use Rattle.std.specs.Prelude.{◌≡◌, [], ◌++◌, None, option_to_list, IfOk, OnOk};
+
+use crate::element_list::ElementList;
+use crate::reader::TextReading;
+use crate::reader::position::Position;
+use crate::reader::step::read_step;
+use crate::tables::ElementTables;
+use icu_entries::CollationElement;
+use std::alloc::AllocError;
+
+/// Reads a decomposed text and gives its collation elements, one by one (UTS #10, section 7.2).
+#[derive(Drop)]
+pub struct ElementReader<'d> {
+    pub(crate) reading: TextReading<'d>,
+    position: Position,
+    ready: ElementList,
+    next: usize,
+}
+
+impl<'d> ElementReader<'d> {
+    ghost use Rattle.icu_elements.specs.TextElements.{elements_of};
+    ghost use Rattle.icu_elements.specs.Reading.{reading_of};
+    ghost use Rattle.icu_elements.specs.ElementReaders.{elements_to_come};
+    ghost use Rattle.icu_elements.specs.inner.Positions.{reading_by_tables, unread_at};
+    ghost use Rattle.icu_elements.specs.inner.ReadyElements.{ready_elements, IsFilled};
+
+    /// Reads a text in canonical decomposition (UAX #15), by these tables. `numeric_primary` is the
+    /// lead byte of numbers, where digits are read as numbers. With `lithuanian_dot_above`, U+0307
+    /// before a diacritic above is silent. Does not allocate.
+    pub fn new(
+        text: Vec<char>,
+        tables: ElementTables<'d>,
+        numeric_primary: Option<u8>,
+        lithuanian_dot_above: bool,
+    ) -> ElementReader<'d>
+        ensures { elements_to_come result ≡ elements_of
+            (reading_of tables.entry numeric_primary lithuanian_dot_above) text.items }
+    {
+        let reading = TextReading {
+            tables,
+            numeric_primary,
+            lithuanian_dot_above,
+        };
+        ElementReader::at_start(reading, text)
+    }
+
+    /// The same, by what says how texts are read.
+    pub(crate) fn at_start(reading: TextReading<'d>, text: Vec<char>) -> ElementReader<'d>
+        ensures reading { result.reading ≡ reading.entry }
+        ensures elements { elements_to_come result
+            ≡ elements_of (reading_by_tables reading.entry) text.items }
+    {
+        let alloc = reading.tables.allocator();
+        ElementReader {
+            reading,
+            position: Position::at_start(text),
+            ready: ElementList {
+                elements: Vec::new(alloc),
+            },
+            next: 0,
+        }
+    }
+
+    /// The next element, or `None` after the last one. Fails only where an allocation does; discard
+    /// the reader then.
+    pub fn next(&mut self) -> Result<Option<CollationElement>, AllocError>
+        ensures next { IfOk result (λ next.
+            elements_to_come self.old ≡ option_to_list next ++ elements_to_come self.new) }
+        ensures end { IfOk result (λ next. next ≡ None → elements_to_come self.old ≡ []) }
+    {
+        self.fill()?;
+        Ok(self.take_ready())
+    }
+
+    /// Reads on, step by step, until an element stands ready, or none is left.
+    fn fill(&mut self) -> Result<(), AllocError>
+        ensures same { OnOk result (elements_to_come self.new ≡ elements_to_come self.old) }
+        ensures filled { OnOk result (IsFilled self.new) }
+    {
+        'steps: while self.next >= self.ready.elements.len() {
+            self.next = 0;
+            self.ready.elements.clear();
+            if !read_step(self.reading, &mut self.position, &mut self.ready)? {
+                return Ok(());
+            }
+        }
+        Ok(())
+    }
+
+    /// The first of the elements that stand ready.
+    fn take_ready(&mut self) -> Option<CollationElement>
+        requires { IsFilled self.old }
+        ensures next { elements_to_come self.old
+            ≡ option_to_list result ++ elements_to_come self.new }
+        ensures end { result ≡ None → elements_to_come self.old ≡ [] }
+    {
+        if self.next >= self.ready.elements.len() {
+            return None;
+        }
+        let element = self.ready.elements[self.next];
+        self.next += 1;
+        Some(element)
+    }
+}
