@@ -74,7 +74,7 @@ impl<'a> HandledSource for HandledElements<'a> {
 /// The elements of a decomposed text, handled the same way as they are read: no list of elements is
 /// made.
 #[derive(Drop)]
-pub struct HandledReader<'d> {
+pub(crate) struct HandledReader<'d> {
     elements: ElementReader<'d>,
     weighting: VariableWeighting,
 }
@@ -86,7 +86,7 @@ impl<'d> HandledReader<'d> {
 
     /// All elements that a reader still gives. Variable are those with a primary weight above the
     /// merge separator's and up to `last_variable`: none, where that is 0.
-    pub fn new(elements: ElementReader<'d>, last_variable: u32) -> HandledReader<'d>
+    pub(crate) fn new(elements: ElementReader<'d>, last_variable: u32) -> HandledReader<'d>
         ensures { handled_to_come result
             ≡ handled last_variable false (elements_to_come elements.entry) }
     {

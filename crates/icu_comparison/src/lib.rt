@@ -13,6 +13,6 @@ mod texts;
 mod weighting;
 
 pub use collator::{Collator, CollatorBorrowed};
-pub use handled::{HandledElements, HandledReader};
+pub use handled::HandledElements;
 pub use icu_keys::{CollationKeySink, SortKeyError, TooSmall};
 pub use icu_text_keys::{Handled, HandledSource, key_form};
