@@ -14,6 +14,7 @@ pub use icu_options::CollatorPreferences;
 /// Collators, what they compare, and where the bytes of sort keys go.
 pub mod comparison {
     pub use icu_comparison::{Collator, CollatorBorrowed};
+    pub use icu_encodings::{Latin1Chars, Latin1Iter};
     pub use icu_keys::accumulator::AnyQuaternaryAccumulator;
     pub use icu_keys::{CollationKeySink, SortKeyError, TooSmall};
     pub use icu_order::laws;

@@ -14,5 +14,6 @@ mod weighting;
 
 pub use collator::{Collator, CollatorBorrowed};
 pub use handled::HandledElements;
+pub use icu_encodings::{Latin1Chars, Latin1Iter};
 pub use icu_keys::{CollationKeySink, SortKeyError, TooSmall};
 pub use icu_text_keys::{Handled, HandledSource, key_form};
