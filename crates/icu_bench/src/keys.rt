@@ -88,32 +88,64 @@ fn key_of(alloc: Global, collator: &Collator, text: &str) -> Result<Vec<u8>, Fai
     }
 }
 
+/// A call that writes the key of a text, in one of its encodings.
+#[derive(Clone, Copy, Debug)]
+enum Call {
+    Characters,
+    Utf8,
+    /// The call for these units.
+    Utf16(&'static [u16]),
+}
+
+impl Call {
+    fn write(
+        self,
+        collator: &Collator,
+        text: &str,
+        slice: &mut &mut [u8],
+    ) -> Result<usize, SortKeyError<TooSmall>> {
+        let borrowed = collator.as_borrowed();
+        match self {
+            Call::Characters => borrowed.write_sort_key_to(text, slice),
+            Call::Utf8 => borrowed.write_sort_key_utf8_to(text.as_bytes(), slice),
+            Call::Utf16(units) => borrowed.write_sort_key_utf16_to(units, slice),
+        }
+    }
+}
+
+/// Writes the key of a row into slices of each length up to one more than its own.
+fn write_slices(rt: &impl Abort, alloc: Global, row: &Row, call: Call) -> Result<(), Fail> {
+    let text = row.text;
+    let collator = row.collator(alloc)?;
+    let key = key_of(alloc, &collator, text)?;
+    for length in 0..key.len() + 2 {
+        let mut array = [0x7F; 64];
+        assert!(rt; length <= 64);
+        let mut slice = &mut array[..length];
+        let result = call.write(&collator, text, &mut slice);
+        if length < key.len() {
+            let error = SortKeyError::Sink(TooSmall::new(key.len()));
+            assert_eq!(rt; result, Err(error), "{text:?} by {call:?} into {length}");
+        } else {
+            assert_eq!(rt; result, Ok(key.len()), "{text:?} by {call:?} into {length}");
+        }
+        assert!(rt;
+            begins_with_key(slice, key.as_slice()),
+            "{text:?} by {call:?} into {length}"
+        );
+    }
+    Ok(())
+}
+
 #[test]
 fn slices_of_each_length(rt: HostRuntime) -> Result<(), Fail> {
     for row in &rows() {
-        let collator = row.collator(rt.alloc())?;
-        let key = key_of(rt.alloc(), &collator, row.text)?;
-        for length in 0..key.len() + 2 {
-            let mut array = [0x7F; 64];
-            assert!(rt; length <= 64);
-            let mut slice = &mut array[..length];
-            let result = collator
-                .as_borrowed()
-                .write_sort_key_to(row.text, &mut slice);
-            if length < key.len() {
-                let error = SortKeyError::Sink(TooSmall::new(key.len()));
-                assert_eq!(rt; result, Err(error), "{:?} into {length}", row.text);
-            } else {
-                assert_eq!(rt; result, Ok(key.len()), "{:?} into {length}", row.text);
-            }
-            assert!(rt;
-                begins_with_key(slice, key.as_slice()),
-                "{:?} into {length}",
-                row.text
-            );
-        }
+        write_slices(&rt, rt.alloc(), row, Call::Characters)?;
     }
-    Ok(())
+    let row = Row::new(Strength::Identical, "áAbc");
+    write_slices(&rt, rt.alloc(), &row, Call::Utf8)?;
+    let units = Call::Utf16(&[0xE1, 0x41, 0x62, 0x63]);
+    write_slices(&rt, rt.alloc(), &row, units)
 }
 
 /// Whether a slice holds a beginning of the key, all of it where it has room, and then bytes 7F.

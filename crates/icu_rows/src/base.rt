@@ -1,5 +1,7 @@
 //! The tables that rows begin with.
 use crate::changes::change;
+use crate::settings::named_sources;
+use icu_comparison::Collator;
 use icu_mini::mini::Mini;
 use std::alloc::{AllocError, Global};
 
@@ -38,4 +40,12 @@ pub(crate) fn tables(alloc: Global, written: &str) -> Option<Mini> {
         }
     }
     Some(mini)
+}
+
+/// The collator by the tables and the settings that a row begins with.
+pub(crate) fn collator(alloc: Global, written: &str, named: &str) -> Option<Collator> {
+    let named = named_sources(alloc, named)?;
+    let mini = tables(alloc, written)?;
+    let (preferences, options) = (named.preferences, named.options);
+    Collator::try_new_unstable(alloc, &mini.provider(), preferences, options).ok()
 }

@@ -1,6 +1,6 @@
 //! Changes of tables, each a word that names it and words that follow.
 use crate::lists::{put, resize};
-use crate::notation::{character, index, number, number8, number16, number32, numbers, text};
+use crate::notation::{character, characters, index, number, number8, number16, number32, numbers};
 use icu_data::{Context, ContextRow, DataBuilder, DataVectors};
 use icu_mini::mini::Mini;
 use std::alloc::Global;
@@ -175,7 +175,7 @@ fn change_contexts(alloc: Global, data: &mut DataVectors, words: &[&str]) -> Opt
 }
 
 fn push_chars(alloc: Global, data: &mut DataVectors, written: &str) -> Option<()> {
-    let text = text(alloc, written)?;
+    let text = characters(alloc, written)?;
     for c in text.as_str().chars() {
         data.chars.push(c).ok()?;
     }

@@ -2,7 +2,7 @@
 ghost use Rattle.icu_elements.specs.CollationElements.{CanGive};
 
 use crate::base::tables;
-use crate::notation::text;
+use crate::notation::characters;
 use icu_comparison::Collator;
 use icu_elements::{CollationElements, all_elements};
 use icu_entries::CollationElement;
@@ -22,7 +22,7 @@ pub(crate) fn elements(alloc: Global, row: &str) -> Option<String> {
         CollatorOptions::default(),
     )
     .ok()?;
-    let text = text(alloc, row.trim())?;
+    let text = characters(alloc, row.trim())?;
     let tables = collator.as_borrowed().tables();
     let lead = match settings.trim() {
         "" => None,

@@ -1,7 +1,6 @@
 //! The sort keys of texts.
-use crate::base::tables;
-use crate::notation::text;
-use crate::settings::named_sources;
+use crate::base::collator;
+use crate::texts::Text;
 use icu_comparison::Collator;
 use std::alloc::Global;
 
@@ -12,19 +11,23 @@ const WRITTEN_OUT: u64 = 9;
 pub(crate) fn key(alloc: Global, row: &str) -> Option<String> {
     let (written, row) = row.split_once('|')?;
     let (named, row) = row.split_once('|')?;
-    let named = named_sources(alloc, named)?;
-    let collator = Collator::try_new_unstable(
-        alloc,
-        &tables(alloc, written)?.provider(),
-        named.preferences,
-        named.options,
-    );
-    let collator = collator.ok()?;
-    let text = text(alloc, row.trim())?;
+    let collator = collator(alloc, written, named)?;
+    let key = key_of(alloc, &collator, &Text::read(alloc, row)?)?;
+    printed(alloc, key.as_slice())
+}
+
+/// The sort key of a text, by the call for its encoding. None writes keys of Latin-1.
+pub(crate) fn key_of(alloc: Global, collator: &Collator, text: &Text) -> Option<Vec<u8>> {
     let mut key = Vec::new(alloc);
     let borrowed = collator.as_borrowed();
-    borrowed.write_sort_key_to(text.as_str(), &mut key).ok()?;
-    printed(alloc, key.as_slice())
+    let written = match text {
+        Text::Characters(text) => borrowed.write_sort_key_to(text.as_str(), &mut key),
+        Text::Utf8(bytes) => borrowed.write_sort_key_utf8_to(bytes.as_slice(), &mut key),
+        Text::Utf16(units) => borrowed.write_sort_key_utf16_to(units.as_slice(), &mut key),
+        Text::Latin1(_) => return None,
+    };
+    written.ok()?;
+    Some(key)
 }
 
 /// Bytes in hexadecimal digits. `10*300` is the byte 10 three hundred times.

@@ -11,6 +11,7 @@ mod notation;
 mod order;
 mod refusals;
 mod settings;
+mod texts;
 mod values;
 
 use std::alloc::Global;

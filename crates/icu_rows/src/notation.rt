@@ -1,13 +1,14 @@
 //! How rows write characters, texts and numbers.
 use std::alloc::Global;
 
-/// A text in which `{301}` is the character U+0301 and `{61*3}` is U+0061 three times.
-pub(crate) fn text(alloc: Global, written: &str) -> Option<String> {
+/// The characters of a text in which `{301}` is U+0301, `{61*3}` is U+0061 three times, and `{301 323*3}` is U+0301 U+0323
+/// three times.
+pub(crate) fn characters(alloc: Global, written: &str) -> Option<String> {
     let mut text = String::new(alloc);
     for part in written.split('{') {
         match part.split_once('}') {
-            Some((code, rest)) => {
-                push_repeated(&mut text, code)?;
+            Some((codes, rest)) => {
+                push_repeated(&mut text, codes)?;
                 text.push_str(rest).ok()?;
             }
             None => text.push_str(part).ok()?,
@@ -16,11 +17,19 @@ pub(crate) fn text(alloc: Global, written: &str) -> Option<String> {
     Some(text)
 }
 
-/// Appends the character with a code, as often as the number behind `*` says.
-fn push_repeated(text: &mut String, code: &str) -> Option<()> {
-    let (code, count) = code.split_once('*').unwrap_or((code, "1"));
-    let c = char::from_u32(u32::from_str_radix(code, 16).ok()?)?;
+/// Appends the characters with these codes, all as often as the number behind `*` says.
+fn push_repeated(text: &mut String, codes: &str) -> Option<()> {
+    let (codes, count) = codes.split_once('*').unwrap_or((codes, "1"));
     for _ in 0..count.parse::<u32>().ok()? {
+        push_codes(text, codes)?;
+    }
+    Some(())
+}
+
+/// Appends the characters with these codes.
+fn push_codes(text: &mut String, codes: &str) -> Option<()> {
+    for code in codes.split_whitespace() {
+        let c = char::from_u32(u32::from_str_radix(code, 16).ok()?)?;
         text.push(c).ok()?;
     }
     Some(())
@@ -28,7 +37,7 @@ fn push_repeated(text: &mut String, code: &str) -> Option<()> {
 
 /// The one character of a word.
 pub(crate) fn character(alloc: Global, word: &str) -> Option<char> {
-    let text = text(alloc, word)?;
+    let text = characters(alloc, word)?;
     let mut chars = text.as_str().chars();
     let c = chars.next()?;
     if chars.next().is_some() {

@@ -1,27 +1,47 @@
 //! The order of two texts.
-use crate::base::tables;
-use crate::notation::text;
-use crate::settings::named_sources;
+use crate::base::collator;
+use crate::keys::key_of;
+use crate::texts::Text;
 use icu_comparison::Collator;
 use std::alloc::Global;
+use std::cmp::Ordering;
 
 /// A row is tables, settings, the strength among them, and two texts.
 pub(crate) fn order(alloc: Global, row: &str) -> Option<String> {
     let (written, row) = row.split_once('|')?;
     let (named, row) = row.split_once('|')?;
     let (left, right) = row.split_once('|')?;
-    let named = named_sources(alloc, named)?;
-    let collator = Collator::try_new_unstable(
-        alloc,
-        &tables(alloc, written)?.provider(),
-        named.preferences,
-        named.options,
-    );
-    let left = text(alloc, left.trim())?;
-    let right = text(alloc, right.trim())?;
-    let collator = collator.ok()?;
-    let order = collator
-        .as_borrowed()
-        .compare(left.as_str(), right.as_str());
-    format!(in alloc; "{:?}", order.ok()?).ok()
+    let collator = collator(alloc, written, named)?;
+    let left = Text::read(alloc, left)?;
+    let right = Text::read(alloc, right)?;
+    let order = compared(alloc, &collator, &left, &right)?;
+    format!(in alloc; "{order:?}").ok()
+}
+
+/// The order of two texts, by the call for their encodings; where there is none, that of their sort keys.
+fn compared(alloc: Global, collator: &Collator, left: &Text, right: &Text) -> Option<Ordering> {
+    let borrowed = collator.as_borrowed();
+    let order = match (left, right) {
+        (Text::Characters(left), Text::Characters(right)) => {
+            borrowed.compare(left.as_str(), right.as_str())
+        }
+        (Text::Utf8(left), Text::Utf8(right)) => {
+            borrowed.compare_utf8(left.as_slice(), right.as_slice())
+        }
+        (Text::Utf16(left), Text::Utf16(right)) => {
+            borrowed.compare_utf16(left.as_slice(), right.as_slice())
+        }
+        (Text::Latin1(left), Text::Latin1(right)) => {
+            borrowed.compare_latin1(left.as_slice(), right.as_slice())
+        }
+        (Text::Latin1(left), Text::Utf16(right)) => {
+            borrowed.compare_latin1_utf16(left.as_slice(), right.as_slice())
+        }
+        _ => {
+            let left = key_of(alloc, collator, left)?;
+            let right = key_of(alloc, collator, right)?;
+            return Some(left.as_slice().cmp(right.as_slice()));
+        }
+    };
+    order.ok()
 }

@@ -6,10 +6,12 @@
 #![tactic(auto)]
 
 mod collators;
+mod comparisons;
 mod elements;
 mod keys;
 mod sinks;
 mod stop;
+mod texts;
 
 use std::process::ExitCode;
 use std::{env, io};
@@ -33,7 +35,7 @@ fn run(rt: &HostRuntime) -> Result<(), Stop> {
         collators::run(rt)?;
     }
     if wants("comparisons") {
-        collators::compare(rt)?;
+        comparisons::run(rt)?;
     }
     if wants("keys") {
         keys::run(rt)?;
