@@ -162,10 +162,16 @@ COLLATE_RUNS = [
     (["compare", "3", "aB", "ab"], 0, b">\n", b""),
     (["compare", "1", "as", "às"], 0, b"=\n", b""),
     (["compare", "3", "", ""], 0, b"=\n", b""),
+    (["key", "3", "ab"], 0, b"61 10 14 01 06 01 01 06 01\n", b""),
+    (["key", "i", "a"], 0, b"61 10 01 05 01 01 05 01 01 01 01 92\n", b""),
+    (["key", "1", ""], 0, b"\n", b""),
     ([], 2, b"", USAGE),
     (["compare", "3", "ab"], 2, b"", USAGE),
     (["compare", "3", "ab", "aB", "x"], 2, b"", USAGE),
     (["compare", "5", "ab", "aB"], 2, b"", USAGE),
+    (["key", "3"], 2, b"", USAGE),
+    (["key", "3", "ab", "aB"], 2, b"", USAGE),
+    (["key", "6", "ab"], 2, b"", USAGE),
     (["order", "3", "ab", "aB"], 2, b"", USAGE),
 ]
 # An argument that isn't UTF-8 is a wrong word, wherever it stands.
@@ -174,15 +180,17 @@ DAMAGED_RUNS = [
     ([b"compare", b"\xc3", b"ab", b"aB"], 2, b"", USAGE),
     ([b"compare", b"3", b"a\xf0\x90", b"aB"], 2, b"", USAGE),
     ([b"compare", b"3", b"ab", b"\xed\xa0\x80"], 2, b"", USAGE),
+    ([b"key", b"3", b"a\xff"], 2, b"", USAGE),
 ]
 LONG_RUNS = [
     (["compare", "3", A_LONG, B_LONG], 0, b"<\n", b""),
     (["compare", "3", B_LONG, A_LONG], 0, b">\n", b""),
     (["compare", "3", MARKS, MARKS.replace("é", "e\u0301")], 0, b"=\n", b""),
     (["compare", "2", A_LONG + "A", A_LONG + "a"], 0, b"=\n", b""),
+    (["key", "1", A_LONG], 0, b"61" + 10_000 * b" 10" + b"\n", b""),
 ]
 # The words, where the streams go, and what is wanted. What goes to a full device or a closed stream is lost.
-RIGHT, WRONG = ["compare", "3", "ab", "aB"], ["compare", "3"]
+RIGHT, WRONG, KEY = ["compare", "3", "ab", "aB"], ["compare", "3"], ["key", "3", "ab"]
 FAILED = b"collate: write failed\n"
 STREAM_RUNS = [
     (RIGHT, "<&-", 0, b"<\n", b""),
@@ -191,6 +199,9 @@ STREAM_RUNS = [
     (RIGHT, ">/dev/full 2>/dev/full", 1, b"", b""),
     (RIGHT, ">&- 2>&-", 1, b"", b""),
     (RIGHT, "2>&-", 0, b"<\n", b""),
+    (KEY, "<&-", 0, b"61 10 14 01 06 01 01 06 01\n", b""),
+    (KEY, ">/dev/full", 1, b"", FAILED),
+    (KEY, ">&-", 1, b"", FAILED),
     (WRONG, "2>/dev/full", 2, b"", b""),
     (WRONG, "2>&-", 2, b"", b""),
     (WRONG, ">&-", 2, b"", USAGE),
@@ -310,7 +321,13 @@ def check_collate(report, room, shim):
         report.say(f"collate: {what}", wrong_runs(program, wanted), len(wanted))
     report.say("collate: closed and full streams", wrong_streams(program, STREAM_RUNS), len(STREAM_RUNS))
     report.say("collate: programs with a fault are found", faults_missed(room, program), len(FAULTY))
-    for what, words in [("an answer", RIGHT), ("wrong words", WRONG), ("long texts", LONG_RUNS[0][0])]:
+    for what, words in [
+        ("an answer", RIGHT),
+        ("a key", KEY),
+        ("wrong words", WRONG),
+        ("long texts", LONG_RUNS[0][0]),
+        ("the key of a long text", LONG_RUNS[-1][0]),
+    ]:
         outcomes = sweep(shim, program, words, b"", ["allocation", "read", "write"], collate_is_right)
         report.say(f"collate: each request refused, {what}", faults_of(outcomes), len(outcomes))
 

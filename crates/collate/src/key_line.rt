@@ -9,7 +9,11 @@ fn hex_digit(digit: u8) -> u8
     requires { digit < 16 }
     ensures { result ≡ hex_digit digit }
 {
-    if digit < 10 { b'0' + digit } else { b'A' - 10 + digit }
+    if digit < 10 {
+        b'0' + digit
+    } else {
+        b'A' - 10 + digit
+    }
 }
 
 /// Appends a byte as two digits.
@@ -17,18 +21,17 @@ fn push_hex(line: &mut Vec<u8>, byte: u8) -> Result<(), AllocError>
     ensures { OnOk result (line.new.items ≡ line.old.items ++ hex byte) }
 {
     line.push(hex_digit(byte / 16))?;
-    line.push(hex_digit(byte % 16))
+    line.push(hex_digit(byte % 16))?;
+    Ok(())
 }
 
 /// Appends bytes, with a space before each.
 fn push_spaced(line: &mut Vec<u8>, bytes: &[u8]) -> Result<(), AllocError>
     ensures { OnOk result (line.new.items ≡ line.old.items ++ spaced bytes.now) }
 {
-    let mut left = bytes;
-    while let [byte, rest @ ..] = left {
+    for byte in bytes {
         line.push(b' ')?;
         push_hex(line, *byte)?;
-        left = rest;
     }
     Ok(())
 }

@@ -139,8 +139,46 @@ fn compares_texts(rt: HostRuntime) -> Result<(), Fail> {
 }
 
 #[test]
+fn shows_keys(rt: HostRuntime) -> Result<(), Fail> {
+    for (strength, text, line) in [
+        ("3", "ab", "61 10 14 01 06 01 01 06 01\n"),
+        ("i", "a", "61 10 01 05 01 01 05 01 01 01 01 92\n"),
+        ("1", "", "\n"),
+    ] {
+        expect_run(&rt, &["key", strength, text], 0, line, "")?;
+    }
+    Ok(())
+}
+
+/// The key of "a" 10,000 times at the primary level is one lead and 10,000 times 10: the leads that follow are compressed.
+#[test]
+fn shows_the_key_of_a_long_text(rt: HostRuntime) -> Result<(), Fail> {
+    let alloc = rt.alloc();
+    let text = "a".repeat(alloc, 10_000)?;
+    let words = strings(alloc, &["key", "1", text.as_str()])?;
+    let mut output = Vec::new(alloc);
+    let mut faults = Page::new(128, 128);
+    let ended = run(
+        alloc,
+        words.as_slice(),
+        &mut io::empty(),
+        &mut output,
+        &mut faults,
+    );
+    assert_eq!(rt; ended, 0);
+    let mut want = Vec::from_slice(alloc, b"61")?;
+    for _ in 0..10_000 {
+        want.extend_from_slice(b" 10")?;
+    }
+    want.push(b'\n')?;
+    assert_eq!(rt; output, want);
+    assert_eq!(rt; faults.text(), b"".as_slice());
+    Ok(())
+}
+
+#[test]
 fn wrong_words_get_the_usage(rt: HostRuntime) -> Result<(), Fail> {
-    let wrong: [&[&str]; 11] = [
+    let wrong: [&[&str]; 14] = [
         &[],
         &["compare"],
         &["compare", "3", "ab"],
@@ -150,7 +188,10 @@ fn wrong_words_get_the_usage(rt: HostRuntime) -> Result<(), Fail> {
         &["compare", "I", "ab", "aB"],
         &["compare", "33", "ab", "aB"],
         &["Compare", "3", "ab", "aB"],
-        &["key", "3", "ab"],
+        &["key", "3"],
+        &["key", "3", "ab", "aB"],
+        &["key", "6", "ab"],
+        &["keys", "3", "ab"],
         &["sort", "3"],
     ];
     for words in wrong {

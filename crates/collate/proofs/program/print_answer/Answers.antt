@@ -10,15 +10,15 @@ pub returns-in-Ok-clause-ok : goal.returns-in-Ok-clause-ok
 returns-in-Ok-clause-ok g c =
     let old = g.W.Write.contents c.args.output.now in
     let new = g.W.Write.contents c.write_text.new.writer in
-    let written = subst (Appends old new) c.as_bytes.ensures.value c.in-Ok.ensures.ok in
-    subst (λ o. IfSome o (PrintsAnswer old new)) c.in-Some.ensures (c.in_ok-line.line.now, c.in_ok-line.ensures.answer, written)
+    let written = subst (Appends old new) c.as_slice.ensures.value c.in-Ok.ensures.ok in
+    subst (λ o. IfSome o (PrintsAnswer old new)) c.in-Some.ensures (c.in_ok-line.line.items, c.in_ok-line.ensures.answer, written)
 
-pub returns-in-Err-clause-write_failed : goal.returns-in-Err-clause-write_failed
-returns-in-Err-clause-write_failed g c = λ _.
+pub returns-clause-write_failed : goal.returns-clause-write_failed
+returns-clause-write_failed g c = λ _.
     let old = g.W.Write.contents c.args.output.now in
     let new = g.W.Write.contents c.write_text.new.writer in
-    let written = subst (AppendsBeginning old new) c.as_bytes.ensures.value c.in-Err.ensures.err in
-    subst (λ o. IfSome o (PrintsBeginning old new)) c.in-Some.ensures (c.in_ok-line.line.now, c.in_ok-line.ensures.answer, written)
+    let written = subst (AppendsBeginning old new) c.as_slice.ensures.value c.in-Err.ensures.err in
+    subst (λ o. IfSome o (PrintsBeginning old new)) c.in-Some.ensures (c.in_ok-line.line.items, c.in_ok-line.ensures.answer, written)
 
 pub returns-in_err-line-clause-tables : goal.returns-in_err-line-clause-tables
 returns-in_err-line-clause-tables g c = λ _. Keeps_same (g.W.Write.contents c.args.output.now)
