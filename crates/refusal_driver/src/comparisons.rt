@@ -73,10 +73,12 @@ fn compare_long_units(rt: &HostRuntime, collator: &Collator) -> Result<(), Stop>
     let bytes = twice(|| long_units(rt.alloc(), &[0xE9], 0x62))?;
     let other = twice(|| long_units(rt.alloc(), &[0xE9], 0x61))?;
     let units = twice(|| long_units(rt.alloc(), &[0x65, 0x301], 0x61))?;
-    let (bytes, other, units) = (bytes.as_slice(), other.as_slice(), units.as_slice());
-    print_order(rt, collator, Texts::Latin1(bytes, other))?;
-    print_order(rt, collator, Texts::Latin1Utf16(bytes, units))?;
-    print_order(rt, collator, Texts::Utf16(units, &[0xE9]))
+    let latin1 = Texts::Latin1(bytes.as_slice(), other.as_slice());
+    print_order(rt, collator, latin1)?;
+    let mixed = Texts::Latin1Utf16(bytes.as_slice(), units.as_slice());
+    print_order(rt, collator, mixed)?;
+    let short = [0xE9];
+    print_order(rt, collator, Texts::Utf16(units.as_slice(), &short))
 }
 
 /// Compares texts, short and long.

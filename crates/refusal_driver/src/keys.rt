@@ -37,18 +37,23 @@ fn say_length(rt: &HostRuntime, collator: &Collator, text: Text<'_>) -> Result<(
     Ok(())
 }
 
-/// Writes keys of all levels, short ones and long ones.
-pub(crate) fn run(rt: &HostRuntime) -> Result<(), Stop> {
-    let mini = twice(|| Mini::new(rt.alloc()))?;
-    let collator = collator(rt, &mini, Strength::Identical)?;
+fn say_short_lengths(rt: &HostRuntime, collator: &Collator) -> Result<(), Stop> {
     for text in [
         Text::Characters(""),
         Text::Characters("áAbc"),
         Text::Utf8(&[0xC3, 0xA1, 0x41, 0x62, 0x63]),
         Text::Utf16(&[0xE1, 0x41, 0x62, 0x63]),
     ] {
-        say_length(rt, &collator, text)?;
+        say_length(rt, collator, text)?;
     }
+    Ok(())
+}
+
+/// Writes keys of all levels, short ones and long ones.
+pub(crate) fn run(rt: &HostRuntime) -> Result<(), Stop> {
+    let mini = twice(|| Mini::new(rt.alloc()))?;
+    let collator = collator(rt, &mini, Strength::Identical)?;
+    say_short_lengths(rt, &collator)?;
     let long = twice(|| long_text(rt.alloc(), "e\u{301}", "A"))?;
     let long = long.as_str();
     say_length(rt, &collator, Text::Characters(long))?;
