@@ -1,0 +1,35 @@
+//! The names of an index by their sort keys.
+
+ghost use Rattle.std.specs.Prelude.{◌≡◌, ◌∷◌, [], OnOk, OnErr};
+ghost use Rattle.std.specs.BTreeMap.{IsOrdered};
+ghost use Rattle.std.specs.Cmp.Lexicographic.{slice_cmp};
+ghost use Rattle.std.specs.Ordering.{nat_cmp};
+ghost use Rattle.icu_index.specs.inner.Groups.{added, groups_of};
+
+use std::alloc::{AllocError, Global};
+use std::collections::BTreeMap;
+use std::collections::btree_map::Entry;
+
+/// The names that have each key, in the order of insertion.
+pub(crate) type Groups = BTreeMap<Vec<u8>, Vec<Vec<u8>>>;
+
+/// Adds a name to the group of its key, as the last one. An error leaves the groups as they were.
+pub(crate) fn add_name(
+    alloc: Global,
+    groups: &mut Groups,
+    key: Vec<u8>,
+    name: Vec<u8>,
+) -> Result<(), AllocError>
+    ensures ok { OnOk result (groups_of groups.new.entries ≡ added key.items (name.items ∷ []) (groups_of groups.old.entries)) }
+    ensures err { OnErr result (groups_of groups.new.entries ≡ groups_of groups.old.entries) }
+    ensures ordered { IsOrdered (λ k l. slice_cmp nat_cmp k.items l.items) groups.old }
+{
+    match groups.entry(key)? {
+        Entry::Occupied(entry) => entry.into_mut().push(name)?,
+        Entry::Vacant(entry) => {
+            let names = Vec::from_array(alloc, [name])?;
+            entry.insert(names);
+        }
+    }
+    Ok(())
+}
