@@ -2,15 +2,30 @@
 
 ghost use Rattle.std.specs.Prelude.{◌≡◌, [], length, map, IfOk, IsErr, IsTrue, OnOk, OnErr, ◌↔◌};
 ghost use Rattle.std.proofs.Props.{props};
-ghost use Rattle.icu_comparison.specs.Collators.{tables_borrowed, settings_borrowed};
+ghost use Rattle.icu_comparison.specs.Collators.{settings_borrowed, settings_kept, tables_borrowed, tables_kept};
 ghost use Rattle.icu_index.specs.Listings.{equal_names, inserted};
-ghost use Rattle.icu_index.specs.inner.Groups.{groups_of, name_key, names_in, names_of, IsKeyed};
+ghost use Rattle.icu_index.specs.inner.Groups.{groups_of, key_of, names_in, IsKeyed};
 
 use crate::groups::{Groups, add_name};
 use crate::iter::NameIter;
-use icu_comparison::CollatorBorrowed;
+use icu_comparison::{Collator, CollatorBorrowed};
 use std::alloc::{AllocError, Global};
 use std::collections::BTreeMap;
+
+/// The sort key of a name.
+fn name_key(
+    alloc: Global,
+    collator: &CollatorBorrowed<'_>,
+    name: &[u8],
+) -> Result<Vec<u8>, AllocError>
+    ensures { IfOk result (λ key. key.items ≡ key_of (tables_borrowed collator.now) (settings_borrowed collator.now) name.now) }
+{
+    let mut key = Vec::new(alloc);
+    match collator.write_sort_key_utf8_to(name, &mut key) {
+        Ok(()) => Ok(key),
+        Err(_) => Err(AllocError),
+    }
+}
 
 /// Names in the order of a collator (UTS #10), those that compare equal in the order of insertion. A name is bytes in UTF-8
 /// that may be damaged: each maximal ill-formed part counts as one U+FFFD (Unicode Standard, section 3.9), and the bytes are
@@ -21,7 +36,7 @@ pub struct NameIndex<'a> {
     collator: CollatorBorrowed<'a>,
     groups: Groups,
     len: usize,
-    ghost keyed: { IsKeyed (name_key (tables_borrowed collator) (settings_borrowed collator)) (groups_of groups.entries) } by { Prim.hlevel props },
+    ghost keyed: { IsKeyed (key_of (tables_borrowed collator) (settings_borrowed collator)) (groups_of groups.entries) } by { Prim.hlevel props },
     ghost counted: { len ≡ length (names_in (groups_of groups.entries)) },
 }
 
@@ -29,14 +44,14 @@ impl<'a> NameIndex<'a> {
     ghost use Rattle.icu_index.specs.NameIndexes.{index_order, index_settings, index_tables, listing, names_left};
 
     /// An index without names, that orders them by a collator. Does not allocate.
-    pub fn new(alloc: Global, collator: CollatorBorrowed<'a>) -> NameIndex<'a>
+    pub fn new(alloc: Global, collator: &'a Collator) -> NameIndex<'a>
         ensures empty { listing result ≡ [] }
-        ensures tables { index_tables result ≡ tables_borrowed collator.entry }
-        ensures settings { index_settings result ≡ settings_borrowed collator.entry }
+        ensures tables { index_tables result ≡ tables_kept collator.entry.now }
+        ensures settings { index_settings result ≡ settings_kept collator.entry.now }
     {
         NameIndex {
             alloc,
-            collator,
+            collator: collator.as_borrowed(),
             groups: BTreeMap::new(alloc),
             len: 0,
         }
@@ -58,7 +73,7 @@ impl<'a> NameIndex<'a> {
         ensures settings { index_settings self.new ≡ index_settings self.old }
     {
         let len = self.len.checked_add(1).ok_or(AllocError)?;
-        let key = self.key(name)?;
+        let key = name_key(self.alloc, &self.collator, name)?;
         let name = name.to_vec(self.alloc)?;
         add_name(self.alloc, &mut self.groups, key, name)?;
         self.len = len;
@@ -94,21 +109,10 @@ impl<'a> NameIndex<'a> {
     pub fn equal_to(&self, name: &[u8]) -> Result<&[Vec<u8>], AllocError>
         ensures { IfOk result (λ names. map (λ n. n.items) names.now ≡ equal_names (index_order self.now) name.now (listing self.now)) }
     {
-        let key = self.key(name)?;
+        let key = name_key(self.alloc, &self.collator, name)?;
         match self.groups.get(&key) {
             Some(names) => Ok(names.as_slice()),
             None => Ok(&[]),
-        }
-    }
-
-    /// The sort key of a name.
-    fn key(&self, name: &[u8]) -> Result<Vec<u8>, AllocError>
-        ensures { IfOk result (λ key. key.items ≡ name_key (index_tables self.now) (index_settings self.now) name.now) }
-    {
-        let mut key = Vec::new(self.alloc);
-        match self.collator.write_sort_key_utf8_to(name, &mut key) {
-            Ok(()) => Ok(key),
-            Err(_) => Err(AllocError),
         }
     }
 }

@@ -10,8 +10,8 @@ use Rattle.icu_provider.specs.CollatorTables.{CollatorTables}
 use Rattle.icu_order.specs.TextOrder.{text_key}
 
 -- the sort key of a name
-abbrev pub name_key : CollatorTables → Settings → List ℕ → List ℕ
-name_key all settings name = text_key all settings (utf8_text name)
+abbrev pub key_of : CollatorTables → Settings → List ℕ → List ℕ
+key_of all settings name = text_key all settings (utf8_text name)
 
 -- a key and the names that have it
 abbrev pub Group : Type 0
