@@ -8,7 +8,6 @@ ghost use Rattle.icu_index.specs.inner.Groups.{added, groups_of};
 
 use std::alloc::{AllocError, Global};
 use std::collections::BTreeMap;
-use std::collections::btree_map::Entry;
 
 /// The names that have each key, in the order of insertion.
 pub(crate) type Groups = BTreeMap<Vec<u8>, Vec<Vec<u8>>>;
@@ -24,12 +23,11 @@ pub(crate) fn add_name(
     ensures err { OnErr result (groups_of groups.new.entries ≡ groups_of groups.old.entries) }
     ensures ordered { IsOrdered (λ k l. slice_cmp nat_cmp k.items l.items) groups.old }
 {
-    match groups.entry(key)? {
-        Entry::Occupied(entry) => entry.into_mut().push(name)?,
-        Entry::Vacant(entry) => {
-            let names = Vec::from_array(alloc, [name])?;
-            entry.insert(names);
-        }
+    if let Some(names) = groups.get_mut(&key) {
+        names.push(name)?;
+        return Ok(());
     }
+    let names = Vec::from_array(alloc, [name])?;
+    groups.insert(key, names)?;
     Ok(())
 }
