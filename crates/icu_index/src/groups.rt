@@ -2,9 +2,7 @@
 
 ghost use Rattle.std.specs.Prelude.{◌≡◌, ◌∷◌, [], OnOk, OnErr};
 ghost use Rattle.std.specs.BTreeMap.{IsOrdered};
-ghost use Rattle.std.specs.Cmp.Lexicographic.{slice_cmp};
-ghost use Rattle.std.specs.Ordering.{nat_cmp};
-ghost use Rattle.icu_index.specs.inner.Groups.{added, groups_of};
+ghost use Rattle.icu_index.specs.inner.Groups.{added, groups_of, key_order};
 
 use std::alloc::{AllocError, Global};
 use std::collections::BTreeMap;
@@ -19,9 +17,11 @@ pub(crate) fn add_name(
     key: Vec<u8>,
     name: Vec<u8>,
 ) -> Result<(), AllocError>
-    ensures ok { OnOk result (groups_of groups.new.entries ≡ added key.items (name.items ∷ []) (groups_of groups.old.entries)) }
+    ensures ok { OnOk result (groups_of groups.new.entries
+        ≡ added key.items (name.items ∷ []) (groups_of groups.old.entries)) }
     ensures err { OnErr result (groups_of groups.new.entries ≡ groups_of groups.old.entries) }
-    ensures ordered { IsOrdered (λ k l. slice_cmp nat_cmp k.items l.items) groups.old }
+    ensures ascending { IsOrdered key_order groups.new }
+    ensures were_ascending { IsOrdered key_order groups.old }
 {
     if let Some(names) = groups.get_mut(&key) {
         names.push(name)?;

@@ -2,9 +2,10 @@
 
 ghost use Rattle.std.specs.Prelude.{◌≡◌, [], length, map, IfOk, IsErr, IsTrue, OnOk, OnErr, ◌↔◌};
 ghost use Rattle.std.proofs.Props.{props};
+ghost use Rattle.std.specs.BTreeMap.{IsOrdered};
 ghost use Rattle.icu_comparison.specs.Collators.{settings_borrowed, settings_kept, tables_borrowed, tables_kept};
 ghost use Rattle.icu_index.specs.Listings.{equal_names, inserted};
-ghost use Rattle.icu_index.specs.inner.Groups.{groups_of, key_of, names_in, IsKeyed};
+ghost use Rattle.icu_index.specs.inner.Groups.{groups_of, key_of, key_order, names_in, IsKeyed};
 
 use crate::groups::{Groups, add_name};
 use crate::iter::NameIter;
@@ -37,6 +38,7 @@ pub struct NameIndex<'a> {
     groups: Groups,
     len: usize,
     ghost keyed: { IsKeyed (key_of (tables_borrowed collator) (settings_borrowed collator)) (groups_of groups.entries) } by { Prim.hlevel props },
+    ghost ascending: { IsOrdered key_order groups } by { Prim.hlevel props },
     ghost counted: { len ≡ length (names_in (groups_of groups.entries)) },
 }
 

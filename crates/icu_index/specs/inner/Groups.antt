@@ -3,6 +3,7 @@ use Rattle.std.specs.Prelude.{◌≡◌, ℕ, List, [], ◌∷◌, ◌++◌, map
 use Rattle.std.specs.List.{AllByRecursion, flat_map}
 use Rattle.std.specs.Ordering.{match_ordering}
 use Rattle.std.specs.Global.{Vec}
+use Rattle.std.specs.declared.cmp.Ordering.{Ordering}
 use Rattle.icu_encodings.specs.DecodedTexts.{utf8_text}
 use Rattle.icu_options.specs.Settings.{Settings}
 use Rattle.icu_levels.specs.ListOrder.{list_order}
@@ -38,3 +39,7 @@ names_of names = map (λ n. n.items) names
 -- the entries of a map as groups
 abbrev pub groups_of : List (Vec ℕ × Vec (Vec ℕ)) → List Group
 groups_of entries = map (λ e. (e.0.items, names_of e.1.items)) entries
+
+-- the order of the keys of a map
+abbrev pub key_order : Vec ℕ → Vec ℕ → Ordering
+key_order k l = list_order k.items l.items
