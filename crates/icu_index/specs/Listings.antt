@@ -1,0 +1,22 @@
+-- The listing of names, by the order of texts and the order of insertion (UTS #10, section 1.1 on sorted lists, and section
+-- 7.4 "Compare Sort Keys").
+use Rattle.std.specs.Prelude.{ℕ, List, [], ◌∷◌, filter, if◌then◌else◌}
+use Rattle.std.specs.Ordering.{is_eq, is_gt}
+use Rattle.std.specs.declared.cmp.Ordering.{Ordering}
+use Rattle.icu_encodings.specs.DecodedTexts.{utf8_text}
+use Rattle.icu_options.specs.Settings.{Settings}
+use Rattle.icu_provider.specs.CollatorTables.{CollatorTables}
+use Rattle.icu_order.specs.TextOrder.{text_order}
+
+-- the order of two names, which are bytes in UTF-8 that may be damaged: that of their texts
+abbrev pub name_order : CollatorTables → Settings → List ℕ → List ℕ → Ordering
+name_order all settings x y = text_order all settings (utf8_text x) (utf8_text y)
+
+-- a listing with one more name: before the first listed one that compares Greater to it, or last
+abbrev pub inserted : (List ℕ → List ℕ → Ordering) → List ℕ → List (List ℕ) → List (List ℕ)
+inserted order name [] = name ∷ []
+inserted order name (x ∷ xs) = if is_gt (order x name) then name ∷ x ∷ xs else x ∷ inserted order name xs
+
+-- the names of a listing that compare Equal to a name
+abbrev pub equal_names : (List ℕ → List ℕ → Ordering) → List ℕ → List (List ℕ) → List (List ℕ)
+equal_names order name names = filter (λ x. is_eq (order x name)) names

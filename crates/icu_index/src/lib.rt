@@ -1,0 +1,10 @@
+//! An index of names: a list that stays in order while names come in, and from which the names that compare equal to a given
+//! one are taken.
+#![tactic(auto)]
+
+mod groups;
+pub mod index;
+pub mod iter;
+
+pub use index::NameIndex;
+pub use iter::NameIter;
