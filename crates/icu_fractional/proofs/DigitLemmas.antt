@@ -1,5 +1,5 @@
 -- Numbers in hexadecimal digits, digit by digit.
-use Rattle.std.proofs.Common.{◌≡◌, ℕ, ◌+◌, ◌*◌, ◌^◌, ◌<◌, ◌≤◌, List, [], ◌∷◌, length, get_or, drop, Option, Some, None, refl, ap, ◌∙◌, add-one, arith}
+use Rattle.std.proofs.Common.{◌≡◌, ℕ, ◌+◌, ◌*◌, ◌^◌, ◌<◌, ◌≤◌, List, length, get_or, drop, Some, None, refl, ap, ◌∙◌, add-one, arith}
 use Rattle.std.specs.Prelude.{option_and_then}
 use Rattle.std.proofs.Math.Nat.{pow-le-pow_right, pow-succ'}
 use Rattle.std.proofs.lemmas.List.{at_drop_more, at_drop_all}

@@ -1,5 +1,7 @@
 //! The ideographs, in the order of their weights.
-ghost use Rattle.std.specs.Prelude.{◌≡◌, ◌≤◌, IfOk};
+ghost use Rattle.std.specs.Prelude.{◌≡◌, ◌≤◌, ◌↔◌, IsTrue, IfOk};
+ghost use Rattle.icu_fractional.specs.Digits.{character_written};
+ghost use Rattle.icu_fractional.specs.Ranges.{JoinsEnds, WritesRange};
 
 use crate::digits::character;
 use crate::expected::{Expected, LineError};
@@ -15,10 +17,22 @@ pub struct CharRange {
     ghost ascends: { first ≤ last },
 }
 
+/// The words of the two ends of a range.
+fn ends_of(word: &str) -> (&str, &str)
+    ensures { JoinsEnds word.now result.0.now result.1.now }
+{
+    match word.split_once("..") {
+        Some(ends) => ends,
+        None => (word, word),
+    }
+}
+
 impl CharRange {
-    /// Reads a range: two characters with `..` between, or one character.
-    pub fn parse(word: &str) -> Result<CharRange, Expected> {
-        let (first, last) = word.split_once("..").unwrap_or((word, word));
+    /// Reads a range: two characters with `..` between, the first not above the last, or one character.
+    pub fn parse(word: &str) -> Result<CharRange, Expected>
+        ensures { IfOk result (λ r. WritesRange word.now r.first r.last) }
+    {
+        let (first, last) = ends_of(word);
         let (Some(first), Some(last)) = (character(first), character(last)) else {
             return Err(Expected::Character);
         };
@@ -29,7 +43,9 @@ impl CharRange {
     }
 
     /// Whether a character is in the range.
-    pub fn contains(self, c: char) -> bool {
+    pub fn contains(self, c: char) -> bool
+        ensures { IsTrue result ↔ (self.first ≤ c) × (c ≤ self.last) }
+    {
         self.first <= c && c <= self.last
     }
 

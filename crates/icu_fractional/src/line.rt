@@ -1,4 +1,8 @@
 //! Lines.
+ghost use Rattle.std.specs.Prelude.{◌≡◌, ◌≢◌, ◌==◌, ◌++◌, ◌∷◌, [], ℕ, List, Ok, Err, MatchOption};
+ghost use Rattle.std.specs.List.{before_first};
+ghost use Rattle.icu_fractional.specs.Lines.{text_of};
+
 use crate::digits::byte;
 use crate::element::{FractionalElement, Primary};
 use crate::expected::{Expected, LineError};
@@ -38,11 +42,29 @@ pub enum Line {
 }
 
 /// What stands before the comment of a line.
-fn before_comment(line: &str) -> &str {
+fn before_comment(line: &str) -> &str
+    ensures { result.now ≡ before_first (λ b. b == 35) line.now }
+{
     match line.split_once('#') {
         Some((text, _)) => text,
         None => line,
     }
+}
+
+/// What stands behind a `[` with which a text begins.
+#[tactic(auto, using(std::proofs::lemmas::Str::Pattern::strip_prefix_char))]
+fn behind_bracket(text: &str) -> Option<&str>
+    ensures { MatchOption result ((rest : List ℕ) → text.now ≢ 91 ∷ rest) (λ rest. text.now ≡ 91 ∷ rest.now) }
+{
+    text.strip_prefix('[')
+}
+
+/// What stands before a `]` with which a text ends.
+#[tactic(auto, using(std::proofs::lemmas::Str::Pattern::strip_suffix_char))]
+fn before_bracket(text: &str) -> Option<&str>
+    ensures { MatchOption result ((front : List ℕ) → text.now ≢ front ++ 93 ∷ []) (λ front. text.now ≡ front.now ++ 93 ∷ []) }
+{
+    text.strip_suffix(']')
 }
 
 /// What is said of a lead byte, by the words behind `top_byte`.
@@ -92,16 +114,22 @@ fn line_of(mapping: Mapping) -> Result<Line, LineError> {
 }
 
 impl Line {
-    /// Reads a line, without the line feed at its end.
-    pub fn parse(alloc: Global, line: &str) -> Result<Line, LineError> {
+    /// Reads a line, without the line feed at its end. A line with nothing but white space before its comment says nothing. One
+    /// that begins with `[` and doesn't end with `]` is refused.
+    pub fn parse(alloc: Global, line: &str) -> Result<Line, LineError>
+        ensures nothing { text_of line.now ≡ [] → result ≡ Ok Line.Nothing }
+        ensures unclosed { (inside : List ℕ) → text_of line.now ≡ 91 ∷ inside
+            → ((front : List ℕ) → inside ≢ front ++ 93 ∷ [])
+            → result ≡ Err (LineError.Expected Expected.ClosingBracket) }
+    {
         let text = before_comment(line).trim();
         if text.is_empty() {
             return Ok(Line::Nothing);
         }
-        let Some(inside) = text.strip_prefix('[') else {
+        let Some(inside) = behind_bracket(text) else {
             return line_of(Mapping::parse(alloc, text)?);
         };
-        match inside.strip_suffix(']') {
+        match before_bracket(inside) {
             Some(inside) => bracketed(alloc, inside),
             None => Err(LineError::Expected(Expected::ClosingBracket)),
         }

@@ -1,4 +1,7 @@
 //! Mappings.
+ghost use Rattle.std.specs.Prelude.{◌≡◌, Err};
+ghost use Rattle.icu_fractional.specs.Lines.{Lacks};
+
 use crate::digits::character;
 use crate::element::FractionalElement;
 use crate::expected::{Expected, LineError};
@@ -40,8 +43,10 @@ fn prefix(alloc: Global, text: &str) -> Result<Vec<char>, LineError> {
 }
 
 impl Mapping {
-    /// Reads a line of a mapping, without its comment.
-    pub fn parse(alloc: Global, text: &str) -> Result<Mapping, LineError> {
+    /// Reads a line of a mapping, without its comment. One without `;` is refused.
+    pub fn parse(alloc: Global, text: &str) -> Result<Mapping, LineError>
+        ensures { Lacks 59 text.now → result ≡ Err (LineError.Expected Expected.Semicolon) }
+    {
         let Some((left, elements)) = text.split_once(';') else {
             return Err(LineError::Expected(Expected::Semicolon));
         };
