@@ -1,4 +1,9 @@
 //! The tables of what the lines said.
+ghost use Rattle.std.specs.Prelude.{◌≡◌, IfOk, IfErr};
+ghost use Rattle.icu_provider.specs.OwnedTables.{owned_tables, owned_special};
+ghost use Rattle.icu_cldr.specs.Errors.{IsNumbered};
+ghost use Rattle.icu_cldr.specs.Roots.{IsRoot};
+
 use crate::collected::Collected;
 use crate::contexts::{Contexts, entry_in_contexts};
 use crate::digits::make_digits;
@@ -20,13 +25,10 @@ const FIRST_JAMO: u32 = 0x1100;
 
 const JAMO_COUNT: u32 = 256;
 
-/// A fault that no line has: the tables are full.
-fn at_end(fault: Fault) -> ReadError {
-    fault.at(0)
-}
-
 /// The entries of the conjoining jamo.
-fn jamo(alloc: Global, entries: &BTreeMap<char, u32>) -> Result<OwnedJamo, ReadError> {
+fn jamo(alloc: Global, entries: &BTreeMap<char, u32>) -> Result<OwnedJamo, ReadError>
+    ensures { IfErr result IsNumbered }
+{
     let mut jamo = Vec::new(alloc);
     for code in FIRST_JAMO..FIRST_JAMO + JAMO_COUNT {
         let entry = match char::from_u32(code) {
@@ -40,7 +42,9 @@ fn jamo(alloc: Global, entries: &BTreeMap<char, u32>) -> Result<OwnedJamo, ReadE
 }
 
 /// The secondary weights of diacritics.
-fn diacritics(alloc: Global, secondaries: &[u16]) -> Result<OwnedDiacritics, ReadError> {
+fn diacritics(alloc: Global, secondaries: &[u16]) -> Result<OwnedDiacritics, ReadError>
+    ensures { IfErr result IsNumbered }
+{
     let table = named(DataTable::Diacritics, CollationDiacritics::new(secondaries))?;
     Ok(OwnedDiacritics::copy(alloc, table)?)
 }
@@ -61,7 +65,9 @@ fn resolve_contexts(
 }
 
 /// The root.
-fn root(mut builder: DataBuilder, entries: &BTreeMap<char, u32>) -> Result<OwnedData, ReadError> {
+fn root(mut builder: DataBuilder, entries: &BTreeMap<char, u32>) -> Result<OwnedData, ReadError>
+    ensures { IfErr result IsNumbered }
+{
     for (c, entry) in entries.iter() {
         builder.set_entry(*c, *entry);
     }
@@ -70,7 +76,11 @@ fn root(mut builder: DataBuilder, entries: &BTreeMap<char, u32>) -> Result<Owned
 
 impl Collected {
     /// The tables.
-    pub(crate) fn finish(self) -> Result<OwnedTables, ReadError> {
+    #[tactic(auto, unfolding(icu_provider::specs::OwnedTables::owned_tables))]
+    pub(crate) fn finish(self) -> Result<OwnedTables, ReadError>
+        ensures root { IfOk result (λ o. IsRoot (owned_tables o)) }
+        ensures numbered { IfErr result IsNumbered }
+    {
         let Collected {
             alloc,
             mut builder,
@@ -80,8 +90,8 @@ impl Collected {
             special,
             ideographs: _,
         } = self;
-        make_digits(alloc, &mut builder, &mut entries).map_err(at_end)?;
-        resolve_contexts(alloc, &mut builder, &mut entries, &contexts).map_err(at_end)?;
+        make_digits(alloc, &mut builder, &mut entries).map_err(Fault::at_end)?;
+        resolve_contexts(alloc, &mut builder, &mut entries, &contexts).map_err(Fault::at_end)?;
         Ok(OwnedTables {
             jamo: jamo(alloc, &entries)?,
             diacritics: diacritics(alloc, &secondaries)?,

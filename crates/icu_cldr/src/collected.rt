@@ -1,5 +1,6 @@
 //! What the lines said so far.
-ghost use Rattle.std.specs.Prelude.{◌≡◌, ◌+◌, ◌<◌, ◌≤◌, IfSome, length};
+ghost use Rattle.std.specs.Prelude.{◌≡◌, ◌+◌, ◌<◌, ◌≤◌, IfSome, IfOk, length};
+ghost use Rattle.icu_cldr.specs.Diacritics.{SaysOfMark};
 
 use crate::contexts::{Contexts, Surroundings};
 use crate::entries::{
@@ -10,7 +11,8 @@ use crate::ideograph_weights::{IdeographWeights, STEP, WeightedRange, char_count
 use crate::special::Special;
 use icu_data::DataBuilder;
 use icu_fractional::{CharRange, FractionalElement, Line, Mapping, Primary};
-use std::alloc::Global;
+use icu_provider::diacritics::is_replaced_index;
+use std::alloc::{AllocError, Global};
 use std::collections::BTreeMap;
 
 /// A character of no text, with which the least primary weights of scripts and groups begin.
@@ -64,15 +66,12 @@ fn diacritic_index(c: char) -> Option<usize>
     }
 }
 
-/// Whether a canonical decomposition replaces the character, which is a combining mark.
-fn is_replaced(index: usize) -> bool {
-    icu_provider::diacritics::is_replaced_index(index)
-}
-
 /// The secondary weight of a combining mark. One that has a decomposition is in no text that is compared, and its weight isn't read.
-fn secondary_of_diacritic(index: usize, elements: &[Weights]) -> Result<u16, Fault> {
+fn secondary_of_diacritic(index: usize, elements: &[Weights]) -> Result<u16, Fault>
+    ensures { IfOk result (SaysOfMark index elements.now) }
+{
     match elements {
-        [element, ..] if is_replaced(index) => Ok(element.secondary),
+        [element, ..] if is_replaced_index(index) => Ok(element.secondary),
         [element] if element.primary == 0 && element.tertiary == 0x0500 => Ok(element.secondary),
         _ => Err(Fault::Refused(Refusal::Diacritic)),
     }
@@ -80,7 +79,7 @@ fn secondary_of_diacritic(index: usize, elements: &[Weights]) -> Result<u16, Fau
 
 impl Collected {
     /// Nothing is said.
-    pub(crate) fn new(alloc: Global) -> Result<Collected, Fault> {
+    pub(crate) fn new(alloc: Global) -> Result<Collected, AllocError> {
         Ok(Collected {
             alloc,
             builder: DataBuilder::new(alloc, IMPLICIT_CE32)?,

@@ -1,5 +1,6 @@
 //! Why a file isn't read.
-ghost use Rattle.std.specs.Prelude.{◌≡◌};
+ghost use Rattle.std.specs.Prelude.{◌≡◌, ◌<◌, IfErr, IfOk, Ok};
+ghost use Rattle.icu_cldr.specs.Errors.{IsNumbered};
 
 use icu_entries::{DataError, DataErrorKind, DataTable};
 use icu_fractional::{Expected, LineError};
@@ -79,6 +80,9 @@ pub enum ReadError {
     /// A line is missing.
     #[error("at the end: {0}")]
     Missing(Missing),
+    /// There are more contexts or digits than entries can refer to.
+    #[error("at the end: expected fewer contractions and digits")]
+    FullTables,
     /// A table that the lines make is refused by its own check.
     #[error("{0}")]
     Tables(DataError),
@@ -92,8 +96,21 @@ pub(crate) enum Fault {
 }
 
 impl Fault {
+    /// The error, behind the last line.
+    pub(crate) fn at_end(self) -> ReadError
+        ensures { IsNumbered result }
+    {
+        match self {
+            Fault::NoMemory => ReadError::NoMemory,
+            Fault::Refused(_) => ReadError::FullTables,
+        }
+    }
+
     /// The error, at this line.
-    pub(crate) fn at(self, line: u64) -> ReadError {
+    pub(crate) fn at(self, line: u64) -> ReadError
+        requires { 0 < line }
+        ensures { IsNumbered result }
+    {
         match self {
             Fault::NoMemory => ReadError::NoMemory,
             Fault::Refused(refusal) => ReadError::Line { line, refusal },
@@ -129,28 +146,40 @@ impl<T: Drop> From<AllocFailed<T>> for Fault {
 }
 
 impl From<AllocError> for ReadError {
+    ghost use Rattle.icu_cldr.specs.declared.error.ReadError.TheVariants.{NoMemory};
+
+    ghost from_gives = { λ _ error. error ≡ NoMemory };
+
     fn from(_: AllocError) -> ReadError {
         ReadError::NoMemory
     }
 }
 
 impl<T: Drop> From<AllocFailed<T>> for ReadError {
+    ghost use Rattle.icu_cldr.specs.declared.error.ReadError.TheVariants.{NoMemory};
+
+    ghost from_gives = { λ _ error. error ≡ NoMemory };
+
     fn from(_: AllocFailed<T>) -> ReadError {
         ReadError::NoMemory
     }
 }
 
 impl From<Missing> for ReadError {
+    ghost use Rattle.icu_cldr.specs.declared.error.ReadError.TheVariants as variants;
+
+    ghost from_gives = { λ missing error. error ≡ variants.Missing missing };
+
     fn from(missing: Missing) -> ReadError {
         ReadError::Missing(missing)
     }
 }
 
 /// The table, or the error that its own check refuses it.
-pub(crate) fn named<T>(
-    table: DataTable,
-    checked: Result<T, DataErrorKind>,
-) -> Result<T, ReadError> {
+pub(crate) fn named<T>(table: DataTable, checked: Result<T, DataErrorKind>) -> Result<T, ReadError>
+    ensures kept { IfOk result (λ t. checked ≡ Ok t) }
+    ensures numbered { IfErr result IsNumbered }
+{
     match checked {
         Ok(checked) => Ok(checked),
         Err(DataErrorKind::NoMemory) => Err(ReadError::NoMemory),

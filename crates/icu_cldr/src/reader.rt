@@ -1,4 +1,9 @@
 //! The lines of a reader.
+ghost use Rattle.std.specs.Prelude.{◌≡◌, ◌<◌, IfOk, IfErr};
+ghost use Rattle.icu_provider.specs.OwnedTables.{owned_tables};
+ghost use Rattle.icu_cldr.specs.Errors.{IsNumbered};
+ghost use Rattle.icu_cldr.specs.Roots.{IsRoot};
+
 use crate::collected::Collected;
 use crate::error::{Fault, ReadError, Refusal};
 use icu_provider::OwnedTables;
@@ -6,7 +11,10 @@ use std::alloc::Global;
 use std::io::{BufRead, ErrorKind};
 
 /// What a read that fails is, at this line.
-fn failed(kind: ErrorKind, line: u64) -> ReadError {
+fn failed(kind: ErrorKind, line: u64) -> ReadError
+    requires { 0 < line }
+    ensures { IsNumbered result }
+{
     match kind {
         ErrorKind::OutOfMemory => ReadError::NoMemory,
         ErrorKind::InvalidData => Fault::Refused(Refusal::Encoding).at(line),
@@ -18,11 +26,11 @@ fn failed(kind: ErrorKind, line: u64) -> ReadError {
 pub(crate) fn read_tables<R: BufRead + Drop>(
     alloc: Global,
     reader: R,
-) -> Result<OwnedTables, ReadError> {
-    let mut collected = match Collected::new(alloc) {
-        Ok(collected) => collected,
-        Err(fault) => return Err(fault.at(0)),
-    };
+) -> Result<OwnedTables, ReadError>
+    ensures root { IfOk result (λ o. IsRoot (owned_tables o)) }
+    ensures numbered { IfErr result IsNumbered }
+{
+    let mut collected = Collected::new(alloc)?;
     let mut number = 0u64;
     for line in reader.lines(alloc) {
         number = number.saturating_add(1);

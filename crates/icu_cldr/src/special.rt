@@ -1,5 +1,7 @@
 //! Where groups of variable elements end, the lead byte of numbers, and the lead bytes whose weights compress.
-ghost use Rattle.std.specs.Prelude.{◌≡◌, ◌≤◌, length};
+ghost use Rattle.std.specs.Prelude.{◌≡◌, ◌≤◌, length, IfOk, IfErr};
+ghost use Rattle.icu_provider.specs.OwnedTables.{owned_special};
+ghost use Rattle.icu_cldr.specs.Errors.{IsNumbered};
 
 use crate::error::{Fault, Missing, ReadError, Refusal, named};
 use icu_entries::DataTable;
@@ -71,7 +73,10 @@ impl Special {
     }
 
     /// Four ends of groups, and bits for the compressible lead bytes.
-    fn last_primaries(&self, alloc: Global) -> Result<Vec<u16>, ReadError> {
+    fn last_primaries(&self, alloc: Global) -> Result<Vec<u16>, ReadError>
+        ensures count { IfOk result (λ v. length v.items ≡ 20) }
+        ensures numbered { IfErr result IsNumbered }
+    {
         let ends = [
             self.space_end.ok_or(Missing::Punctuation)?,
             self.punctuation_end.ok_or(Missing::Symbols)?,
@@ -84,7 +89,10 @@ impl Special {
     }
 
     /// The table.
-    pub(crate) fn table(&self, alloc: Global) -> Result<OwnedSpecialPrimaries, ReadError> {
+    pub(crate) fn table(&self, alloc: Global) -> Result<OwnedSpecialPrimaries, ReadError>
+        ensures count { IfOk result (λ o. length (owned_special o).last ≡ 20) }
+        ensures numbered { IfErr result IsNumbered }
+    {
         let numbers = self.last_primaries(alloc)?;
         let lead = self.numeric_lead.ok_or(Missing::NumericLead)?;
         let table = named(
