@@ -176,6 +176,28 @@ fn lines(rt: HostRuntime) -> Result<(), Fail> {
     Ok(())
 }
 
+/// A line that is cut at any place is refused, or says a beginning of what it said, or nothing.
+#[test]
+fn cut_lines(rt: HostRuntime) -> Result<(), Fail> {
+    for (line, expected) in &LINES {
+        if expected.starts_with("expected") {
+            continue;
+        }
+        let mut cut = String::new(rt.alloc());
+        for c in line.chars() {
+            cut.push(c)?;
+            let found = said(rt.alloc(), cut.as_str())?;
+            let found = found.as_str();
+            let is_part = found == "nothing" || expected.starts_with(found);
+            assert!(rt;
+                is_part || found.starts_with("expected"),
+                "{cut:?}: {found}"
+            );
+        }
+    }
+    Ok(())
+}
+
 /// A line of 10,000 mapped characters and as many elements.
 #[test]
 fn a_long_line(rt: HostRuntime) -> Result<(), Fail> {
