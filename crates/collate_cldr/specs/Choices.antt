@@ -4,6 +4,10 @@ use Rattle.icu_options.specs.declared.settings.Strength.{Strength}
 use Rattle.icu_options.specs.declared.settings.Strength.TheVariants.{Primary, Secondary, Tertiary, Quaternary, Identical}
 use Rattle.icu_options.specs.declared.settings.MaxVariable.TheVariants as groups
 use Rattle.icu_options.specs.declared.settings.CollationCaseFirst.TheVariants as cases
+use Rattle.icu_options.specs.declared.settings.CollationNumericOrdering.TheVariants as numeric
+use Rattle.icu_options.specs.declared.settings.AlternateHandling.TheVariants as handling
+use Rattle.icu_options.specs.declared.settings.CaseLevel.TheVariants as levels
+use Rattle.collate_cldr.specs.declared.choice.Chosen.{Chosen}
 use Rattle.collate_cldr.specs.declared.choice.Choice.{Choice}
 use Rattle.collate_cldr.specs.declared.choice.Choice.TheVariants.{Numeric, Shifted, CaseLevel, MaxVariable, CaseFirst}
 
@@ -31,3 +35,15 @@ choice_named word =
     else (if bytes_eq word (codes "--case-first=lower") then Some (CaseFirst cases.Lower)
     else (if bytes_eq word (codes "--case-first=upper") then Some (CaseFirst cases.Upper)
     else None)))))))))
+
+-- no setting is chosen
+abbrev pub nothing_chosen : Chosen
+nothing_chosen = record { numeric = None; alternate_handling = None; case_level = None; max_variable = None; case_first = None }
+
+-- the settings with one choice more: of two choices of one setting the last counts
+abbrev pub chosen_with : Chosen → Choice → Chosen
+chosen_with c Numeric = record c { numeric = Some numeric.True }
+chosen_with c Shifted = record c { alternate_handling = Some handling.Shifted }
+chosen_with c CaseLevel = record c { case_level = Some levels.On }
+chosen_with c (MaxVariable group) = record c { max_variable = Some group }
+chosen_with c (CaseFirst first) = record c { case_first = Some first }

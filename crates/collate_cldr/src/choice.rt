@@ -1,6 +1,6 @@
 //! The settings that options choose.
-ghost use Rattle.std.specs.Prelude.{◌≡◌};
-ghost use Rattle.collate_cldr.specs.Choices.{choice_named};
+ghost use Rattle.std.specs.Prelude.{◌≡◌, Some, None};
+ghost use Rattle.collate_cldr.specs.Choices.{choice_named, nothing_chosen, chosen_with};
 
 use icu_options::{
     AlternateHandling, CaseLevel, CollationCaseFirst, CollationNumericOrdering, CollatorOptions,
@@ -56,7 +56,9 @@ pub struct Chosen {
 
 impl Chosen {
     /// Nothing is chosen.
-    pub(crate) fn new() -> Chosen {
+    pub(crate) fn new() -> Chosen
+        ensures { result ≡ nothing_chosen }
+    {
         Chosen {
             numeric: None,
             alternate_handling: None,
@@ -67,7 +69,9 @@ impl Chosen {
     }
 
     /// The same, and one choice more. Of two choices of one setting the last counts.
-    pub(crate) fn with(mut self, choice: Choice) -> Chosen {
+    pub(crate) fn with(mut self, choice: Choice) -> Chosen
+        ensures { result ≡ chosen_with self choice }
+    {
         match choice {
             Choice::Numeric => self.numeric = Some(CollationNumericOrdering::True),
             Choice::Shifted => self.alternate_handling = Some(AlternateHandling::Shifted),
@@ -79,7 +83,14 @@ impl Chosen {
     }
 
     /// The options of a collator, at a strength.
-    pub(crate) fn options(self, strength: Strength) -> CollatorOptions {
+    pub(crate) fn options(self, strength: Strength) -> CollatorOptions
+        ensures { result ≡ record {
+            strength = Some strength;
+            alternate_handling = self.alternate_handling;
+            max_variable = self.max_variable;
+            case_level = self.case_level;
+        } }
+    {
         CollatorOptions {
             strength: Some(strength),
             alternate_handling: self.alternate_handling,
@@ -89,7 +100,10 @@ impl Chosen {
     }
 
     /// The preferences of a collator.
-    pub(crate) fn preferences(self) -> CollatorPreferences<'static> {
+    pub(crate) fn preferences(self) -> CollatorPreferences<'static>
+        ensures case_first { result.case_first ≡ self.case_first }
+        ensures numeric { result.numeric_ordering ≡ self.numeric }
+    {
         CollatorPreferences {
             locale: "",
             collation_type: None,
