@@ -3,10 +3,11 @@ ghost use Rattle.std.specs.Prelude.{◌≡◌, ◌++◌, ◌∷◌, [], IfOk, ch
 ghost use Rattle.icu_comparison.specs.Collators.{settings_kept, tables_kept};
 ghost use Rattle.collate_cldr.specs.Answers.{IsAnswer, sign_of};
 
-use crate::asked::Command;
+use crate::asked::Texts;
 use crate::choice::Chosen;
 use icu_comparison::Collator;
 use icu_entries::DataError;
+use icu_options::Strength;
 use icu_provider::CollationProvider;
 use std::alloc::{AllocError, Global};
 use std::cmp::Ordering;
@@ -27,25 +28,20 @@ pub(crate) fn collator<P: CollationProvider>(
     alloc: Global,
     provider: &P,
     chosen: Chosen,
-    command: Command<'_>,
+    strength: Strength,
 ) -> Result<Collator, DataError> {
     Collator::try_new_unstable(
         alloc,
         provider,
         chosen.preferences(),
-        chosen.options(command.strength),
+        chosen.options(strength),
     )
 }
 
-/// The line that answers a command: the sign of the order of its two texts by the collator.
-pub(crate) fn answer(
-    collator: &Collator,
-    command: Command<'_>,
-) -> Result<&'static str, AllocError>
-    ensures { IfOk result (λ line. IsAnswer (tables_kept collator.now) (settings_kept collator.now) command.left.now command.right.now line.now) }
+/// The line that answers a comparison: the sign of the order of its two texts by the collator.
+pub(crate) fn answer(collator: &Collator, texts: Texts<'_>) -> Result<&'static str, AllocError>
+    ensures { IfOk result (λ line. IsAnswer (tables_kept collator.now) (settings_kept collator.now) texts.entry.left.now texts.entry.right.now line.now) }
 {
-    let order = collator
-        .as_borrowed()
-        .compare(command.left, command.right)?;
+    let order = collator.as_borrowed().compare(texts.left, texts.right)?;
     Ok(sign_line(order))
 }

@@ -22,10 +22,25 @@ pub(crate) struct Request<'a> {
     pub(crate) command: Command<'a>,
 }
 
-/// A command: the order of two texts. Another command is another struct like this one, and an arm of `Command::parse`.
+/// A command, at a strength.
 #[derive(Clone, Copy)]
 pub(crate) struct Command<'a> {
     pub(crate) strength: Strength,
+    pub(crate) task: Task<'a>,
+}
+
+/// What a command asks for. Another command is another variant, and an arm of `Command::parse` and of `print_answer`.
+#[derive(Clone, Copy)]
+pub(crate) enum Task<'a> {
+    /// The order of two texts.
+    Compare(Texts<'a>),
+    /// Whether the lines of standard input are in order.
+    Neighbours,
+}
+
+/// Two texts.
+#[derive(Clone, Copy)]
+pub(crate) struct Texts<'a> {
     pub(crate) left: &'a str,
     pub(crate) right: &'a str,
 }
@@ -50,8 +65,14 @@ impl<'a> Command<'a> {
         match words {
             [name, strength, left, right] if name.as_str() == "compare" => Some(Command {
                 strength: strength_named(strength.as_str())?,
-                left: left.as_str(),
-                right: right.as_str(),
+                task: Task::Compare(Texts {
+                    left: left.as_str(),
+                    right: right.as_str(),
+                }),
+            }),
+            [name, strength] if name.as_str() == "neighbours" => Some(Command {
+                strength: strength_named(strength.as_str())?,
+                task: Task::Neighbours,
             }),
             _ => None,
         }

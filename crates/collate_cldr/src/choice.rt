@@ -85,10 +85,10 @@ impl Chosen {
     /// The options of a collator, at a strength.
     pub(crate) fn options(self, strength: Strength) -> CollatorOptions
         ensures { result ≡ record {
-            strength = Some strength;
-            alternate_handling = self.alternate_handling;
-            max_variable = self.max_variable;
-            case_level = self.case_level;
+          strength = Some strength;
+          alternate_handling = self.alternate_handling;
+          max_variable = self.max_variable;
+          case_level = self.case_level;
         } }
     {
         CollatorOptions {

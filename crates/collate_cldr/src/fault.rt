@@ -9,8 +9,10 @@ use std::io;
 use std::io::Write;
 
 /// What is said of words that are no command, and what `--help` prints.
-pub(crate) const USAGE: &str = "usage: collate-cldr [OPTION ..] FILE compare STRENGTH A B
+pub(crate) const USAGE: &str =
+    "usage: collate-cldr [OPTION ..] FILE compare STRENGTH A B | neighbours STRENGTH
 FILE is FractionalUCA.txt of CLDR; STRENGTH is 1, 2, 3, 4 or i.
+neighbours reads lines of characters' numbers, and counts those out of order.
 options: --numeric --shifted --case-level --case-first=off|lower|upper
          --max-variable=space|punctuation|symbol|currency | --help
 ";
@@ -28,6 +30,8 @@ pub enum Fault {
     NotRead(ReadError),
     /// The tables fail a condition.
     Refused(DataError),
+    /// A read of standard input failed.
+    ReadFailed,
     /// A write to standard output failed.
     WriteFailed,
 }
@@ -52,6 +56,7 @@ impl Fault {
             Fault::NotOpened => writeln!(faults, "{file}: not opened"),
             Fault::NotRead(error) => writeln!(faults, "{file}: {error}"),
             Fault::Refused(error) => writeln!(faults, "{file}: {error}"),
+            Fault::ReadFailed => writeln!(faults, "collate-cldr: read failed"),
             Fault::WriteFailed => writeln!(faults, "collate-cldr: write failed"),
         }
     }

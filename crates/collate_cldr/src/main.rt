@@ -1,10 +1,11 @@
-//! The program `collate-cldr`: compares texts on the command line by the tables of a file, FractionalUCA.txt of CLDR.
+//! The program `collate-cldr`: compares texts by the tables of a file, FractionalUCA.txt of CLDR.
 #![tactic(auto)]
 
 mod answer;
 mod asked;
 mod choice;
 mod fault;
+mod neighbours;
 mod program;
 
 use fault::Fault;
@@ -28,7 +29,13 @@ fn fault_of(error: io::Error) -> Fault {
 
 fn main(rt: HostRuntime) -> ExitCode {
     let status = match words(&rt) {
-        Ok(words) => run(&rt, words.as_slice(), &mut rt.stdout(), &mut rt.stderr()),
+        Ok(words) => run(
+            &rt,
+            words.as_slice(),
+            rt.stdin(),
+            &mut rt.stdout(),
+            &mut rt.stderr(),
+        ),
         Err(fault) => report(fault, "", &mut rt.stderr()),
     };
     ExitCode::from(status)

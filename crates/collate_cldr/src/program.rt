@@ -2,11 +2,12 @@
 ghost use Rattle.std.specs.Prelude.{◌≡◌, ◌≤◌};
 
 use crate::answer::{answer, collator};
-use crate::asked::{Asked, Request};
+use crate::asked::{Asked, Request, Task};
 use crate::fault::{Fault, USAGE};
+use crate::neighbours::{Counts, neighbours};
 use icu_cldr::{CldrRoot, read_root};
 use std::fs;
-use std::io::{BufReader, Write};
+use std::io::{BufReader, Read, Write};
 use std::rt::Files;
 
 /// Makes one run of the program over the words after its name, and returns the status that it ends with.
@@ -17,9 +18,10 @@ use std::rt::Files;
 /// - 2: the words are no command. `faults` says what commands there are.
 ///
 /// A failed write to `faults` changes no status.
-pub(crate) fn run<R: Files + AllocGlobal, W: Write, E: Write>(
+pub(crate) fn run<R: Files + AllocGlobal, I: Read + Drop, W: Write, E: Write>(
     rt: &R,
     words: &[String],
+    input: I,
     output: &mut W,
     faults: &mut E,
 ) -> u8
@@ -27,7 +29,7 @@ pub(crate) fn run<R: Files + AllocGlobal, W: Write, E: Write>(
 {
     let (file, printed) = match Asked::parse(words) {
         Some(Asked::Help) => ("", print(USAGE, output)),
-        Some(Asked::Answer(request)) => (request.file, print_answer(rt, request, output)),
+        Some(Asked::Answer(request)) => (request.file, print_answer(rt, request, input, output)),
         None => ("", Err(Fault::WrongWords)),
     };
     match printed {
@@ -48,14 +50,36 @@ fn read_file<R: Files + AllocGlobal>(rt: &R, file: &str) -> Result<CldrRoot, Fau
 }
 
 /// Prints the answer, or says what keeps it from being printed.
-fn print_answer<R: Files + AllocGlobal, W: Write>(
+fn print_answer<R: Files + AllocGlobal, I: Read + Drop, W: Write>(
     rt: &R,
     request: Request<'_>,
+    input: I,
     output: &mut W,
 ) -> Result<(), Fault> {
     let root = read_file(rt, request.file)?;
-    let collator = collator(rt.alloc(), &root, request.chosen, request.command)?;
-    print(answer(&collator, request.command)?, output)
+    let collator = collator(rt.alloc(), &root, request.chosen, request.command.strength)?;
+    match request.command.task {
+        Task::Compare(texts) => print(answer(&collator, texts)?, output),
+        Task::Neighbours => print_counts(neighbours(rt.alloc(), &collator, input)?, output),
+    }
+}
+
+/// Writes what was seen of lines to the output, and flushes it.
+fn print_counts<W: Write>(counts: Counts, output: &mut W) -> Result<(), Fault> {
+    let Counts {
+        pairs,
+        greater,
+        greater_by_keys,
+        passed_over,
+    } = counts;
+    let written = writeln!(
+        output,
+        "{pairs} pairs, out of order by compare {greater}, by keys {greater_by_keys}; {passed_over} lines passed over"
+    );
+    if written.is_err() || output.flush().is_err() {
+        return Err(Fault::WriteFailed);
+    }
+    Ok(())
 }
 
 /// Writes a text to the output, and flushes it.

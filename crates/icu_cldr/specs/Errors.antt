@@ -1,5 +1,5 @@
 -- Why a file isn't read.
-use Rattle.std.specs.Prelude.{ℕ, ◌<◌}
+use Rattle.std.specs.Prelude.{◌<◌}
 use Rattle.icu_cldr.specs.declared.error.ReadError.{ReadError}
 use Rattle.icu_cldr.specs.declared.error.ReadError.TheVariants.{Line}
 
