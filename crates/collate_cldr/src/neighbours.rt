@@ -1,0 +1,118 @@
+//! Whether lines are in order, as those of CLDR's test files should be.
+use crate::fault::Fault;
+use icu_comparison::Collator;
+use std::alloc::{AllocError, Global};
+use std::cmp::Ordering;
+use std::io::{BufRead, BufReader, Read};
+
+/// What was seen of lines: pairs of neighbours, those of which the first is greater than the second, by their comparison and by
+/// their keys, and lines with numbers of no characters, as lone surrogates, which were passed over.
+#[derive(Debug, Clone, Copy, PartialEq, Eq)]
+pub(crate) struct Counts {
+    pub(crate) pairs: u64,
+    pub(crate) greater: u64,
+    pub(crate) greater_by_keys: u64,
+    pub(crate) passed_over: u64,
+}
+
+/// A line: its text, and its key.
+#[derive(Drop)]
+struct Keyed {
+    text: String,
+    key: Vec<u8>,
+}
+
+/// The text that the numbers of characters in a line spell, in hexadecimal digits; nothing where one is the number of no
+/// character.
+fn spelt(alloc: Global, line: &str) -> Result<Option<String>, AllocError> {
+    let mut text = String::new(alloc);
+    for word in line.split_whitespace() {
+        let Ok(code) = u32::from_str_radix(word, 16) else {
+            return Ok(None);
+        };
+        match char::from_u32(code) {
+            Some(c) => text.push(c)?,
+            None => return Ok(None),
+        }
+    }
+    Ok(Some(text))
+}
+
+/// What stands before the comment of a line.
+fn before_comment(line: &str) -> &str {
+    match line.split_once('#') {
+        Some((text, _)) => text,
+        None => line,
+    }
+}
+
+/// A text with its key.
+fn with_key(alloc: Global, collator: &Collator, text: String) -> Result<Keyed, Fault> {
+    let mut key = Vec::new(alloc);
+    match collator
+        .as_borrowed()
+        .write_sort_key_to(text.as_str(), &mut key)
+    {
+        Ok(_) => Ok(Keyed { text, key }),
+        Err(_) => Err(Fault::NoMemory),
+    }
+}
+
+impl Counts {
+    /// Nothing is seen.
+    fn new() -> Counts {
+        Counts {
+            pairs: 0,
+            greater: 0,
+            greater_by_keys: 0,
+            passed_over: 0,
+        }
+    }
+
+    /// Takes in a pair of neighbours.
+    fn add(&mut self, collator: &Collator, left: &Keyed, right: &Keyed) -> Result<(), Fault> {
+        let order = collator
+            .as_borrowed()
+            .compare(left.text.as_str(), right.text.as_str())?;
+        self.pairs = self.pairs.saturating_add(1);
+        if order == Ordering::Greater {
+            self.greater = self.greater.saturating_add(1);
+        }
+        if left.key.as_slice().cmp(right.key.as_slice()) == Ordering::Greater {
+            self.greater_by_keys = self.greater_by_keys.saturating_add(1);
+        }
+        Ok(())
+    }
+}
+
+/// Looks at the lines of a reader, each of which spells a text by the numbers of its characters.
+pub(crate) fn neighbours<R: Read + Drop>(
+    alloc: Global,
+    collator: &Collator,
+    input: R,
+) -> Result<Counts, Fault> {
+    let Ok(reader) = BufReader::new(alloc, input) else {
+        return Err(Fault::NoMemory);
+    };
+    let mut counts = Counts::new();
+    let mut last: Option<Keyed> = None;
+    for line in reader.lines(alloc) {
+        let Ok(line) = line else {
+            return Err(Fault::ReadFailed);
+        };
+        let numbers = before_comment(line.as_str()).trim();
+        if numbers.is_empty() {
+            continue;
+        }
+        let Some(text) = spelt(alloc, numbers)? else {
+            counts.passed_over = counts.passed_over.saturating_add(1);
+            continue;
+        };
+        let next = with_key(alloc, collator, text)?;
+        if let Some(last) = &last {
+            counts.add(collator, last, &next)?;
+        }
+        last = Some(next);
+    }
+    Ok(counts)
+}

@@ -1,0 +1,4 @@
+pub mod Diacritics
+pub mod Entries
+pub mod Errors
+pub mod Roots

@@ -1,0 +1,107 @@
+//! The tables of what the lines said.
+ghost use Rattle.std.specs.Prelude.{◌≡◌, IfOk, IfErr};
+ghost use Rattle.icu_provider.specs.OwnedTables.{owned_tables, owned_special};
+ghost use Rattle.icu_cldr.specs.Errors.{IsNumbered};
+ghost use Rattle.icu_cldr.specs.Roots.{IsRoot};
+
+use crate::collected::Collected;
+use crate::contexts::{Contexts, entry_in_contexts};
+use crate::digits::make_digits;
+use crate::entries::IMPLICIT_CE32;
+use crate::error::{Fault, ReadError, named};
+use icu_data::{DataBuilder, OwnedData};
+use icu_entries::DataTable;
+use icu_provider::{
+    CollationDiacritics, CollationJamo, CollationMetadata, OwnedDiacritics, OwnedJamo, OwnedTables,
+};
+use std::alloc::Global;
+use std::collections::BTreeMap;
+
+/// The metadata of the root: the last variable group is punctuation.
+const ROOT_METADATA: u32 = 1;
+
+/// The conjoining jamo.
+const FIRST_JAMO: u32 = 0x1100;
+
+const JAMO_COUNT: u32 = 256;
+
+/// The entries of the conjoining jamo.
+fn jamo(alloc: Global, entries: &BTreeMap<char, u32>) -> Result<OwnedJamo, ReadError>
+    ensures { IfErr result IsNumbered }
+{
+    let mut jamo = Vec::new(alloc);
+    for code in FIRST_JAMO..FIRST_JAMO + JAMO_COUNT {
+        let entry = match char::from_u32(code) {
+            Some(c) => entries.get(&c).copied().unwrap_or(IMPLICIT_CE32),
+            None => IMPLICIT_CE32,
+        };
+        jamo.push(entry)?;
+    }
+    let table = named(DataTable::Jamo, CollationJamo::new(jamo.as_slice()))?;
+    Ok(OwnedJamo::copy(alloc, table)?)
+}
+
+/// The secondary weights of diacritics.
+fn diacritics(alloc: Global, secondaries: &[u16]) -> Result<OwnedDiacritics, ReadError>
+    ensures { IfErr result IsNumbered }
+{
+    let table = named(DataTable::Diacritics, CollationDiacritics::new(secondaries))?;
+    Ok(OwnedDiacritics::copy(alloc, table)?)
+}
+
+/// Gives the characters that have contexts their entries.
+fn resolve_contexts(
+    alloc: Global,
+    builder: &mut DataBuilder,
+    entries: &mut BTreeMap<char, u32>,
+    contexts: &BTreeMap<char, Contexts>,
+) -> Result<(), Fault> {
+    for (c, contexts) in contexts.iter() {
+        let own = entries.get(c).copied().unwrap_or(IMPLICIT_CE32);
+        let entry = entry_in_contexts(alloc, builder, own, contexts)?;
+        entries.insert(*c, entry)?;
+    }
+    Ok(())
+}
+
+/// The root.
+fn root(mut builder: DataBuilder, entries: &BTreeMap<char, u32>) -> Result<OwnedData, ReadError>
+    ensures { IfErr result IsNumbered }
+{
+    for (c, entry) in entries.iter() {
+        builder.set_entry(*c, *entry);
+    }
+    named(DataTable::Root, OwnedData::new(builder.build()?))
+}
+
+impl Collected {
+    /// The tables.
+    #[tactic(auto, unfolding(icu_provider::specs::OwnedTables::owned_tables))]
+    pub(crate) fn finish(self) -> Result<OwnedTables, ReadError>
+        ensures root { IfOk result (λ o. IsRoot (owned_tables o)) }
+        ensures numbered { IfErr result IsNumbered }
+    {
+        let Collected {
+            alloc,
+            mut builder,
+            mut entries,
+            contexts,
+            diacritics: secondaries,
+            special,
+            ideographs: _,
+        } = self;
+        make_digits(alloc, &mut builder, &mut entries).map_err(Fault::at_end)?;
+        resolve_contexts(alloc, &mut builder, &mut entries, &contexts).map_err(Fault::at_end)?;
+        Ok(OwnedTables {
+            jamo: jamo(alloc, &entries)?,
+            diacritics: diacritics(alloc, &secondaries)?,
+            special: special.table(alloc)?,
+            root: root(builder, &entries)?,
+            metadata: CollationMetadata {
+                bits: ROOT_METADATA,
+            },
+            tailoring: None,
+            reordering: None,
+        })
+    }
+}

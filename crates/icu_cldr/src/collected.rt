@@ -1,0 +1,283 @@
+//! What the lines said so far.
+ghost use Rattle.std.specs.Prelude.{◌≡◌, ◌+◌, ◌<◌, ◌≤◌, IfSome, IfOk, length};
+ghost use Rattle.icu_cldr.specs.Diacritics.{SaysOfMark};
+
+use crate::contexts::{Contexts, Surroundings};
+use crate::entries::{
+    IMPLICIT_CE32, INDEX_COUNT, Target, Weights, element_list, entry_list, reference,
+};
+use crate::error::{Fault, Refusal};
+use crate::ideograph_weights::{IdeographWeights, STEP, WeightedRange, char_count};
+use crate::special::Special;
+use icu_data::DataBuilder;
+use icu_fractional::{CharRange, FractionalElement, Line, Mapping, Primary};
+use icu_provider::diacritics::is_replaced_index;
+use std::alloc::{AllocError, Global};
+use std::collections::BTreeMap;
+
+/// A character of no text, with which the least primary weights of scripts and groups begin.
+const BOUNDARY: char = '\u{FDD1}';
+
+/// The first of the combining marks whose secondary weights have a table of their own.
+const FIRST_DIACRITIC: u32 = 0x300;
+
+/// How many these are.
+const DIACRITIC_COUNT: usize = 79;
+
+/// How many ideographs have entries of their own where there are no more together.
+const FEW_IDEOGRAPHS: u32 = 8;
+
+/// What the lines said so far: the tables' parts.
+#[derive(Debug, Drop)]
+pub(crate) struct Collected {
+    pub(crate) alloc: Global,
+    pub(crate) builder: DataBuilder,
+    /// The entries of characters, where nothing around them counts.
+    pub(crate) entries: BTreeMap<char, u32>,
+    /// The entries of characters by what stands around them.
+    pub(crate) contexts: BTreeMap<char, Contexts>,
+    pub(crate) diacritics: [u16; DIACRITIC_COUNT],
+    pub(crate) special: Special,
+    pub(crate) ideographs: IdeographWeights,
+}
+
+/// Weights with lead byte EF stand behind all others, and are spelt with FF, since implicit weights have FE here. The first weight
+/// behind those of assigned characters, E4, is the implicit weight before that of U+0000.
+fn respelt(primary: u32) -> u32 {
+    if primary == 0xE400_0000 {
+        0xFE04_0202
+    } else if primary >> 24 == 0xEF {
+        primary + 0x1000_0000
+    } else {
+        primary
+    }
+}
+
+/// The index of a combining mark in the table of such marks.
+fn diacritic_index(c: char) -> Option<usize>
+    ensures index { IfSome result (λ index. index + 0x300 ≡ c) }
+    ensures bound { IfSome result (λ index. index < 79) }
+{
+    let index = (c as u32).checked_sub(FIRST_DIACRITIC)? as usize;
+    if index < DIACRITIC_COUNT {
+        Some(index)
+    } else {
+        None
+    }
+}
+
+/// The secondary weight of a combining mark. One that has a decomposition is in no text that is compared, and its weight isn't read.
+fn secondary_of_diacritic(index: usize, elements: &[Weights]) -> Result<u16, Fault>
+    ensures { IfOk result (SaysOfMark index elements.now) }
+{
+    match elements {
+        [element, ..] if is_replaced_index(index) => Ok(element.secondary),
+        [element] if element.primary == 0 && element.tertiary == 0x0500 => Ok(element.secondary),
+        _ => Err(Fault::Refused(Refusal::Diacritic)),
+    }
+}
+
+impl Collected {
+    /// Nothing is said.
+    pub(crate) fn new(alloc: Global) -> Result<Collected, AllocError> {
+        Ok(Collected {
+            alloc,
+            builder: DataBuilder::new(alloc, IMPLICIT_CE32)?,
+            entries: BTreeMap::new(alloc),
+            contexts: BTreeMap::new(alloc),
+            diacritics: [0; DIACRITIC_COUNT],
+            special: Special::new(),
+            ideographs: IdeographWeights::new(alloc),
+        })
+    }
+
+    /// Takes in what a line says.
+    pub(crate) fn read_line(&mut self, line: &str) -> Result<(), Fault> {
+        match Line::parse(self.alloc, line)? {
+            Line::Nothing => Ok(()),
+            Line::Ideographs(ranges) => self.add_ideographs(ranges.as_slice()),
+            Line::LeadByte(lead) => {
+                self.special.set_lead(lead);
+                Ok(())
+            }
+            Line::NumericLead(lead) => self.special.set_numeric_lead(lead),
+            Line::Mapping(mapping) => self.add_mapping(mapping),
+        }
+    }
+
+    /// Takes in the ideographs.
+    fn add_ideographs(&mut self, ranges: &[CharRange]) -> Result<(), Fault> {
+        if !self.ideographs.is_empty() {
+            return Err(Fault::Refused(Refusal::Repeated));
+        }
+        let ideographs = IdeographWeights::assign(self.alloc, ranges)?;
+        for weighted in ideographs.ranges() {
+            self.add_ideograph_range(*weighted)?;
+        }
+        self.ideographs = ideographs;
+        Ok(())
+    }
+
+    /// Gives a range of ideographs their entries.
+    fn add_ideograph_range(&mut self, weighted: WeightedRange) -> Result<(), Fault> {
+        let range = weighted.range;
+        if char_count(range) < FEW_IDEOGRAPHS {
+            self.add_few_ideographs(weighted);
+            return Ok(());
+        }
+        let Some(primary) = weighted.primary(range.first) else {
+            return Err(Fault::Refused(Refusal::FewerIdeographs));
+        };
+        let first = u64::from(range.first as u32);
+        let bits = u64::from(primary) << 32 | first << 8 | u64::from(STEP);
+        let index = self.builder.add_elements(&[bits])?;
+        if index >= INDEX_COUNT {
+            return Err(Fault::Refused(Refusal::FullTables));
+        }
+        let entry = reference(Target::Offset, index);
+        self.builder.set_entries(range.first, range.last, entry);
+        Ok(())
+    }
+
+    /// Gives ideographs entries of their own.
+    fn add_few_ideographs(&mut self, weighted: WeightedRange) {
+        let range = weighted.range;
+        for code in range.first as u32..range.last as u32 + 1 {
+            if let Some(c) = char::from_u32(code)
+                && let Some(primary) = weighted.primary(c)
+            {
+                self.builder.set_entry(c, primary + 0xC1);
+            }
+        }
+    }
+
+    /// The weights of an element.
+    fn weights(&self, element: FractionalElement) -> Result<Weights, Fault> {
+        let primary = match element.primary {
+            Primary::Weight(primary) => respelt(primary),
+            Primary::OfIdeograph(c) => match self.ideographs.primary(c) {
+                Some(primary) => primary,
+                None => return Err(Fault::Refused(Refusal::Ideograph)),
+            },
+        };
+        Ok(Weights {
+            primary,
+            secondary: element.secondary,
+            tertiary: element.tertiary,
+        })
+    }
+
+    /// The weights of elements.
+    fn all_weights(&self, elements: &[FractionalElement]) -> Result<Vec<Weights>, Fault> {
+        let mut weights = Vec::new(self.alloc);
+        for element in elements {
+            weights.push(self.weights(*element)?)?;
+        }
+        Ok(weights)
+    }
+
+    /// Takes in a mapping.
+    fn add_mapping(&mut self, mapping: Mapping) -> Result<(), Fault> {
+        let weights = self.all_weights(mapping.elements.as_slice())?;
+        if let Some(index) = diacritic_index(mapping.first) {
+            if !mapping.prefix.is_empty() || !mapping.suffix.is_empty() {
+                return Err(Fault::Refused(Refusal::Diacritic));
+            }
+            self.diacritics[index] = secondary_of_diacritic(index, weights.as_slice())?;
+        }
+        if mapping.first == BOUNDARY {
+            self.add_boundary(mapping.suffix.as_slice(), weights.as_slice());
+        }
+        let entry = self.add_elements(weights.as_slice())?;
+        self.add_entry(mapping, entry)
+    }
+
+    /// Takes in the first primary weight of a script or of a group of variable elements.
+    fn add_boundary(&mut self, samples: &[char], elements: &[Weights]) {
+        if let ([sample], [element]) = (samples, elements) {
+            self.special.set_first_primary(*sample, element.primary);
+        }
+    }
+
+    /// The entry of elements. Those that one entry doesn't spell become a list.
+    fn add_elements(&mut self, elements: &[Weights]) -> Result<u32, Fault> {
+        if elements.len() >= 32 {
+            return Err(Fault::Refused(Refusal::FewerElements));
+        }
+        let mut entries = Vec::new(self.alloc);
+        for element in elements {
+            match element.entry() {
+                Some(entry) => entries.push(entry)?,
+                None => return self.add_element_list(elements),
+            }
+        }
+        match entries.as_slice() {
+            [entry] => Ok(*entry),
+            entries => self.add_entry_list(entries),
+        }
+    }
+
+    /// The entry of a list of entries.
+    fn add_entry_list(&mut self, entries: &[u32]) -> Result<u32, Fault>
+        requires { length entries.now ≤ 31 }
+    {
+        let index = self.builder.add_entries(entries)?;
+        if index >= INDEX_COUNT {
+            return Err(Fault::Refused(Refusal::FullTables));
+        }
+        Ok(entry_list(index, entries.len()))
+    }
+
+    /// The entry of a list of elements.
+    fn add_element_list(&mut self, elements: &[Weights]) -> Result<u32, Fault>
+        requires { length elements.now ≤ 31 }
+    {
+        let mut bits = Vec::new(self.alloc);
+        for element in elements {
+            bits.push(element.bits())?;
+        }
+        let index = self.builder.add_elements(bits.as_slice())?;
+        if index >= INDEX_COUNT {
+            return Err(Fault::Refused(Refusal::FullTables));
+        }
+        Ok(element_list(index, elements.len()))
+    }
+
+    /// Takes in the entry of a text.
+    fn add_entry(&mut self, mapping: Mapping, entry: u32) -> Result<(), Fault> {
+        let Mapping {
+            prefix,
+            first,
+            suffix,
+            elements: _,
+        } = mapping;
+        let before = if prefix.is_empty() && suffix.is_empty() {
+            self.entries.insert(first, entry)?
+        } else {
+            self.add_context(first, prefix, suffix, entry)?
+        };
+        match before {
+            None => Ok(()),
+            Some(_) => Err(Fault::Refused(Refusal::Repeated)),
+        }
+    }
+
+    /// Takes in the entry of a character between others, and returns the one that it had there.
+    fn add_context(
+        &mut self,
+        first: char,
+        prefix: Vec<char>,
+        suffix: Vec<char>,
+        entry: u32,
+    ) -> Result<Option<u32>, Fault> {
+        let mut before = prefix;
+        before.reverse();
+        let surroundings = Surroundings {
+            before,
+            after: suffix,
+        };
+        let alloc = self.alloc;
+        let contexts = self.contexts.entry(first)?.or_insert(BTreeMap::new(alloc));
+        Ok(contexts.insert(surroundings, entry)?)
+    }
+}

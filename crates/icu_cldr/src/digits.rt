@@ -1,0 +1,48 @@
+//! The digits that make numbers: characters with General_Category Nd.
+use crate::entries::{INDEX_COUNT, digit_entry};
+use crate::error::{Fault, Refusal};
+use icu_data::DataBuilder;
+use std::alloc::Global;
+use std::collections::BTreeMap;
+use ucd_perl::digit_ranges;
+
+/// The entry of a digit whose plain entry this is.
+fn entry_of_digit(builder: &mut DataBuilder, value: u32, plain: u32) -> Result<u32, Fault> {
+    let index = builder.add_entries(&[plain])?;
+    if index >= INDEX_COUNT {
+        return Err(Fault::Refused(Refusal::FullTables));
+    }
+    Ok(digit_entry(index, value % 10))
+}
+
+/// Makes the entries of these characters, as far as they have any, entries of digits. Such characters follow one another by tens,
+/// from zero to nine (Unicode Standard, section 4.6 "Numeric Value").
+fn make_digits_of(
+    builder: &mut DataBuilder,
+    entries: &mut BTreeMap<char, u32>,
+    first: u32,
+    last: u32,
+) -> Result<(), Fault> {
+    for (value, code) in (0u32..).zip(first..last.saturating_add(1)) {
+        let Some(c) = char::from_u32(code) else {
+            continue;
+        };
+        if let Some(plain) = entries.get(&c).copied() {
+            let entry = entry_of_digit(builder, value, plain)?;
+            entries.insert(c, entry)?;
+        }
+    }
+    Ok(())
+}
+
+/// Makes the entries of all digits that have one entries of digits.
+pub(crate) fn make_digits(
+    alloc: Global,
+    builder: &mut DataBuilder,
+    entries: &mut BTreeMap<char, u32>,
+) -> Result<(), Fault> {
+    for (first, last) in digit_ranges(alloc)? {
+        make_digits_of(builder, entries, first, last)?;
+    }
+    Ok(())
+}

@@ -1,0 +1,188 @@
+//! Why a file isn't read.
+ghost use Rattle.std.specs.Prelude.{◌≡◌, ◌<◌, IfErr, IfOk, Ok};
+ghost use Rattle.icu_cldr.specs.Errors.{IsNumbered};
+
+use icu_entries::{DataError, DataErrorKind, DataTable};
+use icu_fractional::{Expected, LineError};
+use std::alloc::{AllocError, AllocFailed};
+use std::io;
+use thiserror::Error;
+
+/// Why a line is refused.
+#[derive(Debug, Clone, Copy, PartialEq, Eq, Error)]
+pub enum Refusal {
+    /// It has something else than what a line has.
+    #[error("{0}")]
+    Written(Expected),
+    /// What it says was said before.
+    #[error("expected a text or a fact that no line before has")]
+    Repeated,
+    /// It is no UTF-8.
+    #[error("expected UTF-8")]
+    Encoding,
+    /// An element names an ideograph that the line of ideographs before it hasn't.
+    #[error("expected an ideograph that a line before names")]
+    Ideograph,
+    /// The ideographs don't fit below the implicit weights.
+    #[error("expected fewer ideographs")]
+    FewerIdeographs,
+    /// A mapping has more than 31 elements.
+    #[error("expected at most 31 elements")]
+    FewerElements,
+    /// A character from U+0300 to U+034E has something else than a secondary weight with the common tertiary weight, or a context.
+    #[error("expected a secondary weight and 05 alone, of a combining mark below U+034F")]
+    Diacritic,
+    /// The least primary weight of a group isn't one with bytes.
+    #[error("expected the first primary weight of a group")]
+    FirstPrimary,
+    /// There are more lists or contexts than entries can refer to.
+    #[error("expected fewer expansions and contractions")]
+    FullTables,
+}
+
+/// What a file lacks at its end.
+#[derive(Debug, Clone, Copy, PartialEq, Eq, Error)]
+pub enum Missing {
+    /// The mapping of U+FDD0 and "4", which has the lead byte of numbers.
+    #[error("expected a line with the lead byte of numbers, FDD0 0034")]
+    NumericLead,
+    /// The mapping of U+FDD1 and U+201C, the least primary weight of punctuation, at which spaces end.
+    #[error("expected a line with the first primary weight of punctuation, FDD1 201C")]
+    Punctuation,
+    /// The mapping of U+FDD1 and U+263A, the least primary weight of symbols, at which punctuation ends.
+    #[error("expected a line with the first primary weight of symbols, FDD1 263A")]
+    Symbols,
+    /// The mapping of U+FDD1 and U+20AC, the least primary weight of currencies, at which symbols end.
+    #[error("expected a line with the first primary weight of currencies, FDD1 20AC")]
+    Currencies,
+    /// The mapping of U+FDD1 and "4", the least primary weight of digits, at which currencies end.
+    #[error("expected a line with the first primary weight of digits, FDD1 0034")]
+    Digits,
+}
+
+/// Why a file isn't read.
+#[derive(Debug, Clone, Copy, PartialEq, Eq, Error)]
+pub enum ReadError {
+    /// Out of memory.
+    #[error("no memory")]
+    NoMemory,
+    /// A read failed.
+    #[error("read failed")]
+    ReadFailed(io::ErrorKind),
+    /// A line is refused.
+    #[error("line {line}: {refusal}")]
+    Line {
+        /// The line, from 1 on.
+        line: u64,
+        /// Why.
+        refusal: Refusal,
+    },
+    /// A line is missing.
+    #[error("at the end: {0}")]
+    Missing(Missing),
+    /// There are more contexts or digits than entries can refer to.
+    #[error("at the end: expected fewer contractions and digits")]
+    FullTables,
+    /// A table that the lines make is refused by its own check.
+    #[error("{0}")]
+    Tables(DataError),
+}
+
+/// What keeps a line from being taken in: it has no number yet.
+#[derive(Debug, Clone, Copy, PartialEq, Eq)]
+pub(crate) enum Fault {
+    NoMemory,
+    Refused(Refusal),
+}
+
+impl Fault {
+    /// The error, behind the last line.
+    pub(crate) fn at_end(self) -> ReadError
+        ensures { IsNumbered result }
+    {
+        match self {
+            Fault::NoMemory => ReadError::NoMemory,
+            Fault::Refused(_) => ReadError::FullTables,
+        }
+    }
+
+    /// The error, at this line.
+    pub(crate) fn at(self, line: u64) -> ReadError
+        requires { 0 < line }
+        ensures { IsNumbered result }
+    {
+        match self {
+            Fault::NoMemory => ReadError::NoMemory,
+            Fault::Refused(refusal) => ReadError::Line { line, refusal },
+        }
+    }
+}
+
+impl From<LineError> for Fault {
+    fn from(error: LineError) -> Fault {
+        match error {
+            LineError::NoMemory => Fault::NoMemory,
+            LineError::Expected(expected) => Fault::Refused(Refusal::Written(expected)),
+        }
+    }
+}
+
+impl From<Refusal> for Fault {
+    fn from(refusal: Refusal) -> Fault {
+        Fault::Refused(refusal)
+    }
+}
+
+impl From<AllocError> for Fault {
+    fn from(_: AllocError) -> Fault {
+        Fault::NoMemory
+    }
+}
+
+impl<T: Drop> From<AllocFailed<T>> for Fault {
+    fn from(_: AllocFailed<T>) -> Fault {
+        Fault::NoMemory
+    }
+}
+
+impl From<AllocError> for ReadError {
+    ghost use Rattle.icu_cldr.specs.declared.error.ReadError.TheVariants.{NoMemory};
+
+    ghost from_gives = { λ _ error. error ≡ NoMemory };
+
+    fn from(_: AllocError) -> ReadError {
+        ReadError::NoMemory
+    }
+}
+
+impl<T: Drop> From<AllocFailed<T>> for ReadError {
+    ghost use Rattle.icu_cldr.specs.declared.error.ReadError.TheVariants.{NoMemory};
+
+    ghost from_gives = { λ _ error. error ≡ NoMemory };
+
+    fn from(_: AllocFailed<T>) -> ReadError {
+        ReadError::NoMemory
+    }
+}
+
+impl From<Missing> for ReadError {
+    ghost use Rattle.icu_cldr.specs.declared.error.ReadError.TheVariants as variants;
+
+    ghost from_gives = { λ missing error. error ≡ variants.Missing missing };
+
+    fn from(missing: Missing) -> ReadError {
+        ReadError::Missing(missing)
+    }
+}
+
+/// The table, or the error that its own check refuses it.
+pub(crate) fn named<T>(table: DataTable, checked: Result<T, DataErrorKind>) -> Result<T, ReadError>
+    ensures kept { IfOk result (λ t. checked ≡ Ok t) }
+    ensures numbered { IfErr result IsNumbered }
+{
+    match checked {
+        Ok(checked) => Ok(checked),
+        Err(DataErrorKind::NoMemory) => Err(ReadError::NoMemory),
+        Err(kind) => Err(ReadError::Tables(DataError { table, kind })),
+    }
+}

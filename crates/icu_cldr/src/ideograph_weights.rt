@@ -1,0 +1,133 @@
+//! The primary weights of ideographs, which the file leaves to its reader.
+ghost use Rattle.std.specs.Prelude.{◌≡◌, ◌+◌, ◌*◌, ◌<◌, ◌≤◌, false, IfSome, IfOk};
+ghost use Rattle.icu_entries.specs.Weights.{weight_at};
+
+use crate::error::{Fault, Refusal};
+use icu_fractional::CharRange;
+use std::alloc::Global;
+
+/// The lead byte of implicit weights.
+pub(crate) const IMPLICIT_LEAD: u32 = 0xFE;
+
+/// The least lead byte that ideographs may have.
+const LEAST_LEAD: u32 = 0x80;
+
+/// How many weights of three bytes have the same lead byte.
+const WEIGHTS_PER_LEAD: u32 = 254 * 254;
+
+/// How many weights of three bytes an ideograph takes: its own, and one that is left for tailorings.
+pub(crate) const STEP: u32 = 2;
+
+/// Ideographs that follow one another, and the ordinal of the first one's weight among all weights of three bytes.
+#[derive(Debug, Clone, Copy, PartialEq)]
+pub(crate) struct WeightedRange {
+    pub(crate) range: CharRange,
+    pub(crate) ordinal: u32,
+}
+
+/// The ideographs in the order of their weights. These have three bytes each, and stand just below the implicit weights, in as many
+/// lead bytes as that takes.
+#[derive(Debug, Drop)]
+pub(crate) struct IdeographWeights {
+    ranges: Vec<WeightedRange>,
+}
+
+/// The weight of three bytes with an ordinal.
+#[tactic(auto, unfolding(icu_entries::specs::Weights::weight_at))]
+pub(crate) fn weight_at(ordinal: u32) -> u32
+    requires { ordinal < 0xFE * 64516 }
+    ensures value { result ≡ weight_at false ordinal }
+    ensures bound { result < 0xFE000000 }
+{
+    let lead = ordinal / 254 / 254;
+    let second = ordinal / 254 % 254 + 2;
+    let third = ordinal % 254 + 2;
+    lead * 0x100_0000 + second * 0x1_0000 + third * 0x100
+}
+
+/// How many characters a range has.
+pub(crate) fn char_count(range: CharRange) -> u32
+    ensures { result + range.first ≡ range.last + 1 }
+{
+    range.last as u32 - range.first as u32 + 1
+}
+
+/// How many characters ranges have.
+fn count(ranges: &[CharRange]) -> u32 {
+    let mut count = 0u32;
+    for range in ranges {
+        count = count.saturating_add(char_count(*range));
+    }
+    count
+}
+
+/// The lead byte of the first ideograph of so many; one weight is left before and after them.
+fn first_lead(count: u32) -> Option<u32>
+    ensures { IfSome result (λ lead. (0x80 ≤ lead) × (lead < 0xFE)) }
+{
+    let weights = count.checked_mul(STEP)?.checked_add(STEP + 2)?;
+    let leads = (weights - 1) / WEIGHTS_PER_LEAD + 1;
+    if leads > IMPLICIT_LEAD - LEAST_LEAD {
+        return None;
+    }
+    Some(IMPLICIT_LEAD - leads)
+}
+
+impl IdeographWeights {
+    /// No ideographs.
+    pub(crate) fn new(alloc: Global) -> IdeographWeights {
+        IdeographWeights {
+            ranges: Vec::new(alloc),
+        }
+    }
+
+    /// Whether there are none.
+    pub(crate) fn is_empty(&self) -> bool {
+        self.ranges.is_empty()
+    }
+
+    /// Gives the ideographs of ranges their weights, in this order.
+    pub(crate) fn assign(alloc: Global, ranges: &[CharRange]) -> Result<IdeographWeights, Fault> {
+        let Some(lead) = first_lead(count(ranges)) else {
+            return Err(Fault::Refused(Refusal::FewerIdeographs));
+        };
+        let mut ordinal = lead * WEIGHTS_PER_LEAD;
+        let mut weighted = Vec::new(alloc);
+        for range in ranges {
+            let range = *range;
+            weighted.push(WeightedRange { range, ordinal })?;
+            ordinal = ordinal.saturating_add(char_count(range).saturating_mul(STEP));
+        }
+        Ok(IdeographWeights { ranges: weighted })
+    }
+
+    /// The ranges.
+    pub(crate) fn ranges(&self) -> &[WeightedRange] {
+        self.ranges.as_slice()
+    }
+
+    /// The primary weight of an ideograph, if it is one of these.
+    pub(crate) fn primary(&self, c: char) -> Option<u32> {
+        for weighted in self.ranges.iter() {
+            if weighted.range.contains(c) {
+                return weighted.primary(c);
+            }
+        }
+        None
+    }
+}
+
+impl WeightedRange {
+    /// The primary weight of a character of the range.
+    pub(crate) fn primary(self, c: char) -> Option<u32>
+        ensures { IfSome result (λ p. p < 0xFE000000) }
+    {
+        let past = (c as u32).saturating_sub(self.range.first as u32);
+        let ordinal = self.ordinal.checked_add(past * STEP)?;
+        if ordinal < IMPLICIT_LEAD * WEIGHTS_PER_LEAD {
+            Some(weight_at(ordinal))
+        } else {
+            None
+        }
+    }
+}

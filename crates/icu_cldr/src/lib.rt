@@ -1,0 +1,19 @@
+//! The root collation of CLDR, read from the file in which the Unicode consortium publishes it, FractionalUCA.txt (UTS #35 part 5,
+//! section 2.6 "Root Collation Data Files").
+#![tactic(auto)]
+
+mod assembly;
+mod collected;
+mod contexts;
+mod digits;
+mod entries;
+pub mod error;
+mod ideograph_weights;
+mod reader;
+pub mod root;
+mod special;
+#[cfg(test)]
+mod tests;
+
+pub use error::{Missing, ReadError, Refusal};
+pub use root::{CldrRoot, read_root};

@@ -1,0 +1,46 @@
+//! The lines of a reader.
+ghost use Rattle.std.specs.Prelude.{◌≡◌, ◌<◌, IfOk, IfErr};
+ghost use Rattle.icu_provider.specs.OwnedTables.{owned_tables};
+ghost use Rattle.icu_cldr.specs.Errors.{IsNumbered};
+ghost use Rattle.icu_cldr.specs.Roots.{IsRoot};
+
+use crate::collected::Collected;
+use crate::error::{Fault, ReadError, Refusal};
+use icu_provider::OwnedTables;
+use std::alloc::Global;
+use std::io::{BufRead, ErrorKind};
+
+/// What a read that fails is, at this line.
+fn failed(kind: ErrorKind, line: u64) -> ReadError
+    requires { 0 < line }
+    ensures { IsNumbered result }
+{
+    match kind {
+        ErrorKind::OutOfMemory => ReadError::NoMemory,
+        ErrorKind::InvalidData => Fault::Refused(Refusal::Encoding).at(line),
+        kind => ReadError::ReadFailed(kind),
+    }
+}
+
+/// The tables that the lines of a reader say.
+pub(crate) fn read_tables<R: BufRead + Drop>(
+    alloc: Global,
+    reader: R,
+) -> Result<OwnedTables, ReadError>
+    ensures root { IfOk result (λ o. IsRoot (owned_tables o)) }
+    ensures numbered { IfErr result IsNumbered }
+{
+    let mut collected = Collected::new(alloc)?;
+    let mut number = 0u64;
+    for line in reader.lines(alloc) {
+        number = number.saturating_add(1);
+        let line = match line {
+            Ok(line) => line,
+            Err(error) => return Err(failed(error.kind(), number)),
+        };
+        if let Err(fault) = collected.read_line(line.as_str()) {
+            return Err(fault.at(number));
+        }
+    }
+    collected.finish()
+}

@@ -1,0 +1,104 @@
+//! Where groups of variable elements end, the lead byte of numbers, and the lead bytes whose weights compress.
+ghost use Rattle.std.specs.Prelude.{◌≡◌, ◌≤◌, length, IfOk, IfErr};
+ghost use Rattle.icu_provider.specs.OwnedTables.{owned_special};
+ghost use Rattle.icu_cldr.specs.Errors.{IsNumbered};
+
+use crate::error::{Fault, Missing, ReadError, Refusal, named};
+use icu_entries::DataTable;
+use icu_fractional::LeadByte;
+use icu_provider::{CollationSpecialPrimaries, OwnedSpecialPrimaries};
+use std::alloc::Global;
+
+/// What the lines said so far of special primary weights.
+#[derive(Debug, Clone, Copy, PartialEq)]
+pub(crate) struct Special {
+    space_end: Option<u16>,
+    punctuation_end: Option<u16>,
+    symbol_end: Option<u16>,
+    currency_end: Option<u16>,
+    numeric_lead: Option<u8>,
+    compressible: [u16; 16],
+}
+
+/// The two highest bytes of the first primary weight after a group. A second byte of 02 is that of no weight but such.
+fn group_end(first_primary: u32) -> u16 {
+    let end = (first_primary >> 16) as u16;
+    if end % 0x100 <= 2 {
+        end / 0x100 * 0x100
+    } else {
+        end
+    }
+}
+
+impl Special {
+    /// Nothing is said but that implicit weights compress.
+    pub(crate) fn new() -> Special {
+        Special {
+            space_end: None,
+            punctuation_end: None,
+            symbol_end: None,
+            currency_end: None,
+            numeric_lead: None,
+            compressible: [0, 0, 0, 0, 0, 0, 0, 0, 0, 0, 0, 0, 0, 0, 0, 0x4000],
+        }
+    }
+
+    /// Takes in what a line says of a lead byte.
+    pub(crate) fn set_lead(&mut self, lead: LeadByte) {
+        if lead.is_compressible {
+            let index = usize::from(lead.lead / 16);
+            self.compressible[index] |= 1 << (lead.lead % 16);
+        }
+    }
+
+    /// Takes in the lead byte of numbers.
+    pub(crate) fn set_numeric_lead(&mut self, lead: u8) -> Result<(), Fault> {
+        if self.numeric_lead.is_some() {
+            return Err(Fault::Refused(Refusal::Repeated));
+        }
+        self.numeric_lead = Some(lead);
+        Ok(())
+    }
+
+    /// Takes in the first primary weight of what a character is a sample of.
+    pub(crate) fn set_first_primary(&mut self, sample: char, first_primary: u32) {
+        let end = Some(group_end(first_primary));
+        match sample {
+            '\u{201C}' => self.space_end = end,
+            '\u{263A}' => self.punctuation_end = end,
+            '\u{20AC}' => self.symbol_end = end,
+            '4' => self.currency_end = end,
+            _ => {}
+        }
+    }
+
+    /// Four ends of groups, and bits for the compressible lead bytes.
+    fn last_primaries(&self, alloc: Global) -> Result<Vec<u16>, ReadError>
+        ensures count { IfOk result (λ v. length v.items ≡ 20) }
+        ensures numbered { IfErr result IsNumbered }
+    {
+        let ends = [
+            self.space_end.ok_or(Missing::Punctuation)?,
+            self.punctuation_end.ok_or(Missing::Symbols)?,
+            self.symbol_end.ok_or(Missing::Currencies)?,
+            self.currency_end.ok_or(Missing::Digits)?,
+        ];
+        let mut numbers = Vec::from_slice(alloc, &ends)?;
+        numbers.extend_from_slice(&self.compressible)?;
+        Ok(numbers)
+    }
+
+    /// The table.
+    pub(crate) fn table(&self, alloc: Global) -> Result<OwnedSpecialPrimaries, ReadError>
+        ensures count { IfOk result (λ o. length (owned_special o).last ≡ 20) }
+        ensures numbered { IfErr result IsNumbered }
+    {
+        let numbers = self.last_primaries(alloc)?;
+        let lead = self.numeric_lead.ok_or(Missing::NumericLead)?;
+        let table = named(
+            DataTable::SpecialPrimaries,
+            CollationSpecialPrimaries::new(numbers.as_slice(), lead),
+        )?;
+        Ok(OwnedSpecialPrimaries::copy(alloc, table)?)
+    }
+}

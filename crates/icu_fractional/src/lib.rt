@@ -1,0 +1,18 @@
+//! The lines of FractionalUCA.txt, in which the Unicode consortium publishes the root collation of CLDR (UTS #35 part 5, section 2.6
+//! "Root Collation Data Files"): each is read by itself into a value, or refused with what was expected.
+#![tactic(auto)]
+
+pub mod digits;
+pub mod element;
+pub mod expected;
+pub mod ideographs;
+pub mod line;
+pub mod mapping;
+#[cfg(test)]
+mod tests;
+
+pub use element::{FractionalElement, Primary};
+pub use expected::{Expected, LineError};
+pub use ideographs::CharRange;
+pub use line::{LeadByte, Line};
+pub use mapping::Mapping;
