@@ -8,6 +8,7 @@
 
 pub use comparison::{CollationKeySink, Collator, CollatorBorrowed};
 pub use icu_elements as elements;
+pub use icu_index as index;
 pub use icu_options as options;
 pub use icu_options::CollatorPreferences;
 
