@@ -1,11 +1,13 @@
-//! The program `collate`: compares texts on the command line, and shows their sort keys.
+//! The program `collate`: compares texts on the command line, shows their sort keys, and sorts the lines of its input.
 #![tactic(auto)]
 
 mod answer;
 mod command;
 pub mod fault;
 mod key_line;
+mod lines;
 pub mod program;
+mod sorting;
 mod writing;
 
 use fault::Fault;
