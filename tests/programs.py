@@ -173,6 +173,10 @@ COLLATE_RUNS = [
     (["key", "3", "ab", "aB"], 2, b"", USAGE),
     (["key", "6", "ab"], 2, b"", USAGE),
     (["order", "3", "ab", "aB"], 2, b"", USAGE),
+    (["sort", "3"], 0, b"", b""),
+    (["sort"], 2, b"", USAGE),
+    (["sort", "5"], 2, b"", USAGE),
+    (["sort", "3", "ab"], 2, b"", USAGE),
 ]
 # An argument that isn't UTF-8 is a wrong word, wherever it stands.
 DAMAGED_RUNS = [
@@ -189,6 +193,17 @@ LONG_RUNS = [
     (["compare", "2", A_LONG + "A", A_LONG + "a"], 0, b"=\n", b""),
     (["key", "1", A_LONG], 0, b"61" + 10_000 * b" 10" + b"\n", b""),
 ]
+# The words of a sort, its input, and the status, output and faults that are wanted. Bytes that aren't UTF-8 are U+FFFD in
+# the order, and are printed as they came.
+SORT, LINES = ["sort", "3"], b"b\nA\na\n"
+SORT_RUNS = [
+    (SORT, LINES, 0, b"a\nA\nb\n", b""),
+    (SORT, b"b\nA\na", 0, b"a\nA\nb\n", b""),
+    (SORT, b"\n", 0, b"\n", b""),
+    (["sort", "1"], "b\ná\nA\na\n".encode(), 0, "á\nA\na\nb\n".encode(), b""),
+    (SORT, b"b\n\xff\na\n", 0, b"a\nb\n\xff\n", b""),
+    (SORT, b"b\n" * 20_000 + b"a\n" * 20_000, 0, b"a\n" * 20_000 + b"b\n" * 20_000, b""),
+]
 # The words, where the streams go, and what is wanted. What goes to a full device or a closed stream is lost.
 RIGHT, WRONG, KEY = ["compare", "3", "ab", "aB"], ["compare", "3"], ["key", "3", "ab"]
 FAILED = b"collate: write failed\n"
@@ -202,6 +217,8 @@ STREAM_RUNS = [
     (KEY, "<&-", 0, b"61 10 14 01 06 01 01 06 01\n", b""),
     (KEY, ">/dev/full", 1, b"", FAILED),
     (KEY, ">&-", 1, b"", FAILED),
+    (SORT, "<&-", 0, b"", b""),
+    (SORT, "</", 1, b"", b"collate: read failed\n"),
     (WRONG, "2>/dev/full", 2, b"", b""),
     (WRONG, "2>&-", 2, b"", b""),
     (WRONG, ">&-", 2, b"", USAGE),
@@ -219,6 +236,15 @@ def wrong_runs(program, runs):
         if ran.came_to() != tuple(wanted):
             brief = [it if len(it) < 40 else f"({len(it)} characters)" for it in words]
             found.append(f"{brief}: {ran}; wanted: {Run(*wanted, None)}")
+    return found
+
+
+def wrong_sorts(program, runs):
+    found = []
+    for words, given, *wanted in runs:
+        ran = run(program, words, given)
+        if ran.came_to() != tuple(wanted):
+            found.append(f"{words} of {given[:40]}: {ran}; wanted: {Run(*wanted, None)}")
     return found
 
 
@@ -319,16 +345,18 @@ def check_collate(report, room, shim):
     program = built("collate")
     for what, wanted in RUNS.items():
         report.say(f"collate: {what}", wrong_runs(program, wanted), len(wanted))
+    report.say("collate: sorts", wrong_sorts(program, SORT_RUNS), len(SORT_RUNS))
     report.say("collate: closed and full streams", wrong_streams(program, STREAM_RUNS), len(STREAM_RUNS))
     report.say("collate: programs with a fault are found", faults_missed(room, program), len(FAULTY))
-    for what, words in [
-        ("an answer", RIGHT),
-        ("a key", KEY),
-        ("wrong words", WRONG),
-        ("long texts", LONG_RUNS[0][0]),
-        ("the key of a long text", LONG_RUNS[-1][0]),
+    for what, words, given in [
+        ("an answer", RIGHT, b""),
+        ("a key", KEY, b""),
+        ("wrong words", WRONG, b""),
+        ("long texts", LONG_RUNS[0][0], b""),
+        ("the key of a long text", LONG_RUNS[-1][0], b""),
+        ("a sort", SORT, LINES),
     ]:
-        outcomes = sweep(shim, program, words, b"", ["allocation", "read", "write"], collate_is_right)
+        outcomes = sweep(shim, program, words, given, ["allocation", "read", "write"], collate_is_right)
         report.say(f"collate: each request refused, {what}", faults_of(outcomes), len(outcomes))
 
 

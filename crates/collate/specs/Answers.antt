@@ -11,8 +11,9 @@ use Rattle.icu_provider.specs.CollatorTables.{CollatorTables}
 use Rattle.icu_order.specs.TextOrder.{text_order, text_key}
 use Rattle.icu_mini.specs.declared.mini.Mini.{Mini}
 use Rattle.icu_mini.specs.Mini.{IsMini, collator_tables, special_held}
-use Rattle.collate.specs.Commands.{Asked, for_order, for_key, Comparing, ShowingKey}
+use Rattle.collate.specs.Commands.{Asked, for_order, for_key, for_sorting, Comparing, ShowingKey}
 use Rattle.collate.specs.KeyText.{key_text}
+use Rattle.collate.specs.Sorting.{line_order, SortsLines}
 
 -- the sign of an order
 abbrev pub sign_of : Ordering → List ℕ
@@ -44,18 +45,25 @@ order_asked tables asked = text_order (mini_tables tables) (mini_settings asked.
 abbrev pub key_asked : Mini → ShowingKey → List ℕ
 key_asked tables asked = text_key (mini_tables tables) (mini_settings asked.strength) (chars asked.text)
 
--- by these tables: the sign of the order, or the bytes of the key
-abbrev pub answer_by : Mini → Asked → List ℕ
-answer_by tables (for_order c) = sign_of (order_asked tables c)
-answer_by tables (for_key k) = key_text (key_asked tables k)
+-- The output answers the command by these tables: a line with the sign of the order or with the bytes of the key, or the
+-- lines of the input in order
+abbrev pub IsAnswerBy : Mini → Asked → List ℕ → List ℕ → Type 0
+IsAnswerBy tables (for_order c) input output = output ≡ sign_of (order_asked tables c) ++ 10 ∷ []
+IsAnswerBy tables (for_key k) input output = output ≡ key_text (key_asked tables k) ++ 10 ∷ []
+IsAnswerBy tables (for_sorting strength) input output =
+    SortsLines (line_order (mini_tables tables) (mini_settings strength)) input output
+
+-- This is the order of the two texts by Mini's tables.
+abbrev pub IsOrder : Comparing → Ordering → Type 0
+IsOrder asked order = (tables : Mini) × IsMini tables × (order ≡ order_asked tables asked)
 
 -- The bytes are the sort key of the text by Mini's tables.
 abbrev pub IsKey : ShowingKey → List ℕ → Type 0
 IsKey asked bytes = (tables : Mini) × IsMini tables × (bytes ≡ key_asked tables asked)
 
--- The line is the answer by Mini's tables, and a line feed.
-abbrev pub IsAnswer : Asked → List ℕ → Type 0
-IsAnswer asked line = (tables : Mini) × IsMini tables × (line ≡ answer_by tables asked ++ 10 ∷ [])
+-- The output answers the command by Mini's tables, where these bytes stand in the input.
+abbrev pub IsAnswer : Asked → List ℕ → List ℕ → Type 0
+IsAnswer asked input output = (tables : Mini) × IsMini tables × IsAnswerBy tables asked input output
 
 -- all tables and settings by which texts are compared by these tables at this strength
 pub record ComparesBy (strength : Strength) (m : Mini) (all : CollatorTables) (merged : Settings) : Type 0 where

@@ -1,9 +1,9 @@
 -- What a command asks for.
 use Rattle.collate.specs.declared.command.Command.{Command}
-use Rattle.collate.specs.declared.command.Command.TheVariants.{Compare, Key}
+use Rattle.collate.specs.declared.command.Command.TheVariants.{Compare, Key, Sort}
 use Rattle.collate.specs.declared.command.Comparison.{Comparison}
 use Rattle.collate.specs.declared.command.KeyOf.{KeyOf}
-use Rattle.collate.specs.Commands.{Asked, Comparing, ShowingKey, for_order, for_key}
+use Rattle.collate.specs.Commands.{Asked, Comparing, ShowingKey, for_order, for_key, for_sorting}
 
 abbrev pub comparing : Comparison → Comparing
 comparing c = record { strength = c.strength; left = c.left.now; right = c.right.now }
@@ -14,3 +14,4 @@ showing_key k = record { strength = k.strength; text = k.text.now }
 abbrev pub asked : Command → Asked
 asked (Compare c) = for_order (comparing c)
 asked (Key k) = for_key (showing_key k)
+asked (Sort strength) = for_sorting strength

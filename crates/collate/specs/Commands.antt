@@ -18,6 +18,7 @@ pub record ShowingKey : Type 0 where
 pub data Asked : Type 0 where
   for_order : Comparing → Asked
   for_key : ShowingKey → Asked
+  for_sorting : Strength → Asked
 
 -- the strength that a word names
 abbrev pub strength_named : List ℕ → Option Strength
@@ -29,7 +30,7 @@ strength_named word =
     else (if bytes_eq word (codes "i") then Some Identical
     else None))))
 
--- `compare STRENGTH A B` and `key STRENGTH TEXT`; all other words are wrong
+-- `compare STRENGTH A B`, `key STRENGTH TEXT` and `sort STRENGTH`; all other words are wrong
 abbrev pub command_of : List (List ℕ) → Option Asked
 command_of (name ∷ strength ∷ left ∷ right ∷ []) =
     if bytes_eq name (codes "compare")
@@ -38,5 +39,9 @@ command_of (name ∷ strength ∷ left ∷ right ∷ []) =
 command_of (name ∷ strength ∷ text ∷ []) =
     if bytes_eq name (codes "key")
     then option_map (λ s. for_key (record { strength = s; text = text })) (strength_named strength)
+    else None
+command_of (name ∷ strength ∷ []) =
+    if bytes_eq name (codes "sort")
+    then option_map (λ s. for_sorting s) (strength_named strength)
     else None
 command_of _ = None

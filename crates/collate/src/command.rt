@@ -24,6 +24,8 @@ pub(crate) struct KeyOf<'a> {
 pub(crate) enum Command<'a> {
     Compare(Comparison<'a>),
     Key(KeyOf<'a>),
+    /// The lines of the input, sorted at this strength.
+    Sort(Strength),
 }
 
 /// The strength that a word names.
@@ -62,6 +64,10 @@ impl<'a> Command<'a> {
                     strength,
                     text: text.as_str(),
                 }))
+            }
+            [name, strength] if name.as_str() == "sort" => {
+                let strength = strength_named(strength.as_str())?;
+                Some(Command::Sort(strength))
             }
             _ => None,
         }

@@ -13,6 +13,8 @@ pub enum Fault {
     NoMemory,
     /// The program's own tables fail a condition. They don't, as each run shows; no proof says so.
     TablesRefused,
+    /// A read of standard input failed.
+    ReadFailed,
     /// A write to standard output failed.
     WriteFailed,
 }
@@ -26,7 +28,7 @@ impl Fault {
     {
         match self {
             Fault::WrongWords => 2,
-            Fault::NoMemory | Fault::TablesRefused | Fault::WriteFailed => 1,
+            Fault::NoMemory | Fault::TablesRefused | Fault::ReadFailed | Fault::WriteFailed => 1,
         }
     }
 
@@ -40,6 +42,7 @@ impl Fault {
             }
             Fault::NoMemory => "collate: no memory\n",
             Fault::TablesRefused => "collate: tables refused\n",
+            Fault::ReadFailed => "collate: read failed\n",
             Fault::WriteFailed => "collate: write failed\n",
         }
     }

@@ -3,7 +3,7 @@ ghost use Rattle.std.specs.Prelude.{◌≤◌};
 use crate::program::run;
 use std::alloc::{AllocError, Global};
 use std::io;
-use std::io::{Error, ErrorKind, Write};
+use std::io::{Error, ErrorKind, Read, Write};
 use std::process::Abort;
 use std::test::Fail;
 
@@ -72,6 +72,43 @@ impl Write for Page {
         }
         self.flushed = self.len;
         Ok(())
+    }
+}
+
+/// A reader of these bytes that gives at most so many at a time, each time after a signal has come first, and that may fail
+/// where they end.
+#[derive(Drop)]
+struct Tape<'a> {
+    left: &'a [u8],
+    step: usize,
+    signal: bool,
+    fails: bool,
+}
+
+impl<'a> Tape<'a> {
+    fn new(left: &'a [u8], step: usize, fails: bool) -> Tape<'a> {
+        Tape {
+            left,
+            step,
+            signal: false,
+            fails,
+        }
+    }
+}
+
+impl<'a> Read for Tape<'a> {
+    fn read(&mut self, buf: &mut [u8]) -> io::Result<usize> {
+        self.signal = !self.signal;
+        if self.signal {
+            return Err(Error::from(ErrorKind::Interrupted));
+        }
+        if self.fails && self.left.is_empty() {
+            return Err(Error::from(ErrorKind::BrokenPipe));
+        }
+        let given = self.left.len().min(buf.len()).min(self.step);
+        buf[..given].copy_from_slice(&self.left[..given]);
+        self.left = &self.left[given..];
+        Ok(given)
     }
 }
 
@@ -177,8 +214,86 @@ fn shows_the_key_of_a_long_text(rt: HostRuntime) -> Result<(), Fail> {
 }
 
 #[test]
+fn sorts_lines(rt: HostRuntime) -> Result<(), Fail> {
+    for (strength, given, printed) in [
+        ("3", "b\nA\na\n", "a\nA\nb\n"),
+        ("3", "b\nA\na", "a\nA\nb\n"),
+        ("3", "", ""),
+        ("3", "\n", "\n"),
+        ("3", "b\n\na\n\n", "\n\na\nb\n"),
+        ("1", "b\ná\nA\na\n", "á\nA\na\nb\n"),
+    ] {
+        for step in [1, 128] {
+            let words = strings(rt.alloc(), &["sort", strength])?;
+            let mut input = Tape::new(given.as_bytes(), step, false);
+            let mut output = Page::new(128, 128);
+            let mut faults = Page::new(128, 128);
+            let ended = run(
+                rt.alloc(),
+                words.as_slice(),
+                &mut input,
+                &mut output,
+                &mut faults,
+            );
+            assert_eq!(rt; ended, 0, "{given:?}");
+            assert_eq!(rt; output.text(), printed.as_bytes(), "{given:?}");
+            assert_eq!(rt; faults.text(), b"".as_slice(), "{given:?}");
+        }
+    }
+    Ok(())
+}
+
+#[test]
+fn sorts_two_thousand_lines(rt: HostRuntime) -> Result<(), Fail> {
+    let alloc = rt.alloc();
+    let mut given = "b\n".repeat(alloc, 1_000)?;
+    given.push_str("a\n".repeat(alloc, 1_000)?.as_str())?;
+    let mut want = "a\n".repeat(alloc, 1_000)?;
+    want.push_str("b\n".repeat(alloc, 1_000)?.as_str())?;
+    let words = strings(alloc, &["sort", "3"])?;
+    let mut input = Tape::new(given.as_bytes(), 4_096, false);
+    let mut output = Vec::new(alloc);
+    let mut faults = Page::new(128, 128);
+    let ended = run(
+        alloc,
+        words.as_slice(),
+        &mut input,
+        &mut output,
+        &mut faults,
+    );
+    assert_eq!(rt; ended, 0);
+    assert_eq!(rt; output.as_slice(), want.as_bytes());
+    Ok(())
+}
+
+#[test]
+fn a_failed_read_is_no_end(rt: HostRuntime) -> Result<(), Fail> {
+    let words = strings(rt.alloc(), &["sort", "3"])?;
+    for given in ["", "b\nA\n", "b\nA"] {
+        let mut input = Tape::new(given.as_bytes(), 1, true);
+        let mut output = Page::new(128, 128);
+        let mut faults = Page::new(128, 128);
+        let ended = run(
+            rt.alloc(),
+            words.as_slice(),
+            &mut input,
+            &mut output,
+            &mut faults,
+        );
+        assert_eq!(rt; ended, 1, "{given:?}");
+        assert_eq!(rt; output.taken(), b"".as_slice(), "{given:?}");
+        assert_eq!(rt;
+            faults.text(),
+            b"collate: read failed\n".as_slice(),
+            "{given:?}"
+        );
+    }
+    Ok(())
+}
+
+#[test]
 fn wrong_words_get_the_usage(rt: HostRuntime) -> Result<(), Fail> {
-    let wrong: [&[&str]; 14] = [
+    let wrong: [&[&str]; 16] = [
         &[],
         &["compare"],
         &["compare", "3", "ab"],
@@ -192,7 +307,9 @@ fn wrong_words_get_the_usage(rt: HostRuntime) -> Result<(), Fail> {
         &["key", "3", "ab", "aB"],
         &["key", "6", "ab"],
         &["keys", "3", "ab"],
-        &["sort", "3"],
+        &["sort"],
+        &["sort", "5"],
+        &["sort", "3", "ab"],
     ];
     for words in wrong {
         expect_run(&rt, words, 2, "", USAGE)?;

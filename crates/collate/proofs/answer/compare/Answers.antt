@@ -8,15 +8,15 @@ use Rattle.collate.specs.Answers.{sign_of, order_asked, mini_tables}
 use Rattle.collate.specs.Asked.{comparing}
 use Rattle.collate.proofs.answer.compare.Goals as goal
 
-pub returns-clause-answer : goal.returns-clause-answer
-returns-clause-answer c =
+pub returns-clause-order : goal.returns-clause-order
+returns-clause-order c =
     let m = c.in_ok-collator.ensures.compares.0 in
     let by = c.in_ok-collator.ensures.compares.2 in
     let lent = c.as_borrowed.result in
     let left = chars c.args.texts.left.now in
     let right = chars c.args.texts.right.now in
-    let order : c.in_ok-order.order ≡ order_asked m (comparing c.args.texts) =
-    c.in_ok-order.ensures.order
+    let order : c.in_ok-compare.field-0 ≡ order_asked m (comparing c.args.texts) =
+    c.in_ok-compare.ensures.order
     ∙ ap (λ (t : CollatorTables). text_order t (settings_borrowed lent) left right) (c.as_borrowed.ensures.tables ∙ by.tables)
     ∙ ap (λ (s : Settings). text_order (mini_tables m) s left right) (c.as_borrowed.ensures.settings ∙ by.settings) in
-    (m, c.in_ok-collator.ensures.compares.1, c.in_ok-from_slice.ensures.items ∙ c.sign_line.ensures ∙ ap (λ o. sign_of o ++ 10 ∷ []) order)
+    (m, c.in_ok-collator.ensures.compares.1, order)
