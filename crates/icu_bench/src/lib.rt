@@ -4,11 +4,7 @@
 #[cfg(test)]
 mod checked_tables;
 #[cfg(test)]
-mod index;
-#[cfg(test)]
 mod keys;
-#[cfg(test)]
-mod limited;
 #[cfg(test)]
 mod requests;
 #[cfg(test)]

@@ -6,12 +6,10 @@
 #![tactic(auto)]
 
 mod collators;
-mod comparisons;
 mod elements;
 mod keys;
 mod sinks;
 mod stop;
-mod texts;
 
 use std::process::ExitCode;
 use std::{env, io};
@@ -35,7 +33,7 @@ fn run(rt: &HostRuntime) -> Result<(), Stop> {
         collators::run(rt)?;
     }
     if wants("comparisons") {
-        comparisons::run(rt)?;
+        collators::compare(rt)?;
     }
     if wants("keys") {
         keys::run(rt)?;
