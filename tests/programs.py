@@ -8,8 +8,10 @@ Each memory request, read and write of a run is refused in turn, by the library 
 refused, a program says so, or asks again and gives the right answer; anything else is a fault. The last line is
 `N passed, M failed`. It needs `cc`, a C compiler.
 """
+import collections
 import concurrent.futures
 import os
+import resource
 import shlex
 import shutil
 import stat
@@ -58,7 +60,8 @@ class Refused:
 
 
 def run(program, words, given=b"", refused=None, shim=None):
-    """Runs a program, and counts its requests where a library to preload is named."""
+    """Runs a program, and counts its requests where a library to preload is named. It is then given a file, since through a
+    pipe the number of reads would depend on how fast the pipe is filled."""
     env = {"PATH": "/usr/bin:/bin", "LANG": "C.UTF-8"}
     if not shim:
         ran = subprocess.run([program, *words], input=given, capture_output=True, env=env, timeout=SECONDS)
@@ -66,12 +69,19 @@ def run(program, words, given=b"", refused=None, shim=None):
     reader, writer = os.pipe()
     try:
         env.update({"LD_PRELOAD": shim, "REFUSE_COUNTS": str(writer)}, **(refused.settings() if refused else {}))
-        ran = subprocess.run([program, *words], input=given, capture_output=True, env=env, pass_fds=(writer,), timeout=SECONDS)
+        ran = run_on_a_file([program, *words], given, env, writer)
     finally:
         os.close(writer)
         with os.fdopen(reader, "rb") as it:
             counts = [int(word) for word in it.read().split()]
     return Run(ran.returncode, ran.stdout, ran.stderr, dict(zip(("allocation", "read", "write", "refused"), counts)))
+
+
+def run_on_a_file(command, given, env, kept_open):
+    with tempfile.TemporaryFile() as it:
+        it.write(given)
+        it.seek(0)
+        return subprocess.run(command, stdin=it, capture_output=True, env=env, pass_fds=(kept_open,), timeout=SECONDS)
 
 
 def run_on_streams(program, words, redirections):
@@ -257,6 +267,117 @@ def wrong_streams(program, runs):
     return found
 
 
+# ---- what the program `collate-cldr` does, over a small file with Mini's letters
+
+CLDR_USAGE = b"usage: collate-cldr [OPTION ..] FILE compare STRENGTH A B | key STRENGTH TEXT | sort STRENGTH | neighbours STRENGTH\n"
+LETTERS = os.path.join(TOP, "crates", "collate_cldr", "data", "letters.txt")
+NAMES = "b\ná\nA\na\nb\n10\n9\n".encode()
+# The words of a run, its input, and the status, output and faults that are wanted. Where words are wrong, the faults begin
+# with a line of their own.
+CLDR_RUNS = [
+    ([LETTERS, "compare", "3", "ab", "aB"], b"", 0, b"<\n", b""),
+    ([LETTERS, "compare", "1", "as", "às"], b"", 0, b"=\n", b""),
+    ([LETTERS, "key", "3", "ab"], b"", 0, b"61 10 14 01 06 01 01 06 01\n", b""),
+    ([LETTERS, "key", "i", "a"], b"", 0, b"61 10 01 05 01 01 05 01 01 01 01 92\n", b""),
+    ([LETTERS, "sort", "3"], NAMES, 0, "10\n9\na\nA\ná\nb\nb\n".encode(), b""),
+    (["--numeric", LETTERS, "sort", "3"], NAMES, 0, "9\n10\na\nA\ná\nb\nb\n".encode(), b""),
+    (["--case-first=upper", LETTERS, "sort", "3"], NAMES, 0, "10\n9\nA\na\ná\nb\nb\n".encode(), b""),
+    ([LETTERS, "sort", "1"], b"A\n\xc3\xa1\na", 0, b"A\n\xc3\xa1\na\n", b""),
+    ([LETTERS, "sort", "3"], b"", 0, b"", b""),
+    (["--shifted", LETTERS, "compare", "3", "a-b", "ab"], b"", 0, b"=\n", b""),
+    (["--blanked", LETTERS, "compare", "4", "a-b", "ab"], b"", 0, b"=\n", b""),
+    (["--shifted", "--max-variable=space", LETTERS, "compare", "3", "a-b", "ab"], b"", 0, b"<\n", b""),
+    (["--case-level", LETTERS, "compare", "1", "a", "A"], b"", 0, b"<\n", b""),
+    ([LETTERS, "neighbours", "3"], b"0061\n0041\n0062\n", 0, b"2 pairs, out of order by compare 0, by keys 0; 0 lines passed over\n", b""),
+    (["none", "sort", "3"], NAMES, 1, b"", b"none: not opened\n"),
+    ([], b"", 2, b"", None),
+    ([LETTERS], b"", 2, b"", None),
+    ([LETTERS, "sort"], NAMES, 2, b"", None),
+    ([LETTERS, "sort", "5"], NAMES, 2, b"", None),
+    ([LETTERS, "key", "3"], b"", 2, b"", None),
+    ([LETTERS, "order", "3", "a", "b"], b"", 2, b"", None),
+    (["none", "order", "3", "a", "b"], b"", 2, b"", None),
+    (["--other", LETTERS, "sort", "3"], b"", 2, b"", None),
+]
+
+
+def wrong_cldr_runs(program):
+    found = []
+    for words, given, status, output, faults in CLDR_RUNS:
+        ran = run(program, words, given)
+        is_said = ran.faults.startswith(CLDR_USAGE) if faults is None else ran.faults == faults
+        if (ran.status, ran.output) != (status, output) or not is_said:
+            found.append(f"{words}: {ran}; wanted: {Run(status, output, faults or CLDR_USAGE, None)}")
+    return found
+
+
+def letter_lines():
+    with open(LETTERS, encoding="utf-8") as it:
+        return it.read().splitlines()
+
+
+def probe_of(lines):
+    """A text with each character that lines map by itself."""
+    first = [line.partition(";")[0].split() for line in lines if ";" in line and not line.startswith("#")]
+    codes = [int(it[0], 16) for it in first if len(it) == 1]
+    return "".join(chr(it) for it in codes if it)
+
+
+def key_over(program, room, name, lines, probe):
+    """The run that shows the key of a text by the tables of these lines."""
+    path = os.path.join(room, name)
+    with open(path, "w", encoding="utf-8") as it:
+        it.write("\n".join(lines) + "\n")
+    ran = run(program, [path, "key", "i", probe])
+    os.remove(path)
+    return ran
+
+
+def cut_lines(lines):
+    """Each place at which a line may be cut: its index, and the place. Of lines that are alike, the combining marks', the
+    first and the last two are taken."""
+    marks = [at for at, line in enumerate(lines) if line.startswith("03")]
+    left_out = set(marks[1:-2])
+    return [(at, end) for at, line in enumerate(lines) if at not in left_out for end in range(1, len(line))]
+
+
+def wrong_cuts(program, room, cuts):
+    """Of these cuts of a line of the small file, those that are neither refused, at that line, at the end of the file or by a
+    condition on tables, nor give all characters the key that the whole file gives them."""
+    lines = letter_lines()
+    probe = probe_of(lines)
+    whole = key_over(program, room, "whole", lines, probe)
+    if whole.status:
+        return [f"the whole file: {whole}"]
+
+    def wrong(at, end):
+        cut = lines[at][:end]
+        name = f"cut-{at}-{end}"
+        ran = key_over(program, room, name, [*lines[:at], cut, *lines[at + 1 :]], probe)
+        path = os.path.join(room, name)
+        if ran.status == 1 and not ran.output:
+            places = [f"{path}: line {at + 1}: ", f"{path}: at the end: ", f"{path}: collation table "]
+            return None if any(ran.faults.startswith(it.encode()) for it in places) else f"{cut!r}: {ran}"
+        if ran.came_to() == whole.came_to():
+            return None
+        return f"{cut!r}, of line {at + 1}, was read as something else: {ran}"
+
+    with concurrent.futures.ThreadPoolExecutor(os.cpu_count() or 1) as pool:
+        found = [*pool.map(lambda it: wrong(*it), cuts)]
+    return [it for it in found if it]
+
+
+def check_collate_cldr(report, room):
+    program = built("collate_cldr")
+    report.say("collate-cldr: words", wrong_cldr_runs(program), len(CLDR_RUNS))
+    cuts = cut_lines(letter_lines())
+    report.say("collate-cldr: each line of a file cut at each place", wrong_cuts(program, room, cuts), len(cuts))
+    some = cuts[len(cuts) // 2 :: 100]
+    careless = wrapped(room, "careless_reader", program, '"$COLLATE" "$@" 2>/dev/null || echo')
+    missed = [] if wrong_cuts(careless, room, some) else ["not found: a file that isn't read taken for an empty one"]
+    report.say("collate-cldr: a program with a fault is found", missed, len(some))
+
+
 # ---- that the checks can fail: programs with a fault, each of which must be found
 
 # How many runs a program comes to that makes one request of each kind: alone and with all after it, by a signal, by one byte.
@@ -358,14 +479,17 @@ def check_collate(report, room, shim):
     ]:
         outcomes = sweep(shim, program, words, given, ["allocation", "read", "write"], collate_is_right)
         report.say(f"collate: each request refused, {what}", faults_of(outcomes), len(outcomes))
+    outcomes = sweep(shim, program, SORT, SORT_RUNS[-1][1], ["read", "write"], collate_is_right)
+    report.say("collate: each request refused, a sort of many lines", faults_of(outcomes), len(outcomes))
 
 
 # The parts of the driver, and the tables that a refused collator names as one allocation after another fails: tables are
-# copied in the order in which they are loaded, the check before that is named by the root.
-PARTS = ["collators", "comparisons", "keys", "elements", "sinks"]
+# copied in the order in which they are loaded, the check before that is named by the root, and so are the characters that
+# rows name, which come last.
+PARTS = ["collators", "comparisons", "keys", "elements", "sinks", "index"]
 OF_MINI = ["Root", "Jamo", "SpecialPrimaries", "Diacritics"]
 OF_SWAPPED_LEADS = ["Root", "Jamo", "SpecialPrimaries", "Tailoring", "Reordering", "Diacritics"]
-NAMED_TABLES = 2 * OF_MINI + 2 * OF_SWAPPED_LEADS
+NAMED_TABLES = 2 * OF_MINI + 2 * OF_SWAPPED_LEADS + ["Root"]
 
 
 def named_tables(outcomes):
@@ -388,6 +512,114 @@ def check_driver(report, shim):
             named = named_tables(outcomes)
             faults = [] if named == NAMED_TABLES else [f"{named}; wanted: {NAMED_TABLES}"]
             report.say("refusal_driver: the tables that refusals name", faults, len(outcomes))
+    report.say("refusal_driver: nothing is allocated for common beginnings", faults_of_beginnings(shim, program), 4)
+
+
+def faults_of_beginnings(shim, program):
+    """What is wrong with how much is allocated: for texts that are the same nothing, and behind a common beginning what
+    the texts' ends take alone, by each of the five calls."""
+    runs = {part: run(program, [part], shim=shim) for part in ("collator", "same", "ends", "beginnings")}
+    counts = {part: it.counts["allocation"] for part, it in runs.items()}
+    faults = [] if counts["same"] == counts["collator"] else [f"texts that are the same allocate: {counts}"]
+    faults += [] if counts["collator"] < counts["ends"] == counts["beginnings"] else [f"a common beginning allocates: {counts}"]
+    wanted = {"collator": b"", "same": b"=\n" * 5, "ends": b"<\n" * 5, "beginnings": b"<\n" * 5}
+    return faults + [f"{part}: {it}" for part, it in runs.items() if it.came_to() != (0, wanted[part], b"")]
+
+
+# ---- hostile input: damaged tables, random texts, long texts
+
+# How many sets of tables are damaged and how many texts are compared, and how many of them a run has.
+SETS, TEXTS, PART = 2_000, 2_000, 100
+# What random damage must be refused for at least once: all kinds but `NoMemory`, which must not occur.
+REFUSED = ["Absent", "Length", "Index", "Digit", "Chain", "Tag", "Element", "Context", "Overlap", "Compression", "Reordering",
+           "SpecialPrimary"]
+# How often a long text is compared in a run, how many times as long the second size is, and how many times as long it may take.
+TIMES, LONGER, SLOWER = 4, 4, 8
+# What a long text is made of, its first size, and what is printed of a text of a size.
+LONG_TEXTS = [
+    ("letters", 250_000, lambda size: f"Less, {size + 1} bytes"),
+    ("marks", 25_000, lambda size: "Equal, 2 bytes"),
+    ("digits", 25_000, lambda size: "Less, 5 bytes"),
+    ("beginnings", 25_000, lambda size: f"Greater, {size - 3} bytes"),
+    ("passed", 25_000, lambda size: "Equal, 2 bytes"),
+    ("unended", 25_000, lambda size: f"Less, {size // 2 + 1} bytes"),
+]
+
+
+def counted(program, part, count, *words):
+    """Runs a part of `hostile_input` over so many numbers, and returns the sums of what its runs count, and their faults."""
+    def run_from(first):
+        return run(program, [part, str(first), str(min(PART, count - first)), *words])
+
+    sums, faults = collections.Counter(), []
+    with concurrent.futures.ThreadPoolExecutor(os.cpu_count() or 1) as pool:
+        for ran in pool.map(run_from, range(0, count, PART)):
+            if ran.status or ran.faults:
+                faults.append(str(ran))
+            for line in ran.output.decode().splitlines():
+                name, _, number = line.rpartition(" ")
+                sums[name] += int(number)
+    return sums, faults
+
+
+def wrong_tables(program, count):
+    """What is wrong with what becomes of so many damaged sets of tables."""
+    sums, faults = counted(program, "tables", count)
+    judged = sums["accepted"] + sum(number for name, number in sums.items() if name.startswith("refused "))
+    faults += [f"{judged} sets were judged"] * (judged != count)
+    faults += [f"{sums[it]} sets {it}" for it in ("apart", "disordered", "refused NoMemory") if sums[it]]
+    faults += [f"no set was refused for {it}" for it in REFUSED if not sums[f"refused {it}"]]
+    return faults + ["few sets were accepted"] * (sums["accepted"] < count // 10)
+
+
+def wrong_texts(program, count):
+    """What is wrong with the comparisons of so many random texts."""
+    sums, faults = counted(program, "texts", count)
+    faults += ["pairs were left out"] * (sums["compared"] < 5 * count) + ["few were Latin-1"] * (sums["in Latin-1"] < count // 10)
+    return faults + [f"{sums['apart']} pairs apart"] * (sums["apart"] > 0)
+
+
+def seconds_of(program, kind, size, wanted):
+    """The least processor time of three runs on a long text, and their faults."""
+    least, faults = None, []
+    for _ in range(3):
+        began = resource.getrusage(resource.RUSAGE_CHILDREN)
+        ran = run(program, ["long", kind, str(size), str(TIMES)])
+        ended = resource.getrusage(resource.RUSAGE_CHILDREN)
+        if ran.came_to() != (0, TIMES * f"{wanted}\n".encode(), b""):
+            faults.append(f"{kind}, {size}: {ran}; wanted: {wanted}")
+        took = ended.ru_utime + ended.ru_stime - began.ru_utime - began.ru_stime
+        least = took if least is None else min(least, took)
+    return least, faults
+
+
+def wrong_long_texts(program, kind, size, wanted):
+    """What is wrong with texts of a size and of a greater one: another answer, or a time that grows beyond proportion."""
+    none, _ = seconds_of(program, kind, 8, "")
+    short, faults = seconds_of(program, kind, size, wanted(size))
+    long, more = seconds_of(program, kind, size * LONGER, wanted(size * LONGER))
+    if long - none > SLOWER * max(short - none, 0.005):
+        more.append(f"{kind}: {short - none:.3f} seconds for {size}, {long - none:.3f} for {size * LONGER}")
+    return faults + more
+
+
+def hostile_faults_missed(room, program):
+    """The checks of hostile input that let a planted fault through."""
+    planted = {"tables": "other tables by a provider", "texts": "another text in UTF-16"}
+    missed = [f"not found: {what}" for part, what in planted.items() if not counted(program, part, PART, "spoiled")[0]["apart"]]
+    kind, size, wanted = LONG_TEXTS[0]
+    slow = f'case $3 in {size * LONGER}) for it in 1 2 3; do "$COLLATE" "$@" >/dev/null; done;; esac; exec "$COLLATE" "$@"'
+    found = wrong_long_texts(wrapped(room, "slow", program, slow), kind, size, wanted)
+    return missed + ["not found: a time beyond proportion"] * (not any(" seconds for " in it for it in found))
+
+
+def check_hostile_input(report, room):
+    program = built("hostile_input")
+    report.say("hostile_input: damaged tables", wrong_tables(program, SETS), SETS)
+    report.say("hostile_input: random texts", wrong_texts(program, TEXTS), TEXTS)
+    for kind, size, wanted in LONG_TEXTS:
+        report.say(f"hostile_input: long texts, {kind}", wrong_long_texts(program, kind, size, wanted), 9)
+    report.say("hostile_input: planted faults are found", hostile_faults_missed(room, program), 3)
 
 
 def main():
@@ -396,7 +628,7 @@ def main():
         print("tests/programs.py: the C compiler 'cc' is not on the PATH")
         report.failed += 1
         return report.end()
-    missing = [it for it in ("collate", "refusal_driver") if not os.access(built(it), os.X_OK)]
+    missing = [it for it in ("collate", "collate_cldr", "refusal_driver", "hostile_input") if not os.access(built(it), os.X_OK)]
     if missing:
         print(f"tests/programs.py: not built: {', '.join(missing)}; 'rt ci' builds them")
         report.failed += len(missing)
@@ -406,7 +638,9 @@ def main():
         careless = compiled(room, "careless")
         report.say("a program that looks at no refusal is found", refusals_missed(shim, careless), CARELESS_RUNS)
         check_collate(report, room, shim)
+        check_collate_cldr(report, room)
         check_driver(report, shim)
+        check_hostile_input(report, room)
     return report.end()
 
 

@@ -1,5 +1,8 @@
--- What keeps an answer from being found: memory ran out, or tables that are refused for cause.
-use Rattle.std.specs.Prelude.{◌≡◌, Ok}
+-- Tables that are refused for cause.
+use Rattle.std.specs.Prelude.{◌≡◌, ℕ, List, Ok}
+use Rattle.icu_entries.specs.declared.error.DataErrorKind.{DataErrorKind}
+use Rattle.icu_entries.specs.declared.error.DataErrorKind.TheVariants.{NoMemory}
+use Rattle.icu_options.specs.declared.settings.Strength.{Strength}
 use Rattle.icu_provider.specs.CollatorTables.{CollatorTables}
 use Rattle.icu_checks.specs.GoodTables.{IsGoodTables}
 use Rattle.icu_checks.specs.Loads.{lent_tables}
@@ -8,10 +11,7 @@ use Rattle.icu_mini.specs.declared.mini.Mini.{Mini}
 use Rattle.icu_mini.specs.declared.provider.MiniProvider.{MiniProvider}
 use Rattle.icu_mini.specs.Mini.{IsMini}
 use Rattle.icu_mini.specs.Provider.{LendsMini, loads_of}
-use Rattle.collate.specs.Commands.{Asked}
-use Rattle.collate.specs.Reading.{AsksForInput}
-use Rattle.collate.specs.declared.fault.Fault.{Fault}
-use Rattle.collate.specs.declared.fault.Fault.TheVariants.{NoMemory, TablesRefused, ReadFailed}
+use Rattle.collate.specs.Faults.{refused_line}
 
 -- Mini's tables are not all lent, or those that are lent don't meet the conditions on the tables of a collator.
 pub record TablesFail : Type 0 where
@@ -22,13 +22,10 @@ pub record TablesFail : Type 0 where
   pub lends : LendsMini tables provider
   pub fails : (all : CollatorTables) → lent_tables (loads_of provider) request ≡ Ok all → IsGoodTables all → ⊥
 
--- a fault that keeps a collator from being made, or its answer from being found
-abbrev pub IsRefusal : Fault → Type 0
-IsRefusal NoMemory = Unit {0}
-IsRefusal TablesRefused = TablesFail
-IsRefusal _ = ⊥
+-- the line by which a collator is refused, and what it says is true
+abbrev pub mini_refuses : Strength → List ℕ → Type 0
+mini_refuses strength line = TablesFail × (line ≡ refused_line)
 
--- the same of a command, which may read the input
-abbrev pub IsRefusalOf : Asked → Fault → Type 0
-IsRefusalOf asked ReadFailed = AsksForInput asked
-IsRefusalOf asked fault = IsRefusal fault
+-- the line is said of a refusal that isn't one of memory
+abbrev pub IsForCause : DataErrorKind → List ℕ → Type 0
+IsForCause kind line = (kind ≡ NoMemory → ⊥) × (line ≡ refused_line)

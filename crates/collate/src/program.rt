@@ -1,18 +1,28 @@
 //! One run of the program.
-ghost use Rattle.std.specs.Prelude.{◌≡◌, ◌≤◌, ◌↔◌, Err, None, IfSome, OnOk, map, string_bytes};
+ghost use Rattle.std.specs.Prelude.{◌≡◌, ◌≤◌, ◌↔◌, None, IfSome, map, string_bytes};
 ghost use Rattle.std.specs.Io.KnownBytes.{Keeps};
-ghost use Rattle.collate.specs.Commands.{command_of};
-ghost use Rattle.collate.specs.Faults.{status_of};
-ghost use Rattle.collate.specs.Reading.{AsksForInput};
-ghost use Rattle.collate.specs.Refusals.{TablesFail};
-ghost use Rattle.collate.specs.Runs.{Says, PrintsAnswer, PrintsBeginning, Fails};
+ghost use Rattle.collate_commands.specs.Commands.{command_of};
+ghost use Rattle.collate_commands.specs.Faults.{lines_in};
+ghost use Rattle.collate_commands.specs.declared.fault.Fault.TheVariants.{WrongWords};
+ghost use Rattle.collate.specs.Faults.{fault_lines};
+ghost use Rattle.collate.specs.Runs.{Says, PrintsAnswer, Fails};
 
-use crate::answer::answer;
-use crate::command::Command;
-use crate::fault::Fault;
-use crate::writing::write_text;
+use crate::mini_source::MiniSource;
+use collate_commands::Wording;
 use std::alloc::Global;
 use std::io::{Read, Write};
+
+/// What the program says of its faults.
+pub fn wording() -> Wording
+    ensures { lines_in result ≡ fault_lines }
+{
+    Wording {
+        usage: "usage: collate compare STRENGTH A B | collate key STRENGTH TEXT | collate sort STRENGTH\n",
+        no_memory: "collate: no memory\n",
+        read_failed: "collate: read failed\n",
+        write_failed: "collate: write failed\n",
+    }
+}
 
 /// Makes one run of the program `collate` over the words after its name, and returns the status that it ends with.
 ///
@@ -31,8 +41,7 @@ pub fn run<R: Read, W: Write, E: Write>(
 ) -> u8
     ensures statuses { result ≤ 2 }
     ensures wrong_words { (result ≡ 2) ↔ (command_of (map string_bytes words.now) ≡ None) }
-    ensures usage { result ≡ 2
-        → Says Fault.WrongWords (E.contents faults.old) (E.contents faults.new) }
+    ensures usage { result ≡ 2 → Says WrongWords (E.contents faults.old) (E.contents faults.new) }
     ensures nothing { result ≡ 2 → Keeps (W.contents output.old) (W.contents output.new) }
     ensures answer { result ≡ 0 → IfSome (command_of (map string_bytes words.now))
         (PrintsAnswer (R.remaining input.old) (R.remaining input.new)
@@ -43,58 +52,7 @@ pub fn run<R: Read, W: Write, E: Write>(
         (W.contents output.old) (W.contents output.new)
         (E.contents faults.old) (E.contents faults.new)) }
 {
-    match print_answer(alloc, words, input, output) {
-        Ok(()) => 0,
-        Err(fault) => report(fault, faults),
-    }
-}
-
-/// Prints the answer, or says what keeps it from being printed.
-fn print_answer<R: Read, W: Write>(
-    alloc: Global,
-    words: &[String],
-    input: &mut R,
-    output: &mut W,
-) -> Result<(), Fault>
-    ensures ok { OnOk result (IfSome (command_of (map string_bytes words.now))
-        (PrintsAnswer (R.remaining input.old) (R.remaining input.new)
-        (W.contents output.old) (W.contents output.new))) }
-    ensures wrong_words { (result ≡ Err Fault.WrongWords)
-        ↔ (command_of (map string_bytes words.now) ≡ None) }
-    ensures fail { result ≡ Err Fault.TablesRefused → TablesFail }
-    ensures asks { result ≡ Err Fault.ReadFailed
-        → IfSome (command_of (map string_bytes words.now)) AsksForInput }
-    ensures nothing { result ≡ Err Fault.WrongWords
-        → Keeps (W.contents output.old) (W.contents output.new) }
-    ensures no_memory { result ≡ Err Fault.NoMemory
-        → Keeps (W.contents output.old) (W.contents output.new) }
-    ensures tables { result ≡ Err Fault.TablesRefused
-        → Keeps (W.contents output.old) (W.contents output.new) }
-    ensures unread { result ≡ Err Fault.ReadFailed
-        → Keeps (W.contents output.old) (W.contents output.new) }
-    ensures write_failed { result ≡ Err Fault.WriteFailed
-        → IfSome (command_of (map string_bytes words.now))
-        (PrintsBeginning (R.remaining input.old) (R.remaining input.new)
-        (W.contents output.old) (W.contents output.new)) }
-{
-    let Some(command) = Command::parse(words) else {
-        return Err(Fault::WrongWords);
-    };
-    let line = answer(alloc, command, input)?;
-    match write_text(output, line.as_slice()) {
-        Ok(()) => Ok(()),
-        Err(_) => Err(Fault::WriteFailed),
-    }
-}
-
-/// Writes to standard error what kept the program from printing an answer, and returns its status. That a write fails there
-/// changes nothing.
-pub fn report<E: Write>(fault: Fault, faults: &mut E) -> u8
-    ensures status { result ≡ status_of fault }
-    ensures said { Says fault (E.contents faults.old) (E.contents faults.new) }
-{
-    let _ = write_text(faults, fault.line().as_bytes());
-    fault.status()
+    collate_commands::run(alloc, &MiniSource, wording(), words, input, output, faults)
 }
 
 #[cfg(test)]

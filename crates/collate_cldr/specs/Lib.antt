@@ -1,3 +1,3 @@
-pub mod Answers
 pub mod Choices
 pub mod Faults
+pub mod Files

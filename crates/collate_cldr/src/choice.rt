@@ -12,8 +12,8 @@ use icu_options::{
 pub enum Choice {
     /// Runs of digits are compared by value.
     Numeric,
-    /// Variable elements count at the quaternary level alone.
-    Shifted,
+    /// How variable elements count.
+    Handling(AlternateHandling),
     /// Case is compared on a level of its own.
     CaseLevel,
     /// The last group of variable elements.
@@ -30,7 +30,8 @@ impl Choice {
     {
         match word {
             "--numeric" => Some(Choice::Numeric),
-            "--shifted" => Some(Choice::Shifted),
+            "--shifted" => Some(Choice::Handling(AlternateHandling::Shifted)),
+            "--blanked" => Some(Choice::Handling(AlternateHandling::Blanked)),
             "--case-level" => Some(Choice::CaseLevel),
             "--max-variable=space" => Some(Choice::MaxVariable(MaxVariable::Space)),
             "--max-variable=punctuation" => Some(Choice::MaxVariable(MaxVariable::Punctuation)),
@@ -74,7 +75,7 @@ impl Chosen {
     {
         match choice {
             Choice::Numeric => self.numeric = Some(CollationNumericOrdering::True),
-            Choice::Shifted => self.alternate_handling = Some(AlternateHandling::Shifted),
+            Choice::Handling(handling) => self.alternate_handling = Some(handling),
             Choice::CaseLevel => self.case_level = Some(CaseLevel::On),
             Choice::MaxVariable(group) => self.max_variable = Some(group),
             Choice::CaseFirst(case) => self.case_first = Some(case),

@@ -1,42 +1,27 @@
-//! The program `collate-cldr`: compares texts by the tables of a file, FractionalUCA.txt of CLDR.
+//! The program `collate-cldr`: compares texts, shows their sort keys and sorts lines by the tables of a file, FractionalUCA.txt
+//! of CLDR.
 #![tactic(auto)]
 
-mod answer;
 mod asked;
 mod choice;
-mod fault;
+mod file_source;
 mod neighbours;
 mod program;
 
-use fault::Fault;
-use program::{report, run};
+use collate_commands::{Input, report, words};
+use program::{run, wording};
 use std::process::ExitCode;
-use std::{env, io};
-
-/// The words after the program's name. An argument that is not UTF-8 is no word of a command.
-fn words(rt: &HostRuntime) -> Result<Vec<String>, Fault> {
-    let arguments = env::args(rt).map_err(fault_of)?;
-    Ok(arguments.skip(1).collect(rt.alloc())?)
-}
-
-/// What a failure to read the arguments is.
-fn fault_of(error: io::Error) -> Fault {
-    match error.kind() {
-        io::ErrorKind::InvalidData => Fault::WrongWords,
-        _ => Fault::NoMemory,
-    }
-}
 
 fn main(rt: HostRuntime) -> ExitCode {
     let status = match words(&rt) {
         Ok(words) => run(
             &rt,
             words.as_slice(),
-            rt.stdin(),
+            Input(rt.stdin()),
             &mut rt.stdout(),
             &mut rt.stderr(),
         ),
-        Err(fault) => report(fault, "", &mut rt.stderr()),
+        Err(fault) => report(fault, wording(), &mut rt.stderr()),
     };
     ExitCode::from(status)
 }

@@ -1,5 +1,5 @@
 //! Whether lines are in order, as those of CLDR's test files should be.
-use crate::fault::Fault;
+use collate_commands::Fault;
 use icu_comparison::Collator;
 use std::alloc::{AllocError, Global};
 use std::cmp::Ordering;

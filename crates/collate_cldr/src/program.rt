@@ -1,67 +1,139 @@
 //! One run of the program.
-ghost use Rattle.std.specs.Prelude.{◌≡◌, ◌≤◌};
+ghost use Rattle.std.specs.Prelude.{◌≡◌, ◌≤◌, ◌↔◌, None, IfSome, map, string_bytes};
+ghost use Rattle.std.specs.Io.KnownBytes.{Keeps};
+ghost use Rattle.collate_commands.specs.Commands.{command_of};
+ghost use Rattle.collate_commands.specs.Faults.{lines_in};
+ghost use Rattle.collate_commands.specs.Runs.{PrintsAnswer, Fails};
+ghost use Rattle.collate_commands.specs.Writing.{AppendsBeginning};
+ghost use Rattle.collate_cldr.specs.Faults.{fault_lines, usage_text};
+ghost use Rattle.collate_cldr.specs.Files.{ComparesAs, IsLineOf};
 
-use crate::answer::{answer, collator};
-use crate::asked::{Asked, Request, Task};
-use crate::fault::{Fault, USAGE};
+use crate::asked::{Asked, Request};
+use crate::file_source::FileSource;
 use crate::neighbours::{Counts, neighbours};
-use icu_cldr::{CldrRoot, read_root};
-use std::fs;
-use std::io::{BufReader, Read, Write};
+use collate_commands::{CollatorSource, Fault, Wording, report, strength_named};
+use icu_options::Strength;
+use std::io::{Read, Write};
 use std::rt::Files;
+
+/// What is said of words that are no command, and what `--help` prints.
+const USAGE: &str =
+    "usage: collate-cldr [OPTION ..] FILE compare STRENGTH A B | key STRENGTH TEXT | sort STRENGTH | neighbours STRENGTH
+FILE is FractionalUCA.txt of CLDR; STRENGTH is 1, 2, 3, 4 or i.
+sort prints the lines of standard input in order.
+neighbours reads lines of characters' numbers, and counts those out of order.
+options: --numeric --shifted --blanked --case-level --case-first=off|lower|upper
+         --max-variable=space|punctuation|symbol|currency | --help
+";
+
+/// What the program says of its faults.
+pub(crate) fn wording() -> Wording
+    ensures { lines_in result ≡ fault_lines }
+{
+    Wording {
+        usage: USAGE,
+        no_memory: "collate-cldr: no memory\n",
+        read_failed: "collate-cldr: read failed\n",
+        write_failed: "collate-cldr: write failed\n",
+    }
+}
 
 /// Makes one run of the program over the words after its name, and returns the status that it ends with.
 ///
 /// - 0: the answer stands on `output`, or the usage text where that was asked for.
-/// - 1: an allocation or a write failed, or the file isn't there, isn't read or has tables that fail a condition. `faults` says
-///   which, and of the file where.
+/// - 1: an allocation, a read of `input` or a write failed, or the file isn't there, isn't read or has tables that fail a
+///   condition. `faults` says which, and of the file where.
 /// - 2: the words are no command. `faults` says what commands there are.
 ///
 /// A failed write to `faults` changes no status.
 pub(crate) fn run<R: Files + AllocGlobal, I: Read + Drop, W: Write, E: Write>(
     rt: &R,
     words: &[String],
-    input: I,
+    mut input: I,
     output: &mut W,
     faults: &mut E,
 ) -> u8
     ensures { result ≤ 2 }
 {
-    let (file, printed) = match Asked::parse(words) {
-        Some(Asked::Help) => ("", print(USAGE, output)),
-        Some(Asked::Answer(request)) => (request.file, print_answer(rt, request, input, output)),
-        None => ("", Err(Fault::WrongWords)),
-    };
-    match printed {
-        Ok(()) => 0,
-        Err(fault) => report(fault, file, faults),
+    match Asked::parse(words) {
+        Some(Asked::Help) => status_of(print(USAGE, output), faults),
+        Some(Asked::Over(request)) => match neighbours_asked(request.words) {
+            Some(strength) => {
+                let printed = print_neighbours(rt, request, strength, input, output);
+                status_of(printed, faults)
+            }
+            None => run_command(rt, request, &mut input, output, faults),
+        },
+        None => report(Fault::WrongWords, wording(), faults),
     }
 }
 
-/// Reads the tables of a file.
-fn read_file<R: Files + AllocGlobal>(rt: &R, file: &str) -> Result<CldrRoot, Fault> {
-    let Ok(opened) = fs::open(rt, file) else {
-        return Err(Fault::NotOpened);
-    };
-    let Ok(reader) = BufReader::new(rt.alloc(), opened) else {
-        return Err(Fault::NoMemory);
-    };
-    Ok(read_root(rt.alloc(), reader)?)
-}
-
-/// Prints the answer, or says what keeps it from being printed.
-fn print_answer<R: Files + AllocGlobal, I: Read + Drop, W: Write>(
+/// Makes one run of a command over the tables of a file.
+fn run_command<R: Files + AllocGlobal, I: Read, W: Write, E: Write>(
     rt: &R,
     request: Request<'_>,
+    input: &mut I,
+    output: &mut W,
+    faults: &mut E,
+) -> u8
+    ensures statuses { result ≤ 2 }
+    ensures wrong_words { (result ≡ 2) ↔ (command_of (map string_bytes request.entry.words.now) ≡ None) }
+    ensures usage { result ≡ 2
+        → AppendsBeginning (E.contents faults.old) (E.contents faults.new) usage_text }
+    ensures nothing { result ≡ 2 → Keeps (W.contents output.old) (W.contents output.new) }
+
+    // The answer is by the tables of the file, with the chosen settings.
+    ensures answer { result ≡ 0 → IfSome (command_of (map string_bytes request.entry.words.now))
+        (PrintsAnswer (ComparesAs request.entry.chosen) (I.remaining input.old) (I.remaining input.new)
+        (W.contents output.old) (W.contents output.new)) }
+    ensures no_fault { result ≡ 0 → Keeps (E.contents faults.old) (E.contents faults.new) }
+
+    // A file that isn't read, or whose tables are refused, is named.
+    ensures refused { result ≡ 1 → IfSome (command_of (map string_bytes request.entry.words.now))
+        (Fails fault_lines (ComparesAs request.entry.chosen) (λ strength. IsLineOf request.entry.file.now)
+        (I.remaining input.old) (I.remaining input.new)
+        (W.contents output.old) (W.contents output.new)
+        (E.contents faults.old) (E.contents faults.new)) }
+{
+    let source = FileSource {
+        rt,
+        file: request.file,
+        chosen: request.chosen,
+    };
+    collate_commands::run(
+        rt.alloc(),
+        &source,
+        wording(),
+        request.words,
+        input,
+        output,
+        faults,
+    )
+}
+
+/// The strength of the command `neighbours`, if words are that.
+fn neighbours_asked(words: &[String]) -> Option<Strength> {
+    match words {
+        [name, strength] if name.as_str() == "neighbours" => strength_named(strength.as_str()),
+        _ => None,
+    }
+}
+
+/// Looks at the lines of the input, and prints what was seen.
+fn print_neighbours<R: Files + AllocGlobal, I: Read + Drop, W: Write>(
+    rt: &R,
+    request: Request<'_>,
+    strength: Strength,
     input: I,
     output: &mut W,
 ) -> Result<(), Fault> {
-    let root = read_file(rt, request.file)?;
-    let collator = collator(rt.alloc(), &root, request.chosen, request.command.strength)?;
-    match request.command.task {
-        Task::Compare(texts) => print(answer(&collator, texts)?, output),
-        Task::Neighbours => print_counts(neighbours(rt.alloc(), &collator, input)?, output),
-    }
+    let source = FileSource {
+        rt,
+        file: request.file,
+        chosen: request.chosen,
+    };
+    let collator = source.collator(rt.alloc(), strength)?;
+    print_counts(neighbours(rt.alloc(), &collator, input)?, output)
 }
 
 /// Writes what was seen of lines to the output, and flushes it.
@@ -90,11 +162,12 @@ fn print<W: Write>(text: &str, output: &mut W) -> Result<(), Fault> {
     Ok(())
 }
 
-/// Says on standard error what kept the program from printing an answer, and returns its status. That a write fails there
-/// changes nothing.
-pub(crate) fn report<E: Write>(fault: Fault, file: &str, faults: &mut E) -> u8
+/// The status after something was to be printed: says on standard error what kept it from that.
+fn status_of<E: Write>(printed: Result<(), Fault>, faults: &mut E) -> u8
     ensures { result ≤ 2 }
 {
-    let _ = fault.say(file, faults);
-    fault.status()
+    match printed {
+        Ok(()) => 0,
+        Err(fault) => report(fault, wording(), faults),
+    }
 }

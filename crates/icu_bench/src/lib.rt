@@ -4,8 +4,14 @@
 #[cfg(test)]
 mod checked_tables;
 #[cfg(test)]
+mod index;
+#[cfg(test)]
 mod keys;
+#[cfg(test)]
+mod limited;
 #[cfg(test)]
 mod requests;
 #[cfg(test)]
 mod settings;
+#[cfg(test)]
+mod streams;

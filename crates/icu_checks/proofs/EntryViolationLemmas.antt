@@ -1,5 +1,5 @@
 -- The violations of entries and elements are true, and where there is none every condition is met.
-use Rattle.std.proofs.Common.{◌≡◌, ℕ, Bool, true, false, not, ◌&&◌, List, [], ◌∷◌, Option, Some, None, IfSome, IsTrue, if◌then◌else◌, fold, option_map, length, refl}
+use Rattle.std.proofs.Common.{◌≡◌, ℕ, Bool, true, false, not, ◌&&◌, List, [], ◌∷◌, Option, Some, None, IfSome, IsTrue, if◌then◌else◌, fold, option_map, length, refl, ap, ◌∙◌}
 use Rattle.std.proofs.lemmas.Bool.{and_parts}
 use Rattle.std.specs.List.{AllByRecursion, Contains}
 use Rattle.icu_entries.specs.declared.error.DataTable.{DataTable}
@@ -12,8 +12,10 @@ use Rattle.icu_data.specs.Final.{final_elements}
 use Rattle.icu_data.specs.DataConditions.{is_inside, has_known_members, fits_offset, avoids_diacritics, is_readable}
 use Rattle.icu_entries.specs.EntryConditions.{has_known_byte}
 use Rattle.icu_data.specs.Violations.{earlier}
+use Rattle.icu_data.specs.Live.{goes_by_character}
 use Rattle.icu_data.specs.LiveConditions.{meets, first_failing}
 use Rattle.icu_data.proofs.ViolationLemmas.{find_passes, find_none, not_false, not_true, weaker_some, passes_meets, failing_fails, earlier-none, earlier-keeps}
+use Rattle.icu_data.proofs.CharacterLemmas.{failing_alike, readable_alike, elements_alike}
 use Rattle.icu_data.proofs.ListLemmas.{weaker, all_members}
 use Rattle.icu_checks.specs.declared.condition.Condition.TheVariants as conditions
 use Rattle.icu_checks.specs.declared.condition.ElementCondition.{ElementCondition}
@@ -153,3 +155,18 @@ module _ (all : CollatorTables) where
       earlier-keeps violation_rank (IsTrueViolation all) _ _
       (earlier-keeps violation_rank (IsTrueViolation all) _ _ own (rows_true table home c e is))
       (read_true (is_readable home c e) (elements_violation all table home c e) (elements_true table None (final_elements (homed home e) c) tt given))
+
+-- ---- entries that don't go by their character
+
+-- the violation of an entry by what is asked of it and its character
+abbrev judged_by : CollatorTables → DataTable → Option Violation → Option LiveCondition → Bool → List Element → Option Violation
+judged_by all table rows own readable es =
+    earlier violation_rank (earlier violation_rank (option_map (of_entry table) own) rows) (if readable then fold (after_element all table) None es else None)
+
+pub entry_alike : (all : CollatorTables) (table : DataTable) (home : Data) (c d e : ℕ) → goes_by_character e ≡ false → entry_violation all table home c e ≡ entry_violation all table home d e
+unfolding entry_violation
+entry_alike all table home c d e by =
+    let judged : Option LiveCondition → Bool → List Element → Option Violation = judged_by all table (rows_violation all home e) in
+    ap (λ own. judged own (is_readable home c e) (final_elements (homed home e) c)) (failing_alike home c d e by)
+    ∙ ap (λ readable. judged (first_failing home d e) readable (final_elements (homed home e) c)) (readable_alike home c d e by)
+    ∙ ap (λ es. judged (first_failing home d e) (is_readable home d e) es) (elements_alike home c d e by)

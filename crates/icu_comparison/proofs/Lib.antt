@@ -2,3 +2,4 @@ pub mod KeyLemmas
 pub mod LevelLemmas
 pub mod OrderLemmas
 pub mod SegmentLemmas
+mod TailLemmas

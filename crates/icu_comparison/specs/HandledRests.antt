@@ -9,7 +9,7 @@ use Rattle.icu_comparison.specs.declared.weighting.VariableWeighting.{VariableWe
 
 -- further elements, as they are to be handled
 abbrev pub handled_after : VariableWeighting → List Element → List HandledElement
-handled_after w es = handled w.last_variable w.after_variable es
+handled_after w es = handled w.handling w.last_variable w.after_variable es
 
 -- the handled elements that are still to come
 abbrev pub handled_rest : HandledElements → List HandledElement

@@ -2,3 +2,4 @@
 pub mod LevelWeights
 pub mod SegmentsLeft
 pub mod ElementOrders
+pub mod Tails

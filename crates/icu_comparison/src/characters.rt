@@ -5,7 +5,8 @@ ghost use Rattle.unicode_normalization.specs.Forms.{nfd};
 ghost use Rattle.icu_levels.specs.ListOrder.{list_order};
 ghost use Rattle.icu_levels.specs.Identical.{identical_rank};
 
-use crate::texts::{EncodedText, decomposed};
+use crate::texts::decomposed;
+use icu_encodings::EncodedText;
 use std::alloc::{AllocError, Global};
 use std::cmp::Ordering;
 
@@ -53,11 +54,11 @@ fn compare_lists(left: &[char], right: &[char]) -> Ordering
 /// allocation does.
 pub(crate) fn compare_characters<L: EncodedText, R: EncodedText>(
     alloc: Global,
-    left: &L,
-    right: &R,
+    left: L,
+    right: R,
 ) -> Result<Ordering, AllocError>
-    ensures { IfOk result (λ o. o ≡ list_order (map identical_rank (nfd (L.text left.now)))
-        (map identical_rank (nfd (R.text right.now)))) }
+    ensures { IfOk result (λ o. o ≡ list_order (map identical_rank (nfd (L.text left)))
+        (map identical_rank (nfd (R.text right)))) }
 {
     let left = decomposed(alloc, left)?;
     let right = decomposed(alloc, right)?;

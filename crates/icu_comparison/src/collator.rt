@@ -1,6 +1,6 @@
 //! Collators: tables and settings.
 
-ghost use Rattle.std.specs.Prelude.{◌≡◌, false, Err, Ok, IfErr, IfOk};
+ghost use Rattle.std.specs.Prelude.{◌≡◌, false, Err, Ok, IfErr, IfOk, IfSome, IsSome};
 ghost use Rattle.icu_options.specs.Conversions.{resolved_of};
 ghost use Rattle.icu_options.specs.Merge.{merge};
 ghost use Rattle.icu_options.specs.FlaggedSettings.{values_of};
@@ -12,21 +12,24 @@ ghost use Rattle.icu_elements.specs.ElementReaders.{elements_to_come};
 ghost use Rattle.icu_elements.specs.Reading.{element_tables};
 ghost use Rattle.icu_elements.specs.TextElements.{elements_of};
 ghost use Rattle.icu_order.specs.Forms.{form_by, last_variable_by};
-ghost use Rattle.icu_order.specs.Handled.{handled};
-ghost use Rattle.icu_order.specs.TextOrder.{reading_by, handled_by};
+ghost use Rattle.icu_order.specs.TextOrder.{reading_by, handled_elements, handled_by};
+ghost use Rattle.icu_levels.specs.Fronts.{ReadsForward};
+ghost use Rattle.icu_shortcuts.specs.Named.{NamesAll};
+ghost use Rattle.icu_shortcuts.specs.SafeTables.{safe_reading};
 ghost use Rattle.unicode_normalization.specs.Forms.{nfd};
 
 use crate::handled::{HandledElements, HandledReader};
-use crate::texts::EncodedText;
 use icu_checks::{CheckedTables, load_tables};
 use icu_elements::{ElementReader, ElementTables, all_elements};
-use icu_entries::{CollationElement, DataError};
-use icu_levels::forms::KeyForm;
+use icu_encodings::{Characters, EncodedText};
+use icu_entries::{CollationElement, DataError, DataErrorKind, DataTable};
+use icu_levels::forms::{KeyForm, SecondaryForm};
 use icu_options::{
     AlternateHandling, CollatorOptions, CollatorOptionsBitField, CollatorPreferences,
     ResolvedCollatorOptions, merged_options,
 };
 use icu_provider::CollationProvider;
+use icu_shortcuts::{NamedCharacters, SafePlaces};
 use icu_text_keys::key_form;
 use std::alloc::{AllocError, Global};
 
@@ -35,9 +38,11 @@ use std::alloc::{AllocError, Global};
 #[derive(Debug, Drop)]
 pub struct Collator {
     tables: CheckedTables,
+    named: NamedCharacters,
     settings: CollatorOptionsBitField,
     ghost backward: { (values_of settings).backward_second_level
         ≡ is_backward (checked_tables tables).bits },
+    ghost names: { NamesAll named (checked_tables tables).tables },
 }
 
 impl Collator {
@@ -80,8 +85,13 @@ impl Collator {
     {
         let loaded = load_tables(provider, preferences.locale, preferences.collation_type)?;
         let tables = CheckedTables::from_set(alloc, loaded)?;
+        let named = named_characters(alloc, &tables)?;
         let settings = merged_options(options, preferences, tables.metadata().settings());
-        Ok(Collator { tables, settings })
+        Ok(Collator {
+            tables,
+            named,
+            settings,
+        })
     }
 
     /// The same collator, borrowed: copies nothing.
@@ -91,8 +101,23 @@ impl Collator {
     {
         CollatorBorrowed {
             tables: &self.tables,
+            named: &self.named,
             settings: self.settings,
         }
+    }
+}
+
+/// The characters that rows of the tables name. Where an allocation fails, that is said of the root.
+fn named_characters(alloc: Global, tables: &CheckedTables) -> Result<NamedCharacters, DataError>
+    ensures names { IfOk result (λ n. NamesAll n (checked_tables tables.now).tables) }
+    ensures refusal { IfErr result (λ e. e.kind ≡ NoMemory) }
+{
+    match NamedCharacters::new(alloc, tables) {
+        Ok(named) => Ok(named),
+        Err(AllocError) => Err(DataError {
+            table: DataTable::Root,
+            kind: DataErrorKind::NoMemory,
+        }),
     }
 }
 
@@ -100,9 +125,11 @@ impl Collator {
 #[derive(Debug, Clone, Copy)]
 pub struct CollatorBorrowed<'a> {
     pub(crate) tables: &'a CheckedTables,
+    named: &'a NamedCharacters,
     settings: CollatorOptionsBitField,
     ghost backward: { (values_of settings).backward_second_level
         ≡ is_backward (checked_tables tables.now).bits },
+    ghost names: { NamesAll named.now (checked_tables tables.now).tables },
 }
 
 impl<'a> CollatorBorrowed<'a> {
@@ -114,6 +141,13 @@ impl<'a> CollatorBorrowed<'a> {
         ensures { result ≡ resolved_of (settings_borrowed self.now) }
     {
         self.settings.into()
+    }
+
+    /// The tables meet the conditions on all tables of a collator: no collator has others.
+    pub fn has_good_tables(&self)
+        ensures { IsGoodTables (tables_borrowed self.now) }
+    {
+        self.tables.are_good();
     }
 
     /// The tables that elements are read from.
@@ -133,11 +167,12 @@ impl<'a> CollatorBorrowed<'a> {
     /// The elements of a text as the settings handle variable ones (UTS #10, section 4 "Variable
     /// Weighting").
     pub(crate) fn handled<'e>(&self, elements: &'e [CollationElement]) -> HandledElements<'e>
-        ensures { handled_rest result ≡ handled
-            (last_variable_by (tables_borrowed self.now) (settings_borrowed self.now))
+        ensures { handled_rest result
+            ≡ handled_elements (tables_borrowed self.now) (settings_borrowed self.now)
             false elements.entry.now }
     {
-        HandledElements::new(elements, self.last_variable())
+        let handling = self.settings.alternate_handling();
+        HandledElements::new(elements, handling, self.last_variable())
     }
 
     /// The last primary weight of the groups that are variable, or 0 where none is.
@@ -147,24 +182,46 @@ impl<'a> CollatorBorrowed<'a> {
     {
         match self.settings.alternate_handling() {
             AlternateHandling::NonIgnorable => 0,
-            AlternateHandling::Shifted => {
+            AlternateHandling::Shifted | AlternateHandling::Blanked => {
                 let special = self.tables.special_primaries();
                 special.last_primary_for_group(self.settings.max_variable())
             }
         }
     }
 
+    /// Before which characters texts may be cut, or `None` where they are compared whole: where secondary weights are read
+    /// backward, and where elements may be variable.
+    pub(crate) fn safe_places(&self) -> Option<SafePlaces<'a>>
+        ensures reading { IfSome result (λ s. safe_reading s
+            ≡ reading_by (tables_borrowed self.now) (settings_borrowed self.now)) }
+        ensures forward { IsSome result → ReadsForward (form_by (tables_borrowed self.now) (settings_borrowed self.now)).secondary }
+        ensures constant { IsSome result → last_variable_by (tables_borrowed self.now) (settings_borrowed self.now) ≡ 0 }
+    {
+        if self.last_variable() != 0 {
+            return None;
+        }
+        match self.key_form().secondary {
+            Some(SecondaryForm::Backward) => None,
+            _ => Some(SafePlaces::new(
+                self.tables(),
+                self.numeric_primary(),
+                self.tables.metadata().lithuanian_dot_above(),
+                self.named,
+            )),
+        }
+    }
+
     /// The elements of a text.
     pub(crate) fn elements<T: EncodedText>(
         &self,
-        text: &T,
+        text: T,
     ) -> Result<Vec<CollationElement>, AllocError>
         ensures { let reading = reading_by (tables_borrowed self.now) (settings_borrowed self.now) in
-            IfOk result (λ es. es.items ≡ elements_of reading (nfd (T.text text.now))) }
+            IfOk result (λ es. es.items ≡ elements_of reading (nfd (T.text text))) }
     {
         all_elements(
             self.tables(),
-            text.characters(),
+            Characters::new(text),
             self.numeric_primary(),
             self.tables.metadata().lithuanian_dot_above(),
         )
@@ -175,7 +232,8 @@ impl<'a> CollatorBorrowed<'a> {
         ensures { handled_to_come result
             ≡ handled_by (tables_borrowed self.now) (settings_borrowed self.now) text.items }
     {
-        HandledReader::new(self.element_reader(text), self.last_variable())
+        let handling = self.settings.alternate_handling();
+        HandledReader::new(self.element_reader(text), handling, self.last_variable())
     }
 
     /// Reads the elements of a decomposed text.

@@ -1,6 +1,6 @@
 //! The order of texts.
 
-ghost use Rattle.std.specs.Prelude.{◌≡◌, IfOk, chars};
+ghost use Rattle.std.specs.Prelude.{◌≡◌, IfOk, Ok, chars};
 ghost use Rattle.icu_encodings.specs.DecodedTexts.{latin1_text, utf16_text, utf8_text};
 ghost use Rattle.icu_levels.specs.ListOrder.{list_order};
 ghost use Rattle.icu_levels.specs.Keys.{characters_order};
@@ -11,7 +11,8 @@ ghost use Rattle.unicode_normalization.specs.Forms.{nfd};
 use crate::characters::compare_characters;
 use crate::collator::CollatorBorrowed;
 use crate::order::ElementOrder;
-use crate::texts::{EncodedText, Latin1Text, Utf8Text, Utf16Text};
+use crate::texts::str_text;
+use icu_encodings::{CommonUnits, EncodedText, Latin1Text, Utf8Text, Utf16Text};
 use icu_order::laws::keys_keep_text_order;
 use std::alloc::AllocError;
 use std::cmp::Ordering;
@@ -31,8 +32,9 @@ impl<'a> CollatorBorrowed<'a> {
         ensures keys { IfOk result (λ o. o ≡ list_order
             (text_key (tables_borrowed self.now) (settings_borrowed self.now) (chars left.now))
             (text_key (tables_borrowed self.now) (settings_borrowed self.now) (chars right.now))) }
+        ensures same { left.now ≡ right.now → result ≡ Ok Ordering.Equal }
     {
-        self.compare_texts(&left, &right)
+        self.compare_texts(str_text(left), str_text(right))
     }
 
     /// The same of two texts in UTF-8 that may be damaged: each maximal ill-formed part is one U+FFFD
@@ -43,8 +45,9 @@ impl<'a> CollatorBorrowed<'a> {
         ensures keys { IfOk result (λ o. o ≡ list_order
             (text_key (tables_borrowed self.now) (settings_borrowed self.now) (utf8_text left.now))
             (text_key (tables_borrowed self.now) (settings_borrowed self.now) (utf8_text right.now))) }
+        ensures same { left.now ≡ right.now → result ≡ Ok Ordering.Equal }
     {
-        self.compare_texts(&Utf8Text(left), &Utf8Text(right))
+        self.compare_texts(Utf8Text(left), Utf8Text(right))
     }
 
     /// The same of two texts in UTF-16: each unpaired surrogate is U+FFFD (Unicode Standard, section
@@ -55,8 +58,9 @@ impl<'a> CollatorBorrowed<'a> {
         ensures keys { IfOk result (λ o. o ≡ list_order
             (text_key (tables_borrowed self.now) (settings_borrowed self.now) (utf16_text left.now))
             (text_key (tables_borrowed self.now) (settings_borrowed self.now) (utf16_text right.now))) }
+        ensures same { left.now ≡ right.now → result ≡ Ok Ordering.Equal }
     {
-        self.compare_texts(&Utf16Text(left), &Utf16Text(right))
+        self.compare_texts(Utf16Text(left), Utf16Text(right))
     }
 
     /// The same of two texts in Latin-1: each byte is the character of its number (Unicode Standard,
@@ -67,8 +71,9 @@ impl<'a> CollatorBorrowed<'a> {
         ensures keys { IfOk result (λ o. o ≡ list_order
             (text_key (tables_borrowed self.now) (settings_borrowed self.now) (latin1_text left.now))
             (text_key (tables_borrowed self.now) (settings_borrowed self.now) (latin1_text right.now))) }
+        ensures same { left.now ≡ right.now → result ≡ Ok Ordering.Equal }
     {
-        self.compare_texts(&Latin1Text(left), &Latin1Text(right))
+        self.compare_texts(Latin1Text(left), Latin1Text(right))
     }
 
     /// The same of a text in Latin-1 and one in UTF-16. Fails only where an allocation does.
@@ -78,38 +83,71 @@ impl<'a> CollatorBorrowed<'a> {
         ensures keys { IfOk result (λ o. o ≡ list_order
             (text_key (tables_borrowed self.now) (settings_borrowed self.now) (latin1_text left.now))
             (text_key (tables_borrowed self.now) (settings_borrowed self.now) (utf16_text right.now))) }
+        ensures same { left.now ≡ right.now → result ≡ Ok Ordering.Equal }
     {
-        self.compare_texts(&Latin1Text(left), &Utf16Text(right))
+        self.compare_texts(Latin1Text(left), Utf16Text(right))
     }
 
     /// The order of two texts, whatever their encodings.
-    fn compare_texts<L: EncodedText, R: EncodedText>(
+    fn compare_texts<L: CommonUnits<R>, R: EncodedText>(
         &self,
-        left: &L,
-        right: &R,
+        left: L,
+        right: R,
     ) -> Result<Ordering, AllocError>
         ensures order { IfOk result (λ o. o ≡ text_order (tables_borrowed self.now)
-            (settings_borrowed self.now) (L.text left.now) (R.text right.now)) }
+            (settings_borrowed self.now) (L.text left) (R.text right)) }
         ensures keys { IfOk result (λ o. o ≡ list_order
-            (text_key (tables_borrowed self.now) (settings_borrowed self.now) (L.text left.now))
-            (text_key (tables_borrowed self.now) (settings_borrowed self.now) (R.text right.now))) }
+            (text_key (tables_borrowed self.now) (settings_borrowed self.now) (L.text left))
+            (text_key (tables_borrowed self.now) (settings_borrowed self.now) (R.text right))) }
+        ensures same { L.units left ≡ R.units right → result ≡ Ok Ordering.Equal }
     {
-        let order = self.compare_levels(left, right)?;
+        let order = self.compare_tails(left, right)?;
         keys_keep_text_order();
         self.tables.are_good();
-        left.is_text();
-        right.is_text();
+        left.has_scalar_values();
+        right.has_scalar_values();
         Ok(order)
+    }
+
+    /// The order of two texts by what follows their common beginning, as far as that may be passed over.
+    fn compare_tails<L: CommonUnits<R>, R: EncodedText>(
+        &self,
+        left: L,
+        right: R,
+    ) -> Result<Ordering, AllocError>
+        ensures order { IfOk result (λ o. o ≡ text_order (tables_borrowed self.now)
+            (settings_borrowed self.now) (L.text left) (R.text right)) }
+        ensures same { L.units left ≡ R.units right → result ≡ Ok Ordering.Equal }
+    {
+        let common = left.common_units(right);
+        if common == left.unit_count() && common == right.unit_count() {
+            self.is_equal_to_itself(left);
+            return Ok(Ordering::Equal);
+        }
+        match self.tails(left, right, common) {
+            Some((one, other)) => self.compare_levels(one, other),
+            None => self.compare_levels(left, right),
+        }
+    }
+
+    /// A text is equal to itself.
+    fn is_equal_to_itself<T: EncodedText>(&self, text: T)
+        ensures { text_order (tables_borrowed self.now) (settings_borrowed self.now)
+            (T.text text) (T.text text) ≡ Ordering.Equal }
+    {
+        keys_keep_text_order();
+        self.tables.are_good();
+        text.has_scalar_values();
     }
 
     /// The order of two texts by their levels in turn.
     fn compare_levels<L: EncodedText, R: EncodedText>(
         &self,
-        left: &L,
-        right: &R,
+        left: L,
+        right: R,
     ) -> Result<Ordering, AllocError>
         ensures { IfOk result (λ o. o ≡ text_order (tables_borrowed self.now)
-            (settings_borrowed self.now) (L.text left.now) (R.text right.now)) }
+            (settings_borrowed self.now) (L.text left) (R.text right)) }
     {
         let order = self.compare_elements(left, right)?;
         if order != Ordering::Equal {
@@ -122,12 +160,12 @@ impl<'a> CollatorBorrowed<'a> {
     #[tactic(auto, unfolding(icu_order::specs::TextOrder::lists_by))]
     fn compare_characters<L: EncodedText, R: EncodedText>(
         &self,
-        left: &L,
-        right: &R,
+        left: L,
+        right: R,
     ) -> Result<Ordering, AllocError>
         ensures { let all = tables_borrowed self.now in let settings = settings_borrowed self.now in
             IfOk result (λ o. o ≡ characters_order (form_by all settings).identical
-            (lists_by all settings (nfd (L.text left.now))) (lists_by all settings (nfd (R.text right.now)))) }
+            (lists_by all settings (nfd (L.text left))) (lists_by all settings (nfd (R.text right)))) }
     {
         if self.key_form().identical {
             compare_characters(self.tables.allocator(), left, right)
@@ -140,11 +178,11 @@ impl<'a> CollatorBorrowed<'a> {
     #[tactic(auto, unfolding(crate::specs::inner::ElementOrders::elements_order, icu_order::specs::TextOrder::lists_by))]
     fn compare_elements<L: EncodedText, R: EncodedText>(
         &self,
-        left: &L,
-        right: &R,
+        left: L,
+        right: R,
     ) -> Result<Ordering, AllocError>
         ensures { IfOk result (λ o. o ≡ elements_order (tables_borrowed self.now)
-            (settings_borrowed self.now) (nfd (L.text left.now)) (nfd (R.text right.now))) }
+            (settings_borrowed self.now) (nfd (L.text left)) (nfd (R.text right))) }
     {
         let left = self.elements(left)?;
         let right = self.elements(right)?;

@@ -5,12 +5,13 @@ ghost use Rattle.std.specs.Prelude.{◌≡◌, false, ◌≤◌, ◌++◌, ◌+�
 use crate::weighting::VariableWeighting;
 use icu_elements::ElementReader;
 use icu_entries::CollationElement;
+use icu_options::AlternateHandling;
 use icu_text_keys::{Handled, HandledSource};
 use std::alloc::AllocError;
 
 /// The elements of a text that are left, as variable weighting handles them: a variable element is
-/// shifted, and elements without a primary weight after it vanish. It copies nothing and holds no
-/// list: a copy of it goes through the same elements again.
+/// shifted or blanked, and elements without a primary weight after it vanish. It copies nothing and
+/// holds no list: a copy of it goes through the same elements again.
 #[derive(Clone, Copy, Debug)]
 pub struct HandledElements<'a> {
     rest: &'a [CollationElement],
@@ -24,12 +25,16 @@ impl<'a> HandledElements<'a> {
 
     /// All elements of a text. Variable are those with a primary weight above the merge separator's
     /// and up to `last_variable`: none, where that is 0.
-    pub fn new(elements: &'a [CollationElement], last_variable: u32) -> HandledElements<'a>
-        ensures { handled_rest result ≡ handled last_variable false elements.entry.now }
+    pub fn new(
+        elements: &'a [CollationElement],
+        handling: AlternateHandling,
+        last_variable: u32,
+    ) -> HandledElements<'a>
+        ensures { handled_rest result ≡ handled handling last_variable false elements.entry.now }
     {
         HandledElements {
             rest: elements,
-            weighting: VariableWeighting::new(last_variable),
+            weighting: VariableWeighting::new(handling, last_variable),
         }
     }
 
@@ -86,13 +91,17 @@ impl<'d> HandledReader<'d> {
 
     /// All elements that a reader still gives. Variable are those with a primary weight above the
     /// merge separator's and up to `last_variable`: none, where that is 0.
-    pub(crate) fn new(elements: ElementReader<'d>, last_variable: u32) -> HandledReader<'d>
+    pub(crate) fn new(
+        elements: ElementReader<'d>,
+        handling: AlternateHandling,
+        last_variable: u32,
+    ) -> HandledReader<'d>
         ensures { handled_to_come result
-            ≡ handled last_variable false (elements_to_come elements.entry) }
+            ≡ handled handling last_variable false (elements_to_come elements.entry) }
     {
         HandledReader {
             elements,
-            weighting: VariableWeighting::new(last_variable),
+            weighting: VariableWeighting::new(handling, last_variable),
         }
     }
 }

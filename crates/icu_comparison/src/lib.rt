@@ -9,6 +9,7 @@ mod levels;
 mod order;
 mod segments;
 pub mod sort_key;
+mod tails;
 mod texts;
 mod weighting;
 

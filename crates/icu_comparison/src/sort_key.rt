@@ -12,7 +12,8 @@ ghost use Rattle.icu_provider.specs.CollatorTables.{reorder};
 ghost use Rattle.icu_text_keys.specs.HandledSources.{HasCase};
 
 use crate::collator::CollatorBorrowed;
-use crate::texts::{EncodedText, Utf8Text, Utf16Text, decomposed};
+use crate::texts::{decomposed, str_text};
+use icu_encodings::{EncodedText, Utf8Text, Utf16Text};
 use icu_keys::{CollationKeySink, SortKeyError};
 use icu_text_keys::laws::texts_have_case;
 use icu_text_keys::{TableCompression, write_key};
@@ -48,7 +49,7 @@ impl<'a> CollatorBorrowed<'a> {
         ensures key { WritesKey S.took S.refused S.finished S.State.is_default sink.old
             (text_key (tables_borrowed self.now) (settings_borrowed self.now) (chars text.now)) result sink.new }
     {
-        self.write_key_of(&text, sink)
+        self.write_key_of(str_text(text), sink)
     }
 
     /// The same of a text in UTF-8 that may be damaged: each maximal ill-formed part is one U+FFFD (Unicode Standard,
@@ -65,7 +66,7 @@ impl<'a> CollatorBorrowed<'a> {
         ensures key { WritesKey S.took S.refused S.finished S.State.is_default sink.old
             (text_key (tables_borrowed self.now) (settings_borrowed self.now) (utf8_text text.now)) result sink.new }
     {
-        self.write_key_of(&Utf8Text(text), sink)
+        self.write_key_of(Utf8Text(text), sink)
     }
 
     /// The same of a text in UTF-16: each unpaired surrogate is U+FFFD (Unicode Standard, section 3.9).
@@ -81,21 +82,21 @@ impl<'a> CollatorBorrowed<'a> {
         ensures key { WritesKey S.took S.refused S.finished S.State.is_default sink.old
             (text_key (tables_borrowed self.now) (settings_borrowed self.now) (utf16_text text.now)) result sink.new }
     {
-        self.write_key_of(&Utf16Text(text), sink)
+        self.write_key_of(Utf16Text(text), sink)
     }
 
     /// Writes the key of a text, whatever its encoding.
     fn write_key_of<T: EncodedText, S: CollationKeySink>(
         &self,
-        text: &T,
+        text: T,
         sink: &mut S,
     ) -> Result<S::Output, SortKeyError<S::Error>>
         ensures key { WritesKey S.took S.refused S.finished S.State.is_default sink.old
-            (text_key (tables_borrowed self.now) (settings_borrowed self.now) (T.text text.now)) result sink.new }
+            (text_key (tables_borrowed self.now) (settings_borrowed self.now) (T.text text)) result sink.new }
     {
         self.tables.are_good();
         texts_have_case();
-        text.is_text();
+        text.has_scalar_values();
         let Ok(text) = decomposed(self.tables.allocator(), text) else {
             return write_nothing(sink);
         };

@@ -5,13 +5,15 @@ ghost use Rattle.icu_entries.specs.Elements.{Element};
 
 use icu_entries::CollationElement;
 use icu_entries::element::MERGE_SEPARATOR_PRIMARY;
+use icu_options::AlternateHandling;
 use icu_text_keys::Handled;
 
-/// What of the elements so far decides how the next one is handled: whether a variable one came
-/// last. Variable are those with a primary weight above the merge separator's and up to
-/// `last_variable`: none, where that is 0.
+/// How variable elements are handled, and what of the elements so far decides how the next one is:
+/// whether a variable one came last. Variable are those with a primary weight above the merge
+/// separator's and up to `last_variable`: none, where that is 0.
 #[derive(Clone, Copy, Debug)]
 pub(crate) struct VariableWeighting {
+    handling: AlternateHandling,
     last_variable: u32,
     after_variable: bool,
 }
@@ -19,20 +21,34 @@ pub(crate) struct VariableWeighting {
 impl VariableWeighting {
     ghost use Rattle.icu_comparison.specs.HandledRests.{handled_after};
     ghost use Rattle.icu_text_keys.specs.HandledSources.{handled_as};
-    ghost use Rattle.icu_order.specs.Handled.{handled};
+    ghost use Rattle.icu_order.specs.Handled.{handled, handled_variable};
 
     /// Before the first element.
-    pub(crate) fn new(last_variable: u32) -> VariableWeighting
-        ensures { (es : List Element) → handled_after result es ≡ handled last_variable false es }
+    pub(crate) fn new(handling: AlternateHandling, last_variable: u32) -> VariableWeighting
+        ensures { (es : List Element) → handled_after result es
+            ≡ handled handling last_variable false es }
     {
         VariableWeighting {
+            handling,
             last_variable,
             after_variable: false,
         }
     }
 
-    /// Handles the next element: a variable one is shifted, and one without a primary weight
-    /// vanishes after it.
+    /// What becomes of a variable element with this primary weight: it vanishes where it is
+    /// blanked, and else it is shifted.
+    fn handle_variable(self, primary: u32) -> Option<Handled>
+        ensures { option_to_list (option_map handled_as result)
+            ≡ handled_variable self.handling primary }
+    {
+        match self.handling {
+            AlternateHandling::Blanked => None,
+            _ => Some(Handled::Shifted(primary)),
+        }
+    }
+
+    /// Handles the next element: a variable one is shifted or blanked, and one without a primary
+    /// weight vanishes after it.
     #[inline]
     #[tactic(auto, unfolding(icu_order::specs::Handled::handled))]
     pub(crate) fn handle(&mut self, element: CollationElement) -> Option<Handled>
@@ -42,7 +58,7 @@ impl VariableWeighting {
         let primary = element.primary();
         if primary > MERGE_SEPARATOR_PRIMARY && primary <= self.last_variable {
             self.after_variable = true;
-            return Some(Handled::Shifted(primary));
+            return self.handle_variable(primary);
         }
         if self.after_variable && primary == 0 {
             return None;

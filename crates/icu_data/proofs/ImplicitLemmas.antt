@@ -1,5 +1,5 @@
 -- Implicit weights meet every condition, so that entries for them need no look at the weight.
-use Rattle.std.proofs.Common.{◌≡◌, ℕ, ◌<◌, ◌≤◌, Bool, true, false, not, ◌&&◌, nat_eq, nat_le, List, [], ◌∷◌, Option, None, refl, ap, arith, IsTrue}
+use Rattle.std.proofs.Common.{◌≡◌, ℕ, ◌<◌, ◌≤◌, Bool, true, false, not, ◌&&◌, nat_eq, nat_le, [], ◌∷◌, Option, None, refl, ap, arith, IsTrue}
 use Rattle.std.specs.Prelude.{◌||◌}
 use Rattle.std.proofs.lemmas.Bool.Decides.{nat_tests}
 use Rattle.std.specs.Int.{byte_at}
@@ -97,6 +97,6 @@ pub implicit_passes : (home : Data) (c e : ℕ) → kind_of e ≡ Implicit → f
 implicit_passes home c e is = meets_passes home c e (implicit_meets home c e is)
 
 -- of an entry for an implicit weight nothing is collected
-pub collects_nothing : {W : Type 0} (weight : W → Element → Option ℕ) (w : W) (ws : List ℕ) (home : Data) (c e : ℕ) → kind_of e ≡ Implicit → collected_at weight (w, ws) home c e ≡ (w, ws)
+pub collects_nothing : {W : Type 0} (weight : W → Element → Option ℕ) (w : W) (ws : ℕ → Bool) (home : Data) (c e : ℕ) → kind_of e ≡ Implicit → collected_at weight (w, ws) home c e ≡ (w, ws)
 unfolding given_elements is_stated
 collects_nothing weight w ws home c e is = rw is refl

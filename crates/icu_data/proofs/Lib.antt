@@ -3,7 +3,10 @@ pub mod CharLemmas
 pub mod EntryLemmas
 pub mod ElementLemmas
 pub mod ContextLemmas
+pub mod CharacterLemmas
 pub mod WalkLemmas
+mod BlockWalkLemmas
+mod VisitedLemmas
 pub mod ViolationLemmas
 pub mod WeightLemmas
 pub mod ImplicitLemmas

@@ -7,11 +7,11 @@ use Rattle.std.specs.List.{AllByRecursion, Contains}
 use Rattle.icu_data.specs.Data.{Data}
 use Rattle.icu_data.specs.declared.live_condition.LiveCondition.{LiveCondition}
 use Rattle.icu_data.specs.declared.live_condition.LiveCondition.TheVariants.{Indices, PrefixRows, Chains, Digits, Bytes, Offsets, Shapes, Leads, Primaries}
-use Rattle.icu_data.specs.Live.{live_at, EachLive}
+use Rattle.icu_data.specs.Live.{goes_by_character, live_at, EachLive}
 use Rattle.icu_data.specs.LiveConditions.{meets, live_conditions, first_failing, EachMeets, IsGoodData}
 use Rattle.icu_data.specs.DataConditions.{is_inside, is_readable, has_known_members, fits_offset}
 use Rattle.icu_entries.specs.EntryConditions.{has_known_byte}
-use Rattle.icu_data.specs.Walks.{after_all, after_chars, chars_below}
+use Rattle.icu_data.specs.Walks.{after_all, after_chars, StandsFor, IsPassed, Walked}
 use Rattle.icu_data.specs.Violations.{earlier, ComesFirst, IsViolationAmong, IsLiveViolation}
 use Rattle.icu_data.specs.inner.Visitors.{judged}
 use Rattle.icu_data.proofs.ListLemmas.{weaker, all_of, all_members, of_member}
@@ -168,6 +168,23 @@ module _ {J F : Type 0} (rank : F → ℕ) (violation : J → Data → ℕ → �
       let es = live_at falls_back home c in
       ap (λ s. after_chars (judged rank violation) falls_back s home cs) (same_all c o es) ∙ same_chars (after_all kept o home c es) cs
 
+  abbrev Judged : J × Option F → J × Option F → Type 0
+  Judged = Walked (judged rank violation) falls_back home
+
+  -- and so it is a walk of the violation that is kept
+  kept_walk : (o : Option F) (s : J × Option F) → Judged (judge, o) s → Walked kept falls_back home o s.1
+  kept_walk o s w = record { chars = w.chars; scalars = w.scalars; adds_up = ap (λ s. s.1) is; each = λ c scalar. each c (w.each c scalar) }
+    where
+      is : s ≡ (judge, after_chars kept falls_back o home w.chars)
+      is = w.adds_up ∙ same_chars o w.chars
+
+      nothing : (c : ℕ) (s : J × Option F) → s.0 ≡ judge → judged rank violation s home c (home.value c) ≡ s → kept s.1 home c (home.value c) ≡ s.1
+      nothing c s same h = subst (λ j. earlier rank s.1 (violation j home c (home.value c)) ≡ s.1) same (ap (λ s. s.1) h)
+
+      each : (c : ℕ) → StandsFor home w.chars c ⊎ IsPassed (judged rank violation) home s c → StandsFor home w.chars c ⊎ IsPassed kept home s.1 c
+      each c (inl stands) = inl stands
+      each c (inr passed) = inr (record { implicit = passed.implicit; nothing = nothing c s (ap (λ s. s.0) is) passed.nothing })
+
   -- none is found exactly if there is none
   abbrev Passes : ℕ → ℕ → Type 0
   Passes c e = violation judge home c e ≡ None
@@ -184,10 +201,13 @@ module _ {J F : Type 0} (rank : F → ℕ) (violation : J → Data → ℕ → �
     λ both. fold_keeps (λ o e. kept o home c e) (λ o. o ≡ None) es (weaker (Passes c) _ (none_on c) es both.1) o both.0,
   )
 
-  none_live : (o : Option F) → (after_chars kept falls_back o home (chars_below 0x110000) ≡ None) ↔ ((o ≡ None) × EachLive Passes falls_back home)
-  none_live o = (
-    walk_back kept falls_back home (λ o. o ≡ None) Passes none_at o,
-    λ both. walk_keeps kept falls_back home (λ o. o ≡ None) (λ c scalar. weaker (Passes c) _ (none_on c) (live_at falls_back home c) (both.1 c scalar)) o both.0,
+  abbrev IsAlike : Type 0
+  IsAlike = (c d e : ℕ) → goes_by_character e ≡ false → violation judge home c e ≡ violation judge home d e
+
+  none_live : IsAlike → (o end : Option F) → Walked kept falls_back home o end → (end ≡ None) ↔ ((o ≡ None) × EachLive Passes falls_back home)
+  none_live alike o end w = (
+    walk_back kept falls_back home (λ o. o ≡ None) Passes none_at (λ c d e by passes. alike c d e by ∙ passes) o end w,
+    λ both. walk_keeps kept falls_back home (λ o. o ≡ None) (λ c scalar. weaker (Passes c) _ (none_on c) (live_at falls_back home c) (both.1 c scalar)) o end w both.0,
   )
 
   -- one that is found is that of an entry
@@ -206,11 +226,11 @@ module _ {J F : Type 0} (rank : F → ℕ) (violation : J → Data → ℕ → �
       let P : F → Type 0 = λ f. (o ≡ Some f) ⊎ Among c es f in
       fold_keeps (λ o e. kept o home c e) (λ o. IfSome o P) es (found_at P c es (λ f is. inr is)) o (weaker_some _ P (λ f is. inl is) o (some_itself o))
 
-  some_live : (o : Option F) → IfSome (after_chars kept falls_back o home (chars_below 0x110000)) (λ f. (o ≡ Some f) ⊎ IsLiveViolation (violation judge) falls_back home f)
-  some_live o =
+  some_live : (o end : Option F) → Walked kept falls_back home o end → IfSome end (λ f. (o ≡ Some f) ⊎ IsLiveViolation (violation judge) falls_back home f)
+  some_live o end w =
       let P : F → Type 0 = λ f. (o ≡ Some f) ⊎ IsLiveViolation (violation judge) falls_back home f in
       walk_keeps kept falls_back home (λ o. IfSome o P)
-      (λ c scalar. found_at P c (live_at falls_back home c) (λ f is. inr (record { c = c; scalar = scalar; among = is }))) o (weaker_some _ P (λ f is. inl is) o (some_itself o))
+      (λ c scalar. found_at P c (live_at falls_back home c) (λ f is. inr (record { c = c; scalar = scalar; among = is }))) o end w (weaker_some _ P (λ f is. inl is) o (some_itself o))
 
   -- none has a lesser rank than one that is found
   least_at : (f : F) (c e : ℕ) (o : Option F) → ComesFirst rank f (kept o home c e) → ComesFirst rank f o × ComesFirst rank f (violation judge home c e)
@@ -225,10 +245,10 @@ module _ {J F : Type 0} (rank : F → ℕ) (violation : J → Data → ℕ → �
       weaker_some (λ f. ComesFirst rank f end) _
       (λ f h. fold_back (λ o e. kept o home c e) (ComesFirst rank f) (After f c) es (all_of _ (least_at f c) es) o h) end (comes_first rank end)
 
-  least_live : (o : Option F) → IfSome (after_chars kept falls_back o home (chars_below 0x110000)) (λ f. ComesFirst rank f o × EachLive (After f) falls_back home)
-  least_live o =
-      let end = after_chars kept falls_back o home (chars_below 0x110000) in
-      weaker_some (λ f. ComesFirst rank f end) _ (λ f h. walk_back kept falls_back home (ComesFirst rank f) (After f) (least_at f) o h) end (comes_first rank end)
+  least_live : IsAlike → (o end : Option F) → Walked kept falls_back home o end → IfSome end (λ f. ComesFirst rank f o × EachLive (After f) falls_back home)
+  least_live alike o end w =
+      weaker_some (λ f. ComesFirst rank f end) _
+      (λ f h. walk_back kept falls_back home (ComesFirst rank f) (After f) (least_at f) (λ c d e by first. subst (ComesFirst rank f) (sym (alike c d e by)) first) o end w h) end (comes_first rank end)
 
   -- what a walk with this judge, which began with one violation, comes to
   pub record FirstAmong (c : ℕ) (es : List ℕ) (o found : Option F) : Type 0 where
@@ -246,10 +266,10 @@ module _ {J F : Type 0} (rank : F → ℕ) (violation : J → Data → ℕ → �
     pub some : IfSome found (λ f. (o ≡ Some f) ⊎ IsLiveViolation (violation judge) falls_back home f)
     pub least : IfSome found (λ f. ComesFirst rank f o × EachLive (After f) falls_back home)
 
-  pub first_live : (o : Option F) (s : J × Option F) → s ≡ after_chars (judged rank violation) falls_back (judge, o) home (chars_below 0x110000) → FirstLive o s.1
-  first_live o s is =
-      subst (λ (s : J × Option F). FirstLive o s.1) (sym (is ∙ same_chars o (chars_below 0x110000)))
-      (record { nothing = none_live o; some = some_live o; least = least_live o })
+  pub first_live : IsAlike → (o : Option F) (s : J × Option F) → Judged (judge, o) s → FirstLive o s.1
+  first_live alike o s walked =
+      let w = kept_walk o s walked in
+      record { nothing = none_live alike o s.1 w; some = some_live o s.1 w; least = least_live alike o s.1 w }
 
 -- where none was found before, one that is found is new
 pub not_before : {F : Type 0} (f : F) (A : Type 0) → ((None ≡ Some f) ⊎ A) → A

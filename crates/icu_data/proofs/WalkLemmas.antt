@@ -1,30 +1,15 @@
--- A walk over characters: it goes on from character to character, what each of its steps keeps it keeps, and what its end says goes
--- back to each step.
-use Rattle.std.proofs.Common.{◌≡◌, ℕ, ◌+◌, Bool, true, false, ◌==◌, ◌&&◌, List, [], ◌∷◌, if◌then◌else◌, refl, sym, ap, ◌∙◌, subst, append-nil, arith, fold, Result, Ok, Err, OnOk}
+-- A walk over characters: what each of its visits keeps it keeps, and what its end says goes back to each entry that is live.
+use Rattle.std.proofs.Common.{◌≡◌, ℕ, Bool, true, false, ◌==◌, ◌&&◌, List, [], ◌∷◌, if◌then◌else◌, refl, sym, ap, ◌∙◌, subst, arith, fold, Result, Ok, Err, OnOk, inl, inr}
 use Rattle.std.proofs.lemmas.Bool.Decides.{nat_tests}
 use Rattle.std.specs.List.{AllByRecursion}
-use Rattle.std.proofs.Math.Utf8.{scalar}
-use Rattle.std.proofs.lemmas.List.Sums.{fold-append}
+use Rattle.std.specs.Char.{IsScalar}
 use Rattle.icu_data.specs.Data.{Data}
 use Rattle.icu_entries.specs.declared.entry.EntryKind.TheVariants.{Fallback, Implicit}
 use Rattle.icu_entries.specs.Entries.{kind_of}
-use Rattle.icu_data.specs.Live.{live_digit, live_contraction, live_from, live_at, EachLive}
-use Rattle.icu_data.specs.Walks.{after_all, after_chars, chars_below}
-use Rattle.icu_data.proofs.ListLemmas.{all_of}
-use Rattle.icu_data.proofs.CharLemmas.{chars_below-none, chars_below-next, each_char, every_char}
-
-module _ {V : Type 0} (after : V → Data → ℕ → ℕ → V) (falls_back : Bool) (home : Data) (v : V) where
-  pub after_chars-none : after_chars after falls_back v home (chars_below 0) ≡ v
-  after_chars-none = ap (after_chars after falls_back v home) chars_below-none
-
-  pub after_chars-some : (n : ℕ) → scalar n ≡ true → after_chars after falls_back v home (chars_below (n + 1)) ≡ after_all after (after_chars after falls_back v home (chars_below n)) home n (live_at falls_back home n)
-  after_chars-some n s =
-      ap (after_chars after falls_back v home) (chars_below-next n true s)
-      ∙ fold-append (λ v c. after_all after v home c (live_at falls_back home c)) v (chars_below n) (n ∷ [])
-
-  pub after_chars-skip : (n : ℕ) → scalar n ≡ false → after_chars after falls_back v home (chars_below (n + 1)) ≡ after_chars after falls_back v home (chars_below n)
-  after_chars-skip n s =
-      ap (after_chars after falls_back v home) (chars_below-next n false s ∙ append-nil (chars_below n))
+use Rattle.icu_data.specs.Live.{goes_by_character, leads_to_character, live_digit, live_contraction, live_from, live_at, EachLive}
+use Rattle.icu_data.specs.Walks.{after_all, StandsFor, IsPassed, Walked}
+use Rattle.icu_data.proofs.ListLemmas.{all_of, of_member, weaker}
+use Rattle.icu_data.proofs.CharacterLemmas.{none_passes}
 
 -- ---- what a fold keeps, and what its end says of each step
 
@@ -37,20 +22,6 @@ module _ {S X : Type 0} (step : S → X → S) where
   fold_back J Q [] all s j = (j, tt)
   fold_back J Q (x ∷ xs) all s j =
       let later = fold_back J Q xs all.1 (step s x) j in let here = all.0 s later.0 in (here.0, (here.1, later.1))
-
--- ---- the same of a walk
-
-module _ {S : Type 0} (after : S → Data → ℕ → ℕ → S) (falls_back : Bool) (home : Data) where
-  pub walk_keeps : (I : S → Type 0) → EachLive (λ c e. (s : S) → I s → I (after s home c e)) falls_back home → (s : S) → I s → I (after_chars after falls_back s home (chars_below 0x110000))
-  walk_keeps I each s i =
-      fold_keeps (λ s c. after_all after s home c (live_at falls_back home c)) I (chars_below 0x110000)
-      (every_char _ (λ c scalar. fold_keeps (λ s e. after s home c e) I (live_at falls_back home c) (each c scalar))) s i
-
-  pub walk_back : (J : S → Type 0) (Q : ℕ → ℕ → Type 0) → ((c e : ℕ) (s : S) → J (after s home c e) → J s × Q c e) → (s : S) → J (after_chars after falls_back s home (chars_below 0x110000)) → J s × EachLive Q falls_back home
-  walk_back J Q turn s j =
-      let both = fold_back (λ s c. after_all after s home c (live_at falls_back home c)) J (λ c. AllByRecursion (Q c) (live_at falls_back home c)) (chars_below 0x110000)
-      (every_char _ (λ c scalar. fold_back (λ s e. after s home c e) J (Q c) (live_at falls_back home c) (all_of _ (turn c) (live_at falls_back home c)))) s j in
-      (both.0, each_char _ both.1)
 
 -- ---- an entry for an implicit weight leads to nothing else
 
@@ -90,16 +61,54 @@ kept false b e es h = refl
 pub implicit_alone : (falls_back : Bool) (home : Data) (c : ℕ) → kind_of (home.value c) ≡ Implicit → live_at falls_back home c ≡ home.value c ∷ []
 implicit_alone falls_back home c is = kept falls_back (home.value c == 0xC0) (home.value c) (live_from home (home.value c)) (isnt_fallback (home.value c) is) ∙ alone home (home.value c) is
 
-on_ok : {X E : Type 0} (A B : Type 0) → (A → B) → (r : Result X E) → OnOk r A → OnOk r B
+-- ---- the same of a walk
+
+module _ {S : Type 0} (after : S → Data → ℕ → ℕ → S) (falls_back : Bool) (home : Data) where
+  pub walk_keeps : (I : S → Type 0) → EachLive (λ c e. (s : S) → I s → I (after s home c e)) falls_back home → (s t : S) → Walked after falls_back home s t → I s → I t
+  walk_keeps I each s t w i =
+      subst I (sym w.adds_up)
+      (fold_keeps (λ s c. after_all after s home c (live_at falls_back home c)) I w.chars
+      (weaker IsScalar _ (λ c scalar. fold_keeps (λ s e. after s home c e) I (live_at falls_back home c) (each c scalar)) w.chars w.scalars) s i)
+
+  -- the entries that are live with a character, by its entry
+  abbrev live_by : ℕ → List ℕ
+  live_by e = if falls_back && e == 0xC0 then [] else live_from home e
+
+  shared_if : (P : ℕ → Type 0) (b : Bool) (es : List ℕ) → AllByRecursion P es → AllByRecursion P (if b then [] else es)
+  shared_if P true es all = tt
+  shared_if P false es all = all
+
+  -- what is said of entries with one character is said of them with another, where none goes by the character
+  alike_all : (P Q : ℕ → Type 0) → ((e : ℕ) → goes_by_character e ≡ false → P e → Q e) → (es : List ℕ) → AllByRecursion (λ e. goes_by_character e ≡ false) es → AllByRecursion P es → AllByRecursion Q es
+  alike_all P Q f [] none all = tt
+  alike_all P Q f (e ∷ es) none all = (f e none.0 all.0, alike_all P Q f es none.1 all.1)
+
+  none_live : (e : ℕ) → leads_to_character home e ≡ false → AllByRecursion (λ e. goes_by_character e ≡ false) (live_by e)
+  unfolding leads_to_character
+  none_live e none = shared_if (λ e. goes_by_character e ≡ false) (falls_back && e == 0xC0) (live_from home e) (none_passes goes_by_character (live_from home e) none)
+
+  pub walk_back : (J : S → Type 0) (Q : ℕ → ℕ → Type 0) → ((c e : ℕ) (s : S) → J (after s home c e) → J s × Q c e)
+      → ((c d e : ℕ) → goes_by_character e ≡ false → Q d e → Q c e) → (s t : S) → Walked after falls_back home s t → J t → J s × EachLive Q falls_back home
+  walk_back J Q turn alike s t w j =
+      let both = fold_back (λ s c. after_all after s home c (live_at falls_back home c)) J (λ c. AllByRecursion (Q c) (live_at falls_back home c)) w.chars
+      (all_of _ (λ c. fold_back (λ s e. after s home c e) J (Q c) (live_at falls_back home c) (all_of _ (turn c) (live_at falls_back home c))) w.chars) s (subst J w.adds_up j) in
+      (both.0, λ c scalar. elim (w.each c scalar) [ inl stands ↦ stood both.1 c stands | inr passed ↦ passed_by c passed ])
+    where
+      stood : AllByRecursion (λ c. AllByRecursion (Q c) (live_at falls_back home c)) w.chars → (c : ℕ) → StandsFor home w.chars c → AllByRecursion (Q c) (live_at falls_back home c)
+      stood all c stands =
+          let there : AllByRecursion (Q stands.other) (live_by (home.value stands.other)) = of_member (λ c. AllByRecursion (Q c) (live_at falls_back home c)) w.chars stands.other all stands.among in
+          let here : AllByRecursion (Q stands.other) (live_by (home.value c)) = subst (λ e. AllByRecursion (Q stands.other) (live_by e)) stands.same_entry there in
+          elim stands.same [
+            | inl none ↦ alike_all (Q stands.other) (Q c) (alike c stands.other) (live_by (home.value c)) (none_live (home.value c) none) here
+            | inr same ↦ subst (λ d. AllByRecursion (Q d) (live_by (home.value c))) same here
+          ]
+
+      passed_by : (c : ℕ) → IsPassed after home t c → AllByRecursion (Q c) (live_at falls_back home c)
+      passed_by c passed =
+          subst (AllByRecursion (Q c)) (sym (implicit_alone falls_back home c passed.implicit))
+          ((turn c (home.value c) t (subst J (sym passed.nothing) j)).1, tt)
+
+-- what follows where a call ends well
+pub on_ok : {X E : Type 0} (A B : Type 0) → (A → B) → (r : Result X E) → OnOk r A → OnOk r B
 on_ok A B f (Ok x) h = f h
 on_ok A B f (Err e) h = tt
-
--- so one visit is the walk over what is live with its character
-pub implicit_walk : {S : Type 0} (after : S → Data → ℕ → ℕ → S) (v w : S) (falls_back : Bool) (home : Data) (c e : ℕ) → e ≡ home.value c → kind_of e ≡ Implicit
-    → w ≡ after v home c e → w ≡ after_all after v home c (live_at falls_back home c)
-implicit_walk after v w falls_back home c e at is h =
-    subst (λ es. w ≡ after_all after v home c es) (sym (implicit_alone falls_back home c (subst (λ e. kind_of e ≡ Implicit) at is))) (subst (λ e. w ≡ after v home c e) at h)
-
-pub implicit_visit : {S X E : Type 0} (after : S → Data → ℕ → ℕ → S) (v w : S) (falls_back : Bool) (home : Data) (c e : ℕ) → e ≡ home.value c → kind_of e ≡ Implicit → (r : Result X E)
-    → OnOk r (w ≡ after v home c e) → OnOk r (w ≡ after_all after v home c (live_at falls_back home c))
-implicit_visit after v w falls_back home c e at is = on_ok _ _ (implicit_walk after v w falls_back home c e at is)

@@ -1,10 +1,10 @@
 -- The entries that reading a text may come to from an entry. Prefixes lead to contractions, those to digits, and digits to final
 -- entries, so there are three layers. Where an entry leads to one that it may not lead to, that one is live, and opens nothing. An index
 -- outside its table reads as the empty context, or as entry 0, as it does where texts are read.
-use Rattle.std.specs.Prelude.{ℕ, Bool, ◌&&◌, ◌==◌, List, [], ◌∷◌, map, flat_map, if◌then◌else◌}
+use Rattle.std.specs.Prelude.{ℕ, Bool, true, false, ◌&&◌, ◌==◌, List, [], ◌∷◌, map, flat_map, if◌then◌else◌}
 use Rattle.std.specs.Char.{IsScalar}
-use Rattle.std.specs.List.{AllByRecursion}
-use Rattle.icu_entries.specs.declared.entry.EntryKind.TheVariants.{Prefix, Contraction, Digit}
+use Rattle.std.specs.List.{AllByRecursion, list_any}
+use Rattle.icu_entries.specs.declared.entry.EntryKind.TheVariants.{Prefix, Contraction, Digit, Offset, Implicit}
 use Rattle.icu_entries.specs.Entries.{fallback_entry, kind_of}
 use Rattle.icu_data.specs.Data.{Row, Context, Data, homed, context_of, plain_of}
 
@@ -33,6 +33,15 @@ live_from home e =
 -- stands for it, and it has none.
 abbrev pub live_at : Bool → Data → ℕ → List ℕ
 live_at falls_back home c = if falls_back && home.value c == fallback_entry then [] else live_from home (home.value c)
+
+-- What the entry gives goes by its character: a weight that is counted from that of another, or an implicit one (UTS #10, section
+-- 10.1). Any other entry gives the same with each character.
+unfoldable pub goes_by_character : ℕ → Bool
+goes_by_character e = elim (kind_of e) [ Offset ↦ true | Implicit ↦ true | _ ↦ false ]
+
+-- such an entry is live from this one
+unfoldable pub leads_to_character : Data → ℕ → Bool
+leads_to_character home e = list_any goes_by_character (live_from home e)
 
 -- what holds of each pair of a character and an entry that is live with it
 abbrev pub EachLive : (ℕ → ℕ → Type 0) → Bool → Data → Type 0

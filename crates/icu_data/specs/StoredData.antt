@@ -1,5 +1,5 @@
 -- What a root or a tailoring says, as it is stored.
-use Rattle.std.specs.Prelude.{ℕ, List, map}
+use Rattle.std.specs.Prelude.{ℕ, List, map, slice_index}
 use Rattle.icu_data.specs.declared.code_point_table.CodePointTable.{CodePointTable}
 use Rattle.icu_data.specs.declared.context.ContextTable.{ContextTable}
 use Rattle.icu_data.specs.declared.context.FoundContext.{FoundContext}
@@ -13,6 +13,10 @@ use Rattle.icu_data.specs.Contexts.{rows_of, stored_contexts}
 -- the function from characters to values that a code point table is
 abbrev pub table_value : CodePointTable → ℕ → ℕ
 table_value t = stored_value t.blocks.now t.values.now
+
+-- the number of its block that 64 code points share
+abbrev pub table_block : CodePointTable → ℕ → ℕ
+table_block t i = slice_index t.blocks.now i
 
 -- the contexts of a context table, one that was looked up, and a row of one
 abbrev pub contexts_of : ContextTable → List Context
@@ -28,6 +32,9 @@ found_row r = record { chars = r.chars.now; entry = r.entry }
 abbrev pub data_by : CodePointTable → List ℕ → List ℕ → ContextTable → Data
 data_by trie ces ce32s contexts =
     record { value = table_value trie; elements = map element_of ces; entries = ce32s; contexts = contexts_of contexts }
+
+abbrev pub block_in : CollationData → ℕ → ℕ
+block_in d i = table_block d.trie i
 
 unfoldable pub data_of : CollationData → Data
 data_of d = data_by d.trie d.ces.now d.ce32s.now d.contexts

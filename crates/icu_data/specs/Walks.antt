@@ -1,18 +1,37 @@
 -- A walk over the entries that are live with characters.
-use Rattle.std.specs.Prelude.{ℕ, zero, suc, Bool, List, [], ◌∷◌, ◌++◌, fold, if◌then◌else◌}
-use Rattle.std.proofs.Math.Utf8.{scalar}
+use Rattle.std.specs.Prelude.{ℕ, ◌≡◌, ◌⊎◌, Bool, false, List, fold}
+use Rattle.std.specs.Char.{IsScalar}
+use Rattle.std.specs.List.{AllByRecursion, Contains}
+use Rattle.icu_entries.specs.declared.entry.EntryKind.TheVariants.{Implicit}
+use Rattle.icu_entries.specs.Entries.{kind_of}
 use Rattle.icu_data.specs.Data.{Data}
-use Rattle.icu_data.specs.Live.{live_at}
+use Rattle.icu_data.specs.Live.{live_at, leads_to_character}
 
 -- what a visitor is after entries that are live with a character, in order
 abbrev pub after_all : {V : Type 0} → (V → Data → ℕ → ℕ → V) → V → Data → ℕ → List ℕ → V
 after_all after v home c es = fold (λ v e. after v home c e) v es
 
--- the characters below n
-unfoldable pub chars_below : ℕ → List ℕ
-chars_below zero = []
-chars_below (suc n) = chars_below n ++ (if scalar n then n ∷ [] else [])
-
 -- what a visitor is after the entries that are live with each of these characters, in order
 abbrev pub after_chars : {V : Type 0} → (V → Data → ℕ → ℕ → V) → Bool → V → Data → List ℕ → V
 after_chars after falls_back v home cs = fold (λ v c. after_all after v home c (live_at falls_back home c)) v cs
+
+-- One of these characters stands for a character: it has its entry, and nothing that is live from there goes by the character, unless
+-- it is that character.
+pub record StandsFor (home : Data) (cs : List ℕ) (c : ℕ) : Type 0 where
+  pub other : ℕ
+  pub among : Contains cs other
+  pub same_entry : home.value other ≡ home.value c
+  pub same : (leads_to_character home (home.value c) ≡ false) ⊎ (other ≡ c)
+
+-- the character has an implicit weight, and a visit of its entry changes nothing
+pub record IsPassed {V : Type 0} (after : V → Data → ℕ → ℕ → V) (home : Data) (v : V) (c : ℕ) : Type 0 where
+  pub implicit : kind_of (home.value c) ≡ Implicit
+  pub nothing : after v home c (home.value c) ≡ v
+
+-- A visitor went from one state to another by visits of entries that are live, in any order and any number of times: for each character
+-- another one stands whose entries were visited, or it is passed.
+pub record Walked {V : Type 0} (after : V → Data → ℕ → ℕ → V) (falls_back : Bool) (home : Data) (old new : V) : Type 0 where
+  pub chars : List ℕ
+  pub scalars : AllByRecursion IsScalar chars
+  pub adds_up : new ≡ after_chars after falls_back old home chars
+  pub each : (c : ℕ) → IsScalar c → StandsFor home chars c ⊎ IsPassed after home new c

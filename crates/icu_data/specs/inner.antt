@@ -2,3 +2,5 @@
 pub mod Visitors
 pub mod AddedRows
 pub mod AddedBlocks
+pub mod BlockWalks
+pub mod VisitedEntries

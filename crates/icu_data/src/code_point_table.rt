@@ -1,5 +1,5 @@
 //! Entries by character.
-ghost use Rattle.std.specs.Prelude.{◌≡◌, ◌↔◌, IsOk, IfOk, IfErr};
+ghost use Rattle.std.specs.Prelude.{◌≡◌, ◌<◌, ◌↔◌, IsOk, IfOk, IfErr};
 ghost use Rattle.icu_data.specs.CodePointTables.{IsCodePointTable, FailsBlocks, stored_value};
 
 use icu_entries::DataErrorKind;
@@ -23,7 +23,7 @@ pub struct CodePointTable<'d> {
 }
 
 impl<'d> CodePointTable<'d> {
-    ghost use Rattle.icu_data.specs.StoredData.{table_value};
+    ghost use Rattle.icu_data.specs.StoredData.{table_value, table_block};
 
     /// Borrows the blocks and the values. Refuses with `Length` if there are not 17408 blocks or the values don't come in
     /// whole blocks of 64, and with `Index` if a block number lies past them.
@@ -48,6 +48,14 @@ impl<'d> CodePointTable<'d> {
     {
         let code = c as usize;
         self.values[self.blocks[code / BLOCK_LEN] as usize * BLOCK_LEN + code % BLOCK_LEN]
+    }
+
+    /// The number of the block that 64 code points share, from `64 * index` on.
+    pub(crate) fn block(self, index: usize) -> u16
+        requires { index < 17408 }
+        ensures { result ≡ table_block self.entry index }
+    {
+        self.blocks[index]
     }
 
     /// The blocks and the values, as `new` takes them.

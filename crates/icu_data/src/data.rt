@@ -25,7 +25,7 @@ pub struct CollationData<'d> {
 }
 
 impl<'d> CollationData<'d> {
-    ghost use Rattle.icu_data.specs.StoredData.{data_of, data_by, found_context};
+    ghost use Rattle.icu_data.specs.StoredData.{data_of, data_by, found_context, block_in};
 
     /// Borrows a root or a tailoring whose entries nothing has checked. Its look-ups ask their callers for what they need, so that it
     /// does no harm; `new` checks the entries.
@@ -88,12 +88,28 @@ impl<'d> CollationData<'d> {
         (self.trie, self.ces, self.ce32s, self.contexts)
     }
 
+    /// The number of the block that 64 code points share, from `64 * index` on.
+    pub(crate) fn block(self, index: usize) -> u16
+        requires { index < 17408 }
+        ensures { result ≡ block_in self.entry index }
+    {
+        self.trie.block(index)
+    }
+
     /// The entry of a character.
     #[tactic(auto, unfolding(crate::specs::StoredData::data_of))]
     pub fn ce32_for_char(self, c: char) -> CollationElement32
         ensures { result ≡ (data_of self.entry).value c }
     {
         CollationElement32::new(self.trie.get(c))
+    }
+
+    /// The same as its 32 bits.
+    #[tactic(auto, unfolding(crate::specs::StoredData::data_of))]
+    pub(crate) fn bits_for_char(self, c: char) -> u32
+        ensures { result ≡ (data_of self.entry).value c }
+    {
+        self.trie.get(c)
     }
 
     /// The entry at an index of the list of entries.

@@ -3,6 +3,7 @@
 #![tactic(auto)]
 
 mod added_context;
+pub mod block_walk;
 mod blocks;
 pub mod code_point_table;
 pub mod context;
@@ -16,6 +17,7 @@ pub mod live_condition;
 pub mod live_weights;
 mod prefix_rows;
 pub mod violation;
+mod visited_entries;
 pub mod walk;
 
 pub use code_point_table::CodePointTable;

@@ -79,6 +79,9 @@ impl Judge for EntryJudge {
         home.first_failing(c, entry)
     }
 
+    #[tactic(auto, using(crate::proofs::CharacterLemmas::failing_alike))]
+    fn is_alike(&self) {}
+
     #[tactic(auto, using(crate::proofs::ImplicitLemmas::implicit_passes))]
     fn passes_implicit(&self) -> bool {
         true

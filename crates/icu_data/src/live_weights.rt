@@ -1,16 +1,18 @@
 //! The weights of the elements of live entries, collected.
-ghost use Rattle.std.specs.Prelude.{◌≡◌, ◌↔◌, ◌⊎◌, ℕ, true, List, Option, OnOk, IsTrue};
+ghost use Rattle.std.specs.Prelude.{◌≡◌, ◌↔◌, ◌⊎◌, ℕ, Bool, true, false, Option, None, OnOk, IsTrue};
 ghost use Rattle.std.specs.List.{Contains};
-ghost use Rattle.icu_entries.specs.Elements.{Element};
+ghost use Rattle.std.specs.List.Sorted.{IsStrictlyIncreasing};
+ghost use Rattle.icu_entries.specs.Elements.{Element, of_primary};
 ghost use Rattle.icu_data.specs.Live.{live_from};
 ghost use Rattle.icu_data.specs.StoredData.{data_of};
 ghost use Rattle.icu_data.specs.DataConditions.{is_readable};
 ghost use Rattle.icu_data.specs.LiveWeights.{is_stated, IsWeightAmong, IsLiveWeight};
-ghost use Rattle.icu_data.specs.inner.Visitors.{is_last, with_weight, collected, collected_at};
+ghost use Rattle.icu_data.specs.inner.Visitors.{is_last, holds, and_weight, collected, collected_at};
 
+use crate::block_walk::{goes_by_character, visit_chars};
 use crate::data::CollationData;
 use crate::element_walk::{VisitElement, visit_elements};
-use crate::walk::{Visit, visit_chars, visit_from};
+use crate::walk::{Visit, visit_from};
 use icu_entries::{CollationElement, CollationElement32, EntryKind};
 use std::alloc::AllocError;
 use std::mem::replace;
@@ -23,6 +25,14 @@ pub trait Weigh {
     /// The weight of an element, if it is collected.
     fn weight(&self, element: CollationElement) -> Option<u32>
         ensures { result ≡ weight self.now element };
+
+    /// Whether a weight of an element with a primary weight and common weights below may be collected, as those of entries that go by
+    /// their character are. `true` leaves that open.
+    fn weighs_primaries(&self) -> bool
+        ensures { result ≡ false → (p : ℕ) → weight self.now (of_primary p) ≡ None }
+    {
+        true
+    }
 }
 
 #[tactic(auto, unfolding(crate::specs::inner::Visitors::is_last))]
@@ -35,13 +45,38 @@ fn is_last(weights: &[u32], weight: u32) -> bool
     }
 }
 
-#[tactic(auto, unfolding(crate::specs::inner::Visitors::with_weight))]
-fn add_weight(weights: &mut Vec<u32>, weight: u32) -> Result<(), AllocError>
-    ensures { OnOk result (weights.new.items ≡ with_weight weights.old.items weight) }
+/// Puts weights in ascending order, each once.
+pub fn sort_and_dedup(weights: &mut Vec<u32>)
+    ensures ascending { IsStrictlyIncreasing weights.new.items }
+    ensures members { (w : ℕ) → Contains weights.new.items w ↔ Contains weights.old.items w }
 {
-    if !is_last(weights, weight) {
-        weights.push(weight)?;
+    weights.sort_unstable();
+    weights.dedup();
+}
+
+/// Makes room for one more weight. Where the list is full, each stays once, and it grows only where more than half of it is
+/// different weights: so it has room for at most four times as many as are different.
+fn make_room(weights: &mut Vec<u32>) -> Result<(), AllocError>
+    ensures { OnOk result ((w : ℕ) → Contains weights.new.items w ↔ Contains weights.old.items w) }
+{
+    if weights.len() < weights.capacity() {
+        return Ok(());
     }
+    sort_and_dedup(weights);
+    if weights.capacity() / 2 < weights.len() {
+        weights.reserve(weights.len())?;
+    }
+    Ok(())
+}
+
+fn add_weight(weights: &mut Vec<u32>, weight: u32) -> Result<(), AllocError>
+    ensures { OnOk result (holds weights.new.items ≡ and_weight (holds weights.old.items) weight) }
+{
+    if is_last(weights, weight) {
+        return Ok(());
+    }
+    make_room(weights)?;
+    weights.push(weight)?;
     Ok(())
 }
 
@@ -81,9 +116,9 @@ impl<'w, W: Weigh> Collector<'w, W> {
 impl<'w, W: Weigh> VisitElement for Collector<'w, W> {
     type Refusal = AllocError;
 
-    ghost Seen = { W × List ℕ };
+    ghost Seen = { W × (ℕ → Bool) };
 
-    ghost seen = { λ v. (v.weigh.now, v.weights.items) };
+    ghost seen = { λ v. (v.weigh.now, holds v.weights.items) };
 
     ghost after = { collected W.weight };
 
@@ -98,9 +133,9 @@ impl<'w, W: Weigh> VisitElement for Collector<'w, W> {
 impl<'w, W: Weigh> Visit for Collector<'w, W> {
     type Refusal = AllocError;
 
-    ghost Seen = { W × List ℕ };
+    ghost Seen = { W × (ℕ → Bool) };
 
-    ghost seen = { λ v. (v.weigh.now, v.weights.items) };
+    ghost seen = { λ v. (v.weigh.now, holds v.weights.items) };
 
     ghost after = { collected_at W.weight };
 
@@ -111,6 +146,9 @@ impl<'w, W: Weigh> Visit for Collector<'w, W> {
         c: char,
         entry: CollationElement32,
     ) -> Result<(), AllocError> {
+        if goes_by_character(entry) && !self.weigh.weighs_primaries() {
+            return Ok(());
+        }
         if is_stated(home, c, entry) {
             visit_elements(self, home, c, entry)
         } else {

@@ -1,15 +1,16 @@
 //! The first violation of the entries that are live in a root or a tailoring, by a judge of each.
-ghost use Rattle.std.specs.Prelude.{◌≡◌, ◌↔◌, ◌⊎◌, ℕ, true, Option, IfSome, None, Some};
+ghost use Rattle.std.specs.Prelude.{◌≡◌, ◌↔◌, ◌⊎◌, ℕ, true, false, Option, IfSome, None, Some};
 ghost use Rattle.std.specs.List.{AllByRecursion};
 ghost use Rattle.icu_entries.specs.Entries.{kind_of};
 ghost use Rattle.icu_data.specs.Data.{Data};
-ghost use Rattle.icu_data.specs.Live.{live_from, live_at, EachLive};
+ghost use Rattle.icu_data.specs.Live.{goes_by_character, live_from, live_at, EachLive};
 ghost use Rattle.icu_data.specs.StoredData.{data_of};
 ghost use Rattle.icu_data.specs.Violations.{earlier, ComesFirst, IsViolationAmong, IsLiveViolation};
 ghost use Rattle.icu_data.specs.inner.Visitors.{judged};
 
+use crate::block_walk::visit_chars;
 use crate::data::CollationData;
-use crate::walk::{Visit, visit_chars, visit_from};
+use crate::walk::{Visit, visit_from};
 use icu_entries::{CollationElement32, EntryKind};
 use std::convert::Infallible;
 
@@ -39,6 +40,10 @@ pub trait Judge {
         entry: CollationElement32,
     ) -> Option<Self::Violation>
         ensures { result ≡ violation self.now (data_of home.entry) c entry };
+
+    /// The violation of an entry that doesn't go by its character is the same with each character.
+    fn is_alike(&self)
+        ensures { (home : Data) (c d e : ℕ) → goes_by_character e ≡ false → violation self.now home c e ≡ violation self.now home d e };
 
     /// Whether no entry for an implicit weight (UTS #10, section 10.1) has a violation, so that a walk may pass over the million
     /// characters that have one. `false` leaves that open.
@@ -110,6 +115,7 @@ pub fn first_violation<J: Judge>(
     ensures some { IfSome result (λ f. (first ≡ Some f) ⊎ IsLiveViolation (J.violation judge.now) falls_back (data_of home.entry) f) }
     ensures least { IfSome result (λ f. ComesFirst J.Violation.rank f first × EachLive (λ c e. ComesFirst J.Violation.rank f (J.violation judge.now (data_of home.entry) c e)) falls_back (data_of home.entry)) }
 {
+    judge.is_alike();
     let mut visitor = FirstViolation { judge, first };
     match visit_chars(&mut visitor, home, falls_back) {
         Ok(()) => visitor.first,

@@ -1,10 +1,10 @@
 //! A walk over the entries that are live with characters: one for all that is asked of them.
-ghost use Rattle.std.specs.Prelude.{◌≡◌, ℕ, ◌<◌, true, OnOk};
+ghost use Rattle.std.specs.Prelude.{◌≡◌, ℕ, true, OnOk};
 ghost use Rattle.icu_entries.specs.Entries.{kind_of};
 ghost use Rattle.icu_data.specs.Data.{Data};
-ghost use Rattle.icu_data.specs.Live.{live_digit, live_contraction, live_from, live_at};
+ghost use Rattle.icu_data.specs.Live.{live_digit, live_contraction, live_from};
 ghost use Rattle.icu_data.specs.StoredData.{data_of, found_context};
-ghost use Rattle.icu_data.specs.Walks.{after_all, after_chars, chars_below};
+ghost use Rattle.icu_data.specs.Walks.{after_all};
 ghost use Rattle.icu_data.specs.inner.Visitors.{after_rows};
 
 use crate::context::FoundContext;
@@ -126,44 +126,4 @@ pub fn visit_from<V: Visit>(
     } else {
         visit_contraction(visitor, home, c, entry)
     }
-}
-
-/// Visits each entry that is live with a character of the code point table. With `falls_back`, as in a tailoring, fallback entries
-/// are passed over.
-fn visit_char<V: Visit>(
-    visitor: &mut V,
-    home: CollationData<'_>,
-    c: char,
-    falls_back: bool,
-) -> Result<(), V::Refusal>
-    ensures { OnOk result (V.seen visitor.new ≡ after_all V.after (V.seen visitor.old) (data_of home.entry) c (live_at falls_back (data_of home.entry) c)) }
-{
-    let entry = home.ce32_for_char(c);
-    // nearly all entries of a root, which lead to nothing else
-    if entry.is_implicit() {
-        if visitor.passes_implicit() {
-            return Ok(());
-        }
-        return visitor.visit(home, c, entry);
-    }
-    if falls_back && entry.is_fallback() {
-        return Ok(());
-    }
-    visit_from(visitor, home, c, entry)
-}
-
-/// Visits each entry that is live with each character.
-pub fn visit_chars<V: Visit>(
-    visitor: &mut V,
-    home: CollationData<'_>,
-    falls_back: bool,
-) -> Result<(), V::Refusal>
-    ensures { OnOk result (V.seen visitor.new ≡ after_chars V.after falls_back (V.seen visitor.old) (data_of home.entry) (chars_below 0x110000)) }
-{
-    for code in 0..0x110000u32 {
-        if let Some(c) = char::from_u32(code) {
-            visit_char(visitor, home, c, falls_back)?;
-        }
-    }
-    Ok(())
 }

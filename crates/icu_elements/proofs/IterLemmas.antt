@@ -1,5 +1,5 @@
 -- What is left of an iterator of elements, at each progress, and of the reader that it reads by.
-use Rattle.std.proofs.Common.{◌≡◌, ℕ, ◌+◌, ◌<◌, ◌≤◌, List, [], ◌∷◌, ◌++◌, ◌-◌, length, length-drop, drop, get_or, Option, Some, None, unwrap_or, Result, Ok, Err, IfOk, refl, sym, ap, ap₂, subst, ◌∙◌, arith}
+use Rattle.std.proofs.Common.{◌≡◌, ℕ, ◌+◌, ◌<◌, ◌≤◌, List, [], ◌∷◌, ◌++◌, ◌-◌, length, length-drop, drop, get_or, Option, Some, None, unwrap_or, append_assoc, refl, sym, ap, ap₂, subst, ◌∙◌, arith}
 use Rattle.std.specs.Prelude.{option_to_list}
 use Rattle.std.proofs.lemmas.List.{drop_more}
 use Rattle.std.proofs.Math.ListN.{drop_of_length-le}
@@ -7,8 +7,9 @@ use Rattle.std.specs.Iterator.{Count}
 use Rattle.unicode_normalization.specs.Decompositions.{CanDecompose}
 use Rattle.icu_entries.specs.Elements.{Element, end_element}
 use Rattle.icu_elements.specs.declared.element_reader.ElementReader.{ElementReader}
+use Rattle.icu_elements.specs.declared.reader.TextReading.{TextReading}
 use Rattle.icu_elements.specs.declared.reader.position.Position.{Position}
-use Rattle.icu_elements.specs.declared.iter.Progress.TheVariants.{Unread, Read, Refused}
+use Rattle.icu_elements.specs.declared.iter.Progress.TheVariants.{Reading, Refused}
 use Rattle.icu_elements.specs.declared.iter.CollationElements.{CollationElements}
 use Rattle.icu_elements.specs.TextElements.{elements_after}
 use Rattle.icu_elements.specs.CollationElements.{HasSource, IsLeftAt, StillGives, IsReadyAt, CanGive, first_of, rest_of}
@@ -18,30 +19,22 @@ use Rattle.icu_elements.specs.inner.ReadyElements.{ready_elements, IsFilled}
 use Rattle.icu_elements.proofs.StepLemmas.{elements_after_nil}
 
 module _ {I : Type 0} (steps : I → Option ℕ → I → Type 0) (s : CollationElements I) (es : List Element) where
-  pub HasSource-StillGives : s.progress ≡ Unread → StillGives steps s es → HasSource steps s es
+  pub HasSource-StillGives : s.progress ≡ Reading → StillGives steps s es → HasSource steps s es
   unfolding StillGives
   HasSource-StillGives e h = subst (λ p. IsLeftAt p steps s es) e h
 
-  pub StillGives-source : s.progress ≡ Unread → HasSource steps s es → StillGives steps s es
+  pub StillGives-source : s.progress ≡ Reading → HasSource steps s es → StillGives steps s es
   unfolding StillGives
   StillGives-source e h = subst (λ p. IsLeftAt p steps s es) (sym e) h
 
-  pub left-StillGives : s.progress ≡ Read → StillGives steps s es → es ≡ elements_to_come s.reader
-  unfolding StillGives
-  left-StillGives e h = subst (λ p. IsLeftAt p steps s es) e h
-
-  pub StillGives-left : s.progress ≡ Read → es ≡ elements_to_come s.reader → StillGives steps s es
-  unfolding StillGives
-  StillGives-left e h = subst (λ p. IsLeftAt p steps s es) (sym e) h
-
 module _ {I : Type 0} (can : I → Type 0) (left : I → Count) (s : CollationElements I) where
-  pub CanDecompose-CanGive : s.progress ≡ Unread → CanGive can left s → CanDecompose can left s.source
+  pub CanDecompose-CanGive : s.progress ≡ Reading → CanGive can left s → CanDecompose can left s.source
   unfolding CanGive
   CanDecompose-CanGive e h = subst (λ p. IsReadyAt p can left s) e h
 
-  pub CanGive-read : s.progress ≡ Read → CanGive can left s
+  pub CanGive-reading : s.progress ≡ Reading → CanDecompose can left s.source → CanGive can left s
   unfolding CanGive
-  CanGive-read e = subst (λ p. IsReadyAt p can left s) (sym e) tt
+  CanGive-reading e h = subst (λ p. IsReadyAt p can left s) (sym e) h
 
   pub CanGive-refused : s.progress ≡ Refused → CanGive can left s
   unfolding CanGive
@@ -50,20 +43,13 @@ module _ {I : Type 0} (can : I → Type 0) (left : I → Count) (s : CollationEl
 -- ---- the first of what is left
 
 -- an element that is given, or none where none is left, is the first, and the others are left
-pub first_given : (es before after : List Element) (o : Option Element) → es ≡ before → before ≡ option_to_list o ++ after → (o ≡ None → before ≡ [])
-    → (unwrap_or o end_element ≡ first_of es) × (after ≡ rest_of es)
-first_given es before after (Some x) e split end = let all : es ≡ x ∷ after = e ∙ split in rw all (refl, refl)
-first_given es before after None e split end =
-    let none : es ≡ [] = e ∙ end refl in
-    let left : after ≡ [] = sym split ∙ end refl in
-    rw none (refl, left)
-
--- the same, where a call may fail
-pub given_ok : {E : Type 0} (es before after : List Element) (r : Result (Option Element) E) → es ≡ before
-    → IfOk r (λ o. before ≡ option_to_list o ++ after) → IfOk r (λ o. o ≡ None → before ≡ [])
-    → IfOk r (λ o. (unwrap_or o end_element ≡ first_of es) × (after ≡ rest_of es))
-given_ok es before after (Ok o) e split end = first_given es before after o e split end
-given_ok es before after (Err x) e split end = tt
+pub first_given : (es before after others : List Element) (o : Option Element) → es ≡ before ++ others → before ≡ option_to_list o ++ after → (o ≡ None → es ≡ [])
+    → (unwrap_or o end_element ≡ first_of es) × (rest_of es ≡ after ++ others)
+first_given es before after others (Some x) e split end =
+    let all : es ≡ x ∷ (after ++ others) = e ∙ ap (λ (l : List Element). l ++ others) split in (sym (ap first_of all), ap rest_of all)
+first_given es before after others None e split end =
+    let none : es ≡ [] = end refl in
+    let left : [] ≡ after ++ others = sym none ∙ e ∙ ap (λ (l : List Element). l ++ others) split in (sym (ap first_of none), ap rest_of none ∙ left)
 
 -- where none was read ahead, those of the text are left
 pub none_ready : (xs ys : List Element) → xs ≡ [] → drop 0 xs ++ ys ≡ ys
@@ -78,19 +64,23 @@ one_step r es fs p past none h =
 
 -- where one stands ready, it is the first
 pub first_ready : (r : ElementReader) (e : Element) → r.next < length r.ready.elements.items → e ≡ get_or r.ready.elements.items r.next e
-    → elements_to_come r ≡ e ∷ (drop (r.next + 1) r.ready.elements.items ++ elements_left r.reading r.position)
-unfolding elements_to_come
-first_ready r e inside is =
-    ap (λ (l : List Element). l ++ elements_left r.reading r.position)
-    (drop_more r.ready.elements.items r.next e inside ∙ ap (λ x. x ∷ drop (r.next + 1) r.ready.elements.items) (sym is))
+    → ready_elements r ≡ e ∷ drop (r.next + 1) r.ready.elements.items
+first_ready r e inside is = drop_more r.ready.elements.items r.next e inside ∙ ap (λ x. x ∷ drop (r.next + 1) r.ready.elements.items) (sym is)
 
 -- where none does, none is left
-pub none_left : (r : ElementReader) → IsFilled r → length r.ready.elements.items ≤ r.next → elements_to_come r ≡ []
+pub none_left : (r : ElementReader) → IsFilled r → ready_elements r ≡ [] → elements_to_come r ≡ []
 unfolding elements_to_come
-none_left r filled past =
-    let none : ready_elements r ≡ [] = drop_of_length-le r.ready.elements.items past in
+none_left r filled none =
     ap₂ (λ (l : List Element) (cs : List ℕ). l ++ elements_after (reading_by_tables r.reading) (consumed_last r.position) cs) none (filled none)
     ∙ elements_after_nil (reading_by_tables r.reading) (consumed_last r.position)
+
+-- where some were taken of those that stood ready, the others and those of the text are left
+pub others_left : (r s : ElementReader) (es : List Element) → ready_elements r ≡ es ++ ready_elements s → s.position ≡ r.position → s.reading ≡ r.reading → elements_to_come r ≡ es ++ elements_to_come s
+unfolding elements_to_come
+others_left r s es is same same_reading =
+    ap₂ (λ (l : List Element) (p : Position). l ++ elements_left r.reading p) is (sym same)
+    ∙ ap (λ (t : TextReading). (es ++ ready_elements s) ++ elements_left t s.position) (sym same_reading)
+    ∙ append_assoc es (ready_elements s) (elements_left s.reading s.position)
 
 pub filled_ready : (r : ElementReader) → r.next < length r.ready.elements.items → IsFilled r
 filled_ready r inside = λ none.

@@ -5,6 +5,10 @@ pub mod SourceLemmas
 pub mod ReadableLemmas
 pub mod LiveTextLemmas
 pub mod StepLemmas
+pub mod EnoughLemmas
+pub mod ReadsAheadLemmas
+pub mod AheadLemmas
+pub mod StreamLemmas
 pub mod ReaderLemmas
 pub mod DigitLemmas
 pub mod Computing

@@ -84,7 +84,7 @@ Rests-step reading before c text =
 -- ---- texts
 
 -- any list that is long enough will do to go by
-elements_along-enough : (reading : Reading) (along others before text : List ℕ) → length text ≤ length along → length text ≤ length others → elements_along along reading before text ≡ elements_along others reading before text
+pub elements_along-enough : (reading : Reading) (along others before text : List ℕ) → length text ≤ length along → length text ≤ length others → elements_along along reading before text ≡ elements_along others reading before text
 unfolding elements_along
 elements_along-enough reading along others before [] fits fit = refl
 elements_along-enough reading [] others before (c ∷ text) fits fit = absurd (omega arith)

@@ -4,24 +4,18 @@ use Rattle.std.specs.Iterator.{Count}
 use Rattle.unicode_normalization.specs.Decompositions.{CanDecompose}
 use Rattle.icu_entries.specs.Elements.{Element, end_element}
 use Rattle.icu_elements.specs.declared.iter.Progress.{Progress}
-use Rattle.icu_elements.specs.declared.iter.Progress.TheVariants.{Unread, Read, Refused}
+use Rattle.icu_elements.specs.declared.iter.Progress.TheVariants.{Reading, Refused}
 use Rattle.icu_elements.specs.declared.iter.CollationElements.{CollationElements}
-use Rattle.icu_elements.specs.TextElements.{elements_of}
-use Rattle.icu_elements.specs.ElementReaders.{elements_to_come}
-use Rattle.icu_elements.specs.inner.Iterating.{StillReads}
-use Rattle.icu_elements.specs.inner.Positions.{reading_by_tables}
+use Rattle.icu_elements.specs.inner.ReadyElements.{ready_elements}
+use Rattle.icu_elements.specs.inner.Streams.{HasElements}
 
--- decomposed characters are still to come from the source, and these are their elements
-pub record HasSource {I : Type 0} (steps : I → Option ℕ → I → Type 0) (s : CollationElements I) (es : List Element) : Type 0 where
-  pub text : List ℕ
-  pub source : StillReads steps s.source text
-  pub elements : es ≡ elements_of (reading_by_tables s.reader.reading) text
+-- these elements are to come: those that stand ready, and those of the text that is left and of what its source has
+abbrev pub HasSource : {I : Type 0} → (I → Option ℕ → I → Type 0) → CollationElements I → List Element → Type 0
+HasSource steps s es = HasElements steps s.reader.reading s.source s.reader.position (ready_elements s.reader) es
 
--- Before the source was read, these are the elements of what it has; then they are those that the reader has yet to give. After an
--- allocation failed no element comes.
+-- After an allocation failed no element comes.
 abbrev pub IsLeftAt : {I : Type 0} → Progress → (I → Option ℕ → I → Type 0) → CollationElements I → List Element → Type 0
-IsLeftAt Unread steps s es = HasSource steps s es
-IsLeftAt Read steps s es = es ≡ elements_to_come s.reader
+IsLeftAt Reading steps s es = HasSource steps s es
 IsLeftAt Refused steps s es = es ≡ []
 
 -- these elements are still to come, and then the end element for ever, unless an allocation fails
@@ -29,11 +23,10 @@ unfoldable pub StillGives : {I : Type 0} → (I → Option ℕ → I → Type 0)
 StillGives steps s es = IsLeftAt s.progress steps s es
 
 abbrev pub IsReadyAt : {I : Type 0} → Progress → (I → Type 0) → (I → Count) → CollationElements I → Type 0
-IsReadyAt Unread can left s = CanDecompose can left s.source
-IsReadyAt Read can left s = ⊤
+IsReadyAt Reading can left s = CanDecompose can left s.source
 IsReadyAt Refused can left s = ⊤
 
--- it may be called: so may its source, while that is still to be read
+-- it may be called: so may its source, as long as no allocation failed
 unfoldable pub CanGive : {I : Type 0} → (I → Type 0) → (I → Count) → CollationElements I → Type 0
 CanGive can left s = IsReadyAt s.progress can left s
 

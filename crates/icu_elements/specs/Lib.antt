@@ -18,6 +18,7 @@ pub use Rattle.icu_checks.specs.LiveElements
 pub use Rattle.icu_matches.specs.Matches
 pub use Rattle.icu_matches.specs.GoodEntries
 pub mod TextElements
+pub mod ReadAhead
 pub mod Reading
 pub mod ElementReaders
 pub mod CollationElements

@@ -1,6 +1,8 @@
 -- Words of private contracts and proofs only: no public contract names them.
 pub mod Readable
 pub mod Iterating
+pub mod ReadsAhead
 pub mod Positions
 pub mod Digits
 pub mod ReadyElements
+pub mod Streams

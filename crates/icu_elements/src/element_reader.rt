@@ -14,16 +14,16 @@ use std::alloc::AllocError;
 #[derive(Drop)]
 pub struct ElementReader<'d> {
     pub(crate) reading: TextReading<'d>,
-    position: Position,
-    ready: ElementList,
-    next: usize,
+    pub(crate) position: Position,
+    pub(crate) ready: ElementList,
+    pub(crate) next: usize,
 }
 
 impl<'d> ElementReader<'d> {
     ghost use Rattle.icu_elements.specs.TextElements.{elements_of};
     ghost use Rattle.icu_elements.specs.Reading.{reading_of};
     ghost use Rattle.icu_elements.specs.ElementReaders.{elements_to_come};
-    ghost use Rattle.icu_elements.specs.inner.Positions.{reading_by_tables, unread_at};
+    ghost use Rattle.icu_elements.specs.inner.Positions.{reading_by_tables, consumed_last, unread_at};
     ghost use Rattle.icu_elements.specs.inner.ReadyElements.{ready_elements, IsFilled};
 
     /// Reads a text in canonical decomposition (UAX #15), by these tables. `numeric_primary` is the
@@ -49,6 +49,9 @@ impl<'d> ElementReader<'d> {
     /// The same, by what says how texts are read.
     pub(crate) fn at_start(reading: TextReading<'d>, text: Vec<char>) -> ElementReader<'d>
         ensures reading { result.reading ≡ reading.entry }
+        ensures ready { ready_elements result ≡ [] }
+        ensures before { consumed_last result.position ≡ [] }
+        ensures unread { unread_at result.position ≡ text.items }
         ensures elements { elements_to_come result
             ≡ elements_of (reading_by_tables reading.entry) text.items }
     {
@@ -90,11 +93,11 @@ impl<'d> ElementReader<'d> {
     }
 
     /// The first of the elements that stand ready.
-    fn take_ready(&mut self) -> Option<CollationElement>
-        requires { IsFilled self.old }
-        ensures next { elements_to_come self.old
-            ≡ option_to_list result ++ elements_to_come self.new }
-        ensures end { result ≡ None → elements_to_come self.old ≡ [] }
+    pub(crate) fn take_ready(&mut self) -> Option<CollationElement>
+        ensures next { ready_elements self.old ≡ option_to_list result ++ ready_elements self.new }
+        ensures end { result ≡ None → ready_elements self.old ≡ [] }
+        ensures position { self.new.position ≡ self.old.position }
+        ensures reading { self.new.reading ≡ self.old.reading }
     {
         if self.next >= self.ready.elements.len() {
             return None;

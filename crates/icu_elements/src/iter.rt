@@ -1,6 +1,6 @@
 //! The elements of a text, one by one.
 
-ghost use Rattle.std.specs.Prelude.{◌≡◌, ℕ, List, unwrap_or, IsErr, IfOk, OnOk, OnErr};
+ghost use Rattle.std.specs.Prelude.{◌≡◌, ℕ, List, [], unwrap_or, IsErr, IfOk, OnOk, OnErr};
 ghost use Rattle.std.specs.Iterator.{IsFinite};
 ghost use Rattle.icu_entries.specs.Elements.{Element, end_element};
 ghost use Rattle.unicode_normalization.specs.Decompositions.{CanDecompose};
@@ -8,8 +8,8 @@ ghost use Rattle.unicode_normalization.specs.Forms.{nfd};
 ghost use Rattle.unicode_normalization.specs.Iter.{Spells};
 
 use crate::element_reader::ElementReader;
-use crate::read::whole_text;
 use crate::reader::TextReading;
+use crate::reader::stream::stream_step;
 use crate::tables::ElementTables;
 use icu_entries::CollationElement;
 use std::alloc::AllocError;
@@ -18,12 +18,12 @@ use unicode_normalization::Decompositions;
 /// How far the reading has come.
 #[derive(Debug, Clone, Copy, PartialEq, Eq)]
 enum Progress {
-    Unread,
-    Read,
+    Reading,
     Refused,
 }
 
-/// The collation elements of a text, one by one (UTS #10, section 7.2).
+/// The collation elements of a text, one by one (UTS #10, section 7.2). The delegate is read no further than the next element
+/// asks: as far as its contraction or its number may go on, and as far as marks may change places by decomposition.
 #[derive(Drop)]
 pub struct CollationElements<'d, I> {
     source: Decompositions<I>,
@@ -34,11 +34,9 @@ pub struct CollationElements<'d, I> {
 impl<'d, I: Iterator<Item = char> + Drop> CollationElements<'d, I> {
     ghost use Rattle.icu_elements.specs.TextElements.{elements_of};
     ghost use Rattle.icu_elements.specs.Reading.{reading_of};
-    ghost use Rattle.icu_elements.specs.CollationElements.{StillGives, CanGive, IsRefused};
+    ghost use Rattle.icu_elements.specs.CollationElements.{StillGives, CanGive, IsRefused, HasSource};
     ghost use Rattle.icu_elements.specs.CollationElements.{first_of, rest_of};
-    ghost use Rattle.icu_elements.specs.ElementReaders.{elements_to_come};
-    ghost use Rattle.icu_elements.specs.inner.Positions.{reading_by_tables};
-    ghost use Rattle.icu_elements.specs.inner.Iterating.{StillReads};
+    ghost use Rattle.icu_elements.specs.inner.ReadyElements.{ready_elements};
 
     /// Reads the text that `delegate` spells, by these tables. `numeric_primary` is the lead byte of
     /// numbers, where digits are read as numbers. With `lithuanian_dot_above`, U+0307 before a
@@ -65,7 +63,7 @@ impl<'d, I: Iterator<Item = char> + Drop> CollationElements<'d, I> {
         CollationElements {
             source: Decompositions::new_canonical(alloc, delegate),
             reader: ElementReader::at_start(reading, Vec::new(alloc)),
-            progress: Progress::Unread,
+            progress: Progress::Reading,
         }
     }
 
@@ -94,32 +92,43 @@ impl<'d, I: Iterator<Item = char> + Drop> CollationElements<'d, I> {
         requires { CanGive I.can_next I.remaining self.old }
         ensures gives { (es : List Element) → StillGives I.next_gives self.old es
             → IfOk result (λ next. (unwrap_or next end_element ≡ first_of es)
-            × (elements_to_come self.new.reader ≡ rest_of es)) }
-        ensures is_read { OnOk result (self.new.progress ≡ Progress.Read) }
+            × HasSource I.next_gives self.new (rest_of es)) }
+        ensures ready { OnOk result (CanDecompose I.can_next I.remaining self.new.source) }
+        ensures is_reading { OnOk result (self.new.progress ≡ Progress.Reading) }
         ensures refused { IsRefused self.old → IsErr result }
     {
         match self.progress {
             Progress::Refused => Err(AllocError),
-            Progress::Unread => {
-                self.load()?;
-                self.reader.next()
+            Progress::Reading => {
+                self.fill()?;
+                Ok(self.reader.take_ready())
             }
-            Progress::Read => self.reader.next(),
         }
     }
 
-    /// Takes the decomposed text from the source.
-    fn load(&mut self) -> Result<(), AllocError>
+    /// Reads on, step by step, until an element stands ready, or none is left.
+    fn fill(&mut self) -> Result<(), AllocError>
         requires { CanDecompose I.can_next I.remaining self.old.source }
-        ensures elements { (cs : List ℕ) → StillReads I.next_gives self.old.source cs
-            → OnOk result (elements_to_come self.new.reader
-            ≡ elements_of (reading_by_tables self.old.reader.reading) cs) }
-        ensures is_read { OnOk result (self.new.progress ≡ Progress.Read) }
+        ensures ready { OnOk result (CanDecompose I.can_next I.remaining self.new.source) }
+        ensures gives { (es : List Element) → HasSource I.next_gives self.old es
+            → OnOk result (HasSource I.next_gives self.new es) }
+        ensures filled { (es : List Element) → HasSource I.next_gives self.old es
+            → OnOk result (ready_elements self.new.reader ≡ [] → es ≡ []) }
+        ensures progress { OnOk result (self.new.progress ≡ self.old.progress) }
     {
-        let reading = self.reader.reading;
-        let text = whole_text(reading.tables.allocator(), &mut self.source)?;
-        self.reader = ElementReader::at_start(reading, text);
-        self.progress = Progress::Read;
+        'steps: while self.reader.next >= self.reader.ready.elements.len() {
+            self.reader.next = 0;
+            self.reader.ready.elements.clear();
+            let reader = &mut self.reader;
+            if !stream_step(
+                reader.reading,
+                &mut self.source,
+                &mut reader.position,
+                &mut reader.ready,
+            )? {
+                return Ok(());
+            }
+        }
         Ok(())
     }
 }

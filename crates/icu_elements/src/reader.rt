@@ -5,11 +5,13 @@ ghost use Rattle.std.specs.Prelude.{◌≡◌, IfOk};
 ghost use Rattle.icu_elements.specs.TextElements.{elements_of};
 ghost use Rattle.icu_elements.specs.inner.Positions.{reading_by_tables};
 
+mod ahead;
 mod digits;
 mod entries;
 pub(crate) mod position;
 pub(crate) mod recent;
 pub(crate) mod step;
+pub(crate) mod stream;
 
 use crate::element_list::ElementList;
 use crate::reader::position::Position;

@@ -3,6 +3,7 @@
 ghost use Rattle.std.specs.Prelude.{◌≡◌, ◌<◌, if◌then◌else◌, IfSome, Some, None};
 ghost use Rattle.icu_provider.specs.Tables.{entry_of, diacritic_of};
 ghost use Rattle.icu_data.specs.Data.{homed};
+ghost use Rattle.icu_entries.specs.Entries.{kind_of};
 ghost use Rattle.icu_data.specs.StoredData.{data_of};
 ghost use Rattle.icu_checks.specs.Checked.{checked_tables};
 ghost use Rattle.icu_matches.specs.GoodEntries.{IsGoodFrom};
@@ -77,6 +78,13 @@ impl<'d> ElementTables<'d> {
         ensures good { IsGoodFrom (data_of result.home) c result.ce32 }
     {
         self.found(c)
+    }
+
+    /// The kind of the entry of a character (UTS #35 part 5, section 3).
+    pub fn kind(self, c: char) -> EntryKind
+        ensures { result ≡ kind_of (entry_of (element_tables self.entry) c).entry }
+    {
+        self.entry(c).ce32.kind()
     }
 
     /// The digit of a character that goes on a number: no diacritic, and its own entry is a digit's.

@@ -1,3 +1,4 @@
+pub mod CutLemmas
 pub mod Latin1Lemmas
 pub mod ReadBackLemmas
 pub mod SpellLemmas

@@ -4,11 +4,15 @@
 //! are left. It does not allocate, has an answer for every input, and gives U+FFFD for what is no character.
 #![tactic(auto)]
 
+mod common_units;
+mod encoded_text;
 mod latin1;
 pub mod laws;
 mod utf16;
 mod utf8;
 
+pub use common_units::CommonUnits;
+pub use encoded_text::{Characters, EncodedText, Latin1Text, Utf8Text, Utf16Text};
 pub use latin1::{Latin1Chars, Latin1Iter};
 pub use utf8::utf8_chars;
 pub use utf16::Utf16Chars;

@@ -3,3 +3,4 @@
 mod callers;
 mod long;
 mod rows;
+mod taken_apart;

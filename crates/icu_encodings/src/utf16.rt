@@ -31,7 +31,7 @@ fn lone_char(unit: u16) -> char
 
 /// The first character and the units after it.
 #[inline]
-fn split_first_char(units: &[u16]) -> Option<(char, &[u16])>
+pub(crate) fn split_first_char(units: &[u16]) -> Option<(char, &[u16])>
     ensures { MatchOption result (utf16_text units.now ≡ [])
         (λ p. utf16_text units.now ≡ p.0 ∷ utf16_text p.1.now) }
 {

@@ -1,3 +1,4 @@
 pub mod GroupLemmas
 pub mod EntryLemmas
 pub mod NameLemmas
+pub mod InsertionLemmas

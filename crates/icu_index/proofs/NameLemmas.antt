@@ -1,5 +1,5 @@
 -- The order of names is that of their keys.
-use Rattle.std.proofs.Common.{◌≡◌, ℕ, ◌+◌, suc, List, [], ◌∷◌, length, sym, ap, ◌∙◌, subst}
+use Rattle.std.proofs.Common.{◌≡◌, ℕ, suc, List, [], ◌∷◌, length, sym, ap, ◌∙◌, subst}
 use Rattle.std.specs.declared.cmp.Ordering.{Ordering}
 use Rattle.icu_comparison.specs.declared.collator.CollatorBorrowed.{CollatorBorrowed}
 use Rattle.icu_comparison.specs.Collators.{tables_borrowed, settings_borrowed}
@@ -12,17 +12,13 @@ use Rattle.icu_index.specs.Listings.{name_order, inserted, equal_names}
 use Rattle.icu_index.specs.inner.Groups.{Group, key_of, added, names_in, IsKeyed}
 use Rattle.icu_index.proofs.GroupLemmas.{Ascend, found_at, added_is_inserted, added_keyed, found_are_equal, length_inserted}
 
--- the tables of a collator meet the conditions on all tables: a collator holds the proof
-tables_are_good : (c : CollatorBorrowed) → IsGoodTables (tables_borrowed c)
-tables_are_good c = c.tables.now.good
-
-pub names_keep : (c : CollatorBorrowed) (x y : List ℕ)
+pub names_keep : (c : CollatorBorrowed) → IsGoodTables (tables_borrowed c) → (x y : List ℕ)
     → name_order (tables_borrowed c) (settings_borrowed c) x y
     ≡ list_order (key_of (tables_borrowed c) (settings_borrowed c) x) (key_of (tables_borrowed c) (settings_borrowed c) y)
-names_keep c x y =
-    sym (keys_keep (tables_borrowed c) (tables_are_good c) (settings_borrowed c) (utf8_text x) (utf8_text y) (utf8_scalars x) (utf8_scalars y))
+names_keep c good x y =
+    sym (keys_keep (tables_borrowed c) good (settings_borrowed c) (utf8_text x) (utf8_text y) (utf8_scalars x) (utf8_scalars y))
 
-module _ (c : CollatorBorrowed) where
+module _ (c : CollatorBorrowed) (good : IsGoodTables (tables_borrowed c)) where
   abbrev order : List ℕ → List ℕ → Ordering
   order x y = name_order (tables_borrowed c) (settings_borrowed c) x y
 
@@ -36,7 +32,7 @@ module _ (c : CollatorBorrowed) where
     by_name = more ∙ (ap (λ x. added k (x ∷ []) old) is ∙ ap (λ l. added l (name ∷ []) old) keys)
 
     pub lists_one_more : names_in new ≡ inserted order name (names_in old)
-    lists_one_more = ap names_in by_name ∙ added_is_inserted order name key (names_keep c) old up keyed
+    lists_one_more = ap names_in by_name ∙ added_is_inserted order name key (names_keep c good) old up keyed
 
     pub still_keyed : IsKeyed key new
     still_keyed = subst (IsKeyed key) (sym by_name) (added_keyed key name old keyed)
@@ -47,4 +43,4 @@ module _ (c : CollatorBorrowed) where
   -- the names of a group
   pub lists_equal : (name k : List ℕ) → k ≡ key name → (gs : List Group) → Ascend gs → IsKeyed key gs
       → found_at k gs ≡ equal_names order name (names_in gs)
-  lists_equal name k keys gs up keyed = ap (λ l. found_at l gs) keys ∙ found_are_equal order name key (names_keep c) gs up keyed
+  lists_equal name k keys gs up keyed = ap (λ l. found_at l gs) keys ∙ found_are_equal order name key (names_keep c good) gs up keyed

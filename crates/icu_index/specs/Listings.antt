@@ -1,8 +1,10 @@
 -- The listing of names, by the order of texts and the order of insertion (UTS #10, section 1.1 on sorted lists, and section
 -- 7.4 "Compare Sort Keys").
-use Rattle.std.specs.Prelude.{ℕ, List, [], ◌∷◌, filter, if◌then◌else◌}
+use Rattle.std.specs.Prelude.{ℕ, List, [], ◌∷◌, filter, fold, if◌then◌else◌}
+use Rattle.std.specs.List.Sorted.{IsPermutation, IsSorted, IsStable}
 use Rattle.std.specs.Ordering.{is_eq, is_gt}
 use Rattle.std.specs.declared.cmp.Ordering.{Ordering}
+use Rattle.icu_checks.specs.GoodTables.{IsGoodTables}
 use Rattle.icu_encodings.specs.DecodedTexts.{utf8_text}
 use Rattle.icu_options.specs.Settings.{Settings}
 use Rattle.icu_provider.specs.CollatorTables.{CollatorTables}
@@ -20,3 +22,19 @@ inserted order name (x ∷ xs) = if is_gt (order x name) then name ∷ x ∷ xs 
 -- the names of a listing that compare Equal to a name
 abbrev pub equal_names : (List ℕ → List ℕ → Ordering) → List ℕ → List (List ℕ) → List (List ℕ)
 equal_names order name names = filter (λ x. is_eq (order x name)) names
+
+-- the listing of names that were inserted one after another, the first into a listing of none
+abbrev pub listed : (List ℕ → List ℕ → Ordering) → List (List ℕ) → List (List ℕ)
+listed order names = fold (λ sorted name. inserted order name sorted) [] names
+
+-- the same names in order, equal ones as they stood
+pub record IsStablySorted (order : List ℕ → List ℕ → Ordering) (names sorted : List (List ℕ)) : Type 0 where
+  pub permutation : IsPermutation names sorted
+  pub ascends : IsSorted order sorted
+  pub stable : IsStable order names sorted
+
+-- by any tables that meet the conditions and any settings, names that were inserted one after another are sorted
+abbrev pub InsertsSort : Type 0
+InsertsSort =
+    (all : CollatorTables) (settings : Settings) (names : List (List ℕ)) → IsGoodTables all
+    → IsStablySorted (name_order all settings) names (listed (name_order all settings) names)

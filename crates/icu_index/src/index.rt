@@ -74,6 +74,7 @@ impl<'a> NameIndex<'a> {
         ensures tables { index_tables self.new ≡ index_tables self.old }
         ensures settings { index_settings self.new ≡ index_settings self.old }
     {
+        self.collator.has_good_tables();
         let len = self.len.checked_add(1).ok_or(AllocError)?;
         let key = name_key(self.alloc, &self.collator, name)?;
         let name = name.to_vec(self.alloc)?;
@@ -111,6 +112,7 @@ impl<'a> NameIndex<'a> {
     pub fn equal_to(&self, name: &[u8]) -> Result<&[Vec<u8>], AllocError>
         ensures { IfOk result (λ names. map (λ n. n.items) names.now ≡ equal_names (index_order self.now) name.now (listing self.now)) }
     {
+        self.collator.has_good_tables();
         let key = name_key(self.alloc, &self.collator, name)?;
         match self.groups.get(&key) {
             Some(names) => Ok(names.as_slice()),

@@ -5,6 +5,7 @@
 mod groups;
 pub mod index;
 pub mod iter;
+pub mod laws;
 
 pub use index::NameIndex;
 pub use iter::NameIter;

@@ -1,11 +1,12 @@
 pub mod Writing
 pub mod RunSteps
-pub mod BytesLemmas
 pub mod LevelWriting
 pub mod QuaternaryLemmas
 pub mod IdenticalSteps
-pub mod PrimarySteps
 pub mod CaseSteps
 pub mod SegmentLemmas
 pub mod KeyWriting
 pub mod HeldLemmas
+pub mod PrimarySteps
+pub mod CommonSteps
+pub mod WeightSteps

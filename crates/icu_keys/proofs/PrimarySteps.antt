@@ -1,14 +1,16 @@
 -- The bytes of one primary.
-use Rattle.std.proofs.Common.{◌≡◌, ℕ, ◌<◌, ◌^◌, [], ◌∷◌, refl, arith, drop, get_or}
-use Rattle.std.specs.Int.{to_be_bytes, w32}
-use Rattle.icu_levels.specs.WeightBytes.{digits}
-use Rattle.icu_levels.specs.Primaries.{lead, below_lead}
+use Rattle.std.proofs.Common.{◌≡◌, ◌≢◌, ℕ, List, ◌++◌, refl, sym, ap, ap₂, ◌∙◌, append_assoc, ne_eqb}
+use Rattle.icu_levels.specs.WeightBytes.{weight_bytes}
+use Rattle.icu_levels.specs.Primaries.{lead, below_lead, lead_change, primary_bytes}
 
-three_alike : (a b c k l m : ℕ) → a ≡ k → b ≡ l → c ≡ m → a ∷ b ∷ c ∷ [] ≡ k ∷ l ∷ m ∷ []
-three_alike a b c k l m p q r = rw (p, q, r) refl
+other_lead : (d w : ℕ) → lead w ≢ d → primary_bytes d w ≡ lead_change d (lead w) ++ weight_bytes 4 w
+other_lead d w e = rw (ne_eqb (lead w) d e) refl
 
-pub below_lead_digits : (w : ℕ) → digits 256 3 (below_lead w) ≡ drop 1 (to_be_bytes w32 w)
-below_lead_digits w = three_alike _ _ _ _ _ _ (omega arith) (omega arith) (omega arith)
-
-pub lead_first : (w d : ℕ) → w < 2 ^ 32 → get_or (to_be_bytes w32 w) 0 0 ≡ d → lead w ≡ d
-lead_first w d l e = omega arith
+-- what is written of a primary with another lead than the dropped one, before the bytes below its lead
+pub other_lead_written : (d w n : ℕ) (change first : List ℕ) → n ≡ lead w → n ≢ d → change ≡ lead_change d n
+    → weight_bytes 4 w ≡ first ++ weight_bytes 3 (below_lead w)
+    → primary_bytes d w ≡ (change ++ first) ++ weight_bytes 3 (below_lead w)
+other_lead_written d w n change first e other p q =
+    other_lead d w (λ same. other (e ∙ same))
+    ∙ (ap₂ (λ (a b : List ℕ). a ++ b) (ap (lead_change d) (sym e) ∙ sym p) q
+    ∙ sym (append_assoc change first (weight_bytes 3 (below_lead w))))

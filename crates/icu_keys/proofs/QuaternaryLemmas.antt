@@ -1,15 +1,9 @@
 -- The bytes of quaternaries that are not common.
-use Rattle.std.proofs.Common.{◌≡◌, ℕ, ◌+◌, ◌-◌, ◌<◌, ◌≤◌, ◌^◌, suc, List, [], ◌∷◌, refl, sym, ap, ◌∙◌, arith}
+use Rattle.std.proofs.Common.{◌≡◌, ℕ, ◌+◌, ◌-◌, ◌<◌, ◌≤◌, ◌^◌, [], ◌∷◌, refl, ap, ◌∙◌, arith}
 use Rattle.std.proofs.lemmas.Bool.{lt-ltb, le-ltb}
-use Rattle.std.specs.Int.{to_be_bytes, w32}
-use Rattle.icu_levels.specs.WeightBytes.{weight_bytes, before_nonzero, without_last_zeros}
+use Rattle.icu_levels.specs.WeightBytes.{weight_bytes}
 use Rattle.icu_levels.specs.Primaries.{lead}
 use Rattle.icu_levels.specs.Quaternaries.{quaternary_bytes, shifted_bytes}
-use Rattle.icu_keys.proofs.BytesLemmas.{digits_four}
-
-pub before_positive : (x : ℕ) (xs : List ℕ) → before_nonzero (suc x) xs ≡ suc x ∷ xs
-before_positive x [] = refl
-before_positive x (y ∷ ys) = refl
 
 pub bits_spelled : (q : ℕ) → 0 < q → quaternary_bytes (2 ^ 32 + q) ≡ (0xFC + q) ∷ []
 bits_spelled q l = rw (lt-ltb (2 ^ 32) (2 ^ 32 + q) (omega arith)) (ap (λ x. x ∷ []) (difference q))
@@ -23,8 +17,5 @@ shifted_spelled p l = rw (le-ltb (2 ^ 32) p (omega arith)) refl
 pub low_spelled : (p : ℕ) → p < 0x1B000000 → quaternary_bytes p ≡ weight_bytes 4 p
 low_spelled p l = shifted_spelled p (omega arith) ∙ rw (lt-ltb (lead p) 0x1B (omega arith)) refl
 
-pub high_spelled : (p : ℕ) → 0x1B000000 ≤ p → p < 2 ^ 32 → quaternary_bytes p ≡ without_last_zeros (0x1B ∷ to_be_bytes w32 p)
-high_spelled p g l =
-    shifted_spelled p l
-    ∙ (rw (le-ltb (lead p) 0x1B (omega arith)) (sym (before_positive 0x1A (weight_bytes 4 p)))
-    ∙ ap (λ bs. without_last_zeros (0x1B ∷ bs)) (digits_four p l))
+pub high_spelled : (p : ℕ) → 0x1B000000 ≤ p → p < 2 ^ 32 → quaternary_bytes p ≡ 0x1B ∷ weight_bytes 4 p
+high_spelled p g l = shifted_spelled p l ∙ rw (le-ltb (lead p) 0x1B (omega arith)) refl

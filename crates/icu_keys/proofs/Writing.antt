@@ -73,6 +73,29 @@ module _ {X St E : Type 0} (took : X → St → List ℕ → X → St → Type 0
   feeds_writes x y s t b before after (Ok v) h w = record { front = b; taken = w; leaves = h }
   feeds_writes x y s t b before after (Err e) h w = λ rest. let g = fails_front x y s t b (after rest) e w in rw (h rest) g
 
+  -- a write of the sink's own, after a part of what is to be written was taken
+  pub brings_more : {R : Type 0} (x y z : X) (s t u : St) (b : List ℕ) (before middle after : R → List ℕ)
+      → ((y z : X) (t u : St) (b c : List ℕ) → took x s b y t → took y t c z u → took x s (b ++ c) z u)
+      → Brings took x s before middle y t → took y t b z u → ((rest : R) → middle rest ≡ b ++ after rest) → Brings took x s before after z u
+  brings_more x y z s t u b before middle after both w p h = record {
+    front = w.front ++ b;
+    taken = both y z t u w.front b w.taken p;
+    leaves = λ rest. w.leaves rest ∙ (ap (λ l. w.front ++ l) (h rest) ∙ sym (append_assoc w.front b (after rest)));
+  }
+
+  pub brings_fails : {R : Type 0} (x y z : X) (s t u : St) (b : List ℕ) (before middle after : R → List ℕ) (e : E)
+      → Brings took x s before middle y t → refused y t b e z u → ((rest : R) → middle rest ≡ b ++ after rest)
+      → (rest : R) → WriteFails took refused x s (before rest) e z u
+  brings_fails x y z s t u b before middle after e w p h rest =
+      record { sink = y; state = t; front = w.front; tried = b; rest = after rest; splits = w.leaves rest ∙ ap (λ l. w.front ++ l) (h rest); taken = w.taken; fails = p }
+
+  -- what a call returned that writes the rest
+  pub brings_written : {R O : Type 0} (x y z : X) (s t u : St) (before after : R → List ℕ) (rest : R) (r : Result O E)
+      → ((y z : X) (t u : St) (b c : List ℕ) → took x s b y t → took y t c z u → took x s (b ++ c) z u)
+      → Brings took x s before after y t → Writes took refused y t (after rest) r z u → Writes took refused x s (before rest) r z u
+  brings_written x y z s t u before after rest r both w p =
+      writes_same x z s u (before rest) (w.front ++ after rest) r (w.leaves rest) (writes_after x y z s t u w.front (after rest) r both w.taken p)
+
   -- the same call, where the rest of the level is said in other words
   pub feeds_mapped : {Q R : Type 0} (f : Q → R) (x y : X) (s t : St) (before after : R → List ℕ) (before' after' : Q → List ℕ) (r : Result Unit E)
       → ((q : Q) → before' q ≡ before (f q)) → ((q : Q) → after' q ≡ after (f q)) → Feeds took refused x s before after r y t → Feeds took refused x s before' after' r y t

@@ -1,6 +1,8 @@
 -- The bytes of a level that is held until its end, given what it is still to be fed.
-use Rattle.std.specs.Prelude.{◌&&◌, if◌then◌else◌, ℕ, ◌^◌, List, [], ◌++◌}
+use Rattle.std.specs.Prelude.{◌&&◌, if◌then◌else◌, ℕ, ◌^◌, List, [], ◌++◌, replicate}
 use Rattle.icu_levels.specs.Cases.{is_only, case_runs}
+use Rattle.icu_levels.specs.Tertiaries.{tertiary_runs}
+use Rattle.icu_levels.specs.declared.run_bytes.TheConstants.{SECONDARY_RUNS}
 use Rattle.icu_levels.specs.declared.forms.CaseForm.{CaseForm}
 use Rattle.icu_levels.specs.declared.forms.TertiaryForm.{TertiaryForm}
 use Rattle.icu_keys.specs.WriterRests.{secondary_rest, backward_rest, case_rest, case_form_of, tertiary_rest, tertiary_form_of, quaternary_rest}
@@ -10,9 +12,9 @@ use Rattle.icu_keys.specs.declared.held.cases.HeldCases.{HeldCases}
 use Rattle.icu_keys.specs.declared.held.tertiaries.HeldTertiaries.{HeldTertiaries}
 use Rattle.icu_keys.specs.declared.held.quaternaries.HeldQuaternaries.{HeldQuaternaries}
 
--- further secondaries
+-- further secondaries, after the common ones that are counted
 abbrev pub held_secondaries : HeldSecondaries → List ℕ → List ℕ
-held_secondaries l ws = l.bytes.items ++ secondary_rest l.writer ws
+held_secondaries l ws = l.bytes.items ++ secondary_rest l.writer (replicate l.commons SECONDARY_RUNS.common ++ ws)
 
 -- further secondaries of the segment at hand, and the segments after it, each in the order of the text
 abbrev pub held_segments : HeldSegments → List ℕ × List (List ℕ) → List ℕ
@@ -26,12 +28,13 @@ abbrev pub held_cases : HeldCases → List ℕ → List ℕ
 held_cases l ranks =
     if l.vanishes && is_only (case_runs (held_case_form l)).common ranks then [] else l.bytes.items ++ case_rest l.writer ranks
 
--- the form of the level, and further tertiaries as it has them
+-- the form of the level, and further tertiaries as it has them, after the common ones that are counted
 abbrev pub held_tertiary_form : HeldTertiaries → TertiaryForm
 held_tertiary_form l = tertiary_form_of l.writer
 
 abbrev pub held_tertiaries : HeldTertiaries → List ℕ → List ℕ
-held_tertiaries l ws = l.bytes.items ++ tertiary_rest l.writer ws
+held_tertiaries l ws =
+    l.bytes.items ++ tertiary_rest l.writer (replicate l.commons (tertiary_runs (held_tertiary_form l)).common ++ ws)
 
 -- further quaternaries: nothing is written where all before them is common and all of them is
 abbrev pub held_quaternaries : HeldQuaternaries → List ℕ → List ℕ

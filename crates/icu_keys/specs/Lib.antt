@@ -7,5 +7,7 @@ pub mod Cases
 pub mod QuaternaryWeights
 pub mod WriterRests
 pub mod HeldRests
+pub mod ThreeLists
+pub mod ThreeLevels
 pub mod Accumulated
 pub mod inner

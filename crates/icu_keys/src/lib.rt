@@ -23,7 +23,7 @@ pub mod secondaries;
 pub mod sink;
 pub mod slice_sink;
 pub mod tertiaries;
-mod weight_bytes;
+pub mod three_levels;
 mod writes;
 
 pub use error::SortKeyError;

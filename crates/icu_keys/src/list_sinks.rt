@@ -36,6 +36,12 @@ impl CollationKeySink for Vec<u8> {
         self.extend_from_slice(buf)
     }
 
+    #[inline]
+    fn write_byte(&mut self, _state: &mut (), byte: u8) -> Result<(), AllocError> {
+        self.push(byte)?;
+        Ok(())
+    }
+
     fn finish(&mut self, _state: ()) -> Result<(), AllocError> {
         Ok(())
     }
@@ -67,6 +73,12 @@ impl<const N: usize> CollationKeySink for SmallVec<u8, N> {
 
     fn write(&mut self, _state: &mut (), bytes: &[u8]) -> Result<(), AllocError> {
         self.extend_from_slice(bytes)
+    }
+
+    #[inline]
+    fn write_byte(&mut self, _state: &mut (), byte: u8) -> Result<(), AllocError> {
+        self.push(byte)?;
+        Ok(())
     }
 
     fn finish(&mut self, _state: ()) -> Result<(), AllocError> {
@@ -103,6 +115,12 @@ impl CollationKeySink for VecDeque<u8> {
         for byte in buf {
             self.push_back_reserved(*byte);
         }
+        Ok(())
+    }
+
+    #[inline]
+    fn write_byte(&mut self, _state: &mut (), byte: u8) -> Result<(), AllocError> {
+        self.push_back(byte)?;
         Ok(())
     }
 

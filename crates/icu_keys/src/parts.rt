@@ -9,7 +9,7 @@ use crate::error::SortKeyError;
 use crate::sink::CollationKeySink;
 
 /// The byte that opens a level, and closes one.
-const LEVEL: u8 = 1;
+pub(crate) const LEVEL: u8 = 1;
 
 /// Writes a level after the byte that opens it. An error is the sink's own.
 pub fn write_opened<S: CollationKeySink>(

@@ -1,12 +1,12 @@
 //! The primary level, compressed and reordered, written as it is fed.
 
-ghost use Rattle.std.specs.Prelude.{◌≡◌, ℕ, List, ◌∷◌, option_to_list};
-ghost use Rattle.icu_levels.specs.Primaries.{Compression, lead, lead_change, dropped_after, primary_bytes, primary_level};
+ghost use Rattle.std.specs.Prelude.{◌≡◌, ℕ, List, ◌∷◌, ◌++◌, option_to_list};
+ghost use Rattle.icu_levels.specs.Primaries.{Compression, lead, below_lead, lead_change, dropped_after, primary_bytes, primary_level};
+ghost use Rattle.icu_levels.specs.WeightBytes.{weight_bytes};
 ghost use Rattle.icu_keys.specs.Writes.{Writes, Feeds};
 
 use crate::sink::CollationKeySink;
-use crate::weight_bytes::trimmed;
-use crate::writes::write_after;
+use crate::writes::{write_both, write_three};
 
 /// How primaries are written: what reordering makes of each, and the weights of which leads are compressed (UTS #35
 /// part 5, "Collation Reordering", and "Root Collation Data Files" on lead bytes that compress).
@@ -50,7 +50,45 @@ fn lead_to_drop<C: PrimaryCompression>(compression: &C, weight: u32, reordered: 
     }
 }
 
+/// The lead of a reordered primary as it is written: not of 0, which has no bytes.
+fn written_lead(primary: u32) -> Option<u8>
+    ensures { weight_bytes 4 primary ≡ option_to_list result ++ weight_bytes 3 (below_lead primary) }
+{
+    if primary == 0 {
+        None
+    } else {
+        Some((primary / 0x100_0000) as u8)
+    }
+}
+
+/// Writes of a reordered primary, after weights whose lead is dropped, what stands before the bytes below its lead.
+#[inline(always)]
+fn write_lead<S: CollationKeySink>(
+    sink: &mut S,
+    state: &mut S::State,
+    dropped: u8,
+    primary: u32,
+) -> Result<(), S::Error>
+    requires { S.is_sound sink.old state.old }
+    ensures sound { S.is_sound sink.new state.new }
+    ensures bytes { Feeds S.took S.refused sink.old state.old
+        (λ (_ : Unit {0}). primary_bytes dropped primary) (λ _. weight_bytes 3 (below_lead primary))
+        result sink.new state.new }
+{
+    let new = (primary / 0x100_0000) as u8;
+    if new == dropped {
+        return Ok(());
+    }
+    write_both(
+        sink,
+        state,
+        change_of_lead(dropped, new),
+        written_lead(primary),
+    )
+}
+
 /// Writes a reordered primary after weights whose lead is dropped.
+#[inline(always)]
 fn write_primary<S: CollationKeySink>(
     sink: &mut S,
     state: &mut S::State,
@@ -62,13 +100,8 @@ fn write_primary<S: CollationKeySink>(
     ensures bytes { Writes S.took S.refused sink.old state.old (primary_bytes dropped primary)
         result sink.new state.new }
 {
-    let bytes = primary.to_be_bytes();
-    let new = bytes[0];
-    if new == dropped {
-        sink.write(state, trimmed(&bytes[1..]))
-    } else {
-        write_after(sink, state, change_of_lead(dropped, new), trimmed(&bytes))
-    }
+    write_lead(sink, state, dropped, primary)?;
+    write_three(sink, state, primary % 0x100_0000)
 }
 
 /// Writes the primary level of a text.
@@ -92,6 +125,7 @@ impl PrimaryWriter {
     }
 
     /// Writes the next weight, given as it is before reordering. An error is the sink's own.
+    #[inline(always)]
     pub fn push<S: CollationKeySink, C: PrimaryCompression>(
         &mut self,
         sink: &mut S,

@@ -1,14 +1,14 @@
 //! The quaternary level, written as it is fed.
 
-ghost use Rattle.std.specs.Prelude.{◌≡◌, ◌↔◌, IsTrue, ℕ, ◌+◌, ◌≤◌, ◌^◌, List, [], ◌∷◌};
+ghost use Rattle.std.specs.Prelude.{◌≡◌, ◌↔◌, IsTrue, ℕ, ◌+◌, ◌≤◌, ◌^◌, List, [], ◌∷◌, ◌++◌, option_to_list};
 ghost use Rattle.icu_levels.specs.declared.run_bytes.TheConstants.{QUATERNARY_RUNS};
-ghost use Rattle.icu_levels.specs.Quaternaries.{quaternary_runs};
+ghost use Rattle.icu_levels.specs.Quaternaries.{quaternary_bytes, quaternary_runs};
+ghost use Rattle.icu_levels.specs.WeightBytes.{weight_bytes};
 ghost use Rattle.icu_keys.specs.QuaternaryWeights.{weight_of};
 ghost use Rattle.icu_keys.specs.Writes.{Writes, Feeds};
 
 use crate::run::Run;
 use crate::sink::CollationKeySink;
-use crate::weight_bytes::trimmed;
 use icu_levels::run_bytes::QUATERNARY_RUNS;
 
 /// A weight of the quaternary level (UTS #10, "Variable Weighting").
@@ -32,10 +32,22 @@ impl QuaternaryWeight {
     }
 }
 
+/// What stands before the bytes of a shifted primary: 1B where its lead is 1B or more, so that none begins as a run
+/// does.
+fn before_shifted(primary: u32) -> Option<u8>
+    ensures { quaternary_bytes primary ≡ option_to_list result ++ weight_bytes 4 primary }
+{
+    if primary < 0x1B00_0000 {
+        None
+    } else {
+        Some(0x1B)
+    }
+}
+
 /// Writes the quaternary level of a text.
 ///
 /// It is fed the weights one at a time and closed at the end. A shifted primary stands after 1B where its lead is 1B or
-/// more. Where no element is shifted common weights alone are written as nothing, which only the end decides:
+/// more. In the unshifted form common weights alone are written as nothing, which only the end decides:
 /// `HeldQuaternaries` keeps that rule.
 #[derive(Clone, Copy, Debug, Drop)]
 pub struct QuaternaryWriter {
@@ -74,21 +86,14 @@ impl QuaternaryWriter {
                 } else {
                     let whole = QUATERNARY_RUNS.common + u64::from(bits);
                     self.run
-                        .write_other(&QUATERNARY_RUNS, sink, state, whole, &[0xFC + bits])
+                        .write_long(&QUATERNARY_RUNS, sink, state, whole, Some(0xFC + bits), 0)
                 }
             }
             QuaternaryWeight::Shifted(primary) => {
-                let bytes = primary.to_be_bytes();
                 let whole = u64::from(primary);
-                if primary < 0x1B00_0000 {
-                    self.run
-                        .write_other(&QUATERNARY_RUNS, sink, state, whole, trimmed(&bytes))
-                } else {
-                    let [lead, second, third, last] = bytes;
-                    let after = [0x1B, lead, second, third, last];
-                    self.run
-                        .write_other(&QUATERNARY_RUNS, sink, state, whole, trimmed(&after))
-                }
+                let first = before_shifted(primary);
+                self.run
+                    .write_long(&QUATERNARY_RUNS, sink, state, whole, first, primary)
             }
         }
     }

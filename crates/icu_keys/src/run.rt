@@ -1,11 +1,12 @@
 //! Runs of the common weight of a level, counted.
 
-ghost use Rattle.std.specs.Prelude.{◌≡◌, ◌≢◌, ℕ, suc, ◌≤◌, List, [], ◌∷◌, ◌++◌, option_to_list, IsTrue, IfSome, if◌then◌else◌};
+ghost use Rattle.std.specs.Prelude.{◌≡◌, ◌≢◌, ℕ, suc, ◌≤◌, List, [], ◌∷◌, ◌++◌, option_to_list, replicate, IsTrue, IfSome, if◌then◌else◌};
 ghost use Rattle.icu_levels.specs.Runs.{AreRunBytes, run_before_less, run_before_more, level_bytes};
+ghost use Rattle.icu_levels.specs.WeightBytes.{weight_bytes};
 ghost use Rattle.icu_keys.specs.Writes.{Writes, Feeds};
 
 use crate::sink::CollationKeySink;
-use crate::writes::{write_after, write_optional};
+use crate::writes::{write_long_after, write_optional, write_short_after};
 use icu_levels::run_bytes::RunBytes;
 
 /// The common weights that came last at a level, as far as no byte stands for them yet: at most a full count.
@@ -88,14 +89,70 @@ impl Run {
         write_optional(sink, state, due)
     }
 
-    /// Ends the run, and writes it and a weight that isn't common, given as its bytes.
-    pub fn write_other<S: CollationKeySink>(
+    /// Counts `more` common weights, and writes what they decide.
+    #[inline(always)]
+    pub fn write_commons<S: CollationKeySink>(
+        &mut self,
+        runs: &RunBytes,
+        sink: &mut S,
+        state: &mut S::State,
+        more: u32,
+    ) -> Result<(), S::Error>
+        requires sound { S.is_sound sink.old state.old }
+        requires runs { AreRunBytes runs.now }
+        requires bounded { self.old.length ≤ runs.now.count }
+        ensures sound { S.is_sound sink.new state.new }
+        ensures bounded { self.new.length ≤ runs.now.count }
+        ensures bytes { (spell : ℕ → List ℕ) → Feeds S.took S.refused sink.old state.old
+            (λ ws. level_bytes runs.now spell self.old.length (replicate more runs.now.common ++ ws))
+            (level_bytes runs.now spell self.new.length) result sink.new state.new }
+    {
+        let room = runs.count - self.length;
+        if more <= u32::from(room) {
+            self.length += more as u8;
+            return Ok(());
+        }
+        self.write_full_counts(runs, sink, state, more)
+    }
+
+    /// The same, where the run becomes longer than a full count.
+    #[cold]
+    #[inline(never)]
+    fn write_full_counts<S: CollationKeySink>(
+        &mut self,
+        runs: &RunBytes,
+        sink: &mut S,
+        state: &mut S::State,
+        more: u32,
+    ) -> Result<(), S::Error>
+        requires sound { S.is_sound sink.old state.old }
+        requires runs { AreRunBytes runs.now }
+        requires bounded { self.old.length ≤ runs.now.count }
+        ensures sound { S.is_sound sink.new state.new }
+        ensures bounded { self.new.length ≤ runs.now.count }
+        ensures bytes { (spell : ℕ → List ℕ) → Feeds S.took S.refused sink.old state.old
+            (λ ws. level_bytes runs.now spell self.old.length (replicate more runs.now.common ++ ws))
+            (level_bytes runs.now spell self.new.length) result sink.new state.new }
+    {
+        let full = u64::from(runs.count);
+        let mut left = u64::from(self.length) + u64::from(more);
+        while left > full {
+            sink.write_byte(state, runs.middle)?;
+            left -= full;
+        }
+        self.length = left as u8;
+        Ok(())
+    }
+
+    /// Ends the run, and writes it and a weight that isn't common, spelled as a weight of two bytes.
+    #[inline]
+    pub fn write_short<S: CollationKeySink>(
         &mut self,
         runs: &RunBytes,
         sink: &mut S,
         state: &mut S::State,
         weight: u64,
-        spelled: &[u8],
+        spelled: u16,
     ) -> Result<(), S::Error>
         requires sound { S.is_sound sink.old state.old }
         requires runs { AreRunBytes runs.now }
@@ -103,13 +160,41 @@ impl Run {
         requires other { weight ≢ runs.now.common }
         ensures sound { S.is_sound sink.new state.new }
         ensures bounded { self.new.length ≤ runs.now.count }
-        ensures bytes { (spell : ℕ → List ℕ) → spell weight ≡ spelled.now →
+        ensures bytes { (spell : ℕ → List ℕ) → spell weight ≡ weight_bytes 2 spelled →
             Feeds S.took S.refused sink.old state.old
             (λ ws. level_bytes runs.now spell self.old.length (weight ∷ ws))
             (level_bytes runs.now spell self.new.length) result sink.new state.new }
     {
         let last = self.end(runs, weight < runs.common);
-        write_after(sink, state, last, spelled)
+        write_short_after(sink, state, last, spelled)
+    }
+
+    /// Ends the run, and writes it and a weight that isn't common, spelled as a byte, where there is one, and then as a
+    /// weight of four bytes.
+    #[inline]
+    pub fn write_long<S: CollationKeySink>(
+        &mut self,
+        runs: &RunBytes,
+        sink: &mut S,
+        state: &mut S::State,
+        weight: u64,
+        first: Option<u8>,
+        spelled: u32,
+    ) -> Result<(), S::Error>
+        requires sound { S.is_sound sink.old state.old }
+        requires runs { AreRunBytes runs.now }
+        requires bounded { self.old.length ≤ runs.now.count }
+        requires other { weight ≢ runs.now.common }
+        ensures sound { S.is_sound sink.new state.new }
+        ensures bounded { self.new.length ≤ runs.now.count }
+        ensures bytes { (spell : ℕ → List ℕ) →
+            spell weight ≡ option_to_list first ++ weight_bytes 4 spelled →
+            Feeds S.took S.refused sink.old state.old
+            (λ ws. level_bytes runs.now spell self.old.length (weight ∷ ws))
+            (level_bytes runs.now spell self.new.length) result sink.new state.new }
+    {
+        let last = self.end(runs, weight < runs.common);
+        write_long_after(sink, state, last, first, spelled)
     }
 
     /// Ends the run at the end of the level, and writes it.

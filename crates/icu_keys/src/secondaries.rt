@@ -1,13 +1,12 @@
 //! The secondary level, written as it is fed.
 
-ghost use Rattle.std.specs.Prelude.{◌≡◌, ℕ, ◌≤◌, List, [], ◌∷◌};
+ghost use Rattle.std.specs.Prelude.{◌≡◌, ℕ, ◌≤◌, List, [], ◌∷◌, ◌++◌, replicate};
 ghost use Rattle.icu_levels.specs.declared.run_bytes.TheConstants.{SECONDARY_RUNS};
 ghost use Rattle.icu_levels.specs.Secondaries.{secondary_level};
 ghost use Rattle.icu_keys.specs.Writes.{Writes, Feeds};
 
 use crate::run::Run;
 use crate::sink::CollationKeySink;
-use crate::weight_bytes::trimmed;
 use icu_levels::run_bytes::SECONDARY_RUNS;
 
 /// Writes the secondary level of a text, or of one segment of a backward level whose weights come in reversed order.
@@ -47,10 +46,26 @@ impl SecondaryWriter {
         if whole == SECONDARY_RUNS.common {
             self.run.write_common(&SECONDARY_RUNS, sink, state)
         } else {
-            let bytes = weight.to_be_bytes();
             self.run
-                .write_other(&SECONDARY_RUNS, sink, state, whole, trimmed(&bytes))
+                .write_short(&SECONDARY_RUNS, sink, state, whole, weight)
         }
+    }
+
+    /// Writes what `more` common weights decide, 0500 each. An error is the sink's own.
+    #[inline(always)]
+    pub fn push_commons<S: CollationKeySink>(
+        &mut self,
+        sink: &mut S,
+        state: &mut S::State,
+        more: u32,
+    ) -> Result<(), S::Error>
+        requires { S.is_sound sink.old state.old }
+        ensures sound { S.is_sound sink.new state.new }
+        ensures bytes { Feeds S.took S.refused sink.old state.old
+            (λ ws. secondary_rest self.old (replicate more SECONDARY_RUNS.common ++ ws))
+            (secondary_rest self.new) result sink.new state.new }
+    {
+        self.run.write_commons(&SECONDARY_RUNS, sink, state, more)
     }
 
     /// Writes what is left at the end of the level. An error is the sink's own.
@@ -65,5 +80,21 @@ impl SecondaryWriter {
             result sink.new state.new }
     {
         self.run.write_end(&SECONDARY_RUNS, sink, state)
+    }
+
+    /// Writes what is left at the end of the level, where `more` common weights come last. An error is the sink's own.
+    pub(crate) fn close_after<S: CollationKeySink>(
+        mut self,
+        sink: &mut S,
+        state: &mut S::State,
+        more: u32,
+    ) -> Result<(), S::Error>
+        requires { S.is_sound sink.old state.old }
+        ensures sound { S.is_sound sink.new state.new }
+        ensures bytes { Writes S.took S.refused sink.old state.old
+            (secondary_rest self (replicate more SECONDARY_RUNS.common ++ [])) result sink.new state.new }
+    {
+        self.push_commons(sink, state, more)?;
+        self.close(sink, state)
     }
 }

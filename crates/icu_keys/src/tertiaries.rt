@@ -1,12 +1,11 @@
 //! The tertiary level in its three forms, written as it is fed.
 
-ghost use Rattle.std.specs.Prelude.{◌≡◌, ℕ, ◌<◌, ◌≤◌, ◌^◌, List, [], ◌∷◌};
+ghost use Rattle.std.specs.Prelude.{◌≡◌, ℕ, ◌<◌, ◌≤◌, ◌^◌, List, [], ◌∷◌, ◌++◌, replicate};
 ghost use Rattle.icu_levels.specs.Tertiaries.{tertiary_runs, moved_tertiary, tertiary_level};
 ghost use Rattle.icu_keys.specs.Writes.{Writes, Feeds};
 
 use crate::run::Run;
 use crate::sink::CollationKeySink;
-use crate::weight_bytes::trimmed;
 use icu_levels::forms::TertiaryForm;
 use icu_levels::run_bytes::{
     LOWER_FIRST_TERTIARY_RUNS, RunBytes, TERTIARY_RUNS, UPPER_FIRST_TERTIARY_RUNS,
@@ -74,6 +73,17 @@ impl TertiaryWriter {
         self.form
     }
 
+    /// The common weight of the form.
+    #[inline(always)]
+    pub(crate) fn common(&self) -> u16
+        ensures { result ≡ (tertiary_runs (tertiary_form_of self.now)).common }
+    {
+        match self.form {
+            TertiaryForm::UpperFirst => 0xC500,
+            _ => 0x0500,
+        }
+    }
+
     /// Writes what the next weight decides. An error is the sink's own.
     ///
     /// Weights of a form fit its moved leads: without case bits they are below 4000, with lower case first below C000.
@@ -96,10 +106,28 @@ impl TertiaryWriter {
         if whole == runs.common {
             self.run.write_common(&runs, sink, state)
         } else {
-            let bytes = moved(self.form, weight).to_be_bytes();
-            self.run
-                .write_other(&runs, sink, state, whole, trimmed(&bytes))
+            let spelled = moved(self.form, weight);
+            self.run.write_short(&runs, sink, state, whole, spelled)
         }
+    }
+
+    /// Writes what `more` common weights of the form decide. An error is the sink's own.
+    #[inline(always)]
+    pub fn push_commons<S: CollationKeySink>(
+        &mut self,
+        sink: &mut S,
+        state: &mut S::State,
+        more: u32,
+    ) -> Result<(), S::Error>
+        requires { S.is_sound sink.old state.old }
+        ensures sound { S.is_sound sink.new state.new }
+        ensures form { tertiary_form_of self.new ≡ tertiary_form_of self.old }
+        ensures bytes { Feeds S.took S.refused sink.old state.old
+            (λ ws. tertiary_rest self.old (replicate more (tertiary_runs (tertiary_form_of self.old)).common ++ ws))
+            (tertiary_rest self.new) result sink.new state.new }
+    {
+        let runs = runs_of(self.form);
+        self.run.write_commons(&runs, sink, state, more)
     }
 
     /// Writes what is left at the end of the level. An error is the sink's own.
@@ -115,5 +143,22 @@ impl TertiaryWriter {
     {
         let runs = runs_of(self.form);
         self.run.write_end(&runs, sink, state)
+    }
+
+    /// Writes what is left at the end of the level, where `more` common weights come last. An error is the sink's own.
+    pub(crate) fn close_after<S: CollationKeySink>(
+        mut self,
+        sink: &mut S,
+        state: &mut S::State,
+        more: u32,
+    ) -> Result<(), S::Error>
+        requires { S.is_sound sink.old state.old }
+        ensures sound { S.is_sound sink.new state.new }
+        ensures bytes { Writes S.took S.refused sink.old state.old
+            (tertiary_rest self (replicate more (tertiary_runs (tertiary_form_of self)).common ++ []))
+            result sink.new state.new }
+    {
+        self.push_commons(sink, state, more)?;
+        self.close(sink, state)
     }
 }

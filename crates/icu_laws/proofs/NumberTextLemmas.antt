@@ -22,15 +22,14 @@ use Rattle.icu_elements.specs.TextElements.{digit_of, elements_of, number_elemen
 use Rattle.icu_elements.specs.TextLaws.{IsText}
 use Rattle.icu_elements.proofs.DecomposedLemmas.{IsDecomposedText-nfd}
 use Rattle.icu_elements.proofs.ReadableLemmas.{good_readable}
-use Rattle.icu_order.specs.Forms.{compression_of, form_by, is_identical, last_variable_by}
-use Rattle.icu_order.specs.Handled.{HandledElement, handled, stayed_elements}
+use Rattle.icu_order.specs.Forms.{compression_of, form_by, is_identical}
+use Rattle.icu_order.specs.Handled.{handled, stayed_elements}
 use Rattle.icu_order.specs.Levels.{weights, primaries, level_lists}
 use Rattle.icu_order.specs.LiveWeights.{IsLivePrimary}
-use Rattle.icu_order.specs.TextOrder.{reading_by, lists_by, text_order}
+use Rattle.icu_order.specs.TextOrder.{reading_by, handled_elements, lists_by, text_order}
 use Rattle.icu_order.proofs.NumberLists.{number_all, run_leads}
 use Rattle.icu_order.proofs.PrimaryWeights.{live_primaries}
 use Rattle.icu_order.proofs.SpecialBounds.{numeric_low}
-use Rattle.icu_order.proofs.TextSources.{under}
 use Rattle.icu_laws.specs.NumberTexts.{IsNumberText, IsDigitText, digits_in}
 use Rattle.icu_laws.proofs.DigitTextLemmas.{digits_give, digits_decimal}
 use Rattle.icu_laws.proofs.EquivalentLemmas.{uncounted_tie}
@@ -53,11 +52,8 @@ module _ (all : CollatorTables) (good : IsGoodTables all) (settings : Settings) 
 
   -- ---- the primaries of a number
 
-  abbrev handled_elements : List Element → List HandledElement
-  handled_elements es = handled (last_variable_by all settings) false es
-
   abbrev primaries_of : List Element → List ℕ
-  primaries_of es = primaries (stayed_elements (handled_elements es))
+  primaries_of es = primaries (stayed_elements (handled_elements all settings false es))
 
   nothing : primaries_of [] ≡ []
   unfolding handled weights
@@ -67,7 +63,7 @@ module _ (all : CollatorTables) (good : IsGoodTables all) (settings : Settings) 
   number_primaries ds short =
       let ws = run_weights numeric ds in
       ap primaries_of (sym (append-nil (map of_primary ws)))
-      ∙ (number_all all good (last_variable_by all settings) (under all good settings) ws (run_leads numeric (numeric_low all good) ds short.digits) []
+      ∙ (number_all all good settings ws (run_leads numeric (numeric_low all good) ds short.digits) []
       ∙ (ap (λ (l : List ℕ). ws ++ l) nothing ∙ append-nil ws))
 
   -- numbers of one value have the same elements
@@ -79,7 +75,7 @@ module _ (all : CollatorTables) (good : IsGoodTables all) (settings : Settings) 
   -- ---- the order of two texts by their elements
 
   abbrev lists : List Element → List ℕ → LevelLists
-  lists es text = level_lists (reorder all) (form_by all settings) (handled_elements es) text
+  lists es text = level_lists (reorder all) (form_by all settings) (handled_elements all settings false es) text
 
   abbrev order_of : List Element → List Element → List ℕ → List ℕ → Ordering
   order_of es fs t u = levels_order (compression_of all) (form_by all settings) (lists es t) (lists fs u)

@@ -18,6 +18,7 @@ pub mod QuaternaryOrder
 pub mod CompressionOrder
 pub mod PieceLemmas
 pub mod PrimaryOrder
+pub mod FrontLemmas
 pub mod KeyOrder
 pub mod KeepLemmas
 pub mod MaximalRuns

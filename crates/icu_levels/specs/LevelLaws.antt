@@ -84,7 +84,7 @@ TertiariesKeepOrder IsLive =
     → (vs ws : List ℕ) → AllByRecursion IsLive vs → AllByRecursion IsLive ws
     → KeepOrder (tertiary_level form vs) (tertiary_level form ws) vs ws
 
--- where variable elements are shifted, any lists
+-- where variable elements may be shifted, any lists
 abbrev pub QuaternariesKeepOrder : (ℕ → Type 0) → Type 0
 QuaternariesKeepOrder IsLive =
     AreShifted IsLive

@@ -21,7 +21,7 @@ quaternary_bytes w = if nat_lt (2 ^ 32) w then (0xFC + w - 2 ^ 32) ∷ [] else s
 abbrev pub quaternary_runs : List ℕ → List ℕ
 quaternary_runs = level_bytes QUATERNARY_RUNS quaternary_bytes 0
 
--- the bytes of a level: where no element is shifted nothing is written for common weights alone
+-- the bytes of a level: in the unshifted form nothing is written for common weights alone
 abbrev pub quaternary_level : QuaternaryForm → List ℕ → List ℕ
 quaternary_level MayShift ws = quaternary_runs ws
 quaternary_level Unshifted ws = if is_only (2 ^ 32) ws then [] else quaternary_runs ws

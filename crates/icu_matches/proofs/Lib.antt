@@ -1,8 +1,10 @@
 pub mod ChoiceLemmas
 pub mod CommonLemmas
+pub mod DecidedLemmas
 pub mod LiveLemmas
 pub mod MarkLemmas
 pub mod MatchLemmas
 pub mod OrderLemmas
+pub mod ReadAheadLemmas
 pub mod RowLemmas
 pub mod TextLemmas

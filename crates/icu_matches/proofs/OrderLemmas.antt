@@ -42,10 +42,10 @@ pub same_lists : (xs ys : List ℕ) → bytes_eq xs ys ≡ true → xs ≡ ys
 same_lists xs ys h = (bytes_decides xs ys).0 h
 
 -- lists that begin alike come in the order of what follows
-same_head : (x : ℕ) (xs ys : List ℕ) → is_before (x ∷ xs) (x ∷ ys) ≡ is_before xs ys
+pub same_head : (x : ℕ) (xs ys : List ℕ) → is_before (x ∷ xs) (x ∷ ys) ≡ is_before xs ys
 same_head x xs ys = rw (le-ltb x x (omega arith), eq-eqb x x refl) refl
 
-not_before_head : (x y : ℕ) (xs ys : List ℕ) → is_before (x ∷ xs) (y ∷ ys) ≡ false → y ≤ x
+pub not_before_head : (x y : ℕ) (xs ys : List ℕ) → is_before (x ∷ xs) (y ∷ ys) ≡ false → y ≤ x
 not_before_head x y xs ys h = elim (cases_order x y) [
   | inl same ↦ omega (arith, same)
   | inr (inl less) ↦ absurd (false≢true (sym h ∙ rw (lt-ltb x y less) refl))

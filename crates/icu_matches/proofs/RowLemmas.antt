@@ -24,7 +24,8 @@ same_row o r s h k = same_value r s (sym h ∙ k)
 
 -- ---- rows that ascend
 
-ascends : (last : List ℕ) (rows : List Row) (j : ℕ) (b : Row) → ascend_from last rows ≡ true → slice_get rows j ≡ Some b → is_before last b.chars ≡ true
+-- the rows come after what they ascend from
+pub ascends : (last : List ℕ) (rows : List Row) (j : ℕ) (b : Row) → ascend_from last rows ≡ true → slice_get rows j ≡ Some b → is_before last b.chars ≡ true
 unfolding ascend_from
 ascends last [] j b h k = cc
 ascends last (x ∷ xs) zero b h k =

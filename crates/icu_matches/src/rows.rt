@@ -1,9 +1,10 @@
 //! Rows of a context, found by bisection: they ascend by the numbers of their characters, a list before those that it begins.
 
-ghost use Rattle.std.specs.Prelude.{◌≡◌, ◌<◌, ◌≤◌, IsTrue, IfSome, length, take};
+ghost use Rattle.std.specs.Prelude.{◌≡◌, ◌<◌, ◌≤◌, IsTrue, IfSome, length, not, take};
 ghost use Rattle.icu_data.specs.Contexts.{has_ascending_rows, is_before};
 ghost use Rattle.icu_data.specs.Data.{row_entry, longest_row};
 ghost use Rattle.icu_data.specs.StoredData.{found_context};
+ghost use Rattle.icu_matches.specs.ReadAhead.{are_decided};
 ghost use Rattle.icu_matches.specs.inner.Beginnings.{common};
 ghost use Rattle.icu_matches.specs.inner.Rows.{IsSplit, row_at};
 
@@ -67,7 +68,7 @@ fn common_len(row: &[char], text: &[char]) -> usize
 
 /// The index of the longest row that begins the text. Where the last row that doesn't come after the text doesn't begin it, each
 /// row that does begins that row too, so it begins what the two have in common.
-pub(crate) fn find_longest(context: FoundContext<'_>, text: &[char]) -> Option<usize>
+pub fn find_longest(context: FoundContext<'_>, text: &[char]) -> Option<usize>
     requires { IsTrue (has_ascending_rows (found_context context)) }
     ensures value { longest_row (found_context context.entry).rows text.now ≡ row_at (found_context context.entry).rows result }
     ensures inside { IfSome result (λ i. i < length (found_context context.entry).rows) }
@@ -84,4 +85,17 @@ pub(crate) fn find_longest(context: FoundContext<'_>, text: &[char]) -> Option<u
         }
         cut = &cut[..common_len(row.chars, cut)];
     }
+}
+
+/// Whether a row of a context goes on where the text ends, so that more of the text decides which row begins it. The first row after
+/// the text does, where any does.
+pub fn row_goes_on(context: FoundContext<'_>, text: &[char]) -> bool
+    requires { IsTrue (has_ascending_rows (found_context context)) }
+    ensures { result ≡ not (are_decided (found_context context.entry).rows text.now) }
+{
+    let next = rows_up_to(context, text);
+    if next >= context.len() {
+        return false;
+    }
+    context.row(next).chars.starts_with(text)
 }

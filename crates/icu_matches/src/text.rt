@@ -1,9 +1,11 @@
 //! The characters of a text that are still to be read.
 
-ghost use Rattle.std.specs.Prelude.{◌≡◌, ◌↔◌, ◌<◌, ◌≤◌, ◌+◌, ◌++◌, [], length, take, drop, slice_get, option_to_list, Some, None, true};
+ghost use Rattle.std.specs.Prelude.{◌≡◌, ◌↔◌, ◌<◌, ◌≤◌, ◌+◌, ◌∷◌, ◌++◌, [], length, take, drop, slice_get, option_to_list, Some, None, true, is_ok, if◌then◌else◌};
+
+use std::alloc::AllocError;
 
 /// A decomposed text, of which some characters were read: the others are still to be read, in order. Taking one out costs
-/// as many steps as characters stand before it, however long the text is. No call allocates.
+/// as many steps as characters stand before it, however long the text is. No call but `push` allocates.
 #[derive(Debug, Drop)]
 pub struct Text {
     chars: Vec<char>,
@@ -93,5 +95,30 @@ impl Text {
         self.chars[self.next..at + 1].rotate_right(1);
         self.next += 1;
         c
+    }
+
+    /// One more character comes after those that are still to be read. Room of those that were read is used again once they are as
+    /// many as the others, so that the text takes up to twice the room of what is still to be read. If an allocation fails, what is
+    /// still to be read is as it was.
+    #[tactic(auto, unfolding(crate::specs::Texts::unread))]
+    pub fn push(&mut self, c: char) -> Result<(), AllocError>
+        ensures { unread self.new ≡ (if is_ok result then unread self.old ++ c ∷ [] else unread self.old) }
+    {
+        if self.next >= self.chars.len() - self.next {
+            self.drop_read();
+        }
+        self.chars.push(c)?;
+        Ok(())
+    }
+
+    /// Lets go of the characters that were read.
+    #[tactic(auto, unfolding(crate::specs::Texts::unread))]
+    fn drop_read(&mut self)
+        ensures { unread self.new ≡ unread self.old }
+    {
+        let left = self.len();
+        self.chars.rotate_left(self.next);
+        self.chars.truncate(left);
+        self.next = 0;
     }
 }

@@ -24,6 +24,8 @@ pub enum AlternateHandling {
     NonIgnorable,
     /// They count at the quaternary level alone.
     Shifted,
+    /// They count at the identical level alone. Metadata never says so: only a caller's options do.
+    Blanked,
 }
 
 /// The last group of characters that are variable; the groups before it are so too.

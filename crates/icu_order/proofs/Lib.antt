@@ -18,3 +18,5 @@ pub mod Computing
 pub mod WorkedSettings
 mod WorkedTextKeys
 mod WorkedTextOrders
+pub mod AppendLemmas
+pub mod TailOrders

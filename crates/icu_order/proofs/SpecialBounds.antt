@@ -3,14 +3,15 @@ use Rattle.std.proofs.Common.{ℕ, ◌*◌, ◌-◌, ◌^◌, ◌<◌, ◌≤◌
 use Rattle.std.proofs.lemmas.Bool.{and_parts}
 use Rattle.std.proofs.lemmas.Bool.Decides.{nat_tests}
 use Rattle.std.proofs.lemmas.List.{get_or-take, length-take-le}
+use Rattle.icu_options.specs.Settings.{Settings}
 use Rattle.icu_options.specs.declared.settings.AlternateHandling.{AlternateHandling}
-use Rattle.icu_options.specs.declared.settings.AlternateHandling.TheVariants.{NonIgnorable, Shifted}
+use Rattle.icu_options.specs.declared.settings.AlternateHandling.TheVariants.{NonIgnorable, Shifted, Blanked}
 use Rattle.icu_options.specs.declared.settings.MaxVariable.{MaxVariable}
 use Rattle.icu_options.specs.declared.settings.MaxVariable.TheVariants.{Space, Punctuation, Symbol, Currency}
 use Rattle.icu_provider.specs.SpecialPrimaries.{IsSpecialPrimaries, ends_below, group_index, last_primary}
 use Rattle.icu_provider.specs.CollatorTables.{CollatorTables}
 use Rattle.icu_checks.specs.GoodTables.{IsGoodTables}
-use Rattle.icu_order.specs.Forms.{last_variable}
+use Rattle.icu_order.specs.Forms.{last_variable, last_variable_by}
 
 numeric_bounds : (last : List ℕ) (n : ℕ) → IsSpecialPrimaries last n → (3 ≤ n) × (n < 256)
 numeric_bounds last n special =
@@ -46,6 +47,10 @@ module _ (all : CollatorTables) (good : IsGoodTables all) where
       (subst (λ p. IsTrue (ends_below all.special.numeric p)) (get_or-take 4 last (group_index group) 0 (group_small group)) at)
 
   -- the variable groups end below the primaries of numbers
-  pub last_under : (handling : AlternateHandling) (group : MaxVariable) → last_variable all.special handling group < all.special.numeric * 256 ^ 3
+  last_under : (handling : AlternateHandling) (group : MaxVariable) → last_variable all.special handling group < all.special.numeric * 256 ^ 3
   last_under NonIgnorable group = let high = numeric_high in omega (arith, high)
   last_under Shifted group = group_under group
+  last_under Blanked group = group_under group
+
+  pub under : (settings : Settings) → last_variable_by all settings < all.special.numeric * 256 ^ 3
+  under settings = last_under settings.alternate_handling settings.max_variable

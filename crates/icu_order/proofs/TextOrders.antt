@@ -9,7 +9,7 @@ use Rattle.icu_options.specs.Metadata.{is_backward}
 use Rattle.icu_options.specs.declared.settings.Strength.{Strength}
 use Rattle.icu_options.specs.declared.settings.Strength.TheVariants.{Primary, Secondary, Tertiary, Quaternary, Identical}
 use Rattle.icu_options.specs.declared.settings.AlternateHandling.{AlternateHandling}
-use Rattle.icu_options.specs.declared.settings.AlternateHandling.TheVariants.{NonIgnorable, Shifted}
+use Rattle.icu_options.specs.declared.settings.AlternateHandling.TheVariants.{NonIgnorable, Shifted, Blanked}
 use Rattle.icu_options.specs.declared.settings.MaxVariable.{MaxVariable}
 use Rattle.icu_levels.specs.ListOrder.{list_order}
 use Rattle.icu_levels.specs.KeyLaws.{HaveSameLists}
@@ -36,7 +36,8 @@ use Rattle.icu_order.specs.LiveWeights.{IsLivePrimary, live_weights}
 use Rattle.icu_order.specs.TextLaws.{LevelsKeep}
 use Rattle.icu_order.proofs.HandledLemmas.{HoldsOf, handled_hold}
 use Rattle.icu_order.proofs.FormWeights.{weights_live}
-use Rattle.icu_order.proofs.TextSources.{IsSource, under, text_sources, text_stands}
+use Rattle.icu_order.proofs.SpecialBounds.{under}
+use Rattle.icu_order.proofs.TextSources.{IsSource, text_sources, text_stands}
 use Rattle.icu_order.proofs.ElementHalves.{variable_live}
 use Rattle.icu_order.proofs.TextMembers.{AreHandled, lists_live}
 use Rattle.icu_order.proofs.TextTies.{texts_parallel}
@@ -75,9 +76,10 @@ module _ (all : CollatorTables) (good : IsGoodTables all) (settings : Settings) 
 
   none_shifted : (handling : AlternateHandling) (s : Strength) (group : MaxVariable) (es : List Element) → AllByRecursion (IsSource all) es
       → quaternary_form s (handling_form handling) ≡ Some Unshifted
-      → AllByRecursion (HoldsOf (IsSource all) (λ p. ⊥)) (handled (last_variable all.special handling group) false es)
-  none_shifted NonIgnorable s group es h e = handled_hold (IsSource all) (λ p. ⊥) 0 (λ x _ v. none_variable x v) false es h
+      → AllByRecursion (HoldsOf (IsSource all) (λ p. ⊥)) (handled handling (last_variable all.special handling group) false es)
+  none_shifted NonIgnorable s group es h e = handled_hold (IsSource all) (λ p. ⊥) NonIgnorable 0 (λ x _ v. none_variable x v) false es h
   none_shifted Shifted s group es h e = absurd (never_unshifted s e)
+  none_shifted Blanked s group es h e = absurd (never_unshifted s e)
 
   text_handled : (cs : List ℕ) → AllByRecursion IsScalar cs → AreHandled all good (form_by all settings).quaternary (handled_by all settings (nfd cs))
   text_handled cs scalars =
@@ -85,7 +87,7 @@ module _ (all : CollatorTables) (good : IsGoodTables all) (settings : Settings) 
       let sources = text_sources all good settings cs scalars in
       record {
         primaries = text_stands all good settings cs scalars false;
-        members = handled_hold (IsSource all) (IsLivePrimary all) (last_variable_by all settings)
+        members = handled_hold (IsSource all) (IsLivePrimary all) settings.alternate_handling (last_variable_by all settings)
             (variable_live all good (last_variable_by all settings) (under all good settings)) false es sources;
         none_shifted = none_shifted settings.alternate_handling settings.strength settings.max_variable es sources;
       }

@@ -1,5 +1,5 @@
 -- Where the elements of a text come from, by tables that meet the conditions and by all settings.
-use Rattle.std.proofs.Common.{◌≡◌, ◌≢◌, ◌⊎◌, ℕ, ◌*◌, ◌^◌, ◌<◌, Bool, true, false, List, [], ◌∷◌, ◌++◌, Option, Some, None, IfSome, if◌then◌else◌, refl, sym, ◌∙◌, subst, inl, inr, append_assoc, append-nil}
+use Rattle.std.proofs.Common.{◌≡◌, ◌≢◌, ◌⊎◌, ℕ, ◌<◌, Bool, true, false, List, [], ◌∷◌, ◌++◌, Option, Some, None, IfSome, if◌then◌else◌, refl, sym, ◌∙◌, subst, inl, inr, append_assoc, append-nil}
 use Rattle.std.specs.Char.{IsScalar}
 use Rattle.std.specs.List.{AllByRecursion}
 use Rattle.unicode_normalization.specs.Forms.{nfd}
@@ -22,10 +22,9 @@ use Rattle.icu_elements.proofs.ReadableLemmas.{good_readable, readable_digits}
 use Rattle.icu_elements.proofs.SourceLemmas.{all_contained, all_live}
 use Rattle.icu_elements.proofs.LiveTextLemmas.{live_entry, good_tables_live}
 use Rattle.icu_elements.proofs.DecomposedLemmas.{IsDecomposedText-nfd}
-use Rattle.icu_order.specs.Forms.{last_variable_by}
 use Rattle.icu_order.specs.TextOrder.{reading_by}
 use Rattle.icu_order.specs.LiveWeights.{IsLivePrimary}
-use Rattle.icu_order.proofs.SpecialBounds.{numeric_low, last_under}
+use Rattle.icu_order.proofs.SpecialBounds.{numeric_low}
 use Rattle.icu_order.proofs.NumberLists.{Stands, nothing_stands, run_leads, all_stand, run_stand}
 
 -- ---- numbers are read by the numeric lead alone
@@ -68,11 +67,8 @@ module _ (all : CollatorTables) (good : IsGoodTables all) (settings : Settings) 
 
   -- ---- the primaries of a text may stand
 
-  pub under : last_variable_by all settings < all.special.numeric * 256 ^ 3
-  under = last_under all good settings.alternate_handling settings.max_variable
-
   abbrev MayStandHere : List Element → Type 0
-  MayStandHere = Stands all good (last_variable_by all settings) under
+  MayStandHere = Stands all good settings
 
   -- whatever may stand after
   abbrev GoesBefore : List Element → Type 0
@@ -82,14 +78,14 @@ module _ (all : CollatorTables) (good : IsGoodTables all) (settings : Settings) 
   HasLivePrimary x = x.primary ≢ 0 → IsLivePrimary all x.primary
 
   live_go : (xs : List Element) → AllByRecursion HasLivePrimary xs → GoesBefore xs
-  live_go xs live fs h = all_stand all good (last_variable_by all settings) under xs live fs h
+  live_go xs live fs h = all_stand all good settings xs live fs h
 
   diacritic_goes : (o : Option ℕ) → IfSome o (λ s. GoesBefore (of_secondary s ∷ []))
   diacritic_goes None = tt
   diacritic_goes (Some s) = live_go (of_secondary s ∷ []) (λ n. absurd (n refl), tt)
 
   numbers_go : (b : Bool) → GoodNumbers GoesBefore (if b then Some all.special.numeric else None)
-  numbers_go true = λ ds digits fs h. run_stand all good (last_variable_by all settings) under ds digits fs h
+  numbers_go true = λ ds digits fs h. run_stand all good settings ds digits fs h
   numbers_go false = tt
 
   parts : HasGoodParts GoesBefore reading
@@ -110,4 +106,4 @@ module _ (all : CollatorTables) (good : IsGoodTables all) (settings : Settings) 
   text_stands cs scalars =
       subst MayStandHere (append-nil (elements_of reading (nfd cs)))
       (elements_of-good GoesBefore reading parts (nfd cs) (IsDecomposedText-nfd cs scalars) []
-      (nothing_stands all good (last_variable_by all settings) under))
+      (nothing_stands all good settings))

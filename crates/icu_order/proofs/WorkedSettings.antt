@@ -3,7 +3,7 @@ use Rattle.std.proofs.Common.{ℕ, true, false, ◌==◌, List, [], ◌∷◌, m
 use Rattle.std.specs.List.{range_with_len}
 use Rattle.icu_options.specs.Settings.{Settings}
 use Rattle.icu_options.specs.declared.settings.Strength.{Strength}
-use Rattle.icu_options.specs.declared.settings.AlternateHandling.TheVariants.{NonIgnorable, Shifted}
+use Rattle.icu_options.specs.declared.settings.AlternateHandling.TheVariants.{NonIgnorable, Shifted, Blanked}
 use Rattle.icu_options.specs.declared.settings.CollationCaseFirst.TheVariants.{False, Upper}
 use Rattle.icu_options.specs.declared.settings.MaxVariable.TheVariants.{Punctuation, Currency}
 use Rattle.icu_entries.specs.Elements.{Element, element_of}
@@ -28,6 +28,9 @@ plain_at s = record {
 
 abbrev pub shifted_at : Strength → Settings
 shifted_at s = record (plain_at s) { alternate_handling = Shifted }
+
+abbrev pub blanked_at : Strength → Settings
+blanked_at s = record (plain_at s) { alternate_handling = Blanked }
 
 abbrev pub numeric_at : Strength → Settings
 numeric_at s = record (plain_at s) { numeric = true }

@@ -4,7 +4,7 @@ use Rattle.std.specs.Prelude.{replicate}
 use Rattle.icu_options.specs.declared.settings.Strength.TheVariants.{Primary, Secondary, Tertiary, Quaternary, Identical}
 use Rattle.icu_order.specs.TextOrder.{text_key}
 use Rattle.icu_order.proofs.Computing.{icu_order}
-use Rattle.icu_order.proofs.WorkedSettings.{plain_at, shifted_at, numeric_at, upper_first_at, case_level_at, upper_case_level_at, currency_shifted_at, mini, backward, spanish, prefixed, greek, kana, with_tertiary, high_currency, swapped, split}
+use Rattle.icu_order.proofs.WorkedSettings.{plain_at, shifted_at, blanked_at, numeric_at, upper_first_at, case_level_at, upper_case_level_at, currency_shifted_at, mini, backward, spanish, prefixed, greek, kana, with_tertiary, high_currency, swapped, split}
 
 -- ---- levels that count at each strength
 
@@ -158,6 +158,24 @@ none_shifted = refl
 high_shifted : text_key high_currency (currency_shifted_at Quaternary) (97 ∷ 36 ∷ 98 ∷ []) ≡ 0x61 ∷ 0x10 ∷ 0x14 ∷ 0x01 ∷ 0x06 ∷ 0x01 ∷ 0x01 ∷ 0x06 ∷ 0x01 ∷ 0x01 ∷ 0x1C ∷ 0x1B ∷ 0x1E ∷ 0x10 ∷ 0x1C ∷ 0x01 ∷ []
 unfolding icu_order
 high_shifted = refl
+
+-- "a b" and "ab", where the space is blanked: common quaternaries alone are written as a run
+blanked_space : text_key mini (blanked_at Quaternary) (97 ∷ 32 ∷ 98 ∷ []) ≡ 0x61 ∷ 0x10 ∷ 0x14 ∷ 0x01 ∷ 0x06 ∷ 0x01 ∷ 0x01 ∷ 0x06 ∷ 0x01 ∷ 0x01 ∷ 0x1D ∷ 0x01 ∷ []
+unfolding icu_order
+blanked_space = refl
+
+none_blanked : text_key mini (blanked_at Quaternary) (97 ∷ 98 ∷ []) ≡ 0x61 ∷ 0x10 ∷ 0x14 ∷ 0x01 ∷ 0x06 ∷ 0x01 ∷ 0x01 ∷ 0x06 ∷ 0x01 ∷ 0x01 ∷ 0x1D ∷ 0x01 ∷ []
+unfolding icu_order
+none_blanked = refl
+
+-- at Identical the space is written
+blanked_space_at_identical : text_key mini (blanked_at Identical) (97 ∷ 32 ∷ 98 ∷ []) ≡ 0x61 ∷ 0x10 ∷ 0x14 ∷ 0x01 ∷ 0x06 ∷ 0x01 ∷ 0x01 ∷ 0x06 ∷ 0x01 ∷ 0x01 ∷ 0x1D ∷ 0x01 ∷ 0x01 ∷ 0x92 ∷ 0x51 ∷ 0x93 ∷ []
+unfolding icu_order
+blanked_space_at_identical = refl
+
+none_blanked_at_identical : text_key mini (blanked_at Identical) (97 ∷ 98 ∷ []) ≡ 0x61 ∷ 0x10 ∷ 0x14 ∷ 0x01 ∷ 0x06 ∷ 0x01 ∷ 0x01 ∷ 0x06 ∷ 0x01 ∷ 0x01 ∷ 0x1D ∷ 0x01 ∷ 0x01 ∷ 0x92 ∷ 0x93 ∷ []
+unfolding icu_order
+none_blanked_at_identical = refl
 
 -- Hiragana and Katakana a
 kana_in_turn : text_key kana (plain_at Quaternary) (0x3042 ∷ 0x30A2 ∷ []) ≡ 0x67 ∷ 0x10 ∷ 0x10 ∷ 0x01 ∷ 0x06 ∷ 0x01 ∷ 0x01 ∷ 0x06 ∷ 0x01 ∷ 0x01 ∷ 0xFC ∷ 0xFD ∷ 0x01 ∷ []

@@ -4,7 +4,7 @@ use Rattle.std.specs.Prelude.{replicate}
 use Rattle.icu_options.specs.declared.settings.Strength.TheVariants.{Primary, Secondary, Tertiary, Quaternary, Identical}
 use Rattle.icu_order.specs.TextOrder.{text_order}
 use Rattle.icu_order.proofs.Computing.{icu_order}
-use Rattle.icu_order.proofs.WorkedSettings.{plain_at, shifted_at, numeric_at, upper_first_at, case_level_at, upper_case_level_at, mini, backward, lithuanian, spanish, kana, with_tertiary, with_secondary, swapped, split}
+use Rattle.icu_order.proofs.WorkedSettings.{plain_at, shifted_at, blanked_at, numeric_at, upper_first_at, case_level_at, upper_case_level_at, mini, backward, lithuanian, spanish, kana, with_tertiary, with_secondary, swapped, split}
 
 -- ---- how texts are read
 
@@ -67,6 +67,34 @@ secondary_after_hyphen = refl
 secondary_after_letter : text_order with_secondary (shifted_at Secondary) (97 ∷ 0x34F ∷ []) (97 ∷ []) ≡ Greater
 unfolding icu_order
 secondary_after_letter = refl
+
+-- "a b" and "ab", where the space is blanked: it counts at the identical level alone
+blanked_space : text_order mini (blanked_at Quaternary) (97 ∷ 32 ∷ 98 ∷ []) (97 ∷ 98 ∷ []) ≡ Equal
+unfolding icu_order
+blanked_space = refl
+
+blanked_space_at_identical : text_order mini (blanked_at Identical) (97 ∷ 32 ∷ 98 ∷ []) (97 ∷ 98 ∷ []) ≡ Less
+unfolding icu_order
+blanked_space_at_identical = refl
+
+-- "U.S.A." and "USA"
+blanked_dots : text_order mini (blanked_at Quaternary) (85 ∷ 46 ∷ 83 ∷ 46 ∷ 65 ∷ 46 ∷ []) (85 ∷ 83 ∷ 65 ∷ []) ≡ Equal
+unfolding icu_order
+blanked_dots = refl
+
+-- "a-" with an acute on the hyphen and "b", and "ab": the acute vanishes with the hyphen
+blanked_hyphen : text_order mini (blanked_at Secondary) (97 ∷ 45 ∷ 0x301 ∷ 98 ∷ []) (97 ∷ 98 ∷ []) ≡ Equal
+unfolding icu_order
+blanked_hyphen = refl
+
+-- U+034F after a blanked hyphen vanishes, after a letter it counts
+blanked_before_secondary : text_order with_secondary (blanked_at Secondary) (45 ∷ 0x34F ∷ []) [] ≡ Equal
+unfolding icu_order
+blanked_before_secondary = refl
+
+secondary_counts : text_order with_secondary (blanked_at Secondary) (97 ∷ 0x34F ∷ []) (97 ∷ []) ≡ Greater
+unfolding icu_order
+secondary_counts = refl
 
 -- ---- secondaries
 

@@ -5,7 +5,7 @@ use Rattle.icu_options.specs.Metadata.{is_backward}
 use Rattle.icu_options.specs.declared.settings.Strength.{Strength}
 use Rattle.icu_options.specs.declared.settings.Strength.TheVariants.{Primary, Secondary, Quaternary, Identical}
 use Rattle.icu_options.specs.declared.settings.AlternateHandling.{AlternateHandling}
-use Rattle.icu_options.specs.declared.settings.AlternateHandling.TheVariants.{NonIgnorable, Shifted}
+use Rattle.icu_options.specs.declared.settings.AlternateHandling.TheVariants.{NonIgnorable}
 use Rattle.icu_options.specs.declared.settings.CollationCaseFirst.{CollationCaseFirst}
 use Rattle.icu_options.specs.declared.settings.CollationCaseFirst.TheVariants as case_first
 use Rattle.icu_options.specs.declared.settings.MaxVariable.{MaxVariable}
@@ -56,9 +56,11 @@ tertiary_form Primary form = None
 tertiary_form Secondary form = None
 tertiary_form _ form = Some form
 
+-- common quaternaries alone are written as nothing where no element is ignored, and as a run where variable ones are shifted or
+-- blanked
 abbrev pub handling_form : AlternateHandling → QuaternaryForm
 handling_form NonIgnorable = Unshifted
-handling_form Shifted = MayShift
+handling_form _ = MayShift
 
 -- quaternaries count from Quaternary on
 abbrev pub quaternary_form : Strength → QuaternaryForm → Option QuaternaryForm
@@ -85,7 +87,7 @@ form_by all settings = record {
 -- the last primary of the groups that are variable, or 0 where none is
 abbrev pub last_variable : SpecialPrimaries → AlternateHandling → MaxVariable → ℕ
 last_variable special NonIgnorable group = 0
-last_variable special Shifted group = last_primary special group
+last_variable special _ group = last_primary special group
 
 abbrev pub last_variable_by : CollatorTables → Settings → ℕ
 last_variable_by all settings = last_variable all.special settings.alternate_handling settings.max_variable

@@ -1,5 +1,7 @@
 -- What variable weighting leaves of the elements of a text (UTS #10, section 4 "Variable Weighting").
-use Rattle.std.specs.Prelude.{ℕ, Bool, true, false, ◌&&◌, ◌==◌, nat_lt, nat_le, List, [], ◌∷◌, if◌then◌else◌}
+use Rattle.std.specs.Prelude.{ℕ, Bool, true, false, ◌&&◌, ◌==◌, nat_lt, nat_le, List, [], ◌∷◌, ◌++◌, if◌then◌else◌}
+use Rattle.icu_options.specs.declared.settings.AlternateHandling.{AlternateHandling}
+use Rattle.icu_options.specs.declared.settings.AlternateHandling.TheVariants.{Blanked}
 use Rattle.icu_entries.specs.Elements.{Element}
 use Rattle.icu_entries.specs.ElementConditions.{separator_primary}
 
@@ -12,14 +14,19 @@ pub data HandledElement : Type 0 where
 abbrev pub is_variable : ℕ → Element → Bool
 is_variable last x = nat_lt separator_primary x.primary && nat_le x.primary last
 
--- From the left: a variable element is shifted, and elements without a primary after it vanish until one that has a primary
--- stays. The flag says that a variable element came last.
-unfoldable pub handled : ℕ → Bool → List Element → List HandledElement
-handled last after [] = []
-handled last after (x ∷ xs) =
-    if is_variable last x then shifted_primary x.primary ∷ handled last true xs
-    else if after && x.primary == 0 then handled last true xs
-    else stayed x ∷ handled last false xs
+-- what becomes of a variable element with this primary: it vanishes where it is blanked, and else it is shifted
+abbrev pub handled_variable : AlternateHandling → ℕ → List HandledElement
+handled_variable Blanked p = []
+handled_variable _ p = shifted_primary p ∷ []
+
+-- From the left: a variable element is shifted or blanked, and elements without a primary after it vanish until one that has a
+-- primary stays. The flag says that a variable element came last.
+unfoldable pub handled : AlternateHandling → ℕ → Bool → List Element → List HandledElement
+handled handling last after [] = []
+handled handling last after (x ∷ xs) =
+    if is_variable last x then handled_variable handling x.primary ++ handled handling last true xs
+    else if after && x.primary == 0 then handled handling last true xs
+    else stayed x ∷ handled handling last false xs
 
 -- the elements that stayed: each level before the quaternary one reads these alone
 abbrev pub stayed_elements : List HandledElement → List Element

@@ -4,3 +4,4 @@ pub mod Forms
 pub mod TextOrder
 pub mod LiveWeights
 pub mod TextLaws
+pub mod TextCuts

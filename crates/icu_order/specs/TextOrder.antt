@@ -1,10 +1,11 @@
 -- The order of two texts and the key of one, for all tables and settings (UTS #10, sections 7.3 "Form Sort Keys" and 7.4
 -- "Compare Sort Keys").
-use Rattle.std.specs.Prelude.{ℕ, false, List, Some, None, if◌then◌else◌}
+use Rattle.std.specs.Prelude.{ℕ, Bool, false, List, Some, None, if◌then◌else◌}
 use Rattle.std.specs.declared.cmp.Ordering.{Ordering}
 use Rattle.unicode_normalization.specs.Forms.{nfd}
 use Rattle.icu_options.specs.Settings.{Settings}
 use Rattle.icu_levels.specs.Keys.{LevelLists, key_bytes, levels_order}
+use Rattle.icu_entries.specs.Elements.{Element}
 use Rattle.icu_provider.specs.Metadata.{is_lithuanian}
 use Rattle.icu_provider.specs.CollatorTables.{CollatorTables, reorder}
 use Rattle.icu_elements.specs.TextElements.{Reading, elements_of}
@@ -18,9 +19,13 @@ abbrev pub reading_by : CollatorTables → Settings → Reading
 reading_by all settings =
     collator_reading all (if settings.numeric then Some all.special.numeric else None) (is_lithuanian all.bits)
 
+-- elements as the settings handle them, where a variable one came last before them or not
+abbrev pub handled_elements : CollatorTables → Settings → Bool → List Element → List HandledElement
+handled_elements all settings after es = handled settings.alternate_handling (last_variable_by all settings) after es
+
 -- the elements of a decomposed text, as they are handled
 abbrev pub handled_by : CollatorTables → Settings → List ℕ → List HandledElement
-handled_by all settings text = handled (last_variable_by all settings) false (elements_of (reading_by all settings) text)
+handled_by all settings text = handled_elements all settings false (elements_of (reading_by all settings) text)
 
 -- the lists of a decomposed text
 unfoldable pub lists_by : CollatorTables → Settings → List ℕ → LevelLists

@@ -1,6 +1,7 @@
 //! The order theorem of texts, and what it rests on, each as a function that makes no call.
 
 ghost use Rattle.icu_order.specs.LiveWeights.{GoodTablesServeLevels};
+ghost use Rattle.icu_order.specs.TextCuts.{CommonBeginningsDoNotCount};
 ghost use Rattle.icu_order.specs.TextLaws.{EqualTextsHaveOneKey, KeysDetermineTextLists, KeysKeepTextOrder, LevelsKeepTextOrder};
 
 /// The weights that tables give which meet the conditions on all tables of a collator are as the order theorem of sort keys
@@ -31,4 +32,11 @@ pub fn keys_keep_text_order()
 
     // And so they are exactly where the two texts have the same list at each level of the key.
     ensures lists { KeysDetermineTextLists }
+{}
+
+/// Texts with a common beginning are in the order of what follows it, for all tables, and all settings by which secondary
+/// weights aren't read backward. What follows has to be a text that may follow others without a change of what it gives
+/// (`IsTail`): empty, or begun by a character before which texts may be cut.
+pub fn common_beginnings_do_not_count()
+    ensures { CommonBeginningsDoNotCount }
 {}

@@ -135,6 +135,7 @@ fn alternate_handling(name: &str) -> Option<AlternateHandling> {
     match name {
         "NonIgnorable" => Some(AlternateHandling::NonIgnorable),
         "Shifted" => Some(AlternateHandling::Shifted),
+        "Blanked" => Some(AlternateHandling::Blanked),
         _ => None,
     }
 }

@@ -14,4 +14,6 @@ mod sinks;
 #[cfg(test)]
 mod tables;
 #[cfg(test)]
+mod three_levels;
+#[cfg(test)]
 mod walks;

@@ -32,7 +32,7 @@ fn values_of(settings: CollatorOptionsBitField) -> Values {
 fn set_all(settings: &mut CollatorOptionsBitField) {
     settings.set_strength(Some(Strength::Identical));
     settings.set_max_variable(Some(MaxVariable::Currency));
-    settings.set_alternate_handling(Some(AlternateHandling::Shifted));
+    settings.set_alternate_handling(Some(AlternateHandling::Blanked));
     settings.set_case_level_from_enum(Some(CaseLevel::On));
     settings.set_case_first(Some(CollationCaseFirst::Upper));
     settings.set_backward_second_level(Some(true));
@@ -42,7 +42,7 @@ fn set_all(settings: &mut CollatorOptionsBitField) {
 const ALL: Values = (
     Strength::Identical,
     MaxVariable::Currency,
-    AlternateHandling::Shifted,
+    AlternateHandling::Blanked,
     true,
     CollationCaseFirst::Upper,
     true,
@@ -109,6 +109,7 @@ fn strengths_are_ordered_and_numbered(rt: HostRuntime) {
         }
     }
     assert!(rt; AlternateHandling::NonIgnorable < AlternateHandling::Shifted);
+    assert!(rt; AlternateHandling::Shifted < AlternateHandling::Blanked);
 }
 
 #[test]

@@ -1,7 +1,7 @@
 //! Walks over live entries: the violation that a judge of this file's own names, and the weights that are collected.
-ghost use Rattle.std.specs.Prelude.{ℕ, ◌-◌, Bool, ◌==◌, ◌/◌, Option, Some, None, if◌then◌else◌};
+ghost use Rattle.std.specs.Prelude.{ℕ, ◌-◌, ◌<◌, Bool, ◌==◌, ◌/◌, Option, Some, None, if◌then◌else◌};
 ghost use Rattle.icu_entries.specs.declared.entry.EntryKind.TheVariants.{Contraction};
-ghost use Rattle.icu_entries.specs.Entries.{kind_of};
+ghost use Rattle.icu_entries.specs.Entries.{kind_of, entry_index};
 
 use crate::tables::Stored;
 use icu_data::live_weights::{Weigh, collect_weights, collect_weights_from};
@@ -12,7 +12,7 @@ use std::alloc::Global;
 use std::process::Abort;
 use std::test::Fail;
 
-/// A violation by its rank, which is less the later the character stands.
+/// A violation by its rank, which is less the later the context stands.
 #[derive(Debug, Clone, Copy, PartialEq)]
 struct Named {
     rank: u32,
@@ -26,33 +26,37 @@ impl Ranked for Named {
     }
 }
 
-fn violation_at(c: char) -> Named {
+fn violation_at(context: u32) -> Named
+    requires { context < 0x80000 }
+{
     Named {
-        rank: 0x200000 - c as u32,
+        rank: 0x80000 - context,
     }
 }
 
-/// Names the characters that have a contraction.
+/// Names the contexts of contractions.
 struct Contractions;
 
 impl Judge for Contractions {
     type Violation = Named;
 
-    ghost violation = { λ j home c e. elim (kind_of e) [ Contraction ↦ Some (record { rank = 0x200000 - c }) | _ ↦ None ] };
+    ghost violation = { λ j home c e. elim (kind_of e) [ Contraction ↦ Some (record { rank = 0x80000 - entry_index e }) | _ ↦ None ] };
 
     fn violation(
         &self,
         home: CollationData<'_>,
-        c: char,
+        _c: char,
         entry: CollationElement32,
     ) -> Option<Named> {
         match entry.kind() {
             EntryKind::Contraction => Some(Named {
-                rank: 0x200000 - c as u32,
+                rank: 0x80000 - entry.index() as u32,
             }),
             _ => None,
         }
     }
+
+    fn is_alike(&self) {}
 }
 
 /// Collects primary weights that are neither zero nor implicit.
@@ -86,7 +90,7 @@ impl Weigh for Secondaries {
 
 static CES: [u64; 2] = [0x6310_0000_0300_0500, 0x0000_0000_8A00_0500];
 
-static CONTEXTS: [Context; 2] = [
+static CONTEXTS: [Context; 3] = [
     Context {
         default: 0x6210_0505,
         rows_start: 0,
@@ -95,6 +99,11 @@ static CONTEXTS: [Context; 2] = [
     Context {
         default: 0xC9,
         rows_start: 1,
+        rows_len: 1,
+    },
+    Context {
+        default: 0x6210_0505,
+        rows_start: 0,
         rows_len: 1,
     },
 ];
@@ -114,14 +123,15 @@ static ROWS: [ContextRow; 2] = [
 
 static CHARS: [char; 1] = ['x'];
 
-// A tailoring in which "a" has an entry of its own, "b" a contraction, "d" a prefix that leads to it, and "e" a list. All else has
-// this entry.
+// A tailoring in which "a" has an entry of its own, "b" a contraction, "d" a prefix that leads to it, "e" a list, and "f" another
+// contraction. All else has this entry.
 fn stored(alloc: Global, others: u32) -> Result<Stored, Fail> {
     let rows = [
         ('a', 0x6110_0505),
         ('b', 0xC9),
         ('d', 0x20C8),
         ('e', 0x02C6),
+        ('f', 0x40C9),
     ];
     Stored::new(alloc, &rows, others)
 }
@@ -137,9 +147,9 @@ fn the_violation_of_least_rank_is_named(rt: HostRuntime) -> Result<(), Fail> {
     let stored = stored(rt.alloc(), 0xC0)?;
     let data = data(&stored)?;
     for (before, found) in [
-        (None, violation_at('d')),
-        (Some(violation_at('c')), violation_at('d')),
-        (Some(violation_at('e')), violation_at('e')),
+        (None, violation_at(2)),
+        (Some(violation_at(1)), violation_at(2)),
+        (Some(violation_at(3)), violation_at(3)),
     ] {
         assert_eq!(rt;
             first_violation(&Contractions, before, data, true),
@@ -152,8 +162,8 @@ fn the_violation_of_least_rank_is_named(rt: HostRuntime) -> Result<(), Fail> {
     }
     for (c, found) in [
         ('a', None),
-        ('b', Some(violation_at('b'))),
-        ('d', Some(violation_at('d'))),
+        ('b', Some(violation_at(0))),
+        ('d', Some(violation_at(0))),
         ('e', None),
     ] {
         let entry = data.ce32_for_char(c);
@@ -208,5 +218,34 @@ fn equal_weights_in_a_row_are_collected_once(rt: HostRuntime) -> Result<(), Fail
     weights.sort()?;
     weights.dedup();
     assert!(rt; weights.as_slice() == [0x300u32, 0x500, 0x8A00].as_slice());
+    Ok(())
+}
+
+// A table in which three characters of two blocks with one number have an offset entry: each has a weight of its own.
+#[test]
+fn offset_entries_are_visited_with_each_character(rt: HostRuntime) -> Result<(), Fail> {
+    let mut stored = Stored::new(
+        rt.alloc(),
+        &[('a', 0xCE), ('b', 0xCE), ('c', 0x6110_0505)],
+        0xC0,
+    )?;
+    if let Some(block) = stored.blocks.get_mut(2) {
+        *block = 1;
+    }
+    let trie = CodePointTable::new(stored.blocks.as_slice(), stored.values.as_slice())?;
+    let ces = [0x6310_0200_0000_6101u64];
+    let data = CollationData::new(trie, &ces, &[], ContextTable::empty())?;
+    let mut weights = Vec::new(rt.alloc());
+    collect_weights(&mut weights, &Primaries, data, true)?;
+    weights.sort()?;
+    weights.dedup();
+    let expected = [
+        0x6110_0000u32,
+        0x6310_0200,
+        0x6310_0300,
+        0x6310_4200,
+        0x6310_4300,
+    ];
+    assert!(rt; weights.as_slice() == expected.as_slice());
     Ok(())
 }

@@ -29,5 +29,5 @@ module _ (all : CollatorTables) (good : IsGoodTables all) where
   pub text_has_case : (settings : Settings) (t : List ℕ) → IsText t → AllByRecursion HasCase (handled_by all settings (nfd t))
   text_has_case settings t text =
       weaker (HoldsOf (IsSource all) (λ p. Unit {0})) HasCase has_case (handled_by all settings (nfd t))
-      (handled_hold (IsSource all) (λ p. Unit {0}) (last_variable_by all settings) (λ x s v. tt) false
+      (handled_hold (IsSource all) (λ p. Unit {0}) settings.alternate_handling (last_variable_by all settings) (λ x s v. tt) false
       (elements_of (reading_by all settings) (nfd t)) (text_sources all good settings t text))

@@ -64,7 +64,7 @@ fn quaternary_form(strength: Strength, handling: AlternateHandling) -> Option<Qu
 {
     let form = match handling {
         AlternateHandling::NonIgnorable => QuaternaryForm::Unshifted,
-        AlternateHandling::Shifted => QuaternaryForm::MayShift,
+        AlternateHandling::Shifted | AlternateHandling::Blanked => QuaternaryForm::MayShift,
     };
     match strength {
         Strength::Quaternary | Strength::Identical => Some(form),

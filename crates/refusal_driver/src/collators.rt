@@ -1,15 +1,11 @@
-//! Tables, collators and comparisons.
+//! Tables and collators.
 use crate::stop::{Stop, twice};
 use icu_checks::{CheckedTables, load_tables};
 use icu_comparison::Collator;
 use icu_entries::{DataError, DataErrorKind, DataTable};
 use icu_mini::mini::Mini;
 use icu_options::{CollatorOptions, CollatorPreferences, Strength};
-use std::alloc::{AllocError, Global};
-use std::cmp::Ordering;
-
-/// How many characters a long text has.
-const LONG: usize = 10_000;
+use std::alloc::Global;
 
 fn name_of(table: DataTable) -> &'static str {
     match table {
@@ -101,45 +97,4 @@ pub(crate) fn run(rt: &HostRuntime) -> Result<(), Stop> {
         "swapped leads",
         &twice(|| Mini::with_swapped_leads(rt.alloc()))?,
     )
-}
-
-fn sign(order: Ordering) -> &'static str {
-    match order {
-        Ordering::Less => "<",
-        Ordering::Equal => "=",
-        Ordering::Greater => ">",
-    }
-}
-
-fn print_order(rt: &HostRuntime, collator: &Collator, left: &str, right: &str) -> Result<(), Stop> {
-    let order = twice(|| collator.as_borrowed().compare(left, right))?;
-    println!(rt; "{}", sign(order))?;
-    Ok(())
-}
-
-/// A text of so many times the same, and then another one.
-pub(crate) fn long_text(alloc: Global, repeated: &str, last: &str) -> Result<String, AllocError> {
-    let mut text = String::new(alloc);
-    for _ in 0..LONG {
-        text.push_str(repeated)?;
-    }
-    text.push_str(last)?;
-    Ok(text)
-}
-
-/// Compares texts, short and long.
-pub(crate) fn compare(rt: &HostRuntime) -> Result<(), Stop> {
-    let mini = twice(|| Mini::new(rt.alloc()))?;
-    let collator = collator(rt, &mini, Strength::Tertiary)?;
-    for (left, right) in [
-        ("ab", "aB"),
-        ("á", "a\u{301}"),
-        ("Di Silva", "diSilva"),
-        ("", "a"),
-    ] {
-        print_order(rt, &collator, left, right)?;
-    }
-    let left = twice(|| long_text(rt.alloc(), "e\u{301}", "b"))?;
-    let right = twice(|| long_text(rt.alloc(), "é", "a"))?;
-    print_order(rt, &collator, left.as_str(), right.as_str())
 }

@@ -5,11 +5,16 @@
 //! fail in turn. A word after the program's name names the one part that is run.
 #![tactic(auto)]
 
+mod beginnings;
 mod collators;
+mod comparisons;
 mod elements;
+mod index;
+mod kept;
 mod keys;
 mod sinks;
 mod stop;
+mod texts;
 
 use std::process::ExitCode;
 use std::{env, io};
@@ -33,7 +38,7 @@ fn run(rt: &HostRuntime) -> Result<(), Stop> {
         collators::run(rt)?;
     }
     if wants("comparisons") {
-        collators::compare(rt)?;
+        comparisons::run(rt)?;
     }
     if wants("keys") {
         keys::run(rt)?;
@@ -44,7 +49,10 @@ fn run(rt: &HostRuntime) -> Result<(), Stop> {
     if wants("sinks") {
         sinks::run(rt)?;
     }
-    Ok(())
+    if wants("index") {
+        index::run(rt)?;
+    }
+    beginnings::run(rt, part.as_ref().map(|part| part.as_str()))
 }
 
 fn main(rt: HostRuntime) -> ExitCode {

@@ -1,15 +1,19 @@
-//! Sorts a few names: a program over `icu_collator`, with the tables of `icu_mini`.
+//! Lists a few names in order: a program over `icu_collator`, with the tables of `icu_mini`.
 #![tactic(auto)]
 
-ghost use Rattle.std.specs.List.Sorted.{IsPermutation};
+ghost use Rattle.std.specs.Prelude.{◌≡◌, map, IfOk};
+ghost use Rattle.icu_comparison.specs.Collators.{settings_kept, tables_kept};
+ghost use Rattle.icu_index.specs.Listings.{listed, name_order};
+ghost use Rattle.icu_index.specs.NameIndexes.{index_settings, index_tables, listing};
 
+use icu_collator::index::NameIndex;
 use icu_collator::options::{CollatorOptions, Strength};
 use icu_collator::provider::{DataError, DataErrorKind};
 use icu_collator::{Collator, CollatorPreferences};
 use icu_mini::mini::Mini;
 use std::alloc::{AllocError, Global};
-use std::cmp::Ordering;
 use std::io;
+use std::io::Write;
 use std::process::ExitCode;
 
 #[cfg(test)]
@@ -62,46 +66,35 @@ fn collator(alloc: Global) -> Result<Collator, Refusal> {
     )?)
 }
 
-/// The names, as they come.
-fn names(alloc: Global) -> Result<Vec<String>, AllocError> {
-    let mut names = Vec::new(alloc);
-    for name in ["Zoë", "Émile", "emil", "Zoe", "Bo", "Emil"] {
-        names.push(name.to_string(alloc)?)?;
-    }
-    Ok(names)
-}
-
-/// Puts the names in order, equal ones as they stood. A comparison may run out of memory, which a sort can't be told: it is
-/// kept and returned at the end, when the names are all still there, in whatever order.
-fn sort(collator: &Collator, names: &mut Vec<String>) -> Result<(), AllocError>
-    ensures { IsPermutation names.old.items names.new.items }
+/// Names in the order of a collator, those that compare Equal as they stand.
+fn index<'c>(
+    alloc: Global,
+    collator: &'c Collator,
+    names: &[&str],
+) -> Result<NameIndex<'c>, AllocError>
+    ensures { IfOk result (λ index. listing index
+        ≡ listed (name_order (tables_kept collator.now) (settings_kept collator.now)) (map (λ n. n.now) names.now)) }
 {
-    let mut compared = Ok(());
-    names.sort_by(|left, right| match collator
-        .as_borrowed()
-        .compare(left.as_str(), right.as_str())
-    {
-        Ok(order) => order,
-        Err(error) => {
-            compared = Err(error);
-            Ordering::Equal
-        }
-    })?;
-    compared
+    let mut index = NameIndex::new(alloc, collator);
+    for name in names {
+        index.insert(name.as_bytes())?;
+    }
+    Ok(index)
 }
 
-fn print_sorted(rt: &HostRuntime) -> Result<(), Refusal> {
+fn print_names(rt: &HostRuntime) -> Result<(), Refusal> {
     let collator = collator(rt.alloc())?;
-    let mut names = names(rt.alloc())?;
-    sort(&collator, &mut names)?;
-    for name in &names {
-        println!(rt; "{name}")?;
+    let names = ["Zoë", "Émile", "emil", "Zoe", "Bo", "Emil"];
+    let mut output = rt.stdout();
+    for name in index(rt.alloc(), &collator, &names)?.iter() {
+        output.write_all(name)?;
+        output.write_all(b"\n")?;
     }
-    Ok(())
+    Ok(output.flush()?)
 }
 
 fn main(rt: HostRuntime) -> ExitCode {
-    match print_sorted(&rt) {
+    match print_names(&rt) {
         Ok(()) => ExitCode::SUCCESS,
         Err(refusal) => {
             let _ = eprintln!(rt; "sort_names: {refusal:?}");

@@ -180,6 +180,9 @@ impl<'d> Judge for EntryJudge<'d> {
         earlier(found, of_elements)
     }
 
+    #[tactic(auto, using(crate::proofs::EntryViolationLemmas::entry_alike))]
+    fn is_alike(&self) {}
+
     fn passes_implicit(&self) -> bool {
         self.implicit_passes
     }

@@ -9,9 +9,9 @@ ghost use Rattle.icu_checks.specs.inner.PairViolations.{HoldsLevel, AreFree, Are
 use crate::check::collecting::collect;
 use crate::check::overlap::{Overlap, first_common_overlap, first_overlap};
 use crate::check::overlap_tables::clash_violation;
-use crate::check::weight_list::sort_and_dedup;
 use crate::check::weights::{Level, WeightList};
 use crate::violation::Violation;
+use icu_data::live_weights::sort_and_dedup;
 use icu_entries::DataTable;
 use icu_provider::TableSet;
 use std::alloc::{AllocError, Global};

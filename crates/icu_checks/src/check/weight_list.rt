@@ -1,16 +1,6 @@
 //! Lists of weights in ascending order.
 
-ghost use Rattle.std.specs.Prelude.{ℕ, ◌≡◌, ◌≤◌, ◌↔◌, [], All, Contains, IfSome, IsNone, IsTrue};
-ghost use Rattle.std.specs.List.Sorted.{IsStrictlyIncreasing};
-
-/// Puts weights in ascending order, each once.
-pub fn sort_and_dedup(weights: &mut Vec<u32>)
-    ensures ascending { IsStrictlyIncreasing weights.new.items }
-    ensures members { (w : ℕ) → Contains weights.new.items w ↔ Contains weights.old.items w }
-{
-    weights.sort_unstable();
-    weights.dedup();
-}
+ghost use Rattle.std.specs.Prelude.{◌≡◌, ◌≤◌, ◌↔◌, [], All, Contains, IfSome, IsNone, IsTrue};
 
 /// Whether a weight is in the list.
 pub fn contains(weights: &[u32], weight: u32) -> bool

@@ -126,4 +126,12 @@ impl Weigh for WeightList {
             }
         }
     }
+
+    #[tactic(auto, unfolding(crate::specs::inner::Weights::weight_at))]
+    fn weighs_primaries(&self) -> bool {
+        match self {
+            WeightList::Primaries => true,
+            _ => false,
+        }
+    }
 }

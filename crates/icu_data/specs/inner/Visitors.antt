@@ -1,5 +1,6 @@
 -- What the visitors of this crate add up to.
-use Rattle.std.specs.Prelude.{ℕ, Bool, ◌&&◌, ◌==◌, List, [], ◌∷◌, Option, Some, None, if◌then◌else◌, ◌++◌, fold, map, flat_map, ◌-◌, false, length, slice_get}
+use Rattle.std.specs.List.{list_any}
+use Rattle.std.specs.Prelude.{ℕ, Bool, ◌&&◌, ◌||◌, ◌==◌, List, [], Option, Some, None, if◌then◌else◌, fold, map, flat_map, ◌-◌, false, length, slice_get}
 use Rattle.icu_entries.specs.declared.element_conditions.ElementCondition.{ElementCondition}
 use Rattle.icu_entries.specs.Elements.{Element}
 use Rattle.icu_data.specs.Data.{Data, Row, homed}
@@ -25,20 +26,24 @@ after_rows after lead home c rows v = after_all after v home c (flat_map lead (m
 unfoldable pub is_last : List ℕ → ℕ → Bool
 is_last ws w = elim (slice_get ws (length ws - 1)) [ Some last ↦ last == w | None ↦ false ]
 
--- these weights and one more, unless it is their last: many elements in a row have one weight
-unfoldable pub with_weight : List ℕ → ℕ → List ℕ
-with_weight ws w = if is_last ws w then ws else ws ++ w ∷ []
+-- which weights a list holds
+unfoldable pub holds : List ℕ → ℕ → Bool
+holds ws w = list_any (λ v. v == w) ws
 
-abbrev pub with_found : List ℕ → Option ℕ → List ℕ
-with_found ws None = ws
-with_found ws (Some w) = with_weight ws w
+-- the same, and one more
+abbrev pub and_weight : (ℕ → Bool) → ℕ → ℕ → Bool
+and_weight has w v = has v || w == v
 
--- what collects, and the weights so far, after one more element, and after one more entry
-abbrev pub collected : {W : Type 0} → (W → Element → Option ℕ) → W × List ℕ → Element → W × List ℕ
-collected weight s x = (s.0, with_found s.1 (weight s.0 x))
+abbrev pub and_found : (ℕ → Bool) → Option ℕ → ℕ → Bool
+and_found has None = has
+and_found has (Some w) = and_weight has w
+
+-- what collects, and which weights are held so far, after one more element, and after one more entry
+abbrev pub collected : {W : Type 0} → (W → Element → Option ℕ) → W × (ℕ → Bool) → Element → W × (ℕ → Bool)
+collected weight s x = (s.0, and_found s.1 (weight s.0 x))
 
 unfoldable pub given_elements : Data → ℕ → ℕ → List Element
 given_elements home c e = if is_stated home c e then final_elements (homed home e) c else []
 
-abbrev pub collected_at : {W : Type 0} → (W → Element → Option ℕ) → W × List ℕ → Data → ℕ → ℕ → W × List ℕ
+abbrev pub collected_at : {W : Type 0} → (W → Element → Option ℕ) → W × (ℕ → Bool) → Data → ℕ → ℕ → W × (ℕ → Bool)
 collected_at weight s home c e = fold (collected weight) s (given_elements home c e)

@@ -44,7 +44,7 @@ fn read_diacritic(
 
 /// Reads at a character that was taken off the text: a diacritic, or by its entry.
 #[tactic(auto, unfolding(crate::specs::TextElements::matched_step))]
-fn read_char(
+pub(crate) fn read_char(
     reading: TextReading<'_>,
     at: &mut Position,
     c: char,

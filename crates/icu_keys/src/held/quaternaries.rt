@@ -10,7 +10,7 @@ use icu_levels::forms::QuaternaryForm;
 use smallvec::SmallVec;
 use std::alloc::{AllocError, Global};
 
-/// The quaternary level of a text. Where no element is shifted nothing is written for common weights alone, which only
+/// The quaternary level of a text. In the unshifted form nothing is written for common weights alone, which only
 /// the end decides (UTS #10, "Variable Weighting").
 #[derive(Debug, Drop)]
 pub struct HeldQuaternaries {

@@ -2,17 +2,22 @@
 
 ghost use Rattle.std.specs.Prelude.{◌≡◌, ℕ, ◌<◌, ◌^◌, List, [], ◌∷◌, OnOk, IfOk};
 ghost use Rattle.icu_levels.specs.Tertiaries.{moved_tertiary, tertiary_level};
+ghost use Rattle.icu_levels.specs.Keys.{part_bytes, opened, closed};
+ghost use Rattle.icu_keys.specs.Writes.{Writes};
 
-use crate::held::INLINE;
+use crate::held::{INLINE, write_held};
+use crate::parts::LEVEL;
+use crate::sink::CollationKeySink;
 use crate::tertiaries::TertiaryWriter;
 use icu_levels::forms::TertiaryForm;
 use smallvec::SmallVec;
 use std::alloc::{AllocError, Global};
 
-/// The tertiary level of a text.
+/// The tertiary level of a text. Common weights are counted, and written with the weight that comes after them.
 #[derive(Debug, Drop)]
 pub struct HeldTertiaries {
     writer: TertiaryWriter,
+    commons: u32,
     bytes: SmallVec<u8, INLINE>,
 }
 
@@ -26,6 +31,7 @@ impl HeldTertiaries {
     {
         HeldTertiaries {
             writer: TertiaryWriter::new(form),
+            commons: 0,
             bytes: SmallVec::new(alloc),
         }
     }
@@ -38,12 +44,30 @@ impl HeldTertiaries {
     }
 
     /// Adds the next weight, as the form has it. After an error, discard the level.
+    #[inline(always)]
     pub fn push(&mut self, weight: u16) -> Result<(), AllocError>
         requires { moved_tertiary (held_tertiary_form self.old) weight < 2 ^ 16 }
         ensures form { held_tertiary_form self.new ≡ held_tertiary_form self.old }
         ensures bytes { OnOk result ((ws : List ℕ) →
             held_tertiaries self.old (weight ∷ ws) ≡ held_tertiaries self.new ws) }
     {
+        if weight == self.writer.common() && self.commons < u32::MAX {
+            self.commons += 1;
+            return Ok(());
+        }
+        self.push_next(weight)
+    }
+
+    /// Feeds the counted weights to the writer, and then the next one.
+    fn push_next(&mut self, weight: u16) -> Result<(), AllocError>
+        requires { moved_tertiary (held_tertiary_form self.old) weight < 2 ^ 16 }
+        ensures form { held_tertiary_form self.new ≡ held_tertiary_form self.old }
+        ensures bytes { OnOk result ((ws : List ℕ) →
+            held_tertiaries self.old (weight ∷ ws) ≡ held_tertiaries self.new ws) }
+    {
+        self.writer
+            .push_commons(&mut self.bytes, &mut (), self.commons)?;
+        self.commons = 0;
         self.writer.push(&mut self.bytes, &mut (), weight)
     }
 
@@ -52,7 +76,48 @@ impl HeldTertiaries {
         ensures { IfOk result (λ bytes. bytes.items ≡ held_tertiaries self []) }
     {
         let mut bytes = self.bytes;
-        self.writer.close(&mut bytes, &mut ())?;
+        self.writer.close_after(&mut bytes, &mut (), self.commons)?;
         Ok(bytes)
+    }
+
+    /// Writes the level to a sink, as it ends here.
+    fn write<S: CollationKeySink>(&self, sink: &mut S, state: &mut S::State) -> Result<(), S::Error>
+        requires { S.is_sound sink.old state.old }
+        ensures sound { S.is_sound sink.new state.new }
+        ensures bytes { Writes S.took S.refused sink.old state.old (held_tertiaries self.now [])
+            result sink.new state.new }
+    {
+        write_held(sink, state, &self.bytes)?;
+        self.writer.close_after(sink, state, self.commons)
+    }
+
+    /// Writes the level, as it ends here, after the byte that opens it.
+    fn write_opened<S: CollationKeySink>(
+        &self,
+        sink: &mut S,
+        state: &mut S::State,
+    ) -> Result<(), S::Error>
+        requires { S.is_sound sink.old state.old }
+        ensures sound { S.is_sound sink.new state.new }
+        ensures bytes { Writes S.took S.refused sink.old state.old
+            (part_bytes (opened (held_tertiaries self.now []))) result sink.new state.new }
+    {
+        sink.write_byte(state, LEVEL)?;
+        self.write(sink, state)
+    }
+
+    /// Writes the level to a sink, as it ends here, between the bytes that open and close it. An error is the sink's own.
+    pub fn write_closed<S: CollationKeySink>(
+        &self,
+        sink: &mut S,
+        state: &mut S::State,
+    ) -> Result<(), S::Error>
+        requires { S.is_sound sink.old state.old }
+        ensures sound { S.is_sound sink.new state.new }
+        ensures bytes { Writes S.took S.refused sink.old state.old
+            (part_bytes (closed (held_tertiaries self.now []))) result sink.new state.new }
+    {
+        self.write_opened(sink, state)?;
+        sink.write_byte(state, LEVEL)
     }
 }

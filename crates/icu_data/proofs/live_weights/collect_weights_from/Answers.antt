@@ -7,4 +7,4 @@ use Rattle.icu_data.proofs.live_weights.collect_weights_from.Goals as goal
 pub returns : goal.returns
 returns g c =
     collected_among g.W.Weigh.weight c.args.weigh.now true (data_of c.args.home) _ _ _ c.over-collector.ensures.weigh c.over-collector.ensures.weights
-    c.args.c (live_from (data_of c.args.home) c.args.entry) c.visit_from-outcome.result _ c.visit_from-outcome.ensures
+    c.args.c (live_from (data_of c.args.home) c.args.entry) c.visit_from-outcome.result _ _ c.visit_from-outcome.ensures

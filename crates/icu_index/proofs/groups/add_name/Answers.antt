@@ -1,4 +1,4 @@
-use Rattle.std.proofs.Common.{◌≡◌, [], ◌∷◌, ◌++◌, map, sym, ap, ◌∙◌, rules, OnErr}
+use Rattle.std.proofs.Common.{◌≡◌, [], ◌∷◌, sym, ap, ◌∙◌, rules}
 use Rattle.std.specs.BTreeMap.{insert_entry}
 use Rattle.icu_index.proofs.EntryLemmas.{names_pushed, new_group, put_in_group, same_group}
 use Rattle.icu_index.specs.inner.Groups.{added, names_of, groups_of, key_order}

@@ -1,16 +1,16 @@
-use Rattle.std.proofs.Common.{◌∙◌, ap, sym, drop, take, get_or}
-use Rattle.icu_levels.specs.WeightBytes.{without_last_zeros}
-use Rattle.icu_levels.proofs.CompressionOrder.{same_lead}
-use Rattle.icu_keys.proofs.PrimarySteps.{below_lead_digits, lead_first}
-use Rattle.icu_keys.proofs.Writing.{writes_one, writes_same}
+use Rattle.std.proofs.lemmas.Result.{err_from_is_err_and}
+use Rattle.icu_levels.specs.Primaries.{below_lead, primary_bytes}
+use Rattle.icu_levels.specs.WeightBytes.{weight_bytes}
+use Rattle.icu_keys.proofs.Writing.{brings_written}
 use Rattle.icu_keys.proofs.primaries.write_primary.Goals as goal
 
-pub returns-then-new-dropped-clause-bytes : goal.returns-then-new-dropped-clause-bytes
-returns-then-new-dropped-clause-bytes g c =
-    let p = c.args.primary in
-    let e = c.to_be_bytes-bytes.ensures in
-    writes_same g.S.CollationKeySink.took g.S.CollationKeySink.refused _ _ _ _ _ _ _
-    (same_lead c.args.dropped p (lead_first p c.args.dropped c.ranges.primary.fits (sym (ap (λ bs. get_or bs 0 0) e) ∙ c.if-new-dropped.true))
-    ∙ (ap without_last_zeros (below_lead_digits p)
-    ∙ (ap (λ bs. without_last_zeros (take 3 (drop 1 bs))) (sym e) ∙ sym c.trimmed.ensures)))
-    (writes_one g.S.CollationKeySink.took g.S.CollationKeySink.refused _ _ _ _ _ _ (g.met.S.CollationKeySink.took_nothing _ _ c.requires) c.write.ensures.outcome)
+pub returns-in_err-write_lead-clause-bytes : goal.returns-in_err-write_lead-clause-bytes
+returns-in_err-write_lead-clause-bytes g c =
+    let p = err_from_is_err_and c.from_residual.result c.from_residual.ensures.1 in
+    rw (p.1, p.2) (c.in_err-write_lead.ensures.bytes tt)
+
+pub returns-clause-bytes : goal.returns-clause-bytes
+returns-clause-bytes g c =
+    brings_written g.S.CollationKeySink.took g.S.CollationKeySink.refused _ _ _ _ _ _ (λ (_ : Unit {0}). primary_bytes c.args.dropped c.args.primary) (λ _. weight_bytes 3 (below_lead c.args.primary)) tt _
+    (λ y z t u b d. g.met.S.CollationKeySink.took_both _ y z _ t u b d c.requires)
+    c.in_ok-write_lead.ensures.bytes c.write_three.ensures.bytes

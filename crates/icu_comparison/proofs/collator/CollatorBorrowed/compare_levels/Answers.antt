@@ -8,10 +8,10 @@ use Rattle.icu_comparison.proofs.collator.CollatorBorrowed.compare_levels.Goals 
 pub returns-then-ne : goal.returns-then-ne
 returns-then-ne g c =
     ends _ _ _ _ c.ne.ensures c.if-ne.true c.in_ok-order.ensures
-    ∙ sym (order_in_two (tables_borrowed c.args.self.now) (settings_borrowed c.args.self.now) (g.L.EncodedText.text c.args.left.now) (g.R.EncodedText.text c.args.right.now))
+    ∙ sym (order_in_two (tables_borrowed c.args.self.now) (settings_borrowed c.args.self.now) (g.L.EncodedText.text c.args.left) (g.R.EncodedText.text c.args.right))
 
 pub returns : goal.returns
 returns g c =
-    let parts = order_in_two (tables_borrowed c.args.self.now) (settings_borrowed c.args.self.now) (g.L.EncodedText.text c.args.left.now) (g.R.EncodedText.text c.args.right.now) in
+    let parts = order_in_two (tables_borrowed c.args.self.now) (settings_borrowed c.args.self.now) (g.L.EncodedText.text c.args.left) (g.R.EncodedText.text c.args.right) in
     subst (λ (w : Ordering). IfOk c.compare_characters.result (λ o. o ≡ w)) (sym parts)
     (goes_on_ok _ _ _ _ c.compare_characters.result c.ne.ensures c.if-ne.false c.in_ok-order.ensures c.compare_characters.ensures)

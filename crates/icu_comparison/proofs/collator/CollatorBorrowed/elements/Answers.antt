@@ -13,5 +13,5 @@ returns g c =
     let lithuanian = c.lithuanian_dot_above.ensures ∙ ap is_lithuanian c.metadata.ensures in
     let same : reading_of c.tables.result c.numeric_primary.result c.lithuanian_dot_above.result
     ≡ reading_by (tables_borrowed c.args.self.now) (settings_borrowed c.args.self.now) = rw (c.tables.ensures, c.numeric_primary.ensures, lithuanian) in
-    subst (λ (r : Reading). IfOk c.all_elements.result (λ es. es.items ≡ elements_of r (nfd (g.T.EncodedText.text c.args.text.now)))) same
-    (c.all_elements.ensures _ c.characters.ensures.spells)
+    subst (λ (r : Reading). IfOk c.all_elements.result (λ es. es.items ≡ elements_of r (nfd (g.T.EncodedText.text c.args.text)))) same
+    (c.all_elements.ensures _ c.new.ensures.spells)

@@ -1,5 +1,4 @@
-use Rattle.std.proofs.Common.{◌≡◌, [], ◌∙◌, sym, ap}
-use Rattle.std.specs.Global.{Vec}
+use Rattle.std.proofs.Common.{[], ◌∙◌, ap}
 use Rattle.std.specs.Option.{option_map_or}
 use Rattle.icu_index.proofs.EntryLemmas.{found_names, groups_ascend}
 use Rattle.icu_index.proofs.NameLemmas.{lists_equal}
@@ -11,12 +10,12 @@ returns-in-Some c =
     ap names_of c.as_slice.ensures.value
     ∙ (ap (λ o. option_map_or (λ v. names_of v.items) o []) c.in-Some.ensures.value
     ∙ (found_names c.args.self.now.groups.entries c.in_ok-key.key
-    ∙ lists_equal c.args.self.now.collator c.args.name.now c.in_ok-key.key.items c.in_ok-key.ensures (groups_of c.args.self.now.groups.entries)
+    ∙ lists_equal c.args.self.now.collator c.has_good_tables.ensures c.args.name.now c.in_ok-key.key.items c.in_ok-key.ensures (groups_of c.args.self.now.groups.entries)
     (groups_ascend c.args.self.now.groups.entries c.args.self.now.ascending) c.args.self.now.keyed))
 
 pub returns : goal.returns
 returns c =
     ap (λ o. option_map_or (λ v. names_of v.items) o []) c.in-None.ensures.value
     ∙ (found_names c.args.self.now.groups.entries c.in_ok-key.key
-    ∙ lists_equal c.args.self.now.collator c.args.name.now c.in_ok-key.key.items c.in_ok-key.ensures (groups_of c.args.self.now.groups.entries)
+    ∙ lists_equal c.args.self.now.collator c.has_good_tables.ensures c.args.name.now c.in_ok-key.key.items c.in_ok-key.ensures (groups_of c.args.self.now.groups.entries)
     (groups_ascend c.args.self.now.groups.entries c.args.self.now.ascending) c.args.self.now.keyed)

@@ -1,4 +1,3 @@
-use Rattle.std.proofs.Common.{◌≡◌, sym, ap, ◌∙◌}
 use Rattle.icu_index.proofs.EntryLemmas.{names_of_values}
 use Rattle.icu_index.proofs.index.NameIndex.iter.Goals as goal
 

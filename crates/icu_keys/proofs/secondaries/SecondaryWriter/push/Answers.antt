@@ -1,7 +1,6 @@
 use Rattle.std.proofs.Common.{◌∙◌, ap, sym}
 use Rattle.icu_levels.specs.declared.run_bytes.TheConstants.{SECONDARY_RUNS}
-use Rattle.icu_levels.specs.WeightBytes.{weight_bytes, without_last_zeros}
-use Rattle.icu_keys.proofs.BytesLemmas.{digits_two}
+use Rattle.icu_levels.specs.WeightBytes.{weight_bytes}
 use Rattle.icu_keys.proofs.LevelWriting.{feeds_weight}
 use Rattle.icu_keys.proofs.secondaries.SecondaryWriter.push.Goals as goal
 
@@ -16,5 +15,4 @@ returns-else-whole-clause-bytes g c =
     let w = c.from-whole.result in
     feeds_weight g.S.CollationKeySink.took g.S.CollationKeySink.refused _ _ _ _ SECONDARY_RUNS (weight_bytes 2) _ _ c.args.weight w _
     (sym c.from-whole.ensures)
-    (c.write_other.ensures.bytes (weight_bytes 2)
-    (ap (weight_bytes 2) c.from-whole.ensures ∙ (ap without_last_zeros (digits_two c.args.weight c.ranges.weight.fits ∙ sym c.to_be_bytes-bytes.ensures) ∙ sym c.trimmed.ensures)))
+    (c.write_short.ensures.bytes (weight_bytes 2) (ap (weight_bytes 2) c.from-whole.ensures))

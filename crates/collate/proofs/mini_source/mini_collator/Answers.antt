@@ -1,0 +1,44 @@
+-- What Mini lends is what the collator keeps, and the settings are those that its metadata leaves. What is refused is
+-- memory, or tables that fail a condition.
+use Rattle.std.proofs.Common.{◌≡◌, Some, ap}
+use Rattle.icu_entries.specs.declared.error.DataErrorKind.TheVariants.{NoMemory}
+use Rattle.icu_provider.specs.CollatorTables.{CollatorTables}
+use Rattle.icu_checks.specs.GoodTables.{IsGoodTables}
+use Rattle.icu_checks.specs.Loads.{lent_tables}
+use Rattle.icu_mini.specs.Provider.{loads_of}
+use Rattle.icu_options.specs.declared.options.CollatorOptions.{CollatorOptions}
+use Rattle.icu_comparison.specs.Collators.{request_in}
+use Rattle.collate.specs.Refusals.{IsForCause, mini_refuses}
+use Rattle.collate.proofs.MiniLemmas.{mini-lent}
+use Rattle.collate.proofs.RefusalLemmas.{of_ok, refusal_says}
+use Rattle.collate.proofs.SettingLemmas.{mini-compares}
+use Rattle.collate.proofs.mini_source.mini_collator.Goals as goal
+
+pub returns-in-Ok-clause-compares : goal.returns-in-Ok-clause-compares
+returns-in-Ok-clause-compares c =
+    let m = c.in_ok-mini.mini in
+    let mini = c.in_ok-mini.ensures in (
+      m,
+      mini,
+      mini-compares m c.args.strength _ _ _ c.default-2.result
+          (mini-lent m c.provider.result (request_in c.default-2.result) _ mini c.provider.ensures c.in-Ok.ensures.keeps)
+          (ap (λ (o : CollatorOptions). record o { strength = Some c.args.strength }) c.default.ensures) c.default-2.ensures c.in-Ok.ensures.settings,
+    )
+
+pub returns-clause-refused : goal.returns-clause-refused
+returns-clause-refused c =
+    let provider = c.provider.result in
+    let request = request_in c.default-2.result in
+    let kind = c.in-Err.refusal.kind in
+    let fails : CollatorTables → Type 0 = λ all. (kind ≡ NoMemory → ⊥) → IsGoodTables all → ⊥ in
+    refusal_says (IsForCause kind) (mini_refuses c.args.strength) (λ line h. (
+      record {
+        tables = c.in_ok-mini.mini;
+        provider = provider;
+        request = request;
+        mini = c.in_ok-mini.ensures;
+        lends = c.provider.ensures;
+        fails = λ all lent good. of_ok fails (lent_tables (loads_of provider) request) all c.in-Err.ensures.exact lent h.0 good;
+      },
+      h.1,
+    )) _ c.refused.ensures

@@ -1,2 +1,0 @@
--- Words that only private contracts and proofs use.
-pub mod KeyedLines

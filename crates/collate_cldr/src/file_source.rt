@@ -1,0 +1,118 @@
+//! The tables of a file as a source of collators.
+ghost use Rattle.std.specs.Prelude.{◌≡◌, ◌++◌, ◌∷◌, [], codes, string_bytes, IfOk, IfErr};
+ghost use Rattle.icu_cldr.specs.Roots.{IsRoot, root_tables};
+ghost use Rattle.icu_checks.specs.GoodTables.{IsGoodTables};
+ghost use Rattle.icu_comparison.specs.Collators.{settings_kept, tables_kept};
+ghost use Rattle.collate_commands.specs.Refusals.{IsRefusal};
+ghost use Rattle.collate_cldr.specs.Files.{ComparesAs, IsLineOf};
+
+use crate::choice::Chosen;
+use collate_commands::{CollatorSource, Fault};
+use icu_cldr::{CldrRoot, ReadError, read_root};
+use icu_comparison::Collator;
+use icu_entries::{DataError, DataErrorKind};
+use icu_options::Strength;
+use std::alloc::{AllocError, Global};
+use std::fmt::Display;
+use std::fs;
+use std::io::BufReader;
+use std::rt::Files;
+
+/// Makes collators by the tables of a file, with the settings that options chose.
+#[derive(Clone, Copy)]
+pub(crate) struct FileSource<'a, R> {
+    pub(crate) rt: &'a R,
+    pub(crate) file: &'a str,
+    pub(crate) chosen: Chosen,
+}
+
+impl<'a, R: Files + AllocGlobal> CollatorSource for FileSource<'a, R> {
+    ghost use Rattle.collate_cldr.specs.Files.{ComparesAs, IsLineOf};
+
+    ghost compares = { λ s strength all merged. ComparesAs s.chosen strength all merged };
+
+    ghost refuses = { λ s strength line. IsLineOf s.file.now line };
+
+    fn collator(&self, alloc: Global, strength: Strength) -> Result<Collator, Fault> {
+        let root = read_file(self.rt, self.file)?;
+        root_collator(alloc, &root, self.file, self.chosen, strength)
+    }
+}
+
+/// The line that says of a file what is wrong with it.
+fn line_of(alloc: Global, file: &str, what: &str) -> Result<String, AllocError>
+    ensures { IfOk result (λ line. string_bytes line ≡ file.now ++ codes ": " ++ what.now ++ 10 ∷ []) }
+{
+    let mut line = file.to_string(alloc)?;
+    line.push_str(": ")?;
+    line.push_str(what)?;
+    line.push_str("\n")?;
+    Ok(line)
+}
+
+/// A fault that says of a file what is wrong with it.
+fn refused(alloc: Global, file: &str, what: &str) -> Fault
+    ensures { IsRefusal (IsLineOf file.now) result }
+{
+    match line_of(alloc, file, what) {
+        Ok(line) => Fault::Refused(line),
+        Err(_) => Fault::NoMemory,
+    }
+}
+
+/// The same by an error's own text.
+fn refused_by<E: Display>(alloc: Global, file: &str, error: &E) -> Fault
+    ensures { IsRefusal (IsLineOf file.now) result }
+{
+    match error.to_string(alloc) {
+        Ok(what) => refused(alloc, file, what.as_str()),
+        Err(_) => Fault::NoMemory,
+    }
+}
+
+/// Reads the tables of a file.
+fn read_file<R: Files + AllocGlobal>(rt: &R, file: &str) -> Result<CldrRoot, Fault>
+    ensures root { IfOk result (λ root. IsRoot (root_tables root)) }
+    ensures refused { IfErr result (IsRefusal (IsLineOf file.now)) }
+{
+    let Ok(opened) = fs::open(rt, file) else {
+        return Err(refused(rt.alloc(), file, "not opened"));
+    };
+    let Ok(reader) = BufReader::new(rt.alloc(), opened) else {
+        return Err(Fault::NoMemory);
+    };
+    match read_root(rt.alloc(), reader) {
+        Ok(root) => Ok(root),
+        Err(ReadError::NoMemory) => Err(Fault::NoMemory),
+        Err(error) => Err(refused_by(rt.alloc(), file, &error)),
+    }
+}
+
+/// A collator by the tables that were read from a file, with the chosen settings.
+fn root_collator(
+    alloc: Global,
+    root: &CldrRoot,
+    file: &str,
+    chosen: Chosen,
+    strength: Strength,
+) -> Result<Collator, Fault>
+    requires { IsRoot (root_tables root.now) }
+    ensures compares { IfOk result (λ c. ComparesAs chosen strength (tables_kept c) (settings_kept c)) }
+    ensures good { IfOk result (λ c. IsGoodTables (tables_kept c)) }
+    ensures refused { IfErr result (IsRefusal (IsLineOf file.now)) }
+{
+    match Collator::try_new_unstable(alloc, root, chosen.preferences(), chosen.options(strength)) {
+        Ok(collator) => Ok(collator),
+        Err(error) => Err(refusal_of(alloc, file, error)),
+    }
+}
+
+/// What a refusal of tables comes to.
+fn refusal_of(alloc: Global, file: &str, error: DataError) -> Fault
+    ensures { IsRefusal (IsLineOf file.now) result }
+{
+    match error.kind {
+        DataErrorKind::NoMemory => Fault::NoMemory,
+        _ => refused_by(alloc, file, &error),
+    }
+}

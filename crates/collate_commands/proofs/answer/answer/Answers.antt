@@ -1,0 +1,38 @@
+-- The answer to the command is that to what its words name.
+use Rattle.std.proofs.Common.{◌++◌, ◌∷◌, [], chars, ap, ◌∙◌}
+use Rattle.icu_options.specs.Settings.{Settings}
+use Rattle.icu_provider.specs.CollatorTables.{CollatorTables}
+use Rattle.icu_order.specs.TextOrder.{text_order}
+use Rattle.icu_comparison.specs.Collators.{settings_borrowed, tables_kept}
+use Rattle.collate_commands.specs.Answers.{sign_of}
+use Rattle.collate_commands.specs.KeyText.{key_text}
+use Rattle.collate_commands.proofs.WritingLemmas.{Keeps_same}
+use Rattle.collate_commands.proofs.answer.answer.Goals as goal
+
+pub returns-in_ok-from_slice-in-Compare-clause-answer : goal.returns-in_ok-from_slice-in-Compare-clause-answer
+returns-in_ok-from_slice-in-Compare-clause-answer g c =
+    let order = c.in_ok-order-in-Compare.ensures.order in
+    let collator = c.args.collator.now in
+    let lent = c.as_borrowed.result in
+    let left = chars c.in-Compare.texts.left.now in
+    let right = chars c.in-Compare.texts.right.now in
+    let by_collator = order
+    ∙ ap (λ (t : CollatorTables). text_order t (settings_borrowed lent) left right) c.as_borrowed.ensures.tables
+    ∙ ap (λ (s : Settings). text_order (tables_kept collator) s left right) c.as_borrowed.ensures.settings in
+    rw c.in-Compare.is (
+      [],
+      Keeps_same (g.R.Read.remaining c.args.input.now),
+      c.in_ok-from_slice-in-Compare.ensures.items ∙ c.sign_line.ensures ∙ ap (λ o. sign_of o ++ 10 ∷ []) by_collator,
+    )
+
+pub returns-in_ok-key_line-in-Key-clause-answer : goal.returns-in_ok-key_line-in-Key-clause-answer
+returns-in_ok-key_line-in-Key-clause-answer g c =
+    let key = c.in_ok-key-in-Key.ensures in
+    rw c.in-Key.is (
+      [],
+      Keeps_same (g.R.Read.remaining c.args.input.now),
+      c.in_ok-key_line-in-Key.ensures ∙ ap (λ bytes. key_text bytes ++ 10 ∷ []) (c.as_slice.ensures.value ∙ key),
+    )
+
+pub returns-in-Sort-clause-answer : goal.returns-in-Sort-clause-answer
+returns-in-Sort-clause-answer g c = rw c.in-Sort.is c.sort.ensures.answer

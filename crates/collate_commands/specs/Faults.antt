@@ -1,0 +1,32 @@
+-- What keeps a program from printing an answer: the status that it ends with, and what it says.
+use Rattle.std.specs.Prelude.{ℕ, List, string_bytes}
+use Rattle.collate_commands.specs.declared.fault.Fault.{Fault}
+use Rattle.collate_commands.specs.declared.fault.Fault.TheVariants.{WrongWords, NoMemory, Refused, ReadFailed, WriteFailed}
+use Rattle.collate_commands.specs.declared.fault.Wording.{Wording}
+
+abbrev pub status_of : Fault → ℕ
+status_of WrongWords = 2
+status_of _ = 1
+
+-- the lines that a program says of its faults
+pub record Lines : Type 0 where
+  pub usage : List ℕ
+  pub no_memory : List ℕ
+  pub read_failed : List ℕ
+  pub write_failed : List ℕ
+
+abbrev pub lines_in : Wording → Lines
+lines_in w = record {
+  usage = w.usage.now;
+  no_memory = w.no_memory.now;
+  read_failed = w.read_failed.now;
+  write_failed = w.write_failed.now;
+}
+
+-- the line that is said of a fault
+abbrev pub line_of : Lines → Fault → List ℕ
+line_of lines WrongWords = lines.usage
+line_of lines NoMemory = lines.no_memory
+line_of lines (Refused line) = string_bytes line
+line_of lines ReadFailed = lines.read_failed
+line_of lines WriteFailed = lines.write_failed

@@ -1,0 +1,11 @@
+pub mod Commands
+pub mod Asked
+pub mod KeyText
+pub mod Lines
+pub mod Reading
+pub mod Answers
+pub mod Faults
+pub mod Refusals
+pub mod Writing
+pub mod Runs
+pub mod inner

@@ -1,0 +1,7 @@
+-- Lines that are borrowed.
+use Rattle.std.specs.Prelude.{ℕ, List, map}
+use Rattle.std.specs.Borrow.{Bor}
+
+-- their bytes
+abbrev pub shown : List (Bor (List ℕ)) → List (List ℕ)
+shown lines = map (λ line. line.now) lines

@@ -1,0 +1,128 @@
+//! The answer to a command, by a collator.
+ghost use Rattle.std.specs.Prelude.{◌≡◌, ◌⊎◌, ℕ, List, IfOk, IfErr, ◌++◌, ◌∷◌, [], chars, map};
+ghost use Rattle.icu_checks.specs.GoodTables.{IsGoodTables};
+ghost use Rattle.icu_comparison.specs.Collators.{settings_kept, tables_kept};
+ghost use Rattle.icu_index.specs.Listings.{listed, name_order};
+ghost use Rattle.icu_index.specs.NameIndexes.{index_settings, index_tables, listing};
+ghost use Rattle.icu_order.specs.TextOrder.{text_key};
+ghost use Rattle.collate_commands.specs.Answers.{IsAnswerBy, SortsLines, sign_of};
+ghost use Rattle.collate_commands.specs.Asked.{asked};
+ghost use Rattle.collate_commands.specs.Lines.{lines_text};
+ghost use Rattle.collate_commands.specs.Reading.{ReadsFor, TakesWhole};
+ghost use Rattle.collate_commands.specs.Refusals.{IsUnanswered};
+ghost use Rattle.collate_commands.specs.inner.Shown.{shown};
+
+use crate::command::Command;
+use crate::fault::Fault;
+use crate::key_line::key_line;
+use crate::lines::{lines, read_whole};
+use icu_comparison::Collator;
+use icu_index::NameIndex;
+use icu_index::laws::inserts_sort;
+use std::alloc::{AllocError, Global};
+use std::cmp::Ordering;
+use std::io::Read;
+
+/// The sign of an order, and a line feed.
+fn sign_line(order: Ordering) -> &'static [u8]
+    ensures { result.now ≡ sign_of order ++ 10 ∷ [] }
+{
+    match order {
+        Ordering::Less => b"<\n",
+        Ordering::Equal => b"=\n",
+        Ordering::Greater => b">\n",
+    }
+}
+
+/// The bytes of the sort key of a text.
+fn sort_key(alloc: Global, collator: &Collator, text: &str) -> Result<Vec<u8>, AllocError>
+    ensures { IfOk result (λ key. key.items
+        ≡ text_key (tables_kept collator.now) (settings_kept collator.now) (chars text.now)) }
+{
+    let mut key = Vec::new(alloc);
+    match collator.as_borrowed().write_sort_key_to(text, &mut key) {
+        Ok(()) => Ok(key),
+        Err(_) => Err(AllocError),
+    }
+}
+
+/// An index of lines, by the order of the texts that they decode to.
+fn index_of<'c>(
+    alloc: Global,
+    collator: &'c Collator,
+    lines: &[&[u8]],
+) -> Result<NameIndex<'c>, AllocError>
+    ensures { IfOk result (λ index. listing index
+        ≡ listed (name_order (tables_kept collator.now) (settings_kept collator.now)) (shown lines.now)) }
+{
+    let mut index = NameIndex::new(alloc, collator);
+    for line in lines {
+        index.insert(line)?;
+    }
+    Ok(index)
+}
+
+/// The names of an index in order, with a line feed after each.
+fn listing_text(alloc: Global, index: &NameIndex<'_>) -> Result<Vec<u8>, AllocError>
+    ensures { IfOk result (λ text. text.items ≡ lines_text (listing index.now)) }
+{
+    let mut text = Vec::new(alloc);
+    for name in index.iter() {
+        text.extend_from_slice(name)?;
+        text.push(b'\n')?;
+    }
+    Ok(text)
+}
+
+/// The lines of a text, sorted.
+fn sorted_text(alloc: Global, collator: &Collator, bytes: &[u8]) -> Result<Vec<u8>, AllocError>
+    requires { IsGoodTables (tables_kept collator.now) }
+    ensures { IfOk result (λ output. SortsLines
+        (name_order (tables_kept collator.now) (settings_kept collator.now))
+        bytes.now output.items) }
+{
+    inserts_sort();
+    let lines = lines(alloc, bytes)?;
+    let index = index_of(alloc, collator, lines.as_slice())?;
+    let text = listing_text(alloc, &index)?;
+    Ok(text)
+}
+
+/// The lines of the input, sorted.
+fn sort<R: Read>(alloc: Global, collator: &Collator, input: &mut R) -> Result<Vec<u8>, Fault>
+    requires { IsGoodTables (tables_kept collator.now) }
+    ensures fault { IfErr result (λ fault. (fault ≡ Fault.NoMemory) ⊎ (fault ≡ Fault.ReadFailed)) }
+    ensures answer { IfOk result (λ output. (bytes : List ℕ)
+        × TakesWhole (R.remaining input.old) (R.remaining input.new) bytes
+        × SortsLines (name_order (tables_kept collator.now) (settings_kept collator.now)) bytes output.items) }
+{
+    let bytes = read_whole(alloc, input)?;
+    Ok(sorted_text(alloc, collator, bytes.as_slice())?)
+}
+
+/// The answer to a command. To sort, the input is read to its end; no other command reads it.
+pub(crate) fn answer<R: Read>(
+    alloc: Global,
+    collator: &Collator,
+    command: Command<'_>,
+    input: &mut R,
+) -> Result<Vec<u8>, Fault>
+    requires { IsGoodTables (tables_kept collator.now) }
+    ensures fault { IfErr result (IsUnanswered (asked command.entry)) }
+    ensures answer { IfOk result (λ output. (bytes : List ℕ)
+        × ReadsFor (asked command.entry) (R.remaining input.old) (R.remaining input.new) bytes
+        × IsAnswerBy (tables_kept collator.now) (settings_kept collator.now)
+        (asked command.entry) bytes output.items) }
+{
+    match command {
+        Command::Compare(texts) => {
+            let order = collator.as_borrowed().compare(texts.left, texts.right)?;
+            Ok(Vec::from_slice(alloc, sign_line(order))?)
+        }
+        Command::Key(of) => {
+            let key = sort_key(alloc, collator, of.text)?;
+            Ok(key_line(alloc, key.as_slice())?)
+        }
+        Command::Sort(_) => sort(alloc, collator, input),
+    }
+}

@@ -1,0 +1,80 @@
+//! What keeps a program from printing an answer.
+ghost use Rattle.std.specs.Prelude.{◌≡◌, ◌≤◌};
+
+use std::alloc::{AllocError, AllocFailed};
+
+/// What keeps a program from printing an answer.
+#[derive(Debug, Drop)]
+pub enum Fault {
+    /// The words are no command.
+    WrongWords,
+    /// An allocation failed.
+    NoMemory,
+    /// No collator can be had: this line says why, with its line feed.
+    Refused(String),
+    /// A read of standard input failed.
+    ReadFailed,
+    /// A write to standard output failed.
+    WriteFailed,
+}
+
+/// What a program says of its faults: lines, each with its line feed.
+#[derive(Debug, Clone, Copy)]
+pub struct Wording {
+    /// What commands there are, which is said where the words are none of them.
+    pub usage: &'static str,
+    /// An allocation failed.
+    pub no_memory: &'static str,
+    /// A read of standard input failed.
+    pub read_failed: &'static str,
+    /// A write to standard output failed.
+    pub write_failed: &'static str,
+}
+
+impl Fault {
+    ghost use Rattle.collate_commands.specs.Faults.{status_of, line_of, lines_in};
+
+    /// The status that the program then ends with.
+    pub fn status(&self) -> u8
+        ensures status { result ≡ status_of self.now }
+        ensures bound { result ≤ 2 }
+    {
+        match self {
+            Fault::WrongWords => 2,
+            Fault::NoMemory | Fault::Refused(_) | Fault::ReadFailed | Fault::WriteFailed => 1,
+        }
+    }
+
+    /// The line that then goes to standard error.
+    pub fn line(&self, wording: Wording) -> &str
+        ensures { result.now ≡ line_of (lines_in wording) self.now }
+    {
+        match self {
+            Fault::WrongWords => wording.usage,
+            Fault::NoMemory => wording.no_memory,
+            Fault::Refused(line) => line.as_str(),
+            Fault::ReadFailed => wording.read_failed,
+            Fault::WriteFailed => wording.write_failed,
+        }
+    }
+}
+
+impl From<AllocError> for Fault {
+    ghost use Rattle.collate_commands.specs.declared.fault.Fault.TheVariants.{NoMemory};
+
+    ghost from_gives = { λ _ fault. fault ≡ NoMemory };
+
+    fn from(_: AllocError) -> Fault {
+        Fault::NoMemory
+    }
+}
+
+impl<T: Drop> From<AllocFailed<T>> for Fault {
+    ghost use Rattle.collate_commands.specs.declared.fault.Fault.TheVariants.{NoMemory};
+
+    ghost from_gives = { λ _ fault. fault ≡ NoMemory };
+
+    fn from(_: AllocFailed<T>) -> Fault {
+        Fault::NoMemory
+    }
+}

@@ -1,0 +1,55 @@
+//! The lines of the input.
+ghost use Rattle.std.specs.Prelude.{◌≡◌, ◌⊎◌, ◌==◌, IfOk, IfErr};
+ghost use Rattle.std.specs.Io.BufRead.{strip_last};
+ghost use Rattle.std.specs.List.{slice_split};
+ghost use Rattle.collate_commands.specs.Lines.{lines_of};
+ghost use Rattle.collate_commands.specs.Reading.{TakesWhole};
+ghost use Rattle.collate_commands.specs.inner.Shown.{shown};
+
+use crate::fault::Fault;
+use std::alloc::{AllocError, Global};
+use std::io::{ErrorKind, Read};
+
+/// Reads the input to its end.
+pub(crate) fn read_whole<R: Read>(alloc: Global, input: &mut R) -> Result<Vec<u8>, Fault>
+    ensures whole { IfOk result (λ bytes.
+        TakesWhole (R.remaining input.old) (R.remaining input.new) bytes.items) }
+    ensures fault { IfErr result (λ fault. (fault ≡ Fault.NoMemory) ⊎ (fault ≡ Fault.ReadFailed)) }
+{
+    let mut bytes = Vec::new(alloc);
+    match input.read_to_end(&mut bytes) {
+        Ok(_) => Ok(bytes),
+        Err(e) if e.kind() == ErrorKind::OutOfMemory => Err(Fault::NoMemory),
+        Err(_) => Err(Fault::ReadFailed),
+    }
+}
+
+/// Cuts the bytes at each line feed. What follows the last one is a line too, unless it is empty.
+#[tactic(auto, using(crate::proofs::LineLemmas::no_lines, crate::proofs::LineLemmas::some_lines))]
+pub(crate) fn lines(alloc: Global, bytes: &[u8]) -> Result<Vec<&[u8]>, AllocError>
+    ensures { IfOk result (λ lines. shown lines.items ≡ lines_of bytes.now) }
+{
+    if bytes.is_empty() {
+        return Ok(Vec::new(alloc));
+    }
+    let lines = parts(alloc, without_last_feed(bytes))?;
+    Ok(lines)
+}
+
+/// The bytes without their last one, if that is a line feed.
+fn without_last_feed(bytes: &[u8]) -> &[u8]
+    ensures { result.now ≡ strip_last 10 bytes.now }
+{
+    if !bytes.is_empty() && bytes[bytes.len() - 1] == b'\n' {
+        &bytes[..bytes.len() - 1]
+    } else {
+        bytes
+    }
+}
+
+/// The parts between line feeds.
+fn parts(alloc: Global, bytes: &[u8]) -> Result<Vec<&[u8]>, AllocError>
+    ensures { IfOk result (λ parts. shown parts.items ≡ slice_split (λ b. b == 10) bytes.now) }
+{
+    bytes.split(|byte| *byte == b'\n').collect(alloc)
+}

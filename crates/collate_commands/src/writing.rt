@@ -1,0 +1,35 @@
+//! How a text is written.
+ghost use Rattle.std.specs.Prelude.{OnOk, OnErr};
+ghost use Rattle.std.specs.Io.KnownBytes.{Appends, WriteAppends};
+ghost use Rattle.std.specs.Io.{WritesAtMost};
+ghost use Rattle.collate_commands.specs.Writing.{AppendsBeginning};
+
+use std::io::{Error, ErrorKind, Result, Write};
+
+/// Writes a text and flushes it, or a beginning of it where a write or the flush fails.
+pub(crate) fn write_text<W: Write>(writer: &mut W, text: &[u8]) -> Result<()>
+    ensures ok { OnOk result (Appends (W.contents writer.old) (W.contents writer.new) text.now) }
+    ensures err { OnErr result (AppendsBeginning (W.contents writer.old) (W.contents writer.new) text.now) }
+{
+    let mut done = 0;
+    'writing: for _ in 0..u64::MAX {
+        if done == text.len() {
+            return writer.flush();
+        }
+        done += write_some(writer, &text[done..])?;
+    }
+    Err(Error::from(ErrorKind::WriteZero))
+}
+
+/// Writes a beginning of the text, which is empty where a signal came first, and returns how long it is.
+fn write_some<W: Write>(writer: &mut W, text: &[u8]) -> Result<usize>
+    ensures bound { WritesAtMost result text.now }
+    ensures bytes { WriteAppends (W.contents writer.old) (W.contents writer.new) result text.now }
+{
+    match writer.write(text) {
+        Ok(0) => Err(Error::from(ErrorKind::WriteZero)),
+        Ok(n) => Ok(n),
+        Err(e) if e.kind() == ErrorKind::Interrupted => Ok(0),
+        Err(e) => Err(e),
+    }
+}

@@ -1,0 +1,113 @@
+//! Hostile input, which `tests/programs.py` runs this program on.
+//!
+//! `tables FIRST COUNT` damages so many sets of tables, each by the random choices of its number, and counts what becomes of
+//! them. `texts FIRST COUNT` compares so many random texts, and the parts of each. A word `spoiled` behind the numbers makes the
+//! check fail. `long KIND COUNT TIMES` compares long texts. Without words it does a little of each.
+#![tactic(auto)]
+
+mod agreement;
+mod bases;
+mod cuts;
+mod damage;
+mod dice;
+mod encoded;
+mod long;
+mod settings;
+mod stop;
+mod tables;
+mod tally;
+mod texts;
+
+use long::Kind;
+use std::alloc::{AllocError, Global};
+use std::env;
+use std::process::ExitCode;
+use stop::Stop;
+
+/// How many sets of tables and texts a run without words has.
+const FEW: u64 = 34;
+
+/// The number that a word writes.
+fn number(word: &str) -> Result<u64, Stop> {
+    match word.parse::<u64>() {
+        Ok(number) => Ok(number),
+        Err(_) => Err(Stop::WrongWords),
+    }
+}
+
+/// Whether the check is to fail, by the words behind the numbers.
+fn spoiled(words: &[&str]) -> Result<bool, Stop> {
+    match words {
+        [] => Ok(false),
+        ["spoiled"] => Ok(true),
+        _ => Err(Stop::WrongWords),
+    }
+}
+
+/// A little of each part.
+fn run_few(rt: &HostRuntime) -> Result<(), Stop> {
+    let tables = tables::run(rt.alloc(), 0, FEW, false)?;
+    println!(rt;
+        "tables: {} apart, {} disordered",
+        tables.apart, tables.disordered
+    )?;
+    let texts = texts::run(rt.alloc(), 0, FEW, false)?;
+    println!(rt; "texts: {} apart", texts.apart)?;
+    for kind in [
+        Kind::Letters,
+        Kind::Marks,
+        Kind::Digits,
+        Kind::Beginnings,
+        Kind::Passed,
+    ] {
+        long::run(rt, kind, 1000, 1)?;
+    }
+    Ok(())
+}
+
+/// Runs one part.
+fn run_part(rt: &HostRuntime, words: &[&str]) -> Result<(), Stop> {
+    match words {
+        [] => run_few(rt)?,
+        ["tables", first, count, rest @ ..] => {
+            let (first, count) = (number(first)?, number(count)?);
+            tables::run(rt.alloc(), first, count, spoiled(rest)?)?.print(rt)?;
+        }
+        ["texts", first, count, rest @ ..] => {
+            let (first, count) = (number(first)?, number(count)?);
+            texts::run(rt.alloc(), first, count, spoiled(rest)?)?.print(rt)?;
+        }
+        ["long", kind, count, times] => {
+            let kind = Kind::named(kind).ok_or(Stop::WrongWords)?;
+            long::run(rt, kind, number(count)?, number(times)?)?;
+        }
+        _ => return Err(Stop::WrongWords),
+    }
+    Ok(())
+}
+
+/// The words after the program's name.
+fn words(rt: &HostRuntime) -> Result<Vec<String>, Stop> {
+    Ok(env::args(rt)?.skip(1).collect(rt.alloc())?)
+}
+
+fn borrowed(alloc: Global, words: &[String]) -> Result<Vec<&str>, AllocError> {
+    words.iter().map(|word| word.as_str()).collect(alloc)
+}
+
+/// Runs the part that the words after the program's name ask for.
+fn run(rt: &HostRuntime) -> Result<(), Stop> {
+    let words = words(rt)?;
+    let words = borrowed(rt.alloc(), words.as_slice())?;
+    run_part(rt, words.as_slice())
+}
+
+fn main(rt: HostRuntime) -> ExitCode {
+    match run(&rt) {
+        Ok(()) => ExitCode::SUCCESS,
+        Err(stop) => {
+            let _ = eprintln!(rt; "hostile_input: {stop:?}");
+            ExitCode::FAILURE
+        }
+    }
+}

@@ -1,0 +1,73 @@
+-- How a walk goes on from block to block.
+use Rattle.std.specs.Prelude.{ℕ, ◌≡◌, ◌+◌, ◌*◌, ◌<◌, ◌≤◌, Bool, true, false, List, slice_index_or, ⊤}
+use Rattle.std.specs.Char.{IsScalar}
+use Rattle.std.specs.List.{AllByRecursion, Contains}
+use Rattle.icu_entries.specs.declared.entry.EntryKind.TheVariants.{Implicit as ImplicitKind}
+use Rattle.icu_entries.specs.Entries.{kind_of}
+use Rattle.icu_data.specs.declared.block_walk.BlockState.{BlockState}
+use Rattle.icu_data.specs.declared.block_walk.BlockState.TheVariants.{Unread, Visited, Shared}
+use Rattle.icu_data.specs.declared.block_walk.Part.{Part}
+use Rattle.icu_data.specs.declared.block_walk.Part.TheVariants.{Stated, ByCharacter, Implicit}
+use Rattle.icu_data.specs.declared.visited_entries.VisitedEntries.{VisitedEntries}
+use Rattle.icu_data.specs.declared.data.CollationData.{CollationData}
+use Rattle.icu_data.specs.Data.{Data}
+use Rattle.icu_data.specs.Live.{leads_to_character}
+use Rattle.icu_data.specs.StoredData.{data_of, block_in}
+use Rattle.icu_data.specs.Walks.{after_chars, StandsFor}
+use Rattle.icu_data.specs.inner.VisitedEntries.{IsRemembered}
+
+-- a character with this entry is visited
+unfoldable pub is_wanted : Part → Data → ℕ → Bool
+is_wanted Stated home e = elim (kind_of e) [ ImplicitKind ↦ false | _ ↦ true ]
+is_wanted ByCharacter home e = elim (kind_of e) [ ImplicitKind ↦ false | _ ↦ leads_to_character home e ]
+is_wanted Implicit home e = elim (kind_of e) [ ImplicitKind ↦ true | _ ↦ false ]
+
+-- A visitor went from one state to another by visits of entries that are live with these characters and stand for those of a part
+-- from one code point up to another.
+pub record WalkedTo {V : Type 0} (after : V → Data → ℕ → ℕ → V) (falls_back : Bool) (part : Part) (home : Data) (old new : V) (from end : ℕ) : Type 0 where
+  pub chars : List ℕ
+  pub scalars : AllByRecursion IsScalar chars
+  pub adds_up : new ≡ after_chars after falls_back old home chars
+  pub each : (c : ℕ) → from ≤ c → c < end → IsScalar c → is_wanted part home (home.value c) ≡ true → StandsFor home chars c
+
+-- none of the entries that are remembered leads to one that goes by its character
+abbrev pub AreShared : Data → VisitedEntries → Type 0
+AreShared home seen = (e : ℕ) → IsRemembered seen e → leads_to_character home e ≡ false
+
+-- one of these characters has the entry
+pub record IsVisited (home : Data) (cs : List ℕ) (e : ℕ) : Type 0 where
+  pub char : ℕ
+  pub among : Contains cs char
+  pub has : home.value char ≡ e
+
+-- a visitor went up to a code point, but for implicit weights, and the entries that are remembered were visited on the way
+pub record Holds {V : Type 0} (after : V → Data → ℕ → ℕ → V) (falls_back : Bool) (home : Data) (seen : VisitedEntries) (old new : V) (end : ℕ) : Type 0 where
+  pub walked : WalkedTo after falls_back Stated home old new 0 end
+  pub visited : (e : ℕ) → IsRemembered seen e → IsVisited home walked.chars e
+
+-- of the 64 code points from this one on, no character leads to an entry that goes by it, but for implicit weights
+abbrev pub IsShared : Data → ℕ → Type 0
+IsShared home first = (c : ℕ) → first ≤ c → c < first + 64 → IsScalar c → is_wanted ByCharacter home (home.value c) ≡ false
+
+-- what the state of a block says of its values, by the code points that read it
+abbrev pub IsState : Data → ℕ → BlockState → Type 0
+IsState home first Unread = ⊥
+IsState home first Visited = ⊤
+IsState home first Shared = IsShared home first
+
+-- 64 code points before the n-th read the block, and their characters were visited
+pub record IsRead (d : CollationData) (n b : ℕ) (state : BlockState) : Type 0 where
+  pub index : ℕ
+  pub below : index < n
+  pub scalar : IsScalar (64 * index)
+  pub reads : block_in d index ≡ b
+  pub is : IsState (data_of d) (64 * index) state
+
+-- the same, if it was read
+abbrev pub HasState : CollationData → ℕ → ℕ → BlockState → Type 0
+HasState d n b Unread = ⊤
+HasState d n b Visited = IsRead d n b Visited
+HasState d n b Shared = IsRead d n b Shared
+
+abbrev pub AreStates : CollationData → ℕ → List BlockState → Type 0
+AreStates d n states = (b : ℕ) → b < 0x10000 → HasState d n b (slice_index_or states b Unread)

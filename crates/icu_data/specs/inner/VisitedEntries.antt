@@ -1,0 +1,7 @@
+-- Entries that a walk remembers.
+use Rattle.std.specs.Prelude.{ℕ, Some}
+use Rattle.std.specs.List.{Contains}
+use Rattle.icu_data.specs.declared.visited_entries.VisitedEntries.{VisitedEntries}
+
+abbrev pub IsRemembered : VisitedEntries → ℕ → Type 0
+IsRemembered v e = Contains v.entries (Some e)

@@ -1,0 +1,109 @@
+-- How far a text is read ahead for a contraction.
+use Rattle.std.proofs.Common.{◌≡◌, ℕ, ◌<◌, true, false, ◌&&◌, ◌==◌, ap₂, IsTrue, slice_index_or, List, [], ◌∷◌, ◌++◌, length, drop, Option, Some, None, is_some, refl, sym, ap, subst, ◌∙◌, arith, inl, inr}
+use Rattle.std.specs.Prelude.{slice_get}
+use Rattle.std.proofs.lemmas.Bool.{cases_Bool, and_from, true≢false}
+use Rattle.std.specs.List.{list_any}
+use Rattle.unicode_normalization.specs.Order.{is_starter}
+use Rattle.icu_entries.specs.declared.entry.EntryKind.{EntryKind}
+use Rattle.icu_entries.specs.declared.entry.EntryKind.TheVariants.{Contraction, Digit}
+use Rattle.icu_entries.specs.Entries.{kind_of, entry_index}
+use Rattle.icu_data.specs.Contexts.{has_ascending_rows}
+use Rattle.icu_data.specs.Data.{Data, Context, HomedEntry, homed, no_context, context_of, longest_row}
+use Rattle.icu_provider.specs.Tables.{entry_of, diacritic_of}
+use Rattle.icu_matches.specs.Matches.{after_prefix}
+use Rattle.icu_matches.specs.ReadAhead.{are_decided, row_length}
+use Rattle.icu_matches.proofs.ReadAheadLemmas.{are_decided-longer, any_behind-longer, longest_from-decided}
+use Rattle.icu_elements.specs.TextElements.{Reading, is_digit_kind}
+use Rattle.icu_elements.specs.ReadAhead.{HasWholeStep}
+use Rattle.icu_elements.specs.inner.ReadsAhead.{IsRunRead, IsMatchRead, HasWholeContraction, IsDotRead}
+use Rattle.icu_elements.proofs.EnoughLemmas.{HasWholeStep-diacritic, HasWholeStep-dot, HasWholeStep-other, HasWholeStep-contraction}
+
+-- rows that are decided, with what the longest one takes
+pub record IsRowRead (context : Context) (taken : ℕ) (text : List ℕ) : Type 0 where
+  pub decided : are_decided context.rows text ≡ true
+  pub longest : row_length (longest_row context.rows text) ≡ taken
+
+pub IsRowRead-at : (context : Context) (taken : ℕ) (text : List ℕ) → row_length (longest_row context.rows text) ≡ taken → are_decided context.rows text ≡ true → IsRowRead context taken text
+IsRowRead-at context taken text is decided = record { decided = decided; longest = is }
+
+longest-longer : (context : Context) (text more : List ℕ) → are_decided context.rows text ≡ true → row_length (longest_row context.rows (text ++ more)) ≡ row_length (longest_row context.rows text)
+longest-longer context text more decided = ap row_length (longest_from-decided None context.rows text more decided)
+
+-- what was read stays read
+pub IsRowRead-longer : (context : Context) (taken : ℕ) (text more : List ℕ) → IsRowRead context taken text → IsRowRead context taken (text ++ more)
+IsRowRead-longer context taken text more h = record {
+  decided = are_decided-longer context.rows text more h.decided;
+  longest = longest-longer context text more h.decided ∙ h.longest;
+}
+
+pub IsMatchRead-longer : (context : Context) (taken : ℕ) (text more : List ℕ) → IsMatchRead context taken text → IsMatchRead context taken (text ++ more)
+IsMatchRead-longer context taken text more h = record {
+  decided = are_decided-longer context.rows text more h.decided;
+  longest = longest-longer context text more h.decided ∙ h.longest;
+  behind = any_behind-longer is_starter taken text more h.behind;
+}
+
+pub IsMatchRead-row : (context : Context) (taken : ℕ) (text : List ℕ) → IsRowRead context taken text × (list_any is_starter (drop taken text) ≡ true) → IsMatchRead context taken text
+IsMatchRead-row context taken text h = record { decided = h.0.decided; longest = h.0.longest; behind = h.1 }
+
+-- a contraction whose row takes some, or that has no row and whose run is read
+pub HasWholeContraction-row : (reading : Reading) (context : Context) (taken : ℕ) (text : List ℕ) → 0 < taken → IsMatchRead context taken text → HasWholeContraction reading context text
+HasWholeContraction-row reading context taken text some h = record {
+  decided = h.decided;
+  behind = subst (λ n. list_any is_starter (drop n text) ≡ true) (sym h.longest) h.behind;
+  run = λ none. let zero_taken : 0 ≡ taken = sym (ap row_length none) ∙ h.longest in absurd (omega (arith, some, zero_taken));
+}
+
+pub HasWholeContraction-run : (reading : Reading) (context : Context) (taken : ℕ) (text : List ℕ) → IsMatchRead context taken text × IsRunRead reading context.default text → HasWholeContraction reading context text
+HasWholeContraction-run reading context taken text h = record {
+  decided = h.0.decided;
+  behind = subst (λ n. list_any is_starter (drop n text) ≡ true) (sym h.0.longest) h.0.behind;
+  run = λ none. h.1;
+}
+
+-- where an entry begins no number, no run need be read
+digit_kind : (k : EntryKind) → k ≡ Digit → is_digit_kind k ≡ true
+digit_kind Digit h = refl
+digit_kind _ h = cc
+
+pub IsRunRead-none : (reading : Reading) (entry : ℕ) (text : List ℕ) → (is_some reading.numeric && is_digit_kind (kind_of entry)) ≡ false → IsRunRead reading entry text
+IsRunRead-none reading entry text other on digit = absurd (true≢false (sym (and_from _ _ on (digit_kind (kind_of entry) digit)) ∙ other))
+
+-- ---- a step, by what its call of the tables says
+
+some_there : (o : Option ℕ) → is_some o ≡ true → (s : ℕ) × (o ≡ Some s)
+some_there (Some s) h = (s, refl)
+some_there None h = cc
+
+first_there : (text : List ℕ) → 0 < length text → (x : ℕ) × (slice_get text 0 ≡ Some x)
+first_there [] h = absurd (omega (arith, h))
+first_there (x ∷ xs) h = (x, refl)
+
+pub HasWholeStep-by_dot : (reading : Reading) (before : List ℕ) (c : ℕ) (text : List ℕ) → is_some (diacritic_of reading.tables c) ≡ true → IsDotRead reading c text → HasWholeStep reading before c text
+HasWholeStep-by_dot reading before c text there dot =
+    let s = some_there (diacritic_of reading.tables c) there in
+    elim (cases_Bool (reading.lithuanian && c == 0x307)) [
+      | inl is ↦ let x = first_there text (dot is) in HasWholeStep-dot reading before c text s.0 x.0 s.1 x.1
+      | inr other ↦ HasWholeStep-diacritic reading before c text s.0 s.1 other
+    ]
+
+none_there : (o : Option ℕ) → is_some o ≡ false → o ≡ None
+none_there (Some s) h = cc
+none_there None h = refl
+
+module _ (reading : Reading) (before : List ℕ) (c : ℕ) (home : Data) (e f : ℕ) (none : is_some (diacritic_of reading.tables c) ≡ false) (entry : entry_of reading.tables c ≡ homed home e) (after : f ≡ after_prefix (homed home e) before) where
+  same_entry : f ≡ after_prefix (entry_of reading.tables c) before
+  same_entry = after ∙ ap (λ h. after_prefix h before) (sym entry)
+
+  pub HasWholeStep-by_run : (kind_of f ≡ Contraction → ⊥) → (text : List ℕ) → IsRunRead reading f text → HasWholeStep reading before c text
+  HasWholeStep-by_run other text run =
+      HasWholeStep-other reading before c text (none_there (diacritic_of reading.tables c) none) (λ is. other (ap kind_of same_entry ∙ is))
+      (subst (λ x. IsRunRead reading x text) same_entry run)
+
+  pub HasWholeStep-by_contraction : (context : Context) → kind_of f ≡ Contraction → context ≡ slice_index_or home.contexts (entry_index f) no_context → IsTrue (has_ascending_rows context)
+      → (text : List ℕ) → HasWholeContraction reading context text → HasWholeStep reading before c text
+  HasWholeStep-by_contraction context is found ascend text read =
+      let same : context ≡ context_of (homed (entry_of reading.tables c).home (after_prefix (entry_of reading.tables c) before)) =
+      found ∙ ap₂ (λ (h : HomedEntry) (x : ℕ). context_of (homed h.home x)) (sym entry) same_entry in
+      HasWholeStep-contraction reading before c text (none_there (diacritic_of reading.tables c) none) (sym (ap kind_of same_entry) ∙ is)
+      (subst (λ (k : Context). IsTrue (has_ascending_rows k)) same ascend) (subst (λ (k : Context). HasWholeContraction reading k text) same read)

@@ -1,0 +1,56 @@
+-- What reading ahead does: characters come from a source of decomposed characters to those that were read.
+use Rattle.std.specs.Prelude.{true, not, Bool, ◌<◌, ◌&&◌, ◌==◌, length, drop, is_some, ◌≡◌, ◌⊎◌, ℕ, List, [], ◌++◌, Option, None, IsTrue, option_to_list, ⊤}
+use Rattle.unicode_normalization.specs.declared.decompose.Decompositions.{Decompositions}
+use Rattle.std.specs.List.{list_any}
+use Rattle.unicode_normalization.specs.Order.{is_starter}
+use Rattle.icu_entries.specs.declared.entry.EntryKind.TheVariants.{Digit}
+use Rattle.icu_entries.specs.Entries.{kind_of}
+use Rattle.icu_data.specs.Data.{Context, longest_row}
+use Rattle.icu_provider.specs.Tables.{Tables}
+use Rattle.icu_matches.specs.ReadAhead.{are_decided, row_length}
+use Rattle.icu_elements.specs.TextElements.{Reading, continues_number}
+use Rattle.icu_elements.specs.inner.Iterating.{StillReads}
+
+-- Some more came after the text that there was, of what the source had; then the text is as it is to be, or the source has no more.
+pub record ReadsTo {I : Type 0} (steps : I → Option ℕ → I → Type 0) (Is : List ℕ → Type 0) (old : Decompositions I) (text : List ℕ) (new : Decompositions I) (longer : List ℕ) : Type 0 where
+  pub more : List ℕ
+  pub grown : longer ≡ text ++ more
+  pub at : (cs : List ℕ) → StillReads steps old cs → (left : List ℕ) × (cs ≡ more ++ left) × StillReads steps new left × (Is longer ⊎ (left ≡ []))
+
+-- some more came
+abbrev pub ReadsOn : {I : Type 0} → (I → Option ℕ → I → Type 0) → Decompositions I → List ℕ → Decompositions I → List ℕ → Type 0
+ReadsOn steps = ReadsTo steps (λ _. ⊤)
+
+-- one came, or all did
+abbrev pub ReadsOne : {I : Type 0} → (I → Option ℕ → I → Type 0) → Option ℕ → Decompositions I → List ℕ → Decompositions I → List ℕ → Type 0
+ReadsOne steps found old text new longer = ReadsTo steps (λ _. IsTrue (is_some found)) old text new longer × (longer ≡ text ++ option_to_list found)
+
+-- ---- how far it reads
+
+-- a character of the text doesn't go on a number
+abbrev pub has_run_end : Tables → List ℕ → Bool
+has_run_end tables text = list_any (λ d. not (continues_number tables d)) text
+
+-- so is one, where this entry is a digit's and digits are read as numbers
+abbrev pub IsRunRead : Reading → ℕ → List ℕ → Type 0
+IsRunRead reading entry text = is_some reading.numeric ≡ true → kind_of entry ≡ Digit → has_run_end reading.tables text ≡ true
+
+-- a character is there
+abbrev pub IsBegun : List ℕ → Type 0
+IsBegun text = 0 < length text
+
+-- so is one after a dot that it may make silent
+abbrev pub IsDotRead : Reading → ℕ → List ℕ → Type 0
+IsDotRead reading c text = (reading.lithuanian && c == 0x307) ≡ true → IsBegun text
+
+-- the rows of a context are decided, the longest one takes so many characters, and a starter stands behind them
+pub record IsMatchRead (context : Context) (taken : ℕ) (text : List ℕ) : Type 0 where
+  pub decided : are_decided context.rows text ≡ true
+  pub longest : row_length (longest_row context.rows text) ≡ taken
+  pub behind : list_any is_starter (drop taken text) ≡ true
+
+-- and where no row begins the text, the run of a digit is read
+pub record HasWholeContraction (reading : Reading) (context : Context) (text : List ℕ) : Type 0 where
+  pub decided : are_decided context.rows text ≡ true
+  pub behind : list_any is_starter (drop (row_length (longest_row context.rows text)) text) ≡ true
+  pub run : longest_row context.rows text ≡ None → IsRunRead reading context.default text

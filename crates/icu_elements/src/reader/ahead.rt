@@ -1,0 +1,263 @@
+//! Reads ahead in a text as far as the next step looks, and no further.
+
+ghost use Rattle.std.specs.Prelude.{◌≡◌, ◌≤◌, ◌<◌, ◌+◌, ◌&&◌, length, drop, IsTrue, OnOk, IfOk, is_some, true};
+ghost use Rattle.std.specs.List.{list_any};
+ghost use Rattle.icu_data.specs.Contexts.{has_ascending_rows};
+ghost use Rattle.icu_data.specs.StoredData.{found_context};
+ghost use Rattle.icu_entries.specs.Entries.{kind_of};
+ghost use Rattle.icu_elements.specs.ReadAhead.{HasWholeStep};
+ghost use Rattle.icu_elements.specs.TextElements.{is_digit_kind};
+ghost use Rattle.icu_elements.specs.inner.Positions.{reading_by_tables, recent_chars};
+ghost use Rattle.icu_elements.specs.inner.ReadsAhead.{ReadsTo, ReadsOne, IsBegun, has_run_end, IsRunRead, IsMatchRead, HasWholeContraction, IsDotRead};
+ghost use Rattle.icu_elements.specs.Reading.{element_tables};
+ghost use Rattle.icu_data.specs.Data.{longest_row};
+ghost use Rattle.icu_matches.specs.ReadAhead.{are_decided, row_length};
+ghost use Rattle.icu_matches.specs.Texts.{unread};
+ghost use Rattle.unicode_normalization.specs.Decompositions.{CanDecompose, decompositions_size};
+ghost use Rattle.unicode_normalization.specs.Order.{is_starter};
+
+use crate::reader::TextReading;
+use crate::reader::recent::RecentChars;
+use crate::tables::ElementTables;
+use icu_data::FoundContext;
+use icu_entries::{CollationElement32, EntryKind};
+use icu_matches::{Text, after_prefix, find_longest, row_goes_on};
+use std::alloc::AllocError;
+use unicode_normalization::Decompositions;
+use unicode_normalization::char::canonical_combining_class;
+
+/// Takes one more character from the source, and returns it: `None` where none is left.
+fn read_one<I: Iterator<Item = char> + Drop>(
+    source: &mut Decompositions<I>,
+    text: &mut Text,
+) -> Result<Option<char>, AllocError>
+    requires { CanDecompose I.can_next I.remaining source.old }
+    ensures ready { OnOk result (CanDecompose I.can_next I.remaining source.new) }
+    ensures text { IfOk result (λ found. ReadsOne I.next_gives found source.old (unread text.old) source.new (unread text.new)) }
+    ensures size { OnOk result (decompositions_size I.remaining source.new + length (unread text.new) ≤ decompositions_size I.remaining source.old + length (unread text.old)) }
+    ensures shorter { IfOk result (λ found. is_some found ≡ true → decompositions_size I.remaining source.new < decompositions_size I.remaining source.old) }
+{
+    match source.next() {
+        None => Ok(None),
+        Some(item) => {
+            let c = item?;
+            text.push(c)?;
+            Ok(Some(c))
+        }
+    }
+}
+
+/// Reads on until a character is there.
+pub(crate) fn read_first<I: Iterator<Item = char> + Drop>(
+    source: &mut Decompositions<I>,
+    text: &mut Text,
+) -> Result<(), AllocError>
+    requires { CanDecompose I.can_next I.remaining source.old }
+    ensures ready { OnOk result (CanDecompose I.can_next I.remaining source.new) }
+    ensures text { OnOk result (ReadsTo I.next_gives (IsBegun) source.old (unread text.old) source.new (unread text.new)) }
+    ensures size { OnOk result (decompositions_size I.remaining source.new + length (unread text.new) ≤ decompositions_size I.remaining source.old + length (unread text.old)) }
+{
+    if !text.is_empty() {
+        return Ok(());
+    }
+    read_one(source, text)?;
+    Ok(())
+}
+
+/// Whether a character doesn't go on a number.
+fn has_run_end(tables: ElementTables<'_>, text: &[char]) -> bool
+    ensures { result ≡ has_run_end (element_tables tables.entry) text.now }
+{
+    text.iter().any(|c| tables.digit(*c).is_none())
+}
+
+/// Reads on until a character doesn't go on a number.
+fn read_run<I: Iterator<Item = char> + Drop>(
+    tables: ElementTables<'_>,
+    source: &mut Decompositions<I>,
+    text: &mut Text,
+) -> Result<(), AllocError>
+    requires { CanDecompose I.can_next I.remaining source.old }
+    ensures ready { OnOk result (CanDecompose I.can_next I.remaining source.new) }
+    ensures text { OnOk result (ReadsTo I.next_gives (λ l. has_run_end (element_tables tables.entry) l ≡ true) source.old (unread text.old) source.new (unread text.new)) }
+    ensures size { OnOk result (decompositions_size I.remaining source.new + length (unread text.new) ≤ decompositions_size I.remaining source.old + length (unread text.old)) }
+{
+    if has_run_end(tables, text.as_slice()) {
+        return Ok(());
+    }
+    while let Some(c) = read_one(source, text)? {
+        if tables.digit(c).is_none() {
+            return Ok(());
+        }
+    }
+    Ok(())
+}
+
+/// Whether a starter is among the characters.
+fn has_starter(text: &[char]) -> bool
+    ensures { result ≡ list_any is_starter text.now }
+{
+    text.iter().any(|c| canonical_combining_class(*c) == 0)
+}
+
+/// Reads on until a starter stands behind so many characters.
+fn read_starter<I: Iterator<Item = char> + Drop>(
+    from: usize,
+    source: &mut Decompositions<I>,
+    text: &mut Text,
+) -> Result<(), AllocError>
+    requires can { CanDecompose I.can_next I.remaining source.old }
+    requires inside { from ≤ length (unread text.old) }
+    ensures ready { OnOk result (CanDecompose I.can_next I.remaining source.new) }
+    ensures text { OnOk result (ReadsTo I.next_gives (λ l. list_any is_starter (drop from l) ≡ true) source.old (unread text.old) source.new (unread text.new)) }
+    ensures size { OnOk result (decompositions_size I.remaining source.new + length (unread text.new) ≤ decompositions_size I.remaining source.old + length (unread text.old)) }
+{
+    if has_starter(&text.as_slice()[from..]) {
+        return Ok(());
+    }
+    while let Some(c) = read_one(source, text)? {
+        if canonical_combining_class(c) == 0 {
+            return Ok(());
+        }
+    }
+    Ok(())
+}
+
+/// Reads on until no row of a context goes on where the text ends.
+fn read_rows<I: Iterator<Item = char> + Drop>(
+    context: FoundContext<'_>,
+    source: &mut Decompositions<I>,
+    text: &mut Text,
+) -> Result<(), AllocError>
+    requires can { CanDecompose I.can_next I.remaining source.old }
+    requires ascending { IsTrue (has_ascending_rows (found_context context)) }
+    ensures ready { OnOk result (CanDecompose I.can_next I.remaining source.new) }
+    ensures text { OnOk result (ReadsTo I.next_gives (λ l. are_decided (found_context context.entry).rows l ≡ true) source.old (unread text.old) source.new (unread text.new)) }
+    ensures size { OnOk result (decompositions_size I.remaining source.new + length (unread text.new) ≤ decompositions_size I.remaining source.old + length (unread text.old)) }
+{
+    'rows: while row_goes_on(context, text.as_slice()) {
+        if read_one(source, text)?.is_none() {
+            return Ok(());
+        }
+    }
+    Ok(())
+}
+
+/// How many characters the longest row takes that begins a text.
+fn longest_len(context: FoundContext<'_>, text: &Text) -> usize
+    requires { IsTrue (has_ascending_rows (found_context context)) }
+    ensures longest { result ≡ row_length (longest_row (found_context context.entry).rows (unread text.now)) }
+    ensures inside { result ≤ length (unread text.now) }
+{
+    match find_longest(context, text.as_slice()) {
+        Some(index) => context.row(index).chars.len(),
+        None => 0,
+    }
+}
+
+/// Reads on until a contraction's row is decided, and with it the marks that may join. Returns how many characters the row takes.
+fn read_match<I: Iterator<Item = char> + Drop>(
+    context: FoundContext<'_>,
+    source: &mut Decompositions<I>,
+    text: &mut Text,
+) -> Result<usize, AllocError>
+    requires can { CanDecompose I.can_next I.remaining source.old }
+    requires ascending { IsTrue (has_ascending_rows (found_context context)) }
+    ensures ready { OnOk result (CanDecompose I.can_next I.remaining source.new) }
+    ensures text { IfOk result (λ taken. ReadsTo I.next_gives (IsMatchRead (found_context context.entry) taken) source.old (unread text.old) source.new (unread text.new)) }
+    ensures size { OnOk result (decompositions_size I.remaining source.new + length (unread text.new) ≤ decompositions_size I.remaining source.old + length (unread text.old)) }
+{
+    read_rows(context, source, text)?;
+    let taken = longest_len(context, text);
+    read_starter(taken, source, text)?;
+    Ok(taken)
+}
+
+/// Whether an entry begins a number.
+fn begins_number(reading: TextReading<'_>, ce32: CollationElement32) -> bool
+    ensures { result ≡ (is_some reading.entry.numeric_primary && is_digit_kind (kind_of ce32)) }
+{
+    reading.numeric_primary.is_some() && matches!(ce32.kind(), EntryKind::Digit)
+}
+
+/// Reads on to the end of a run of digits, where this entry begins a number.
+fn read_number<I: Iterator<Item = char> + Drop>(
+    reading: TextReading<'_>,
+    ce32: CollationElement32,
+    source: &mut Decompositions<I>,
+    text: &mut Text,
+) -> Result<(), AllocError>
+    requires { CanDecompose I.can_next I.remaining source.old }
+    ensures ready { OnOk result (CanDecompose I.can_next I.remaining source.new) }
+    ensures text { OnOk result (ReadsTo I.next_gives (IsRunRead (reading_by_tables reading.entry) ce32) source.old (unread text.old) source.new (unread text.new)) }
+    ensures size { OnOk result (decompositions_size I.remaining source.new + length (unread text.new) ≤ decompositions_size I.remaining source.old + length (unread text.old)) }
+{
+    if !begins_number(reading, ce32) {
+        return Ok(());
+    }
+    read_run(reading.tables, source, text)
+}
+
+/// Reads on until what follows the text changes nothing of a contraction.
+fn read_contraction<I: Iterator<Item = char> + Drop>(
+    reading: TextReading<'_>,
+    context: FoundContext<'_>,
+    source: &mut Decompositions<I>,
+    text: &mut Text,
+) -> Result<(), AllocError>
+    requires can { CanDecompose I.can_next I.remaining source.old }
+    requires ascending { IsTrue (has_ascending_rows (found_context context)) }
+    ensures ready { OnOk result (CanDecompose I.can_next I.remaining source.new) }
+    ensures text { OnOk result (ReadsTo I.next_gives (HasWholeContraction (reading_by_tables reading.entry) (found_context context.entry)) source.old (unread text.old) source.new (unread text.new)) }
+    ensures size { OnOk result (decompositions_size I.remaining source.new + length (unread text.new) ≤ decompositions_size I.remaining source.old + length (unread text.old)) }
+{
+    let taken = read_match(context, source, text)?;
+    if taken > 0 {
+        return Ok(());
+    }
+    read_number(reading, context.default(), source, text)
+}
+
+/// Reads on by a diacritic: one character after U+0307, where it may be silent.
+fn read_dot<I: Iterator<Item = char> + Drop>(
+    reading: TextReading<'_>,
+    c: char,
+    source: &mut Decompositions<I>,
+    text: &mut Text,
+) -> Result<(), AllocError>
+    requires { CanDecompose I.can_next I.remaining source.old }
+    ensures ready { OnOk result (CanDecompose I.can_next I.remaining source.new) }
+    ensures text { OnOk result (ReadsTo I.next_gives (IsDotRead (reading_by_tables reading.entry) c) source.old (unread text.old) source.new (unread text.new)) }
+    ensures size { OnOk result (decompositions_size I.remaining source.new + length (unread text.new) ≤ decompositions_size I.remaining source.old + length (unread text.old)) }
+{
+    if reading.lithuanian_dot_above && c == '\u{307}' {
+        return read_first(source, text);
+    }
+    Ok(())
+}
+
+/// Reads on until what follows the text changes nothing of the step at a character before it, after these characters.
+pub(crate) fn read_ahead<I: Iterator<Item = char> + Drop>(
+    reading: TextReading<'_>,
+    recent: RecentChars,
+    c: char,
+    source: &mut Decompositions<I>,
+    text: &mut Text,
+) -> Result<(), AllocError>
+    requires { CanDecompose I.can_next I.remaining source.old }
+    ensures ready { OnOk result (CanDecompose I.can_next I.remaining source.new) }
+    ensures text { OnOk result (ReadsTo I.next_gives (HasWholeStep (reading_by_tables reading.entry) (recent_chars recent) c) source.old (unread text.old) source.new (unread text.new)) }
+    ensures size { OnOk result (decompositions_size I.remaining source.new + length (unread text.new) ≤ decompositions_size I.remaining source.old + length (unread text.old)) }
+{
+    if reading.tables.diacritic(c).is_some() {
+        return read_dot(reading, c, source, text);
+    }
+    let entry = reading.tables.entry(c);
+    let ce32 = after_prefix(entry.home, entry.ce32, recent.as_slice());
+    match ce32.kind() {
+        EntryKind::Contraction => {
+            read_contraction(reading, entry.home.get_context(ce32.index()), source, text)
+        }
+        _ => read_number(reading, ce32, source, text),
+    }
+}

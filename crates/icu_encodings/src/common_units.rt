@@ -1,0 +1,153 @@
+//! The common beginning of two texts.
+
+ghost use Rattle.std.specs.Prelude.{◌≡◌, ◌≤◌, ℕ, take, length, MatchOption};
+ghost use Rattle.icu_encodings.specs.inner.Fronts.{BeginAlike, EndTogether};
+ghost use Rattle.icu_encodings.specs.DecodedTexts.{latin1_text, utf16_text};
+
+use crate::encoded_text::{EncodedText, Latin1Text, Utf8Text, Utf16Text};
+
+/// Two encodings whose texts can be compared unit by unit.
+pub trait CommonUnits<R: EncodedText>: EncodedText {
+    /// How many first units the two texts have in common. That many first units, or fewer, are the same characters in both.
+    fn common_units(self, other: R) -> usize
+        ensures same { Self.units self ≡ R.units other → result ≡ length (Self.units self) }
+        ensures heads { (n : ℕ) → n ≤ result → Self.head self n ≡ R.head other n };
+}
+
+impl<'a, 'b> CommonUnits<Utf8Text<'b>> for Utf8Text<'a> {
+    #[inline]
+    fn common_units(self, other: Utf8Text<'b>) -> usize {
+        common_bytes(self.0, other.0)
+    }
+}
+
+impl<'a, 'b> CommonUnits<Latin1Text<'b>> for Latin1Text<'a> {
+    #[inline]
+    fn common_units(self, other: Latin1Text<'b>) -> usize {
+        common_bytes(self.0, other.0)
+    }
+}
+
+impl<'a, 'b> CommonUnits<Utf16Text<'b>> for Utf16Text<'a> {
+    #[inline]
+    fn common_units(self, other: Utf16Text<'b>) -> usize {
+        common_units16(self.0, other.0)
+    }
+}
+
+impl<'a, 'b> CommonUnits<Utf16Text<'b>> for Latin1Text<'a> {
+    #[inline]
+    fn common_units(self, other: Utf16Text<'b>) -> usize {
+        common_bytes_and_units(self.0, other.0)
+    }
+}
+
+/// What follows the first byte of two lists that both have it, and `None` where they have none in common.
+#[inline]
+fn after_common_byte<'a, 'b>(one: &'a [u8], other: &'b [u8]) -> Option<(&'a [u8], &'b [u8])>
+    ensures { MatchOption result (EndTogether one.entry.now other.entry.now)
+        (λ p. BeginAlike one.entry.now other.entry.now p.0.now p.1.now) }
+{
+    let (unit, rest) = one.split_first()?;
+    let (other_unit, other_rest) = other.split_first()?;
+    if *unit == *other_unit {
+        Some((rest, other_rest))
+    } else {
+        None
+    }
+}
+
+/// The same of units of 16 bits.
+#[inline]
+fn after_common_unit<'a, 'b>(one: &'a [u16], other: &'b [u16]) -> Option<(&'a [u16], &'b [u16])>
+    ensures { MatchOption result (EndTogether one.entry.now other.entry.now)
+        (λ p. BeginAlike one.entry.now other.entry.now p.0.now p.1.now) }
+{
+    let (unit, rest) = one.split_first()?;
+    let (other_unit, other_rest) = other.split_first()?;
+    if *unit == *other_unit {
+        Some((rest, other_rest))
+    } else {
+        None
+    }
+}
+
+/// The same of bytes and units of 16 bits.
+#[inline]
+fn after_common_number<'a, 'b>(one: &'a [u8], other: &'b [u16]) -> Option<(&'a [u8], &'b [u16])>
+    ensures { MatchOption result (EndTogether one.entry.now other.entry.now)
+        (λ p. BeginAlike one.entry.now other.entry.now p.0.now p.1.now) }
+{
+    let (byte, rest) = one.split_first()?;
+    let (unit, other_rest) = other.split_first()?;
+    if u16::from(*byte) == *unit {
+        Some((rest, other_rest))
+    } else {
+        None
+    }
+}
+
+/// How many first bytes two lists have in common, eight at a time as long as that goes.
+#[inline]
+fn common_bytes(left: &[u8], right: &[u8]) -> usize
+    ensures same { left.now ≡ right.now → result ≡ length left.now }
+    ensures fronts { take result left.now ≡ take result right.now }
+{
+    let mut one = left;
+    let mut other = right;
+    'words: while let Some((word, rest)) = one.split_first_chunk::<8>() {
+        let Some((other_word, other_rest)) = other.split_first_chunk::<8>() else {
+            break 'words;
+        };
+        if word != other_word {
+            break 'words;
+        }
+        one = rest;
+        other = other_rest;
+    }
+    'bytes: while let Some((rest, other_rest)) = after_common_byte(one, other) {
+        one = rest;
+        other = other_rest;
+    }
+    left.len() - one.len()
+}
+
+/// How many first units of 16 bits two lists have in common.
+#[inline]
+fn common_units16(left: &[u16], right: &[u16]) -> usize
+    ensures same { left.now ≡ right.now → result ≡ length left.now }
+    ensures fronts { take result left.now ≡ take result right.now }
+{
+    let mut one = left;
+    let mut other = right;
+    'words: while let Some((word, rest)) = one.split_first_chunk::<4>() {
+        let Some((other_word, other_rest)) = other.split_first_chunk::<4>() else {
+            break 'words;
+        };
+        if word != other_word {
+            break 'words;
+        }
+        one = rest;
+        other = other_rest;
+    }
+    'units: while let Some((rest, other_rest)) = after_common_unit(one, other) {
+        one = rest;
+        other = other_rest;
+    }
+    left.len() - one.len()
+}
+
+/// How many first bytes and units of 16 bits are the same numbers.
+#[inline]
+fn common_bytes_and_units(left: &[u8], right: &[u16]) -> usize
+    ensures same { left.now ≡ right.now → result ≡ length left.now }
+    ensures heads { (n : ℕ) → n ≤ result → latin1_text (take n left.now) ≡ utf16_text (take n right.now) }
+{
+    let mut one = left;
+    let mut other = right;
+    'units: while let Some((rest, other_rest)) = after_common_number(one, other) {
+        one = rest;
+        other = other_rest;
+    }
+    left.len() - one.len()
+}

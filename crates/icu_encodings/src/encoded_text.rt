@@ -1,0 +1,242 @@
+//! Texts, each in its encoding, that are read character by character as often as need be.
+
+ghost use Rattle.std.specs.Prelude.{◌≡◌, false, ◌<◌, ◌∷◌, ◌++◌, [], ℕ, List, take, length, MatchOption, IfSome};
+ghost use Rattle.icu_encodings.specs.inner.Cuts.{StartsClean, StartsNoTrail};
+ghost use Rattle.std.specs.List.{AllByRecursion};
+ghost use Rattle.std.specs.Char.{IsScalar};
+ghost use Rattle.std.specs.Iterator.{YieldsFirst, item_count};
+ghost use Rattle.icu_encodings.specs.DecodedTexts.{latin1_text, utf16_text, utf8_text, SpellsText};
+
+use crate::latin1::Latin1Iter;
+use crate::utf8::utf8_chars;
+use crate::utf16::{Utf16Chars, split_first_char};
+use bstr::decode_lossy;
+use std::marker::Model;
+
+/// A text in some encoding. What follows its first character is such a text again, so it can be read as often as need be.
+pub trait EncodedText: Copy {
+    /// Its characters.
+    ghost text: { Self → List ℕ };
+
+    /// Its units, as numbers: bytes, or units of 16 bits.
+    ghost units: { Self → List ℕ };
+
+    /// The characters of its first units alone, as many as are given.
+    ghost head: { Self → ℕ → List ℕ };
+
+    /// The first character and the text after it, or `None` where the text is empty.
+    fn split_first_char(self) -> Option<(char, Self)>
+        ensures { MatchOption result (text self ≡ []) (λ p. text self ≡ p.0 ∷ text p.1) };
+
+    /// The first character and the text after it, where that character is ASCII, below U+0080.
+    fn split_first_ascii(self) -> Option<(u8, Self)>
+        ensures first { IfSome result (λ p. text self ≡ p.0 ∷ text p.1) }
+        ensures ascii { IfSome result (λ p. p.0 < 0x80) };
+
+    /// The characters are scalar values (Unicode Standard, section 3.9).
+    fn has_scalar_values(self)
+        ensures { AllByRecursion IsScalar (text self) };
+
+    /// How many units the text has: bytes, or units of 16 bits.
+    fn unit_count(self) -> usize
+        ensures count { result ≡ length (units self) }
+        ensures whole { head self result ≡ text self };
+
+    /// The text from a unit on, where a character begins there and what stands before decodes by itself; `None` elsewhere.
+    fn split_at(self, at: usize) -> Option<Self>
+        ensures { IfSome result (λ rest. text self ≡ head self at ++ text rest) };
+}
+
+/// UTF-8 that may be damaged: each maximal ill-formed part is one U+FFFD.
+#[derive(Clone, Copy, Debug)]
+pub struct Utf8Text<'a>(pub &'a [u8]);
+
+impl<'a> EncodedText for Utf8Text<'a> {
+    ghost text = { λ t. utf8_text t.0.now };
+
+    ghost units = { λ t. t.0.now };
+
+    ghost head = { λ t n. utf8_text (take n t.0.now) };
+
+    #[inline]
+    fn split_first_char(self) -> Option<(char, Self)> {
+        if self.0.is_empty() {
+            return None;
+        }
+        let (c, size) = decode_lossy(self.0);
+        let (_, rest) = self.0.split_at(size);
+        Some((c, Utf8Text(rest)))
+    }
+
+    #[inline]
+    fn split_first_ascii(self) -> Option<(u8, Self)> {
+        match self.0 {
+            [byte, rest @ ..] if *byte < 0x80 => Some((*byte, Utf8Text(rest))),
+            _ => None,
+        }
+    }
+
+    fn has_scalar_values(self) {
+        let _chars = utf8_chars(self.0);
+    }
+
+    #[inline]
+    fn unit_count(self) -> usize {
+        self.0.len()
+    }
+
+    #[inline]
+    fn split_at(self, at: usize) -> Option<Self> {
+        let (_, rest) = self.0.split_at_checked(at)?;
+        if begins_within(rest) {
+            None
+        } else {
+            Some(Utf8Text(rest))
+        }
+    }
+}
+
+/// Whether bytes begin with one that can't begin a character (Unicode Standard, Table 3-7).
+#[inline]
+fn begins_within(bytes: &[u8]) -> bool
+    ensures { result ≡ false → StartsClean bytes.now }
+{
+    match bytes {
+        [byte, ..] => 0x80 <= *byte && *byte < 0xC0,
+        [] => false,
+    }
+}
+
+/// UTF-16 that may have unpaired surrogates: each is U+FFFD.
+#[derive(Clone, Copy, Debug)]
+pub struct Utf16Text<'a>(pub &'a [u16]);
+
+impl<'a> EncodedText for Utf16Text<'a> {
+    ghost text = { λ t. utf16_text t.0.now };
+
+    ghost units = { λ t. t.0.now };
+
+    ghost head = { λ t n. utf16_text (take n t.0.now) };
+
+    #[inline]
+    fn split_first_char(self) -> Option<(char, Self)> {
+        let (c, rest) = split_first_char(self.0)?;
+        Some((c, Utf16Text(rest)))
+    }
+
+    #[inline]
+    fn split_first_ascii(self) -> Option<(u8, Self)> {
+        match self.0 {
+            [unit, rest @ ..] if *unit < 0x80 => Some((*unit as u8, Utf16Text(rest))),
+            _ => None,
+        }
+    }
+
+    fn has_scalar_values(self) {
+        let _chars = Utf16Chars::new(self.0);
+    }
+
+    #[inline]
+    fn unit_count(self) -> usize {
+        self.0.len()
+    }
+
+    #[inline]
+    fn split_at(self, at: usize) -> Option<Self> {
+        let (_, rest) = self.0.split_at_checked(at)?;
+        if begins_with_trail(rest) {
+            None
+        } else {
+            Some(Utf16Text(rest))
+        }
+    }
+}
+
+/// Whether units begin with a trail surrogate.
+#[inline]
+fn begins_with_trail(units: &[u16]) -> bool
+    ensures { result ≡ false → StartsNoTrail units.now }
+{
+    match units {
+        [unit, ..] => 0xDC00 <= *unit && *unit <= 0xDFFF,
+        [] => false,
+    }
+}
+
+/// Latin-1: each byte is the character of its number.
+#[derive(Clone, Copy, Debug)]
+pub struct Latin1Text<'a>(pub &'a [u8]);
+
+impl<'a> EncodedText for Latin1Text<'a> {
+    ghost text = { λ t. latin1_text t.0.now };
+
+    ghost units = { λ t. t.0.now };
+
+    ghost head = { λ t n. latin1_text (take n t.0.now) };
+
+    #[inline]
+    fn split_first_char(self) -> Option<(char, Self)> {
+        let (first, rest) = self.0.split_first()?;
+        Some((char::from(*first), Latin1Text(rest)))
+    }
+
+    #[inline]
+    fn split_first_ascii(self) -> Option<(u8, Self)> {
+        match self.0 {
+            [byte, rest @ ..] if *byte < 0x80 => Some((*byte, Latin1Text(rest))),
+            _ => None,
+        }
+    }
+
+    fn has_scalar_values(self) {
+        let _chars = Latin1Iter::new(self.0);
+    }
+
+    #[inline]
+    fn unit_count(self) -> usize {
+        self.0.len()
+    }
+
+    #[inline]
+    fn split_at(self, at: usize) -> Option<Self> {
+        let (_, rest) = self.0.split_at_checked(at)?;
+        Some(Latin1Text(rest))
+    }
+}
+
+/// The characters of a text in any encoding. A contract sees it as the list of the characters that are left.
+#[derive(Clone, Debug, Drop)]
+pub struct Characters<T: EncodedText> {
+    rest: T,
+}
+
+impl<T: EncodedText> Model for Characters<T> {
+    ghost Value = { List ℕ };
+
+    ghost view = { λ it. T.text it.rest };
+}
+
+impl<T: EncodedText> Characters<T> {
+    /// All characters of a text.
+    pub fn new(text: T) -> Self
+        ensures text { result ≡ T.text text }
+        ensures spells { SpellsText result (T.text text) }
+    {
+        Characters { rest: text }
+    }
+}
+
+impl<T: EncodedText> Iterator for Characters<T> {
+    type Item = char;
+
+    ghost next_gives = { YieldsFirst (λ left. left) };
+
+    ghost remaining = { item_count (λ left. left) };
+
+    #[inline]
+    fn next(&mut self) -> Option<char> {
+        let (first, rest) = self.rest.split_first_char()?;
+        self.rest = rest;
+        Some(first)
+    }
+}

@@ -1,0 +1,14 @@
+use Rattle.std.proofs.Common.{sym}
+use Rattle.icu_encodings.proofs.Utf8Lemmas.{utf8_scalars}
+use Rattle.icu_encodings.specs.DecodedTexts.{utf8_text}
+use Rattle.icu_order.proofs.TextOrders.{keys_keep}
+use Rattle.icu_index.specs.Listings.{name_order}
+use Rattle.icu_index.specs.inner.Groups.{key_of}
+use Rattle.icu_index.proofs.InsertionLemmas.{sorts, total_by_keys}
+use Rattle.icu_index.proofs.laws.inserts_sort.Goals as goal
+
+pub returns : goal.returns
+returns c = λ all settings names good.
+    sorts (name_order all settings)
+    (total_by_keys (name_order all settings) (key_of all settings)
+    (λ x y. sym (keys_keep all good settings (utf8_text x) (utf8_text y) (utf8_scalars x) (utf8_scalars y)))) names

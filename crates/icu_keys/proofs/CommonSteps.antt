@@ -1,0 +1,19 @@
+-- Many common weights at once.
+use Rattle.std.proofs.Common.{◌≡◌, ℕ, zero, suc, ◌+◌, ◌<◌, List, [], ◌∷◌, ◌++◌, refl, ap, ◌∙◌, arith, replicate}
+use Rattle.icu_levels.specs.declared.run_bytes.RunBytes.{RunBytes}
+use Rattle.icu_levels.specs.Runs.{level_bytes}
+use Rattle.icu_levels.proofs.LevelOrder.{level_common}
+use Rattle.icu_keys.proofs.RunSteps.{full_level}
+
+-- they are counted
+pub commons_counted : (r : RunBytes) (spell : ℕ → List ℕ) (n m k : ℕ) (ws : List ℕ) → k ≡ n + m
+    → level_bytes r spell n (replicate m r.common ++ ws) ≡ level_bytes r spell k ws
+commons_counted r spell n zero k ws e = ap (λ i. level_bytes r spell i ws) (omega arith)
+commons_counted r spell n (suc m) k ws e =
+    level_common r spell n r.common (replicate m r.common ++ ws) refl ∙ commons_counted r spell (suc n) m k ws (omega arith)
+
+-- a full count of more than that many is its middle byte
+pub full_taken : (r : RunBytes) (spell : ℕ → List ℕ) (n m : ℕ) (ws : List ℕ) → 0 < r.count → n ≡ r.count + m → 0 < m
+    → level_bytes r spell n ws ≡ (r.middle ∷ []) ++ level_bytes r spell m ws
+full_taken r spell n zero ws h e l = absurd (omega (arith, l))
+full_taken r spell n (suc k) ws h e l = ap (λ i. level_bytes r spell i ws) (omega arith) ∙ full_level r spell k (r.count + k) ws h refl

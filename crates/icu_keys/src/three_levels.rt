@@ -1,0 +1,148 @@
+//! The primary, secondary and tertiary level of a key, written in one pass over the weights of elements.
+
+ghost use Rattle.std.specs.Prelude.{◌≡◌, ℕ, ◌<◌, List, [], ◌++◌, OnOk};
+ghost use Rattle.icu_levels.specs.Keys.{part_bytes, closed};
+ghost use Rattle.icu_levels.specs.Primaries.{Compression, primary_level};
+ghost use Rattle.icu_levels.specs.Secondaries.{secondary_level};
+ghost use Rattle.icu_levels.specs.Tertiaries.{tertiary_level};
+ghost use Rattle.icu_levels.specs.declared.forms.TertiaryForm.TheVariants.{WithoutCase};
+ghost use Rattle.icu_keys.specs.HeldRests.{held_secondaries, held_tertiaries, held_tertiary_form};
+ghost use Rattle.icu_keys.specs.KeyWrites.{KeyFeeds};
+ghost use Rattle.icu_keys.specs.ThreeLists.{ThreeLists, element_before, weight_before};
+ghost use Rattle.icu_keys.specs.WriterRests.{primary_rest};
+ghost use Rattle.icu_keys.specs.Writes.{Writes, Feeds};
+
+use crate::error::SortKeyError;
+use crate::held::secondaries::HeldSecondaries;
+use crate::held::tertiaries::HeldTertiaries;
+use crate::primaries::{PrimaryCompression, PrimaryWriter};
+use crate::sink::CollationKeySink;
+use icu_levels::forms::TertiaryForm;
+use std::alloc::{AllocError, Global};
+
+/// Writes a primary weight, unless it is 0.
+#[inline(always)]
+fn push_primary<S: CollationKeySink, C: PrimaryCompression>(
+    writer: &mut PrimaryWriter,
+    sink: &mut S,
+    state: &mut S::State,
+    compression: &C,
+    weight: u32,
+) -> Result<(), S::Error>
+    requires { S.is_sound sink.old state.old }
+    ensures sound { S.is_sound sink.new state.new }
+    ensures bytes { Feeds S.took S.refused sink.old state.old
+        (λ ws. primary_rest (C.compression compression.now) writer.old (weight_before weight ws))
+        (primary_rest (C.compression compression.now) writer.new) result sink.new state.new }
+{
+    if weight == 0 {
+        return Ok(());
+    }
+    writer.push(sink, state, compression, weight)
+}
+
+/// Adds a secondary weight, unless it is 0.
+#[inline(always)]
+fn push_secondary(level: &mut HeldSecondaries, weight: u16) -> Result<(), AllocError>
+    ensures { OnOk result ((ws : List ℕ) →
+        held_secondaries level.old (weight_before weight ws) ≡ held_secondaries level.new ws) }
+{
+    if weight == 0 {
+        return Ok(());
+    }
+    level.push(weight)
+}
+
+/// Adds a tertiary weight without case bits, unless it is 0.
+#[inline(always)]
+fn push_tertiary(level: &mut HeldTertiaries, weight: u16) -> Result<(), AllocError>
+    requires form { held_tertiary_form level.old ≡ WithoutCase }
+    requires fits { weight < 0x4000 }
+    ensures form { held_tertiary_form level.new ≡ held_tertiary_form level.old }
+    ensures bytes { OnOk result ((ws : List ℕ) →
+        held_tertiaries level.old (weight_before weight ws) ≡ held_tertiaries level.new ws) }
+{
+    if weight == 0 {
+        return Ok(());
+    }
+    level.push(weight)
+}
+
+/// Writes the primary, secondary and tertiary level of a text, secondaries from the front and tertiaries without case
+/// bits (UTS #10, section 7.3 "Form Sort Keys").
+///
+/// It is fed the three weights of one element after another, and closed at the end. Primaries go straight to the sink,
+/// and the other two levels are held until their end.
+#[derive(Debug, Drop)]
+pub struct ThreeLevelWriter {
+    primaries: PrimaryWriter,
+    secondaries: HeldSecondaries,
+    tertiaries: HeldTertiaries,
+    ghost without_case: { held_tertiary_form tertiaries ≡ WithoutCase },
+}
+
+impl ThreeLevelWriter {
+    ghost use Rattle.icu_keys.specs.ThreeLevels.{three_levels_rest};
+
+    /// The writer of three levels, with nothing written. It allocates nothing.
+    pub fn new(alloc: Global) -> Self
+        ensures { (c : Compression) (lists : ThreeLists) → three_levels_rest c result lists
+            ≡ primary_level c 0 lists.primaries
+            ++ (part_bytes (closed (secondary_level lists.secondaries))
+            ++ part_bytes (closed (tertiary_level WithoutCase lists.tertiaries))) }
+    {
+        ThreeLevelWriter {
+            primaries: PrimaryWriter::new(),
+            secondaries: HeldSecondaries::new(alloc),
+            tertiaries: HeldTertiaries::new(alloc, TertiaryForm::WithoutCase),
+        }
+    }
+
+    /// Writes what the weights of the next element decide: the primary as it is before reordering, and 0 for each level
+    /// that the element has nothing for. After an error, discard the writer.
+    #[inline(always)]
+    pub fn push<S: CollationKeySink, C: PrimaryCompression>(
+        &mut self,
+        sink: &mut S,
+        state: &mut S::State,
+        compression: &C,
+        primary: u32,
+        secondary: u16,
+        tertiary: u16,
+    ) -> Result<(), SortKeyError<S::Error>>
+        requires sound { S.is_sound sink.old state.old }
+        requires fits { tertiary < 0x4000 }
+        ensures sound { S.is_sound sink.new state.new }
+        ensures bytes { KeyFeeds S.took S.refused sink.old state.old
+            (λ (lists : ThreeLists). three_levels_rest (C.compression compression.now) self.old
+            (element_before primary secondary tertiary lists))
+            (three_levels_rest (C.compression compression.now) self.new) result sink.new state.new }
+    {
+        if let Err(error) = push_primary(&mut self.primaries, sink, state, compression, primary) {
+            return Err(SortKeyError::Sink(error));
+        }
+        if push_secondary(&mut self.secondaries, secondary).is_err() {
+            return Err(SortKeyError::NoMemory);
+        }
+        match push_tertiary(&mut self.tertiaries, tertiary) {
+            Ok(()) => Ok(()),
+            Err(_) => Err(SortKeyError::NoMemory),
+        }
+    }
+
+    /// Writes the rest of the three levels, as they end here. An error is the sink's own.
+    pub fn close<S: CollationKeySink>(
+        &self,
+        sink: &mut S,
+        state: &mut S::State,
+    ) -> Result<(), S::Error>
+        requires { S.is_sound sink.old state.old }
+        ensures sound { S.is_sound sink.new state.new }
+        ensures bytes { (c : Compression) → Writes S.took S.refused sink.old state.old
+            (three_levels_rest c self.now (record { primaries = []; secondaries = []; tertiaries = [] }))
+            result sink.new state.new }
+    {
+        self.secondaries.write_closed(sink, state)?;
+        self.tertiaries.write_closed(sink, state)
+    }
+}

@@ -1,0 +1,3 @@
+pub mod RowCharacters
+pub mod Named
+pub mod SafeTables

@@ -1,0 +1,64 @@
+//! The characters that rows of contexts name.
+
+ghost use Rattle.std.specs.Prelude.{◌≡◌, false, option_map, IfOk, OnOk};
+ghost use Rattle.icu_data.specs.StoredData.{data_of};
+ghost use Rattle.icu_shortcuts.specs.RowCharacters.{Ascends, HasRowCharacters, HasTailoringCharacters, KeepsCharacters};
+ghost use Rattle.icu_checks.specs.Checked.{checked_tables};
+
+use icu_checks::CheckedTables;
+use icu_data::CollationData;
+use std::alloc::{AllocError, Global};
+
+/// The characters that rows of prefixes and contractions name (UTS #35 part 5, section 3.11), of a root and of its tailoring,
+/// in ascending order.
+#[derive(Debug, Drop)]
+pub struct NamedCharacters {
+    chars: Vec<char>,
+    ghost ascending: { Ascends chars.items },
+}
+
+impl NamedCharacters {
+    ghost use Rattle.icu_shortcuts.specs.Named.{NamesAll, may_name};
+
+    /// Those of tables that were checked together. Fails only where an allocation does.
+    pub fn new(alloc: Global, tables: &CheckedTables) -> Result<NamedCharacters, AllocError>
+        ensures { IfOk result (λ n. NamesAll n (checked_tables tables.now).tables) }
+    {
+        let mut chars: Vec<char> = Vec::new(alloc);
+        push_named(&mut chars, tables.root())?;
+        push_named_by_tailoring(&mut chars, tables.tailoring())?;
+        chars.sort_unstable();
+        Ok(NamedCharacters { chars })
+    }
+
+    /// Whether a row may name a character: where this is false, none does.
+    pub fn has(&self, c: char) -> bool
+        ensures { result ≡ false → may_name self.now c ≡ false }
+    {
+        self.chars.binary_search(&c).is_ok()
+    }
+}
+
+/// Appends the characters of all rows of a root or a tailoring.
+fn push_named(chars: &mut Vec<char>, table: CollationData<'_>) -> Result<(), AllocError>
+    ensures keeps { OnOk result (KeepsCharacters chars.old.items chars.new.items) }
+    ensures rows { OnOk result (HasRowCharacters chars.new.items (data_of table.entry)) }
+{
+    let (_, _, _, contexts) = table.parts();
+    let (_, _, row_chars) = contexts.parts();
+    chars.extend_from_slice(row_chars)
+}
+
+/// The same of a tailoring, where there is one.
+fn push_named_by_tailoring(
+    chars: &mut Vec<char>,
+    tailoring: Option<CollationData<'_>>,
+) -> Result<(), AllocError>
+    ensures keeps { OnOk result (KeepsCharacters chars.old.items chars.new.items) }
+    ensures rows { OnOk result (HasTailoringCharacters chars.new.items (option_map data_of tailoring.entry)) }
+{
+    match tailoring {
+        Some(table) => push_named(chars, table),
+        None => Ok(()),
+    }
+}

@@ -1,0 +1,71 @@
+//! Texts that are the same, and texts with a common beginning, for which no more is allocated than for their ends.
+use crate::collators::collator;
+use crate::comparisons::{Texts, print_order};
+use crate::stop::{Stop, twice};
+use icu_comparison::Collator;
+use icu_mini::mini::Mini;
+use icu_options::Strength;
+
+/// How many letters begin both texts.
+const LEN: usize = 10_000;
+
+/// Compares two texts by each call. Their bytes are ASCII, and each unit is the byte of its index.
+fn compare_by_each(
+    rt: &HostRuntime,
+    collator: &Collator,
+    bytes: [&[u8]; 2],
+    units: [&[u16]; 2],
+) -> Result<(), Stop> {
+    if let (Ok(left), Ok(right)) = (str::from_utf8(bytes[0]), str::from_utf8(bytes[1])) {
+        print_order(rt, collator, Texts::Characters(left, right))?;
+    }
+    print_order(rt, collator, Texts::Utf8(bytes[0], bytes[1]))?;
+    print_order(rt, collator, Texts::Utf16(units[0], units[1]))?;
+    print_order(rt, collator, Texts::Latin1(bytes[0], bytes[1]))?;
+    print_order(rt, collator, Texts::Latin1Utf16(bytes[0], units[1]))
+}
+
+/// Compares texts whose common beginning ends after as many letters.
+fn compare_ends(rt: &HostRuntime, collator: &Collator, common: usize) -> Result<(), Stop> {
+    let mut left = [0x61u8; LEN + 1];
+    let mut right = [0x61u8; LEN + 1];
+    let mut left_units = [0x61u16; LEN + 1];
+    let mut right_units = [0x61u16; LEN + 1];
+    left[LEN] = 0x62;
+    right[LEN] = 0x63;
+    left_units[LEN] = 0x62;
+    right_units[LEN] = 0x63;
+    let from = LEN.saturating_sub(common);
+    compare_by_each(
+        rt,
+        collator,
+        [&left[from..], &right[from..]],
+        [&left_units[from..], &right_units[from..]],
+    )
+}
+
+/// Compares texts that are the same.
+fn compare_same(rt: &HostRuntime, collator: &Collator) -> Result<(), Stop> {
+    let bytes = [0x61u8; LEN];
+    let units = [0x61u16; LEN];
+    compare_by_each(rt, collator, [&bytes, &bytes], [&units, &units])
+}
+
+/// Runs one of the parts whose numbers of allocations are compared: a collator alone, texts that are the same, short texts, and
+/// the same behind a long common beginning. None of them is run with the other parts.
+pub(crate) fn run(rt: &HostRuntime, part: Option<&str>) -> Result<(), Stop> {
+    let Some(part) = part else {
+        return Ok(());
+    };
+    if !matches!(part, "collator" | "same" | "ends" | "beginnings") {
+        return Ok(());
+    }
+    let mini = twice(|| Mini::new(rt.alloc()))?;
+    let collator = collator(rt, &mini, Strength::Tertiary)?;
+    match part {
+        "same" => compare_same(rt, &collator),
+        "ends" => compare_ends(rt, &collator, 0),
+        "beginnings" => compare_ends(rt, &collator, LEN),
+        _ => Ok(()),
+    }
+}
