@@ -81,8 +81,9 @@ impl<'c, 'd, T: EncodedText> ElementCursor<'c, 'd, T> {
         if self.piece.is_some() {
             return None;
         }
+        let tables = self.tables;
         let (byte, rest) = self.text.split_first_ascii()?;
-        let letter = self.tables.kept_letter(char::from(byte))?;
+        let letter = tables.kept_letter(char::from(byte))?;
         match letter.kind {
             LetterKind::Starters if letter.count == 1 => {
                 self.text = rest;

@@ -6,5 +6,5 @@ use Rattle.icu_elements.proofs.element_reader.ElementReader.after.Goals as goal
 
 pub returns : goal.returns
 returns c =
-    none_read _ _ _ _ (ap reading_by_tables c.at_start.ensures.reading) c.at_start.ensures.ready
-    (c.push_all.ensures ∙ ap (λ l. last_two l c.args.before.now) c.at_start.ensures.before) c.at_start.ensures.unread
+    let start = c.at_start-reader.ensures in
+    none_read _ _ _ _ (ap reading_by_tables start.reading) start.ready (c.push_all.ensures ∙ ap (λ l. last_two l c.args.before.now) start.before) start.unread
