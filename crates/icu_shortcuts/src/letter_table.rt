@@ -1,9 +1,9 @@
 //! What is known of the characters that are read most.
 
-ghost use Rattle.std.specs.Prelude.{◌≡◌, ◌+◌, ◌≤◌, length, is_some, IfOk, IfSome};
+ghost use Rattle.std.specs.Prelude.{◌≡◌, ◌+◌, ◌≤◌, ◌<◌, ◌++◌, ◌∷◌, [], length, is_some, IfOk, IfSome, OnOk};
 ghost use Rattle.icu_elements.specs.TextElements.{Reading};
 ghost use Rattle.icu_shortcuts.specs.SafeTables.{safe_reading};
-ghost use Rattle.icu_shortcuts.specs.Letters.{AreLettersFrom};
+ghost use Rattle.icu_shortcuts.specs.Letters.{IsLetter, AreLettersFrom};
 
 use crate::letter_facts::Letter;
 use crate::read_letter::letter_of;
@@ -20,7 +20,6 @@ pub struct Letters {
 }
 
 impl Letters {
-    ghost use Rattle.icu_shortcuts.specs.Letters.{IsLetter};
     ghost use Rattle.icu_shortcuts.specs.LetterTables.{AreLetters, is_kept};
 
     /// What is known of them as texts are read whose safe places these are. Fails only where an allocation does.
@@ -62,10 +61,25 @@ fn letters_from(
 {
     let mut letters: Vec<Letter> = Vec::with_capacity(alloc, count as usize)?;
     for code in first..first + count {
-        match char::from_u32(code) {
-            Some(c) => letters.push(letter_of(places, c))?,
-            None => unreachable!(),
-        }
+        push_letter(&mut letters, letter_at(places, code))?;
     }
     Ok(letters)
+}
+
+/// What is known of the character with a code below U+D800.
+fn letter_at(places: SafePlaces<'_>, code: u32) -> Letter
+    requires { code < 0xD800 }
+    ensures { IsLetter (safe_reading places.entry) code result }
+{
+    match char::from_u32(code) {
+        Some(c) => letter_of(places, c),
+        None => unreachable!(),
+    }
+}
+
+/// Appends what is known of one more character.
+fn push_letter(letters: &mut Vec<Letter>, letter: Letter) -> Result<(), AllocError>
+    ensures { OnOk result (letters.new.items ≡ letters.old.items ++ letter ∷ []) }
+{
+    letters.extend_from_slice(&[letter])
 }
