@@ -1,6 +1,6 @@
 //! The elements of an encoded text, one by one.
 
-ghost use Rattle.std.specs.Prelude.{◌≡◌, ◌<◌, [], ◌++◌, None, length, option_to_list, IfOk, OnOk, MatchBool};
+ghost use Rattle.std.specs.Prelude.{◌≡◌, ◌<◌, ◌≤◌, [], ◌∷◌, ◌++◌, None, length, option_to_list, IfOk, OnOk, MatchBool};
 ghost use Rattle.unicode_normalization.specs.Forms.{nfd};
 ghost use Rattle.icu_elements.specs.TextElements.{elements_of};
 
@@ -83,12 +83,14 @@ impl<'c, 'd, T: EncodedText> ElementCursor<'c, 'd, T> {
         }
         let tables = self.tables;
         let (byte, rest) = self.text.split_first_ascii()?;
-        let letter = tables.kept_letter(char::from(byte))?;
+        let c = char::from(byte);
+        let letter = tables.kept_letter(c)?;
         match letter.kind {
             LetterKind::Starters if letter.count == 1 => {
                 self.text = rest;
-                self.recent.push(char::from(byte));
-                Some(letter.elements[0])
+                self.recent.push(c);
+                let elements = &letter.elements[..];
+                Some(elements[0])
             }
             _ => None,
         }
@@ -135,16 +137,28 @@ impl<'c, 'd, T: EncodedText> ElementCursor<'c, 'd, T> {
         let Some((c, rest)) = self.text.split_first_char() else {
             return Ok(false);
         };
+        self.read_from(c, rest)?;
+        Ok(true)
+    }
+
+    /// Reads a letter by itself, or else the piece that it begins. `rest` is what follows the letter.
+    fn read_from(&mut self, c: char, rest: T) -> Result<(), AllocError>
+        requires nothing { HasNothingReady self.old }
+        requires text { T.text self.old.text ≡ c ∷ T.text rest }
+        ensures same { OnOk result (cursor_gives T.text self.new ≡ cursor_gives T.text self.old) }
+        ensures shorter { OnOk result (length (T.text self.new.text) ≤ length (T.text rest)) }
+    {
         let letter = self.tables.letter(c);
         if stands_before(self.tables, &letter, rest) {
             self.ready = LetterElements::all(letter);
             self.text = rest;
             self.recent.push(c);
-            return Ok(true);
+            return Ok(());
         }
-        let (piece, rest) = split_piece(self.tables, c, rest)?;
-        self.piece = Some(read_piece(self.tables, self.recent, piece.as_slice())?);
-        self.text = rest;
-        Ok(true)
+        let (piece, left) = split_piece(self.tables, c, rest)?;
+        let reader = read_piece(self.tables, self.recent, piece.as_slice())?;
+        self.piece = Some(reader);
+        self.text = left;
+        Ok(())
     }
 }

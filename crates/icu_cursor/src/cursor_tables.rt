@@ -2,11 +2,12 @@
 
 ghost use Rattle.std.specs.Prelude.{◌≡◌, ℕ, IfSome, IsTrue};
 ghost use Rattle.icu_elements.specs.Reading.{element_tables, reading_of};
-ghost use Rattle.icu_shortcuts.specs.Letters.{IsLetter};
 ghost use Rattle.icu_shortcuts.specs.LetterTables.{AreLetters};
 ghost use Rattle.icu_shortcuts.specs.Named.{NamesAll};
-ghost use Rattle.icu_shortcuts.specs.SafeTables.{IsSafeBefore, safe_reading};
+ghost use Rattle.icu_shortcuts.specs.SafeTables.{safe_reading};
+ghost use Rattle.icu_cursor.specs.inner.Pieces.{MayBeCut};
 ghost use Rattle.icu_cursor.specs.inner.Runs.{IsInRun};
+ghost use Rattle.icu_cursor.specs.inner.Standing.{Serves};
 
 use icu_elements::ElementTables;
 use icu_shortcuts::{Letter, Letters, NamedCharacters, SafePlaces, letter_of};
@@ -22,7 +23,7 @@ pub struct CursorTables<'d> {
     places: SafePlaces<'d>,
     letters: &'d Letters,
     ghost places_by: { safe_reading places ≡ reading_of tables numeric_primary lithuanian_dot_above },
-    ghost letters_by: { AreLetters (reading_of tables numeric_primary lithuanian_dot_above) letters.now },
+    ghost letters_by: { ∥ AreLetters (reading_of tables numeric_primary lithuanian_dot_above) letters.now ∥₁ },
 }
 
 impl<'d> CursorTables<'d> {
@@ -57,7 +58,7 @@ impl<'d> CursorTables<'d> {
     #[inline]
     #[tactic(auto, unfolding(crate::specs::Cursors::cursor_reading))]
     pub(crate) fn kept_letter(&self, c: char) -> Option<&Letter>
-        ensures { IfSome result (λ l. IsLetter (cursor_reading self.now) c l.now) }
+        ensures { IfSome result (λ l. Serves (cursor_reading self.now) c l.now) }
     {
         self.letters.get(c)
     }
@@ -65,7 +66,7 @@ impl<'d> CursorTables<'d> {
     /// What is known of a character.
     #[tactic(auto, unfolding(crate::specs::Cursors::cursor_reading))]
     pub(crate) fn letter(&self, c: char) -> Letter
-        ensures { IsLetter (cursor_reading self.now) c result }
+        ensures { Serves (cursor_reading self.now) c result }
     {
         match self.kept_letter(c) {
             Some(letter) => *letter,
@@ -76,7 +77,7 @@ impl<'d> CursorTables<'d> {
     /// Whether a text may be cut before this character. False is right of any character.
     #[tactic(auto, unfolding(crate::specs::Cursors::cursor_reading))]
     pub(crate) fn is_safe(&self, c: char) -> bool
-        ensures { IsTrue result → IsSafeBefore (cursor_reading self.now) c }
+        ensures { IsTrue result → MayBeCut (cursor_reading self.now) c }
     {
         match self.kept_letter(c) {
             Some(letter) => letter.is_safe,

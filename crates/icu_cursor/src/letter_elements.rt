@@ -1,43 +1,46 @@
 //! The elements of a letter, one by one.
 
-ghost use Rattle.std.specs.Prelude.{◌≡◌, ◌≤◌, [], ◌++◌, None, option_to_list};
+ghost use Rattle.std.specs.Prelude.{◌≡◌, [], ◌++◌, None, option_to_list};
 ghost use Rattle.icu_shortcuts.specs.Letters.{letter_elements};
 
 use icu_entries::CollationElement;
-use icu_shortcuts::Letter;
+use icu_shortcuts::{Letter, LetterKind};
 
 /// The elements of a letter that were not given yet.
 #[derive(Debug, Clone, Copy)]
 pub(crate) struct LetterElements {
-    elements: [CollationElement; 3],
+    letter: Letter,
     next: usize,
-    end: usize,
-    ghost few: { end ≤ 3 },
 }
 
 impl LetterElements {
     ghost use Rattle.icu_cursor.specs.inner.Ready.{elements_ready};
 
     /// None.
+    #[tactic(auto, unfolding(crate::specs::inner::Ready::elements_ready))]
     pub(crate) fn none() -> LetterElements
         ensures { elements_ready result ≡ [] }
     {
         LetterElements {
-            elements: [CollationElement::default(); 3],
+            letter: Letter {
+                elements: [CollationElement::default(); 3],
+                count: 0,
+                kind: LetterKind::Unknown,
+                class: 0,
+                is_safe: false,
+                begins_with_starter: false,
+                leading_primary: 0,
+            },
             next: 0,
-            end: 0,
         }
     }
 
     /// All elements of a letter.
+    #[tactic(auto, unfolding(crate::specs::inner::Ready::elements_ready))]
     pub(crate) fn all(letter: Letter) -> LetterElements
         ensures { elements_ready result ≡ letter_elements letter }
     {
-        LetterElements {
-            elements: letter.elements,
-            next: 0,
-            end: letter.count as usize,
-        }
+        LetterElements { letter, next: 0 }
     }
 
     /// The first of them, which is given.
@@ -46,10 +49,11 @@ impl LetterElements {
         ensures next { elements_ready self.old ≡ option_to_list result ++ elements_ready self.new }
         ensures end { result ≡ None → elements_ready self.old ≡ [] }
     {
-        if self.next >= self.end {
+        if self.next >= self.letter.count as usize {
             return None;
         }
-        let element = self.elements[self.next];
+        let elements = &self.letter.elements[..];
+        let element = elements[self.next];
         self.next += 1;
         Some(element)
     }

@@ -1,6 +1,6 @@
 //! A piece of a text, up to the next safe place.
 
-ghost use Rattle.std.specs.Prelude.{◌≡◌, ◌∷◌, [], ◌++◌, None, IfOk, option_to_list};
+ghost use Rattle.std.specs.Prelude.{◌≡◌, ◌≤◌, ◌∷◌, [], ◌++◌, None, length, IfOk, option_to_list};
 ghost use Rattle.unicode_normalization.specs.Forms.{nfd};
 ghost use Rattle.icu_elements.specs.ElementReaders.{elements_to_come};
 ghost use Rattle.icu_elements.specs.TextElements.{elements_after};
@@ -23,7 +23,8 @@ pub(crate) fn split_piece<T: EncodedText>(
     first: char,
     text: T,
 ) -> Result<(Vec<char>, T), AllocError>
-    ensures { IfOk result (λ p. IsPiece (cursor_reading tables.now) (first ∷ T.text text) p.0.items (T.text p.1)) }
+    ensures piece { IfOk result (λ p. IsPiece (cursor_reading tables.now) (first ∷ T.text text) p.0.items (T.text p.1)) }
+    ensures rest { IfOk result (λ p. length (T.text p.1) ≤ length (T.text text)) }
 {
     let mut piece = Vec::new(tables.tables.allocator());
     piece.push(first)?;

@@ -1,12 +1,9 @@
 //! Whether a letter may be read by itself.
 
-ghost use Rattle.std.specs.Prelude.{◌≡◌, ℕ, true, IsTrue, flat_map};
-ghost use Rattle.ucd_normal.specs.declared.forms.Form.TheVariants.{Nfd};
-ghost use Rattle.unicode_normalization.specs.Decompose.{decompose};
-ghost use Rattle.icu_cuts.specs.Alone.{rises_from};
-ghost use Rattle.icu_shortcuts.specs.Letters.{IsLetter};
+ghost use Rattle.std.specs.Prelude.{ℕ, IsTrue};
 ghost use Rattle.icu_cursor.specs.Cursors.{cursor_reading};
-ghost use Rattle.icu_cursor.specs.inner.Standing.{StandsBefore};
+ghost use Rattle.icu_cursor.specs.inner.Runs.{Rises};
+ghost use Rattle.icu_cursor.specs.inner.Standing.{Serves, StandsBefore};
 
 use crate::cursor_tables::CursorTables;
 use icu_encodings::EncodedText;
@@ -17,7 +14,7 @@ const MARKS_AHEAD: u32 = 6;
 
 /// Whether the classes of the marks that a text begins with rise from this one, and are few. False is right of any text.
 fn rises<T: EncodedText>(tables: &CursorTables<'_>, class: u8, text: T) -> bool
-    ensures { IsTrue result → rises_from class (flat_map (decompose Nfd) (T.text text)) ≡ true }
+    ensures { IsTrue result → Rises class (T.text text) }
 {
     let mut last = class;
     let mut rest = text;
@@ -46,7 +43,7 @@ pub(crate) fn stands_before<T: EncodedText>(
     letter: &Letter,
     text: T,
 ) -> bool
-    ensures { (c : ℕ) → IsLetter (cursor_reading tables.now) c letter.now
+    ensures { (c : ℕ) → Serves (cursor_reading tables.now) c letter.now
         → IsTrue result → StandsBefore (cursor_reading tables.now) c letter.now (T.text text) }
 {
     match letter.kind {

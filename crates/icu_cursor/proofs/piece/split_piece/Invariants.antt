@@ -5,7 +5,7 @@ use Rattle.icu_cursor.proofs.piece.split_piece.Given as goal
 abbrev pub invariant-chars : goal.invariant-chars
 invariant-chars g l = record {
   parts : l.fn.first ∷ g.T.EncodedText.text l.fn.text ≡ l.piece.items ++ g.T.EncodedText.text l.rest;
-  some : 1 ≤ length l.piece.items;
+  fits : length (g.T.EncodedText.text l.rest) ≤ length (g.T.EncodedText.text l.fn.text);
 }
 
 abbrev pub decreases-chars : goal.decreases-chars
