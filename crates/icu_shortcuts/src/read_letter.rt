@@ -61,9 +61,9 @@ fn letter_with(
     requires elements { few_elements few ≡ elements_of_char (safe_reading places).tables first }
     ensures { IsLetter (safe_reading places.entry) c result }
 {
-    let outline = outline(places, first, leading_primary(places, first, few));
+    let known = outline(places, first, leading_primary(places, first, few));
     let Some(all) = with_chars(places, more, few) else {
-        return outline;
+        return known;
     };
     let (kind, class) = shape_of(c, first, more);
     Letter {
@@ -71,7 +71,9 @@ fn letter_with(
         count: all.count,
         kind,
         class,
-        ..outline
+        is_safe: known.is_safe,
+        begins_with_starter: known.begins_with_starter,
+        leading_primary: known.leading_primary,
     }
 }
 
