@@ -1,4 +1,4 @@
 mod NamedLemmas
 mod TableLemmas
 mod EntryLemmas
-mod ReadLemmas
+mod FewLemmas
