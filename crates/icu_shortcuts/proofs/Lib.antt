@@ -1,2 +1,4 @@
 mod NamedLemmas
 mod TableLemmas
+mod EntryLemmas
+mod FewLemmas

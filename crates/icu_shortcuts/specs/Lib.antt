@@ -3,3 +3,5 @@ pub mod Named
 pub mod SafeTables
 pub mod Letters
 pub mod LetterTables
+pub mod FewElements
+pub mod ReadLetters
