@@ -1,10 +1,5 @@
 //! Cursors over texts in each encoding, beside the elements of the texts read whole.
-ghost use Rattle.std.specs.Prelude.{IfOk};
-ghost use Rattle.icu_elements.specs.Reading.{element_tables, reading_of};
-ghost use Rattle.icu_shortcuts.specs.LetterTables.{AreLetters};
-ghost use Rattle.icu_shortcuts.specs.Named.{NamesAll};
-
-use icu_checks::CheckedTables;
+use crate::streams::checked;
 use icu_cursor::{CursorTables, ElementCursor};
 use icu_elements::{CollationElement, ElementTables, all_elements};
 use icu_encodings::{EncodedText, Latin1Text, Utf8Text, Utf16Text};
@@ -23,21 +18,6 @@ const TEXTS: [&str; 40] = [
     "12", "1\u{301}2", "a007b", "9\u{303}9", "\u{AC01}\u{AC00}", "\u{1100}\u{1161}\u{11A8}", "\u{4E00}a", "\u{1E69}\u{307}",
     "i\u{307}\u{301}", "\u{12F}\u{307}\u{300}x", "\u{1F600}e\u{301}", "a\u{0}b\u{FFFD}",
 ];
-
-/// The tables, checked together.
-fn checked(alloc: Global, mini: &Mini) -> Result<CheckedTables, Fail> {
-    let tables = CheckedTables::new(
-        alloc,
-        mini.lend_root()?,
-        mini.lend_jamo()?,
-        mini.lend_special_primaries()?,
-        mini.metadata,
-        mini.lend_tailoring()?,
-        mini.lend_reordering()?,
-        mini.lend_diacritics()?,
-    )?;
-    Ok(tables)
-}
 
 /// All elements that a cursor over a text gives.
 fn read<T: EncodedText>(
