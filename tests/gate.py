@@ -1,5 +1,5 @@
 #!/usr/bin/env python3
-"""The gate, as bin/test runs it: `rt ci`, and then tests/programs.py. Says on standard output where it is, a line a step, and
+"""The gate, as bin/test runs it: bin/definitions, `rt ci`, and then tests/programs.py. Says on standard output where it is, a line a step, and
 prints what a failed step says; all that `rt ci` says goes to the file out/test.log. The last line is `N passed, M failed`,
 which counts both."""
 import os
@@ -123,10 +123,23 @@ def run_programs():
     return [counts[0], max(counts[1], int(ran.returncode != 0))]
 
 
+def compare_definitions():
+    """Compares docs/DEFINITIONS.md with the sources by bin/definitions, and returns what passed and what failed."""
+    program = [sys.executable, os.path.join(TOP, "bin", "definitions")]
+    ran = subprocess.run(program, stdin=subprocess.DEVNULL, stdout=subprocess.PIPE, stderr=subprocess.STDOUT, text=True)
+    lines = ran.stdout.splitlines()
+    if ran.returncode:
+        print("\n".join(lines), flush=True)
+        print("FAILED definitions: docs/DEFINITIONS.md lists others than the sources", flush=True)
+        return [0, 1]
+    print(f"ok     definitions ({lines[-1]})", flush=True)
+    return [1, 0]
+
+
 def main():
-    proved, ran = prove(), run_programs()
-    failed = proved[1] + ran[1]
-    print(f"{proved[0] + ran[0]} passed, {failed} failed")
+    steps = [compare_definitions(), prove(), run_programs()]
+    passed, failed = (sum(step[n] for step in steps) for n in (0, 1))
+    print(f"{passed} passed, {failed} failed")
     return 1 if failed else 0
 
 
