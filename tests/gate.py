@@ -1,7 +1,7 @@
 #!/usr/bin/env python3
-"""The gate, as bin/test runs it: bin/definitions, `rt ci`, and then tests/programs.py. Says on standard output where it is, a line a step, and
-prints what a failed step says; all that `rt ci` says goes to the file out/test.log. The last line is `N passed, M failed`,
-which counts both."""
+"""The gate, as bin/test runs it: bin/definitions, `rt ci`, and then tests/programs.py. Says on standard output where it is, a
+line a step, and prints what a failed step says; all that `rt ci` says goes to the file out/test.log. The last line is
+`N passed, M failed`, which counts all three."""
 import os
 import queue
 import re
