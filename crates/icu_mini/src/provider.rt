@@ -15,8 +15,8 @@ use icu_provider::{
     CollationSpecialPrimaries, DataRequest,
 };
 
-/// A provider that answers every locale and type alike. The fields are public, so that a test may have it refuse a
-/// table, or lend another one.
+/// A provider that returns the same tables for every locale and type. The fields are public, so that a test may have it
+/// refuse a table, or lend another one.
 #[derive(Debug, Clone, Copy)]
 pub struct MiniProvider<'m> {
     /// The root.
