@@ -1,7 +1,7 @@
 #!/usr/bin/env python3
-"""The gate, as bin/test runs it: `rt ci`, and then tests/programs.py. Says on standard output where it is, a line a step, and
-prints what a failed step says; all that `rt ci` says goes to the file out/test.log. The last line is `N passed, M failed`,
-which counts both."""
+"""The gate, as bin/test runs it: bin/definitions, bin/documents, `rt ci`, and then tests/programs.py. Says on standard output
+where it is, a line a step, and prints what a failed step says; all that `rt ci` says goes to the file out/test.log. The last
+line is `N passed, M failed`, which counts all of them."""
 import os
 import queue
 import re
@@ -123,10 +123,21 @@ def run_programs():
     return [counts[0], max(counts[1], int(ran.returncode != 0))]
 
 
+def compare(what):
+    """Runs bin/definitions or bin/documents, which compare documents with the sources; returns what passed and what failed."""
+    program = [sys.executable, os.path.join(TOP, "bin", what)]
+    ran = subprocess.run(program, stdin=subprocess.DEVNULL, stdout=subprocess.PIPE, stderr=subprocess.STDOUT, text=True)
+    if ran.returncode:
+        print(f"FAILED {what}\n{ran.stdout}", end="", flush=True)
+        return [0, 1]
+    print(f"ok     {what} ({ran.stdout.splitlines()[-1]})", flush=True)
+    return [1, 0]
+
+
 def main():
-    proved, ran = prove(), run_programs()
-    failed = proved[1] + ran[1]
-    print(f"{proved[0] + ran[0]} passed, {failed} failed")
+    steps = [compare("definitions"), compare("documents"), prove(), run_programs()]
+    passed, failed = (sum(step[n] for step in steps) for n in (0, 1))
+    print(f"{passed} passed, {failed} failed")
     return 1 if failed else 0
 
 

@@ -1,9 +1,9 @@
 //! Collation: the order of texts by a language's rules (UTS #10, UTS #35 part 5), with the names and the behaviour of
 //! `icu_collator`.
 //!
-//! A `Collator` is made of the tables that a `CollationProvider` lends, which are checked together, and of settings;
-//! `as_borrowed` lends it, `compare` returns the order of two texts, and `write_sort_key_to` writes the sort key of one. The crate `sort_names` is a program over these
-//! names alone.
+//! A `Collator` is made of the tables that a `CollationProvider` returns, which are checked together, and of settings.
+//! `as_borrowed` borrows it, `compare` returns the order of two texts, and `write_sort_key_to` writes the sort key of
+//! one. The crate `sort_names` is a program over these names alone.
 #![tactic(auto)]
 
 pub use comparison::{CollationKeySink, Collator, CollatorBorrowed};

@@ -90,7 +90,8 @@ elements_after-lone reading before c text h =
 
 -- ---- texts as they are given
 
--- a character that decomposes to starters that stand alone, as most letters and each Hangul syllable: nothing is read ahead
+-- a character that decomposes to starters that stand alone, as most letters and each Hangul syllable: nothing is read
+-- ahead
 pub letter_of_starters : (reading : Reading) (before : List ℕ) (c : ℕ) (ds cs : List ℕ) → decompose Nfd c ≡ ds → list_all is_starter ds ≡ true → list_all (is_alone reading) ds ≡ true
     → elements_after reading before (nfd (c ∷ cs)) ≡ flat_map (elements_of_char reading.tables) ds ++ elements_after reading (context_after before ds) (nfd cs)
 letter_of_starters reading before c ds cs split starters alone =

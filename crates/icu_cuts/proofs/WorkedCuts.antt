@@ -142,7 +142,8 @@ mark_after_last : elements_in (numeric mini) (50 ∷ 56 ∷ 0x301 ∷ []) ≡ of
 unfolding cuts
 mark_after_last = refl
 
--- a letter of one element that isn't zero may end with a mark: the acute's is zero here, and a row of the dot below names it
+-- a letter of one element that isn't zero may end with a mark: the acute's is zero here, and a row of the dot below
+-- names it
 abbrev zero_element : Element
 zero_element = record { primary = 0; secondary = 0; lower = 0 }
 

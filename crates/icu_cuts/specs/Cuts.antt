@@ -1,4 +1,5 @@
--- Places where a text may be cut: what stands before them changes nothing of the elements after them, nor the other way round.
+-- Places where a text may be cut: what stands before them changes nothing of the elements after them, nor the other way
+-- round.
 use Rattle.std.specs.Prelude.{◌≡◌, ℕ, Bool, true, false, not, ◌&&◌, ◌==◌, List, [], ◌∷◌, Option, Some, None, if◌then◌else◌, is_some}
 use Rattle.std.specs.List.{list_any}
 use Rattle.unicode_normalization.specs.Order.{is_starter}

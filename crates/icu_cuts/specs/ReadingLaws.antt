@@ -59,7 +59,8 @@ TextsStartAnew =
     (reading : Reading) (c s : ℕ) (ts tail : List ℕ) → decompose Nfd c ≡ s ∷ ts → IsSafe reading s
     → (p q : List ℕ) → elements_after reading p (nfd (c ∷ tail)) ≡ elements_after reading q (nfd (c ∷ tail))
 
--- what follows a decomposed piece that begins at a safe character gives the same after the piece as after all that stood before it
+-- what follows a decomposed piece that begins at a safe character gives the same after the piece as after all that
+-- stood before it
 abbrev pub PiecesStandAlone : Type 0
 PiecesStandAlone =
     (reading : Reading) (x : ℕ) (before head more text : List ℕ) → IsSafe reading x
@@ -91,23 +92,23 @@ SyllablesStand =
     (reading : Reading) (before : List ℕ) (c : ℕ) (cs : List ℕ) → is_syllable c ≡ true → list_all (is_alone reading) (decompose Nfd c) ≡ true
     → elements_after reading before (nfd (c ∷ cs)) ≡ elements_by_char reading.tables (decompose Nfd c) ++ elements_after reading (context_after before (decompose Nfd c)) (nfd cs)
 
--- The elements of a text begin with those of the starter that its first character decomposes to first, where that stands alone,
--- whatever marks follow.
+-- The elements of a text begin with those of the starter that its first character decomposes to first, where that
+-- stands alone, whatever marks follow.
 abbrev pub FirstStartersLead : Type 0
 FirstStartersLead =
     (reading : Reading) (before : List ℕ) (c s : ℕ) (ts cs : List ℕ) → decompose Nfd c ≡ s ∷ ts → is_starter s ≡ true → is_alone reading s ≡ true
     → (rest : List Element) × (elements_after reading before (nfd (c ∷ cs)) ≡ elements_of_char reading.tables s ++ rest)
 
--- A run of digits is one number, where digits are read as numbers: each goes on a number, what follows does not, and no mark follows
--- the first directly.
+-- A run of digits is one number, where digits are read as numbers: each goes on a number, what follows does not, and no
+-- mark follows the first directly.
 abbrev pub DigitRunsAreNumbers : Type 0
 DigitRunsAreNumbers =
     (reading : Reading) (lead : ℕ) (before : List ℕ) (d : ℕ) (ds text : List ℕ) → reading.numeric ≡ Some lead
     → list_all (continues_number reading.tables) (d ∷ ds) ≡ true → ends_run reading.tables text ≡ true → begins_with_mark (ds ++ text) ≡ false
     → elements_after reading before (d ∷ ds ++ text) ≡ number_elements lead (map (digit_of reading.tables) (d ∷ ds)) ++ elements_after reading (last_two before (d ∷ ds)) text
 
--- A base of contractions gives what it gives at the end of a text, before a starter that none of its rows names and that goes on no
--- number.
+-- A base of contractions gives what it gives at the end of a text, before a starter that none of its rows names and
+-- that goes on no number.
 abbrev pub BasesStand : Type 0
 BasesStand =
     (reading : Reading) (before : List ℕ) (c x : ℕ) (more : List ℕ) → has_prefix reading.tables c ≡ false → is_starter x ≡ true
@@ -115,7 +116,8 @@ BasesStand =
     → elements_after reading before (c ∷ x ∷ more)
     ≡ (step reading before c []).elements ++ elements_after reading (last_two before (consumed c (step reading before c []))) (x ∷ more)
 
--- where a text is enough for a step, the elements are those of the step on it, and of what it leaves with all that follows
+-- where a text is enough for a step, the elements are those of the step on it, and of what it leaves with all that
+-- follows
 abbrev pub EnoughIsEnough : Type 0
 EnoughIsEnough =
     (reading : Reading) (before : List ℕ) (c : ℕ) (text left : List ℕ) → IsEnough reading before c text left

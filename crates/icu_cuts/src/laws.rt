@@ -6,7 +6,7 @@ ghost use Rattle.icu_cuts.specs.ReadingLaws.{LettersThatStayStand, ComposedLette
 ghost use Rattle.icu_cuts.specs.ReadingLaws.{DigitRunsAreNumbers, BasesStand, TextsPart, TextsStartAnew, PiecesStandAlone};
 
 /// The elements of a text are those of one step, and of what it leaves; a text without characters has none (UTS #10,
-/// section 7.2).
+/// "Produce Collation Element Arrays").
 pub fn texts_go_by_turns()
     ensures turns { TextsGoByTurns }
     ensures nothing { NothingGivesNothing }
@@ -30,8 +30,8 @@ pub fn letters_that_stay_stand()
     ensures marks { LoneMarksStand }
 {}
 
-/// The elements of a text begin with those of the starter that its first character decomposes to first, where that stands
-/// alone.
+/// The elements of a text begin with those of the starter that its first character decomposes to first, where that
+/// stands alone.
 pub fn first_starters_lead()
     ensures { FirstStartersLead }
 {}
@@ -41,14 +41,14 @@ pub fn digit_runs_are_numbers()
     ensures { DigitRunsAreNumbers }
 {}
 
-/// A base of contractions gives what it gives at the end of a text, before a starter that none of its rows names (UTS #10,
-/// steps S2.1 to S2.1.3).
+/// A base of contractions gives what it gives at the end of a text, before a starter that none of its rows names (UTS
+/// #10, "Produce Collation Element Arrays").
 pub fn bases_stand()
     ensures { BasesStand }
 {}
 
-/// A text is cut before a character whose decomposition begins with a safe one: its elements are those of its two parts,
-/// and what follows is the same whatever stood before.
+/// A text is cut before a character whose decomposition begins with a safe one: its elements are those of its two
+/// parts, and what follows is the same whatever stood before.
 pub fn texts_part()
     ensures cut { TextsPart }
     ensures start { TextsStartAnew }

@@ -1,5 +1,5 @@
-//! The laws by which a text is read a character at a time, in pieces, or as far as a step looks (UTS #10, section 7.2), and the scan
-//! of a run of marks that they ask for.
+//! The laws by which a text is read a character at a time, in pieces, or as far as a step looks (UTS #10, "Produce
+//! Collation Element Arrays"), and the scan of a run of marks that they ask for.
 #![tactic(auto)]
 
 pub mod laws;

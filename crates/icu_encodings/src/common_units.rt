@@ -8,7 +8,8 @@ use crate::encoded_text::{EncodedText, Latin1Text, Utf8Text, Utf16Text};
 
 /// Two encodings whose texts can be compared unit by unit.
 pub trait CommonUnits<R: EncodedText>: EncodedText {
-    /// How many first units the two texts have in common. That many first units, or fewer, are the same characters in both.
+    /// How many first units the two texts have in common. That many first units, or fewer, are the same characters in
+    /// both.
     fn common_units(self, other: R) -> usize
         ensures same { Self.units self ≡ R.units other → result ≡ length (Self.units self) }
         ensures heads { (n : ℕ) → n ≤ result → Self.head self n ≡ R.head other n };

@@ -13,7 +13,8 @@ use crate::utf16::{Utf16Chars, split_first_char};
 use bstr::decode_lossy;
 use std::marker::Model;
 
-/// A text in some encoding. What follows its first character is such a text again, so it can be read as often as need be.
+/// A text in some encoding. What follows its first character is such a text again, so it can be read as often as need
+/// be.
 pub trait EncodedText: Copy {
     /// Its characters.
     ghost text: { Self → List ℕ };
@@ -33,7 +34,7 @@ pub trait EncodedText: Copy {
         ensures first { IfSome result (λ p. text self ≡ p.0 ∷ text p.1) }
         ensures ascii { IfSome result (λ p. p.0 < 0x80) };
 
-    /// The characters are scalar values (Unicode Standard, section 3.9).
+    /// The characters are scalar values (Unicode Standard, "Unicode Encoding Forms").
     fn has_scalar_values(self)
         ensures { AllByRecursion IsScalar (text self) };
 
@@ -42,7 +43,8 @@ pub trait EncodedText: Copy {
         ensures count { result ≡ length (units self) }
         ensures whole { head self result ≡ text self };
 
-    /// The text from a unit on, where a character begins there and what stands before decodes by itself; `None` elsewhere.
+    /// The text from a unit on, where a character begins there and what stands before decodes by itself; `None`
+    /// elsewhere.
     fn split_at(self, at: usize) -> Option<Self>
         ensures { IfSome result (λ rest. text self ≡ head self at ++ text rest) };
 }

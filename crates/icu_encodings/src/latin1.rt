@@ -22,8 +22,8 @@ impl<'a> Model for Latin1Iter<'a> {
 }
 
 impl<'a> Latin1Iter<'a> {
-    /// The characters of bytes as Latin-1: each byte is the character of its number, U+0000 to U+00FF (Unicode Standard,
-    /// section 7.1).
+    /// The characters of bytes as Latin-1: each byte is the character of its number, U+0000 to U+00FF (Unicode
+    /// Standard, "Latin").
     pub fn new(bytes: &'a [u8]) -> Self
         ensures text { result ≡ latin1_text bytes.now }
         ensures spells { SpellsText result (latin1_text bytes.now) }
@@ -63,11 +63,11 @@ impl<'a> FusedIterator for Latin1Iter<'a> {}
 
 /// Bytes that are read as Latin-1.
 pub trait Latin1Chars<'a> {
-    // The bytes.
+    /// The bytes.
     ghost latin1_bytes: { Self → List ℕ };
 
     /// The characters of the bytes as Latin-1: each byte is the character of its number, U+0000 to U+00FF (Unicode
-    /// Standard, section 7.1).
+    /// Standard, "Latin").
     fn latin1_chars(&self) -> Latin1Iter<'a>
         ensures text { result ≡ latin1_text (latin1_bytes self.now) }
         ensures spells { SpellsText result (latin1_text (latin1_bytes self.now)) }

@@ -1,7 +1,7 @@
 //! The characters of texts in Latin-1, in UTF-16 and in UTF-8, damaged or not.
 //!
 //! Each decoder is an iterator over a borrowed input, from both ends, which is seen as the list of the characters that
-//! are left. It does not allocate, has an answer for every input, and gives U+FFFD for what is no character.
+//! are left. It does not allocate, decodes every input, and gives U+FFFD for what is no character.
 #![tactic(auto)]
 
 mod common_units;

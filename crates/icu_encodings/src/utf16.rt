@@ -74,7 +74,8 @@ impl<'a> Model for Utf16Chars<'a> {
 
 impl<'a> Utf16Chars<'a> {
     /// The characters of units of UTF-16: a lead surrogate and the trail surrogate directly after it are one character,
-    /// and each other surrogate is U+FFFD (Unicode Standard, sections 3.9 and 5.22).
+    /// and each other surrogate is U+FFFD (Unicode Standard, "Unicode Encoding Forms" and "U+FFFD Substitution in
+    /// Conversion").
     pub fn new(units: &'a [u16]) -> Self
         ensures text { result ≡ utf16_text units.now }
         ensures spells { SpellsText result (utf16_text units.now) }

@@ -8,7 +8,7 @@ ghost use Rattle.icu_encodings.specs.DecodedTexts.{utf8_text, SpellsText};
 use bstr::{ByteSlice, Chars};
 
 /// The characters of bytes that are UTF-8 in the main: each maximal ill-formed part is one U+FFFD (Unicode Standard,
-/// section 3.9, "U+FFFD Substitution of Maximal Subparts").
+/// "U+FFFD Substitution of Maximal Subparts").
 pub fn utf8_chars(bytes: &[u8]) -> Chars<'_>
     ensures text { result ≡ utf8_text bytes.now }
     ensures spells { SpellsText result (utf8_text bytes.now) }

@@ -1,5 +1,6 @@
--- The conditions on one collation element: that its weights are well formed (UTS #10, section 3.2), and which lead bytes they may
--- have, so that they stand between the bytes that sort keys keep for themselves.
+-- The conditions on one collation element: that its weights are well formed (UTS #10, "Well-Formedness of Collation
+-- Element Tables"), and which lead bytes they may have, so that they stand between the bytes that sort keys keep for
+-- themselves.
 use Rattle.std.specs.Prelude.{ℕ, ◌/◌, Bool, true, not, ◌&&◌, ◌||◌, ◌==◌, nat_le, List, [], ◌∷◌, bit_and}
 use Rattle.std.specs.Int.{w32, w16, to_be_bytes}
 use Rattle.icu_entries.specs.declared.element_conditions.ElementCondition.{ElementCondition}
@@ -41,8 +42,8 @@ has_lower_half e = (not (tertiary_of e == 0) || e.lower == 0) && not (bit_and e.
 unfoldable pub has_shape : Element → Bool
 has_shape e = has_whole_weights e && has_weights_below e && has_lower_half e
 
--- The common weight 05 stands between the lead bytes below and above it, which sort keys keep apart for runs of it. Lead byte 02
--- of a secondary weight serves where the secondary level is compared forward.
+-- The common weight 05 stands between the lead bytes below and above it, which sort keys keep apart for runs of it.
+-- Lead byte 02 of a secondary weight serves where the secondary level is compared forward.
 unfoldable pub has_secondary_lead : Bool → ℕ → Bool
 has_secondary_lead forward s =
     s == 0 || s == common || (forward && s / 256 == 2) || s / 256 == 3 || s / 256 == 4 || nat_le 0x46 (s / 256)
@@ -54,7 +55,8 @@ has_tertiary_lead t =
 abbrev pub has_leads : Bool → Element → Bool
 has_leads forward e = has_secondary_lead forward e.secondary && has_tertiary_lead (tertiary_of e)
 
--- The primary weight that parts fields from one another: U+FFFE's, lower than any other (UTS #35 part 5, section 1.3 "Root Collation").
+-- The primary weight that parts fields from one another: U+FFFE's, lower than any other (UTS #35 part 5, "Root
+-- Collation").
 abbrev pub separator_primary : ℕ
 separator_primary = 0x02000000
 

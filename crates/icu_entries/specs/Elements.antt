@@ -1,5 +1,6 @@
--- Collation elements (UTS #10, section 3): a primary weight of 32 bits, a secondary of 16, and a lower half of 16
--- bits with the case in its two highest bits, the tertiary weight under 3F3F, and the quaternary in bits 7 and 6.
+-- Collation elements (UTS #10, "Collation Weights, Elements, and Keys"): a primary weight of 32 bits, a secondary
+-- of 16, and a lower half of 16 bits with the case in its two highest bits, the tertiary weight under 3F3F, and
+-- the quaternary in bits 7 and 6.
 use Rattle.std.specs.Prelude.{ℕ, ◌+◌, ◌*◌, ◌/◌, ◌%◌, ◌^◌}
 
 pub record Element : Type 0 where

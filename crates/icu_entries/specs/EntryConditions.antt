@@ -26,8 +26,8 @@ has_digit e = elim (kind_of e) [ Digit ↦ nat_le (digit_value e) 9 | _ ↦ true
 unfoldable pub has_known_byte : ℕ → Bool
 has_known_byte e = elim (kind_of e) [ Fallback ↦ false | Reserved ↦ false | _ ↦ true ]
 
--- The weight of a character by offset data is one of three bytes: the character isn't before the base, the data's weight is such a
--- weight, and the lead byte that the ordinal comes to is a byte.
+-- The weight of a character by offset data is one of three bytes: the character isn't before the base, the data's
+-- weight is such a weight, and the lead byte that the ordinal comes to is a byte.
 abbrev pub is_three_byte_weight : Bool → ℕ → Bool
 is_three_byte_weight compressible p =
     nat_le (least_second_byte compressible) (p / 0x10000 % 256)

@@ -6,8 +6,8 @@ use Rattle.icu_entries.specs.Elements.{Element, of_primary}
 abbrev pub weight : ℕ → ℕ → ℕ → ℕ → ℕ
 weight b1 b2 b3 b4 = b1 * 0x1000000 + b2 * 0x10000 + b3 * 0x100 + b4
 
--- Implicit weights (UTS #10, section 10.1): lead byte FE, and three bytes that count up with the character. The second has 251
--- values from 4, the third 254 from 2, the fourth 18 from 2 in steps of 14. U+0000 comes second.
+-- Implicit weights (UTS #10, "Implicit Weights"): lead byte FE, and three bytes that count up with the character. The
+-- second has 251 values from 4, the third 254 from 2, the fourth 18 from 2 in steps of 14. U+0000 comes second.
 unfoldable pub implicit_weight : ℕ → ℕ
 implicit_weight c =
     let n = c + 1 in weight 0xFE (4 + n / 4572 % 251) (2 + n / 18 % 254) (2 + 14 * (n % 18))
@@ -39,8 +39,8 @@ unfoldable pub weight_at : Bool → ℕ → ℕ
 weight_at compressible place = weight (lead_at compressible place) (second_at compressible place) (third_at place) 0
 
 -- An offset entry's data are 64 bits: a primary weight, and under it a base character in bits 8 to 31, bit 7 for a
--- compressible lead, and a step in bits 0 to 6. A character has the weight whose ordinal is `step` more than the data's for each
--- character that it is past the base.
+-- compressible lead, and a step in bits 0 to 6. A character has the weight whose ordinal is `step` more than the data's
+-- for each character that it is past the base.
 abbrev pub offset_data : Element → ℕ
 offset_data d = d.secondary * 0x10000 + d.lower
 

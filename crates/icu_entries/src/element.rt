@@ -1,4 +1,4 @@
-//! Collation elements (UTS #10, section 3).
+//! Collation elements (UTS #10, "Collation Weights, Elements, and Keys").
 ghost use Rattle.std.specs.Prelude.{◌≡◌, ◌≤◌, ◌⊎◌, ◌↔◌, IsTrue, bit_or};
 ghost use Rattle.icu_entries.specs.Elements.{element_of, of_primary, of_secondary, end_element, non_primary, non_primary_bits};
 ghost use Rattle.icu_entries.specs.Weights.{implicit_weight};
@@ -21,8 +21,8 @@ pub(crate) const NO_CE_SECONDARY: u16 = 0x0100;
 /// The lower half of the end element.
 pub(crate) const NO_CE_TERTIARY: u16 = 0x0100;
 
-/// A collation element (UTS #10, section 3): a primary weight (32 bits), a secondary weight (16 bits), and
-/// case, tertiary weight and quaternary bits in a lower half of 16 bits.
+/// A collation element (UTS #10, "Collation Weights, Elements, and Keys"): a primary weight (32 bits), a secondary
+/// weight (16 bits), and case, tertiary weight and quaternary bits in a lower half of 16 bits.
 #[derive(Debug, Clone, Copy, PartialEq)]
 pub struct CollationElement {
     primary: u32,
@@ -76,8 +76,8 @@ impl CollationElement {
         CollationElement::from_weights(0, secondary, COMMON_WEIGHT16)
     }
 
-    /// The element of a character that has an entry of its own in no table: its implicit weight (UTS #10, section 10.1), with common
-    /// weights after it.
+    /// The element of a character that has an entry of its own in no table: its implicit weight (UTS #10, "Implicit
+    /// Weights"), with common weights after it.
     #[tactic(auto, unfolding(crate::specs::Weights::implicit_weight))]
     pub fn new_implicit_from_char(c: char) -> Self
         ensures { result ≡ of_primary (implicit_weight c) }

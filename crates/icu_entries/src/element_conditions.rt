@@ -114,8 +114,8 @@ impl CollationElement {
         self.has_whole_weights() && self.has_weights_below() && self.has_lower_half()
     }
 
-    /// Whether the secondary and the tertiary weight have lead bytes that they may have; `forward` says that secondary weights
-    /// may lead with 02.
+    /// Whether the secondary and the tertiary weight have lead bytes that they may have; `forward` says that secondary
+    /// weights may lead with 02.
     pub fn has_leads(self, forward: bool) -> bool
         ensures { result ≡ has_leads forward self }
     {

@@ -194,8 +194,8 @@ impl CollationElement32 {
         }
     }
 
-    /// The element of an entry that spells one itself: the same, and that of each entry that isn't simple and whose tag is
-    /// `LongSecondary`.
+    /// The element of an entry that spells one itself: the same, and that of each entry that isn't simple and whose tag
+    /// is `LongSecondary`.
     pub fn to_ce_self_contained(self) -> Option<CollationElement>
         ensures { result ≡ self_contained_by_tag self }
     {

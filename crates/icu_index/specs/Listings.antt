@@ -1,5 +1,5 @@
--- The listing of names, by the order of texts and the order of insertion (UTS #10, section 1.1 on sorted lists, and section
--- 7.4 "Compare Sort Keys").
+-- The listing of names, by the order of texts and the order of insertion (UTS #10, "Multi-Level Comparison" and
+-- "Compare Sort Keys").
 use Rattle.std.specs.Prelude.{ℕ, List, [], ◌∷◌, filter, fold, if◌then◌else◌}
 use Rattle.std.specs.List.Sorted.{IsPermutation, IsSorted, IsStable}
 use Rattle.std.specs.Ordering.{is_eq, is_gt}

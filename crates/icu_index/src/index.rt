@@ -28,9 +28,9 @@ fn name_key(
     }
 }
 
-/// Names in the order of a collator (UTS #10), those that compare equal in the order of insertion. A name is bytes in UTF-8
-/// that may be damaged: each maximal ill-formed part counts as one U+FFFD (Unicode Standard, section 3.9), and the bytes are
-/// kept as they came.
+/// Names in the order of a collator (UTS #10), those that compare equal in the order of insertion. A name is bytes in
+/// UTF-8 that may be damaged: each maximal ill-formed part counts as one U+FFFD (Unicode Standard, "Unicode Encoding
+/// Forms"), and the bytes are kept as they came.
 #[derive(Drop)]
 pub struct NameIndex<'a> {
     alloc: Global,
@@ -59,12 +59,13 @@ impl<'a> NameIndex<'a> {
         }
     }
 
-    /// Puts a copy of a name in its place: before the first name that compares Greater to it, or last. So it stands after those
-    /// that compare Equal to it.
+    /// Puts a copy of a name in its place: before the first name that compares Greater to it, or last. So it stands
+    /// after those that compare Equal to it.
     ///
     /// # Errors
     ///
-    /// Fails where an allocation does, or where there are as many names as a `usize` counts, and leaves the index as it was.
+    /// Fails where an allocation does, or where there are as many names as a `usize` counts, and leaves the index as it
+    /// was.
     pub fn insert(&mut self, name: &[u8]) -> Result<(), AllocError>
         ensures ok { OnOk result (listing self.new ≡ inserted (index_order self.old) name.now (listing self.old)) }
         ensures err { OnErr result (listing self.new ≡ listing self.old) }
@@ -107,8 +108,8 @@ impl<'a> NameIndex<'a> {
         }
     }
 
-    /// The names that compare Equal to a name, in the order of insertion. The name need not be one of the index. Fails only where
-    /// an allocation does.
+    /// The names that compare Equal to a name, in the order of insertion. The name need not be one of the index. Fails
+    /// only where an allocation does.
     pub fn equal_to(&self, name: &[u8]) -> Result<&[Vec<u8>], AllocError>
         ensures { IfOk result (λ names. map (λ n. n.items) names.now ≡ equal_names (index_order self.now) name.now (listing self.now)) }
     {

@@ -1,5 +1,5 @@
-//! An index of names: a list that stays in order while names come in, and from which the names that compare equal to a given
-//! one are taken.
+//! An index of names: a list that stays in order while names come in, and from which the names that compare equal to a
+//! given one are taken.
 #![tactic(auto)]
 
 mod groups;

@@ -1,5 +1,5 @@
--- The law of the bytes that sinks hold once a key was written to them, as contracts name it. `took`, `refused`, `finished` and
--- `begins` are a sink's, and `holds` says which bytes it holds.
+-- The law of the bytes that sinks hold once a key was written to them, as contracts name it. `took`, `refused`,
+-- `finished` and `begins` are a sink's, and `holds` says which bytes it holds.
 use Rattle.std.specs.Prelude.{ℕ, ◌≡◌, ◌<◌, ◌^◌, List, ◌++◌, length, drop, Result, Ok}
 use Rattle.icu_keys.specs.KeyWrites.{WritesKey}
 

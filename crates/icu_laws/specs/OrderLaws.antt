@@ -13,8 +13,8 @@ use Rattle.icu_order.specs.TextOrder.{text_order, text_key}
 
 -- ---- a total order with ties
 
--- Each text is equal to itself; swapped texts turn the order round; what is less than a lesser text is less; and equal texts
--- stand alike to any other
+-- Each text is equal to itself; swapped texts turn the order round; what is less than a lesser text is less; and equal
+-- texts stand alike to any other
 pub record IsOrderOfTexts (all : CollatorTables) (settings : Settings) : Type 0 where
   pub reflexive : (t : List ℕ) → IsText t → text_order all settings t t ≡ Equal
   pub swapped : (t u : List ℕ) → IsText t → IsText u → text_order all settings t u ≡ ordering_reverse (text_order all settings u t)

@@ -1,5 +1,5 @@
-//! Laws of the order of texts and of their sort keys, over the definitions of `icu_order` and of the levels and sinks beneath
-//! it. Each is the contract of a function that takes no value and makes no call.
+//! Laws of the order of texts and of their sort keys, over the definitions of `icu_order` and of the levels and sinks
+//! beneath it. Each is the contract of a function that takes no value and makes no call.
 #![tactic(auto)]
 
 ghost use Rattle.icu_laws.specs.IdenticalLaws.{IdenticalKeysDetermineTexts, IdenticalLevelsDetermineTexts, IdenticalLevelsKeepOrder, IdenticalOrderDeterminesTexts};
@@ -12,8 +12,9 @@ use icu_keys::CollationKeySink;
 use smallvec::SmallVec;
 use std::collections::VecDeque;
 
-/// The order of texts is a total order with ties, for all tables that meet the conditions and all settings: each text is
-/// equal to itself, swapped texts turn the order round, and what comes before one text comes before all texts after it.
+/// The order of texts is a total order with ties, for all tables that meet the conditions and all settings: each text
+/// is equal to itself, swapped texts turn the order round, and what comes before one text comes before all texts after
+/// it.
 pub fn texts_are_ordered()
     ensures { TextsAreOrdered }
 {}
@@ -24,8 +25,8 @@ pub fn equivalent_texts_are_equal()
     ensures key { EquivalentTextsHaveOneKey }
 {}
 
-/// The identical level determines the decomposed text (UTS #10, section 7.3 "Form Sort Keys" on the identical level; UAX #15):
-/// at the strength Identical, texts are equal or have one key exactly if they are canonically equivalent.
+/// The identical level determines the decomposed text (UTS #10, "Form Sort Keys" on the identical level; UAX #15): at
+/// the strength Identical, texts are equal or have one key exactly if they are canonically equivalent.
 pub fn identical_level_determines_texts()
     // The bytes of the level order as the decomposed texts do, U+FFFE lowest.
     ensures bytes { IdenticalLevelsKeepOrder }
@@ -37,13 +38,13 @@ pub fn identical_level_determines_texts()
 {}
 
 /// Without a case level and with all else the same, texts that differ at a strength keep their order at each higher one
-/// (UTS #35 part 5, section 3.3 on strength).
+/// (UTS #35 part 5, "Setting Options" on strength).
 pub fn strength_keeps_order()
     ensures { StrengthKeepsOrder }
 {}
 
-/// Numbers order by value (UTS #35 part 5, "Setting Options" on numeric), by tables that meet the conditions, with at most 254
-/// digits after the first zeros of each.
+/// Numbers order by value (UTS #35 part 5, "Setting Options" on numeric), by tables that meet the conditions, with at
+/// most 254 digits after the first zeros of each.
 pub fn number_texts_order_by_value()
     // A text of digits alone is read as one number.
     ensures digits { DigitTextsAreNumbers }
@@ -55,17 +56,18 @@ pub fn number_texts_order_by_value()
     ensures different { DifferentNumbersOrderByValue }
 {}
 
-/// However many common weights stand together, keys stay short (UTS #10, "Run-length Compression"): n of them, whatever stands
-/// before and after, add at most 1 + n / 33 bytes to the secondary level, 1 + n / 97 to the tertiary level without case bits,
-/// and 1 + n / 113 to the quaternary level.
+/// However many common weights stand together, keys stay short (UTS #10, "Run-Length Compression"): n of them, whatever
+/// stands before and after, add at most 1 + n / 33 bytes to the secondary level, 1 + n / 97 to the tertiary level
+/// without case bits, and 1 + n / 113 to the quaternary level.
 pub fn common_weights_add_few_bytes()
     ensures secondary { CommonSecondariesAddFew }
     ensures tertiary { CommonTertiariesAddFew }
     ensures quaternary { CommonQuaternariesAddFew }
 {}
 
-/// One key has the same bytes in every sink of `icu_keys`: where a call that writes a key (`WritesKey`) returned `Ok`, a list
-/// holds what it held and then the key, and a slice the key at its front. So two such calls for one text gave the same bytes.
+/// One key has the same bytes in every sink of `icu_keys`: where a call that writes a key (`WritesKey`) returned `Ok`,
+/// a list holds what it held and then the key, and a slice the key at its front. So two such calls for one text gave
+/// the same bytes.
 pub fn sinks_hold_one_key<const N: usize>()
     ensures vector { HoldsKeyAfter ⟦<Vec<u8> as CollationKeySink>⟧.took ⟦<Vec<u8> as CollationKeySink>⟧.refused
         ⟦<Vec<u8> as CollationKeySink>⟧.finished ⟦<() as Default>⟧.is_default (λ v. v.items) }

@@ -1,5 +1,5 @@
--- The primaries of numbers, which order by value (UTS #35 part 5, "Setting Options" on numeric; the weights are those of
--- ICU's keys).
+-- The primaries of numbers, which order by value (UTS #35 part 5, "Setting Options" on numeric; the weights are those
+-- of ICU's keys).
 use Rattle.std.specs.Prelude.{ℕ, zero, suc, ◌+◌, ◌-◌, ◌*◌, ◌/◌, ◌%◌, ◌^◌, ◌==◌, nat_lt, if◌then◌else◌, List, [], ◌∷◌, ◌++◌, take, drop}
 use Rattle.icu_levels.specs.WeightBytes.{digits, without_last_zeros}
 

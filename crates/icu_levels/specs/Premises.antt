@@ -58,8 +58,9 @@ pub record AreShifted (IsLive : ℕ → Type 0) : Type 0 where
 
 -- ---- primaries, and weights of numbers among them
 
--- The bytes after the numeric lead in the first weight of a number. From 84 on the first of them counts pairs of digits:
--- then more of the number follows an odd last byte, and an even one ends it. Below 84 the weight is the whole number
+-- The bytes after the numeric lead in the first weight of a number. From 84 on the first of them counts pairs of
+-- digits: then more of the number follows an odd last byte, and an even one ends it. Below 84 the weight is the whole
+-- number
 abbrev pub IsFirstPiece : List ℕ → Type 0
 IsFirstPiece [] = ⊥
 IsFirstPiece (b ∷ []) = b ≤ 75

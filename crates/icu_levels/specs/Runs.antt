@@ -1,5 +1,5 @@
 -- A level in which the common weight is written by the length of its runs
--- (UTS #10, "Run-length Compression").
+-- (UTS #10, "Run-Length Compression").
 use Rattle.std.specs.Prelude.{◌≡◌, ◌≢◌, ℕ, zero, suc, ◌+◌, ◌-◌, ◌/◌, ◌%◌, ◌<◌, ◌==◌, nat_lt, if◌then◌else◌, List, [], ◌∷◌, ◌++◌, replicate}
 use Rattle.icu_levels.specs.declared.run_bytes.RunBytes.{RunBytes}
 use Rattle.icu_levels.specs.ListOrder.{IsUnder, IsOver, Precedes}

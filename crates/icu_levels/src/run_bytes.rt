@@ -1,6 +1,6 @@
 //! The bytes by which each level writes the runs of its common weight: one set of constants for code and definitions.
 
-/// The bytes by which a level writes runs of its common weight (UTS #10, "Run-length Compression").
+/// The bytes by which a level writes runs of its common weight (UTS #10, "Run-Length Compression").
 ///
 /// A run is written as a middle byte for each full `count`, and one last byte: from `low` upward before a lesser
 /// weight or the end, from `high` downward before a greater weight. The numbers are those of ICU's keys.

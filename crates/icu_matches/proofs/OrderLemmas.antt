@@ -83,7 +83,8 @@ shorter_before (x ∷ xs) (y ∷ ys) (z ∷ zs) h k b =
 
 -- ---- what a row and a text have in common
 
--- a row that begins the text, and doesn't come after another row that doesn't come after the text, begins what these have in common
+-- a row that begins the text, and doesn't come after another row that doesn't come after the text, begins what these
+-- have in common
 pub begins_common : (row text other : List ℕ) → starts_with nat_eq text other ≡ true → is_before row other ≡ false → is_before text row ≡ false → starts_with nat_eq (common row text) other ≡ true
 unfolding common
 begins_common row text [] h k b = refl

@@ -1,5 +1,5 @@
--- What an entry matches of a text: prefixes (UTS #35 part 5, section 3.7), then contractions, also of marks that don't
--- follow directly (UTS #10, steps S2.1 to S2.1.3).
+-- What an entry matches of a text: prefixes (UTS #35 part 5, "Context-Sensitive Mappings"), then contractions, also of
+-- marks that don't follow directly (UTS #10, "Produce Collation Element Arrays").
 use Rattle.std.specs.Prelude.{ℕ, Bool, nat_le, List, [], ◌∷◌, ◌++◌, Some, None, if◌then◌else◌, drop, length}
 use Rattle.std.specs.List.{list_any}
 use Rattle.ucd_normal.specs.CanonicalCombiningClass.{canonical_combining_class as class_of}
@@ -25,8 +25,8 @@ after_prefix h before =
 unfoldable pub is_blocked : List ℕ → ℕ → Bool
 is_blocked passed m = list_any (λ p. nat_le (class_of m) (class_of p)) passed
 
--- Each mark up to the next starter in turn joins the suffix, where it isn't blocked and the suffix with it is a row; else it is
--- passed over.
+-- Each mark up to the next starter in turn joins the suffix, where it isn't blocked and the suffix with it is a row;
+-- else it is passed over.
 unfoldable pub with_marks : List Row → ℕ → List ℕ → List ℕ → List ℕ → Match
 with_marks rows entry suffix passed [] = record { entry = entry; suffix = suffix; rest = passed }
 with_marks rows entry suffix passed (m ∷ ms) =

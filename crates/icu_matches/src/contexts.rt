@@ -17,8 +17,8 @@ use icu_data::{CollationData, FoundContext};
 use icu_entries::{CollationElement32, EntryKind};
 use std::alloc::{AllocError, Global};
 
-/// The entry that a prefix entry becomes after the characters that were consumed, nearest first; any other entry as it is (UTS #35
-/// part 5, section 3.11).
+/// The entry that a prefix entry becomes after the characters that were consumed, nearest first; any other entry as it
+/// is (UTS #35 part 5, "Context-Sensitive Mappings").
 #[tactic(auto, unfolding(crate::specs::Matches::after_prefix))]
 pub fn after_prefix(
     home: CollationData<'_>,

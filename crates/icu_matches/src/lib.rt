@@ -1,4 +1,5 @@
-//! What an entry matches of a text: prefixes and contractions (UTS #35 part 5, section 3.11; UTS #10, steps S2.1 to S2.1.3).
+//! What an entry matches of a text: prefixes and contractions (UTS #35 part 5, "Context-Sensitive Mappings"; UTS #10,
+//! "Produce Collation Element Arrays").
 #![tactic(auto)]
 
 pub mod contexts;

@@ -35,8 +35,9 @@ fn join_mark(
     }
 }
 
-/// The marks up to the next starter join the match one by one, and leave the text, where they aren't blocked and the suffix with
-/// them is a row. A mark is blocked if its class isn't above the greatest class of those that were passed over.
+/// The marks up to the next starter join the match one by one, and leave the text, where they aren't blocked and the
+/// suffix with them is a row. A mark is blocked if its class isn't above the greatest class of those that were passed
+/// over.
 pub(crate) fn join_marks(
     context: FoundContext<'_>,
     text: &mut Text,

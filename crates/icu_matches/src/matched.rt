@@ -44,11 +44,12 @@ fn found(
     }
 }
 
-/// The match of a character's entry, after the characters that were consumed, nearest first, and before a decomposed text, from which
-/// the characters that the match consumes are taken out. A prefix entry becomes the entry of its longest row that begins what was
-/// consumed, or its default. A contraction then takes its longest row that begins the text, or none, and after it each mark up to
-/// the next starter that isn't blocked and makes a row of what was taken (UTS #10, steps S2.1 to S2.1.3; UTS #35 part 5,
-/// section 3.11). Hint bits of the entry decide nothing. If an allocation fails, nothing is said of the text.
+/// The match of a character's entry, after the characters that were consumed, nearest first, and before a decomposed
+/// text, from which the characters that the match consumes are taken out. A prefix entry becomes the entry of its
+/// longest row that begins what was consumed, or its default. A contraction then takes its longest row that begins the
+/// text, or none, and after it each mark up to the next starter that isn't blocked and makes a row of what was taken
+/// (UTS #10, "Produce Collation Element Arrays"; UTS #35 part 5, "Context-Sensitive Mappings"). Hint bits of the entry
+/// decide nothing. If an allocation fails, nothing is said of the text.
 pub fn find_match(
     alloc: Global,
     home: CollationData<'_>,

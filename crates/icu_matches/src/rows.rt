@@ -1,4 +1,5 @@
-//! Rows of a context, found by bisection: they ascend by the numbers of their characters, a list before those that it begins.
+//! Rows of a context, found by bisection: they ascend by the numbers of their characters, a list before those that it
+//! begins.
 
 ghost use Rattle.std.specs.Prelude.{◌≡◌, ◌<◌, ◌≤◌, IsTrue, IfSome, length, not, take};
 ghost use Rattle.icu_data.specs.Contexts.{has_ascending_rows, is_before};
@@ -66,8 +67,8 @@ fn common_len(row: &[char], text: &[char]) -> usize
     end
 }
 
-/// The index of the longest row that begins the text. Where the last row that doesn't come after the text doesn't begin it, each
-/// row that does begins that row too, so it begins what the two have in common.
+/// The index of the longest row that begins the text. Where the last row that doesn't come after the text doesn't begin
+/// it, each row that does begins that row too, so it begins what the two have in common.
 pub fn find_longest(context: FoundContext<'_>, text: &[char]) -> Option<usize>
     requires { IsTrue (has_ascending_rows (found_context context)) }
     ensures value { longest_row (found_context context.entry).rows text.now ≡ row_at (found_context context.entry).rows result }
@@ -87,8 +88,8 @@ pub fn find_longest(context: FoundContext<'_>, text: &[char]) -> Option<usize>
     }
 }
 
-/// Whether a row of a context goes on where the text ends, so that more of the text decides which row begins it. The first row after
-/// the text does, where any does.
+/// Whether a row of a context goes on where the text ends, so that more of the text decides which row begins it. The
+/// first row after the text does, where any does.
 pub fn row_goes_on(context: FoundContext<'_>, text: &[char]) -> bool
     requires { IsTrue (has_ascending_rows (found_context context)) }
     ensures { result ≡ not (are_decided (found_context context.entry).rows text.now) }

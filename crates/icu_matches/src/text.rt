@@ -4,8 +4,8 @@ ghost use Rattle.std.specs.Prelude.{◌≡◌, ◌↔◌, ◌<◌, ◌≤◌, �
 
 use std::alloc::AllocError;
 
-/// A decomposed text, of which some characters were read: the others are still to be read, in order. Taking one out costs
-/// as many steps as characters stand before it, however long the text is. No call but `push` allocates.
+/// A decomposed text, of which some characters were read: the others are still to be read, in order. Taking one out
+/// costs as many steps as characters stand before it, however long the text is. No call but `push` allocates.
 #[derive(Debug, Drop)]
 pub struct Text {
     chars: Vec<char>,
@@ -97,9 +97,9 @@ impl Text {
         c
     }
 
-    /// One more character comes after those that are still to be read. Room of those that were read is used again once they are as
-    /// many as the others, so that the text takes up to twice the room of what is still to be read. If an allocation fails, what is
-    /// still to be read is as it was.
+    /// One more character comes after those that are still to be read. Room of those that were read is used again once
+    /// they are as many as the others, so that the text takes up to twice the room of what is still to be read. If an
+    /// allocation fails, what is still to be read is as it was.
     #[tactic(auto, unfolding(crate::specs::Texts::unread))]
     pub fn push(&mut self, c: char) -> Result<(), AllocError>
         ensures { unread self.new ≡ (if is_ok result then unread self.old ++ c ∷ [] else unread self.old) }

@@ -1,5 +1,5 @@
--- The test table Mini. It is made for tests: space, '-' and '.', digits and the letters a to z have weights of their own, and
--- every other character has an implicit weight.
+-- The test table Mini. It is made for tests: space, '-' and '.', digits and the letters a to z have weights of their
+-- own, and every other character has an implicit weight.
 use Rattle.std.specs.Prelude.{◌≡◌, ℕ, List, [], ◌∷◌, ◌++◌, Option, Some, None, map}
 use Rattle.std.specs.Option.{option_map}
 use Rattle.icu_data.specs.Building.{SaysOfCharacters}
@@ -57,8 +57,8 @@ implicit_entry = 0xCF
 abbrev pub fallback_entry : ℕ
 fallback_entry = 0xC0
 
--- Mini's root, where these characters too have entries of their own, with these elements, and with these entries after those of
--- the digits
+-- Mini's root, where these characters too have entries of their own, with these elements, and with these entries after
+-- those of the digits
 abbrev pub mini_root : List (ℕ × ℕ) → List ℕ → List ℕ → Data
 mini_root characters elements entries = record {
   value = with_characters characters (with_characters mini_characters (λ c. implicit_entry));

@@ -33,7 +33,8 @@ loads_of p = record {
 abbrev pub Names : DataTable → (DataErrorKind → Type 0) → DataError → Type 0
 Names table Fails e = (e.table ≡ table) × Fails e.kind
 
--- A table is lent exactly if it is accepted, and says then what it is to say. A refusal names it, and a condition that it fails.
+-- A table is lent exactly if it is accepted, and says then what it is to say. A refusal names it, and a condition that
+-- it fails.
 pub record IsLent {T A : Type 0} (says : T → A) (held : A) (Accepted : Type 0) (Refused : DataError → Type 0) (r : Result T DataError) : Type 0 where
   pub accepts : IsOk r ↔ Accepted
   pub lends : IfOk r (λ t. says t ≡ held)

@@ -5,8 +5,8 @@ ghost use Rattle.icu_mini.specs.Characters.{mini_characters, with_characters};
 
 use icu_data::DataBuilder;
 
-/// Mini's characters that have entries of their own: ignored, the separator of merged texts, the replacement character; space,
-/// "-", "."; digits, each with its value and the index of its plain entry; letters, and a circled "A".
+/// Mini's characters that have entries of their own: ignored, the separator of merged texts, the replacement character;
+/// space, "-", "."; digits, each with its value and the index of its plain entry; letters, and a circled "A".
 #[rattlefmt::skip]
 pub(crate) static MINI_CHARACTERS: [(char, u32); 69] = [
     ('\0', 0x0000_0000), ('\u{FFFE}', 0x0200_0505), ('\u{FFFD}', 0xFFFD_0505),

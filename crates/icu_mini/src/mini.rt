@@ -18,8 +18,8 @@ use icu_provider::{
 };
 use std::alloc::{AllocError, Global};
 
-/// The tables of Mini, a small collation for tests, or of a variant of it. It owns them and lends each in the form in which
-/// a collator takes it. The fields are public, so that a test may damage a table.
+/// The tables of Mini, a small collation for tests, or of a variant of it. It owns them and lends each in the form in
+/// which a collator takes it. The fields are public, so that a test may damage a table.
 #[derive(Debug, Drop)]
 pub struct Mini {
     /// The root.
@@ -30,8 +30,8 @@ pub struct Mini {
     pub jamo: Vec<u32>,
     /// The secondary weights of the diacritics from U+0300 on.
     pub diacritics: Vec<u16>,
-    /// The two highest bytes of the first primary weight after each variable group, and perhaps bits for the compressible
-    /// lead bytes.
+    /// The two highest bytes of the first primary weight after each variable group, and perhaps bits for the
+    /// compressible lead bytes.
     pub last_primaries: Vec<u16>,
     /// The lead byte of the primary weights of numbers.
     pub numeric_primary: u8,
@@ -52,8 +52,8 @@ impl Mini {
         Mini::with_root(alloc, &[], &[], &[])
     }
 
-    /// Mini where these characters too have entries of their own, with these elements, and with these entries after those of the
-    /// digits.
+    /// Mini where these characters too have entries of their own, with these elements, and with these entries after
+    /// those of the digits.
     pub(crate) fn with_root(
         alloc: Global,
         characters: &[(char, u32)],

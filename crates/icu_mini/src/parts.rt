@@ -16,8 +16,8 @@ const IMPLICIT_CE32: u32 = 0xCF;
 /// The entry of a tailoring for a character that it leaves to the root.
 const FALLBACK_CE32: u32 = 0xC0;
 
-/// Mini's root, where these characters too have entries of their own, with these elements, and with these entries after those
-/// of the digits.
+/// Mini's root, where these characters too have entries of their own, with these elements, and with these entries after
+/// those of the digits.
 pub(crate) fn root(
     alloc: Global,
     characters: &[(char, u32)],

@@ -15,8 +15,8 @@ use icu_provider::{
     CollationSpecialPrimaries, DataRequest,
 };
 
-/// A provider that answers every locale and type alike. The fields are public, so that a test may have it refuse a table, or lend
-/// another one.
+/// A provider that returns the same tables for every locale and type. The fields are public, so that a test may have it
+/// refuse a table, or lend another one.
 #[derive(Debug, Clone, Copy)]
 pub struct MiniProvider<'m> {
     /// The root.
@@ -87,8 +87,8 @@ impl Mini {
     ghost use Rattle.icu_mini.specs.ReorderingData.{reordering_held, HasAllLeads};
     ghost use Rattle.icu_mini.specs.Provider.{IsLent, IsLentIfAny, LendsMini, Names};
 
-    /// A provider of these tables, for every locale and type. A table that fails a condition of its own is refused with the kind
-    /// of one; a tailoring and a reordering that there isn't are `Absent`.
+    /// A provider of these tables, for every locale and type. A table that fails a condition of its own is refused with
+    /// the kind of one; a tailoring and a reordering that there isn't are `Absent`.
     pub fn provider(&self) -> MiniProvider<'_>
         ensures { LendsMini self.now result }
     {

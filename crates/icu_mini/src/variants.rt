@@ -130,8 +130,8 @@ impl Mini {
         )
     }
 
-    /// Mini where Greek alpha and beta, U+03B1 and U+03B2, have weights by offset: beta's is 4 places after alpha's, past the
-    /// end of the third byte.
+    /// Mini where Greek alpha and beta, U+03B1 and U+03B2, have weights by offset: beta's is 4 places after alpha's,
+    /// past the end of the third byte.
     pub fn with_offsets(alloc: Global) -> Result<Mini, AllocError>
         ensures { IfOk result (Holds variants.mini_offset) }
     {
@@ -170,8 +170,8 @@ impl Mini {
         Ok(mini)
     }
 
-    /// Mini with U+00DF, the sharp s, whose entry is the list of the entry of "s" and of one that is greater on the third
-    /// level.
+    /// Mini with U+00DF, the sharp s, whose entry is the list of the entry of "s" and of one that is greater on the
+    /// third level.
     pub fn with_sharp_s(alloc: Global) -> Result<Mini, AllocError>
         ensures { IfOk result (Holds variants.mini_sharp_s) }
     {

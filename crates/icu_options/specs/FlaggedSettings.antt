@@ -1,4 +1,5 @@
--- Settings of which some are explicit: a source has set them. Those that are not can still be taken from another source.
+-- Settings of which some are explicit: a source has set them. Those that are not can still be taken from another
+-- source.
 use Rattle.std.specs.Prelude.{Bool, true, false, Option, None, Some, if◌then◌else◌}
 use Rattle.icu_options.specs.declared.setting.Setting.{Setting}
 use Rattle.icu_options.specs.declared.settings.Strength.{Strength}

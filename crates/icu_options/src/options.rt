@@ -7,8 +7,7 @@ use crate::settings::{
     Strength,
 };
 
-/// The settings that a caller chooses in code. `None` leaves one to the other sources. All four are
-/// merged and can be read back.
+/// The settings that a caller chooses in code. `None` leaves one to the other sources.
 #[derive(Debug, Clone, Copy)]
 pub struct CollatorOptions {
     /// How many levels are compared.
@@ -51,8 +50,6 @@ impl From<ResolvedCollatorOptions> for CollatorOptions {
 
 /// What a user prefers: a language, and the settings that go with a language. `None` leaves a
 /// setting to the other sources.
-///
-/// Both settings are merged and can be read back. Neither changes an answer of the comparison yet.
 #[derive(Debug, Clone, Copy)]
 pub struct CollatorPreferences<'a> {
     /// The locale, as the provider of the tables names it; "" for the root.

@@ -11,7 +11,7 @@ pub enum Strength {
     Secondary = 1,
     /// Case and variants too. This is the default.
     Tertiary = 2,
-    /// What shifted characters, such as spaces, leave to tell apart, and Hiragana from Katakana.
+    /// Shifted characters too, such as spaces, and Hiragana and Katakana.
     Quaternary = 3,
     /// Any two texts that differ in their canonical decompositions.
     Identical = 7,

@@ -1,4 +1,5 @@
--- Which levels tables and settings name, in which form, and which elements are variable (UTS #35 part 5, "Setting Options").
+-- Which levels tables and settings name, in which form, and which elements are variable (UTS #35 part 5, "Setting
+-- Options").
 use Rattle.std.specs.Prelude.{ℕ, Bool, true, false, Option, Some, None}
 use Rattle.icu_options.specs.Settings.{Settings}
 use Rattle.icu_options.specs.Metadata.{is_backward}
@@ -56,8 +57,8 @@ tertiary_form Primary form = None
 tertiary_form Secondary form = None
 tertiary_form _ form = Some form
 
--- common quaternaries alone are written as nothing where no element is ignored, and as a run where variable ones are shifted or
--- blanked
+-- common quaternaries alone are written as nothing where no element is ignored, and as a run where variable ones are
+-- shifted or blanked
 abbrev pub handling_form : AlternateHandling → QuaternaryForm
 handling_form NonIgnorable = Unshifted
 handling_form _ = MayShift

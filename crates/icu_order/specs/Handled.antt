@@ -1,4 +1,4 @@
--- What variable weighting leaves of the elements of a text (UTS #10, section 4 "Variable Weighting").
+-- What variable weighting leaves of the elements of a text (UTS #10, "Variable Weighting").
 use Rattle.std.specs.Prelude.{ℕ, Bool, true, false, ◌&&◌, ◌==◌, nat_lt, nat_le, List, [], ◌∷◌, ◌++◌, if◌then◌else◌}
 use Rattle.icu_options.specs.declared.settings.AlternateHandling.{AlternateHandling}
 use Rattle.icu_options.specs.declared.settings.AlternateHandling.TheVariants.{Blanked}
@@ -19,8 +19,8 @@ abbrev pub handled_variable : AlternateHandling → ℕ → List HandledElement
 handled_variable Blanked p = []
 handled_variable _ p = shifted_primary p ∷ []
 
--- From the left: a variable element is shifted or blanked, and elements without a primary after it vanish until one that has a
--- primary stays. The flag says that a variable element came last.
+-- From the left: a variable element is shifted or blanked, and elements without a primary after it vanish until one
+-- that has a primary stays. The flag says that a variable element came last.
 unfoldable pub handled : AlternateHandling → ℕ → Bool → List Element → List HandledElement
 handled handling last after [] = []
 handled handling last after (x ∷ xs) =

@@ -1,4 +1,4 @@
--- The lists of weights that two texts are compared by, level by level (UTS #10, section 7.3 "Form Sort Keys"; UTS #35 part 5,
+-- The lists of weights that two texts are compared by, level by level (UTS #10, "Form Sort Keys"; UTS #35 part 5,
 -- "Setting Options" and "Case Parameters").
 use Rattle.std.specs.Prelude.{ℕ, ◌+◌, ◌-◌, ◌/◌, ◌^◌, ◌==◌, bit_and, bit_xor, List, [], ◌∷◌, Option, Some, None, if◌then◌else◌, map, reverse}
 use Rattle.icu_levels.specs.Keys.{LevelLists}
@@ -73,8 +73,8 @@ masked_tertiary WithoutCase x = bit_and x.lower tertiary_mask
 masked_tertiary LowerFirst x = bit_and x.lower cased_mask
 masked_tertiary UpperFirst x = bit_and x.lower cased_mask
 
--- What a form has for an element that it reads something of. Upper case first inverts the case bits; an element with a tertiary
--- alone, whose case bits are 10, has 11 then, the greatest
+-- What a form has for an element that it reads something of. Upper case first inverts the case bits; an element with a
+-- tertiary alone, whose case bits are 10, has 11 then, the greatest
 abbrev pub tertiary_in : TertiaryForm → Element → ℕ
 tertiary_in UpperFirst x =
     if x.secondary == 0 then masked_tertiary UpperFirst x + 0x4000 else bit_xor (masked_tertiary UpperFirst x) case_mask

@@ -1,4 +1,4 @@
--- The weights that the tables of a collator can give, level by level (UTS #10, section 7.3 "Form Sort Keys"; UTS #35 part 5,
+-- The weights that the tables of a collator can give, level by level (UTS #10, "Form Sort Keys"; UTS #35 part 5,
 -- "Collation Reordering" and "Case Parameters"), and that they are as the levels of sort keys ask.
 use Rattle.std.specs.Prelude.{false, Option, Some, None, ℕ, ◌≡◌, ◌≢◌, ◌⊎◌, if◌then◌else◌}
 use Rattle.icu_levels.specs.Tertiaries.{tertiary_runs}
@@ -15,7 +15,8 @@ use Rattle.icu_checks.specs.GoodTables.{IsGoodTables}
 use Rattle.icu_order.specs.Levels.{primary_of, secondary_of, masked_tertiary, tertiary_in}
 use Rattle.icu_order.specs.Forms.{compression_of}
 
--- An element is live by one of the tables, what a level reads of it isn't 0, and the weight is what the level has for it
+-- An element is live by one of the tables, what a level reads of it isn't 0, and the weight is what the level has for
+-- it
 pub record IsLiveWeight (reads has : Element → ℕ) (all : CollatorTables) (w : ℕ) : Type 0 where
   pub table : DataTable
   pub element : Element
@@ -67,8 +68,8 @@ live_weights all f = record {
   numeric = all.special.numeric;
 }
 
--- Tables that meet the conditions on all tables of a collator give weights that are as a key of any form asks, whatever the
--- settings: a backward level is one of tables that say so
+-- Tables that meet the conditions on all tables of a collator give weights that are as a key of any form asks, whatever
+-- the settings: a backward level is one of tables that say so
 abbrev pub GoodTablesServeLevels : Type 0
 GoodTablesServeLevels =
     (all : CollatorTables) → IsGoodTables all → (f : KeyForm) → (f.secondary ≡ Some Backward → is_forward all ≡ false)

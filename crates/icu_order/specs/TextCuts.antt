@@ -17,8 +17,8 @@ abbrev pub begins_with_primary : List Element → Bool
 begins_with_primary [] = true
 begins_with_primary (x ∷ xs) = not (x.primary == 0)
 
--- A text that begins with this character is compared by itself: the character's decomposition begins with a safe one, and where
--- elements may be variable its first element has a primary.
+-- A text that begins with this character is compared by itself: the character's decomposition begins with a safe one,
+-- and where elements may be variable its first element has a primary.
 pub record BeginsAnew (all : CollatorTables) (settings : Settings) (c : ℕ) (cs : List ℕ) : Type 0 where
   pub first : ℕ
   pub more : List ℕ

@@ -1,5 +1,5 @@
--- The order of two texts and the key of one, for all tables and settings (UTS #10, sections 7.3 "Form Sort Keys" and 7.4
--- "Compare Sort Keys").
+-- The order of two texts and the key of one, for all tables and settings (UTS #10, "Form Sort Keys" and "Compare Sort
+-- Keys").
 use Rattle.std.specs.Prelude.{ℕ, Bool, false, List, Some, None, if◌then◌else◌}
 use Rattle.std.specs.declared.cmp.Ordering.{Ordering}
 use Rattle.unicode_normalization.specs.Forms.{nfd}

@@ -4,25 +4,26 @@ ghost use Rattle.icu_order.specs.LiveWeights.{GoodTablesServeLevels};
 ghost use Rattle.icu_order.specs.TextCuts.{CommonBeginningsDoNotCount};
 ghost use Rattle.icu_order.specs.TextLaws.{EqualTextsHaveOneKey, KeysDetermineTextLists, KeysKeepTextOrder, LevelsKeepTextOrder};
 
-/// The weights that tables give which meet the conditions on all tables of a collator are as the order theorem of sort keys
-/// asks, for keys of each form (UTS #10, section 7.3 "Form Sort Keys"; UTS #35 part 5, "Collation Reordering" and "Case Parameters").
+/// The weights that tables give which meet the conditions on all tables of a collator are as the order theorem of sort
+/// keys asks, for keys of each form (UTS #10, "Form Sort Keys"; UTS #35 part 5, "Collation Reordering" and "Case
+/// Parameters").
 ///
-/// Weights of one level are prefix free (UTS #10, "Large Weight Values"): primaries after reordering, tertiaries with case
-/// bits and without. Leads stand clear of the bytes that keys keep for themselves. Reordering changes leads alone, and keeps
-/// numbers apart from all else. Of primaries that share a lead after it, all leads are compressible or none.
+/// Weights of one level are prefix free (UTS #10, "Large Weight Values"): primaries after reordering, tertiaries with
+/// case bits and without. Leads stand clear of the bytes that keys keep for themselves. Reordering changes leads alone,
+/// and keeps numbers apart from all else. Of primaries that share a lead after it, all leads are compressible or none.
 pub fn good_tables_serve_levels()
     ensures { GoodTablesServeLevels }
 {}
 
 /// Each level of the keys of two texts by itself, for all tables that meet the conditions and all settings: where all
-/// earlier levels tie, its bytes determine the order of its lists, whatever follows them, and the same bytes mean the same
-/// list (UTS #10, section 7.3 "Form Sort Keys").
+/// earlier levels tie, its bytes determine the order of its lists, whatever follows them, and the same bytes mean the
+/// same list (UTS #10, "Form Sort Keys").
 pub fn levels_keep_text_order()
     ensures { LevelsKeepTextOrder }
 {}
 
-/// The order theorem, for all tables that meet the conditions, all settings and any two texts (UTS #10, section 7.4
-/// "Compare Sort Keys").
+/// The order theorem, for all tables that meet the conditions, all settings and any two texts (UTS #10, "Compare Sort
+/// Keys").
 pub fn keys_keep_text_order()
     // The dictionary order of the two keys is the order of the texts.
     ensures order { KeysKeepTextOrder }
@@ -34,9 +35,9 @@ pub fn keys_keep_text_order()
     ensures lists { KeysDetermineTextLists }
 {}
 
-/// Texts with a common beginning are in the order of what follows it, for all tables, and all settings by which secondary
-/// weights aren't read backward. What follows has to be a text that may follow others without a change of what it gives
-/// (`IsTail`): empty, or begun by a character before which texts may be cut.
+/// Texts with a common beginning are in the order of what follows it, for all tables, and all settings by which
+/// secondary weights aren't read backward. What follows has to be a text that may follow others without a change of
+/// what it gives (`IsTail`): empty, or begun by a character before which texts may be cut.
 pub fn common_beginnings_do_not_count()
     ensures { CommonBeginningsDoNotCount }
 {}

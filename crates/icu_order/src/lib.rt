@@ -1,5 +1,5 @@
-//! The order of any two texts by the tables and the settings of a collator, the sort key of a text, and the theorem that
-//! keys order as texts do. A crate of definitions (`specs/`) and of theorems: it has no code with meaning.
+//! The order of any two texts by the tables and the settings of a collator, the sort key of a text, and the theorem
+//! that keys order as texts do. A crate of definitions (`specs/`) and of theorems: it has no code with meaning.
 #![tactic(auto)]
 
 pub mod laws;

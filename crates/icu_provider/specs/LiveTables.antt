@@ -1,4 +1,5 @@
--- The entries that are live in tables: those of a root, of the conjoining jamo, and of a tailoring, which falls back to the root.
+-- The entries that are live in tables: those of a root, of the conjoining jamo, and of a tailoring, which falls back to
+-- the root.
 use Rattle.std.specs.Prelude.{ℕ, ◌-◌, ◌≡◌, ◌⊎◌, true, false, slice_index, Some, IfSome, IsTrue}
 use Rattle.std.specs.Char.{IsScalar}
 use Rattle.std.specs.List.{AllByRecursion, Contains}

@@ -6,8 +6,8 @@ use Rattle.icu_data.specs.Data.{Data}
 use Rattle.icu_provider.specs.Reorderings.{Reordering}
 use Rattle.icu_provider.specs.SpecialPrimaries.{SpecialPrimaries}
 
--- What each load returns: what the table says, or why there is none. The metadata is its bits, jamo are their entries, and
--- diacritics their secondary weights.
+-- What each load returns: what the table says, or why there is none. The metadata is its bits, jamo are their entries,
+-- and diacritics their secondary weights.
 pub record Loads : Type 0 where
   pub root : Result Data DataError
   pub jamo : Result (List ℕ) DataError

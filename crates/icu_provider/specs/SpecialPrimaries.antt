@@ -1,5 +1,5 @@
--- The weights that mean more than an order: the ends of the variable groups, the lead byte of numbers, and the lead bytes
--- whose weights are written shorter in sort keys.
+-- The weights that mean more than an order: the ends of the variable groups, the lead byte of numbers, and the lead
+-- bytes whose weights are written shorter in sort keys.
 use Rattle.std.specs.Prelude.{ℕ, ◌+◌, ◌-◌, ◌*◌, ◌/◌, ◌%◌, ◌≤◌, Bool, ◌&&◌, ◌||◌, ◌==◌, nat_le, List, length, take, slice_index, All, IsTrue, if◌then◌else◌}
 use Rattle.icu_options.specs.declared.settings.MaxVariable.{MaxVariable}
 use Rattle.icu_options.specs.declared.settings.MaxVariable.TheVariants.{Space, Punctuation, Symbol, Currency}
@@ -7,8 +7,8 @@ use Rattle.icu_entries.specs.declared.error.DataErrorKind.{DataErrorKind}
 use Rattle.icu_entries.specs.declared.error.DataErrorKind.TheVariants as kinds
 use Rattle.icu_entries.specs.Entries.{has_bit}
 
--- The two highest bytes of the first primary weight after each of the four variable groups, and then, if there are 20 numbers, the
--- compressible lead bytes, a bit for each.
+-- The two highest bytes of the first primary weight after each of the four variable groups, and then, if there are 20
+-- numbers, the compressible lead bytes, a bit for each.
 pub record SpecialPrimaries : Type 0 where
   pub last : List ℕ
   pub numeric : ℕ

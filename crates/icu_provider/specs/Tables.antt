@@ -21,11 +21,12 @@ jamo_limit = 0x1200
 abbrev pub is_jamo : ℕ → Bool
 is_jamo c = nat_le jamo_base c && nat_lt c jamo_limit
 
--- a tailoring's entry, where it isn't fallback, else the root's (UTS #35 part 5, section 3)
+-- a tailoring's entry, where it isn't fallback, else the root's (UTS #35 part 5, "Collation Tailorings")
 abbrev pub tailored_entry : Data → Data → ℕ → HomedEntry
 tailored_entry root tailoring c = if tailoring.value c == fallback_entry then homed root (root.value c) else homed tailoring (tailoring.value c)
 
--- The entry of a character, with its home: the jamo table's, else the tailoring's, and where there is none, or it is fallback, the root's.
+-- The entry of a character, with its home: the jamo table's, else the tailoring's, and where there is none, or it is
+-- fallback, the root's.
 unfoldable pub entry_of : Tables → ℕ → HomedEntry
 entry_of tables c =
     if is_jamo c then homed tables.root (slice_index tables.jamo (c - jamo_base))

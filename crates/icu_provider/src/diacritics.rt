@@ -15,7 +15,8 @@ pub struct CollationDiacritics<'d> {
     ghost is_diacritics: { IsDiacritics secondaries.now },
 }
 
-/// Whether the index, from U+0300 on, is that of U+0340, U+0341, U+0343 or U+0344, which no canonical decomposition has.
+/// Whether the index, from U+0300 on, is that of U+0340, U+0341, U+0343 or U+0344, which no canonical decomposition
+/// has.
 pub fn is_replaced_index(index: usize) -> bool
     ensures { result ≡ is_replaced_index index }
 {
@@ -33,10 +34,10 @@ fn is_diacritic_weight(secondary: u16) -> bool
 impl<'d> CollationDiacritics<'d> {
     ghost use Rattle.icu_provider.specs.StoredTables.{diacritics_of};
 
-    /// Borrows the secondary weights. Refuses with `Length` if there are more than 79, and with `Element` if a weight is 0, has a
-    /// nonzero byte after a zero byte, or has a lead byte that secondary weights may not have (they may have 02 to 04, 46 to FF,
-    /// and 05 in 0500). The weights of U+0340, U+0341, U+0343 and U+0344 are free, since no canonical decomposition has these
-    /// characters.
+    /// Borrows the secondary weights. Refuses with `Length` if there are more than 79, and with `Element` if a weight
+    /// is 0, has a nonzero byte after a zero byte, or has a lead byte that secondary weights may not have (they may
+    /// have 02 to 04, 46 to FF, and 05 in 0500). The weights of U+0340, U+0341, U+0343 and U+0344 are free, since no
+    /// canonical decomposition has these characters.
     pub fn new(secondaries: &'d [u16]) -> Result<CollationDiacritics<'d>, DataErrorKind>
         ensures accepts { IsOk result ↔ IsDiacritics secondaries.entry.now }
         ensures kind { IfErr result (FailsDiacritics secondaries.entry.now) }

@@ -18,8 +18,8 @@ pub struct CollationJamo<'d> {
 impl<'d> CollationJamo<'d> {
     ghost use Rattle.icu_provider.specs.StoredTables.{jamo_of};
 
-    /// Borrows the entries. Refuses with `Length` if there are not 256, with `Digit` if a digit entry holds a digit above 9, and
-    /// with `Tag` if the low byte of an entry has no meaning, or is that of fallback.
+    /// Borrows the entries. Refuses with `Length` if there are not 256, with `Digit` if a digit entry holds a digit
+    /// above 9, and with `Tag` if the low byte of an entry has no meaning, or is that of fallback.
     pub fn new(ce32s: &'d [u32]) -> Result<CollationJamo<'d>, DataErrorKind>
         ensures accepts { IsOk result ↔ IsJamo ce32s.entry.now }
         ensures kind { IfErr result (FailsJamo ce32s.entry.now) }

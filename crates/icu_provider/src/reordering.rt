@@ -8,7 +8,7 @@ use std::alloc::{AllocError, Global};
 /// How many lead bytes there are.
 const LEAD_COUNT: usize = 256;
 
-/// A reordering of scripts: where the lead bytes of primary weights go (UTS #35 part 5, section 3.9 "Collation Reordering").
+/// A reordering of scripts: where the lead bytes of primary weights go (UTS #35 part 5, "Collation Reordering").
 #[derive(Debug, Clone, Copy, PartialEq)]
 pub struct CollationReordering<'d> {
     min_high_no_reorder: u32,
@@ -67,8 +67,9 @@ impl<'d> CollationReordering<'d> {
     ghost use Rattle.icu_provider.specs.Reorderings.{Reordering};
     ghost use Rattle.icu_provider.specs.StoredTables.{reordering_of};
 
-    /// Borrows the new lead byte for each lead byte, and the ranges by which weights move whose lead byte has a zero there; of
-    /// those, weights from `min_high_no_reorder` on stay. Refuses with `Length` if there are not 256 lead bytes.
+    /// Borrows the new lead byte for each lead byte, and the ranges by which weights move whose lead byte has a zero
+    /// there; of those, weights from `min_high_no_reorder` on stay. Refuses with `Length` if there are not 256 lead
+    /// bytes.
     pub fn new(
         min_high_no_reorder: u32,
         reorder_table: &'d [u8],
@@ -119,9 +120,9 @@ impl<'d> CollationReordering<'d> {
         are_bytes(self.reorder_table);
     }
 
-    /// The primary weight that stands for this one. A nonzero byte of the table replaces the lead byte. Where it is zero, weights 0
-    /// and 1 stay, weights from the limit on stay, and others add the low byte of the first range r with `primary | FFFF < r` to the
-    /// lead byte, modulo 256; where there is none they stay.
+    /// The primary weight that stands for this one. A nonzero byte of the table replaces the lead byte. Where it is
+    /// zero, weights 0 and 1 stay, weights from the limit on stay, and others add the low byte of the first range r
+    /// with `primary | FFFF < r` to the lead byte, modulo 256; where there is none they stay.
     #[tactic(auto, unfolding(crate::specs::Reorderings::reordered))]
     pub fn reorder(self, primary: u32) -> u32
         ensures value { result ≡ reordered (reordering_of self.entry) primary }

@@ -1,7 +1,8 @@
 //! What a provider is asked for.
 ghost use Rattle.std.specs.Prelude.{◌≡◌, None, []};
 
-/// What a provider is asked for: the tables of a locale's collation. It is text alone; what it means is the provider's matter.
+/// What a provider is asked for: the tables of a locale's collation. It is text alone; what it means is the provider's
+/// matter.
 #[derive(Debug, Clone, Copy, PartialEq)]
 pub struct DataRequest<'a> {
     /// The locale, as the provider names it; "" for the root.

@@ -6,8 +6,8 @@ use icu_entries::DataErrorKind;
 use icu_options::MaxVariable;
 use std::alloc::{AllocError, Global};
 
-/// Primary weights that mean more than an order: where the variable groups end, the lead byte of numbers, and the lead bytes
-/// whose weights are written shorter in sort keys.
+/// Primary weights that mean more than an order: where the variable groups end, the lead byte of numbers, and the lead
+/// bytes whose weights are written shorter in sort keys.
 #[derive(Debug, Clone, Copy, PartialEq)]
 pub struct CollationSpecialPrimaries<'d> {
     last_primaries: &'d [u16],
@@ -57,9 +57,10 @@ fn has_group_ends(last_primaries: &[u16], numeric: u8) -> bool
 impl<'d> CollationSpecialPrimaries<'d> {
     ghost use Rattle.icu_provider.specs.StoredTables.{special_of};
 
-    /// Borrows the numbers: the two highest bytes of the first primary weight after each of the four variable groups, and then,
-    /// if there are 20 in all, bits for the compressible lead bytes. Refuses with `Length` if there are fewer than four, and with
-    /// `SpecialPrimary` if the numeric lead is not 03 to FD, or one of the first four numbers is 0 or above 256 times it.
+    /// Borrows the numbers: the two highest bytes of the first primary weight after each of the four variable groups,
+    /// and then, if there are 20 in all, bits for the compressible lead bytes. Refuses with `Length` if there are fewer
+    /// than four, and with `SpecialPrimary` if the numeric lead is not 03 to FD, or one of the first four numbers is 0
+    /// or above 256 times it.
     pub fn new(
         last_primaries: &'d [u16],
         numeric_primary: u8,
@@ -91,7 +92,8 @@ impl<'d> CollationSpecialPrimaries<'d> {
         }
     }
 
-    /// The numbers of the four variable groups, and bits for the compressible lead bytes if there are 20 in all, as `new` takes them.
+    /// The numbers of the four variable groups, and bits for the compressible lead bytes if there are 20 in all, as
+    /// `new` takes them.
     pub fn last_primaries(self) -> &'d [u16]
         ensures value { result.now ≡ (special_of self.entry).last }
         ensures special { let s = special_of self.entry in IsSpecialPrimaries s.last s.numeric }
@@ -115,8 +117,8 @@ impl<'d> CollationSpecialPrimaries<'d> {
         u32::from(end) * 0x10000 - 1
     }
 
-    /// Whether weights with this lead byte are written shorter in sort keys where they follow one another: with 20 numbers, if bit
-    /// `lead % 16` of number `4 + lead / 16` is set; else for leads 61 to 80 and FE.
+    /// Whether weights with this lead byte are written shorter in sort keys where they follow one another: with 20
+    /// numbers, if bit `lead % 16` of number `4 + lead / 16` is set; else for leads 61 to 80 and FE.
     #[tactic(auto, unfolding(crate::specs::SpecialPrimaries::is_compressible))]
     pub fn is_compressible(self, lead: u8) -> bool
         ensures { result ≡ is_compressible (special_of self.entry) lead }

@@ -18,7 +18,8 @@ use icu_data::{CollationData, OwnedData};
 use icu_entries::{DataError, DataErrorKind, DataTable};
 use std::alloc::{AllocError, Global};
 
-/// The seven tables of a collator, each of which has passed its own checks. As a provider it gives them for each request.
+/// The seven tables of a collator, each of which has passed its own checks. As a provider it gives them for each
+/// request.
 #[derive(Debug, Clone, Copy)]
 pub struct TableSet<'d> {
     /// The root.

@@ -1,4 +1,4 @@
--- What one or two units of UTF-16 are (Unicode Standard, section 3.9).
+-- What one or two units of UTF-16 are (Unicode Standard, "Unicode Encoding Forms").
 use Rattle.std.specs.Prelude.{ℕ, ◌&&◌, Bool, Option, Some, None, if◌then◌else◌, unwrap_or}
 use Rattle.std.specs.Char.Utf16.{is_high_surrogate, is_low_surrogate, surrogate_pair_char, lone_unit_char}
 
