@@ -78,23 +78,9 @@ fn expect(rt: HostRuntime, mini: &Mini, setting: Setting, rows: &[Row]) -> Resul
 fn letters_marks_and_syllables_are_known(rt: HostRuntime) -> Result<(), Fail> {
     let mini = Mini::new(rt.alloc())?;
     let rows: [Row; 9] = [
-        (
-            'a',
-            LetterKind::Starters,
-            0,
-            &[0x6110_0000_0500_0500],
-            true,
-            0x6110_0000,
-        ),
+        ('a', LetterKind::Starters, 0, &[0x6110_0000_0500_0500], true, 0x6110_0000),
         ('\0', LetterKind::Starters, 0, &[0], true, 0),
-        (
-            '5',
-            LetterKind::Starters,
-            0,
-            &[0x1424_0000_0500_0500],
-            true,
-            0x1424_0000,
-        ),
+        ('5', LetterKind::Starters, 0, &[0x1424_0000_0500_0500], true, 0x1424_0000),
         (
             'á',
             LetterKind::Marked,
@@ -150,27 +136,13 @@ fn what_is_read_with_others_is_not_known(rt: HostRuntime) -> Result<(), Fail> {
     let rows: [Row; 3] = [
         ('l', LetterKind::Unknown, 0, &[], false, 0),
         ('ĺ', LetterKind::Unknown, 0, &[], false, 0),
-        (
-            'a',
-            LetterKind::Starters,
-            0,
-            &[0x6110_0000_0500_0500],
-            true,
-            0x6110_0000,
-        ),
+        ('a', LetterKind::Starters, 0, &[0x6110_0000_0500_0500], true, 0x6110_0000),
     ];
     expect(rt, &contraction, PLAIN, &rows)?;
     let prefix = Mini::with_b_after_a(rt.alloc())?;
     let rows: [Row; 2] = [
         ('b', LetterKind::Unknown, 0, &[], false, 0),
-        (
-            'a',
-            LetterKind::Starters,
-            0,
-            &[0x6110_0000_0500_0500],
-            false,
-            0x6110_0000,
-        ),
+        ('a', LetterKind::Starters, 0, &[0x6110_0000_0500_0500], false, 0x6110_0000),
     ];
     expect(rt, &prefix, PLAIN, &rows)
 }
@@ -184,14 +156,7 @@ fn digits_are_not_known_where_they_are_numbers(rt: HostRuntime) -> Result<(), Fa
     };
     let rows: [Row; 2] = [
         ('5', LetterKind::Unknown, 0, &[], false, 0),
-        (
-            'a',
-            LetterKind::Starters,
-            0,
-            &[0x6110_0000_0500_0500],
-            true,
-            0x6110_0000,
-        ),
+        ('a', LetterKind::Starters, 0, &[0x6110_0000_0500_0500], true, 0x6110_0000),
     ];
     expect(rt, &mini, numbers, &rows)
 }
