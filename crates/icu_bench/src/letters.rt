@@ -53,16 +53,22 @@ fn is_as(letter: &Letter, row: Row) -> bool {
 }
 
 /// Looks each character up, and works it out.
-fn expect(rt: HostRuntime, mini: &Mini, setting: Setting, rows: &[Row]) -> Result<(), Fail> {
-    let tables = checked(rt.alloc(), mini)?;
-    let named = NamedCharacters::new(rt.alloc(), &tables)?;
+fn expect(
+    rt: &impl Abort,
+    alloc: Global,
+    mini: &Mini,
+    setting: Setting,
+    rows: &[Row],
+) -> Result<(), Fail> {
+    let tables = checked(alloc, mini)?;
+    let named = NamedCharacters::new(alloc, &tables)?;
     let places = SafePlaces::new(
         ElementTables::new(&tables),
         setting.numeric_primary,
         setting.lithuanian_dot_above,
         &named,
     );
-    let letters = Letters::new(rt.alloc(), places)?;
+    let letters = Letters::new(alloc, places)?;
     for row in rows {
         let code = row.0 as u32;
         let letter = letter_of(places, row.0);
@@ -78,9 +84,23 @@ fn expect(rt: HostRuntime, mini: &Mini, setting: Setting, rows: &[Row]) -> Resul
 fn letters_marks_and_syllables_are_known(rt: HostRuntime) -> Result<(), Fail> {
     let mini = Mini::new(rt.alloc())?;
     let rows: [Row; 9] = [
-        ('a', LetterKind::Starters, 0, &[0x6110_0000_0500_0500], true, 0x6110_0000),
+        (
+            'a',
+            LetterKind::Starters,
+            0,
+            &[0x6110_0000_0500_0500],
+            true,
+            0x6110_0000,
+        ),
         ('\0', LetterKind::Starters, 0, &[0], true, 0),
-        ('5', LetterKind::Starters, 0, &[0x1424_0000_0500_0500], true, 0x1424_0000),
+        (
+            '5',
+            LetterKind::Starters,
+            0,
+            &[0x1424_0000_0500_0500],
+            true,
+            0x1424_0000,
+        ),
         (
             'á',
             LetterKind::Marked,
@@ -120,7 +140,7 @@ fn letters_marks_and_syllables_are_known(rt: HostRuntime) -> Result<(), Fail> {
             0x6510_0000,
         ),
     ];
-    expect(rt, &mini, PLAIN, &rows)
+    expect(&rt, rt.alloc(), &mini, PLAIN, &rows)
 }
 
 #[test]
@@ -131,20 +151,34 @@ fn what_is_read_with_others_is_not_known(rt: HostRuntime) -> Result<(), Fail> {
         ('\u{F73}', LetterKind::Unknown, 0, &[], false, 0),
         ('\u{1F82}', LetterKind::Unknown, 0, &[], true, 0xFE04_368E),
     ];
-    expect(rt, &mini, PLAIN, &rows)?;
+    expect(&rt, rt.alloc(), &mini, PLAIN, &rows)?;
     let contraction = Mini::with_double_l(rt.alloc())?;
     let rows: [Row; 3] = [
         ('l', LetterKind::Unknown, 0, &[], false, 0),
         ('ĺ', LetterKind::Unknown, 0, &[], false, 0),
-        ('a', LetterKind::Starters, 0, &[0x6110_0000_0500_0500], true, 0x6110_0000),
+        (
+            'a',
+            LetterKind::Starters,
+            0,
+            &[0x6110_0000_0500_0500],
+            true,
+            0x6110_0000,
+        ),
     ];
-    expect(rt, &contraction, PLAIN, &rows)?;
+    expect(&rt, rt.alloc(), &contraction, PLAIN, &rows)?;
     let prefix = Mini::with_b_after_a(rt.alloc())?;
     let rows: [Row; 2] = [
         ('b', LetterKind::Unknown, 0, &[], false, 0),
-        ('a', LetterKind::Starters, 0, &[0x6110_0000_0500_0500], false, 0x6110_0000),
+        (
+            'a',
+            LetterKind::Starters,
+            0,
+            &[0x6110_0000_0500_0500],
+            false,
+            0x6110_0000,
+        ),
     ];
-    expect(rt, &prefix, PLAIN, &rows)
+    expect(&rt, rt.alloc(), &prefix, PLAIN, &rows)
 }
 
 #[test]
@@ -156,9 +190,16 @@ fn digits_are_not_known_where_they_are_numbers(rt: HostRuntime) -> Result<(), Fa
     };
     let rows: [Row; 2] = [
         ('5', LetterKind::Unknown, 0, &[], false, 0),
-        ('a', LetterKind::Starters, 0, &[0x6110_0000_0500_0500], true, 0x6110_0000),
+        (
+            'a',
+            LetterKind::Starters,
+            0,
+            &[0x6110_0000_0500_0500],
+            true,
+            0x6110_0000,
+        ),
     ];
-    expect(rt, &mini, numbers, &rows)
+    expect(&rt, rt.alloc(), &mini, numbers, &rows)
 }
 
 #[test]
@@ -173,9 +214,9 @@ fn the_dot_is_not_known_in_lithuanian(rt: HostRuntime) -> Result<(), Fail> {
         ('ė', LetterKind::Unknown, 0, &[], true, 0x6120_0000),
         ('\u{301}', LetterKind::Mark, 230, &[0x4700_0500], false, 0),
     ];
-    expect(rt, &mini, lithuanian, &rows)?;
+    expect(&rt, rt.alloc(), &mini, lithuanian, &rows)?;
     let rows: [Row; 1] = [('\u{307}', LetterKind::Mark, 230, &[0x4D00_0500], false, 0)];
-    expect(rt, &mini, PLAIN, &rows)
+    expect(&rt, rt.alloc(), &mini, PLAIN, &rows)
 }
 
 #[test]

@@ -19,8 +19,8 @@ use icu_entries::{CollationElement, CollationElement32, EntryKind};
 
 /// Whether U+0307 may be silent, as it may where texts are read by the Lithuanian rule.
 #[tactic(auto, unfolding(crate::specs::SafeTables::safe_reading))]
-fn is_dot(places: SafePlaces<'_>, c: char) -> bool
-    ensures { result ≡ is_dot (safe_reading places.entry) c }
+fn is_dot(places: &SafePlaces<'_>, c: char) -> bool
+    ensures { result ≡ is_dot (safe_reading places.now) c }
 {
     places.lithuanian_dot_above && c == '\u{307}'
 }
@@ -66,9 +66,9 @@ fn with_entry(
 
 /// These elements and those of a character of a decomposed text that stands alone. None where it does not, or there is a fourth.
 #[tactic(auto, unfolding(crate::specs::SafeTables::safe_reading, icu_cuts::specs::Alone::elements_of_char))]
-pub(crate) fn with_char(places: SafePlaces<'_>, c: char, few: FewElements) -> Option<FewElements>
-    ensures stands { IfSome result (λ _. is_alone (safe_reading places.entry) c ≡ true) }
-    ensures elements { IfSome result (λ more. few_elements more ≡ few_elements few ++ elements_of_char (safe_reading places.entry).tables c) }
+pub(crate) fn with_char(places: &SafePlaces<'_>, c: char, few: FewElements) -> Option<FewElements>
+    ensures stands { IfSome result (λ _. is_alone (safe_reading places.now) c ≡ true) }
+    ensures elements { IfSome result (λ more. few_elements more ≡ few_elements few ++ elements_of_char (safe_reading places.now).tables c) }
 {
     if is_dot(places, c) {
         return None;
@@ -82,12 +82,12 @@ pub(crate) fn with_char(places: SafePlaces<'_>, c: char, few: FewElements) -> Op
 
 /// These elements and those of several characters, each of which stands alone.
 pub(crate) fn with_chars(
-    places: SafePlaces<'_>,
+    places: &SafePlaces<'_>,
     chars: &[char],
     few: FewElements,
 ) -> Option<FewElements>
-    ensures stand { IfSome result (λ _. list_all (is_alone (safe_reading places.entry)) chars.now ≡ true) }
-    ensures elements { IfSome result (λ more. few_elements more ≡ few_elements few ++ elements_by_char (safe_reading places.entry).tables chars.now) }
+    ensures stand { IfSome result (λ _. list_all (is_alone (safe_reading places.now)) chars.now ≡ true) }
+    ensures elements { IfSome result (λ more. few_elements more ≡ few_elements few ++ elements_by_char (safe_reading places.now).tables chars.now) }
 {
     let mut found = few;
     for c in chars {

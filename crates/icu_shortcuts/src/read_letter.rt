@@ -21,10 +21,10 @@ use unicode_normalization::Form;
 use unicode_normalization::char::{canonical_combining_class, decomposition};
 
 /// The primary weight of the first element of a starter whose elements these are, or 0 where it has none.
-fn leading_primary(places: SafePlaces<'_>, first: char, few: &FewElements) -> u32
-    requires alone { is_alone (safe_reading places) first ≡ true }
-    requires elements { few_elements few.now ≡ elements_of_char (safe_reading places).tables first }
-    ensures { result ≢ 0 → LeadsBy (safe_reading places.entry) first result }
+fn leading_primary(places: &SafePlaces<'_>, first: char, few: &FewElements) -> u32
+    requires alone { is_alone (safe_reading places.now) first ≡ true }
+    requires elements { few_elements few.now ≡ elements_of_char (safe_reading places.now).tables first }
+    ensures { result ≢ 0 → LeadsBy (safe_reading places.now) first result }
 {
     if canonical_combining_class(first) == 0 && few.count > 0 {
         few.elements[0].primary()
@@ -34,10 +34,10 @@ fn leading_primary(places: SafePlaces<'_>, first: char, few: &FewElements) -> u3
 }
 
 /// What is known of a character by the first one of its decomposition. The weight is its leading one, or 0.
-fn outline(places: SafePlaces<'_>, first: char, leading_primary: u32) -> Letter
-    requires { leading_primary ≢ 0 → LeadsBy (safe_reading places) first leading_primary }
+fn outline(places: &SafePlaces<'_>, first: char, leading_primary: u32) -> Letter
+    requires { leading_primary ≢ 0 → LeadsBy (safe_reading places.now) first leading_primary }
     ensures kind { result.kind ≡ Unknown }
-    ensures first { IsOutline (safe_reading places.entry) first result }
+    ensures first { IsOutline (safe_reading places.now) first result }
 {
     Letter {
         elements: [CollationElement::default(); 3],
@@ -70,16 +70,16 @@ fn with_elements(known: Letter, all: FewElements, shape: (LetterKind, u8)) -> Le
 
 /// What is known of a character whose decomposition begins with one that stands alone, by its elements.
 fn letter_with(
-    places: SafePlaces<'_>,
+    places: &SafePlaces<'_>,
     c: char,
     first: char,
     more: &[char],
     few: FewElements,
 ) -> Letter
     requires decomposes { decompose Nfd c ≡ first ∷ more.now }
-    requires alone { is_alone (safe_reading places) first ≡ true }
-    requires elements { few_elements few ≡ elements_of_char (safe_reading places).tables first }
-    ensures { IsLetter (safe_reading places.entry) c result }
+    requires alone { is_alone (safe_reading places.now) first ≡ true }
+    requires elements { few_elements few ≡ elements_of_char (safe_reading places.now).tables first }
+    ensures { IsLetter (safe_reading places.now) c result }
 {
     let primary = leading_primary(places, first, &few);
     let known = outline(places, first, primary);
@@ -90,9 +90,9 @@ fn letter_with(
 }
 
 /// What is known of a character that decomposes to these, the first and the others.
-fn letter_from(places: SafePlaces<'_>, c: char, first: char, more: &[char]) -> Letter
+fn letter_from(places: &SafePlaces<'_>, c: char, first: char, more: &[char]) -> Letter
     requires { decompose Nfd c ≡ first ∷ more.now }
-    ensures { IsLetter (safe_reading places.entry) c result }
+    ensures { IsLetter (safe_reading places.now) c result }
 {
     match with_char(places, first, FewElements::new()) {
         Some(few) => letter_with(places, c, first, more, few),
@@ -106,7 +106,7 @@ pub fn letter_of(places: SafePlaces<'_>, c: char) -> Letter
 {
     let mut room = [c; 3];
     match decomposition(c, Form::Nfd, &mut room) {
-        [first, more @ ..] => letter_from(places, c, *first, more),
+        [first, more @ ..] => letter_from(&places, c, *first, more),
         [] => unreachable!(),
     }
 }
