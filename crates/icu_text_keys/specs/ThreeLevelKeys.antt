@@ -11,8 +11,8 @@ use Rattle.icu_order.specs.Handled.{HandledElement, stayed_elements}
 use Rattle.icu_order.specs.Levels.{primaries, secondaries, tertiaries}
 
 -- the form of such a key, by that of its tertiaries
-abbrev pub three_level_form : TertiaryForm → KeyForm
-three_level_form form = record {
+abbrev pub form_of_three_levels : TertiaryForm → KeyForm
+form_of_three_levels form = record {
   secondary = Some Forward;
   cases = None;
   tertiary = Some form;

@@ -2,8 +2,7 @@
 //!
 //! The crate knows neither texts nor how elements are read. A caller feeds the elements, as they were handled, one at a
 //! time; primaries go straight to the caller's sink, and each later level is held inline until the end, when it is
-//! written by one write. The contracts say that the sink took `key_bytes` of the text's level lists, or a beginning of
-//! it.
+//! written. The contracts say that the sink took `key_bytes` of the text's level lists, or a beginning of it.
 #![tactic(auto)]
 
 pub mod compression;

@@ -9,7 +9,7 @@ ghost use Rattle.icu_keys.specs.ThreeLevels.{three_levels_form};
 ghost use Rattle.icu_order.specs.Handled.{HandledElement, stayed};
 ghost use Rattle.icu_order.specs.Levels.{level_lists};
 ghost use Rattle.icu_text_keys.specs.HandledSources.{HasCase, handled_as};
-ghost use Rattle.icu_text_keys.specs.ThreeLevelKeys.{three_level_form, three_levels_left};
+ghost use Rattle.icu_text_keys.specs.ThreeLevelKeys.{form_of_three_levels, three_levels_left};
 
 use crate::element_weights::tertiary_or_none;
 use crate::handled::{Handled, HandledSource, next_element};
@@ -23,7 +23,7 @@ use std::alloc::Global;
 /// The form of the tertiaries, where a key has the primary level, secondaries from the front, tertiaries, and no other
 /// level.
 pub(crate) fn three_level_tertiaries(form: KeyForm) -> Option<TertiaryForm>
-    ensures { (tertiary : TertiaryForm) → (result ≡ Some tertiary) ↔ (form ≡ three_level_form tertiary) }
+    ensures { (tertiary : TertiaryForm) → (result ≡ Some tertiary) ↔ (form ≡ form_of_three_levels tertiary) }
 {
     match form {
         KeyForm {
@@ -148,16 +148,16 @@ fn write_in_form<S: CollationKeySink, C: PrimaryCompression, H: HandledSource>(
     requires cases { AllByRecursion HasCase (H.handled_left elements.old) }
     ensures sound { S.is_sound sink.new state.new }
     ensures bytes { (cs : List ℕ) → KeyWrites S.took S.refused sink.old state.old
-        (key_bytes (C.compression compression.now) (three_level_form form)
-        (level_lists (C.compression compression.now).reorder (three_level_form form) (H.handled_left elements.old) cs))
+        (key_bytes (C.compression compression.now) (form_of_three_levels form)
+        (level_lists (C.compression compression.now).reorder (form_of_three_levels form) (H.handled_left elements.old) cs))
         result sink.new state.new }
 {
     let writer = ThreeLevelWriter::with_form(alloc, form);
     write_rest(sink, state, compression, form, writer, elements)
 }
 
-/// Writes the three levels of a key, of elements that are still to come. Each form of tertiaries has a loop of its own,
-/// so that none is asked for at an element.
+/// Writes a key of three levels, of the elements that are still to come. Each form of tertiaries has a loop of its own, so
+/// that none is asked for at an element.
 pub(crate) fn write_three_levels<S: CollationKeySink, C: PrimaryCompression, H: HandledSource>(
     alloc: Global,
     sink: &mut S,
@@ -170,8 +170,8 @@ pub(crate) fn write_three_levels<S: CollationKeySink, C: PrimaryCompression, H: 
     requires cases { AllByRecursion HasCase (H.handled_left elements.old) }
     ensures sound { S.is_sound sink.new state.new }
     ensures bytes { (cs : List ℕ) → KeyWrites S.took S.refused sink.old state.old
-        (key_bytes (C.compression compression.now) (three_level_form form)
-        (level_lists (C.compression compression.now).reorder (three_level_form form) (H.handled_left elements.old) cs))
+        (key_bytes (C.compression compression.now) (form_of_three_levels form)
+        (level_lists (C.compression compression.now).reorder (form_of_three_levels form) (H.handled_left elements.old) cs))
         result sink.new state.new }
 {
     match form {

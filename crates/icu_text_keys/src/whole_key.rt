@@ -39,7 +39,8 @@ fn write_elements<S: CollationKeySink, C: PrimaryCompression, H: HandledSource>(
     writer.close(sink, state, characters)
 }
 
-/// Writes all levels of a key: the common ones by the writer of three levels.
+/// Writes all levels of a key. One of three levels, as keys mostly are, has a writer of its own, which asks for no level
+/// at an element.
 fn write_levels<S: CollationKeySink, C: PrimaryCompression, H: HandledSource>(
     alloc: Global,
     sink: &mut S,
