@@ -35,7 +35,7 @@ const ROW_CHARS: [char; 17] = [
 
 /// The entry of what stands at an index, of this low byte and length.
 fn entry_at(index: usize, low: u32) -> u32 {
-    (index as u32 & 0x3FFFF) << 13 | low
+    ((index % 0x40000) as u32) << 13 | low
 }
 
 /// The element of a list, by its number.
