@@ -526,7 +526,7 @@ def faults_of_beginnings(shim, program):
     return faults + [f"{part}: {it}" for part, it in runs.items() if it.came_to() != (0, wanted[part], b"")]
 
 
-# ---- hostile input: damaged tables, random texts, long texts
+# ---- hostile input: damaged tables, random texts, long texts, checks that are timed
 
 # How many sets of tables are damaged and how many texts are compared, and how many of them a run has.
 SETS, TEXTS, PART = 2_000, 2_000, 100
@@ -544,6 +544,13 @@ LONG_TEXTS = [
     ("passed", 25_000, lambda size: "Equal, 2 bytes"),
     ("unended", 25_000, lambda size: f"Less, {size // 2 + 1} bytes"),
 ]
+
+
+# How often a check is made in a run, and how many times as long as Mini's it may take for each number that its tables store.
+CHECKS, DEARER = 60, 10
+# Small hostile tables, whose checks are held against Mini's, and large good ones, of which the times are printed alone.
+HOSTILE_TABLES = ["lists", "rows", "listed-rows", "many-rows"]
+LARGE_TABLES = ["root", "tailored"]
 
 
 def counted(program, part, count, *words):
@@ -579,18 +586,23 @@ def wrong_texts(program, count):
     return faults + [f"{sums['apart']} pairs apart"] * (sums["apart"] > 0)
 
 
-def seconds_of(program, kind, size, wanted):
-    """The least processor time of three runs on a long text, and their faults."""
-    least, faults = None, []
+def least_time(program, words):
+    """The least processor time of three runs, and the runs."""
+    least, ran = None, []
     for _ in range(3):
         began = resource.getrusage(resource.RUSAGE_CHILDREN)
-        ran = run(program, ["long", kind, str(size), str(TIMES)])
+        ran.append(run(program, words))
         ended = resource.getrusage(resource.RUSAGE_CHILDREN)
-        if ran.came_to() != (0, TIMES * f"{wanted}\n".encode(), b""):
-            faults.append(f"{kind}, {size}: {ran}; wanted: {wanted}")
         took = ended.ru_utime + ended.ru_stime - began.ru_utime - began.ru_stime
         least = took if least is None else min(least, took)
-    return least, faults
+    return least, ran
+
+
+def seconds_of(program, kind, size, wanted):
+    """The least processor time of three runs on a long text, and their faults."""
+    least, runs = least_time(program, ["long", kind, str(size), str(TIMES)])
+    right = (0, TIMES * f"{wanted}\n".encode(), b"")
+    return least, [f"{kind}, {size}: {ran}; wanted: {wanted}" for ran in runs if ran.came_to() != right]
 
 
 def wrong_long_texts(program, kind, size, wanted):
@@ -603,6 +615,43 @@ def wrong_long_texts(program, kind, size, wanted):
     return faults + more
 
 
+class Check:
+    """How long a check of some tables takes, how many numbers they store, and what is wrong with what it comes to."""
+
+    def __init__(self, program, tables, times=CHECKS):
+        self.tables = tables
+        none, _ = least_time(program, ["checks", tables, "0"])
+        least, runs = least_time(program, ["checks", tables, str(times)])
+        first, _, rest = runs[0].output.decode().partition("\n")
+        name, _, number = first.partition(" ")
+        self.numbers = int(number) if name == "numbers" and number.isdigit() else 1
+        self.seconds = max(least - none, 0) / times
+        is_right = rest == times * "accepted\n" and all(ran.came_to() == runs[0].came_to() for ran in runs)
+        self.faults = [] if is_right and (runs[0].status, runs[0].faults) == (0, b"") else [f"{tables}: {runs[0]}"]
+
+    def for_each(self):
+        return self.seconds / self.numbers
+
+    def __str__(self):
+        return f"{self.tables}: {1e3 * self.seconds:.2f} ms, {self.numbers} numbers, {1e9 * self.for_each():.0f} ns for each"
+
+
+def dear_tables(mini, check):
+    """What is wrong with the check of hostile tables, beside Mini's."""
+    allowed = DEARER * max(mini.for_each(), 2e-9)
+    return check.faults + [f"{check}; {mini}"] * (check.for_each() > allowed)
+
+
+def check_times(report, program):
+    mini = Check(program, "mini")
+    hostile = [Check(program, tables) for tables in HOSTILE_TABLES]
+    large = [Check(program, tables, CHECKS // 6) for tables in LARGE_TABLES]
+    faults = mini.faults + [it for check in hostile for it in dear_tables(mini, check)] + [it for check in large for it in check.faults]
+    report.say("hostile_input: checks of hostile tables take little", faults, 6 * (1 + len(hostile) + len(large)))
+    for check in [mini, *hostile, *large]:
+        print(f"       {check}", flush=True)
+
+
 def hostile_faults_missed(room, program):
     """The checks of hostile input that let a planted fault through."""
     planted = {"tables": "other tables by a provider", "texts": "another text in UTF-16"}
@@ -610,7 +659,10 @@ def hostile_faults_missed(room, program):
     kind, size, wanted = LONG_TEXTS[0]
     slow = f'case $3 in {size * LONGER}) for it in 1 2 3; do "$COLLATE" "$@" >/dev/null; done;; esac; exec "$COLLATE" "$@"'
     found = wrong_long_texts(wrapped(room, "slow", program, slow), kind, size, wanted)
-    return missed + ["not found: a time beyond proportion"] * (not any(" seconds for " in it for it in found))
+    missed += ["not found: a time beyond proportion"] * (not any(" seconds for " in it for it in found))
+    slow = f'case "$2 $3" in "lists {CHECKS}") for it in $(seq {4 * DEARER}); do "$COLLATE" "$@" >/dev/null; done;; esac; exec "$COLLATE" "$@"'
+    dear = Check(wrapped(room, "dear", program, slow), "lists")
+    return missed + ["not found: a check that takes long"] * (not dear_tables(Check(program, "mini"), dear))
 
 
 def check_hostile_input(report, room):
@@ -619,7 +671,8 @@ def check_hostile_input(report, room):
     report.say("hostile_input: random texts", wrong_texts(program, TEXTS), TEXTS)
     for kind, size, wanted in LONG_TEXTS:
         report.say(f"hostile_input: long texts, {kind}", wrong_long_texts(program, kind, size, wanted), 9)
-    report.say("hostile_input: planted faults are found", hostile_faults_missed(room, program), 3)
+    check_times(report, program)
+    report.say("hostile_input: planted faults are found", hostile_faults_missed(room, program), 4)
 
 
 def main():

@@ -2,11 +2,13 @@
 //!
 //! `tables FIRST COUNT` damages so many sets of tables, each by the random choices of its number, and counts what becomes of
 //! them. `texts FIRST COUNT` compares so many random texts, and the parts of each. A word `spoiled` behind the numbers makes the
-//! check fail. `long KIND COUNT TIMES` compares long texts. Without words it does a little of each.
+//! check fail. `long KIND COUNT TIMES` compares long texts. `checks TABLES TIMES` checks named tables so often. Without words it does
+//! a little of each.
 #![tactic(auto)]
 
 mod agreement;
 mod bases;
+mod checks;
 mod cuts;
 mod damage;
 mod dice;
@@ -17,7 +19,9 @@ mod stop;
 mod tables;
 mod tally;
 mod texts;
+mod timed_root;
 
+use checks::TimedTables;
 use long::Kind;
 use std::alloc::{AllocError, Global};
 use std::env;
@@ -62,7 +66,7 @@ fn run_few(rt: &HostRuntime) -> Result<(), Stop> {
     ] {
         long::run(rt, kind, 1000, 1)?;
     }
-    Ok(())
+    checks::run(rt, TimedTables::ListedRows, 1)
 }
 
 /// Runs one part.
@@ -80,6 +84,10 @@ fn run_part(rt: &HostRuntime, words: &[&str]) -> Result<(), Stop> {
         ["long", kind, count, times] => {
             let kind = Kind::named(kind).ok_or(Stop::WrongWords)?;
             long::run(rt, kind, number(count)?, number(times)?)?;
+        }
+        ["checks", tables, times] => {
+            let tables = TimedTables::named(tables).ok_or(Stop::WrongWords)?;
+            checks::run(rt, tables, number(times)?)?;
         }
         _ => return Err(Stop::WrongWords),
     }

@@ -36,7 +36,7 @@ fn there<T>(table: DataTable, lent: Option<T>) -> Result<T, DataError> {
 }
 
 /// The tables by their constructors, in the order in which a collator loads them.
-fn set(mini: &Mini) -> Result<TableSet<'_>, DataError> {
+pub(crate) fn set(mini: &Mini) -> Result<TableSet<'_>, DataError> {
     let root = named(DataTable::Root, mini.lend_root())?;
     let jamo = named(DataTable::Jamo, mini.lend_jamo())?;
     let special = named(DataTable::SpecialPrimaries, mini.lend_special_primaries())?;

@@ -14,6 +14,7 @@ pub(crate) mod alike;
 mod collecting;
 pub(crate) mod element_conditions;
 mod entry_judge;
+mod implicit_chars;
 pub(crate) mod implicit_overlaps;
 mod lead_conditions;
 pub(crate) mod leads;

@@ -11,7 +11,7 @@ use Rattle.std.proofs.lemmas.List.{get_or-set_same, get_or-set_other}
 use Rattle.std.proofs.lemmas.List.Sums.{fold-append}
 use Rattle.std.proofs.lemmas.List.Elements.{Contains-append_left, Contains-append_right, Contains-push}
 use Rattle.icu_entries.specs.declared.entry.EntryKind.{EntryKind}
-use Rattle.icu_entries.specs.declared.entry.EntryKind.TheVariants.{Simple, LongPrimary, LongSecondary, Implicit as ImplicitKind}
+use Rattle.icu_entries.specs.declared.entry.EntryKind.TheVariants.{Simple, LongPrimary, LongSecondary, Offset, Implicit as ImplicitKind}
 use Rattle.icu_entries.specs.Entries.{kind_of}
 use Rattle.icu_data.specs.declared.block_walk.BlockState.{BlockState}
 use Rattle.icu_data.specs.declared.block_walk.BlockState.TheVariants.{Unread, Visited, Shared}
@@ -81,6 +81,27 @@ itself _ e h is = cc
 pub one_element : (e : ℕ) → spells_one (kind_of e) ≡ true → (home : Data) → leads_to_character home e ≡ false
 unfolding leads_to_character
 one_element e h home = ap (list_any goes_by_character) (alone (kind_of e) e home h refl) ∙ itself (kind_of e) e h refl
+
+-- one that is counted from another character's goes by its own
+offset_digit : (e : ℕ) (home : Data) → kind_of e ≡ Offset → live_digit home e ≡ e ∷ []
+unfolding live_digit
+offset_digit e home is = rw (is, live_digit) refl
+
+offset_contraction : (e : ℕ) (home : Data) → kind_of e ≡ Offset → live_contraction home e ≡ e ∷ []
+unfolding live_contraction
+offset_contraction e home is = rw (is, live_contraction) (offset_digit e home is)
+
+offset_from : (e : ℕ) (home : Data) → kind_of e ≡ Offset → live_from home e ≡ e ∷ []
+unfolding live_from
+offset_from e home is = rw (is, live_from) (offset_contraction e home is)
+
+offset_itself : (e : ℕ) → kind_of e ≡ Offset → list_any goes_by_character (e ∷ []) ≡ true
+unfolding goes_by_character
+offset_itself e is = rw (is, goes_by_character) refl
+
+pub offset_leads : (e : ℕ) → kind_of e ≡ Offset → (home : Data) → leads_to_character home e ≡ true
+unfolding leads_to_character
+offset_leads e is home = ap (list_any goes_by_character) (offset_from e home is) ∙ offset_itself e is
 
 -- ---- parts of the characters
 

@@ -1,7 +1,7 @@
--- A walk over elements that asks of each whether it meets a condition.
+-- A walk over elements that asks of each whether it meets three conditions.
 use Rattle.std.proofs.Common.{◌≡◌, Bool, true, false, ◌&&◌, List, [], ◌∷◌, fold, refl, sym, ap, ◌∙◌}
 use Rattle.std.specs.List.{list_all}
-use Rattle.icu_entries.specs.declared.element_conditions.ElementCondition.{ElementCondition}
+use Rattle.icu_entries.specs.declared.element_conditions.ElementCondition.TheVariants.{Shape, Leads, Primary}
 use Rattle.icu_entries.specs.Elements.{Element}
 use Rattle.icu_entries.specs.ElementConditions.{element_meets}
 use Rattle.icu_data.specs.inner.Visitors.{all_meet}
@@ -14,10 +14,25 @@ and_true : (a : Bool) → (a && true) ≡ a
 and_true true = refl
 and_true false = refl
 
-all_from : (k : ElementCondition) (b : Bool) (xs : List Element) → fold all_meet (k, b) xs ≡ (k, b && list_all (element_meets k) xs)
-all_from k b [] = ap (λ (b : Bool). (k, b)) (sym (and_true b))
-all_from k b (x ∷ xs) =
-    all_from k (b && element_meets k x) xs ∙ ap (λ (b : Bool). (k, b)) (and_regrouped b (element_meets k x) (list_all (element_meets k) xs))
+-- what each of the three comes to
+shapes_from : (s : (Bool × Bool) × Bool) (xs : List Element) → (fold all_meet s xs).0.0 ≡ (s.0.0 && list_all (element_meets Shape) xs)
+shapes_from s [] = sym (and_true s.0.0)
+shapes_from s (x ∷ xs) = shapes_from (all_meet s x) xs ∙ and_regrouped s.0.0 (element_meets Shape x) (list_all (element_meets Shape) xs)
 
-pub all_met : (k : ElementCondition) (xs : List Element) (s : ElementCondition × Bool) → s ≡ fold all_meet (k, true) xs → s.1 ≡ list_all (element_meets k) xs
-all_met k xs s is = ap (λ (s : ElementCondition × Bool). s.1) (is ∙ all_from k true xs)
+leads_from : (s : (Bool × Bool) × Bool) (xs : List Element) → (fold all_meet s xs).0.1 ≡ (s.0.1 && list_all (element_meets Leads) xs)
+leads_from s [] = sym (and_true s.0.1)
+leads_from s (x ∷ xs) = leads_from (all_meet s x) xs ∙ and_regrouped s.0.1 (element_meets Leads x) (list_all (element_meets Leads) xs)
+
+primaries_from : (s : (Bool × Bool) × Bool) (xs : List Element) → (fold all_meet s xs).1 ≡ (s.1 && list_all (element_meets Primary) xs)
+primaries_from s [] = sym (and_true s.1)
+primaries_from s (x ∷ xs) = primaries_from (all_meet s x) xs ∙ and_regrouped s.1 (element_meets Primary x) (list_all (element_meets Primary) xs)
+
+module _ (xs : List Element) (s : (Bool × Bool) × Bool) (is : s ≡ fold all_meet ((true, true), true) xs) where
+  pub met_shapes : s.0.0 ≡ list_all (element_meets Shape) xs
+  met_shapes = ap (λ (s : (Bool × Bool) × Bool). s.0.0) is ∙ shapes_from ((true, true), true) xs
+
+  pub met_leads : s.0.1 ≡ list_all (element_meets Leads) xs
+  met_leads = ap (λ (s : (Bool × Bool) × Bool). s.0.1) is ∙ leads_from ((true, true), true) xs
+
+  pub met_primaries : s.1 ≡ list_all (element_meets Primary) xs
+  met_primaries = ap (λ (s : (Bool × Bool) × Bool). s.1) is ∙ primaries_from ((true, true), true) xs

@@ -84,13 +84,27 @@ fn is_of_one_element(entry: CollationElement32) -> bool
     }
 }
 
+/// Whether an entry is counted from another character's, so that it goes by its own character.
+#[tactic(auto, using(crate::proofs::BlockWalkLemmas::offset_leads))]
+fn is_offset(entry: CollationElement32) -> bool
+    ensures { result ≡ true → (home : Data) → leads_to_character home entry ≡ true }
+{
+    match entry.kind() {
+        EntryKind::Offset => true,
+        _ => false,
+    }
+}
+
 /// Whether an entry that goes by its character is live from this one.
 fn leads_to_character(home: CollationData<'_>, entry: CollationElement32) -> bool
     ensures { result ≡ leads_to_character (data_of home.entry) entry }
 {
-    // most entries of a root
+    // most entries of a root, and those of most characters
     if is_of_one_element(entry) {
         return false;
+    }
+    if is_offset(entry) {
+        return true;
     }
     let mut search = CharacterSearch { found: false };
     match visit_from(&mut search, home, '\0', entry) {

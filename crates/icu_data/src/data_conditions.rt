@@ -100,25 +100,23 @@ impl<'d> CollationData<'d> {
         self.is_inside(entry) && self.has_known_members(entry) && self.fits_offset(c, entry)
     }
 
-    /// Whether each element that the entry gives with the character meets the condition.
+    /// Which conditions each element that the entry gives with the character meets.
     #[tactic(auto, unfolding(crate::specs::DataConditions::is_readable))]
-    pub(crate) fn elements_meet(
-        self,
-        condition: ElementCondition,
-        c: char,
-        entry: CollationElement32,
-    ) -> bool
+    fn elements_meet(self, c: char, entry: CollationElement32) -> ElementsMeet
         requires inside { IsTrue (is_inside (data_of self) entry) }
         requires members { IsTrue (has_known_members (data_of self) entry) }
         requires offset { IsTrue (fits_offset (data_of self) c entry) }
-        ensures { result ≡ list_all (element_meets condition) (final_elements (homed (data_of self.entry) entry) c) }
+        ensures shapes { result.shapes ≡ list_all (element_meets ElementCondition.Shape) (final_elements (homed (data_of self.entry) entry) c) }
+        ensures leads { result.leads ≡ list_all (element_meets ElementCondition.Leads) (final_elements (homed (data_of self.entry) entry) c) }
+        ensures primaries { result.primaries ≡ list_all (element_meets ElementCondition.Primary) (final_elements (homed (data_of self.entry) entry) c) }
     {
-        let mut visitor = AllMeet {
-            condition,
-            all: true,
+        let mut visitor = ElementsMeet {
+            shapes: true,
+            leads: true,
+            primaries: true,
         };
         match visit_elements(&mut visitor, self, c, entry) {
-            Ok(()) => visitor.all,
+            Ok(()) => visitor,
             Err(never) => match never {},
         }
     }
@@ -140,38 +138,42 @@ impl<'d> CollationData<'d> {
             Some(LiveCondition::Bytes)
         } else if !self.fits_offset(c, entry) {
             Some(LiveCondition::Offsets)
-        } else if !self.elements_meet(ElementCondition::Shape, c, entry) {
-            Some(LiveCondition::Shapes)
-        } else if !self.elements_meet(ElementCondition::Leads, c, entry) {
-            Some(LiveCondition::Leads)
-        } else if !self.elements_meet(ElementCondition::Primary, c, entry) {
-            Some(LiveCondition::Primaries)
         } else {
-            None
+            let meet = self.elements_meet(c, entry);
+            if !meet.shapes {
+                Some(LiveCondition::Shapes)
+            } else if !meet.leads {
+                Some(LiveCondition::Leads)
+            } else if !meet.primaries {
+                Some(LiveCondition::Primaries)
+            } else {
+                None
+            }
         }
     }
 }
 
-/// Whether each element so far meets a condition.
+/// Which conditions each element so far meets: one walk for the three of them.
 #[derive(Drop)]
-struct AllMeet {
-    condition: ElementCondition,
-    all: bool,
+struct ElementsMeet {
+    shapes: bool,
+    leads: bool,
+    primaries: bool,
 }
 
-impl VisitElement for AllMeet {
-    ghost use Rattle.icu_entries.specs.declared.element_conditions.ElementCondition.{ElementCondition};
-
+impl VisitElement for ElementsMeet {
     type Refusal = Infallible;
 
-    ghost Seen = { ElementCondition × Bool };
+    ghost Seen = { (Bool × Bool) × Bool };
 
-    ghost seen = { λ v. (v.condition, v.all) };
+    ghost seen = { λ v. ((v.shapes, v.leads), v.primaries) };
 
     ghost after = { all_meet };
 
     fn visit(&mut self, element: CollationElement) -> Result<(), Infallible> {
-        self.all = self.all && self.condition.holds(element);
+        self.shapes = self.shapes && ElementCondition::Shape.holds(element);
+        self.leads = self.leads && ElementCondition::Leads.holds(element);
+        self.primaries = self.primaries && ElementCondition::Primary.holds(element);
         Ok(())
     }
 }

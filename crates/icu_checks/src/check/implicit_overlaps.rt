@@ -2,7 +2,7 @@
 //!
 //! Implicit weights follow from their characters, so none of them is collected: which characters have an implicit weight that begins
 //! with given bytes is arithmetic.
-ghost use Rattle.std.specs.Prelude.{◌≡◌, ◌<◌, ◌^◌, ◌||◌, Bool, IfOk, IfSome, IsTrue};
+ghost use Rattle.std.specs.Prelude.{◌≡◌, ◌||◌, Bool, IfOk, IfSome, IsTrue};
 ghost use Rattle.std.specs.List.{list_any};
 ghost use Rattle.icu_data.specs.Live.{live_from};
 ghost use Rattle.icu_data.specs.StoredData.{data_of};
@@ -13,7 +13,8 @@ ghost use Rattle.icu_checks.specs.inner.ImplicitOverlaps.{is_for_implicit, IsImp
 
 use crate::check::collecting::collect;
 use crate::check::element_conditions::IMPLICIT_LEAD;
-use crate::check::overlap::{Overlap, are_overlapping, is_beginning};
+use crate::check::implicit_chars::{ImplicitChars, chars_beside, second_byte};
+use crate::check::overlap::{Overlap, is_beginning};
 use crate::check::overlap_tables::{clash_table, table_of};
 use crate::check::overlap_violations::LIVE_TABLES;
 use crate::check::weights::{Level, WeightList};
@@ -118,43 +119,28 @@ fn is_implicit_in_tailoring(tables: TableSet<'_>, c: char) -> bool
     }
 }
 
-/// Characters from the first up to the end, which isn't one of them.
-#[derive(Drop)]
-struct CodePoints {
-    first: u32,
-    end: u32,
-}
-
-/// The implicit weights with some second and third bytes, as many in a row: those of `count` characters from `first` - 1 on. The
-/// fourth byte has 18 values, the third 254.
-fn code_points(first: u32, count: u32) -> CodePoints
-    requires first { first < 2 ^ 24 }
-    requires count { count < 2 ^ 24 }
-{
-    CodePoints {
-        first: first.saturating_sub(1),
-        end: (first + count).saturating_sub(1).min(0x110000),
+/// Whether a weight may begin an implicit one once both are reordered, and before that, where it is asked.
+fn may_begin_implicit(
+    tables: TableSet<'_>,
+    together: bool,
+    before_too: bool,
+    primary: u32,
+) -> bool {
+    if before_too && lead_byte(primary) != IMPLICIT_LEAD {
+        return false;
     }
-}
-
-/// The characters whose implicit weights may have the bytes of a weight below its lead byte, as far as these aren't zero.
-fn implicit_chars(primary: u32) -> CodePoints {
-    let bytes = primary.to_be_bytes();
-    let second = u32::from(bytes[1]).saturating_sub(4) * 254 * 18;
-    let third = u32::from(bytes[2]).saturating_sub(2) * 18;
-    let fourth = u32::from(bytes[3]).saturating_sub(2) / 14;
-    match (bytes[1], bytes[2], bytes[3]) {
-        (0, _, _) => code_points(0, 0x110001),
-        (_, 0, _) => code_points(second, 254 * 18),
-        (_, _, 0) => code_points(second + third, 18),
-        _ => code_points(second + third + fourth, 1),
-    }
-}
-
-/// Whether a weight may begin an implicit one once both are reordered.
-fn may_begin_implicit(tables: TableSet<'_>, together: bool, primary: u32) -> bool {
     let reordered = tables.reorder(primary);
     !together || reordered == 0 || lead_byte(reordered) == tables.new_lead(IMPLICIT_LEAD)
+}
+
+/// Whether reordering takes a weight to a lead byte that it takes some implicit weight with a second byte to. It is asked of the first
+/// and the last weight with these bytes alone, as weights between them go with one or the other. The weight 0 begins each one.
+fn may_begin_with_second(tables: TableSet<'_>, primary: u32, second: u8) -> bool {
+    let reordered = tables.reorder(primary);
+    let first = u32::from(IMPLICIT_LEAD) << 24 | u32::from(second) << 16;
+    reordered == 0
+        || lead_byte(reordered) == lead_byte(tables.reorder(first))
+        || lead_byte(reordered) == lead_byte(tables.reorder(first | 0xFFFF))
 }
 
 /// The first of some tables by which the implicit weight of a character is live.
@@ -191,26 +177,73 @@ fn clash_with(
     })
 }
 
-/// The first such clash of a weight.
-fn clash_of(tables: TableSet<'_>, by: &[DataTable], primary: u32) -> Option<ImplicitClash>
+/// The first such clash of a weight with an implicit one that has this second byte.
+fn clash_beside(
+    tables: TableSet<'_>,
+    by: &[DataTable],
+    implicit: &ImplicitChars,
+    primary: u32,
+    second: u8,
+) -> Option<ImplicitClash>
     requires { IsListedWeight WeightList.Primaries (tables_in tables).tables primary }
     ensures { IfSome result (IsImplicitClash (tables_in tables.entry)) }
 {
-    let chars = implicit_chars(primary);
+    if !implicit.has_second(second) || !may_begin_with_second(tables, primary, second) {
+        return None;
+    }
+    let chars = chars_beside(second, primary);
     for code in chars.first..chars.end {
         if let Some(c) = char::from_u32(code) {
-            if let Some(clash) = clash_with(tables, by, primary, c) {
-                return Some(clash);
+            if implicit.has(c) {
+                if let Some(clash) = clash_with(tables, by, primary, c) {
+                    return Some(clash);
+                }
             }
         }
     }
     None
 }
 
-/// The first such clash of some weights: of all of them, or only of weights that overlap before reordering too.
-fn first_clash(
+/// The first such clash of a weight that is a lead byte alone.
+fn clash_of_lead(
     tables: TableSet<'_>,
     by: &[DataTable],
+    implicit: &ImplicitChars,
+    primary: u32,
+) -> Option<ImplicitClash>
+    requires { IsListedWeight WeightList.Primaries (tables_in tables).tables primary }
+    ensures { IfSome result (IsImplicitClash (tables_in tables.entry)) }
+{
+    for second in 0..256u32 {
+        if let Some(clash) = clash_beside(tables, by, implicit, primary, second as u8) {
+            return Some(clash);
+        }
+    }
+    None
+}
+
+/// The first such clash of a weight.
+fn clash_of(
+    tables: TableSet<'_>,
+    by: &[DataTable],
+    implicit: &ImplicitChars,
+    primary: u32,
+) -> Option<ImplicitClash>
+    requires { IsListedWeight WeightList.Primaries (tables_in tables).tables primary }
+    ensures { IfSome result (IsImplicitClash (tables_in tables.entry)) }
+{
+    if primary & 0xFF_FFFF == 0 {
+        clash_of_lead(tables, by, implicit, primary)
+    } else {
+        clash_beside(tables, by, implicit, primary, second_byte(primary))
+    }
+}
+
+/// The first such clash of the weights that may have one.
+fn first_clash_among(
+    tables: TableSet<'_>,
+    by: &[DataTable],
+    implicit: &ImplicitChars,
     weights: &[u32],
     before_too: bool,
 ) -> Option<ImplicitClash>
@@ -219,15 +252,33 @@ fn first_clash(
 {
     let together = LeadCondition::ImplicitLead.holds(tables);
     for primary in weights {
-        if may_begin_implicit(tables, together, *primary) {
-            if let Some(clash) = clash_of(tables, by, *primary) {
-                if !before_too || are_overlapping(clash.primary, clash.implicit) {
-                    return Some(clash);
-                }
+        if may_begin_implicit(tables, together, before_too, *primary) {
+            if let Some(clash) = clash_of(tables, by, implicit, *primary) {
+                return Some(clash);
             }
         }
     }
     None
+}
+
+/// The first such clash of some weights: of all of them, or only of weights that overlap before reordering too. Which characters have an
+/// implicit weight is looked up only where some weight may have a clash.
+fn first_clash(
+    alloc: Global,
+    tables: TableSet<'_>,
+    by: &[DataTable],
+    weights: &[u32],
+    before_too: bool,
+) -> Result<Option<ImplicitClash>, AllocError>
+    requires { AreListed WeightList.Primaries (tables_in tables).tables weights.now }
+    ensures { IfOk result (λ found. IfSome found (IsImplicitClash (tables_in tables.entry))) }
+{
+    let together = LeadCondition::ImplicitLead.holds(tables);
+    if !weights.iter().any(|primary| may_begin_implicit(tables, together, before_too, *primary)) {
+        return Ok(None);
+    }
+    let implicit = ImplicitChars::new(alloc, tables, by)?;
+    Ok(first_clash_among(tables, by, &implicit, weights, before_too))
 }
 
 /// The violation of such a clash, named by the first table by which the weight is live.
@@ -264,7 +315,8 @@ fn named_clash(
     for (index, table) in LIVE_TABLES.iter().enumerate() {
         collect(tables, WeightList::Primaries, *table, &mut weights)?;
         sort_and_dedup(&mut weights);
-        if let Some(found) = first_clash(tables, &LIVE_TABLES[..index + 1], &weights, true) {
+        let by = &LIVE_TABLES[..index + 1];
+        if let Some(found) = first_clash(alloc, tables, by, &weights, true)? {
             return clash_violation(alloc, tables, found);
         }
     }
@@ -280,7 +332,7 @@ pub(crate) fn implicit_violation(
     requires { AreListed WeightList.Primaries (tables_in tables).tables weights.now }
     ensures { IfOk result (λ found. IfSome found (IsTrueViolation (tables_in tables.entry))) }
 {
-    match first_clash(tables, &LIVE_TABLES, weights, false) {
+    match first_clash(alloc, tables, &LIVE_TABLES, weights, false)? {
         Some(clash) => Ok(Some(named_clash(alloc, tables, clash)?)),
         None => Ok(None),
     }

@@ -1,7 +1,7 @@
 -- What the visitors of this crate add up to.
 use Rattle.std.specs.List.{list_any}
 use Rattle.std.specs.Prelude.{ℕ, Bool, ◌&&◌, ◌||◌, ◌==◌, List, [], Option, Some, None, if◌then◌else◌, fold, map, flat_map, ◌-◌, false, length, slice_get}
-use Rattle.icu_entries.specs.declared.element_conditions.ElementCondition.{ElementCondition}
+use Rattle.icu_entries.specs.declared.element_conditions.ElementCondition.TheVariants.{Shape, Leads, Primary}
 use Rattle.icu_entries.specs.Elements.{Element}
 use Rattle.icu_data.specs.Data.{Data, Row, homed}
 use Rattle.icu_data.specs.Final.{final_elements}
@@ -10,9 +10,9 @@ use Rattle.icu_entries.specs.ElementConditions.{element_meets}
 use Rattle.icu_data.specs.Violations.{earlier}
 use Rattle.icu_data.specs.Walks.{after_all}
 
--- a condition and whether each element so far meets it, after one more
-abbrev pub all_meet : ElementCondition × Bool → Element → ElementCondition × Bool
-all_meet s x = (s.0, s.1 && element_meets s.0 x)
+-- whether each element so far meets each of three conditions, after one more
+abbrev pub all_meet : (Bool × Bool) × Bool → Element → (Bool × Bool) × Bool
+all_meet s x = ((s.0.0 && element_meets Shape x, s.0.1 && element_meets Leads x), s.1 && element_meets Primary x)
 
 -- a judge and the first violation so far, after one more entry
 abbrev pub judged : {J F : Type 0} → (F → ℕ) → (J → Data → ℕ → ℕ → Option F) → J × Option F → Data → ℕ → ℕ → J × Option F
