@@ -24,7 +24,7 @@ static Session *session;
 
 Request bench_next(uint64_t answer) { return session->next(answer); }
 
-// Measures the rows for which digits are numbers, or those for which they aren't. Returns whether all answers were right.
+// Measures the rows for which digits are numbers, or those for which they aren't. Returns whether texts were ordered as they should be.
 static bool measure(std::vector<Row> &rows, bool numeric, uint64_t rounds, const std::string &root) {
     Texts texts;
     std::vector<Row *> served;
@@ -56,10 +56,11 @@ int main(int count, char **words) {
     auto rows = rows_of(words[1]);
     const uint64_t rounds = std::stoull(words[2]);
     const std::string root = count > 3 ? contents(words[3]) : "";
-    const bool right = measure(rows, false, rounds, root) && measure(rows, true, rounds, root);
+    const bool right = measure(rows, false, rounds, root);
+    const bool right_by_value = measure(rows, true, rounds, root);
     std::cout << std::fixed << std::setprecision(1);
     for (const Row &row : rows) {
         std::cout << row.operation << '\t' << row.name << '\t' << row.limit << '\t' << row.peer << '\t' << row.library << '\n';
     }
-    return right ? 0 : 1;
+    return right && right_by_value ? 0 : 1;
 }

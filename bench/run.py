@@ -107,7 +107,7 @@ def build(folder, jobs):
 
 
 def measured(program, plan, rounds, root):
-    """What the program prints, a list of words for each row, and whether all answers were right."""
+    """What the program prints, a list of words for each row, and whether texts were ordered as they should be."""
     words = [program, plan, str(rounds), *([root] if root else [])]
     say(shlex.join(words))
     ran = subprocess.run(words, stdout=subprocess.PIPE, text=True, check=False)
@@ -120,7 +120,7 @@ def measured(program, plan, rounds, root):
 def figures(row):
     """The nanoseconds of ICU4C and of the library, and their ratio."""
     peer, library = float(row[3]), float(row[4])
-    return f"{peer:,.0f} | {library:,.0f} | {library / peer:.2f}"
+    return f"{peer:,.0f} | {library:,.0f} | {library / peer:,.2f}"
 
 
 def print_table(over_mini, over_root):

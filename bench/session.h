@@ -47,7 +47,7 @@ class Session {
         return request_;
     }
 
-    // How many answers were not as they should be.
+    // How many pairs were not ordered as they should be.
     uint64_t wrong() const { return wrong_; }
 
   private:
