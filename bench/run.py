@@ -1,12 +1,13 @@
 #!/usr/bin/env python3
 """Builds the bench, runs it, and prints the table of docs/PERFORMANCE.md.
 
-usage: bench/run.py [--rounds N] [--root FILE] [--folder FOLDER] [--jobs N]
+usage: bench/run.py [--rounds N] [--root FILE] [--folder FOLDER] [--jobs N] [--built]
 
 --rounds N        how often each row is measured; the least time counts (100)
 --root FILE       FractionalUCA.txt of CLDR (where Debian's package unicode-cldr-core installs it; without the file only Mini is measured)
 --folder FOLDER   where proofs, programs and texts are kept, outside of the repository (collation-bench in the user's cache)
 --jobs N          passed on to `rt`
+--built           measure with the program that the last run built, and build nothing
 
 The table goes to standard output, all else to standard error. Status 1: a text was not ordered as it should be.
 """
@@ -90,20 +91,18 @@ def copy_library(crate):
     os.makedirs(os.path.join(crate, "c"), exist_ok=True)
 
 
-def build(folder, jobs):
+def build(program, folder, jobs):
     """Builds the library and the program over it."""
     copy = os.path.join(folder, "repository")
     copy_repository(copy)
     crate = os.path.join(copy, "crates", NAME)
     run(["rt", "lib", *(["--jobs", jobs] if jobs else [])], crate, RT_ALLOW_C=NAME)
     kit = os.path.dirname(os.path.dirname(os.path.realpath(shutil.which("rt"))))
-    program = os.path.join(folder, NAME)
     words = [os.environ.get("CXX", "g++"), "-std=c++20", "-O2", "-Wall", "-o", program, os.path.join(HERE, "main.cpp")]
     words += [os.path.join(crate, "out", f"lib{NAME}.a")]
     words += [os.path.join(kit, "c", it) for it in ("liblibc_c.a", "libos_c.a")]
     words += shlex.split(output(["pkg-config", "--cflags", "--libs", "icu-i18n", "icu-uc"]))
     run(words)
-    return program
 
 
 def measured(program, plan, rounds, root):
@@ -151,6 +150,7 @@ def asked():
     parser.add_argument("--root", default=ROOT)
     parser.add_argument("--folder", default=os.path.join(CACHE, "collation-bench"))
     parser.add_argument("--jobs")
+    parser.add_argument("--built", action="store_true")
     return parser.parse_args()
 
 
@@ -161,7 +161,11 @@ def main():
             sys.exit(f"bench: the command '{command}' is not on the PATH")
     folder = os.path.abspath(words.folder)
     os.makedirs(folder, exist_ok=True)
-    program = build(folder, words.jobs)
+    program = os.path.join(folder, NAME)
+    if not words.built:
+        build(program, folder, words.jobs)
+    elif not os.path.exists(program):
+        sys.exit(f"bench: there is no program {program}: run without --built first")
     texts = os.path.join(folder, "texts")
     corpus.write(texts)
     plan = os.path.join(texts, "plan")
