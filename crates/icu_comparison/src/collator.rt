@@ -19,6 +19,7 @@ ghost use Rattle.icu_shortcuts.specs.SafeTables.{safe_reading};
 ghost use Rattle.unicode_normalization.specs.Forms.{nfd};
 
 use crate::handled::{HandledElements, HandledReader};
+use crate::texts::decomposed;
 use icu_checks::{CheckedTables, load_tables};
 use icu_elements::{ElementReader, ElementTables, all_elements};
 use icu_encodings::{Characters, EncodedText};
@@ -227,8 +228,20 @@ impl<'a> CollatorBorrowed<'a> {
         )
     }
 
-    /// Reads the elements of a decomposed text, as the settings handle variable ones.
-    pub(crate) fn handled_text(&self, text: Vec<char>) -> HandledReader<'a>
+    /// Reads the elements of a text, as the settings handle variable ones.
+    pub(crate) fn handled_text<T: EncodedText>(
+        &self,
+        text: T,
+    ) -> Result<HandledReader<'a>, AllocError>
+        ensures { IfOk result (λ source. handled_to_come source
+            ≡ handled_by (tables_borrowed self.now) (settings_borrowed self.now) (nfd (T.text text))) }
+    {
+        let text = decomposed(self.tables.allocator(), text)?;
+        Ok(self.handled_chars(text))
+    }
+
+    /// The same of a decomposed text.
+    pub(crate) fn handled_chars(&self, text: Vec<char>) -> HandledReader<'a>
         ensures { handled_to_come result
             ≡ handled_by (tables_borrowed self.now) (settings_borrowed self.now) text.items }
     {

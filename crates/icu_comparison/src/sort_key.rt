@@ -123,7 +123,7 @@ impl<'a> CollatorBorrowed<'a> {
             result sink.new }
     {
         let compression = TableCompression::new(self.tables);
-        let mut handled = self.handled_text(text);
+        let mut handled = self.handled_chars(text);
         write_key(
             self.tables.allocator(),
             sink,
