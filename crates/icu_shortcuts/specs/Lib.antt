@@ -1,3 +1,5 @@
 pub mod RowCharacters
 pub mod Named
 pub mod SafeTables
+pub mod Letters
+pub mod LetterTables

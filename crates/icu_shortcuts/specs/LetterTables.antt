@@ -1,0 +1,14 @@
+-- The characters of which a table keeps what is known.
+use Rattle.std.specs.Prelude.{ℕ, Bool, ◌&&◌, ◌||◌, nat_le, nat_lt}
+use Rattle.icu_elements.specs.TextElements.{Reading}
+use Rattle.icu_shortcuts.specs.Letters.{AreLettersFrom}
+use Rattle.icu_shortcuts.specs.declared.letter_table.Letters.{Letters}
+
+-- those that are read most: U+0000 to U+027F, and U+1E00 to U+1EFF
+abbrev pub is_kept : ℕ → Bool
+is_kept c = nat_lt c 0x280 || (nat_le 0x1E00 c && nat_lt c 0x1F00)
+
+-- all that is kept is so
+pub record AreLetters (reading : Reading) (t : Letters) : Type 0 where
+  pub latin : AreLettersFrom reading 0 t.latin.items
+  pub additional : AreLettersFrom reading 0x1E00 t.additional.items

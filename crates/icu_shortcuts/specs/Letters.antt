@@ -1,0 +1,79 @@
+-- What is known of a character before it is read: how it may be read by itself, and where a text may be cut before it.
+use Rattle.std.specs.Prelude.{◌≡◌, ◌≢◌, ◌<◌, ◌+◌, ℕ, Bool, true, ◌&&◌, ◌==◌, nat_le, List, [], ◌∷◌, take, length, slice_index_or, IsTrue}
+use Rattle.std.specs.List.{list_all}
+use Rattle.ucd_normal.specs.CanonicalCombiningClass.{canonical_combining_class as class_of}
+use Rattle.ucd_normal.specs.declared.forms.Form.TheVariants.{Nfd}
+use Rattle.unicode_normalization.specs.Decompose.{decompose}
+use Rattle.unicode_normalization.specs.Order.{is_starter, is_nonstarter}
+use Rattle.icu_entries.specs.Elements.{Element}
+use Rattle.icu_elements.specs.TextElements.{Reading}
+use Rattle.icu_cuts.specs.Alone.{elements_by_char, elements_of_char, is_alone}
+use Rattle.icu_shortcuts.specs.SafeTables.{IsSafeBefore}
+use Rattle.icu_shortcuts.specs.declared.letter_facts.Letter.{Letter}
+use Rattle.icu_shortcuts.specs.declared.letter_facts.LetterKind.TheVariants.{Starters, Marked, Mark}
+
+-- the elements that are kept of a character
+abbrev pub letter_elements : Letter → List Element
+letter_elements l = take l.count l.elements
+
+-- each character of its decomposition stands alone, and the elements kept are theirs
+pub record StandsAlone (reading : Reading) (c : ℕ) (l : Letter) : Type 0 where
+  pub alone : list_all (is_alone reading) (decompose Nfd c) ≡ true
+  pub elements : letter_elements l ≡ elements_by_char reading.tables (decompose Nfd c)
+
+-- these are marks, whose classes rise from one to another
+unfoldable pub rises_to : ℕ → List ℕ → ℕ → Bool
+rises_to class [] last = class == last
+rises_to class (m ∷ ms) last = is_nonstarter m && nat_le class (class_of m) && rises_to (class_of m) ms last
+
+-- starters that stand alone
+pub record HasStarters (reading : Reading) (c : ℕ) (l : Letter) : Type 0 where
+  pub stands : StandsAlone reading c l
+  pub starters : list_all is_starter (decompose Nfd c) ≡ true
+
+-- a starter with marks in order after it, up to the class that is kept, all alone
+pub record IsMarkedStarter (reading : Reading) (c : ℕ) (l : Letter) : Type 0 where
+  pub base : ℕ
+  pub marks : List ℕ
+  pub stands : StandsAlone reading c l
+  pub decomposes : decompose Nfd c ≡ base ∷ marks
+  pub starter : is_starter base ≡ true
+  pub in_order : rises_to 0 marks l.class ≡ true
+
+-- a mark of the class that is kept, which decomposes to itself and stands alone
+pub record IsLoneMark (reading : Reading) (c : ℕ) (l : Letter) : Type 0 where
+  pub stands : StandsAlone reading c l
+  pub itself : decompose Nfd c ≡ c ∷ []
+  pub class : class_of c ≡ l.class
+
+-- the decomposition begins with a starter
+pub record BeginsWithStarter (c : ℕ) : Type 0 where
+  pub first : ℕ
+  pub more : List ℕ
+  pub decomposes : decompose Nfd c ≡ first ∷ more
+  pub starter : is_starter first ≡ true
+
+-- the decomposition begins with a starter that stands alone, whose elements begin with this primary weight
+pub record LeadsWith (reading : Reading) (c : ℕ) (primary : ℕ) : Type 0 where
+  pub first : ℕ
+  pub more : List ℕ
+  pub element : Element
+  pub rest : List Element
+  pub decomposes : decompose Nfd c ≡ first ∷ more
+  pub starter : is_starter first ≡ true
+  pub alone : is_alone reading first ≡ true
+  pub elements : elements_of_char reading.tables first ≡ element ∷ rest
+  pub leading : element.primary ≡ primary
+
+-- what is kept of a character is so
+pub record IsLetter (reading : Reading) (c : ℕ) (l : Letter) : Type 0 where
+  pub starters : l.kind ≡ Starters → HasStarters reading c l
+  pub marked : l.kind ≡ Marked → IsMarkedStarter reading c l
+  pub mark : l.kind ≡ Mark → IsLoneMark reading c l
+  pub begins : IsTrue l.begins_with_starter → BeginsWithStarter c
+  pub safe : IsTrue l.is_safe → IsSafeBefore reading c
+  pub leads : l.leading_primary ≢ 0 → LeadsWith reading c l.leading_primary
+
+-- what is kept of characters from this one on, in order, is so
+abbrev pub AreLettersFrom : Reading → ℕ → List Letter → Type 0
+AreLettersFrom reading first letters = (k : ℕ) (other : Letter) → k < length letters → IsLetter reading (first + k) (slice_index_or letters k other)

@@ -1,0 +1,71 @@
+//! What is known of the characters that are read most.
+
+ghost use Rattle.std.specs.Prelude.{◌≡◌, ◌+◌, ◌≤◌, length, is_some, IfOk, IfSome};
+ghost use Rattle.icu_elements.specs.TextElements.{Reading};
+ghost use Rattle.icu_shortcuts.specs.SafeTables.{safe_reading};
+ghost use Rattle.icu_shortcuts.specs.Letters.{AreLettersFrom};
+
+use crate::letter_facts::Letter;
+use crate::read_letter::letter_of;
+use crate::safe_places::SafePlaces;
+use std::alloc::{AllocError, Global};
+
+/// What is known of the characters that are read most: U+0000 to U+027F, and U+1E00 to U+1EFF.
+#[derive(Debug, Drop)]
+pub struct Letters {
+    latin: Vec<Letter>,
+    additional: Vec<Letter>,
+    ghost latin_count: { length latin.items ≡ 0x280 },
+    ghost additional_count: { length additional.items ≡ 0x100 },
+}
+
+impl Letters {
+    ghost use Rattle.icu_shortcuts.specs.Letters.{IsLetter};
+    ghost use Rattle.icu_shortcuts.specs.LetterTables.{AreLetters, is_kept};
+
+    /// What is known of them as texts are read whose safe places these are. Fails only where an allocation does.
+    pub fn new(alloc: Global, places: SafePlaces<'_>) -> Result<Letters, AllocError>
+        ensures { IfOk result (λ l. AreLetters (safe_reading places.entry) l) }
+    {
+        let latin = letters_from(alloc, places, 0, 0x280)?;
+        let additional = letters_from(alloc, places, 0x1E00, 0x100)?;
+        Ok(Letters { latin, additional })
+    }
+
+    /// What is known of a character, or none outside of U+0000 to U+027F and U+1E00 to U+1EFF.
+    #[inline]
+    pub fn get(&self, c: char) -> Option<&Letter>
+        ensures known { (reading : Reading) → AreLetters reading self.now → IfSome result (λ l. IsLetter reading c l.now) }
+        ensures kept { is_some result ≡ is_kept c }
+    {
+        let code = c as usize;
+        if code < 0x280 {
+            Some(&self.latin[code])
+        } else if code >= 0x1E00 && code < 0x1F00 {
+            Some(&self.additional[code - 0x1E00])
+        } else {
+            None
+        }
+    }
+}
+
+/// What is known of so many characters from one on, in order.
+fn letters_from(
+    alloc: Global,
+    places: SafePlaces<'_>,
+    first: u32,
+    count: u32,
+) -> Result<Vec<Letter>, AllocError>
+    requires { first + count ≤ 0xD800 }
+    ensures count { IfOk result (λ letters. length letters.items ≡ count) }
+    ensures letters { IfOk result (λ letters. AreLettersFrom (safe_reading places.entry) first letters.items) }
+{
+    let mut letters: Vec<Letter> = Vec::with_capacity(alloc, count as usize)?;
+    for code in first..first + count {
+        match char::from_u32(code) {
+            Some(c) => letters.push(letter_of(places, c))?,
+            None => unreachable!(),
+        }
+    }
+    Ok(letters)
+}
