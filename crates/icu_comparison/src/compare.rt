@@ -122,10 +122,12 @@ impl<'a> CollatorBorrowed<'a> {
             self.is_equal_to_itself(left);
             return Ok(Ordering::Equal);
         }
-        match self.tails(left, right, common) {
-            Some((one, other)) => self.compare_levels(one, other),
-            None => self.compare_levels(left, right),
+        if !self.reads_backward() {
+            if let Some((one, other)) = self.tails(left, right, common) {
+                return self.compare_levels(one, other);
+            }
         }
+        self.compare_levels(left, right)
     }
 
     /// A text is equal to itself.
@@ -138,7 +140,7 @@ impl<'a> CollatorBorrowed<'a> {
         text.has_scalar_values();
     }
 
-    /// The order of two texts by their levels in turn.
+    /// The order of two texts: by their first characters where these decide, or else by their levels in turn.
     fn compare_levels<L: EncodedText, R: EncodedText>(
         &self,
         left: L,
@@ -147,6 +149,9 @@ impl<'a> CollatorBorrowed<'a> {
         ensures { IfOk result (λ o. o ≡ text_order (tables_borrowed self.now)
             (settings_borrowed self.now) (L.text left) (R.text right)) }
     {
+        if let Some(order) = self.compare_fronts(left, right) {
+            return Ok(order);
+        }
         let order = self.compare_elements(left, right)?;
         if order != Ordering::Equal {
             return Ok(order);

@@ -40,7 +40,7 @@ pub(crate) enum Level<'d> {
 }
 
 /// The primary weight as it is compared: reordered, where there is a reordering.
-fn reordered(reordering: Option<CollationReordering<'_>>, primary: u32) -> u32
+pub(crate) fn reordered(reordering: Option<CollationReordering<'_>>, primary: u32) -> u32
     ensures { result ≡ reorder_by (option_map reordering_of reordering.entry) primary }
 {
     match reordering {

@@ -1,1 +1,2 @@
 mod NamedLemmas
+mod KeptLemmas
