@@ -8,6 +8,8 @@ mod index;
 #[cfg(test)]
 mod keys;
 #[cfg(test)]
+mod letters;
+#[cfg(test)]
 mod limited;
 #[cfg(test)]
 mod requests;

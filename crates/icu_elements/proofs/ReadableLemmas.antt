@@ -71,7 +71,7 @@ good_found t c scalar home e is =
 
 -- ---- an entry that meets the conditions can be read, and so can a digit's other entry
 
-readable_among : (home : Data) (c f : ℕ) (es : List ℕ) → MeetAll home c es → Contains es f → IsTrue (is_readable home c f)
+pub readable_among : (home : Data) (c f : ℕ) (es : List ℕ) → MeetAll home c es → Contains es f → IsTrue (is_readable home c f)
 unfolding is_readable
 readable_among home c f es good among =
     and_from _ _ (and_from _ _ (good Indices f among) (and_parts _ _ (good Bytes f among)).1) (good Offsets f among)

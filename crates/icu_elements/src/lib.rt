@@ -6,6 +6,7 @@ mod element_list;
 pub mod element_reader;
 pub mod iter;
 pub mod laws;
+pub mod look_up;
 pub mod read;
 mod reader;
 pub mod tables;

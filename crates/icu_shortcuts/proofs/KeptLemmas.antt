@@ -1,6 +1,7 @@
 -- What is kept of a character by tests is what is known of it.
-use Rattle.std.proofs.Common.{◌≡◌, ◌≢◌, ◌==◌, ◌&&◌, ℕ, Bool, true, false, not, List, [], ◌∷◌, IsTrue, refl, sym, ap, ◌∙◌, is_some}
+use Rattle.std.proofs.Common.{◌≡◌, ◌≢◌, ◌==◌, ◌&&◌, ℕ, Bool, true, false, not, List, [], ◌∷◌, IsTrue, refl, ap, ◌∙◌, is_some, arith}
 use Rattle.std.proofs.lemmas.Bool.{eqb-true}
+use Rattle.std.proofs.lemmas.Bool.Decides.{nat_tests}
 use Rattle.ucd_normal.specs.declared.forms.Form.TheVariants.{Nfd}
 use Rattle.unicode_normalization.specs.Decompose.{decompose}
 use Rattle.unicode_normalization.specs.Order.{is_starter}
@@ -29,6 +30,9 @@ second false b h = cc
 unset : (a : Bool) → not a ≡ true → a ≡ false
 unset true h = cc
 unset false h = refl
+
+same : (p q : ℕ) → p ≡ q → (p == q) ≡ true
+same p q e = grind (arith, nat_tests)
 
 -- ---- safe places
 
@@ -74,7 +78,7 @@ kept_letter reading c l h = record {
   safe = λ e. let s = h.safe e in ap (starts_safely reading) s.decomposes ∙ safe_tests reading s.first s.safe;
   leads = λ e. let p = h.leads e in
       ap (starts_with_primary reading l.leading_primary) p.decomposes
-      ∙ both _ _ p.starter (both _ _ p.alone (ap (begins_with l.leading_primary) p.elements ∙ grind (p.leading)));
+      ∙ both _ _ p.starter (both _ _ p.alone (ap (begins_with l.leading_primary) p.elements ∙ same p.element.primary l.leading_primary p.leading));
 }
 
 -- ---- and back

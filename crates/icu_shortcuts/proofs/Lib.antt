@@ -1,2 +1,5 @@
 mod NamedLemmas
+mod TableLemmas
+mod EntryLemmas
+mod ReadLemmas
 mod KeptLemmas

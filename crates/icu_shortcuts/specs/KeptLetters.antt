@@ -14,8 +14,8 @@ use Rattle.icu_shortcuts.specs.declared.letter_facts.LetterKind.TheVariants.{Sta
 -- a text may be cut before it, as the tests say
 abbrev pub is_safe_place : Reading → ℕ → Bool
 is_safe_place reading x =
-    is_starter x && not (is_named x reading.tables.root) && not (is_named_by_tailoring x reading.tables.tailoring) && not (has_prefix reading.tables x)
-    && not (is_some reading.numeric && continues_number reading.tables x)
+    is_starter x && (not (is_named x reading.tables.root) && (not (is_named_by_tailoring x reading.tables.tailoring)
+    && (not (has_prefix reading.tables x) && not (is_some reading.numeric && continues_number reading.tables x))))
 
 -- the elements begin with this primary
 abbrev pub begins_with : ℕ → List Element → Bool
@@ -33,7 +33,7 @@ starts_safely reading (d ∷ ds) = is_safe_place reading d
 
 unfoldable pub starts_with_primary : Reading → ℕ → List ℕ → Bool
 starts_with_primary reading p [] = false
-starts_with_primary reading p (d ∷ ds) = is_starter d && is_alone reading d && begins_with p (elements_of_char reading.tables d)
+starts_with_primary reading p (d ∷ ds) = is_starter d && (is_alone reading d && begins_with p (elements_of_char reading.tables d))
 
 unfoldable pub is_marked_starter : ℕ → List ℕ → Bool
 is_marked_starter class [] = false
@@ -50,5 +50,5 @@ pub record KeptLetter (reading : Reading) (c : ℕ) (l : Letter) : Type 0 where
   pub leads : l.leading_primary ≢ 0 → starts_with_primary reading l.leading_primary (decompose Nfd c) ≡ true
 
 -- what is kept of characters from this one on, in order, is so
-abbrev pub AreKeptFrom : Reading → ℕ → List Letter → Type 0
-AreKeptFrom reading first letters = (k : ℕ) (other : Letter) → k < length letters → KeptLetter reading (first + k) (slice_index_or letters k other)
+abbrev pub AreLettersFrom : Reading → ℕ → List Letter → Type 0
+AreLettersFrom reading first letters = (k : ℕ) (other : Letter) → k < length letters → KeptLetter reading (first + k) (slice_index_or letters k other)

@@ -1,9 +1,10 @@
 //! What is known of the characters that are read most.
 
-ghost use Rattle.std.specs.Prelude.{◌≡◌, ◌+◌, ◌≤◌, length, is_some, IfOk, IfSome};
+ghost use Rattle.std.specs.Prelude.{◌≡◌, ◌+◌, ◌≤◌, ◌<◌, ◌++◌, ◌∷◌, [], length, is_some, IfOk, IfSome, OnOk};
 ghost use Rattle.icu_elements.specs.TextElements.{Reading};
 ghost use Rattle.icu_shortcuts.specs.SafeTables.{safe_reading};
-ghost use Rattle.icu_shortcuts.specs.Letters.{AreLettersFrom};
+ghost use Rattle.icu_shortcuts.specs.Letters.{IsLetter};
+ghost use Rattle.icu_shortcuts.specs.KeptLetters.{KeptLetter, AreLettersFrom};
 
 use crate::letter_facts::Letter;
 use crate::read_letter::letter_of;
@@ -20,20 +21,20 @@ pub struct Letters {
 }
 
 impl Letters {
-    ghost use Rattle.icu_shortcuts.specs.Letters.{IsLetter};
     ghost use Rattle.icu_shortcuts.specs.LetterTables.{AreLetters, is_kept};
 
     /// What is known of them as texts are read whose safe places these are. Fails only where an allocation does.
     pub fn new(alloc: Global, places: SafePlaces<'_>) -> Result<Letters, AllocError>
         ensures { IfOk result (λ l. AreLetters (safe_reading places.entry) l) }
     {
-        let _places = places;
-        let _alloc = alloc;
-        Err(AllocError)
+        let latin = letters_from(alloc, places, 0, 0x280)?;
+        let additional = letters_from(alloc, places, 0x1E00, 0x100)?;
+        Ok(Letters { latin, additional })
     }
 
     /// What is known of a character, or none outside of U+0000 to U+027F and U+1E00 to U+1EFF.
     #[inline]
+    #[tactic(auto, using(crate::proofs::KeptLemmas::known_letter))]
     pub fn get(&self, c: char) -> Option<&Letter>
         ensures known { (reading : Reading) → AreLetters reading self.now → IfSome result (λ l. IsLetter reading c l.now) }
         ensures kept { is_some result ≡ is_kept c }
@@ -49,3 +50,39 @@ impl Letters {
     }
 }
 
+/// What is known of so many characters from one on, in order.
+fn letters_from(
+    alloc: Global,
+    places: SafePlaces<'_>,
+    first: u32,
+    count: u32,
+) -> Result<Vec<Letter>, AllocError>
+    requires { first + count ≤ 0xD800 }
+    ensures count { IfOk result (λ letters. length letters.items ≡ count) }
+    ensures letters { IfOk result (λ letters. AreLettersFrom (safe_reading places.entry) first letters.items) }
+{
+    let mut letters: Vec<Letter> = Vec::with_capacity(alloc, count as usize)?;
+    for code in first..first + count {
+        push_letter(&mut letters, letter_at(places, code))?;
+    }
+    Ok(letters)
+}
+
+/// What is known of the character with a code below U+D800.
+#[tactic(auto, using(crate::proofs::KeptLemmas::kept_letter))]
+fn letter_at(places: SafePlaces<'_>, code: u32) -> Letter
+    requires { code < 0xD800 }
+    ensures { KeptLetter (safe_reading places.entry) code result }
+{
+    match char::from_u32(code) {
+        Some(c) => letter_of(places, c),
+        None => unreachable!(),
+    }
+}
+
+/// Appends what is known of one more character.
+fn push_letter(letters: &mut Vec<Letter>, letter: Letter) -> Result<(), AllocError>
+    ensures { OnOk result (letters.new.items ≡ letters.old.items ++ letter ∷ []) }
+{
+    letters.extend_from_slice(&[letter])
+}

@@ -2,11 +2,14 @@
 //! of the characters that are read most.
 #![tactic(auto)]
 
+mod alone;
+mod few_elements;
 pub mod letter_facts;
 pub mod letter_table;
 mod named;
 pub mod read_letter;
 mod safe_places;
+mod shapes;
 
 pub use letter_facts::{Letter, LetterKind};
 pub use letter_table::Letters;

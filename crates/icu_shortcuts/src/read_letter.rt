@@ -1,23 +1,100 @@
 //! What is known of one character, worked out from the tables.
 
+ghost use Rattle.std.specs.Prelude.{◌≡◌, ◌≢◌, ◌∷◌, true};
+ghost use Rattle.ucd_normal.specs.declared.forms.Form.TheVariants.{Nfd};
+ghost use Rattle.unicode_normalization.specs.Decompose.{decompose};
+ghost use Rattle.icu_cuts.specs.Alone.{elements_of_char, is_alone};
+ghost use Rattle.icu_shortcuts.specs.FewElements.{few_elements};
 ghost use Rattle.icu_shortcuts.specs.SafeTables.{safe_reading};
 ghost use Rattle.icu_shortcuts.specs.Letters.{IsLetter};
+ghost use Rattle.icu_shortcuts.specs.ReadLetters.{LeadsBy, IsOutline};
+ghost use Rattle.icu_shortcuts.specs.declared.letter_facts.LetterKind.TheVariants.{Unknown};
 
+use crate::alone::{with_char, with_chars};
+use crate::few_elements::FewElements;
 use crate::letter_facts::{Letter, LetterKind};
 use crate::safe_places::SafePlaces;
-use icu_entries::CollationElement;
+use crate::shapes::shape_of;
+use unicode_normalization::Form;
+use unicode_normalization::char::{canonical_combining_class, decomposition};
+
+/// The primary weight of the first element of a starter whose elements these are, or 0 where it has none.
+fn leading_primary(places: SafePlaces<'_>, first: char, few: FewElements) -> u32
+    requires alone { is_alone (safe_reading places) first ≡ true }
+    requires elements { few_elements few ≡ elements_of_char (safe_reading places).tables first }
+    ensures { result ≢ 0 → LeadsBy (safe_reading places.entry) first result }
+{
+    if canonical_combining_class(first) == 0 && few.count > 0 {
+        few.elements[0].primary()
+    } else {
+        0
+    }
+}
+
+/// What is known of a character by the first one of its decomposition. The weight is its leading one, or 0.
+fn outline(places: SafePlaces<'_>, first: char, leading_primary: u32) -> Letter
+    requires { leading_primary ≢ 0 → LeadsBy (safe_reading places) first leading_primary }
+    ensures kind { result.kind ≡ Unknown }
+    ensures first { IsOutline (safe_reading places.entry) first result }
+{
+    Letter {
+        elements: FewElements::new().elements,
+        count: 0,
+        kind: LetterKind::Unknown,
+        class: 0,
+        is_safe: places.is_safe_first(first),
+        begins_with_starter: canonical_combining_class(first) == 0,
+        leading_primary,
+    }
+}
+
+/// What is known of a character whose decomposition begins with one that stands alone, by its elements.
+fn letter_with(
+    places: SafePlaces<'_>,
+    c: char,
+    first: char,
+    more: &[char],
+    few: FewElements,
+) -> Letter
+    requires decomposes { decompose Nfd c ≡ first ∷ more.now }
+    requires alone { is_alone (safe_reading places) first ≡ true }
+    requires elements { few_elements few ≡ elements_of_char (safe_reading places).tables first }
+    ensures { IsLetter (safe_reading places.entry) c result }
+{
+    let known = outline(places, first, leading_primary(places, first, few));
+    let Some(all) = with_chars(places, more, few) else {
+        return known;
+    };
+    let (kind, class) = shape_of(c, first, more);
+    Letter {
+        elements: all.elements,
+        count: all.count,
+        kind,
+        class,
+        is_safe: known.is_safe,
+        begins_with_starter: known.begins_with_starter,
+        leading_primary: known.leading_primary,
+    }
+}
+
+/// What is known of a character that decomposes to these, the first and the others.
+fn letter_from(places: SafePlaces<'_>, c: char, first: char, more: &[char]) -> Letter
+    requires { decompose Nfd c ≡ first ∷ more.now }
+    ensures { IsLetter (safe_reading places.entry) c result }
+{
+    match with_char(places, first, FewElements::new()) {
+        Some(few) => letter_with(places, c, first, more, few),
+        None => outline(places, first, 0),
+    }
+}
 
 /// What is known of a character as texts are read whose safe places these are. Does not allocate.
 pub fn letter_of(places: SafePlaces<'_>, c: char) -> Letter
     ensures { IsLetter (safe_reading places.entry) c result }
 {
-    Letter {
-        elements: [CollationElement::default(); 3],
-        count: 0,
-        kind: LetterKind::Unknown,
-        class: 0,
-        is_safe: places.is_safe(c),
-        begins_with_starter: false,
-        leading_primary: 0,
+    let mut room = [c; 3];
+    match decomposition(c, Form::Nfd, &mut room) {
+        [first, more @ ..] => letter_from(places, c, *first, more),
+        [] => unreachable!(),
     }
 }

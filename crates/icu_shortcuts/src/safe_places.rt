@@ -15,9 +15,9 @@ use unicode_normalization::char::{canonical_combining_class, decomposition};
 /// What says before which characters a text may be cut, so that what follows is read as if it stood alone.
 #[derive(Debug, Clone, Copy)]
 pub struct SafePlaces<'d> {
-    tables: ElementTables<'d>,
-    numeric_primary: Option<u8>,
-    lithuanian_dot_above: bool,
+    pub(crate) tables: ElementTables<'d>,
+    pub(crate) numeric_primary: Option<u8>,
+    pub(crate) lithuanian_dot_above: bool,
     named: &'d NamedCharacters,
     ghost names: { NamesAll named.now (element_tables tables) },
 }
@@ -59,7 +59,7 @@ impl<'d> SafePlaces<'d> {
 
     /// The same of a character of a decomposed text.
     #[tactic(auto, unfolding(crate::specs::SafeTables::safe_reading))]
-    fn is_safe_first(&self, c: char) -> bool
+    pub(crate) fn is_safe_first(&self, c: char) -> bool
         ensures { IsTrue result → IsSafe (safe_reading self.now) c }
     {
         canonical_combining_class(c) == 0 && !self.named.has(c) && !self.looks_around(c)

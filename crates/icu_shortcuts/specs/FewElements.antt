@@ -1,0 +1,7 @@
+-- A list of three elements at most.
+use Rattle.std.specs.Prelude.{List, take}
+use Rattle.icu_entries.specs.Elements.{Element}
+use Rattle.icu_shortcuts.specs.declared.few_elements.FewElements.{FewElements}
+
+unfoldable pub few_elements : FewElements → List Element
+few_elements few = take few.count few.elements
