@@ -1,5 +1,5 @@
 mod NamedLemmas
 mod TableLemmas
 mod EntryLemmas
-mod ReadLemmas
+mod FewLemmas
 mod KeptLemmas

@@ -13,13 +13,13 @@ use Rattle.icu_shortcuts.specs.declared.letter_facts.LetterKind.{LetterKind}
 use Rattle.icu_shortcuts.specs.declared.letter_facts.LetterKind.TheVariants.{Starters, Marked, Mark}
 
 -- of what kind it is, if all of it stands alone
-pub record IsShaped (c first : ℕ) (more : List ℕ) (kind : LetterKind) (class : ℕ) : Type 0 where
+pub record IsShaped (c first : ℕ) (more : List ℕ) (kind : LetterKind) (last : ℕ) : Type 0 where
   pub starters : kind ≡ Starters → list_all is_starter (first ∷ more) ≡ true
   pub marked : kind ≡ Marked → is_starter first ≡ true
-  pub in_order : kind ≡ Marked → rises_to 0 more class ≡ true
+  pub in_order : kind ≡ Marked → rises_to 0 more last ≡ true
   pub mark : kind ≡ Mark → more ≡ []
   pub itself : kind ≡ Mark → first ≡ c
-  pub class : kind ≡ Mark → class_of c ≡ class
+  pub class : kind ≡ Mark → class_of c ≡ last
 
 -- a starter that stands alone, whose elements begin with this primary weight
 pub record LeadsBy (reading : Reading) (first : ℕ) (primary : ℕ) : Type 0 where

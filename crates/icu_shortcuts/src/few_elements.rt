@@ -13,7 +13,7 @@ use icu_data::element_walk::{VisitElement, visit_elements};
 use icu_entries::{CollationElement, CollationElement32};
 
 /// Three elements at most.
-#[derive(Debug, Clone, Copy)]
+#[derive(Clone, Copy)]
 pub(crate) struct FewElements {
     pub(crate) elements: [CollationElement; 3],
     pub(crate) count: u8,
@@ -34,6 +34,7 @@ impl VisitElement for FewElements {
 
     ghost after = { push };
 
+    #[tactic(auto, unfolding(crate::specs::FewElements::few_elements))]
     fn visit(&mut self, element: CollationElement) -> Result<(), TooMany> {
         let count = self.count as usize;
         if count >= 3 {
@@ -62,7 +63,7 @@ impl FewElements {
 
     /// These and one more, or none where that is a fourth.
     pub(crate) fn with_element(self, element: CollationElement) -> Option<FewElements>
-        ensures { IfSome result (λ more. few_elements more ≡ few_elements self.entry ++ element ∷ []) }
+        ensures { IfSome result (λ more. few_elements more ≡ few_elements self ++ element ∷ []) }
     {
         let mut few = self;
         match few.visit(element) {
@@ -79,7 +80,7 @@ impl FewElements {
         ce32: CollationElement32,
     ) -> Option<FewElements>
         requires { IsTrue (is_readable (data_of home) c ce32) }
-        ensures { IfSome result (λ more. few_elements more ≡ few_elements self.entry ++ final_elements (homed (data_of home.entry) ce32) c) }
+        ensures { IfSome result (λ more. few_elements more ≡ few_elements self ++ final_elements (homed (data_of home.entry) ce32) c) }
     {
         let mut few = self;
         match visit_elements(&mut few, home, c, ce32) {

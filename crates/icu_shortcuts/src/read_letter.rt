@@ -1,12 +1,13 @@
 //! What is known of one character, worked out from the tables.
 
-ghost use Rattle.std.specs.Prelude.{◌≡◌, ◌≢◌, ◌∷◌, true};
+ghost use Rattle.std.specs.Prelude.{◌≡◌, ◌≢◌, ◌∷◌, ℕ, true};
 ghost use Rattle.ucd_normal.specs.declared.forms.Form.TheVariants.{Nfd};
 ghost use Rattle.unicode_normalization.specs.Decompose.{decompose};
+ghost use Rattle.icu_elements.specs.TextElements.{Reading};
 ghost use Rattle.icu_cuts.specs.Alone.{elements_of_char, is_alone};
 ghost use Rattle.icu_shortcuts.specs.FewElements.{few_elements};
 ghost use Rattle.icu_shortcuts.specs.SafeTables.{safe_reading};
-ghost use Rattle.icu_shortcuts.specs.Letters.{IsLetter};
+ghost use Rattle.icu_shortcuts.specs.Letters.{IsLetter, letter_elements};
 ghost use Rattle.icu_shortcuts.specs.ReadLetters.{LeadsBy, IsOutline};
 ghost use Rattle.icu_shortcuts.specs.declared.letter_facts.LetterKind.TheVariants.{Unknown};
 
@@ -15,13 +16,14 @@ use crate::few_elements::FewElements;
 use crate::letter_facts::{Letter, LetterKind};
 use crate::safe_places::SafePlaces;
 use crate::shapes::shape_of;
+use icu_entries::CollationElement;
 use unicode_normalization::Form;
 use unicode_normalization::char::{canonical_combining_class, decomposition};
 
 /// The primary weight of the first element of a starter whose elements these are, or 0 where it has none.
-fn leading_primary(places: SafePlaces<'_>, first: char, few: FewElements) -> u32
+fn leading_primary(places: SafePlaces<'_>, first: char, few: &FewElements) -> u32
     requires alone { is_alone (safe_reading places) first ≡ true }
-    requires elements { few_elements few ≡ elements_of_char (safe_reading places).tables first }
+    requires elements { few_elements few.now ≡ elements_of_char (safe_reading places).tables first }
     ensures { result ≢ 0 → LeadsBy (safe_reading places.entry) first result }
 {
     if canonical_combining_class(first) == 0 && few.count > 0 {
@@ -38,13 +40,31 @@ fn outline(places: SafePlaces<'_>, first: char, leading_primary: u32) -> Letter
     ensures first { IsOutline (safe_reading places.entry) first result }
 {
     Letter {
-        elements: FewElements::new().elements,
+        elements: [CollationElement::default(); 3],
         count: 0,
         kind: LetterKind::Unknown,
         class: 0,
         is_safe: places.is_safe_first(first),
         begins_with_starter: canonical_combining_class(first) == 0,
         leading_primary,
+    }
+}
+
+/// The same of a character that stands alone, with its elements, its kind and its class.
+#[tactic(auto, unfolding(crate::specs::FewElements::few_elements))]
+fn with_elements(known: Letter, all: FewElements, shape: (LetterKind, u8)) -> Letter
+    ensures elements { letter_elements result ≡ few_elements all }
+    ensures kind { (result.kind ≡ shape.0) × (result.class ≡ shape.1) }
+    ensures first { (reading : Reading) (first : ℕ) → IsOutline reading first known → IsOutline reading first result }
+{
+    Letter {
+        elements: [all.elements[0], all.elements[1], all.elements[2]],
+        count: all.count,
+        kind: shape.0,
+        class: shape.1,
+        is_safe: known.is_safe,
+        begins_with_starter: known.begins_with_starter,
+        leading_primary: known.leading_primary,
     }
 }
 
@@ -61,19 +81,11 @@ fn letter_with(
     requires elements { few_elements few ≡ elements_of_char (safe_reading places).tables first }
     ensures { IsLetter (safe_reading places.entry) c result }
 {
-    let known = outline(places, first, leading_primary(places, first, few));
-    let Some(all) = with_chars(places, more, few) else {
-        return known;
-    };
-    let (kind, class) = shape_of(c, first, more);
-    Letter {
-        elements: all.elements,
-        count: all.count,
-        kind,
-        class,
-        is_safe: known.is_safe,
-        begins_with_starter: known.begins_with_starter,
-        leading_primary: known.leading_primary,
+    let primary = leading_primary(places, first, &few);
+    let known = outline(places, first, primary);
+    match with_chars(places, more, few) {
+        Some(all) => with_elements(known, all, shape_of(c, first, more)),
+        None => known,
     }
 }
 
