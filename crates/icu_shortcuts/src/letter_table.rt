@@ -34,7 +34,6 @@ impl Letters {
 
     /// What is known of a character, or none outside of U+0000 to U+027F and U+1E00 to U+1EFF.
     #[inline]
-    #[tactic(auto, using(crate::proofs::KeptLemmas::known_letter))]
     pub fn get(&self, c: char) -> Option<&Letter>
         ensures known { (reading : Reading) → AreLetters reading self.now → IfSome result (λ l. IsLetter reading c l.now) }
         ensures kept { is_some result ≡ is_kept c }
