@@ -4,6 +4,8 @@
 #[cfg(test)]
 mod checked_tables;
 #[cfg(test)]
+mod cursors;
+#[cfg(test)]
 mod index;
 #[cfg(test)]
 mod keys;

@@ -9,30 +9,30 @@ use Rattle.icu_entries.specs.Elements.{Element, end_element}
 use Rattle.icu_elements.specs.declared.element_reader.ElementReader.{ElementReader}
 use Rattle.icu_elements.specs.declared.reader.TextReading.{TextReading}
 use Rattle.icu_elements.specs.declared.reader.position.Position.{Position}
-use Rattle.icu_elements.specs.declared.iter.Progress.TheVariants.{Reading, Refused}
+use Rattle.icu_elements.specs.declared.iter.Progress.TheVariants.{Reading as InProgress, Refused}
 use Rattle.icu_elements.specs.declared.iter.CollationElements.{CollationElements}
-use Rattle.icu_elements.specs.TextElements.{elements_after}
+use Rattle.icu_elements.specs.TextElements.{Reading, elements_after}
 use Rattle.icu_elements.specs.CollationElements.{HasSource, IsLeftAt, StillGives, IsReadyAt, CanGive, first_of, rest_of}
 use Rattle.icu_elements.specs.ElementReaders.{elements_to_come}
-use Rattle.icu_elements.specs.inner.Positions.{reading_by_tables, consumed_last, elements_left}
+use Rattle.icu_elements.specs.inner.Positions.{reading_by_tables, consumed_last, unread_at, elements_left}
 use Rattle.icu_elements.specs.inner.ReadyElements.{ready_elements, IsFilled}
 use Rattle.icu_elements.proofs.StepLemmas.{elements_after_nil}
 
 module _ {I : Type 0} (steps : I → Option ℕ → I → Type 0) (s : CollationElements I) (es : List Element) where
-  pub HasSource-StillGives : s.progress ≡ Reading → StillGives steps s es → HasSource steps s es
+  pub HasSource-StillGives : s.progress ≡ InProgress → StillGives steps s es → HasSource steps s es
   unfolding StillGives
   HasSource-StillGives e h = subst (λ p. IsLeftAt p steps s es) e h
 
-  pub StillGives-source : s.progress ≡ Reading → HasSource steps s es → StillGives steps s es
+  pub StillGives-source : s.progress ≡ InProgress → HasSource steps s es → StillGives steps s es
   unfolding StillGives
   StillGives-source e h = subst (λ p. IsLeftAt p steps s es) (sym e) h
 
 module _ {I : Type 0} (can : I → Type 0) (left : I → Count) (s : CollationElements I) where
-  pub CanDecompose-CanGive : s.progress ≡ Reading → CanGive can left s → CanDecompose can left s.source
+  pub CanDecompose-CanGive : s.progress ≡ InProgress → CanGive can left s → CanDecompose can left s.source
   unfolding CanGive
   CanDecompose-CanGive e h = subst (λ p. IsReadyAt p can left s) e h
 
-  pub CanGive-reading : s.progress ≡ Reading → CanDecompose can left s.source → CanGive can left s
+  pub CanGive-reading : s.progress ≡ InProgress → CanDecompose can left s.source → CanGive can left s
   unfolding CanGive
   CanGive-reading e h = subst (λ p. IsReadyAt p can left s) (sym e) h
 
@@ -54,6 +54,14 @@ first_given es before after others None e split end =
 -- where none was read ahead, those of the text are left
 pub none_ready : (xs ys : List Element) → xs ≡ [] → drop 0 xs ++ ys ≡ ys
 none_ready xs ys none = rw none refl
+
+-- all elements are to come where none was read yet
+pub none_read : (r : ElementReader) (reading : Reading) (before text : List ℕ) → reading_by_tables r.reading ≡ reading → ready_elements r ≡ [] → consumed_last r.position ≡ before → unread_at r.position ≡ text
+    → elements_to_come r ≡ elements_after reading before text
+unfolding elements_to_come
+none_read r reading before text same none last left =
+    ap₂ (λ (es : List Element) (by : Reading). es ++ elements_after by (consumed_last r.position) (unread_at r.position)) none same
+    ∙ ap₂ (elements_after reading) last left
 
 -- what a step appends and leaves, after all that stood ready was taken, is what there was
 pub one_step : (r : ElementReader) (es fs : List Element) (p : Position) → length r.ready.elements.items ≤ r.next → es ≡ []

@@ -20,7 +20,7 @@ pub struct ElementReader<'d> {
 }
 
 impl<'d> ElementReader<'d> {
-    ghost use Rattle.icu_elements.specs.TextElements.{elements_of};
+    ghost use Rattle.icu_elements.specs.TextElements.{elements_of, elements_after, last_two};
     ghost use Rattle.icu_elements.specs.Reading.{reading_of};
     ghost use Rattle.icu_elements.specs.ElementReaders.{elements_to_come};
     ghost use Rattle.icu_elements.specs.inner.Positions.{reading_by_tables, consumed_last, unread_at};
@@ -38,12 +38,29 @@ impl<'d> ElementReader<'d> {
         ensures { elements_to_come result ≡ elements_of
             (reading_of tables.entry numeric_primary lithuanian_dot_above) text.items }
     {
+        ElementReader::after(&[], text, tables, numeric_primary, lithuanian_dot_above)
+    }
+
+    /// The same of a text that comes after other characters. `before` has them in the order of the text, decomposed: the last two
+    /// are enough, since prefixes look no further back (UTS #35 part 5, section 3.11). Does not allocate.
+    pub fn after(
+        before: &[char],
+        text: Vec<char>,
+        tables: ElementTables<'d>,
+        numeric_primary: Option<u8>,
+        lithuanian_dot_above: bool,
+    ) -> ElementReader<'d>
+        ensures { elements_to_come result ≡ elements_after
+            (reading_of tables.entry numeric_primary lithuanian_dot_above) (last_two [] before.now) text.items }
+    {
         let reading = TextReading {
             tables,
             numeric_primary,
             lithuanian_dot_above,
         };
-        ElementReader::at_start(reading, text)
+        let mut reader = ElementReader::at_start(reading, text);
+        reader.position.recent.push_all(before);
+        reader
     }
 
     /// The same, by what says how texts are read.

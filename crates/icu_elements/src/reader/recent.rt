@@ -52,7 +52,7 @@ impl RecentChars {
     }
 
     /// More characters were consumed, the first of these first.
-    fn push_all(&mut self, chars: &[char])
+    pub(crate) fn push_all(&mut self, chars: &[char])
         ensures { recent_chars self.new ≡ last_two (recent_chars self.old) chars.now }
     {
         for c in chars {

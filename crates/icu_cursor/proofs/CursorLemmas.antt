@@ -1,0 +1,81 @@
+-- What a cursor still gives, as it goes on.
+use Rattle.std.proofs.Common.{◌≡◌, ℕ, ◌≤◌, false, List, [], ◌∷◌, ◌++◌, length, take, get_or, Option, Some, None, is_some, Result, Ok, Err, IfOk, refl, sym, ap, ap₂, ◌∙◌, append_assoc, arith}
+use Rattle.std.specs.Prelude.{option_to_list}
+use Rattle.ucd_normal.specs.declared.forms.Form.TheVariants.{Nfd}
+use Rattle.unicode_normalization.specs.Decompose.{decompose}
+use Rattle.unicode_normalization.specs.Forms.{nfd}
+use Rattle.icu_entries.specs.Elements.{Element}
+use Rattle.icu_elements.specs.declared.element_reader.ElementReader.{ElementReader}
+use Rattle.icu_elements.specs.TextElements.{Reading, elements_after}
+use Rattle.icu_cuts.specs.Alone.{context_after}
+use Rattle.icu_shortcuts.specs.declared.letter_facts.Letter.{Letter}
+use Rattle.icu_shortcuts.specs.Letters.{letter_elements}
+use Rattle.icu_cursor.specs.inner.Pieces.{IsPiece, piece_gives}
+use Rattle.icu_cursor.specs.inner.Standing.{StandsBefore}
+use Rattle.icu_cursor.proofs.PieceLemmas.{nothing, pieces_part}
+
+first_of : (xs : List Element) (e d : Element) → 1 ≤ length xs → e ≡ get_or xs 0 d → take 1 xs ≡ e ∷ []
+first_of [] e d some is = absurd (omega arith)
+first_of (x ∷ xs) e d some is = ap (λ y. y ∷ []) (sym is)
+
+-- where neither a letter nor a piece has elements left
+pub nothing_ready : (ready piece rest : List Element) → ready ≡ [] → piece ≡ [] → ready ++ (piece ++ rest) ≡ rest
+nothing_ready ready piece rest none no_piece = ap₂ (λ (es fs : List Element). es ++ (fs ++ rest)) none no_piece
+
+pub no_piece : (p : Option ElementReader) → is_some p ≡ false → piece_gives p ≡ []
+no_piece None none = refl
+no_piece (Some r) none = cc
+
+-- the first of those that stand ready
+pub ready_taken : (first before after rest : List Element) → before ≡ first ++ after → before ++ rest ≡ first ++ (after ++ rest)
+ready_taken first before after rest is = ap (λ (es : List Element). es ++ rest) is ∙ append_assoc first after rest
+
+-- the first of a piece, where none stands ready
+piece_taken : (ready first before after rest : List Element) → ready ≡ [] → before ≡ first ++ after → ready ++ (before ++ rest) ≡ first ++ (ready ++ (after ++ rest))
+piece_taken ready first before after rest none is =
+    ap (λ (es : List Element). es ++ (before ++ rest)) none
+    ∙ ready_taken first before after rest is
+    ∙ ap (λ (es : List Element). first ++ (es ++ (after ++ rest))) (sym none)
+
+pub piece_read : {E : Type 0} (r : Result (Option Element) E) (all ready before after rest : List Element) → all ≡ ready ++ (before ++ rest) → ready ≡ []
+    → IfOk r (λ next. before ≡ option_to_list next ++ after) → IfOk r (λ next. all ≡ option_to_list next ++ (ready ++ (after ++ rest)))
+piece_read (Ok next) all ready before after rest is none h = is ∙ piece_taken ready (option_to_list next) before after rest none h
+piece_read (Err e) all ready before after rest is none h = tt
+
+-- the first of a letter's
+pub one_taken : (l : Letter) (e d : Element) → l.count ≡ 1 → 1 ≤ length l.elements → e ≡ get_or l.elements 0 d → letter_elements l ≡ e ∷ []
+one_taken l e d one some is = ap (λ n. take n l.elements) one ∙ first_of l.elements e d some is
+
+module _ (reading : Reading) (ready piece : List Element) (before : List ℕ) (none : ready ≡ []) (piece_ended : piece ≡ []) where
+  -- a text that ended gives nothing
+  pub all_read : (text : List ℕ) → text ≡ [] → ready ++ (piece ++ elements_after reading before (nfd text)) ≡ []
+  all_read text ends =
+      nothing_ready ready piece _ none piece_ended ∙ ap (λ t. elements_after reading before (nfd t)) ends ∙ nothing reading before
+
+  -- a letter is read by itself
+  pub letter_read : (c : ℕ) (l : Letter) (all text after : List ℕ) (es : List Element) → all ≡ c ∷ text → StandsBefore reading c l text → es ≡ letter_elements l → after ≡ context_after before (decompose Nfd c)
+      → es ++ (piece ++ elements_after reading after (nfd text)) ≡ ready ++ (piece ++ elements_after reading before (nfd all))
+  letter_read c l all text after es is stands given remembered =
+      ap₂ (λ (fs gs : List Element). fs ++ (gs ++ elements_after reading after (nfd text))) given piece_ended
+      ∙ ap (λ b. letter_elements l ++ elements_after reading b (nfd text)) remembered
+      ∙ sym (stands before)
+      ∙ ap (λ t. elements_after reading before (nfd t)) (sym is)
+      ∙ sym (nothing_ready ready piece _ none piece_ended)
+
+  -- so is one of one element, which is given at once
+  pub lone_read : (c : ℕ) (l : Letter) (all text after : List ℕ) (e d : Element) → all ≡ c ∷ text → StandsBefore reading c l text → after ≡ context_after before (decompose Nfd c)
+      → l.count ≡ 1 → 1 ≤ length l.elements → e ≡ get_or l.elements 0 d
+      → ready ++ (piece ++ elements_after reading before (nfd all)) ≡ e ∷ (ready ++ (piece ++ elements_after reading after (nfd text)))
+  lone_read c l all text after e d is stands remembered one some first =
+      sym (letter_read c l all text after (letter_elements l) is stands refl remembered)
+      ∙ ap (λ (es : List Element). es ++ (piece ++ elements_after reading after (nfd text))) (one_taken l e d one some first)
+      ∙ ap (λ (es : List Element). e ∷ (es ++ (piece ++ elements_after reading after (nfd text)))) (sym none)
+
+  -- a piece is begun
+  pub piece_begun : (all whole part rest : List ℕ) (es : List Element) → all ≡ whole → IsPiece reading whole part rest → es ≡ elements_after reading before (nfd part)
+      → ready ++ (es ++ elements_after reading before (nfd rest)) ≡ ready ++ (piece ++ elements_after reading before (nfd all))
+  piece_begun all whole part rest es is h given =
+      ap₂ (λ (fs gs : List Element). fs ++ (gs ++ elements_after reading before (nfd rest))) none given
+      ∙ sym (pieces_part reading before before whole part rest h)
+      ∙ ap (λ t. elements_after reading before (nfd t)) (sym is)
+      ∙ sym (nothing_ready ready piece _ none piece_ended)

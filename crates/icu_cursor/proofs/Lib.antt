@@ -1,0 +1,5 @@
+pub mod ContextLemmas
+pub mod StandLemmas
+pub mod PieceLemmas
+pub mod ReadyLemmas
+pub mod CursorLemmas

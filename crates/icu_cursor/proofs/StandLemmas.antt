@@ -1,0 +1,131 @@
+-- Letters that are read by themselves, and the runs of marks that they stand before.
+use Rattle.std.proofs.Common.{◌≡◌, ◌≢◌, ℕ, ◌<◌, ◌≤◌, Bool, true, false, not, ◌&&◌, ◌||◌, ◌==◌, nat_le, List, [], ◌∷◌, ◌++◌, length, get_or, flat_map, Option, Some, None, IfSome, refl, sym, ap, ◌∙◌, arith}
+use Rattle.std.proofs.lemmas.Bool.{and_parts, and_from, not-true, eqb-true, eq-eqb, ne_eqb, le-leb}
+use Rattle.ucd_normal.specs.CanonicalCombiningClass.{canonical_combining_class as class_of}
+use Rattle.ucd_normal.specs.declared.forms.Form.TheVariants.{Nfd}
+use Rattle.unicode_normalization.specs.Decompose.{decompose}
+use Rattle.unicode_normalization.specs.Order.{is_starter, is_nonstarter}
+use Rattle.unicode_normalization.specs.Forms.{nfd}
+use Rattle.icu_elements.specs.TextElements.{Reading, elements_after}
+use Rattle.icu_cursor.proofs.PieceLemmas.{may_be_cut}
+use Rattle.icu_entries.specs.Elements.{Element}
+use Rattle.std.proofs.Props.{props}
+use Rattle.std.proofs.Math.Logic.{∥∥₁_elim}
+use mathlib.Core.List.{is_set}
+use Rattle.icu_cuts.specs.Alone.{context_after, stays_first, all_stay, rises_from, elements_by_char}
+use Rattle.icu_cuts.proofs.AloneLemmas.{letter_of_starters, letter_that_stays}
+use Rattle.icu_cuts.proofs.NfdLemmas.{stays_first-rises}
+use Rattle.icu_shortcuts.specs.declared.letter_facts.Letter.{Letter}
+use Rattle.icu_shortcuts.specs.Letters.{StandsAlone, HasStarters, IsMarkedStarter, IsLoneMark, IsLetter, letter_elements, rises_to}
+use Rattle.icu_cursor.specs.inner.Runs.{Rises, EndsRuns, IsInRun}
+use Rattle.icu_cursor.specs.inner.Standing.{StandsBefore, Serves}
+
+-- ---- runs of marks
+
+-- a run ends at a starter
+pub ends_runs : (c first : ℕ) (more : List ℕ) → decompose Nfd c ≡ first ∷ more → is_starter first ≡ true → EndsRuns c
+unfolding rises_from
+ends_runs c first more split starter = λ least text. ap (λ l. rises_from least (l ++ flat_map (decompose Nfd) text)) split ∙ rw starter refl
+
+-- it goes on with a mark whose class isn't below
+goes_on : (c first : ℕ) → decompose Nfd c ≡ first ∷ [] → class_of first ≢ 0 → (least : ℕ) (text : List ℕ) → least ≤ class_of first → Rises (class_of first) text → Rises least (c ∷ text)
+unfolding rises_from
+goes_on c first split mark least text fits rest =
+    let other : is_starter first ≡ false = ne_eqb (class_of first) 0 mark in
+    let up : nat_le least (class_of first) ≡ true = le-leb least (class_of first) fits in
+    ap (λ l. rises_from least (l ++ flat_map (decompose Nfd) text)) split ∙ rw (other, up) rest
+
+-- a character that decomposes to one
+pub one_in_run : (c first : ℕ) → decompose Nfd c ≡ first ∷ [] → IsInRun c (class_of first)
+one_in_run c first split = record {
+  ends = λ lowest. ends_runs c first [] split (eq-eqb (class_of first) 0 lowest);
+  goes_on = goes_on c first split;
+}
+
+-- one whose decomposition begins with a starter
+pub starter_in_run : (c : ℕ) → EndsRuns c → IsInRun c 0
+starter_in_run c ends = record { ends = λ _. ends; goes_on = λ other. absurd (other refl) }
+
+-- ---- letters
+
+-- marks in order before a run that rises from the last of them
+marks_stay : (least last : ℕ) (ms text : List ℕ) → rises_to least ms last ≡ true → rises_from last text ≡ true
+    → (all_stay ms text ≡ true) × (rises_from least (ms ++ text) ≡ true)
+unfolding rises_to rises_from all_stay
+marks_stay least last [] text h rise = (refl, ap (λ k. rises_from k text) (eqb-true least last h) ∙ rise)
+marks_stay least last (m ∷ ms) text h rise =
+    let parts = and_parts (is_nonstarter m && nat_le least (class_of m)) _ h in
+    let both = and_parts (is_nonstarter m) _ parts.0 in
+    let mark : is_starter m ≡ false = not-true _ both.0 in
+    let others = marks_stay (class_of m) last ms text parts.1 rise in
+    let stays : stays_first m (ms ++ text) ≡ true = stays_first-rises m (ms ++ text) others.1 in
+    (rw (mark, stays) others.0, rw (mark, both.1) others.1)
+
+either : (b : Bool) → ((b || true) && true) ≡ true
+either true = refl
+either false = refl
+
+module _ (reading : Reading) (c : ℕ) (l : Letter) (text : List ℕ) where
+  pub starters_stand : HasStarters reading c l → StandsBefore reading c l text
+  starters_stand h = λ before.
+      letter_of_starters reading before c (decompose Nfd c) text refl h.starters h.stands.alone
+      ∙ ap (λ es. es ++ elements_after reading (context_after before (decompose Nfd c)) (nfd text)) (sym h.stands.elements)
+
+  stays_alone : StandsAlone reading c l → all_stay (decompose Nfd c) (flat_map (decompose Nfd) text) ≡ true → StandsBefore reading c l text
+  stays_alone h stay = λ before.
+      letter_that_stays reading before c (decompose Nfd c) text refl stay h.alone
+      ∙ ap (λ es. es ++ elements_after reading (context_after before (decompose Nfd c)) (nfd text)) (sym h.elements)
+
+  pub marked_stand : IsMarkedStarter reading c l → Rises l.class text → StandsBefore reading c l text
+  unfolding all_stay
+  marked_stand h rise =
+      let rest = flat_map (decompose Nfd) text in
+      let marks = marks_stay 0 l.class h.marks rest h.in_order rise in
+      let stay : all_stay (h.base ∷ h.marks) rest ≡ true = rw h.starter marks.0 in
+      stays_alone h.stands (ap (λ ds. all_stay ds rest) h.decomposes ∙ stay)
+
+  pub marks_stand : IsLoneMark reading c l → Rises l.class text → StandsBefore reading c l text
+  unfolding all_stay
+  marks_stand h rise =
+      let rest = flat_map (decompose Nfd) text in
+      let stays : stays_first c rest ≡ true = stays_first-rises c rest (ap (λ k. rises_from k rest) h.class ∙ rise) in
+      let stay : all_stay (c ∷ []) rest ≡ true = rw stays (either (is_starter c)) in
+      stays_alone h.stands (ap (λ ds. all_stay ds rest) h.itself ∙ stay)
+
+pub serves : (reading : Reading) (c : ℕ) (l : Letter) → IsLetter reading c l → Serves reading c l
+serves reading c l h = record {
+  starters = λ kind text. starters_stand reading c l text (h.starters kind);
+  marked = λ kind text. marked_stand reading c l text (h.marked kind);
+  mark = λ kind text. marks_stand reading c l text (h.mark kind);
+  begins = λ begins. let b = h.begins begins in ends_runs c b.first b.more b.decomposes b.starter;
+  safe = λ safe. may_be_cut reading c (h.safe safe);
+}
+
+-- ---- what is kept is hidden in a collator's tables
+
+elements_set : IsSet (List Element)
+elements_set = is_set (hlevel props)
+
+pub Serves-prop : (reading : Reading) (c : ℕ) (l : Letter) → IsProp (Serves reading c l)
+Serves-prop reading c l = hlevel (props, elements_set)
+
+-- what is found there serves
+pub found : {A X : Type 0} → ∥ A ∥₁ → (o : Option X) (P Q : X → Type 0) → ((x : X) → IsProp (Q x)) → ((x : X) → P x → Q x) → (A → IfSome o P) → IfSome o Q
+found kept None P Q prop turn h = tt
+found kept (Some x) P Q prop turn h = ∥∥₁_elim kept (prop x) (λ a. turn x (h a))
+
+-- ---- what a character decomposes to
+
+pub one_item : (xs : List ℕ) (x d : ℕ) → 1 ≤ length xs → length xs < 2 → x ≡ get_or xs 0 d → xs ≡ x ∷ []
+one_item [] x d some few is = absurd (omega arith)
+one_item (y ∷ []) x d some few is = ap (λ z. z ∷ []) (sym is)
+one_item (y ∷ (z ∷ zs)) x d some few is = absurd (omega arith)
+
+pub first_item : (xs : List ℕ) (x d : ℕ) → 1 ≤ length xs → x ≡ get_or xs 0 d → (more : List ℕ) × (xs ≡ x ∷ more)
+first_item [] x d some is = absurd (omega arith)
+first_item (y ∷ ys) x d some is = (ys, ap (λ z. z ∷ ys) (sym is))
+
+-- a text that ended has no marks
+pub nothing_rises : (class : ℕ) → Rises class []
+unfolding rises_from
+nothing_rises class = refl

@@ -1,0 +1,15 @@
+-- The characters that stand before the text that isn't read.
+use Rattle.std.specs.Prelude.{ℕ, List, [], ◌∷◌, ◌++◌, Option, Some, None, flat_map, option_to_list}
+use Rattle.ucd_normal.specs.declared.forms.Form.TheVariants.{Nfd}
+use Rattle.unicode_normalization.specs.Decompose.{decompose}
+use Rattle.icu_elements.specs.TextElements.{last_two}
+use Rattle.icu_cursor.specs.declared.recent_letters.RecentLetters.{RecentLetters}
+
+-- the last characters that were read, in the order of the text
+abbrev pub letters_read : Option ℕ → Option ℕ → List ℕ
+letters_read older None = []
+letters_read older (Some last) = option_to_list older ++ last ∷ []
+
+-- the last two that they decompose to, nearest first
+unfoldable pub context_of : RecentLetters → List ℕ
+context_of r = last_two [] (flat_map (decompose Nfd) (letters_read r.older r.last))

@@ -1,0 +1,164 @@
+//! The elements of an encoded text, one by one.
+
+ghost use Rattle.std.specs.Prelude.{◌≡◌, ◌<◌, ◌≤◌, [], ◌∷◌, ◌++◌, None, length, option_to_list, IfOk, OnOk, MatchBool};
+ghost use Rattle.unicode_normalization.specs.Forms.{nfd};
+ghost use Rattle.icu_elements.specs.TextElements.{elements_of};
+
+use crate::cursor_tables::CursorTables;
+use crate::letter_elements::LetterElements;
+use crate::piece::{next_of_piece, read_piece, split_piece};
+use crate::recent_letters::RecentLetters;
+use crate::stands::stands_before;
+use icu_elements::ElementReader;
+use icu_encodings::EncodedText;
+use icu_entries::CollationElement;
+use icu_shortcuts::LetterKind;
+use std::alloc::AllocError;
+
+/// Reads an encoded text and gives its collation elements, one by one (UTS #10, section 7.2). A letter that gives the same elements
+/// wherever it stands is read from what is kept of it; any other with what follows it up to the next character before which the text
+/// may be cut.
+#[derive(Drop)]
+pub struct ElementCursor<'c, 'd, T> {
+    tables: &'c CursorTables<'d>,
+    text: T,
+    recent: RecentLetters,
+    ready: LetterElements,
+    piece: Option<ElementReader<'d>>,
+}
+
+impl<'c, 'd, T: EncodedText> ElementCursor<'c, 'd, T> {
+    ghost use Rattle.icu_cursor.specs.Cursors.{cursor_reading, cursor_gives};
+    ghost use Rattle.icu_cursor.specs.inner.Ready.{elements_ready, HasNothingReady};
+
+    /// Reads a text, by these tables. Does not allocate.
+    pub fn new(tables: &'c CursorTables<'d>, text: T) -> ElementCursor<'c, 'd, T>
+        ensures { cursor_gives T.text result
+            ≡ elements_of (cursor_reading tables.entry.now) (nfd (T.text text)) }
+    {
+        ElementCursor {
+            tables,
+            text,
+            recent: RecentLetters::new(),
+            ready: LetterElements::none(),
+            piece: None,
+        }
+    }
+
+    /// The next element, or `None` after the last one. Allocates only where a letter has to be read with what stands around it. Fails
+    /// only where an allocation does; discard the cursor then.
+    #[inline]
+    pub fn next(&mut self) -> Result<Option<CollationElement>, AllocError>
+        ensures next { IfOk result (λ next. cursor_gives T.text self.old
+            ≡ option_to_list next ++ cursor_gives T.text self.new) }
+        ensures end { IfOk result (λ next. next ≡ None → cursor_gives T.text self.old ≡ []) }
+    {
+        if let Some(element) = self.take_ready() {
+            return Ok(Some(element));
+        }
+        if let Some(element) = self.take_ascii() {
+            return Ok(Some(element));
+        }
+        self.read_next()
+    }
+
+    /// The next of the elements that stand ready.
+    #[inline]
+    fn take_ready(&mut self) -> Option<CollationElement>
+        ensures next { cursor_gives T.text self.old ≡ option_to_list result ++ cursor_gives T.text self.new }
+        ensures text { self.new.text ≡ self.old.text }
+        ensures end { result ≡ None → elements_ready self.new.ready ≡ [] }
+    {
+        self.ready.take_first()
+    }
+
+    /// The element of the next character, where it is ASCII and has one element, and nothing stands ready.
+    #[inline]
+    fn take_ascii(&mut self) -> Option<CollationElement>
+        requires { elements_ready self.old.ready ≡ [] }
+        ensures next { cursor_gives T.text self.old ≡ option_to_list result ++ cursor_gives T.text self.new }
+    {
+        if self.piece.is_some() {
+            return None;
+        }
+        let tables = self.tables;
+        let (byte, rest) = self.text.split_first_ascii()?;
+        let c = char::from(byte);
+        let letter = tables.kept_letter(c)?;
+        match letter.kind {
+            LetterKind::Starters if letter.count == 1 => {
+                self.text = rest;
+                self.recent.push(c);
+                let elements = &letter.elements[..];
+                Some(elements[0])
+            }
+            _ => None,
+        }
+    }
+
+    /// The next element, or `None` after the last one, of a text whose next character isn't read at once.
+    #[inline(never)]
+    fn read_next(&mut self) -> Result<Option<CollationElement>, AllocError>
+        ensures next { IfOk result (λ next. cursor_gives T.text self.old
+            ≡ option_to_list next ++ cursor_gives T.text self.new) }
+        ensures end { IfOk result (λ next. next ≡ None → cursor_gives T.text self.old ≡ []) }
+    {
+        'turns: loop {
+            if let Some(element) = self.take_read()? {
+                return Ok(Some(element));
+            }
+            if !self.read_on()? {
+                return Ok(None);
+            }
+        }
+    }
+
+    /// The next element of what was read: of a letter's that stand ready, or of a piece's.
+    fn take_read(&mut self) -> Result<Option<CollationElement>, AllocError>
+        ensures next { IfOk result (λ next. cursor_gives T.text self.old
+            ≡ option_to_list next ++ cursor_gives T.text self.new) }
+        ensures text { OnOk result (self.new.text ≡ self.old.text) }
+        ensures end { IfOk result (λ next. next ≡ None → HasNothingReady self.new) }
+    {
+        if let Some(element) = self.take_ready() {
+            return Ok(Some(element));
+        }
+        next_of_piece(&mut self.piece)
+    }
+
+    /// Reads the next letter by itself, or else the piece that it begins. Returns whether there was one.
+    fn read_on(&mut self) -> Result<bool, AllocError>
+        requires { HasNothingReady self.old }
+        ensures same { OnOk result (cursor_gives T.text self.new ≡ cursor_gives T.text self.old) }
+        ensures shorter { IfOk result (λ more. MatchBool more
+            (length (T.text self.new.text) < length (T.text self.old.text))
+            (cursor_gives T.text self.old ≡ [])) }
+    {
+        let Some((c, rest)) = self.text.split_first_char() else {
+            return Ok(false);
+        };
+        self.read_from(c, rest)?;
+        Ok(true)
+    }
+
+    /// Reads a letter by itself, or else the piece that it begins. `rest` is what follows the letter.
+    fn read_from(&mut self, c: char, rest: T) -> Result<(), AllocError>
+        requires nothing { HasNothingReady self.old }
+        requires text { T.text self.old.text ≡ c ∷ T.text rest }
+        ensures same { OnOk result (cursor_gives T.text self.new ≡ cursor_gives T.text self.old) }
+        ensures shorter { OnOk result (length (T.text self.new.text) ≤ length (T.text rest)) }
+    {
+        let letter = self.tables.letter(c);
+        if stands_before(self.tables, &letter, rest) {
+            self.ready = LetterElements::all(letter);
+            self.text = rest;
+            self.recent.push(c);
+            return Ok(());
+        }
+        let (piece, left) = split_piece(self.tables, c, rest)?;
+        let reader = read_piece(self.tables, self.recent, piece.as_slice())?;
+        self.piece = Some(reader);
+        self.text = left;
+        Ok(())
+    }
+}

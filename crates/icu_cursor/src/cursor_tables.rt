@@ -1,0 +1,113 @@
+//! What texts are read by, letter by letter.
+
+ghost use Rattle.std.specs.Prelude.{◌≡◌, ℕ, IfSome, IsTrue};
+ghost use Rattle.icu_elements.specs.Reading.{element_tables, reading_of};
+ghost use Rattle.icu_shortcuts.specs.LetterTables.{AreLetters};
+ghost use Rattle.icu_shortcuts.specs.Named.{NamesAll};
+ghost use Rattle.icu_shortcuts.specs.SafeTables.{safe_reading};
+ghost use Rattle.icu_cursor.specs.inner.Pieces.{MayBeCut};
+ghost use Rattle.icu_cursor.specs.inner.Runs.{IsInRun};
+ghost use Rattle.icu_cursor.specs.inner.Standing.{Serves};
+
+use icu_elements::ElementTables;
+use icu_shortcuts::{Letter, Letters, NamedCharacters, SafePlaces, letter_of};
+use unicode_normalization::Form;
+use unicode_normalization::char::{canonical_combining_class, decomposition};
+
+/// What texts are read by, letter by letter: the tables, and what is kept of the characters that are read most.
+#[derive(Debug, Clone, Copy)]
+pub struct CursorTables<'d> {
+    pub(crate) tables: ElementTables<'d>,
+    pub(crate) numeric_primary: Option<u8>,
+    pub(crate) lithuanian_dot_above: bool,
+    places: SafePlaces<'d>,
+    letters: &'d Letters,
+    ghost places_by: { safe_reading places ≡ reading_of tables numeric_primary lithuanian_dot_above },
+    ghost letters_by: { ∥ AreLetters (reading_of tables numeric_primary lithuanian_dot_above) letters.now ∥₁ },
+}
+
+impl<'d> CursorTables<'d> {
+    ghost use Rattle.icu_cursor.specs.Cursors.{cursor_reading};
+
+    /// By these tables, whose rows name no other characters than `named` has, and with these letters, which were worked out for
+    /// them. `numeric_primary` is the lead byte of numbers, where digits are read as numbers. With `lithuanian_dot_above`, U+0307
+    /// before a diacritic above is silent. Does not allocate.
+    #[tactic(auto, unfolding(crate::specs::Cursors::cursor_reading))]
+    pub fn new(
+        tables: ElementTables<'d>,
+        numeric_primary: Option<u8>,
+        lithuanian_dot_above: bool,
+        named: &'d NamedCharacters,
+        letters: &'d Letters,
+    ) -> CursorTables<'d>
+        requires names { NamesAll named.now (element_tables tables) }
+        requires letters { AreLetters (reading_of tables numeric_primary lithuanian_dot_above) letters.now }
+        ensures { cursor_reading result ≡ reading_of tables.entry numeric_primary lithuanian_dot_above }
+    {
+        let places = SafePlaces::new(tables, numeric_primary, lithuanian_dot_above, named);
+        CursorTables {
+            tables,
+            numeric_primary,
+            lithuanian_dot_above,
+            places,
+            letters,
+        }
+    }
+
+    /// What is kept of a character, if it is one of those that are read most.
+    #[inline]
+    #[tactic(auto, unfolding(crate::specs::Cursors::cursor_reading))]
+    pub(crate) fn kept_letter(&self, c: char) -> Option<&Letter>
+        ensures { IfSome result (λ l. Serves (cursor_reading self.now) c l.now) }
+    {
+        self.letters.get(c)
+    }
+
+    /// What is known of a character.
+    #[tactic(auto, unfolding(crate::specs::Cursors::cursor_reading))]
+    pub(crate) fn letter(&self, c: char) -> Letter
+        ensures { Serves (cursor_reading self.now) c result }
+    {
+        match self.kept_letter(c) {
+            Some(letter) => *letter,
+            None => letter_of(self.places, c),
+        }
+    }
+
+    /// Whether a text may be cut before this character. False is right of any character.
+    #[tactic(auto, unfolding(crate::specs::Cursors::cursor_reading))]
+    pub(crate) fn is_safe(&self, c: char) -> bool
+        ensures { IsTrue result → MayBeCut (cursor_reading self.now) c }
+    {
+        match self.kept_letter(c) {
+            Some(letter) => letter.is_safe,
+            None => self.places.is_safe(c),
+        }
+    }
+
+    /// The class of a character in a run of marks: 0 where its decomposition begins with a starter, which ends the run. `None`
+    /// where it decomposes to several characters, the first of which is a mark.
+    #[tactic(auto, unfolding(crate::specs::Cursors::cursor_reading))]
+    pub(crate) fn class_in_run(&self, c: char) -> Option<u8>
+        ensures { IfSome result (λ class. IsInRun c class) }
+    {
+        if let Some(letter) = self.kept_letter(c) {
+            if letter.begins_with_starter {
+                return Some(0);
+            }
+        }
+        class_of_first(c)
+    }
+}
+
+/// The same, by the character's decomposition.
+fn class_of_first(c: char) -> Option<u8>
+    ensures { IfSome result (λ class. IsInRun c class) }
+{
+    let mut room = [c; 3];
+    match decomposition(c, Form::Nfd, &mut room) {
+        [first] => Some(canonical_combining_class(*first)),
+        [first, ..] if canonical_combining_class(*first) == 0 => Some(0),
+        _ => None,
+    }
+}

@@ -1,0 +1,13 @@
+//! The collation elements of an encoded text, one by one (UTS #10, section 7.2): letters that stand by themselves are read from what is
+//! kept of them, and all else piece by piece.
+#![tactic(auto)]
+
+pub mod cursor;
+pub mod cursor_tables;
+mod letter_elements;
+mod piece;
+mod recent_letters;
+mod stands;
+
+pub use cursor::ElementCursor;
+pub use cursor_tables::CursorTables;

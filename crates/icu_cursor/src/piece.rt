@@ -1,0 +1,78 @@
+//! A piece of a text, up to the next safe place.
+
+ghost use Rattle.std.specs.Prelude.{◌≡◌, ◌≤◌, ◌∷◌, [], ◌++◌, None, length, IfOk, option_to_list};
+ghost use Rattle.unicode_normalization.specs.Forms.{nfd};
+ghost use Rattle.icu_elements.specs.ElementReaders.{elements_to_come};
+ghost use Rattle.icu_elements.specs.TextElements.{elements_after};
+ghost use Rattle.icu_cursor.specs.Cursors.{cursor_reading};
+ghost use Rattle.icu_cursor.specs.inner.Contexts.{context_of};
+ghost use Rattle.icu_cursor.specs.inner.Pieces.{IsPiece, piece_gives};
+
+use crate::cursor_tables::CursorTables;
+use crate::recent_letters::RecentLetters;
+use icu_elements::ElementReader;
+use icu_encodings::EncodedText;
+use icu_entries::CollationElement;
+use std::alloc::AllocError;
+use unicode_normalization::slice::extend_nfd;
+
+/// The piece that begins with a character, and ends before the next character of the text before which it may be cut; and the text
+/// from there on.
+pub(crate) fn split_piece<T: EncodedText>(
+    tables: &CursorTables<'_>,
+    first: char,
+    text: T,
+) -> Result<(Vec<char>, T), AllocError>
+    ensures piece { IfOk result (λ p. IsPiece (cursor_reading tables.now) (first ∷ T.text text) p.0.items (T.text p.1)) }
+    ensures rest { IfOk result (λ p. length (T.text p.1) ≤ length (T.text text)) }
+{
+    let mut piece = Vec::new(tables.tables.allocator());
+    piece.push(first)?;
+    let mut rest = text;
+    'chars: while let Some((c, after)) = rest.split_first_char() {
+        if tables.is_safe(c) {
+            return Ok((piece, rest));
+        }
+        piece.push(c)?;
+        rest = after;
+    }
+    Ok((piece, rest))
+}
+
+/// Reads the elements of a piece that comes after these characters.
+pub(crate) fn read_piece<'d>(
+    tables: &CursorTables<'d>,
+    before: RecentLetters,
+    piece: &[char],
+) -> Result<ElementReader<'d>, AllocError>
+    ensures { IfOk result (λ r. elements_to_come r ≡ elements_after (cursor_reading tables.now) (context_of before) (nfd piece.now)) }
+{
+    let alloc = tables.tables.allocator();
+    let before = before.decomposed(alloc)?;
+    let mut text = Vec::new(alloc);
+    extend_nfd(&mut text, piece)?;
+    Ok(ElementReader::after(
+        before.as_slice(),
+        text,
+        tables.tables,
+        tables.numeric_primary,
+        tables.lithuanian_dot_above,
+    ))
+}
+
+/// The next element of a piece. After its last one there is no piece any more.
+pub(crate) fn next_of_piece(
+    piece: &mut Option<ElementReader<'_>>,
+) -> Result<Option<CollationElement>, AllocError>
+    ensures next { IfOk result (λ next. piece_gives piece.old ≡ option_to_list next ++ piece_gives piece.new) }
+    ensures end { IfOk result (λ next. next ≡ None → piece_gives piece.new ≡ []) }
+{
+    if let Some(reader) = piece {
+        let next = reader.next()?;
+        if next.is_some() {
+            return Ok(next);
+        }
+    }
+    *piece = None;
+    Ok(None)
+}

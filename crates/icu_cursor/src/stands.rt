@@ -1,0 +1,54 @@
+//! Whether a letter may be read by itself.
+
+ghost use Rattle.std.specs.Prelude.{ℕ, IsTrue};
+ghost use Rattle.icu_cursor.specs.Cursors.{cursor_reading};
+ghost use Rattle.icu_cursor.specs.inner.Runs.{Rises};
+ghost use Rattle.icu_cursor.specs.inner.Standing.{Serves, StandsBefore};
+
+use crate::cursor_tables::CursorTables;
+use icu_encodings::EncodedText;
+use icu_shortcuts::{Letter, LetterKind};
+
+/// How many marks of a run are looked at, at most. A longer run is read as a piece, so that no mark is looked at more often than this.
+const MARKS_AHEAD: u32 = 6;
+
+/// Whether the classes of the marks that a text begins with rise from this one, and are few. False is right of any text.
+fn rises<T: EncodedText>(tables: &CursorTables<'_>, class: u8, text: T) -> bool
+    ensures { IsTrue result → Rises class (T.text text) }
+{
+    let mut last = class;
+    let mut rest = text;
+    'marks: for _ in 0..MARKS_AHEAD {
+        let Some((c, after)) = rest.split_first_char() else {
+            return true;
+        };
+        let Some(next) = tables.class_in_run(c) else {
+            return false;
+        };
+        if next == 0 {
+            return true;
+        }
+        if next < last {
+            return false;
+        }
+        last = next;
+        rest = after;
+    }
+    false
+}
+
+/// Whether a letter gives its own elements before a text, and changes nothing of the text's. False is right of any letter.
+pub(crate) fn stands_before<T: EncodedText>(
+    tables: &CursorTables<'_>,
+    letter: &Letter,
+    text: T,
+) -> bool
+    ensures { (c : ℕ) → Serves (cursor_reading tables.now) c letter.now
+        → IsTrue result → StandsBefore (cursor_reading tables.now) c letter.now (T.text text) }
+{
+    match letter.kind {
+        LetterKind::Unknown => false,
+        LetterKind::Starters => true,
+        LetterKind::Marked | LetterKind::Mark => rises(tables, letter.class, text),
+    }
+}
