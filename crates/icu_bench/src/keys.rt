@@ -51,7 +51,7 @@ impl Row {
 }
 
 /// Keys of each form, empty ones, and one of each level after the first.
-fn rows() -> [Row; 10] {
+fn rows() -> [Row; 12] {
     [
         Row::new(Strength::Primary, ""),
         Row::new(Strength::Identical, ""),
@@ -68,6 +68,14 @@ fn rows() -> [Row; 10] {
         Row {
             case_first: CollationCaseFirst::Upper,
             ..Row::new(Strength::Tertiary, "aAb")
+        },
+        Row {
+            case_first: CollationCaseFirst::Lower,
+            ..Row::new(Strength::Tertiary, "áAb")
+        },
+        Row {
+            alternate: AlternateHandling::Shifted,
+            ..Row::new(Strength::Tertiary, "a b")
         },
         Row {
             alternate: AlternateHandling::Shifted,

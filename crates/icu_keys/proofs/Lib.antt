@@ -10,3 +10,4 @@ pub mod HeldLemmas
 pub mod PrimarySteps
 pub mod CommonSteps
 pub mod WeightSteps
+pub mod FormWeights

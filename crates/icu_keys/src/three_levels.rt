@@ -1,10 +1,10 @@
 //! The primary, secondary and tertiary level of a key, written in one pass over the weights of elements.
 
-ghost use Rattle.std.specs.Prelude.{◌≡◌, ℕ, ◌<◌, List, [], ◌++◌, OnOk};
+ghost use Rattle.std.specs.Prelude.{◌≡◌, ℕ, ◌<◌, ◌^◌, List, [], ◌++◌, OnOk};
 ghost use Rattle.icu_levels.specs.Keys.{part_bytes, closed};
 ghost use Rattle.icu_levels.specs.Primaries.{Compression, primary_level};
 ghost use Rattle.icu_levels.specs.Secondaries.{secondary_level};
-ghost use Rattle.icu_levels.specs.Tertiaries.{tertiary_level};
+ghost use Rattle.icu_levels.specs.Tertiaries.{moved_tertiary, tertiary_level};
 ghost use Rattle.icu_levels.specs.declared.forms.TertiaryForm.TheVariants.{WithoutCase};
 ghost use Rattle.icu_keys.specs.HeldRests.{held_secondaries, held_tertiaries, held_tertiary_form};
 ghost use Rattle.icu_keys.specs.KeyWrites.{KeyFeeds};
@@ -53,11 +53,10 @@ fn push_secondary(level: &mut HeldSecondaries, weight: u16) -> Result<(), AllocE
     level.push(weight)
 }
 
-/// Adds a tertiary weight without case bits, unless it is 0.
+/// Adds a tertiary weight as the form has it, unless it is 0.
 #[inline(always)]
 fn push_tertiary(level: &mut HeldTertiaries, weight: u16) -> Result<(), AllocError>
-    requires form { held_tertiary_form level.old ≡ WithoutCase }
-    requires fits { weight < 0x4000 }
+    requires { moved_tertiary (held_tertiary_form level.old) weight < 2 ^ 16 }
     ensures form { held_tertiary_form level.new ≡ held_tertiary_form level.old }
     ensures bytes { OnOk result ((ws : List ℕ) →
         held_tertiaries level.old (weight_before weight ws) ≡ held_tertiaries level.new ws) }
@@ -68,8 +67,8 @@ fn push_tertiary(level: &mut HeldTertiaries, weight: u16) -> Result<(), AllocErr
     level.push(weight)
 }
 
-/// Writes the primary, secondary and tertiary level of a text, secondaries from the front and tertiaries without case
-/// bits (UTS #10, section 7.3 "Form Sort Keys").
+/// Writes the primary, secondary and tertiary level of a text, secondaries from the front and tertiaries in one of their
+/// forms (UTS #10, section 7.3 "Form Sort Keys").
 ///
 /// It is fed the three weights of one element after another, and closed at the end. Primaries go straight to the sink,
 /// and the other two levels are held until their end.
@@ -78,29 +77,43 @@ pub struct ThreeLevelWriter {
     primaries: PrimaryWriter,
     secondaries: HeldSecondaries,
     tertiaries: HeldTertiaries,
-    ghost without_case: { held_tertiary_form tertiaries ≡ WithoutCase },
 }
 
 impl ThreeLevelWriter {
-    ghost use Rattle.icu_keys.specs.ThreeLevels.{three_levels_rest};
+    ghost use Rattle.icu_keys.specs.ThreeLevels.{three_levels_form, three_levels_rest};
 
-    /// The writer of three levels, with nothing written. It allocates nothing.
+    /// The writer of three levels whose tertiaries are without case bits, with nothing written. It allocates nothing.
     pub fn new(alloc: Global) -> Self
-        ensures { (c : Compression) (lists : ThreeLists) → three_levels_rest c result lists
+        ensures form { three_levels_form result ≡ WithoutCase }
+        ensures begins { (c : Compression) (lists : ThreeLists) → three_levels_rest c result lists
             ≡ primary_level c 0 lists.primaries
             ++ (part_bytes (closed (secondary_level lists.secondaries))
             ++ part_bytes (closed (tertiary_level WithoutCase lists.tertiaries))) }
     {
+        ThreeLevelWriter::with_form(alloc, TertiaryForm::WithoutCase)
+    }
+
+    /// The writer of three levels with this form of tertiaries, with nothing written. It allocates nothing.
+    pub fn with_form(alloc: Global, form: TertiaryForm) -> Self
+        ensures form { three_levels_form result ≡ form }
+        ensures begins { (c : Compression) (lists : ThreeLists) → three_levels_rest c result lists
+            ≡ primary_level c 0 lists.primaries
+            ++ (part_bytes (closed (secondary_level lists.secondaries))
+            ++ part_bytes (closed (tertiary_level form lists.tertiaries))) }
+    {
         ThreeLevelWriter {
             primaries: PrimaryWriter::new(),
             secondaries: HeldSecondaries::new(alloc),
-            tertiaries: HeldTertiaries::new(alloc, TertiaryForm::WithoutCase),
+            tertiaries: HeldTertiaries::new(alloc, form),
         }
     }
 
     /// Writes what the weights of the next element decide: the primary as it is before reordering, and 0 for each level
     /// that the element has nothing for. After an error, discard the writer.
+    ///
+    /// A tertiary below 4000, as one without case bits is, fits in each form.
     #[inline(always)]
+    #[tactic(auto, using(crate::proofs::FormWeights::small_fits))]
     pub fn push<S: CollationKeySink, C: PrimaryCompression>(
         &mut self,
         sink: &mut S,
@@ -113,6 +126,30 @@ impl ThreeLevelWriter {
         requires sound { S.is_sound sink.old state.old }
         requires fits { tertiary < 0x4000 }
         ensures sound { S.is_sound sink.new state.new }
+        ensures form { three_levels_form self.new ≡ three_levels_form self.old }
+        ensures bytes { KeyFeeds S.took S.refused sink.old state.old
+            (λ (lists : ThreeLists). three_levels_rest (C.compression compression.now) self.old
+            (element_before primary secondary tertiary lists))
+            (three_levels_rest (C.compression compression.now) self.new) result sink.new state.new }
+    {
+        self.push_in_form(sink, state, compression, primary, secondary, tertiary)
+    }
+
+    /// The same with a tertiary as the form has it, which may have case bits. Weights of a form fit its moved leads.
+    #[inline(always)]
+    pub fn push_in_form<S: CollationKeySink, C: PrimaryCompression>(
+        &mut self,
+        sink: &mut S,
+        state: &mut S::State,
+        compression: &C,
+        primary: u32,
+        secondary: u16,
+        tertiary: u16,
+    ) -> Result<(), SortKeyError<S::Error>>
+        requires sound { S.is_sound sink.old state.old }
+        requires fits { moved_tertiary (three_levels_form self.old) tertiary < 2 ^ 16 }
+        ensures sound { S.is_sound sink.new state.new }
+        ensures form { three_levels_form self.new ≡ three_levels_form self.old }
         ensures bytes { KeyFeeds S.took S.refused sink.old state.old
             (λ (lists : ThreeLists). three_levels_rest (C.compression compression.now) self.old
             (element_before primary secondary tertiary lists))

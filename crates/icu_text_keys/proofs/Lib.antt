@@ -1,3 +1,4 @@
 pub mod PartLemmas
 pub mod SourceLemmas
 pub mod CaseLemmas
+pub mod ThreeLevelLemmas

@@ -1,10 +1,12 @@
 //! What each level has for an element.
 
-ghost use Rattle.std.specs.Prelude.{◌≡◌, ◌<◌, ◌≤◌, ◌+◌, ◌^◌};
+ghost use Rattle.std.specs.Prelude.{◌≡◌, ◌≢◌, ◌<◌, ◌≤◌, ◌+◌, ◌^◌, List, ◌∷◌};
 ghost use Rattle.icu_levels.specs.Tertiaries.{moved_tertiary};
+ghost use Rattle.icu_entries.specs.Elements.{Element};
 ghost use Rattle.icu_keys.specs.Cases.{rank_of};
 ghost use Rattle.icu_keys.specs.QuaternaryWeights.{weight_of};
-ghost use Rattle.icu_order.specs.Levels.{case_reads, case_rank, masked_tertiary, tertiary_in, quaternary_weight};
+ghost use Rattle.icu_keys.specs.ThreeLists.{weight_before};
+ghost use Rattle.icu_order.specs.Levels.{case_reads, case_rank, masked_tertiary, tertiary_in, tertiaries, quaternary_weight};
 
 use icu_entries::CollationElement;
 use icu_keys::cases::LetterCase;
@@ -58,6 +60,7 @@ pub fn masked_tertiary(form: TertiaryForm, element: CollationElement) -> u16
 pub(crate) fn tertiary_weight(form: TertiaryForm, element: CollationElement) -> u16
     requires { element.lower < 0xC000 }
     ensures value { result ≡ tertiary_in form element }
+    ensures some { masked_tertiary form element ≢ 0 → result ≢ 0 }
     ensures fits { moved_tertiary form result < 2 ^ 16 }
 {
     let masked = masked_tertiary(form, element);
@@ -71,6 +74,20 @@ pub(crate) fn tertiary_weight(form: TertiaryForm, element: CollationElement) -> 
         }
         _ => masked,
     }
+}
+
+/// What a form of the tertiary level has for an element, or 0 where it has nothing.
+#[inline(always)]
+#[tactic(auto, unfolding(icu_order::specs::Levels::weights))]
+pub(crate) fn tertiary_or_none(form: TertiaryForm, element: CollationElement) -> u16
+    requires { element.lower < 0xC000 }
+    ensures value { (es : List Element) → tertiaries form (element ∷ es) ≡ weight_before result (tertiaries form es) }
+    ensures fits { moved_tertiary form result < 2 ^ 16 }
+{
+    if masked_tertiary(form, element) == 0 {
+        return 0;
+    }
+    tertiary_weight(form, element)
 }
 
 /// The quaternary weight of an element that stayed.

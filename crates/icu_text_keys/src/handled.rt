@@ -1,9 +1,11 @@
 //! The elements of a text as variable weighting leaves them (UTS #10, section 4 "Variable Weighting").
 
-ghost use Rattle.std.specs.Prelude.{List, IfOk};
+ghost use Rattle.std.specs.Prelude.{◌≡◌, List, IfOk, IfErr};
 ghost use Rattle.icu_order.specs.Handled.{HandledElement};
+ghost use Rattle.icu_text_keys.specs.HandledSources.{GivesNext};
 
 use icu_entries::CollationElement;
+use icu_keys::SortKeyError;
 use std::alloc::AllocError;
 
 /// An element that stayed, or the primary of one that is shifted.
@@ -25,4 +27,18 @@ pub trait HandledSource {
     /// The next element, or `None` after the last one. Fails only where an allocation does.
     fn next_handled(&mut self) -> Result<Option<Handled>, AllocError>
         ensures { IfOk result (λ next. GivesNext (handled_left self.old) next (handled_left self.new)) };
+}
+
+/// The next element, with the error of a key.
+#[inline]
+pub(crate) fn next_element<H: HandledSource, E>(
+    elements: &mut H,
+) -> Result<Option<Handled>, SortKeyError<E>>
+    ensures next { IfOk result (λ next. GivesNext (H.handled_left elements.old) next (H.handled_left elements.new)) }
+    ensures memory { IfErr result (λ error. error ≡ SortKeyError.NoMemory) }
+{
+    match elements.next_handled() {
+        Ok(next) => Ok(next),
+        Err(_) => Err(SortKeyError::NoMemory),
+    }
 }

@@ -14,6 +14,7 @@ pub mod later_levels;
 pub mod laws;
 mod level;
 pub mod parts;
+mod three_level_key;
 pub mod whole_key;
 pub mod writer;
 

@@ -1,31 +1,21 @@
 //! The key of a text, from its elements as they are handled.
 
-ghost use Rattle.std.specs.Prelude.{◌≡◌, IfOk, IfErr, List};
+ghost use Rattle.std.specs.Prelude.{List};
 ghost use Rattle.std.specs.List.{AllByRecursion};
 ghost use Rattle.icu_levels.specs.Keys.{key_bytes};
 ghost use Rattle.icu_keys.specs.KeyWrites.{KeyWrites, WritesKey};
 ghost use Rattle.icu_order.specs.Levels.{level_lists};
-ghost use Rattle.icu_text_keys.specs.HandledSources.{HasCase, GivesNext};
+ghost use Rattle.icu_text_keys.specs.HandledSources.{HasCase};
 ghost use Rattle.icu_text_keys.specs.KeyRests.{key_rest};
 
-use crate::handled::{Handled, HandledSource};
+use crate::handled::{HandledSource, next_element};
+use crate::three_level_key::{three_level_tertiaries, write_three_levels};
 use crate::writer::KeyWriter;
 use icu_keys::parts::end_key;
 use icu_keys::primaries::PrimaryCompression;
 use icu_keys::{CollationKeySink, SortKeyError};
 use icu_levels::forms::KeyForm;
 use std::alloc::Global;
-
-/// The next element, with the error of a key.
-fn next_element<H: HandledSource, E>(elements: &mut H) -> Result<Option<Handled>, SortKeyError<E>>
-    ensures next { IfOk result (λ next. GivesNext (H.handled_left elements.old) next (H.handled_left elements.new)) }
-    ensures memory { IfErr result (λ error. error ≡ SortKeyError.NoMemory) }
-{
-    match elements.next_handled() {
-        Ok(next) => Ok(next),
-        Err(_) => Err(SortKeyError::NoMemory),
-    }
-}
 
 /// Writes the rest of a key, of the elements that are still to come.
 fn write_elements<S: CollationKeySink, C: PrimaryCompression, H: HandledSource>(
@@ -47,6 +37,35 @@ fn write_elements<S: CollationKeySink, C: PrimaryCompression, H: HandledSource>(
         writer.push(sink, state, compression, element)?;
     }
     writer.close(sink, state, characters)
+}
+
+/// Writes all levels of a key: the common ones by the writer of three levels.
+fn write_levels<S: CollationKeySink, C: PrimaryCompression, H: HandledSource>(
+    alloc: Global,
+    sink: &mut S,
+    state: &mut S::State,
+    compression: &C,
+    form: KeyForm,
+    elements: &mut H,
+    characters: &[char],
+) -> Result<(), SortKeyError<S::Error>>
+    requires sound { S.is_sound sink.old state.old }
+    requires cases { AllByRecursion HasCase (H.handled_left elements.old) }
+    ensures sound { S.is_sound sink.new state.new }
+    ensures bytes { KeyWrites S.took S.refused sink.old state.old
+        (key_bytes (C.compression compression.now) form
+        (level_lists (C.compression compression.now).reorder form (H.handled_left elements.old) characters.now))
+        result sink.new state.new }
+{
+    match three_level_tertiaries(form) {
+        Some(tertiary) => {
+            write_three_levels(alloc, sink, state, compression, tertiary, elements)
+        }
+        None => {
+            let writer = KeyWriter::begin(alloc, form);
+            write_elements(sink, state, compression, writer, elements, characters)
+        }
+    }
 }
 
 /// Writes the key of a text to a sink, and ends it, from the state that keys begin with (UTS #10, section 7.3 "Form Sort
@@ -71,7 +90,14 @@ pub fn write_key<S: CollationKeySink, C: PrimaryCompression, H: HandledSource>(
         result sink.new }
 {
     let mut state = S::State::default();
-    let writer = KeyWriter::begin(alloc, form);
-    let written = write_elements(sink, &mut state, compression, writer, elements, characters);
+    let written = write_levels(
+        alloc,
+        sink,
+        &mut state,
+        compression,
+        form,
+        elements,
+        characters,
+    );
     end_key(sink, state, written)
 }
