@@ -8,7 +8,7 @@ ghost use Rattle.icu_options.specs.Metadata.{metadata_settings, is_backward};
 ghost use Rattle.icu_entries.specs.declared.error.DataErrorKind.TheVariants.{NoMemory};
 ghost use Rattle.icu_checks.specs.Checked.{checked_tables};
 ghost use Rattle.icu_checks.specs.GoodTables.{IsGoodTables, IsTrueRefusal};
-ghost use Rattle.icu_elements.specs.ElementReaders.{elements_to_come};
+ghost use Rattle.icu_cursor.specs.Cursors.{cursor_reading};
 ghost use Rattle.icu_elements.specs.Reading.{element_tables};
 ghost use Rattle.icu_elements.specs.TextElements.{elements_of};
 ghost use Rattle.icu_order.specs.Forms.{form_by, last_variable_by};
@@ -20,10 +20,10 @@ ghost use Rattle.icu_shortcuts.specs.LetterTables.{AreLetters};
 ghost use Rattle.icu_shortcuts.specs.SafeTables.{safe_reading};
 ghost use Rattle.unicode_normalization.specs.Forms.{nfd};
 
-use crate::handled::{HandledElements, HandledReader};
-use crate::texts::decomposed;
+use crate::handled::{HandledElements, HandledText};
 use icu_checks::{CheckedTables, load_tables};
-use icu_elements::{ElementReader, ElementTables, all_elements};
+use icu_cursor::{CursorTables, ElementCursor};
+use icu_elements::{ElementTables, all_elements};
 use icu_encodings::{Characters, EncodedText};
 use icu_entries::{CollationElement, DataError, DataErrorKind, DataTable};
 use icu_levels::forms::{KeyForm, SecondaryForm};
@@ -262,37 +262,34 @@ impl<'a> CollatorBorrowed<'a> {
         )
     }
 
-    /// Reads the elements of a text, as the settings handle variable ones.
-    pub(crate) fn handled_text<T: EncodedText>(
-        &self,
-        text: T,
-    ) -> Result<HandledReader<'a>, AllocError>
-        ensures { IfOk result (λ source. handled_to_come source
-            ≡ handled_by (tables_borrowed self.now) (settings_borrowed self.now) (nfd (T.text text))) }
+    /// What texts are read by.
+    pub(crate) fn cursor_tables(&self) -> CursorTables<'a>
+        ensures { cursor_reading result ≡ reading_by (tables_borrowed self.now) (settings_borrowed self.now) }
     {
-        let text = decomposed(self.tables.allocator(), text)?;
-        Ok(self.handled_chars(text))
-    }
-
-    /// The same of a decomposed text.
-    pub(crate) fn handled_chars(&self, text: Vec<char>) -> HandledReader<'a>
-        ensures { handled_to_come result
-            ≡ handled_by (tables_borrowed self.now) (settings_borrowed self.now) text.items }
-    {
-        let handling = self.settings.alternate_handling();
-        HandledReader::new(self.element_reader(text), handling, self.last_variable())
-    }
-
-    /// Reads the elements of a decomposed text.
-    fn element_reader(&self, text: Vec<char>) -> ElementReader<'a>
-        ensures { let reading = reading_by (tables_borrowed self.now) (settings_borrowed self.now) in
-            elements_to_come result ≡ elements_of reading text.items }
-    {
-        ElementReader::new(
-            text,
+        CursorTables::new(
             self.tables(),
             self.numeric_primary(),
             self.tables.metadata().lithuanian_dot_above(),
+            self.named,
+            self.letters,
+        )
+    }
+
+    /// Reads the elements of a text, as the settings handle variable ones.
+    pub(crate) fn handled_text<'c, T: EncodedText>(
+        &self,
+        tables: &'c CursorTables<'a>,
+        text: T,
+    ) -> HandledText<'c, 'a, T>
+        requires { cursor_reading tables.now ≡ reading_by (tables_borrowed self.now) (settings_borrowed self.now) }
+        ensures { handled_to_come T.text result
+            ≡ handled_by (tables_borrowed self.now) (settings_borrowed self.now) (nfd (T.text text)) }
+    {
+        let handling = self.settings.alternate_handling();
+        HandledText::new(
+            ElementCursor::new(tables, text),
+            handling,
+            self.last_variable(),
         )
     }
 

@@ -53,8 +53,9 @@ impl<'a> CollatorBorrowed<'a> {
             (level_weights level.entry (handled_by all settings (nfd (L.text left))))
             (level_weights level.entry (handled_by all settings (nfd (R.text right))))) }
     {
-        let mut left = self.handled_text(left)?;
-        let mut right = self.handled_text(right)?;
+        let tables = self.cursor_tables();
+        let mut left = self.handled_text(&tables, left);
+        let mut right = self.handled_text(&tables, right);
         level.compare(&mut left, &mut right)
     }
 
@@ -179,8 +180,9 @@ impl<'a> CollatorBorrowed<'a> {
         ensures { let all = tables_borrowed self.now in let settings = settings_borrowed self.now in
             IfOk result (λ same. IsTrue same → handled_by all settings (nfd (L.text left)) ≡ handled_by all settings (nfd (R.text right))) }
     {
-        let mut left = self.handled_text(left)?;
-        let mut right = self.handled_text(right)?;
+        let tables = self.cursor_tables();
+        let mut left = self.handled_text(&tables, left);
+        let mut right = self.handled_text(&tables, right);
         give_the_same(&mut left, &mut right)
     }
 
