@@ -12,7 +12,8 @@ use Rattle.icu_levels.proofs.Order.{less_number, more_number}
 use Rattle.icu_entries.specs.Elements.{Element}
 use Rattle.icu_entries.specs.ElementConditions.{separator_primary}
 use Rattle.icu_provider.specs.CollatorTables.{CollatorTables, reorder}
-use Rattle.icu_elements.specs.TextElements.{Reading, elements_of}
+use Rattle.icu_elements.specs.TextElements.{Reading, elements_of, elements_after, elements_along}
+use Rattle.icu_cuts.proofs.NfdLemmas.{nfd-nil}
 use Rattle.icu_cuts.specs.Alone.{elements_of_char}
 use Rattle.icu_cuts.specs.ReadingLaws.{FirstStartersLead}
 use Rattle.icu_shortcuts.specs.Letters.{LeadsWith as LetterLeads}
@@ -25,6 +26,9 @@ use Rattle.icu_order.specs.TextOrder.{reading_by, handled_by, lists_by, text_ord
 use Rattle.icu_comparison.specs.inner.Tails.{IsFirst, LeadsWith, unequal_order}
 
 -- ---- the first element
+
+pub above_nothing : (last p : ℕ) → last < p → p ≢ 0
+above_nothing last p above = λ e. grind (arith)
 
 first_stays : (handling : AlternateHandling) (last : ℕ) (x : Element) (xs : List Element) → last < x.primary
     → handled handling last false (x ∷ xs) ≡ stayed x ∷ handled handling last false xs
@@ -64,9 +68,14 @@ module _ (all : CollatorTables) (settings : Settings) (law : FirstStartersLead) 
           ∙ first_counts h.element _ nonzero in
       subst (IsFirst p) (sym list) (h.leading, λ e. nonzero (h.leading ∙ e))
 
-pub nothing_leads : (all : CollatorTables) (settings : Settings) → elements_of (reading_by all settings) (nfd []) ≡ [] → LeadsWith all settings [] 0
+no_elements : (reading : Reading) → elements_of reading (nfd []) ≡ []
+unfolding elements_after elements_along
+no_elements reading = ap (elements_of reading) nfd-nil
+
+pub nothing_leads : (all : CollatorTables) (settings : Settings) → LeadsWith all settings [] 0
 unfolding LeadsWith handled weights
-nothing_leads all settings e = rw e refl
+nothing_leads all settings =
+    subst (λ es. IsFirst 0 (primaries (stayed_elements (handled settings.alternate_handling (last_variable_by all settings) false es)))) (sym (no_elements (reading_by all settings))) refl
 
 -- ---- texts that may follow others
 
@@ -95,15 +104,15 @@ chosen ps qs true o h = tt
 chosen ps qs false o h = h refl
 
 heads_decide : (x y : ℕ) (xs ys : List ℕ) → IfSome (unequal_order x y) (Decides (x ∷ xs) (y ∷ ys))
-heads_decide x y xs ys = chosen _ _ (x == y) (nat_cmp x y) (λ n. ⊎_elim (λ e. absurd (eqb-false x y n e))
+heads_decide x y xs ys = chosen (x ∷ xs) (y ∷ ys) (x == y) (nat_cmp x y) (λ n. ⊎_elim (λ e. absurd (eqb-false x y n e))
     (⊎_elim (λ l. rw (less_number x y l) (refl, λ e. cc)) (λ l. rw (more_number x y l) (refl, λ e. cc))) (cases_order x y))
 
 -- one of the two is empty
 ends_decide : (r : ℕ → ℕ) (p q : ℕ) (ps qs : List ℕ) → IsFirst p ps → IsFirst q qs → (p ≡ 0) ⊎ (q ≡ 0)
     → IfSome (unequal_order p q) (Decides (map r ps) (map r qs))
 ends_decide r p q [] [] h k e = rw (h, k) tt
-ends_decide r p q [] (y ∷ ys) h k e = chosen _ _ (p == q) (nat_cmp p q) (λ n. rw (less_number p q (grind (arith))) (refl, λ e. cc))
-ends_decide r p q (x ∷ xs) [] h k e = chosen _ _ (p == q) (nat_cmp p q) (λ n. rw (more_number p q (grind (arith))) (refl, λ e. cc))
+ends_decide r p q [] (y ∷ ys) h k e = chosen [] (map r (y ∷ ys)) (p == q) (nat_cmp p q) (λ n. rw (less_number p q (grind (arith))) (refl, λ e. cc))
+ends_decide r p q (x ∷ xs) [] h k e = chosen (map r (x ∷ xs)) [] (p == q) (nat_cmp p q) (λ n. rw (more_number p q (grind (arith))) (refl, λ e. cc))
 ends_decide r p q (x ∷ xs) (y ∷ ys) h k e = absurd (⊎_elim (λ z. h.1 z) (λ z. k.1 z) e)
 
 -- none is

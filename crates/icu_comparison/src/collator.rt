@@ -118,7 +118,7 @@ impl Collator {
 
 /// What is kept beside the tables. Where an allocation fails, that is said of the root.
 fn refused_as_root<T>(kept: Result<T, AllocError>) -> Result<T, DataError>
-    ensures kept { IfOk kept (λ x. result ≡ Ok x) }
+    ensures kept { IfOk result (λ x. kept ≡ Ok x) }
     ensures refusal { IfErr result (λ e. e.kind ≡ NoMemory) }
 {
     match kept {

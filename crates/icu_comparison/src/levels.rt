@@ -1,6 +1,6 @@
 //! The levels that are compared from the front, weight by weight.
 
-ghost use Rattle.std.specs.Prelude.{◌≡◌, ◌≤◌, ◌++◌, ◌+◌, [], length, option_to_list, IfOk, IfSome, None};
+ghost use Rattle.std.specs.Prelude.{◌≡◌, ◌≤◌, ◌∷◌, ◌+◌, [], length, IfOk, IfSome, MatchOption};
 ghost use Rattle.icu_levels.specs.ListOrder.{list_order};
 ghost use Rattle.icu_order.specs.Levels.{case_rank, tertiary_in, quaternary_weight};
 ghost use Rattle.icu_provider.specs.CollatorTables.{reorder_by};
@@ -163,9 +163,8 @@ impl<'d> Level<'d> {
     /// The next weight of a text on this level, or `None` after the last one.
     #[tactic(auto, unfolding(crate::specs::inner::LevelWeights::level_weights))]
     fn next<S: HandledSource>(self, elements: &mut S) -> Result<Option<u64>, AllocError>
-        ensures weights { IfOk result (λ w. level_weights self.entry (S.handled_left elements.old)
-            ≡ option_to_list w ++ level_weights self.entry (S.handled_left elements.new)) }
-        ensures end { IfOk result (λ w. w ≡ None → level_weights self.entry (S.handled_left elements.new) ≡ []) }
+        ensures weights { IfOk result (λ next. MatchOption next (level_weights self.entry (S.handled_left elements.old) ≡ [])
+            (λ w. level_weights self.entry (S.handled_left elements.old) ≡ w ∷ level_weights self.entry (S.handled_left elements.new))) }
         ensures smaller { IfOk result (λ w. IfSome w
             (λ x. length (S.handled_left elements.new) + 1 ≤ length (S.handled_left elements.old))) }
     {
