@@ -63,9 +63,9 @@ module _ (all : CollatorTables) (settings : Settings) (law : FirstStartersLead) 
       let last : ℕ = last_variable_by all settings in
       let nonzero : h.element.primary ≢ 0 = λ e. grind (arith) in
       let list : primaries (stayed_elements (handled_by all settings (nfd (c ∷ cs)))) ≡ h.element.primary ∷ primaries (stayed_elements (handled settings.alternate_handling last false first_element.0)) =
-          ap (λ es. primaries (stayed_elements (handled settings.alternate_handling last false es))) first_element.1
-          ∙ ap (λ hs. primaries (stayed_elements hs)) (first_stays settings.alternate_handling last h.element first_element.0 (subst (λ x. last < x) (sym h.leading) above))
-          ∙ first_counts h.element _ nonzero in
+      ap (λ es. primaries (stayed_elements (handled settings.alternate_handling last false es))) first_element.1
+      ∙ ap (λ hs. primaries (stayed_elements hs)) (first_stays settings.alternate_handling last h.element first_element.0 (subst (λ x. last < x) (sym h.leading) above))
+      ∙ first_counts h.element _ nonzero in
       subst (IsFirst p) (sym list) (h.leading, λ e. nonzero (h.leading ∙ e))
 
 no_elements : (reading : Reading) → elements_of reading (nfd []) ≡ []

@@ -12,8 +12,8 @@ ghost use Rattle.icu_comparison.specs.inner.LevelWeights.{weight_of, read_as, we
 use icu_entries::CollationElement;
 use icu_levels::forms::{CaseForm, SecondaryForm, TertiaryForm};
 use icu_provider::CollationReordering;
-use icu_text_keys::{Handled, HandledSource};
 use icu_text_keys::element_weights::{case_read, masked_tertiary};
+use icu_text_keys::{Handled, HandledSource};
 use std::alloc::AllocError;
 use std::cmp::Ordering;
 

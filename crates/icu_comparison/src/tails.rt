@@ -87,7 +87,11 @@ impl<'a> CollatorBorrowed<'a> {
             Some((first, _)) => {
                 let primary = self.letter(first).leading_primary;
                 first_starters_lead();
-                if primary > self.last_variable() { Some(primary) } else { None }
+                if primary > self.last_variable() {
+                    Some(primary)
+                } else {
+                    None
+                }
             }
             None => Some(0),
         }
@@ -98,5 +102,9 @@ impl<'a> CollatorBorrowed<'a> {
 fn unequal(one: u32, other: u32) -> Option<Ordering>
     ensures { result ≡ unequal_order one other }
 {
-    if one == other { None } else { Some(one.cmp(&other)) }
+    if one == other {
+        None
+    } else {
+        Some(one.cmp(&other))
+    }
 }

@@ -1,5 +1,5 @@
 -- The elements in the lists are those of the texts.
-use Rattle.std.proofs.Common.{◌≡◌, ◌∙◌, ap}
+use Rattle.std.proofs.Common.{◌≡◌, ◌∙◌, ap, false}
 use Rattle.unicode_normalization.specs.Forms.{nfd}
 use Rattle.icu_levels.specs.ListOrder.{segments_order}
 use Rattle.icu_order.specs.Handled.{stayed_elements}
