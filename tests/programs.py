@@ -516,12 +516,11 @@ def check_driver(report, shim):
 
 
 def faults_of_beginnings(shim, program):
-    """What is wrong with how much is allocated: for texts that are the same nothing, and behind a common beginning what
-    the texts' ends take alone, by each of the five calls."""
+    """What is wrong with how much is allocated: for texts that are the same, for ends that differ in their first letters, and
+    behind a common beginning of digits nothing beside the collator, by each of the five calls."""
     runs = {part: run(program, [part], shim=shim) for part in ("collator", "same", "ends", "beginnings")}
     counts = {part: it.counts["allocation"] for part, it in runs.items()}
-    faults = [] if counts["same"] == counts["collator"] else [f"texts that are the same allocate: {counts}"]
-    faults += [] if counts["collator"] < counts["ends"] == counts["beginnings"] else [f"a common beginning allocates: {counts}"]
+    faults = [f"{part} allocates: {counts}" for part in ("same", "ends", "beginnings") if counts[part] != counts["collator"]]
     wanted = {"collator": b"", "same": b"=\n" * 5, "ends": b"<\n" * 5, "beginnings": b"<\n" * 5}
     return faults + [f"{part}: {it}" for part, it in runs.items() if it.came_to() != (0, wanted[part], b"")]
 

@@ -3,3 +3,4 @@ pub mod LevelLemmas
 pub mod OrderLemmas
 pub mod SegmentLemmas
 mod TailLemmas
+mod TieLemmas

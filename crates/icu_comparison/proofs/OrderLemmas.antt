@@ -69,16 +69,6 @@ order_in_two all settings t u =
     sixth (primaries_order (compression_of all) left right) (secondaries_order form.secondary left right) (cases_order form.cases left right)
     (tertiaries_order form.tertiary left right) (quaternaries_order form.quaternary left right) (characters_order form.identical left right)
 
--- the lists that code reads are those of the definitions
-pub read_alike : (r s : Option Reordering) (f g : KeyForm) (hs hs' ks ks' : List HandledElement) (t u : List ℕ) → r ≡ s → f ≡ g → hs ≡ hs' → ks ≡ ks'
-    → before_characters (reorder_by r) f (level_lists (reorder_by r) f hs t) (level_lists (reorder_by r) f ks u)
-    ≡ before_characters (reorder_by s) g (level_lists (reorder_by s) g hs' t) (level_lists (reorder_by s) g ks' u)
-read_alike r s f g hs hs' ks ks' t u a b c d =
-    ap (λ x. before_characters (reorder_by x) f (level_lists (reorder_by x) f hs t) (level_lists (reorder_by x) f ks u)) a
-    ∙ ap (λ x. before_characters (reorder_by s) x (level_lists (reorder_by s) x hs t) (level_lists (reorder_by s) x ks u)) b
-    ∙ ap (λ x. before_characters (reorder_by s) g (level_lists (reorder_by s) g x t) (level_lists (reorder_by s) g ks u)) c
-    ∙ ap (λ x. before_characters (reorder_by s) g (level_lists (reorder_by s) g hs' t) (level_lists (reorder_by s) g x u)) d
-
 -- where no element comes, none is handled
 pub none_handled : (w : VariableWeighting) (es : List Element) → es ≡ [] → handled_after w es ≡ []
 unfolding handled

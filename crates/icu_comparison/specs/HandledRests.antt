@@ -1,10 +1,10 @@
 -- What is left of elements that variable weighting handles one by one.
-use Rattle.std.specs.Prelude.{List}
+use Rattle.std.specs.Prelude.{ℕ, List}
 use Rattle.icu_entries.specs.Elements.{Element}
-use Rattle.icu_elements.specs.ElementReaders.{elements_to_come}
+use Rattle.icu_cursor.specs.Cursors.{cursor_gives}
 use Rattle.icu_order.specs.Handled.{HandledElement, handled}
 use Rattle.icu_comparison.specs.declared.handled.HandledElements.{HandledElements}
-use Rattle.icu_comparison.specs.declared.handled.HandledReader.{HandledReader}
+use Rattle.icu_comparison.specs.declared.handled.HandledText.{HandledText}
 use Rattle.icu_comparison.specs.declared.weighting.VariableWeighting.{VariableWeighting}
 
 -- further elements, as they are to be handled
@@ -15,6 +15,6 @@ handled_after w es = handled w.handling w.last_variable w.after_variable es
 abbrev pub handled_rest : HandledElements → List HandledElement
 handled_rest h = handled_after h.weighting h.rest.now
 
--- the same, where a reader gives the elements
-abbrev pub handled_to_come : HandledReader → List HandledElement
-handled_to_come h = handled_after h.weighting (elements_to_come h.elements)
+-- the same, where a cursor over a text gives the elements
+abbrev pub handled_to_come : {T : Type 0} → (T → List ℕ) → HandledText T → List HandledElement
+handled_to_come text h = handled_after h.weighting (cursor_gives text h.elements)

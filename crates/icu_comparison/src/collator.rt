@@ -8,19 +8,22 @@ ghost use Rattle.icu_options.specs.Metadata.{metadata_settings, is_backward};
 ghost use Rattle.icu_entries.specs.declared.error.DataErrorKind.TheVariants.{NoMemory};
 ghost use Rattle.icu_checks.specs.Checked.{checked_tables};
 ghost use Rattle.icu_checks.specs.GoodTables.{IsGoodTables, IsTrueRefusal};
-ghost use Rattle.icu_elements.specs.ElementReaders.{elements_to_come};
+ghost use Rattle.icu_cursor.specs.Cursors.{cursor_reading};
 ghost use Rattle.icu_elements.specs.Reading.{element_tables};
 ghost use Rattle.icu_elements.specs.TextElements.{elements_of};
 ghost use Rattle.icu_order.specs.Forms.{form_by, last_variable_by};
 ghost use Rattle.icu_order.specs.TextOrder.{reading_by, handled_elements, handled_by};
 ghost use Rattle.icu_levels.specs.Fronts.{ReadsForward};
 ghost use Rattle.icu_shortcuts.specs.Named.{NamesAll};
+ghost use Rattle.icu_shortcuts.specs.Letters.{IsLetter};
+ghost use Rattle.icu_shortcuts.specs.LetterTables.{AreLetters};
 ghost use Rattle.icu_shortcuts.specs.SafeTables.{safe_reading};
 ghost use Rattle.unicode_normalization.specs.Forms.{nfd};
 
-use crate::handled::{HandledElements, HandledReader};
+use crate::handled::{HandledElements, HandledText};
 use icu_checks::{CheckedTables, load_tables};
-use icu_elements::{ElementReader, ElementTables, all_elements};
+use icu_cursor::{CursorTables, ElementCursor};
+use icu_elements::{ElementTables, all_elements};
 use icu_encodings::{Characters, EncodedText};
 use icu_entries::{CollationElement, DataError, DataErrorKind, DataTable};
 use icu_levels::forms::{KeyForm, SecondaryForm};
@@ -29,7 +32,7 @@ use icu_options::{
     ResolvedCollatorOptions, merged_options,
 };
 use icu_provider::CollationProvider;
-use icu_shortcuts::{NamedCharacters, SafePlaces};
+use icu_shortcuts::{Letter, Letters, NamedCharacters, SafePlaces, letter_of};
 use icu_text_keys::key_form;
 use std::alloc::{AllocError, Global};
 
@@ -39,10 +42,12 @@ use std::alloc::{AllocError, Global};
 pub struct Collator {
     tables: CheckedTables,
     named: NamedCharacters,
+    letters: Letters,
     settings: CollatorOptionsBitField,
     ghost backward: { (values_of settings).backward_second_level
         ≡ is_backward (checked_tables tables).bits },
     ghost names: { NamesAll named (checked_tables tables).tables },
+    ghost known: { AreLetters (reading_by (checked_tables tables) (values_of settings)) letters },
 }
 
 impl Collator {
@@ -85,11 +90,14 @@ impl Collator {
     {
         let loaded = load_tables(provider, preferences.locale, preferences.collation_type)?;
         let tables = CheckedTables::from_set(alloc, loaded)?;
-        let named = named_characters(alloc, &tables)?;
         let settings = merged_options(options, preferences, tables.metadata().settings());
+        let named = refused_as_root(NamedCharacters::new(alloc, &tables))?;
+        let places = safe_places(&tables, &named, settings);
+        let letters = refused_as_root(Letters::new(alloc, places))?;
         Ok(Collator {
             tables,
             named,
+            letters,
             settings,
         })
     }
@@ -102,22 +110,51 @@ impl Collator {
         CollatorBorrowed {
             tables: &self.tables,
             named: &self.named,
+            letters: &self.letters,
             settings: self.settings,
         }
     }
 }
 
-/// The characters that rows of the tables name. Where an allocation fails, that is said of the root.
-fn named_characters(alloc: Global, tables: &CheckedTables) -> Result<NamedCharacters, DataError>
-    ensures names { IfOk result (λ n. NamesAll n (checked_tables tables.now).tables) }
+/// What is kept beside the tables. Where an allocation fails, that is said of the root.
+fn refused_as_root<T>(kept: Result<T, AllocError>) -> Result<T, DataError>
+    ensures kept { IfOk result (λ x. kept ≡ Ok x) }
     ensures refusal { IfErr result (λ e. e.kind ≡ NoMemory) }
 {
-    match NamedCharacters::new(alloc, tables) {
-        Ok(named) => Ok(named),
+    match kept {
+        Ok(kept) => Ok(kept),
         Err(AllocError) => Err(DataError {
             table: DataTable::Root,
             kind: DataErrorKind::NoMemory,
         }),
+    }
+}
+
+/// Before which characters texts may be cut that are read by these tables and settings.
+fn safe_places<'d>(
+    tables: &'d CheckedTables,
+    named: &'d NamedCharacters,
+    settings: CollatorOptionsBitField,
+) -> SafePlaces<'d>
+    requires { NamesAll named.now (checked_tables tables.now).tables }
+    ensures { safe_reading result ≡ reading_by (checked_tables tables.now) (values_of settings) }
+{
+    SafePlaces::new(
+        ElementTables::new(tables),
+        numeric_primary(tables, settings),
+        tables.metadata().lithuanian_dot_above(),
+        named,
+    )
+}
+
+/// The lead byte of numbers, where digits are read as numbers.
+fn numeric_primary(tables: &CheckedTables, settings: CollatorOptionsBitField) -> Option<u8>
+    ensures { result ≡ (reading_by (checked_tables tables.now) (values_of settings)).numeric }
+{
+    if settings.numeric() {
+        Some(tables.special_primaries().numeric_primary())
+    } else {
+        None
     }
 }
 
@@ -126,10 +163,12 @@ fn named_characters(alloc: Global, tables: &CheckedTables) -> Result<NamedCharac
 pub struct CollatorBorrowed<'a> {
     pub(crate) tables: &'a CheckedTables,
     named: &'a NamedCharacters,
+    letters: &'a Letters,
     settings: CollatorOptionsBitField,
     ghost backward: { (values_of settings).backward_second_level
         ≡ is_backward (checked_tables tables.now).bits },
     ghost names: { NamesAll named.now (checked_tables tables.now).tables },
+    ghost known: { AreLetters (reading_by (checked_tables tables.now) (values_of settings)) letters.now },
 }
 
 impl<'a> CollatorBorrowed<'a> {
@@ -176,7 +215,7 @@ impl<'a> CollatorBorrowed<'a> {
     }
 
     /// The last primary weight of the groups that are variable, or 0 where none is.
-    fn last_variable(&self) -> u32
+    pub(crate) fn last_variable(&self) -> u32
         ensures { result
             ≡ last_variable_by (tables_borrowed self.now) (settings_borrowed self.now) }
     {
@@ -189,25 +228,21 @@ impl<'a> CollatorBorrowed<'a> {
         }
     }
 
-    /// Before which characters texts may be cut, or `None` where they are compared whole: where secondary weights are read
-    /// backward, and where elements may be variable.
-    pub(crate) fn safe_places(&self) -> Option<SafePlaces<'a>>
-        ensures reading { IfSome result (λ s. safe_reading s
-            ≡ reading_by (tables_borrowed self.now) (settings_borrowed self.now)) }
-        ensures forward { IsSome result → ReadsForward (form_by (tables_borrowed self.now) (settings_borrowed self.now)).secondary }
-        ensures constant { IsSome result → last_variable_by (tables_borrowed self.now) (settings_borrowed self.now) ≡ 0 }
+    /// Whether secondary weights are read backward.
+    pub(crate) fn reads_backward(&self) -> bool
+        ensures { result ≡ false → ReadsForward (form_by (tables_borrowed self.now) (settings_borrowed self.now)).secondary }
     {
-        if self.last_variable() != 0 {
-            return None;
-        }
-        match self.key_form().secondary {
-            Some(SecondaryForm::Backward) => None,
-            _ => Some(SafePlaces::new(
-                self.tables(),
-                self.numeric_primary(),
-                self.tables.metadata().lithuanian_dot_above(),
-                self.named,
-            )),
+        self.key_form().secondary == Some(SecondaryForm::Backward)
+    }
+
+    /// What is known of a character.
+    #[inline]
+    pub(crate) fn letter(&self, c: char) -> Letter
+        ensures { IsLetter (reading_by (tables_borrowed self.now) (settings_borrowed self.now)) c result }
+    {
+        match self.letters.get(c) {
+            Some(letter) => *letter,
+            None => letter_of(safe_places(self.tables, self.named, self.settings), c),
         }
     }
 
@@ -227,25 +262,34 @@ impl<'a> CollatorBorrowed<'a> {
         )
     }
 
-    /// Reads the elements of a decomposed text, as the settings handle variable ones.
-    pub(crate) fn handled_text(&self, text: Vec<char>) -> HandledReader<'a>
-        ensures { handled_to_come result
-            ≡ handled_by (tables_borrowed self.now) (settings_borrowed self.now) text.items }
+    /// What texts are read by.
+    pub(crate) fn cursor_tables(&self) -> CursorTables<'a>
+        ensures { cursor_reading result ≡ reading_by (tables_borrowed self.now) (settings_borrowed self.now) }
     {
-        let handling = self.settings.alternate_handling();
-        HandledReader::new(self.element_reader(text), handling, self.last_variable())
-    }
-
-    /// Reads the elements of a decomposed text.
-    fn element_reader(&self, text: Vec<char>) -> ElementReader<'a>
-        ensures { let reading = reading_by (tables_borrowed self.now) (settings_borrowed self.now) in
-            elements_to_come result ≡ elements_of reading text.items }
-    {
-        ElementReader::new(
-            text,
+        CursorTables::new(
             self.tables(),
             self.numeric_primary(),
             self.tables.metadata().lithuanian_dot_above(),
+            self.named,
+            self.letters,
+        )
+    }
+
+    /// Reads the elements of a text, as the settings handle variable ones.
+    pub(crate) fn handled_text<'c, T: EncodedText>(
+        &self,
+        tables: &'c CursorTables<'a>,
+        text: T,
+    ) -> HandledText<'c, 'a, T>
+        requires { cursor_reading tables.now ≡ reading_by (tables_borrowed self.now) (settings_borrowed self.now) }
+        ensures { handled_to_come T.text result
+            ≡ handled_by (tables_borrowed self.now) (settings_borrowed self.now) (nfd (T.text text)) }
+    {
+        let handling = self.settings.alternate_handling();
+        HandledText::new(
+            ElementCursor::new(tables, text),
+            handling,
+            self.last_variable(),
         )
     }
 
@@ -254,10 +298,6 @@ impl<'a> CollatorBorrowed<'a> {
         ensures { result
             ≡ (reading_by (tables_borrowed self.now) (settings_borrowed self.now)).numeric }
     {
-        if self.settings.numeric() {
-            Some(self.tables.special_primaries().numeric_primary())
-        } else {
-            None
-        }
+        numeric_primary(self.tables, self.settings)
     }
 }

@@ -10,7 +10,6 @@ ghost use Rattle.unicode_normalization.specs.Forms.{nfd};
 
 use crate::characters::compare_characters;
 use crate::collator::CollatorBorrowed;
-use crate::order::ElementOrder;
 use crate::texts::str_text;
 use icu_encodings::{CommonUnits, EncodedText, Latin1Text, Utf8Text, Utf16Text};
 use icu_order::laws::keys_keep_text_order;
@@ -19,7 +18,6 @@ use std::cmp::Ordering;
 
 impl<'a> CollatorBorrowed<'a> {
     ghost use Rattle.icu_comparison.specs.Collators.{tables_borrowed, settings_borrowed};
-    ghost use Rattle.icu_comparison.specs.inner.ElementOrders.{elements_order};
 
     /// The order of two texts by the tables and the settings (UTS #10, section 7.4 "Compare Sort
     /// Keys"), for all of them. The first level that differs decides: primary weights, reordered,
@@ -124,10 +122,12 @@ impl<'a> CollatorBorrowed<'a> {
             self.is_equal_to_itself(left);
             return Ok(Ordering::Equal);
         }
-        match self.tails(left, right, common) {
-            Some((one, other)) => self.compare_levels(one, other),
-            None => self.compare_levels(left, right),
+        if !self.reads_backward() {
+            if let Some((one, other)) = self.tails(left, right, common) {
+                return self.compare_levels(one, other);
+            }
         }
+        self.compare_levels(left, right)
     }
 
     /// A text is equal to itself.
@@ -140,7 +140,7 @@ impl<'a> CollatorBorrowed<'a> {
         text.has_scalar_values();
     }
 
-    /// The order of two texts by their levels in turn.
+    /// The order of two texts: by their first characters where these decide, or else by their levels in turn.
     fn compare_levels<L: EncodedText, R: EncodedText>(
         &self,
         left: L,
@@ -149,6 +149,9 @@ impl<'a> CollatorBorrowed<'a> {
         ensures { IfOk result (λ o. o ≡ text_order (tables_borrowed self.now)
             (settings_borrowed self.now) (L.text left) (R.text right)) }
     {
+        if let Some(order) = self.compare_fronts(left, right) {
+            return Ok(order);
+        }
         let order = self.compare_elements(left, right)?;
         if order != Ordering::Equal {
             return Ok(order);
@@ -172,27 +175,5 @@ impl<'a> CollatorBorrowed<'a> {
         } else {
             Ok(Ordering::Equal)
         }
-    }
-
-    /// The order of two texts by their elements: all levels but the identical one.
-    #[tactic(auto, unfolding(crate::specs::inner::ElementOrders::elements_order, icu_order::specs::TextOrder::lists_by))]
-    fn compare_elements<L: EncodedText, R: EncodedText>(
-        &self,
-        left: L,
-        right: R,
-    ) -> Result<Ordering, AllocError>
-        ensures { IfOk result (λ o. o ≡ elements_order (tables_borrowed self.now)
-            (settings_borrowed self.now) (nfd (L.text left)) (nfd (R.text right))) }
-    {
-        let left = self.elements(left)?;
-        let right = self.elements(right)?;
-        let order = ElementOrder {
-            form: self.key_form(),
-            reordering: self.tables.reordering(),
-        };
-        Ok(order.compare(
-            self.handled(left.as_slice()),
-            self.handled(right.as_slice()),
-        ))
     }
 }

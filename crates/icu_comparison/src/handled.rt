@@ -3,7 +3,8 @@
 ghost use Rattle.std.specs.Prelude.{◌≡◌, false, ◌≤◌, ◌++◌, ◌+◌, [], length, option_map, option_to_list, IfSome, IfOk, None};
 
 use crate::weighting::VariableWeighting;
-use icu_elements::ElementReader;
+use icu_cursor::ElementCursor;
+use icu_encodings::EncodedText;
 use icu_entries::CollationElement;
 use icu_options::AlternateHandling;
 use icu_text_keys::{Handled, HandledSource};
@@ -76,40 +77,40 @@ impl<'a> HandledSource for HandledElements<'a> {
     }
 }
 
-/// The elements of a decomposed text, handled the same way as they are read: no list of elements is
+/// The elements of an encoded text, handled the same way as they are read: no list of elements is
 /// made.
 #[derive(Drop)]
-pub(crate) struct HandledReader<'d> {
-    elements: ElementReader<'d>,
+pub(crate) struct HandledText<'c, 'd, T> {
+    elements: ElementCursor<'c, 'd, T>,
     weighting: VariableWeighting,
 }
 
-impl<'d> HandledReader<'d> {
+impl<'c, 'd, T: EncodedText> HandledText<'c, 'd, T> {
     ghost use Rattle.icu_comparison.specs.HandledRests.{handled_to_come};
-    ghost use Rattle.icu_elements.specs.ElementReaders.{elements_to_come};
+    ghost use Rattle.icu_cursor.specs.Cursors.{cursor_gives};
     ghost use Rattle.icu_order.specs.Handled.{handled};
 
-    /// All elements that a reader still gives. Variable are those with a primary weight above the
+    /// All elements that a cursor still gives. Variable are those with a primary weight above the
     /// merge separator's and up to `last_variable`: none, where that is 0.
     pub(crate) fn new(
-        elements: ElementReader<'d>,
+        elements: ElementCursor<'c, 'd, T>,
         handling: AlternateHandling,
         last_variable: u32,
-    ) -> HandledReader<'d>
-        ensures { handled_to_come result
-            ≡ handled handling last_variable false (elements_to_come elements.entry) }
+    ) -> HandledText<'c, 'd, T>
+        ensures { handled_to_come T.text result
+            ≡ handled handling last_variable false (cursor_gives T.text elements.entry) }
     {
-        HandledReader {
+        HandledText {
             elements,
             weighting: VariableWeighting::new(handling, last_variable),
         }
     }
 }
 
-impl<'d> HandledSource for HandledReader<'d> {
+impl<'c, 'd, T: EncodedText> HandledSource for HandledText<'c, 'd, T> {
     ghost use Rattle.icu_comparison.specs.HandledRests.{handled_to_come};
 
-    ghost handled_left = { handled_to_come };
+    ghost handled_left = { handled_to_come T.text };
 
     fn next_handled(&mut self) -> Result<Option<Handled>, AllocError> {
         'passing: while let Some(element) = self.elements.next()? {

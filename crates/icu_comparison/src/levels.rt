@@ -1,21 +1,20 @@
 //! The levels that are compared from the front, weight by weight.
 
-ghost use Rattle.std.specs.Prelude.{◌≡◌, ◌≤◌, ◌++◌, ◌+◌, [], length, option_to_list, IfSome, None};
+ghost use Rattle.std.specs.Prelude.{◌≡◌, ◌≤◌, ◌∷◌, ◌+◌, [], length, IfOk, IfSome, MatchOption};
 ghost use Rattle.icu_levels.specs.ListOrder.{list_order};
 ghost use Rattle.icu_order.specs.Levels.{case_rank, tertiary_in, quaternary_weight};
 ghost use Rattle.icu_provider.specs.CollatorTables.{reorder_by};
 ghost use Rattle.icu_provider.specs.StoredTables.{reordering_of};
 ghost use Rattle.std.specs.Prelude.{option_map};
 ghost use Rattle.icu_text_keys.specs.HandledSources.{handled_as};
-ghost use Rattle.icu_comparison.specs.HandledRests.{handled_rest};
 ghost use Rattle.icu_comparison.specs.inner.LevelWeights.{weight_of, read_as, weight_in, level_weights};
 
-use crate::handled::HandledElements;
 use icu_entries::CollationElement;
 use icu_levels::forms::{CaseForm, SecondaryForm, TertiaryForm};
 use icu_provider::CollationReordering;
-use icu_text_keys::Handled;
 use icu_text_keys::element_weights::{case_read, masked_tertiary};
+use icu_text_keys::{Handled, HandledSource};
+use std::alloc::AllocError;
 use std::cmp::Ordering;
 
 /// The case bits of a lower half.
@@ -41,7 +40,7 @@ pub(crate) enum Level<'d> {
 }
 
 /// The primary weight as it is compared: reordered, where there is a reordering.
-fn reordered(reordering: Option<CollationReordering<'_>>, primary: u32) -> u32
+pub(crate) fn reordered(reordering: Option<CollationReordering<'_>>, primary: u32) -> u32
     ensures { result ≡ reorder_by (option_map reordering_of reordering.entry) primary }
 {
     match reordering {
@@ -138,42 +137,42 @@ impl<'d> Level<'d> {
         }
     }
 
-    /// The order of two lists of elements on this level: the first pair of weights that differs
-    /// decides, and a prefix comes first.
-    pub(crate) fn compare(self, left: HandledElements<'_>, right: HandledElements<'_>) -> Ordering
-        ensures { result ≡ list_order (level_weights self.entry (handled_rest left.entry))
-            (level_weights self.entry (handled_rest right.entry)) }
+    /// The order of what two sources give on this level: the first pair of weights that differs
+    /// decides, and a prefix comes first. Fails only where an allocation does.
+    pub(crate) fn compare<L: HandledSource, R: HandledSource>(
+        self,
+        left: &mut L,
+        right: &mut R,
+    ) -> Result<Ordering, AllocError>
+        ensures { IfOk result (λ o. o ≡ list_order (level_weights self.entry (L.handled_left left.old))
+            (level_weights self.entry (R.handled_left right.old))) }
     {
-        let mut left = left;
-        let mut right = right;
         'pairs: loop {
-            match (self.next(&mut left), self.next(&mut right)) {
+            match (self.next(left)?, self.next(right)?) {
                 (Some(one), Some(other)) => {
                     let order = one.cmp(&other);
                     if order != Ordering::Equal {
-                        return order;
+                        return Ok(order);
                     }
                 }
-                (one, other) => return one.is_some().cmp(&other.is_some()),
+                (one, other) => return Ok(one.is_some().cmp(&other.is_some())),
             }
         }
     }
 
     /// The next weight of a text on this level, or `None` after the last one.
     #[tactic(auto, unfolding(crate::specs::inner::LevelWeights::level_weights))]
-    fn next(self, elements: &mut HandledElements<'_>) -> Option<u64>
-        ensures weights { level_weights self.entry (handled_rest elements.old)
-            ≡ option_to_list result ++ level_weights self.entry (handled_rest elements.new) }
-        ensures end { result ≡ None → level_weights self.entry (handled_rest elements.new) ≡ [] }
-        ensures size { length elements.new.rest.now ≤ length elements.old.rest.now }
-        ensures smaller { IfSome result
-            (λ w. length elements.new.rest.now + 1 ≤ length elements.old.rest.now) }
+    fn next<S: HandledSource>(self, elements: &mut S) -> Result<Option<u64>, AllocError>
+        ensures weights { IfOk result (λ next. MatchOption next (level_weights self.entry (S.handled_left elements.old) ≡ [])
+            (λ w. level_weights self.entry (S.handled_left elements.old) ≡ w ∷ level_weights self.entry (S.handled_left elements.new))) }
+        ensures smaller { IfOk result (λ w. IfSome w
+            (λ x. length (S.handled_left elements.new) + 1 ≤ length (S.handled_left elements.old))) }
     {
-        'passing: while let Some(handled) = elements.next() {
+        'passing: while let Some(handled) = elements.next_handled()? {
             if let Some(weight) = self.weight(handled) {
-                return Some(weight);
+                return Ok(Some(weight));
             }
         }
-        None
+        Ok(None)
     }
 }

@@ -1,114 +1,216 @@
 //! The order of two texts' elements, level by level.
 
-ghost use Rattle.std.specs.Prelude.{◌≡◌, ℕ, List, map, option_map};
-ghost use Rattle.icu_levels.specs.ListOrder.{list_order};
-ghost use Rattle.icu_levels.specs.Keys.{secondaries_order, cases_order, tertiaries_order, quaternaries_order};
-ghost use Rattle.icu_provider.specs.CollatorTables.{reorder_by};
-ghost use Rattle.icu_provider.specs.StoredTables.{reordering_of};
-ghost use Rattle.icu_order.specs.Handled.{stayed_elements};
-ghost use Rattle.icu_order.specs.Levels.{primaries};
-ghost use Rattle.icu_comparison.specs.HandledRests.{handled_rest};
+ghost use Rattle.std.specs.Prelude.{◌≡◌, IfOk, IsTrue};
+ghost use Rattle.icu_levels.specs.ListOrder.{list_order, segments_order};
+ghost use Rattle.icu_levels.specs.Keys.{primaries_order, secondaries_order, cases_order, tertiaries_order, quaternaries_order};
+ghost use Rattle.icu_order.specs.Forms.{compression_of, form_by};
+ghost use Rattle.icu_order.specs.TextOrder.{handled_by, lists_by};
+ghost use Rattle.icu_comparison.specs.inner.LevelWeights.{level_weights};
+ghost use Rattle.unicode_normalization.specs.Forms.{nfd};
 
-use crate::handled::HandledElements;
+use crate::collator::CollatorBorrowed;
 use crate::levels::Level;
 use crate::segments::compare_segments;
-use icu_levels::forms::{KeyForm, SecondaryForm};
-use icu_provider::CollationReordering;
+use icu_encodings::EncodedText;
+use icu_levels::forms::SecondaryForm;
+use icu_text_keys::HandledSource;
+use std::alloc::AllocError;
 use std::cmp::Ordering;
 
-/// What decides between two lists of elements: the levels that count, and how primary weights are
-/// reordered.
-#[derive(Debug, Clone, Copy)]
-pub(crate) struct ElementOrder<'d> {
-    pub(crate) form: KeyForm,
-    pub(crate) reordering: Option<CollationReordering<'d>>,
+/// Whether two sources give the same elements. Fails only where an allocation does.
+fn give_the_same<L: HandledSource, R: HandledSource>(
+    left: &mut L,
+    right: &mut R,
+) -> Result<bool, AllocError>
+    ensures { IfOk result (λ same. IsTrue same → L.handled_left left.old ≡ R.handled_left right.old) }
+{
+    'pairs: loop {
+        match (left.next_handled()?, right.next_handled()?) {
+            (Some(one), Some(other)) => {
+                if one != other {
+                    return Ok(false);
+                }
+            }
+            (None, None) => return Ok(true),
+            _ => return Ok(false),
+        }
+    }
 }
 
-impl<'d> ElementOrder<'d> {
-    ghost use Rattle.icu_comparison.specs.inner.ElementOrders.{lists_left, before_characters};
+impl<'a> CollatorBorrowed<'a> {
+    ghost use Rattle.icu_comparison.specs.Collators.{tables_borrowed, settings_borrowed};
+    ghost use Rattle.icu_comparison.specs.inner.ElementOrders.{elements_order};
+
+    /// The order of two texts on a level that is compared from the front.
+    fn compare_on<L: EncodedText, R: EncodedText>(
+        &self,
+        level: Level<'_>,
+        left: L,
+        right: R,
+    ) -> Result<Ordering, AllocError>
+        ensures { let all = tables_borrowed self.now in let settings = settings_borrowed self.now in
+            IfOk result (λ o. o ≡ list_order
+            (level_weights level.entry (handled_by all settings (nfd (L.text left))))
+            (level_weights level.entry (handled_by all settings (nfd (R.text right))))) }
+    {
+        let tables = self.cursor_tables();
+        let mut left = self.handled_text(&tables, left);
+        let mut right = self.handled_text(&tables, right);
+        level.compare(&mut left, &mut right)
+    }
 
     /// The order of the primary weights, reordered.
-    #[tactic(auto, using(crate::proofs::LevelLemmas::primary_weights))]
-    fn compare_primaries(self, left: HandledElements<'_>, right: HandledElements<'_>) -> Ordering
-        ensures { let reorder = reorder_by (option_map reordering_of self.entry.reordering) in
-            result ≡ list_order
-            (map reorder (primaries (stayed_elements (handled_rest left.entry))))
-            (map reorder (primaries (stayed_elements (handled_rest right.entry)))) }
+    fn compare_primaries<L: EncodedText, R: EncodedText>(
+        &self,
+        left: L,
+        right: R,
+    ) -> Result<Ordering, AllocError>
+        ensures { let all = tables_borrowed self.now in let settings = settings_borrowed self.now in
+            IfOk result (λ o. o ≡ primaries_order (compression_of all)
+            (lists_by all settings (nfd (L.text left))) (lists_by all settings (nfd (R.text right)))) }
     {
-        Level::Primary(self.reordering).compare(left, right)
+        self.compare_on(Level::Primary(self.tables.reordering()), left, right)
     }
 
     /// The order of the secondary weights, forward or backward, where they count.
-    #[tactic(auto, using(crate::proofs::LevelLemmas::secondary_weights))]
-    fn compare_secondaries(self, left: HandledElements<'_>, right: HandledElements<'_>) -> Ordering
-        ensures { (t u : List ℕ) → result ≡ secondaries_order self.entry.form.secondary
-            (lists_left self.entry left.entry t) (lists_left self.entry right.entry u) }
+    fn compare_secondaries<L: EncodedText, R: EncodedText>(
+        &self,
+        left: L,
+        right: R,
+    ) -> Result<Ordering, AllocError>
+        ensures { let all = tables_borrowed self.now in let settings = settings_borrowed self.now in
+            IfOk result (λ o. o ≡ secondaries_order (form_by all settings).secondary
+            (lists_by all settings (nfd (L.text left))) (lists_by all settings (nfd (R.text right)))) }
     {
-        match self.form.secondary {
-            None => Ordering::Equal,
-            Some(SecondaryForm::Forward) => Level::Secondary.compare(left, right),
-            Some(SecondaryForm::Backward) => compare_segments(left, right),
+        match self.key_form().secondary {
+            None => Ok(Ordering::Equal),
+            Some(SecondaryForm::Forward) => self.compare_on(Level::Secondary, left, right),
+            Some(SecondaryForm::Backward) => self.compare_backward(left, right),
         }
     }
 
-    /// The order of the cases, where they count by themselves.
-    #[tactic(auto, using(crate::proofs::LevelLemmas::case_weights))]
-    fn compare_cases(self, left: HandledElements<'_>, right: HandledElements<'_>) -> Ordering
-        ensures { (t u : List ℕ) → result ≡ cases_order self.entry.form.cases
-            (lists_left self.entry left.entry t) (lists_left self.entry right.entry u) }
+    /// The order of the secondary weights, backward. The elements are read into lists, since they are gone through from the end.
+    fn compare_backward<L: EncodedText, R: EncodedText>(
+        &self,
+        left: L,
+        right: R,
+    ) -> Result<Ordering, AllocError>
+        ensures { let all = tables_borrowed self.now in let settings = settings_borrowed self.now in
+            IfOk result (λ o. o ≡ segments_order (lists_by all settings (nfd (L.text left))).segments
+            (lists_by all settings (nfd (R.text right))).segments) }
     {
-        match self.form.cases {
-            None => Ordering::Equal,
-            Some(form) => Level::Case(self.form.secondary, form).compare(left, right),
+        let left = self.elements(left)?;
+        let right = self.elements(right)?;
+        let left = self.handled(left.as_slice());
+        let right = self.handled(right.as_slice());
+        Ok(compare_segments(left, right))
+    }
+
+    /// The order of the cases, where they count by themselves.
+    fn compare_cases<L: EncodedText, R: EncodedText>(
+        &self,
+        left: L,
+        right: R,
+    ) -> Result<Ordering, AllocError>
+        ensures { let all = tables_borrowed self.now in let settings = settings_borrowed self.now in
+            IfOk result (λ o. o ≡ cases_order (form_by all settings).cases
+            (lists_by all settings (nfd (L.text left))) (lists_by all settings (nfd (R.text right)))) }
+    {
+        let form = self.key_form();
+        match form.cases {
+            None => Ok(Ordering::Equal),
+            Some(cases) => self.compare_on(Level::Case(form.secondary, cases), left, right),
         }
     }
 
     /// The order of the tertiary weights, with case bits where they count among them.
-    #[tactic(auto, using(crate::proofs::LevelLemmas::tertiary_weights))]
-    fn compare_tertiaries(self, left: HandledElements<'_>, right: HandledElements<'_>) -> Ordering
-        ensures { (t u : List ℕ) → result ≡ tertiaries_order self.entry.form.tertiary
-            (lists_left self.entry left.entry t) (lists_left self.entry right.entry u) }
+    fn compare_tertiaries<L: EncodedText, R: EncodedText>(
+        &self,
+        left: L,
+        right: R,
+    ) -> Result<Ordering, AllocError>
+        ensures { let all = tables_borrowed self.now in let settings = settings_borrowed self.now in
+            IfOk result (λ o. o ≡ tertiaries_order (form_by all settings).tertiary
+            (lists_by all settings (nfd (L.text left))) (lists_by all settings (nfd (R.text right)))) }
     {
-        match self.form.tertiary {
-            None => Ordering::Equal,
-            Some(form) => Level::Tertiary(form).compare(left, right),
+        match self.key_form().tertiary {
+            None => Ok(Ordering::Equal),
+            Some(form) => self.compare_on(Level::Tertiary(form), left, right),
         }
     }
 
     /// The order of the quaternary weights, where they count.
-    #[tactic(auto, using(crate::proofs::LevelLemmas::quaternary_weights))]
-    fn compare_quaternaries(self, left: HandledElements<'_>, right: HandledElements<'_>) -> Ordering
-        ensures { (t u : List ℕ) → result ≡ quaternaries_order self.entry.form.quaternary
-            (lists_left self.entry left.entry t) (lists_left self.entry right.entry u) }
+    fn compare_quaternaries<L: EncodedText, R: EncodedText>(
+        &self,
+        left: L,
+        right: R,
+    ) -> Result<Ordering, AllocError>
+        ensures { let all = tables_borrowed self.now in let settings = settings_borrowed self.now in
+            IfOk result (λ o. o ≡ quaternaries_order (form_by all settings).quaternary
+            (lists_by all settings (nfd (L.text left))) (lists_by all settings (nfd (R.text right)))) }
     {
-        match self.form.quaternary {
-            None => Ordering::Equal,
-            Some(_) => Level::Quaternary(self.reordering).compare(left, right),
+        match self.key_form().quaternary {
+            None => Ok(Ordering::Equal),
+            Some(_) => self.compare_on(Level::Quaternary(self.tables.reordering()), left, right),
         }
     }
 
-    /// The order of two lists of elements: the first level that differs decides.
-    #[tactic(auto, unfolding(crate::specs::inner::ElementOrders::before_characters))]
-    pub(crate) fn compare(self, left: HandledElements<'_>, right: HandledElements<'_>) -> Ordering
-        ensures { (t u : List ℕ) → result ≡ before_characters
-            (reorder_by (option_map reordering_of self.entry.reordering)) self.entry.form
-            (lists_left self.entry left.entry t) (lists_left self.entry right.entry u) }
+    /// The order of two texts by their elements: all levels but the identical one. Texts of the same elements are gone through
+    /// once.
+    pub(crate) fn compare_elements<L: EncodedText, R: EncodedText>(
+        &self,
+        left: L,
+        right: R,
+    ) -> Result<Ordering, AllocError>
+        ensures { IfOk result (λ o. o ≡ elements_order (tables_borrowed self.now)
+            (settings_borrowed self.now) (nfd (L.text left)) (nfd (R.text right))) }
     {
-        let order = self.compare_primaries(left, right);
-        if order != Ordering::Equal {
-            return order;
+        if self.have_the_same_elements(left, right)? {
+            return Ok(Ordering::Equal);
         }
-        let order = self.compare_secondaries(left, right);
+        self.compare_in_turn(left, right)
+    }
+
+    /// Whether two texts have the same elements, as they are handled. False is right of any texts.
+    fn have_the_same_elements<L: EncodedText, R: EncodedText>(
+        &self,
+        left: L,
+        right: R,
+    ) -> Result<bool, AllocError>
+        ensures { let all = tables_borrowed self.now in let settings = settings_borrowed self.now in
+            IfOk result (λ same. IsTrue same → handled_by all settings (nfd (L.text left)) ≡ handled_by all settings (nfd (R.text right))) }
+    {
+        let tables = self.cursor_tables();
+        let mut left = self.handled_text(&tables, left);
+        let mut right = self.handled_text(&tables, right);
+        give_the_same(&mut left, &mut right)
+    }
+
+    /// The levels in turn: the first that differs decides.
+    #[tactic(auto, unfolding(crate::specs::inner::ElementOrders::elements_order, crate::specs::inner::ElementOrders::before_characters))]
+    fn compare_in_turn<L: EncodedText, R: EncodedText>(
+        &self,
+        left: L,
+        right: R,
+    ) -> Result<Ordering, AllocError>
+        ensures { IfOk result (λ o. o ≡ elements_order (tables_borrowed self.now)
+            (settings_borrowed self.now) (nfd (L.text left)) (nfd (R.text right))) }
+    {
+        let order = self.compare_primaries(left, right)?;
         if order != Ordering::Equal {
-            return order;
+            return Ok(order);
         }
-        let order = self.compare_cases(left, right);
+        let order = self.compare_secondaries(left, right)?;
         if order != Ordering::Equal {
-            return order;
+            return Ok(order);
         }
-        let order = self.compare_tertiaries(left, right);
+        let order = self.compare_cases(left, right)?;
         if order != Ordering::Equal {
-            return order;
+            return Ok(order);
+        }
+        let order = self.compare_tertiaries(left, right)?;
+        if order != Ordering::Equal {
+            return Ok(order);
         }
         self.compare_quaternaries(left, right)
     }

@@ -10,6 +10,7 @@ ghost use Rattle.icu_order.specs.Levels.{level_lists};
 ghost use Rattle.icu_order.specs.TextOrder.{handled_by, text_key};
 ghost use Rattle.icu_provider.specs.CollatorTables.{reorder};
 ghost use Rattle.icu_text_keys.specs.HandledSources.{HasCase};
+ghost use Rattle.unicode_normalization.specs.Forms.{nfd};
 
 use crate::collator::CollatorBorrowed;
 use crate::texts::{decomposed, str_text};
@@ -97,33 +98,31 @@ impl<'a> CollatorBorrowed<'a> {
         self.tables.are_good();
         texts_have_case();
         text.has_scalar_values();
-        let Ok(text) = decomposed(self.tables.allocator(), text) else {
+        let Ok(characters) = self.key_characters(text) else {
             return write_nothing(sink);
         };
-        let Ok(characters) = self.key_characters(text.as_slice()) else {
-            return write_nothing(sink);
-        };
-        self.write_decomposed(text, characters.as_slice(), sink)
+        self.write_with_characters(text, characters.as_slice(), sink)
     }
 
-    /// Writes the key of a decomposed text, and of these characters at the identical level. Its elements are written as
-    /// they are read: no list of them is made.
-    fn write_decomposed<S: CollationKeySink>(
+    /// Writes the key of a text, with these characters at the identical level. Its elements are written as they are read: no
+    /// list of them is made.
+    fn write_with_characters<T: EncodedText, S: CollationKeySink>(
         &self,
-        text: Vec<char>,
+        text: T,
         characters: &[char],
         sink: &mut S,
     ) -> Result<S::Output, SortKeyError<S::Error>>
         requires cases { AllByRecursion HasCase
-            (handled_by (tables_borrowed self.now) (settings_borrowed self.now) text.items) }
+            (handled_by (tables_borrowed self.now) (settings_borrowed self.now) (nfd (T.text text))) }
         ensures key { let all = tables_borrowed self.now in let settings = settings_borrowed self.now in
             WritesKey S.took S.refused S.finished S.State.is_default sink.old
             (key_bytes (compression_of all) (form_by all settings) (level_lists (reorder all) (form_by all settings)
-            (handled_by all settings text.items) characters.now))
+            (handled_by all settings (nfd (T.text text))) characters.now))
             result sink.new }
     {
         let compression = TableCompression::new(self.tables);
-        let mut handled = self.handled_text(text);
+        let tables = self.cursor_tables();
+        let mut handled = self.handled_text(&tables, text);
         write_key(
             self.tables.allocator(),
             sink,
@@ -134,14 +133,14 @@ impl<'a> CollatorBorrowed<'a> {
         )
     }
 
-    /// The characters of a decomposed text, where they count: reading its elements takes the text apart.
-    fn key_characters(&self, text: &[char]) -> Result<Vec<char>, AllocError>
+    /// The characters of a text, decomposed, where they count.
+    fn key_characters<T: EncodedText>(&self, text: T) -> Result<Vec<char>, AllocError>
         ensures { IfOk result (λ cs. IsTrue (form_by (tables_borrowed self.now) (settings_borrowed self.now)).identical →
-            cs.items ≡ text.now) }
+            cs.items ≡ nfd (T.text text)) }
     {
         let alloc = self.tables.allocator();
         if self.key_form().identical {
-            text.to_vec(alloc)
+            decomposed(alloc, text)
         } else {
             Ok(Vec::new(alloc))
         }

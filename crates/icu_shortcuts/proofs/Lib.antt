@@ -2,3 +2,4 @@ mod NamedLemmas
 mod TableLemmas
 mod EntryLemmas
 mod FewLemmas
+mod KeptLemmas

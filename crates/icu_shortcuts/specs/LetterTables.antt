@@ -1,7 +1,7 @@
 -- The characters of which a table keeps what is known.
 use Rattle.std.specs.Prelude.{ℕ, Bool, ◌&&◌, ◌||◌, nat_le, nat_lt}
 use Rattle.icu_elements.specs.TextElements.{Reading}
-use Rattle.icu_shortcuts.specs.Letters.{AreLettersFrom}
+use Rattle.icu_shortcuts.specs.KeptLetters.{AreLettersFrom}
 use Rattle.icu_shortcuts.specs.declared.letter_table.Letters.{Letters}
 
 -- those that are read most: U+0000 to U+027F, and U+1E00 to U+1EFF

@@ -65,7 +65,7 @@ pub record LeadsWith (reading : Reading) (c : ℕ) (primary : ℕ) : Type 0 wher
   pub elements : elements_of_char reading.tables first ≡ element ∷ rest
   pub leading : element.primary ≡ primary
 
--- what is kept of a character is so
+-- what is known of a character is so
 pub record IsLetter (reading : Reading) (c : ℕ) (l : Letter) : Type 0 where
   pub starters : l.kind ≡ Starters → HasStarters reading c l
   pub marked : l.kind ≡ Marked → IsMarkedStarter reading c l
@@ -73,7 +73,3 @@ pub record IsLetter (reading : Reading) (c : ℕ) (l : Letter) : Type 0 where
   pub begins : IsTrue l.begins_with_starter → BeginsWithStarter c
   pub safe : IsTrue l.is_safe → IsSafeBefore reading c
   pub leads : l.leading_primary ≢ 0 → LeadsWith reading c l.leading_primary
-
--- what is kept of characters from this one on, in order, is so
-abbrev pub AreLettersFrom : Reading → ℕ → List Letter → Type 0
-AreLettersFrom reading first letters = (k : ℕ) (other : Letter) → k < length letters → IsLetter reading (first + k) (slice_index_or letters k other)

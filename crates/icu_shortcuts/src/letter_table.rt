@@ -3,7 +3,8 @@
 ghost use Rattle.std.specs.Prelude.{◌≡◌, ◌+◌, ◌≤◌, ◌<◌, ◌++◌, ◌∷◌, [], length, is_some, IfOk, IfSome, OnOk};
 ghost use Rattle.icu_elements.specs.TextElements.{Reading};
 ghost use Rattle.icu_shortcuts.specs.SafeTables.{safe_reading};
-ghost use Rattle.icu_shortcuts.specs.Letters.{IsLetter, AreLettersFrom};
+ghost use Rattle.icu_shortcuts.specs.Letters.{IsLetter};
+ghost use Rattle.icu_shortcuts.specs.KeptLetters.{KeptLetter, AreLettersFrom};
 
 use crate::letter_facts::Letter;
 use crate::read_letter::letter_of;
@@ -67,9 +68,10 @@ fn letters_from(
 }
 
 /// What is known of the character with a code below U+D800.
+#[tactic(auto, using(crate::proofs::KeptLemmas::kept_letter))]
 fn letter_at(places: SafePlaces<'_>, code: u32) -> Letter
     requires { code < 0xD800 }
-    ensures { IsLetter (safe_reading places.entry) code result }
+    ensures { KeptLetter (safe_reading places.entry) code result }
 {
     match char::from_u32(code) {
         Some(c) => letter_of(places, c),

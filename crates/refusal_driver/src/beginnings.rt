@@ -1,12 +1,12 @@
-//! Texts that are the same, and texts with a common beginning, for which no more is allocated than for their ends.
-use crate::collators::collator;
+//! Texts that are the same, and texts with a common beginning, for which nothing is allocated.
+use crate::collators::stop_of;
 use crate::comparisons::{Texts, print_order};
 use crate::stop::{Stop, twice};
 use icu_comparison::Collator;
 use icu_mini::mini::Mini;
-use icu_options::Strength;
+use icu_options::{CollationNumericOrdering, CollatorOptions, CollatorPreferences};
 
-/// How many letters begin both texts.
+/// How many digits begin both texts.
 const LEN: usize = 10_000;
 
 /// Compares two texts by each call. Their bytes are ASCII, and each unit is the byte of its index.
@@ -25,12 +25,12 @@ fn compare_by_each(
     print_order(rt, collator, Texts::Latin1Utf16(bytes[0], units[1]))
 }
 
-/// Compares texts whose common beginning ends after as many letters.
+/// Compares texts whose common beginning ends after as many digits.
 fn compare_ends(rt: &HostRuntime, collator: &Collator, common: usize) -> Result<(), Stop> {
-    let mut left = [0x61u8; LEN + 1];
-    let mut right = [0x61u8; LEN + 1];
-    let mut left_units = [0x61u16; LEN + 1];
-    let mut right_units = [0x61u16; LEN + 1];
+    let mut left = [0x31u8; LEN + 1];
+    let mut right = [0x31u8; LEN + 1];
+    let mut left_units = [0x31u16; LEN + 1];
+    let mut right_units = [0x31u16; LEN + 1];
     left[LEN] = 0x62;
     right[LEN] = 0x63;
     left_units[LEN] = 0x62;
@@ -46,9 +46,19 @@ fn compare_ends(rt: &HostRuntime, collator: &Collator, common: usize) -> Result<
 
 /// Compares texts that are the same.
 fn compare_same(rt: &HostRuntime, collator: &Collator) -> Result<(), Stop> {
-    let bytes = [0x61u8; LEN];
-    let units = [0x61u16; LEN];
+    let bytes = [0x31u8; LEN];
+    let units = [0x31u16; LEN];
     compare_by_each(rt, collator, [&bytes, &bytes], [&units, &units])
+}
+
+/// A collator by which digits are read as numbers: to read a number something is allocated.
+fn number_collator(rt: &HostRuntime, mini: &Mini) -> Result<Collator, Stop> {
+    let preferences = CollatorPreferences {
+        numeric_ordering: Some(CollationNumericOrdering::True),
+        ..CollatorPreferences::default()
+    };
+    let options = CollatorOptions::default();
+    Collator::try_new_unstable(rt.alloc(), &mini.provider(), preferences, options).map_err(stop_of)
 }
 
 /// Runs one of the parts whose numbers of allocations are compared: a collator alone, texts that are the same, short texts, and
@@ -61,7 +71,7 @@ pub(crate) fn run(rt: &HostRuntime, part: Option<&str>) -> Result<(), Stop> {
         return Ok(());
     }
     let mini = twice(|| Mini::new(rt.alloc()))?;
-    let collator = collator(rt, &mini, Strength::Tertiary)?;
+    let collator = number_collator(rt, &mini)?;
     match part {
         "same" => compare_same(rt, &collator),
         "ends" => compare_ends(rt, &collator, 0),

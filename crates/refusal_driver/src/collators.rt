@@ -25,7 +25,8 @@ fn may_ask_again(rt: &HostRuntime, refusal: DataError) -> bool {
     refusal.kind == DataErrorKind::NoMemory
 }
 
-fn stop_of(refusal: DataError) -> Stop {
+/// What a refusal comes to.
+pub(crate) fn stop_of(refusal: DataError) -> Stop {
     match refusal.kind {
         DataErrorKind::NoMemory => Stop::NoMemory,
         _ => Stop::Failed,

@@ -1,23 +1,14 @@
--- The order of two texts by their elements alone, and the lists that are left of a text.
-use Rattle.std.specs.Prelude.{ℕ, List, map, option_map}
+-- The order of two texts by their elements alone.
+use Rattle.std.specs.Prelude.{ℕ, List, map}
 use Rattle.std.specs.Ordering.{ordering_then}
 use Rattle.std.specs.declared.cmp.Ordering.{Ordering}
 use Rattle.icu_levels.specs.ListOrder.{list_order}
 use Rattle.icu_levels.specs.Keys.{LevelLists, secondaries_order, cases_order, tertiaries_order, quaternaries_order}
 use Rattle.icu_levels.specs.declared.forms.KeyForm.{KeyForm}
 use Rattle.icu_options.specs.Settings.{Settings}
-use Rattle.icu_provider.specs.CollatorTables.{CollatorTables, reorder_by, reorder}
-use Rattle.icu_provider.specs.StoredTables.{reordering_of}
-use Rattle.icu_order.specs.Levels.{level_lists}
+use Rattle.icu_provider.specs.CollatorTables.{CollatorTables, reorder}
 use Rattle.icu_order.specs.Forms.{form_by}
 use Rattle.icu_order.specs.TextOrder.{lists_by}
-use Rattle.icu_comparison.specs.HandledRests.{handled_rest}
-use Rattle.icu_comparison.specs.declared.handled.HandledElements.{HandledElements}
-use Rattle.icu_comparison.specs.declared.order.ElementOrder.{ElementOrder}
-
--- the lists of the elements that are left and of a decomposed text
-abbrev pub lists_left : ElementOrder → HandledElements → List ℕ → LevelLists
-lists_left by elements text = level_lists (reorder_by (option_map reordering_of by.reordering)) by.form (handled_rest elements) text
 
 -- all levels in turn but the identical one
 unfoldable pub before_characters : (ℕ → ℕ) → KeyForm → LevelLists → LevelLists → Ordering

@@ -1,7 +1,7 @@
 -- One more letter comes after those there are.
 use Rattle.std.proofs.Common.{arith, ◌≡◌, length, length-append, subst, sym, ap, ◌∙◌, [], ◌∷◌, ◌++◌}
 use Rattle.icu_shortcuts.specs.SafeTables.{safe_reading}
-use Rattle.icu_shortcuts.specs.Letters.{AreLettersFrom}
+use Rattle.icu_shortcuts.specs.KeptLetters.{AreLettersFrom}
 use Rattle.icu_shortcuts.proofs.TableLemmas.{letters_more}
 use Rattle.icu_shortcuts.proofs.letter_table.letters_from.Goals as goal
 

@@ -1,5 +1,5 @@
 use Rattle.std.proofs.Common.{◌≡◌, ◌+◌, length}
-use Rattle.icu_shortcuts.specs.Letters.{AreLettersFrom}
+use Rattle.icu_shortcuts.specs.KeptLetters.{AreLettersFrom}
 use Rattle.icu_shortcuts.specs.SafeTables.{safe_reading}
 use Rattle.icu_shortcuts.proofs.letter_table.letters_from.Given as goal
 

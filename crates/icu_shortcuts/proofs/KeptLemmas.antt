@@ -1,0 +1,139 @@
+-- What is kept of a character by tests is what is known of it.
+use Rattle.std.proofs.Common.{◌≡◌, ◌≢◌, ◌==◌, ◌&&◌, ℕ, Bool, true, false, not, List, [], ◌∷◌, IsTrue, refl, ap, ◌∙◌, is_some, arith}
+use Rattle.std.proofs.lemmas.Bool.{eqb-true}
+use Rattle.std.proofs.lemmas.Bool.Decides.{nat_tests}
+use Rattle.ucd_normal.specs.declared.forms.Form.TheVariants.{Nfd}
+use Rattle.unicode_normalization.specs.Decompose.{decompose}
+use Rattle.unicode_normalization.specs.Order.{is_starter}
+use Rattle.icu_entries.specs.Elements.{Element}
+use Rattle.icu_elements.specs.TextElements.{Reading, continues_number}
+use Rattle.icu_cuts.specs.Alone.{elements_of_char, is_alone}
+use Rattle.icu_cuts.specs.Cuts.{IsSafe, is_named, is_named_by_tailoring, has_prefix}
+use Rattle.icu_shortcuts.specs.SafeTables.{IsSafeBefore}
+use Rattle.icu_shortcuts.specs.Letters.{BeginsWithStarter, IsLetter, IsMarkedStarter, LeadsWith, StandsAlone, rises_to}
+use Rattle.icu_shortcuts.specs.KeptLetters.{KeptLetter, begins_with, is_marked_starter, is_safe_place, starts_safely, starts_with_primary, starts_with_starter}
+use Rattle.icu_shortcuts.specs.declared.letter_facts.Letter.{Letter}
+
+-- ---- tests, one by one
+
+both : (a b : Bool) → a ≡ true → b ≡ true → (a && b) ≡ true
+both a b h k = rw (h, k) refl
+
+first : (a b : Bool) → (a && b) ≡ true → a ≡ true
+first true b h = refl
+first false b h = cc
+
+second : (a b : Bool) → (a && b) ≡ true → b ≡ true
+second true b h = h
+second false b h = cc
+
+unset : (a : Bool) → not a ≡ true → a ≡ false
+unset true h = cc
+unset false h = refl
+
+same : (p q : ℕ) → p ≡ q → (p == q) ≡ true
+same p q e = grind (arith, nat_tests)
+
+-- ---- safe places
+
+safe_tests : (reading : Reading) (x : ℕ) → IsSafe reading x → is_safe_place reading x ≡ true
+safe_tests reading x h = rw (h.starter, h.root, h.tailoring, h.no_prefix, h.no_number) refl
+
+module _ (reading : Reading) (x : ℕ) where
+  abbrev root : Bool
+  root = is_named x reading.tables.root
+
+  abbrev tailoring : Bool
+  tailoring = is_named_by_tailoring x reading.tables.tailoring
+
+  abbrev prefix : Bool
+  prefix = has_prefix reading.tables x
+
+  abbrev number : Bool
+  number = is_some reading.numeric && continues_number reading.tables x
+
+  safe_from : is_safe_place reading x ≡ true → IsSafe reading x
+  safe_from h =
+      let a = second (is_starter x) _ h in
+      let b = second (not root) _ a in
+      let c = second (not tailoring) _ b in
+      record {
+        starter = first (is_starter x) _ h;
+        root = unset root (first (not root) _ a);
+        tailoring = unset tailoring (first (not tailoring) _ b);
+        no_prefix = unset prefix (first (not prefix) _ c);
+        no_number = unset number (second (not prefix) _ c);
+      }
+
+-- ---- from what is known to what is kept
+
+pub kept_letter : (reading : Reading) (c : ℕ) (l : Letter) → IsLetter reading c l → KeptLetter reading c l
+unfolding starts_with_starter starts_safely starts_with_primary is_marked_starter
+kept_letter reading c l h = record {
+  starters = h.starters;
+  marked_alone = λ e. (h.marked e).stands;
+  marked = λ e. let m = h.marked e in ap (is_marked_starter l.class) m.decomposes ∙ both _ _ m.starter m.in_order;
+  mark = h.mark;
+  begins = λ e. let b = h.begins e in ap starts_with_starter b.decomposes ∙ b.starter;
+  safe = λ e. let s = h.safe e in ap (starts_safely reading) s.decomposes ∙ safe_tests reading s.first s.safe;
+  leads = λ e. let p = h.leads e in
+      ap (starts_with_primary reading l.leading_primary) p.decomposes
+      ∙ both _ _ p.starter (both _ _ p.alone (ap (begins_with l.leading_primary) p.elements ∙ same p.element.primary l.leading_primary p.leading));
+}
+
+-- ---- and back
+
+module _ (reading : Reading) (c : ℕ) where
+  marked_from : (l : Letter) (ds : List ℕ) → decompose Nfd c ≡ ds → StandsAlone reading c l → is_marked_starter l.class ds ≡ true → IsMarkedStarter reading c l
+  unfolding is_marked_starter
+  marked_from l [] e s h = cc
+  marked_from l (d ∷ ds) e s h = record {
+    base = d;
+    marks = ds;
+    stands = s;
+    decomposes = e;
+    starter = first (is_starter d) _ h;
+    in_order = second (is_starter d) _ h;
+  }
+
+  starter_from : (ds : List ℕ) → decompose Nfd c ≡ ds → starts_with_starter ds ≡ true → BeginsWithStarter c
+  unfolding starts_with_starter
+  starter_from [] e h = cc
+  starter_from (d ∷ ds) e h = record { first = d; more = ds; decomposes = e; starter = h }
+
+  safely_from : (ds : List ℕ) → decompose Nfd c ≡ ds → starts_safely reading ds ≡ true → IsSafeBefore reading c
+  unfolding starts_safely
+  safely_from [] e h = cc
+  safely_from (d ∷ ds) e h = record { first = d; more = ds; decomposes = e; safe = safe_from reading d h }
+
+  element_leads : (p d : ℕ) (ds : List ℕ) (es : List Element) → decompose Nfd c ≡ d ∷ ds → is_starter d ≡ true → is_alone reading d ≡ true
+      → elements_of_char reading.tables d ≡ es → begins_with p es ≡ true → LeadsWith reading c p
+  element_leads p d ds [] e s a f h = cc
+  element_leads p d ds (x ∷ xs) e s a f h = record {
+    first = d;
+    more = ds;
+    element = x;
+    rest = xs;
+    decomposes = e;
+    starter = s;
+    alone = a;
+    elements = f;
+    leading = eqb-true x.primary p h;
+  }
+
+  leads_from : (p : ℕ) (ds : List ℕ) → decompose Nfd c ≡ ds → starts_with_primary reading p ds ≡ true → LeadsWith reading c p
+  unfolding starts_with_primary
+  leads_from p [] e h = cc
+  leads_from p (d ∷ ds) e h =
+      let a = second (is_starter d) _ h in
+      element_leads p d ds _ e (first (is_starter d) _ h) (first (is_alone reading d) _ a) refl (second (is_alone reading d) _ a)
+
+  pub known_letter : (l : Letter) → KeptLetter reading c l → IsLetter reading c l
+  known_letter l h = record {
+    starters = h.starters;
+    marked = λ e. marked_from l _ refl (h.marked_alone e) (h.marked e);
+    mark = h.mark;
+    begins = λ e. starter_from _ refl (h.begins e);
+    safe = λ e. safely_from _ refl (h.safe e);
+    leads = λ e. leads_from l.leading_primary _ refl (h.leads e);
+  }

@@ -1,0 +1,54 @@
+-- What a table keeps of a character, each fact by a test of its decomposition.
+use Rattle.std.specs.Prelude.{◌≡◌, ◌≢◌, ◌<◌, ◌+◌, ◌==◌, ◌&&◌, ℕ, Bool, true, false, not, List, [], ◌∷◌, length, slice_index_or, IsTrue, is_some}
+use Rattle.ucd_normal.specs.declared.forms.Form.TheVariants.{Nfd}
+use Rattle.unicode_normalization.specs.Decompose.{decompose}
+use Rattle.unicode_normalization.specs.Order.{is_starter}
+use Rattle.icu_entries.specs.Elements.{Element}
+use Rattle.icu_elements.specs.TextElements.{Reading, continues_number}
+use Rattle.icu_cuts.specs.Alone.{elements_of_char, is_alone}
+use Rattle.icu_cuts.specs.Cuts.{is_named, is_named_by_tailoring, has_prefix}
+use Rattle.icu_shortcuts.specs.Letters.{StandsAlone, HasStarters, IsLoneMark, rises_to}
+use Rattle.icu_shortcuts.specs.declared.letter_facts.Letter.{Letter}
+use Rattle.icu_shortcuts.specs.declared.letter_facts.LetterKind.TheVariants.{Starters, Marked, Mark}
+
+-- a text may be cut before it, as the tests say
+abbrev pub is_safe_place : Reading → ℕ → Bool
+is_safe_place reading x =
+    is_starter x && (not (is_named x reading.tables.root) && (not (is_named_by_tailoring x reading.tables.tailoring)
+    && (not (has_prefix reading.tables x) && not (is_some reading.numeric && continues_number reading.tables x))))
+
+-- the elements begin with this primary
+abbrev pub begins_with : ℕ → List Element → Bool
+begins_with p [] = false
+begins_with p (e ∷ es) = e.primary == p
+
+-- the same of the first character of a decomposition
+unfoldable pub starts_with_starter : List ℕ → Bool
+starts_with_starter [] = false
+starts_with_starter (d ∷ ds) = is_starter d
+
+unfoldable pub starts_safely : Reading → List ℕ → Bool
+starts_safely reading [] = false
+starts_safely reading (d ∷ ds) = is_safe_place reading d
+
+unfoldable pub starts_with_primary : Reading → ℕ → List ℕ → Bool
+starts_with_primary reading p [] = false
+starts_with_primary reading p (d ∷ ds) = is_starter d && (is_alone reading d && begins_with p (elements_of_char reading.tables d))
+
+unfoldable pub is_marked_starter : ℕ → List ℕ → Bool
+is_marked_starter class [] = false
+is_marked_starter class (d ∷ ds) = is_starter d && rises_to 0 ds class
+
+-- what is kept of a character is so
+pub record KeptLetter (reading : Reading) (c : ℕ) (l : Letter) : Type 0 where
+  pub starters : l.kind ≡ Starters → HasStarters reading c l
+  pub marked_alone : l.kind ≡ Marked → StandsAlone reading c l
+  pub marked : l.kind ≡ Marked → is_marked_starter l.class (decompose Nfd c) ≡ true
+  pub mark : l.kind ≡ Mark → IsLoneMark reading c l
+  pub begins : IsTrue l.begins_with_starter → starts_with_starter (decompose Nfd c) ≡ true
+  pub safe : IsTrue l.is_safe → starts_safely reading (decompose Nfd c) ≡ true
+  pub leads : l.leading_primary ≢ 0 → starts_with_primary reading l.leading_primary (decompose Nfd c) ≡ true
+
+-- what is kept of characters from this one on, in order, is so
+abbrev pub AreLettersFrom : Reading → ℕ → List Letter → Type 0
+AreLettersFrom reading first letters = (k : ℕ) (other : Letter) → k < length letters → KeptLetter reading (first + k) (slice_index_or letters k other)
