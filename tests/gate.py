@@ -1,7 +1,7 @@
 #!/usr/bin/env python3
-"""The gate, as bin/test runs it: bin/definitions, bin/documents, `rt ci`, and then tests/programs.py. Says on standard output
-where it is, a line a step, and prints what a failed step says; all that `rt ci` says goes to the file out/test.log. The last
-line is `N passed, M failed`, which counts all of them."""
+"""The gate, as bin/test runs it: what compares documents and comments with the sources, `rt ci`, and then tests/programs.py. Says
+on standard output where it is, a line a step, and prints what a failed step says; all that `rt ci` says goes to the file
+out/test.log. The last line is `N passed, M failed`, which counts all of them."""
 import os
 import queue
 import re
@@ -12,6 +12,8 @@ import time
 
 TOP = os.path.dirname(os.path.dirname(os.path.realpath(__file__)))
 LOG = os.path.join(TOP, "out", "test.log")
+# The programs of bin/ that compare documents and comments with the sources.
+COMPARISONS = ["definitions", "documents", "citations", "comments", "undocumented"]
 # So often at least a line says what is under way, in seconds.
 BEAT = 120
 COUNTS = re.compile(r"^(\d+) passed, (\d+) failed$")
@@ -124,7 +126,7 @@ def run_programs():
 
 
 def compare(what):
-    """Runs bin/definitions or bin/documents, which compare documents with the sources; returns what passed and what failed."""
+    """Runs one of the programs that compare documents and comments with the sources; returns what passed and what failed."""
     program = [sys.executable, os.path.join(TOP, "bin", what)]
     ran = subprocess.run(program, stdin=subprocess.DEVNULL, stdout=subprocess.PIPE, stderr=subprocess.STDOUT, text=True)
     if ran.returncode:
@@ -135,7 +137,7 @@ def compare(what):
 
 
 def main():
-    steps = [compare("definitions"), compare("documents"), prove(), run_programs()]
+    steps = [*(compare(it) for it in COMPARISONS), prove(), run_programs()]
     passed, failed = (sum(step[n] for step in steps) for n in (0, 1))
     print(f"{passed} passed, {failed} failed")
     return 1 if failed else 0

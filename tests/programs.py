@@ -529,6 +529,8 @@ def faults_of_beginnings(shim, program):
 
 # How many sets of tables are damaged and how many texts are compared, and how many of them a run has.
 SETS, TEXTS, PART = 2_000, 2_000, 100
+# How many texts are read in three ways, with the two parts of each, and how many of them a run has.
+READ, READ_PART = 100_000, 10_000
 # What random damage must be refused for at least once: all kinds but `NoMemory`, which must not occur.
 REFUSED = ["Absent", "Length", "Index", "Digit", "Chain", "Tag", "Element", "Context", "Overlap", "Compression", "Reordering",
            "SpecialPrimary"]
@@ -552,14 +554,14 @@ HOSTILE_TABLES = ["lists", "rows", "listed-rows", "many-rows"]
 LARGE_TABLES = ["root", "tailored"]
 
 
-def counted(program, part, count, *words):
+def counted(program, part, count, *words, size=PART):
     """Runs a part of `hostile_input` over so many numbers, and returns the sums of what its runs count, and their faults."""
     def run_from(first):
-        return run(program, [part, str(first), str(min(PART, count - first)), *words])
+        return run(program, [part, str(first), str(min(size, count - first)), *words])
 
     sums, faults = collections.Counter(), []
     with concurrent.futures.ThreadPoolExecutor(os.cpu_count() or 1) as pool:
-        for ran in pool.map(run_from, range(0, count, PART)):
+        for ran in pool.map(run_from, range(0, count, size)):
             if ran.status or ran.faults:
                 faults.append(str(ran))
             for line in ran.output.decode().splitlines():
@@ -576,6 +578,13 @@ def wrong_tables(program, count):
     faults += [f"{sums[it]} sets {it}" for it in ("apart", "disordered", "refused NoMemory") if sums[it]]
     faults += [f"no set was refused for {it}" for it in REFUSED if not sums[f"refused {it}"]]
     return faults + ["few sets were accepted"] * (sums["accepted"] < count // 10)
+
+
+def wrong_readers(program, count):
+    """What is wrong with the ways of reading so many random texts."""
+    sums, faults = counted(program, "readers", count, size=READ_PART)
+    faults += ["texts were left out"] * (sums["read"] != 3 * count) + ["few were Latin-1"] * (sums["in Latin-1"] < count // 2)
+    return faults + [f"{sums['apart']} texts apart"] * (sums["apart"] > 0)
 
 
 def wrong_texts(program, count):
@@ -653,7 +662,7 @@ def check_times(report, program):
 
 def hostile_faults_missed(room, program):
     """The checks of hostile input that let a planted fault through."""
-    planted = {"tables": "other tables by a provider", "texts": "another text in UTF-16"}
+    planted = {"tables": "other tables by a provider", "texts": "another text in UTF-16", "readers": "another text for a cursor"}
     missed = [f"not found: {what}" for part, what in planted.items() if not counted(program, part, PART, "spoiled")[0]["apart"]]
     kind, size, wanted = LONG_TEXTS[0]
     slow = f'case $3 in {size * LONGER}) for it in 1 2 3; do "$COLLATE" "$@" >/dev/null; done;; esac; exec "$COLLATE" "$@"'
@@ -668,10 +677,11 @@ def check_hostile_input(report, room):
     program = built("hostile_input")
     report.say("hostile_input: damaged tables", wrong_tables(program, SETS), SETS)
     report.say("hostile_input: random texts", wrong_texts(program, TEXTS), TEXTS)
+    report.say("hostile_input: random texts read in three ways", wrong_readers(program, READ), READ)
     for kind, size, wanted in LONG_TEXTS:
         report.say(f"hostile_input: long texts, {kind}", wrong_long_texts(program, kind, size, wanted), 9)
     check_times(report, program)
-    report.say("hostile_input: planted faults are found", hostile_faults_missed(room, program), 4)
+    report.say("hostile_input: planted faults are found", hostile_faults_missed(room, program), 5)
 
 
 def main():

@@ -8,11 +8,11 @@ use Rattle.icu_provider.specs.Requests.{Request}
 use Rattle.icu_provider.specs.SpecialPrimaries.{SpecialPrimaries}
 use Rattle.icu_data.specs.Data.{Data}
 use Rattle.icu_provider.specs.CollatorTables.{CollatorTables}
-use Rattle.icu_checks.specs.Loads.{and_then, or_else, typed_first, if_named, diacritics_request, lent_tables}
+use Rattle.icu_provider.specs.LentTables.{and_then, or_else, typed_first, if_named, diacritics_request, lent_tables}
 use Rattle.icu_mini.specs.declared.mini.Mini.{Mini}
 use Rattle.icu_mini.specs.declared.provider.MiniProvider.{MiniProvider}
-use Rattle.icu_data.specs.declared.data_vectors.DataVectors.{DataVectors}
-use Rattle.icu_data.specs.OwnedData.{vectors_data}
+use Rattle.icu_owned_data.specs.declared.data_vectors.DataVectors.{DataVectors}
+use Rattle.icu_owned_data.specs.OwnedData.{vectors_data}
 use Rattle.icu_mini.specs.Mini.{IsMini, special_held, SaysAny}
 use Rattle.icu_mini.specs.Provider.{LendsMini, loads_of}
 use Rattle.collate.specs.Answers.{mini_tables}

@@ -5,7 +5,7 @@ use Rattle.icu_entries.specs.declared.error.DataErrorKind.TheVariants.{NoMemory}
 use Rattle.icu_options.specs.declared.settings.Strength.{Strength}
 use Rattle.icu_provider.specs.CollatorTables.{CollatorTables}
 use Rattle.icu_checks.specs.GoodTables.{IsGoodTables}
-use Rattle.icu_checks.specs.Loads.{lent_tables}
+use Rattle.icu_provider.specs.LentTables.{lent_tables}
 use Rattle.icu_provider.specs.Requests.{Request}
 use Rattle.icu_mini.specs.declared.mini.Mini.{Mini}
 use Rattle.icu_mini.specs.declared.provider.MiniProvider.{MiniProvider}

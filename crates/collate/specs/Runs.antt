@@ -1,5 +1,5 @@
--- What a run takes of standard input and leaves on standard output and standard error, in the words of the commands that it
--- has: by Mini's tables, with the program's own lines.
+-- What a run takes of standard input and leaves on standard output and standard error, in the words of the commands
+-- that it has: by Mini's tables, with the program's own lines.
 use Rattle.collate_commands.specs.Commands.{Asked}
 use Rattle.collate_commands.specs.Faults.{line_of}
 use Rattle.collate_commands.specs.Runs as runs

@@ -27,11 +27,13 @@ pub fn wording() -> Wording
 /// Makes one run of the program `collate` over the words after its name, and returns the status that it ends with.
 ///
 /// - 0: the answer stands on `output`, and nothing on `faults`.
-/// - 1: an allocation failed, or the program's own tables fail a condition, or a read of `input` failed, and nothing stands on
-///   `output`; or a write to `output` failed, or its flush, and a beginning of the answer stands there. `faults` says which.
+/// - 1: an allocation failed, or the program's own tables fail a condition, or a read of `input` failed, and nothing
+///   stands on `output`; or a write to `output` failed, or its flush, and a beginning of the answer stands there.
+///   `faults` says which.
 /// - 2: the words are no command. `faults` says what commands there are.
 ///
-/// A failed write to `faults` changes no status. The command `sort` reads `input` to its end, and no other command reads it.
+/// A failed write to `faults` changes no status. The command `sort` reads `input` to its end, and no other command
+/// reads it.
 pub fn run<R: Read, W: Write, E: Write>(
     alloc: Global,
     words: &[String],

@@ -1,6 +1,6 @@
 -- A collator that is made of a root has its tables, and the chosen settings.
 use Rattle.std.proofs.Common.{◌≡◌, ℕ, List, false, Option, Some, None, Ok, Err, Result, ap, refl, sym, ◌∙◌, subst, unwrap_or, option_map}
-use Rattle.icu_checks.specs.Loads.{lent_tables}
+use Rattle.icu_provider.specs.LentTables.{lent_tables}
 use Rattle.icu_cldr.specs.Roots.{IsRoot}
 use Rattle.icu_data.specs.Data.{Data}
 use Rattle.icu_entries.specs.declared.error.DataError.{DataError}

@@ -1,5 +1,5 @@
-//! The program `collate-cldr`: compares texts, shows their sort keys and sorts lines by the tables of a file, FractionalUCA.txt
-//! of CLDR.
+//! The program `collate-cldr`: compares texts, shows their sort keys and sorts lines by the tables of a file,
+//! FractionalUCA.txt of CLDR.
 #![tactic(auto)]
 
 mod asked;

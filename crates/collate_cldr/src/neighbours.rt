@@ -5,8 +5,8 @@ use std::alloc::{AllocError, Global};
 use std::cmp::Ordering;
 use std::io::{BufRead, BufReader, Read};
 
-/// What was seen of lines: pairs of neighbours, those of which the first is greater than the second, by their comparison and by
-/// their keys, and lines with numbers of no characters, as lone surrogates, which were passed over.
+/// What was seen of lines: pairs of neighbours, those of which the first is greater than the second, by their
+/// comparison and by their keys, and lines with numbers of no characters, as lone surrogates, which were passed over.
 #[derive(Debug, Clone, Copy, PartialEq, Eq)]
 pub(crate) struct Counts {
     pub(crate) pairs: u64,
@@ -22,8 +22,8 @@ struct Keyed {
     key: Vec<u8>,
 }
 
-/// The text that the numbers of characters in a line spell, in hexadecimal digits; nothing where one is the number of no
-/// character.
+/// The text that the numbers of characters in a line spell, in hexadecimal digits; nothing where one is the number of
+/// no character.
 fn spelt(alloc: Global, line: &str) -> Result<Option<String>, AllocError> {
     let mut text = String::new(alloc);
     for word in line.split_whitespace() {

@@ -41,8 +41,8 @@ pub(crate) fn wording() -> Wording
 /// Makes one run of the program over the words after its name, and returns the status that it ends with.
 ///
 /// - 0: the answer stands on `output`, or the usage text where that was asked for.
-/// - 1: an allocation, a read of `input` or a write failed, or the file isn't there, isn't read or has tables that fail a
-///   condition. `faults` says which, and of the file where.
+/// - 1: an allocation, a read of `input` or a write failed, or the file isn't there, isn't read or has tables that fail
+///   a condition. `faults` says which, and of the file where.
 /// - 2: the words are no command. `faults` says what commands there are.
 ///
 /// A failed write to `faults` changes no status.

@@ -23,8 +23,8 @@ pub record SortsLines (order : List ℕ → List ℕ → Ordering) (input output
   pub sorted : IsStablySorted order (lines_of input) lines
   pub written : output ≡ lines_text lines
 
--- The output answers the command by these tables and settings, where these bytes stand in the input: a line with the sign of
--- the order or with the bytes of the key, or the lines of the input in order.
+-- The output answers the command by these tables and settings, where these bytes stand in the input: a line with the
+-- sign of the order or with the bytes of the key, or the lines of the input in order.
 abbrev pub IsAnswerBy : CollatorTables → Settings → Asked → List ℕ → List ℕ → Type 0
 IsAnswerBy tables settings (for_order c) input output =
     output ≡ sign_of (text_order tables settings (chars c.left) (chars c.right)) ++ 10 ∷ []

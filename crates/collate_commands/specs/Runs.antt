@@ -1,5 +1,5 @@
--- What a run takes of standard input and leaves on standard output and standard error: each fact is about the bytes that a
--- reader has left or a writer holds, before and after, as far as it says what they are.
+-- What a run takes of standard input and leaves on standard output and standard error: each fact is about the bytes
+-- that a reader has left or a writer holds, before and after, as far as it says what they are.
 use Rattle.std.specs.Prelude.{ℕ, List, Option, ◌⊎◌}
 use Rattle.std.specs.Io.KnownBytes.{Keeps, Appends}
 use Rattle.icu_options.specs.declared.settings.Strength.{Strength}

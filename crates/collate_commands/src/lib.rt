@@ -1,5 +1,5 @@
-//! The commands of the programs `collate` and `collate-cldr`: the order of two texts, the sort key of a text, and the lines of
-//! the input in order. One run of a program is one body, whatever its collators come from.
+//! The commands of the programs `collate` and `collate-cldr`: the order of two texts, the sort key of a text, and the
+//! lines of the input in order. One run of a program is one body, whatever its collators come from.
 #![tactic(auto)]
 
 mod answer;

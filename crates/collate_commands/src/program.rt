@@ -16,15 +16,16 @@ use crate::writing::write_text;
 use std::alloc::Global;
 use std::io::{Read, Write};
 
-/// Makes one run of a program over the words of its command, and returns the status that it ends with. Its collators come from
-/// `source`, and `wording` is what it says of faults.
+/// Makes one run of a program over the words of its command, and returns the status that it ends with. Its collators
+/// come from `source`, and `wording` is what it says of faults.
 ///
 /// - 0: the answer stands on `output`, and nothing on `faults`.
-/// - 1: an allocation failed, or no collator is to be had, or a read of `input` failed, and nothing stands on `output`; or a
-///   write to `output` failed, or its flush, and a beginning of the answer stands there. `faults` says which.
+/// - 1: an allocation failed, or no collator is to be had, or a read of `input` failed, and nothing stands on `output`;
+///   or a write to `output` failed, or its flush, and a beginning of the answer stands there. `faults` says which.
 /// - 2: the words are no command. `faults` says what commands there are.
 ///
-/// A failed write to `faults` changes no status. The command `sort` reads `input` to its end, and no other command reads it.
+/// A failed write to `faults` changes no status. The command `sort` reads `input` to its end, and no other command
+/// reads it.
 pub fn run<S: CollatorSource, R: Read, W: Write, E: Write>(
     alloc: Global,
     source: &S,
@@ -81,8 +82,8 @@ fn print_answer<S: CollatorSource, R: Read, W: Write>(
     }
 }
 
-/// Writes to standard error what kept the program from printing an answer, and returns its status. That a write fails there
-/// changes nothing.
+/// Writes to standard error what kept the program from printing an answer, and returns its status. That a write fails
+/// there changes nothing.
 pub fn report<E: Write>(fault: Fault, wording: Wording, faults: &mut E) -> u8
     ensures status { result ≡ status_of fault }
     ensures said { AppendsBeginning (E.contents faults.old) (E.contents faults.new)

@@ -12,8 +12,8 @@ use icu_comparison::Collator;
 use icu_options::Strength;
 use std::alloc::Global;
 
-/// What makes the collators of a program, by the strength that its words name: the tables that it compiles in, or those of a
-/// file.
+/// What makes the collators of a program, by the strength that its words name: the tables that it compiles in, or those
+/// of a file.
 pub trait CollatorSource {
     /// By which tables and settings texts are compared at a strength.
     ghost compares: { Self → Strength → CollatorTables → Settings → Type 0 };

@@ -55,8 +55,8 @@ fn is_order(
     }
 }
 
-/// Whether each text has one key in all its encodings, all calls give the order of the keys, and the texts swapped the other
-/// one.
+/// Whether each text has one key in all its encodings, all calls give the order of the keys, and the texts swapped the
+/// other one.
 pub(crate) fn agree(
     alloc: Global,
     collator: &Collator,

@@ -1,9 +1,9 @@
 //! The tables that are damaged, and copies of them.
 ghost use Rattle.std.specs.Prelude.{◌<◌};
 
-use icu_data::DataVectors;
 use icu_mini::mini::Mini;
 use icu_mini::reordering_data::ReorderingData;
+use icu_owned_data::DataVectors;
 use std::alloc::{AllocError, Global};
 
 /// How many there are: Mini and each of its variants.

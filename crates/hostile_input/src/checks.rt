@@ -3,8 +3,9 @@ use crate::stop::Stop;
 use crate::tables::set;
 use crate::timed_root::{root_like_cldr, tailoring_like_cldr};
 use icu_checks::CheckedTables;
-use icu_data::{Context, ContextRow, DataVectors};
+use icu_data::{Context, ContextRow};
 use icu_mini::mini::Mini;
+use icu_owned_data::DataVectors;
 use std::alloc::{AllocError, Global};
 use std::io;
 

@@ -1,5 +1,5 @@
-//! What the parts of a text spell that is cut at a byte of its form in UTF-8 (Unicode Standard, section 3.9): a character that
-//! lost bytes at its end is one U+FFFD, and each byte that lost those before it is one.
+//! What the parts of a text spell that is cut at a byte of its form in UTF-8 (Unicode Standard, "Unicode Encoding
+//! Forms"): a character that lost bytes at its end is one U+FFFD, and each byte that lost those before it is one.
 use std::alloc::{AllocError, Global};
 
 /// The characters before the byte at `cut`.

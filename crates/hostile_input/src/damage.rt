@@ -1,11 +1,13 @@
 //! Random damage of tables.
 use crate::dice::Dice;
-use icu_data::{Context, ContextRow, DataVectors};
+use icu_data::{Context, ContextRow};
 use icu_mini::mini::Mini;
 use icu_mini::reordering_data::ReorderingData;
+use icu_owned_data::DataVectors;
 use std::alloc::AllocError;
 
-/// The lead bytes of the separator, of variable characters, of numbers and digits, of letters, of implicit weights and the highest.
+/// The lead bytes of the separator, of variable characters, of numbers and digits, of letters, of implicit weights and
+/// the highest.
 const LEADS: [u8; 11] = [
     0x00, 0x01, 0x02, 0x03, 0x0F, 0x14, 0x61, 0x62, 0x7F, 0xFE, 0xFF,
 ];

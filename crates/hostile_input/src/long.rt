@@ -2,9 +2,9 @@
 use crate::settings::Setting;
 use crate::stop::Stop;
 use icu_comparison::{Collator, SortKeyError};
-use icu_data::DataBuilder;
 use icu_mini::mini::Mini;
 use icu_options::{CollationNumericOrdering, CollatorOptions, CollatorPreferences, Strength};
+use icu_owned_data::DataBuilder;
 use std::alloc::{AllocError, Global};
 
 /// The entry of a character that begins contractions, by context 0.
@@ -22,7 +22,8 @@ pub(crate) enum Kind {
     Marks,
     /// The digits of a number, of which the last differs.
     Digits,
-    /// Letters each of which begins contractions that go on through the letters after it and come to no end, but for the last few.
+    /// Letters each of which begins contractions that go on through the letters after it and come to no end, but for
+    /// the last few.
     Beginnings,
     /// A letter that begins a contraction, and marks between it and the mark that ends the contraction.
     Passed,
@@ -143,8 +144,8 @@ fn key_length(alloc: Global, collator: &Collator, text: &str) -> Result<usize, A
     }
 }
 
-/// Prints the order of two long texts at the strength Identical, and how many bytes the first one's key has at Primary, as often
-/// as is asked for.
+/// Prints the order of two long texts at the strength Identical, and how many bytes the first one's key has at Primary,
+/// as often as is asked for.
 pub(crate) fn run(rt: &HostRuntime, kind: Kind, count: u64, times: u64) -> Result<(), Stop> {
     let identical = kind.collator(rt.alloc(), Strength::Identical)?;
     let primary = kind.collator(rt.alloc(), Strength::Primary)?;

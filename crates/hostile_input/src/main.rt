@@ -1,9 +1,9 @@
 //! Hostile input, which `tests/programs.py` runs this program on.
 //!
-//! `tables FIRST COUNT` damages so many sets of tables, each by the random choices of its number, and counts what becomes of
-//! them. `texts FIRST COUNT` compares so many random texts, and the parts of each. A word `spoiled` behind the numbers makes the
-//! check fail. `long KIND COUNT TIMES` compares long texts. `checks TABLES TIMES` checks named tables so often. Without words it does
-//! a little of each.
+//! `tables FIRST COUNT` damages so many sets of tables, each by the random choices of its number, and counts what
+//! becomes of them. `texts FIRST COUNT` compares so many random texts, and the parts of each; `readers FIRST COUNT`
+//! reads so many in three ways. A word `spoiled` behind the numbers makes the check fail. `long KIND COUNT TIMES`
+//! compares long texts. `checks TABLES TIMES` checks named tables so often. Without words it does a little of each.
 #![tactic(auto)]
 
 mod agreement;
@@ -14,6 +14,7 @@ mod damage;
 mod dice;
 mod encoded;
 mod long;
+mod readers;
 mod settings;
 mod stop;
 mod tables;
@@ -57,6 +58,8 @@ fn run_few(rt: &HostRuntime) -> Result<(), Stop> {
     )?;
     let texts = texts::run(rt.alloc(), 0, FEW, false)?;
     println!(rt; "texts: {} apart", texts.apart)?;
+    let read = readers::run(rt.alloc(), 0, FEW, false)?;
+    println!(rt; "readers: {} apart", read.apart)?;
     for kind in [
         Kind::Letters,
         Kind::Marks,
@@ -80,6 +83,10 @@ fn run_part(rt: &HostRuntime, words: &[&str]) -> Result<(), Stop> {
         ["texts", first, count, rest @ ..] => {
             let (first, count) = (number(first)?, number(count)?);
             texts::run(rt.alloc(), first, count, spoiled(rest)?)?.print(rt)?;
+        }
+        ["readers", first, count, rest @ ..] => {
+            let (first, count) = (number(first)?, number(count)?);
+            readers::run(rt.alloc(), first, count, spoiled(rest)?)?.print(rt)?;
         }
         ["long", kind, count, times] => {
             let kind = Kind::named(kind).ok_or(Stop::WrongWords)?;

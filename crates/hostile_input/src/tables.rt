@@ -1,4 +1,5 @@
-//! Damaged tables: both ways to a collator agree on them, and a collator of those that are accepted orders texts by their keys.
+//! Damaged tables: both ways to a collator agree on them, and a collator of those that are accepted orders texts by
+//! their keys.
 use crate::agreement::agree;
 use crate::bases::{BASES, base, copied};
 use crate::damage::damage;
@@ -92,8 +93,8 @@ fn orders(alloc: Global, dice: &mut Dice, collator: &Collator) -> Result<bool, A
     Ok(true)
 }
 
-/// Counts what both ways make of tables. Those of the provider are another copy, which is damaged in one more place where the
-/// check is to fail.
+/// Counts what both ways make of tables. Those of the provider are another copy, which is damaged in one more place
+/// where the check is to fail.
 fn judge(
     alloc: Global,
     dice: &mut Dice,

@@ -19,8 +19,8 @@ const KINDS: [DataErrorKind; 13] = [
     DataErrorKind::NoMemory,
 ];
 
-/// How many sets were accepted, how many refused for each kind, on how many the two ways to a collator did not agree, and how
-/// many collators of accepted ones did not order texts by their keys.
+/// How many sets were accepted, how many refused for each kind, on how many the two ways to a collator did not agree,
+/// and how many collators of accepted ones did not order texts by their keys.
 #[derive(Debug, Default, Drop)]
 pub(crate) struct Tally {
     accepted: u64,

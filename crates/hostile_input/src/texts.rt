@@ -9,8 +9,8 @@ use icu_comparison::Collator;
 use std::alloc::{AllocError, Global};
 use std::io;
 
-/// Letters, digits, variable characters, marks of several classes and such as stand for two, jamo and syllables, characters with
-/// implicit weights, noncharacters, surrogates of both kinds.
+/// Letters, digits, variable characters, marks of several classes and such as stand for two, jamo and syllables,
+/// characters with implicit weights, noncharacters, surrogates of both kinds.
 const UNITS: [u16; 56] = [
     0x61, 0x62, 0x63, 0x6C, 0x41, 0x65, 0x7A, 0xE1, 0xE5, 0xE9, 0xDF, 0x30, 0x31, 0x39, 0x20, 0x2D,
     0x2E, 0x24, 0x00, 0x01, 0x300, 0x301, 0x307, 0x308, 0x30A, 0x323, 0x327, 0x340, 0x344, 0x34F,
@@ -105,12 +105,12 @@ fn compare_parts(
 }
 
 /// Gives a text another unit at the end of its UTF-16 alone.
-fn spoil(text: &mut Encoded) -> Result<(), AllocError> {
+pub(crate) fn spoil(text: &mut Encoded) -> Result<(), AllocError> {
     Ok(text.utf16.push(0x62)?)
 }
 
-/// Compares texts, and the parts of each: so many from one number on. The UTF-16 of a text has another unit at its end where the
-/// check is to fail.
+/// Compares texts, and the parts of each: so many from one number on. The UTF-16 of a text has another unit at its end
+/// where the check is to fail.
 pub(crate) fn run(alloc: Global, first: u64, count: u64, spoiled: bool) -> Result<Found, Stop> {
     let collators = collators(alloc)?;
     let mut found = Found::default();

@@ -1,7 +1,7 @@
-//! Tables of the size of CLDR's: a root of 7,600 entries, 1,140 elements in lists, 64 contexts with 1,088 rows, and 93,000
-//! ideographs by an offset entry, in some 720 blocks; and a tailoring of 2,000 characters.
+//! Tables of the size of CLDR's: a root of 7,600 entries, 1,140 elements in lists, 64 contexts with 1,088 rows, and
+//! 93,000 ideographs by an offset entry, in some 720 blocks; and a tailoring of 2,000 characters.
 use crate::checks::{unlike_entry, unlike_primary};
-use icu_data::{DataBuilder, DataVectors};
+use icu_owned_data::{DataBuilder, DataVectors};
 use std::alloc::{AllocError, Global};
 
 /// The entry of a character whose weight follows from its number.
@@ -25,7 +25,8 @@ const IDEOGRAPHS: [(char, char); 5] = [
     ('\u{30000}', '\u{3134A}'),
 ];
 
-/// The characters of other scripts, by the first one's code and the one behind the last. Each sixth has an entry of its own.
+/// The characters of other scripts, by the first one's code and the one behind the last. Each sixth has an entry of its
+/// own.
 const SCRIPTS: [(u32, u32); 3] = [(0x100, 0x3400), (0x10000, 0x17000), (0x1D000, 0x1E000)];
 
 /// What characters lead a row of a context, each alone.

@@ -1,4 +1,5 @@
--- The answers of the provider in the tests: to a request with a type, to one for a locale alone, and to the empty request.
+-- The answers of the provider in the tests: to a request with a type, to one for a locale alone, and to the empty
+-- request.
 use Rattle.std.specs.Prelude.{ℕ, List, [], ◌∷◌, Some, None}
 use Rattle.icu_provider.specs.Requests.{Request}
 

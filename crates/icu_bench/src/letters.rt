@@ -35,7 +35,8 @@ const PLAIN: Setting = Setting {
     lithuanian_dot_above: false,
 };
 
-/// A character with its kind and class, its elements, whether a text may be cut before it, and its leading primary weight.
+/// A character with its kind and class, its elements, whether a text may be cut before it, and its leading primary
+/// weight.
 type Row = (char, LetterKind, u8, &'static [u64], bool, u32);
 
 /// Whether this is what a row says.
@@ -71,7 +72,7 @@ fn expect(
     let letters = Letters::new(alloc, places)?;
     for row in rows {
         let code = row.0 as u32;
-        let letter = letter_of(places, row.0);
+        let letter = letter_of(&places, row.0);
         assert!(rt; is_as(&letter, *row), "{code}: {letter:?}");
         if let Some(kept) = letters.get(row.0) {
             assert!(rt; is_as(kept, *row), "kept {code}: {kept:?}");
@@ -228,8 +229,12 @@ fn the_characters_that_are_read_most_are_kept(rt: HostRuntime) -> Result<(), Fai
     let letters = Letters::new(rt.alloc(), places)?;
     for (c, is_kept) in [
         ('\0', true),
-        ('\u{27F}', true),
-        ('\u{280}', false),
+        ('\u{37F}', true),
+        ('\u{380}', false),
+        ('\u{10FF}', false),
+        ('\u{1100}', true),
+        ('\u{11FF}', true),
+        ('\u{1200}', false),
         ('\u{1DFF}', false),
         ('\u{1E00}', true),
         ('\u{1EFF}', true),

@@ -4,8 +4,6 @@
 #[cfg(test)]
 mod checked_tables;
 #[cfg(test)]
-mod cursors;
-#[cfg(test)]
 mod index;
 #[cfg(test)]
 mod keys;

@@ -4,7 +4,6 @@ ghost use Rattle.icu_bench.specs.Answering.{by_request};
 ghost use Rattle.icu_mini.specs.Provider.{loads_of};
 ghost use Rattle.icu_provider.specs.Requests.{request_of};
 
-use icu_checks::load_tables;
 use icu_comparison::Collator;
 use icu_data::CollationData;
 use icu_entries::{DataError, DataErrorKind, DataTable};
@@ -13,7 +12,7 @@ use icu_mini::provider::MiniProvider;
 use icu_options::{CollatorOptions, CollatorPreferences};
 use icu_provider::{
     CollationDiacritics, CollationJamo, CollationMetadata, CollationProvider, CollationReordering,
-    CollationSpecialPrimaries, DataRequest,
+    CollationSpecialPrimaries, DataRequest, load_tables,
 };
 use std::alloc::Global;
 use std::cell::RefCell;
@@ -174,8 +173,8 @@ const ROOT: [Asked; 3] = [
     (DataTable::SpecialPrimaries, false),
 ];
 
-/// What metadata names, what is refused, and with which type tables are asked for; the requests after those for the root, in
-/// turn, and the refusal.
+/// What metadata names, what is refused, and with which type tables are asked for; the requests after those for the
+/// root, in turn, and the refusal.
 struct Row {
     what: &'static str,
     bits: u32,

@@ -45,6 +45,20 @@ map_some f P Q g (Some x) h = g x h
 
 -- ---- one element
 
+all_three : (a b d : Bool) → IsTrue a → IsTrue b → IsTrue d → IsTrue (a && b && d)
+all_three true true true p q r = refl
+all_three false b d p q r = cc
+all_three true false d p q r = cc
+all_three true true false p q r = cc
+
+pub readable : (home : Data) (c e : ℕ) → ((condition : LiveCondition) → IsTrue (meets condition home c e)) → IsTrue (is_readable home c e)
+unfolding is_readable
+readable home c e own = all_three (is_inside home e) (has_known_members home e) (fits_offset home c e) (own live.Indices) (and_parts (has_known_byte e) (has_known_members home e) (own live.Bytes)).1 (own live.Offsets)
+
+-- an entry that fails no condition can be read
+pub is_readable_where_none_fails : (home : Data) (c e : ℕ) → first_failing home c e ≡ None → IsTrue (is_readable home c e)
+is_readable_where_none_fails home c e none = readable home c e (passes_meets home c e none)
+
 module _ (all : CollatorTables) where
   abbrev pub MeetsAll : Element → Type 0
   MeetsAll x = (condition : ElementCondition) → IsTrue (element_meets condition all x)
@@ -100,16 +114,6 @@ module _ (all : CollatorTables) where
   read_none : (b : Bool) (o : Option Violation) → IsTrue b → (if b then o else None) ≡ None → o ≡ None
   read_none true o t h = h
   read_none false o t h = cc
-
-  all_three : (a b d : Bool) → IsTrue a → IsTrue b → IsTrue d → IsTrue (a && b && d)
-  all_three true true true p q r = refl
-  all_three false b d p q r = cc
-  all_three true false d p q r = cc
-  all_three true true false p q r = cc
-
-  pub readable : (home : Data) (c e : ℕ) → ((condition : LiveCondition) → IsTrue (meets condition home c e)) → IsTrue (is_readable home c e)
-  unfolding is_readable
-  readable home c e own = all_three (is_inside home e) (has_known_members home e) (fits_offset home c e) (own live.Indices) (and_parts (has_known_byte e) (has_known_members home e) (own live.Bytes)).1 (own live.Offsets)
 
   pub entry_none : (table : DataTable) (home : Data) (c e : ℕ) → entry_violation all table home c e ≡ None → EntryPasses home c e
   unfolding entry_violation
@@ -170,3 +174,14 @@ entry_alike all table home c d e by =
     ap (λ own. judged own (is_readable home c e) (final_elements (homed home e) c)) (failing_alike home c d e by)
     ∙ ap (λ readable. judged (first_failing home d e) readable (final_elements (homed home e) c)) (readable_alike home c d e by)
     ∙ ap (λ es. judged (first_failing home d e) (is_readable home d e) es) (elements_alike home c d e by)
+
+-- ---- entries that fail no condition of their own
+
+-- such an entry has the first violation of its rows and of its elements
+pub without_own : (all : CollatorTables) (table : DataTable) (home : Data) (c e : ℕ) → first_failing home c e ≡ None
+    → entry_violation all table home c e ≡ earlier violation_rank (rows_violation all home e) (elements_violation all table home c e)
+unfolding entry_violation earlier
+without_own all table home c e none =
+    let judged : Option LiveCondition → Bool → List Element → Option Violation = judged_by all table (rows_violation all home e) in
+    ap (λ own. judged own (is_readable home c e) (final_elements (homed home e) c)) none
+    ∙ ap (λ readable. judged None readable (final_elements (homed home e) c)) (is_readable_where_none_fails home c e none)

@@ -1,4 +1,5 @@
--- The elements that weights are collected from, what a collected weight is, and the tests that conditions on elements are made of.
+-- The elements that weights are collected from, what a collected weight is, and the tests that conditions on elements
+-- are made of.
 use Rattle.std.proofs.Common.{◌≡◌, ◌≢◌, ℕ, ◌*◌, ◌^◌, Bool, true, false, not, ◌==◌, ◌&&◌, ◌||◌, List, [], ◌∷◌, Option, Some, None, if◌then◌else◌, refl, sym, ap, ◌∙◌, subst, arith, inl, inr, IsTrue}
 use Rattle.std.specs.List.{Contains, list_all}
 use Rattle.std.proofs.lemmas.Bool.{cases_Bool}
@@ -91,7 +92,7 @@ module _ (all : CollatorTables) where
     char = is.char;
     entry = is.entry;
     live = is.live;
-    stated = stated_from is.home is.char is.entry x (readable all is.home is.char is.entry (λ condition. met.root.entries condition is.home is.char is.entry is.live)) is.member explicit;
+    stated = stated_from is.home is.char is.entry x (readable is.home is.char is.entry (λ condition. met.root.entries condition is.home is.char is.entry is.live)) is.member explicit;
     member = is.member;
   }
   read_by met Jamo x is explicit = record {
@@ -99,7 +100,7 @@ module _ (all : CollatorTables) where
     char = is.char;
     entry = is.entry;
     live = is.live;
-    stated = stated_from is.home is.char is.entry x (readable all is.home is.char is.entry (λ condition. met.jamo.entries condition is.home is.char is.entry is.live)) is.member explicit;
+    stated = stated_from is.home is.char is.entry x (readable is.home is.char is.entry (λ condition. met.jamo.entries condition is.home is.char is.entry is.live)) is.member explicit;
     member = is.member;
   }
   read_by met Tailoring x is explicit = record {
@@ -107,7 +108,7 @@ module _ (all : CollatorTables) where
     char = is.char;
     entry = is.entry;
     live = is.live;
-    stated = stated_from is.home is.char is.entry x (readable all is.home is.char is.entry (λ condition. met.tailoring.entries condition is.home is.char is.entry is.live)) is.member explicit;
+    stated = stated_from is.home is.char is.entry x (readable is.home is.char is.entry (λ condition. met.tailoring.entries condition is.home is.char is.entry is.live)) is.member explicit;
     member = is.member;
   }
   read_by met SpecialPrimaries x is explicit = absurd is.live
@@ -165,7 +166,8 @@ beside_weighs x w h =
 none_some : (w : ℕ) → None ≡ Some w → ⊥
 none_some w h = cc
 
--- but for primary weights, none of an implicit element is collected, and primary weights with another lead byte aren't implicit
+-- but for primary weights, none of an implicit element is collected, and primary weights with another lead byte aren't
+-- implicit
 pub weighs_explicit : (list : WeightList) (x : Element) (w : ℕ) → (list ≡ Primaries → ⊥) → weight_at list x ≡ Some w → IsExplicit x
 weighs_explicit list x w other weighs c is =
     none_some w (sym (weighs_nothing list (implicit_weight c) other) ∙ ap (weight_at list) (sym is) ∙ weighs)

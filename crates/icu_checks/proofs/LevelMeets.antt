@@ -1,5 +1,5 @@
--- Collected weights that don't clash give the conditions on the elements of all tables: on tertiary weights of elements without a
--- secondary weight, on secondary and on tertiary weights.
+-- Collected weights that don't clash give the conditions on the elements of all tables: on tertiary weights of elements
+-- without a secondary weight, on secondary and on tertiary weights.
 use Rattle.std.proofs.Common.{◌≡◌, ◌≢◌, ℕ, ◌*◌, ◌/◌, ◌^◌, ◌<◌, ◌≤◌, Bool, true, false, not, ◌==◌, ◌&&◌, ◌||◌, nat_lt, List, Some, refl, sym, ap, ◌∙◌, subst, arith, inl, inr, IsTrue}
 use Rattle.std.specs.List.{Contains}
 use Rattle.std.proofs.lemmas.Bool.{cases_eq, and_parts}
@@ -29,7 +29,7 @@ use Rattle.icu_checks.specs.GoodTables.{AreTables, Meets}
 use Rattle.icu_checks.specs.inner.PairViolations.{TertiaryElementsAreHigh}
 use Rattle.icu_checks.specs.inner.Weights.{left_aligned, weight_at, IsWeightBy}
 use Rattle.icu_checks.proofs.CommonLemmas.{HaveLeads, none_begins}
-use Rattle.icu_checks.proofs.OverlapLemmas.{free_of_two_bytes}
+use Rattle.icu_weights.proofs.OverlapLemmas.{free_of_two_bytes}
 use Rattle.icu_checks.proofs.LevelLemmas.{IsExplicit, meets_in, read_by, weighs_explicit, two_bytes_kept, tertiary_element_kept, beside_kept, second_of_three, third_of_three, implied, passes}
 
 -- ---- what is collected, and what is live

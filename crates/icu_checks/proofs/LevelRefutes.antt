@@ -19,7 +19,7 @@ use Rattle.icu_checks.specs.inner.Levels.{list_of, overlap_condition, bytes_at}
 use Rattle.icu_checks.specs.LiveElements.{IsElementBy}
 use Rattle.icu_checks.specs.inner.PairViolations.{IsClashTable}
 use Rattle.icu_checks.specs.inner.Weights.{IsWeightBy}
-use Rattle.icu_checks.proofs.BeginningLemmas.{moved_up_bytes}
+use Rattle.icu_weights.proofs.BeginningLemmas.{moved_up_bytes}
 use Rattle.icu_checks.proofs.LevelLemmas.{element_by, primary_weighs, secondary_weighs, tertiary_weighs, tertiary_element_weighs, beside_weighs}
 
 -- two weights of two bytes clash where they do with two zero bytes after them

@@ -1,12 +1,6 @@
 pub mod GoodLemmas
-pub mod WeightLemmas
 pub mod PrimaryLemmas
 pub mod CommonLemmas
-pub mod BeginningLemmas
-pub mod NeighbourLemmas
-pub mod OverlapLemmas
-pub mod LeadLemmas
-pub mod AlikeLemmas
 pub mod LeadMeetings
 pub mod EntryViolationLemmas
 pub mod LiveViolationLemmas
@@ -18,6 +12,7 @@ pub mod LevelRefutes
 pub mod LevelMeets
 pub mod PrimaryMeets
 pub mod WeightListLemmas
+pub mod ListedLemmas
 pub mod ImplicitOverlapLemmas
 pub mod CheckLemmas
 pub mod ImplicitLemmas

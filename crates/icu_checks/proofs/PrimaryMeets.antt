@@ -1,5 +1,5 @@
--- Collected primary weights that don't clash give the conditions on the elements of all tables: that none begins another, and that
--- those that share a lead byte after reordering compress alike.
+-- Collected primary weights that don't clash give the conditions on the elements of all tables: that none begins
+-- another, and that those that share a lead byte after reordering compress alike.
 use Rattle.std.proofs.Common.{◌≡◌, ◌≢◌, ◌⊎◌, ℕ, ◌%◌, ◌^◌, ◌<◌, ◌≤◌, Bool, true, false, not, ◌==◌, ◌||◌, nat_lt, nat_le, List, Option, Some, None, refl, sym, ap, ◌∙◌, subst, arith, inl, inr, IsTrue}
 use Rattle.std.specs.List.{Contains}
 use Rattle.std.proofs.lemmas.Bool.{cases_eq, and_parts}
@@ -27,8 +27,8 @@ use Rattle.icu_checks.specs.ElementConditions.{implicit_lead, has_low_bytes, is_
 use Rattle.icu_checks.specs.inner.EntryViolations.{MeetsIn, LiveMeets}
 use Rattle.icu_checks.specs.GoodTables.{AreTables, Meets}
 use Rattle.icu_checks.specs.LeadConditions.{LeadMeets}
-use Rattle.icu_checks.specs.Leads.{is_middle}
-use Rattle.icu_checks.proofs.LeadLemmas.{reordered-rest}
+use Rattle.icu_weights.specs.Leads.{is_middle}
+use Rattle.icu_weights.proofs.LeadLemmas.{reordered-rest}
 use Rattle.icu_checks.proofs.PrimaryLemmas.{AreApart, none_begins, compress_alike}
 use Rattle.icu_checks.proofs.LevelLemmas.{meets_in, primary_kept, lead_explicit, first_of_three, implied, passes}
 use Rattle.icu_checks.proofs.LevelMeets.{Collected, IsLiveWeight, collected_at}

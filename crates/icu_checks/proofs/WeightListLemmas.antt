@@ -15,8 +15,8 @@ use Rattle.icu_checks.specs.declared.check.weights.WeightList.{WeightList}
 use Rattle.icu_checks.specs.declared.check.weights.WeightList.TheVariants.{Primaries}
 use Rattle.icu_provider.specs.CollatorTables.{CollatorTables, reorder_by, reorder}
 use Rattle.icu_provider.specs.TableSets.{tables_in}
-use Rattle.icu_checks.specs.inner.Alike.{CompressAlike, CompressApart}
-use Rattle.icu_checks.specs.inner.Overlaps.{Overlaps}
+use Rattle.icu_weights.specs.Alike.{CompressAlike, CompressApart}
+use Rattle.icu_weights.specs.Overlaps.{Overlaps}
 use Rattle.icu_checks.specs.inner.Levels.{list_of, bytes_at}
 use Rattle.icu_checks.specs.GoodTables.{MeetsBy}
 use Rattle.icu_checks.specs.inner.Weights.{IsWeightBy, Adds}

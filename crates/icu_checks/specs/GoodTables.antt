@@ -28,7 +28,7 @@ use Rattle.icu_checks.specs.declared.condition.LeadCondition.TheVariants as of_l
 use Rattle.icu_provider.specs.CollatorTables.{CollatorTables}
 use Rattle.icu_checks.specs.LiveElements.{IsLiveBy, IsElementBy}
 use Rattle.icu_checks.specs.ElementConditions.{element_meets}
-use Rattle.icu_checks.specs.PairConditions.{AreOverlapping}
+use Rattle.icu_weights.specs.Overlaps.{AreOverlapping}
 use Rattle.icu_checks.specs.PairConditions.{PairMeets}
 use Rattle.icu_checks.specs.LeadConditions.{LeadMeets}
 use Rattle.icu_checks.specs.Groups.{group_of, kind_in}
@@ -118,8 +118,8 @@ abbrev pub table_of_lead : LeadCondition → DataTable
 table_of_lead of_lead.NumericWhole = tables.SpecialPrimaries
 table_of_lead _ = tables.Reordering
 
--- The table by which an overlap of a primary weight of one table and one of another is named: the later one of the two where the
--- weights overlap as they stand, and the reordering where they overlap only by it.
+-- The table by which an overlap of a primary weight of one table and one of another is named: the later one of the two
+-- where the weights overlap as they stand, and the reordering where they overlap only by it.
 pub record IsOverlapTable (first second : DataTable) (p q : ℕ) (table : DataTable) : Type 0 where
   pub before : AreOverlapping p q → table ≡ later first second
   pub after : (AreOverlapping p q → ⊥) → table ≡ tables.Reordering

@@ -5,7 +5,7 @@ use Rattle.icu_provider.specs.Reorderings.{Reordering, lead_byte}
 use Rattle.icu_provider.specs.SpecialPrimaries.{is_compressible}
 use Rattle.icu_checks.specs.declared.condition.LeadCondition.{LeadCondition}
 use Rattle.icu_checks.specs.declared.condition.LeadCondition.TheVariants.{Separator, HighLead, ImplicitLead, NumericLead, LeadsApart, NumericWhole}
-use Rattle.icu_checks.specs.Leads.{is_middle}
+use Rattle.icu_weights.specs.Leads.{is_middle}
 use Rattle.icu_provider.specs.CollatorTables.{CollatorTables, reorder_by, reorder, new_lead}
 use Rattle.icu_checks.specs.ElementConditions.{implicit_lead}
 

@@ -5,7 +5,5 @@ pub mod LeadConditions
 pub mod Groups
 pub mod GoodTables
 pub mod GoodProps
-pub mod Leads
 pub mod Checked
-pub mod Loads
 pub mod inner

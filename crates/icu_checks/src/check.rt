@@ -10,24 +10,22 @@ ghost use Rattle.icu_checks.specs.LeadConditions.{LeadMeets};
 ghost use Rattle.icu_checks.specs.inner.PairViolations.{IsOutcome};
 ghost use Rattle.icu_checks.specs.inner.Checks.{LeadsMeet, PairsMeet};
 
-pub(crate) mod alike;
 mod collecting;
 pub(crate) mod element_conditions;
 mod entry_judge;
 mod implicit_chars;
 pub(crate) mod implicit_overlaps;
 mod lead_conditions;
-pub(crate) mod leads;
+mod listed_weights;
 mod live_violations;
 mod lookups;
-pub(crate) mod overlap;
 mod overlap_tables;
 pub(crate) mod overlap_violations;
 pub(crate) mod primary_violations;
 pub(crate) mod tertiary_violations;
-pub(crate) mod weight_list;
 pub(crate) mod weights;
 
+use crate::check::listed_weights::listed_weights;
 use crate::check::live_violations::live_violation;
 use crate::check::overlap_violations::level_violation;
 use crate::check::primary_violations::primary_violation;
@@ -96,10 +94,16 @@ fn count_violation(tables: TableSet<'_>) -> Option<Violation>
 fn pairs_violation(alloc: Global, tables: TableSet<'_>) -> Result<Option<Violation>, AllocError>
     ensures { IfOk result (IsOutcome (tables_in tables.entry) (PairsMeet (tables_in tables.entry))) }
 {
-    let tertiary_element = tertiary_violation(alloc, tables)?;
-    let secondary = level_violation(alloc, tables, Level::Secondary)?;
-    let tertiary = level_violation(alloc, tables, Level::Tertiary)?;
-    let primary = primary_violation(alloc, tables)?;
+    let mut lists = listed_weights(alloc, tables)?;
+    let tertiary_element = tertiary_violation(
+        alloc,
+        tables,
+        &lists.tertiary_elements,
+        &lists.with_secondary,
+    )?;
+    let secondary = level_violation(alloc, tables, Level::Secondary, &mut lists.secondaries)?;
+    let tertiary = level_violation(alloc, tables, Level::Tertiary, &mut lists.tertiaries)?;
+    let primary = primary_violation(alloc, tables, &mut lists.primaries)?;
     Ok(earlier(
         earlier(tertiary_element, secondary),
         earlier(tertiary, primary),

@@ -23,7 +23,8 @@ pub struct CheckedTables {
     ghost good: { IsGoodTables (owned_tables tables) } by { good_prop _ },
 }
 
-/// Refuses tables that fail a condition. Where the check itself runs out of memory, the root is named, whose weights take the most.
+/// Refuses tables that fail a condition. Where the check itself runs out of memory, the root is named, whose weights
+/// take the most.
 fn check(alloc: Global, tables: TableSet<'_>) -> Result<(), DataError>
     ensures good { IsOk result → IsGoodTables (tables_in tables.entry) }
     ensures refusal { IfErr result (IsTrueRefusal (tables_in tables.entry)) }
@@ -44,8 +45,8 @@ impl CheckedTables {
     /// Checks the tables of a collator together, and copies them. Allocates the copies and, while the check runs, the
     /// weights that are compared with one another.
     ///
-    /// Where a condition fails, the refusal names its kind and a table that takes part in it: of several the first by the conditions'
-    /// order, then by the tables'. `NoMemory` says that an allocation failed.
+    /// Where a condition fails, the refusal names its kind and a table that takes part in it: of several the first by
+    /// the conditions' order, then by the tables'. `NoMemory` says that an allocation failed.
     pub fn from_set(alloc: Global, tables: TableSet<'_>) -> Result<CheckedTables, DataError>
         ensures good { IsOk result → IsGoodTables (tables_in tables.entry) }
         ensures refusal { IfErr result (IsTrueRefusal (tables_in tables.entry)) }
@@ -61,8 +62,8 @@ impl CheckedTables {
         }
     }
 
-    /// The same of tables one by one. The tailoring and the reordering are there exactly where the metadata names them; that is the
-    /// caller's part, since what is not named is not read.
+    /// The same of tables one by one. The tailoring and the reordering are there exactly where the metadata names them;
+    /// that is the caller's part, since what is not named is not read.
     pub fn new(
         alloc: Global,
         root: CollationData<'_>,

@@ -74,8 +74,8 @@ pub enum Condition {
     Lead(LeadCondition),
 }
 
-/// Conditions that a refusal reports alike, by one kind. The groups stand in the order in which they are reported; in a group the table
-/// decides.
+/// Conditions that a refusal reports alike, by one kind. The groups stand in the order in which they are reported; in a
+/// group the table decides.
 #[derive(Drop)]
 pub enum ConditionGroup {
     /// How many diacritics there are.

@@ -8,7 +8,8 @@ use Rattle.icu_cldr.specs.declared.root.CldrRoot.{CldrRoot}
 unfoldable pub root_tables : CldrRoot → CollatorTables
 root_tables r = owned_tables r.tables
 
--- the tables of a root: their metadata sets the last variable group, punctuation, and nothing else, and they name their compressible lead bytes
+-- the tables of a root: their metadata sets the last variable group, punctuation, and nothing else, and they name their
+-- compressible lead bytes
 pub record IsRoot (all : CollatorTables) : Type 0 where
   pub metadata : all.bits ≡ 1
   pub tailoring : all.tables.tailoring ≡ None

@@ -9,8 +9,8 @@ use crate::contexts::{Contexts, entry_in_contexts};
 use crate::digits::make_digits;
 use crate::entries::IMPLICIT_CE32;
 use crate::error::{Fault, ReadError, named};
-use icu_data::{DataBuilder, OwnedData};
 use icu_entries::DataTable;
+use icu_owned_data::{DataBuilder, OwnedData};
 use icu_provider::{
     CollationDiacritics, CollationJamo, CollationMetadata, OwnedDiacritics, OwnedJamo, OwnedTables,
 };

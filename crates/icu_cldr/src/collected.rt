@@ -9,8 +9,8 @@ use crate::entries::{
 use crate::error::{Fault, Refusal};
 use crate::ideograph_weights::{IdeographWeights, STEP, WeightedRange, char_count};
 use crate::special::Special;
-use icu_data::DataBuilder;
 use icu_fractional::{CharRange, FractionalElement, Line, Mapping, Primary};
+use icu_owned_data::DataBuilder;
 use icu_provider::diacritics::is_replaced_index;
 use std::alloc::{AllocError, Global};
 use std::collections::BTreeMap;
@@ -41,8 +41,8 @@ pub(crate) struct Collected {
     pub(crate) ideographs: IdeographWeights,
 }
 
-/// Weights with lead byte EF stand behind all others, and are spelt with FF, since implicit weights have FE here. The first weight
-/// behind those of assigned characters, E4, is the implicit weight before that of U+0000.
+/// Weights with lead byte EF stand behind all others, and are spelt with FF, since implicit weights have FE here. The
+/// first weight behind those of assigned characters, E4, is the implicit weight before that of U+0000.
 fn respelt(primary: u32) -> u32 {
     if primary == 0xE400_0000 {
         0xFE04_0202
@@ -66,7 +66,8 @@ fn diacritic_index(c: char) -> Option<usize>
     }
 }
 
-/// The secondary weight of a combining mark. One that has a decomposition is in no text that is compared, and its weight isn't read.
+/// The secondary weight of a combining mark. One that has a decomposition is in no text that is compared, and its
+/// weight isn't read.
 fn secondary_of_diacritic(index: usize, elements: &[Weights]) -> Result<u16, Fault>
     ensures { IfOk result (SaysOfMark index elements.now) }
 {

@@ -3,7 +3,7 @@ ghost use Rattle.std.specs.Prelude.{◌≡◌};
 
 use crate::entries::{INDEX_COUNT, Target, reference};
 use crate::error::{Fault, Refusal};
-use icu_data::DataBuilder;
+use icu_owned_data::DataBuilder;
 use std::alloc::{AllocError, Global};
 use std::collections::BTreeMap;
 
@@ -39,8 +39,8 @@ fn context(
     Ok(reference(target, index))
 }
 
-/// The entry of a character behind these characters, the nearest first: by what stands after it, where a mapping with a longer
-/// prefix counts before one with a shorter.
+/// The entry of a character behind these characters, the nearest first: by what stands after it, where a mapping with a
+/// longer prefix counts before one with a shorter.
 fn contraction(
     alloc: Global,
     builder: &mut DataBuilder,

@@ -1,7 +1,7 @@
 //! The digits that make numbers: characters with General_Category Nd.
 use crate::entries::{INDEX_COUNT, digit_entry};
 use crate::error::{Fault, Refusal};
-use icu_data::DataBuilder;
+use icu_owned_data::DataBuilder;
 use std::alloc::Global;
 use std::collections::BTreeMap;
 use ucd_perl::digit_ranges;
@@ -15,8 +15,8 @@ fn entry_of_digit(builder: &mut DataBuilder, value: u32, plain: u32) -> Result<u
     Ok(digit_entry(index, value % 10))
 }
 
-/// Makes the entries of these characters, as far as they have any, entries of digits. Such characters follow one another by tens,
-/// from zero to nine (Unicode Standard, section 4.6 "Numeric Value").
+/// Makes the entries of these characters, as far as they have any, entries of digits. Such characters follow one
+/// another by tens, from zero to nine (Unicode Standard, "Numeric Value").
 fn make_digits_of(
     builder: &mut DataBuilder,
     entries: &mut BTreeMap<char, u32>,

@@ -29,7 +29,8 @@ pub enum Refusal {
     /// A mapping has more than 31 elements.
     #[error("expected at most 31 elements")]
     FewerElements,
-    /// A character from U+0300 to U+034E has something else than a secondary weight with the common tertiary weight, or a context.
+    /// A character from U+0300 to U+034E has something else than a secondary weight with the common tertiary weight, or
+    /// a context.
     #[error("expected a secondary weight and 05 alone, of a combining mark below U+034F")]
     Diacritic,
     /// The least primary weight of a group isn't one with bytes.

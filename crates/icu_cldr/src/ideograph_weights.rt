@@ -25,8 +25,8 @@ pub(crate) struct WeightedRange {
     pub(crate) ordinal: u32,
 }
 
-/// The ideographs in the order of their weights. These have three bytes each, and stand just below the implicit weights, in as many
-/// lead bytes as that takes.
+/// The ideographs in the order of their weights. These have three bytes each, and stand just below the implicit
+/// weights, in as many lead bytes as that takes.
 #[derive(Debug, Drop)]
 pub(crate) struct IdeographWeights {
     ranges: Vec<WeightedRange>,

@@ -1,5 +1,5 @@
-//! The root collation of CLDR, read from the file in which the Unicode consortium publishes it, FractionalUCA.txt (UTS #35 part 5,
-//! section 2.6 "Root Collation Data Files").
+//! The root collation of CLDR, read from the file in which the Unicode consortium publishes it, FractionalUCA.txt (UTS
+//! #35 part 5, "Root Collation Data Files").
 #![tactic(auto)]
 
 mod assembly;

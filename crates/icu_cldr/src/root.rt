@@ -20,8 +20,8 @@ pub struct CldrRoot {
     tables: OwnedTables,
 }
 
-/// Reads the root collation from the lines of FractionalUCA.txt. The tables have each passed their own checks; what they show
-/// together is checked where a collator is made of them.
+/// Reads the root collation from the lines of FractionalUCA.txt. The tables have each passed their own checks; what
+/// they show together is checked where a collator is made of them.
 #[tactic(auto, unfolding(crate::specs::Roots::root_tables))]
 pub fn read_root<R: BufRead + Drop>(alloc: Global, reader: R) -> Result<CldrRoot, ReadError>
     ensures root { IfOk result (λ r. IsRoot (root_tables r)) }

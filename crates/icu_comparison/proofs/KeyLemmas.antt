@@ -62,7 +62,8 @@ same_key c f hs cs ds h =
     (same_parts _ _ _ _ _ _ _ _ _ _ (same_secondary c.reorder f hs cs ds f.secondary) (same_cases c.reorder f hs cs ds f.cases)
     (same_tertiary c.reorder f hs cs ds f.tertiary) (same_quaternary c.reorder f hs cs ds f.quaternary) (same_identical c.reorder f hs cs ds f.identical h))
 
--- the key that is written of a decomposed text, and of characters that are its own where they count, is that of the text
+-- the key that is written of a decomposed text, and of characters that are its own where they count, is that of the
+-- text
 pub key_read : (all : CollatorTables) (settings : Settings) (t ds cs : List ℕ) → ds ≡ nfd t → (IsTrue (form_by all settings).identical → cs ≡ ds)
     → key_bytes (compression_of all) (form_by all settings) (level_lists (reorder all) (form_by all settings) (handled_by all settings ds) cs)
     ≡ text_key all settings t

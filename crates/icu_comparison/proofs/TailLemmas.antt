@@ -79,7 +79,8 @@ nothing_leads all settings =
 
 -- ---- texts that may follow others
 
--- a text that begins with a character before which it may be cut, where no element is variable or its first one has a primary
+-- a text that begins with a character before which it may be cut, where no element is variable or its first one has a
+-- primary
 pub tail_of : (all : CollatorTables) (settings : Settings) (c : ℕ) (cs : List ℕ) → IsSafeBefore (reading_by all settings) c
     → (last_variable_by all settings ≡ 0) ⊎ (begins_with_primary (elements_of (reading_by all settings) (nfd (c ∷ cs))) ≡ true) → IsTail all settings (c ∷ cs)
 tail_of all settings c cs h v = record { first = h.first; more = h.more; decomposes = h.decomposes; safe = h.safe; handled = v }

@@ -8,7 +8,7 @@ use Rattle.icu_provider.specs.Loads.{Loads}
 use Rattle.icu_provider.specs.Requests.{Request}
 use Rattle.icu_checks.specs.Checked.{checked_tables}
 use Rattle.icu_provider.specs.CollatorTables.{CollatorTables}
-use Rattle.icu_checks.specs.Loads.{lent_tables}
+use Rattle.icu_provider.specs.LentTables.{lent_tables}
 use Rattle.icu_comparison.specs.declared.collator.Collator.{Collator}
 use Rattle.icu_comparison.specs.declared.collator.CollatorBorrowed.{CollatorBorrowed}
 

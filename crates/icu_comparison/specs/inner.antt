@@ -3,3 +3,4 @@ pub mod LevelWeights
 pub mod SegmentsLeft
 pub mod ElementOrders
 pub mod Tails
+pub mod Fronts

@@ -49,7 +49,7 @@ fn compare_lists(left: &[char], right: &[char]) -> Ordering
     }
 }
 
-/// The order of two texts by all their decomposed characters (UTS #10, section 7.3 "Form Sort Keys"
+/// The order of two texts by all their decomposed characters (UTS #10, "Form Sort Keys"
 /// on the identical level; UTS #35 part 5, "Root Collation" on U+FFFE). Fails only where an
 /// allocation does.
 pub(crate) fn compare_characters<L: EncodedText, R: EncodedText>(

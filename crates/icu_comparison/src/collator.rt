@@ -1,6 +1,6 @@
 //! Collators: tables and settings.
 
-ghost use Rattle.std.specs.Prelude.{◌≡◌, false, Err, Ok, IfErr, IfOk, IfSome, IsSome};
+ghost use Rattle.std.specs.Prelude.{◌≡◌, ℕ, false, Err, Ok, IfErr, IfOk, IfSome, IsSome};
 ghost use Rattle.icu_options.specs.Conversions.{resolved_of};
 ghost use Rattle.icu_options.specs.Merge.{merge};
 ghost use Rattle.icu_options.specs.FlaggedSettings.{values_of};
@@ -10,10 +10,11 @@ ghost use Rattle.icu_checks.specs.Checked.{checked_tables};
 ghost use Rattle.icu_checks.specs.GoodTables.{IsGoodTables, IsTrueRefusal};
 ghost use Rattle.icu_cursor.specs.Cursors.{cursor_reading};
 ghost use Rattle.icu_elements.specs.Reading.{element_tables};
-ghost use Rattle.icu_elements.specs.TextElements.{elements_of};
+ghost use Rattle.icu_elements.specs.TextElements.{Reading, elements_of};
 ghost use Rattle.icu_order.specs.Forms.{form_by, last_variable_by};
 ghost use Rattle.icu_order.specs.TextOrder.{reading_by, handled_elements, handled_by};
 ghost use Rattle.icu_levels.specs.Fronts.{ReadsForward};
+ghost use Rattle.icu_comparison.specs.inner.Fronts.{IsFront};
 ghost use Rattle.icu_shortcuts.specs.Named.{NamesAll};
 ghost use Rattle.icu_shortcuts.specs.Letters.{IsLetter};
 ghost use Rattle.icu_shortcuts.specs.LetterTables.{AreLetters};
@@ -21,7 +22,7 @@ ghost use Rattle.icu_shortcuts.specs.SafeTables.{safe_reading};
 ghost use Rattle.unicode_normalization.specs.Forms.{nfd};
 
 use crate::handled::{HandledElements, HandledText};
-use icu_checks::{CheckedTables, load_tables};
+use icu_checks::CheckedTables;
 use icu_cursor::{CursorTables, ElementCursor};
 use icu_elements::{ElementTables, all_elements};
 use icu_encodings::{Characters, EncodedText};
@@ -31,8 +32,8 @@ use icu_options::{
     AlternateHandling, CollatorOptions, CollatorOptionsBitField, CollatorPreferences,
     ResolvedCollatorOptions, merged_options,
 };
-use icu_provider::CollationProvider;
-use icu_shortcuts::{Letter, Letters, NamedCharacters, SafePlaces, letter_of};
+use icu_provider::{CollationProvider, load_tables};
+use icu_shortcuts::{Letter, Letters, NamedCharacters, SafePlaces, outline_of};
 use icu_text_keys::key_form;
 use std::alloc::{AllocError, Global};
 
@@ -102,7 +103,8 @@ impl Collator {
         })
     }
 
-    /// The same collator, borrowed: copies nothing.
+    /// The same collator, borrowed: copies nothing of the tables. What each comparison asks of the settings is worked
+    /// out here, so that one borrowed collator serves for many comparisons.
     pub fn as_borrowed(&self) -> CollatorBorrowed<'_>
         ensures tables { tables_borrowed result ≡ tables_kept self.now }
         ensures settings { settings_borrowed result ≡ settings_kept self.now }
@@ -112,6 +114,8 @@ impl Collator {
             named: &self.named,
             letters: &self.letters,
             settings: self.settings,
+            form: key_form(&self.tables, self.settings),
+            last_variable: last_variable(&self.tables, self.settings),
         }
     }
 }
@@ -147,6 +151,25 @@ fn safe_places<'d>(
     )
 }
 
+/// What a character says of the front of a text that begins with it: whether the text may be cut before it, and the
+/// primary weight that the text's elements begin with, or 0 where that is not known.
+#[derive(Debug, Clone, Copy)]
+pub(crate) struct Front {
+    pub(crate) is_safe: bool,
+    pub(crate) leading_primary: u32,
+}
+
+/// What is known of a letter says what its front is.
+#[inline]
+fn front_of(letter: &Letter) -> Front
+    ensures { (reading : Reading) (c : ℕ) → IsLetter reading c letter.now → IsFront reading c result }
+{
+    Front {
+        is_safe: letter.is_safe,
+        leading_primary: letter.leading_primary,
+    }
+}
+
 /// The lead byte of numbers, where digits are read as numbers.
 fn numeric_primary(tables: &CheckedTables, settings: CollatorOptionsBitField) -> Option<u8>
     ensures { result ≡ (reading_by (checked_tables tables.now) (values_of settings)).numeric }
@@ -158,17 +181,35 @@ fn numeric_primary(tables: &CheckedTables, settings: CollatorOptionsBitField) ->
     }
 }
 
-/// A collator that borrows its tables.
+/// The last primary weight of the groups that are variable, or 0 where none is.
+fn last_variable(tables: &CheckedTables, settings: CollatorOptionsBitField) -> u32
+    ensures { result ≡ last_variable_by (checked_tables tables.now) (values_of settings) }
+{
+    match settings.alternate_handling() {
+        AlternateHandling::NonIgnorable => 0,
+        AlternateHandling::Shifted | AlternateHandling::Blanked => {
+            let special = tables.special_primaries();
+            special.last_primary_for_group(settings.max_variable())
+        }
+    }
+}
+
+/// A collator that borrows its tables, with what each comparison asks of the settings: the levels that count, which
+/// elements are variable, and how texts are read.
 #[derive(Debug, Clone, Copy)]
 pub struct CollatorBorrowed<'a> {
     pub(crate) tables: &'a CheckedTables,
     named: &'a NamedCharacters,
     letters: &'a Letters,
     settings: CollatorOptionsBitField,
+    form: KeyForm,
+    last_variable: u32,
     ghost backward: { (values_of settings).backward_second_level
         ≡ is_backward (checked_tables tables.now).bits },
-    ghost names: { NamesAll named.now (checked_tables tables.now).tables },
     ghost known: { AreLetters (reading_by (checked_tables tables.now) (values_of settings)) letters.now },
+    ghost levels: { form ≡ form_by (checked_tables tables.now) (values_of settings) },
+    ghost variable: { last_variable ≡ last_variable_by (checked_tables tables.now) (values_of settings) },
+    ghost names: { NamesAll named.now (checked_tables tables.now).tables },
 }
 
 impl<'a> CollatorBorrowed<'a> {
@@ -200,11 +241,10 @@ impl<'a> CollatorBorrowed<'a> {
     pub(crate) fn key_form(&self) -> KeyForm
         ensures { result ≡ form_by (tables_borrowed self.now) (settings_borrowed self.now) }
     {
-        key_form(self.tables, self.settings)
+        self.form
     }
 
-    /// The elements of a text as the settings handle variable ones (UTS #10, section 4 "Variable
-    /// Weighting").
+    /// The elements of a text as the settings handle variable ones (UTS #10, "Variable Weighting").
     pub(crate) fn handled<'e>(&self, elements: &'e [CollationElement]) -> HandledElements<'e>
         ensures { handled_rest result
             ≡ handled_elements (tables_borrowed self.now) (settings_borrowed self.now)
@@ -219,13 +259,7 @@ impl<'a> CollatorBorrowed<'a> {
         ensures { result
             ≡ last_variable_by (tables_borrowed self.now) (settings_borrowed self.now) }
     {
-        match self.settings.alternate_handling() {
-            AlternateHandling::NonIgnorable => 0,
-            AlternateHandling::Shifted | AlternateHandling::Blanked => {
-                let special = self.tables.special_primaries();
-                special.last_primary_for_group(self.settings.max_variable())
-            }
-        }
+        self.last_variable
     }
 
     /// Whether secondary weights are read backward.
@@ -235,14 +269,25 @@ impl<'a> CollatorBorrowed<'a> {
         self.key_form().secondary == Some(SecondaryForm::Backward)
     }
 
-    /// What is known of a character.
+    /// What a character says of the front of a text that begins with it.
     #[inline]
-    pub(crate) fn letter(&self, c: char) -> Letter
-        ensures { IsLetter (reading_by (tables_borrowed self.now) (settings_borrowed self.now)) c result }
+    pub(crate) fn front(&self, c: char) -> Front
+        ensures { IsFront (reading_by (tables_borrowed self.now) (settings_borrowed self.now)) c result }
     {
         match self.letters.get(c) {
-            Some(letter) => *letter,
-            None => letter_of(safe_places(self.tables, self.named, self.settings), c),
+            Some(letter) => front_of(letter),
+            None => front_of(&self.outline(c)),
+        }
+    }
+
+    /// What is known of the front of a character that isn't among those that are read most.
+    #[inline(never)]
+    fn outline(&self, c: char) -> Letter
+        ensures { IsLetter (reading_by (tables_borrowed self.now) (settings_borrowed self.now)) c result }
+    {
+        match self.letters.syllable(c) {
+            Some(letter) => letter,
+            None => outline_of(&safe_places(self.tables, self.named, self.settings), c),
         }
     }
 

@@ -19,11 +19,10 @@ use std::cmp::Ordering;
 impl<'a> CollatorBorrowed<'a> {
     ghost use Rattle.icu_comparison.specs.Collators.{tables_borrowed, settings_borrowed};
 
-    /// The order of two texts by the tables and the settings (UTS #10, section 7.4 "Compare Sort
-    /// Keys"), for all of them. The first level that differs decides: primary weights, reordered,
-    /// then secondary weights, forward or backward, cases, tertiary weights, quaternary weights, and
-    /// the characters of the decomposed texts, as far as the settings name these levels. It is the
-    /// dictionary order of the two texts' sort keys. Fails only where an allocation does.
+    /// The order of two texts by the tables and the settings (UTS #10, "Compare Sort Keys"), for all of them. The first
+    /// level that differs decides: primary weights, reordered, then secondary weights, forward or backward, cases,
+    /// tertiary weights, quaternary weights, and the characters of the decomposed texts, as far as the settings name
+    /// these levels. It is the dictionary order of the two texts' sort keys. Fails only where an allocation does.
     pub fn compare(&self, left: &str, right: &str) -> Result<Ordering, AllocError>
         ensures order { IfOk result (λ o. o ≡ text_order (tables_borrowed self.now)
             (settings_borrowed self.now) (chars left.now) (chars right.now)) }
@@ -36,7 +35,7 @@ impl<'a> CollatorBorrowed<'a> {
     }
 
     /// The same of two texts in UTF-8 that may be damaged: each maximal ill-formed part is one U+FFFD
-    /// (Unicode Standard, section 3.9). Fails only where an allocation does.
+    /// (Unicode Standard, "Unicode Encoding Forms"). Fails only where an allocation does.
     pub fn compare_utf8(&self, left: &[u8], right: &[u8]) -> Result<Ordering, AllocError>
         ensures order { IfOk result (λ o. o ≡ text_order (tables_borrowed self.now)
             (settings_borrowed self.now) (utf8_text left.now) (utf8_text right.now)) }
@@ -48,8 +47,8 @@ impl<'a> CollatorBorrowed<'a> {
         self.compare_texts(Utf8Text(left), Utf8Text(right))
     }
 
-    /// The same of two texts in UTF-16: each unpaired surrogate is U+FFFD (Unicode Standard, section
-    /// 3.9). Fails only where an allocation does.
+    /// The same of two texts in UTF-16: each unpaired surrogate is U+FFFD (Unicode Standard, "Unicode
+    /// Encoding Forms"). Fails only where an allocation does.
     pub fn compare_utf16(&self, left: &[u16], right: &[u16]) -> Result<Ordering, AllocError>
         ensures order { IfOk result (λ o. o ≡ text_order (tables_borrowed self.now)
             (settings_borrowed self.now) (utf16_text left.now) (utf16_text right.now)) }
@@ -62,7 +61,7 @@ impl<'a> CollatorBorrowed<'a> {
     }
 
     /// The same of two texts in Latin-1: each byte is the character of its number (Unicode Standard,
-    /// section 7.1). Fails only where an allocation does.
+    /// "Latin"). Fails only where an allocation does.
     pub fn compare_latin1(&self, left: &[u8], right: &[u8]) -> Result<Ordering, AllocError>
         ensures order { IfOk result (λ o. o ≡ text_order (tables_borrowed self.now)
             (settings_borrowed self.now) (latin1_text left.now) (latin1_text right.now)) }

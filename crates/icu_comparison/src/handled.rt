@@ -1,4 +1,4 @@
-//! The elements of a text as variable weighting leaves them (UTS #10, section 4 "Variable Weighting").
+//! The elements of a text as variable weighting leaves them (UTS #10, "Variable Weighting").
 
 ghost use Rattle.std.specs.Prelude.{◌≡◌, false, ◌≤◌, ◌++◌, ◌+◌, [], length, option_map, option_to_list, IfSome, IfOk, None};
 

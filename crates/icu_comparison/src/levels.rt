@@ -23,7 +23,7 @@ const CASE_MASK: u16 = 0xC000;
 /// The quaternary bits of a lower half.
 const QUATERNARY_MASK: u16 = 0xC0;
 
-/// A level that is compared from the front (UTS #10, section 7.3 "Form Sort Keys").
+/// A level that is compared from the front (UTS #10, "Form Sort Keys").
 #[derive(Debug, Clone, Copy)]
 pub(crate) enum Level<'d> {
     /// Primary weights, reordered.

@@ -89,7 +89,8 @@ impl<'a> CollatorBorrowed<'a> {
         }
     }
 
-    /// The order of the secondary weights, backward. The elements are read into lists, since they are gone through from the end.
+    /// The order of the secondary weights, backward. The elements are read into lists, since they are gone through from
+    /// the end.
     fn compare_backward<L: EncodedText, R: EncodedText>(
         &self,
         left: L,
@@ -155,8 +156,9 @@ impl<'a> CollatorBorrowed<'a> {
         }
     }
 
-    /// The order of two texts by their elements: all levels but the identical one. Texts of the same elements are gone through
-    /// once.
+    /// The order of two texts by their elements: all levels but the identical one. Texts of the same elements are gone
+    /// through once.
+    #[inline(never)]
     pub(crate) fn compare_elements<L: EncodedText, R: EncodedText>(
         &self,
         left: L,

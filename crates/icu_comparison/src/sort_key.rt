@@ -31,9 +31,9 @@ fn write_nothing<S: CollationKeySink>(sink: &mut S) -> Result<S::Output, SortKey
 impl<'a> CollatorBorrowed<'a> {
     ghost use Rattle.icu_comparison.specs.Collators.{tables_borrowed, settings_borrowed};
 
-    /// Writes the sort key of a text by the tables and the settings to a sink, and ends it (UTS #10, section 7.3 "Form
-    /// Sort Keys"; UTS #35 part 5, "Setting Options"). The dictionary order of two texts' keys by the same tables and
-    /// settings is the order of the texts that `compare` returns. Each text has a key, by all tables and settings.
+    /// Writes the sort key of a text by the tables and the settings to a sink, and ends it (UTS #10, "Form Sort Keys";
+    /// UTS #35 part 5, "Setting Options"). The dictionary order of two texts' keys by the same tables and settings is
+    /// the order of the texts that `compare` returns. Each text has a key, by all tables and settings.
     ///
     /// `Ok` means that the sink took the whole key, and is what its `finish` returned. After an error, discard what the
     /// sink holds.
@@ -54,7 +54,7 @@ impl<'a> CollatorBorrowed<'a> {
     }
 
     /// The same of a text in UTF-8 that may be damaged: each maximal ill-formed part is one U+FFFD (Unicode Standard,
-    /// section 3.9).
+    /// "Unicode Encoding Forms").
     ///
     /// # Errors
     ///
@@ -70,7 +70,7 @@ impl<'a> CollatorBorrowed<'a> {
         self.write_key_of(Utf8Text(text), sink)
     }
 
-    /// The same of a text in UTF-16: each unpaired surrogate is U+FFFD (Unicode Standard, section 3.9).
+    /// The same of a text in UTF-16: each unpaired surrogate is U+FFFD (Unicode Standard, "Unicode Encoding Forms").
     ///
     /// # Errors
     ///
@@ -104,8 +104,8 @@ impl<'a> CollatorBorrowed<'a> {
         self.write_with_characters(text, characters.as_slice(), sink)
     }
 
-    /// Writes the key of a text, with these characters at the identical level. Its elements are written as they are read: no
-    /// list of them is made.
+    /// Writes the key of a text, with these characters at the identical level. Its elements are written as they are
+    /// read: no list of them is made.
     fn write_with_characters<T: EncodedText, S: CollationKeySink>(
         &self,
         text: T,

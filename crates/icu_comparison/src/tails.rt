@@ -18,8 +18,8 @@ impl<'a> CollatorBorrowed<'a> {
     ghost use Rattle.icu_comparison.specs.inner.Tails.{LeadsWith};
     ghost use Rattle.icu_order.specs.TextCuts.{IsTail};
 
-    /// What two texts have from the last safe place on within their common beginning, which is `common` units long. `None`
-    /// where there is none but that at its front.
+    /// What two texts have from the last safe place on within their common beginning, which is `common` units long.
+    /// `None` where there is none but that at its front.
     pub(crate) fn tails<L: EncodedText, R: EncodedText>(
         &self,
         left: L,
@@ -45,14 +45,15 @@ impl<'a> CollatorBorrowed<'a> {
         None
     }
 
-    /// Whether a text may follow others without a change of what it gives: it is empty, or may be cut off before its first
-    /// character, and where elements may be variable its first one has a primary weight. False is right of any text.
+    /// Whether a text may follow others without a change of what it gives: it is empty, or may be cut off before its
+    /// first character, and where elements may be variable its first one has a primary weight. False is right of any
+    /// text.
     fn starts_anew<T: EncodedText>(&self, text: T) -> bool
         ensures { IsTrue result → IsTail (tables_borrowed self.now) (settings_borrowed self.now) (T.text text) }
     {
         match text.split_first_char() {
             Some((first, _)) => {
-                let letter = self.letter(first);
+                let letter = self.front(first);
                 first_starters_lead();
                 letter.is_safe && (letter.leading_primary != 0 || self.last_variable() == 0)
             }
@@ -78,14 +79,14 @@ impl<'a> CollatorBorrowed<'a> {
         unequal(reordered(reordering, one), reordered(reordering, other))
     }
 
-    /// The first primary weight of a text, where its first character says it and elements that begin with it aren't variable:
-    /// 0 of an empty text.
+    /// The first primary weight of a text, where its first character says it and elements that begin with it aren't
+    /// variable: 0 of an empty text.
     fn leading_primary<T: EncodedText>(&self, text: T) -> Option<u32>
         ensures { IfSome result (λ p. LeadsWith (tables_borrowed self.now) (settings_borrowed self.now) (T.text text) p) }
     {
         match text.split_first_char() {
             Some((first, _)) => {
-                let primary = self.letter(first).leading_primary;
+                let primary = self.front(first).leading_primary;
                 first_starters_lead();
                 if primary > self.last_variable() {
                     Some(primary)

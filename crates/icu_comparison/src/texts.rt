@@ -18,7 +18,7 @@ pub(crate) fn str_text(text: &str) -> Utf8Text<'_>
     Utf8Text(text.as_bytes())
 }
 
-/// The canonical decomposition of a text (UAX #15, "Normalization Form D").
+/// The canonical decomposition of a text (UAX #15, "Normalization Forms").
 pub(crate) fn decomposed<T: EncodedText>(alloc: Global, text: T) -> Result<Vec<char>, AllocError>
     ensures { IfOk result (λ cs. cs.items ≡ nfd (T.text text)) }
 {

@@ -1,4 +1,4 @@
-//! Variable weighting, one element at a time (UTS #10, section 4 "Variable Weighting").
+//! Variable weighting, one element at a time (UTS #10, "Variable Weighting").
 
 ghost use Rattle.std.specs.Prelude.{◌≡◌, List, false, ◌∷◌, ◌++◌, option_map, option_to_list};
 ghost use Rattle.icu_entries.specs.Elements.{Element};

@@ -18,7 +18,7 @@ cursor_reading t = reading_of t.tables t.numeric_primary t.lithuanian_dot_above
 abbrev pub elements_unread : {T : Type 0} → (T → List ℕ) → ElementCursor T → List Element
 elements_unread text c = elements_after (cursor_reading c.tables.now) (context_of c.recent) (nfd (text c.text))
 
--- the elements that it still gives, unless an allocation fails: those that stand ready, those of a piece, and those of the text that
--- isn't read
+-- the elements that it still gives, unless an allocation fails: those that stand ready, those of a piece, and those of
+-- the text that isn't read
 unfoldable pub cursor_gives : {T : Type 0} → (T → List ℕ) → ElementCursor T → List Element
 cursor_gives text c = elements_ready c.ready ++ (piece_gives c.piece ++ elements_unread text c)

@@ -15,9 +15,9 @@ use icu_entries::CollationElement;
 use icu_shortcuts::LetterKind;
 use std::alloc::AllocError;
 
-/// Reads an encoded text and gives its collation elements, one by one (UTS #10, section 7.2). A letter that gives the same elements
-/// wherever it stands is read from what is kept of it; any other with what follows it up to the next character before which the text
-/// may be cut.
+/// Reads an encoded text and gives its collation elements, one by one (UTS #10, "Produce Collation Element Arrays"). A
+/// letter that gives the same elements wherever it stands is read from what is kept of it; any other with what follows
+/// it up to the next character before which the text may be cut.
 #[derive(Drop)]
 pub struct ElementCursor<'c, 'd, T> {
     tables: &'c CursorTables<'d>,
@@ -45,8 +45,8 @@ impl<'c, 'd, T: EncodedText> ElementCursor<'c, 'd, T> {
         }
     }
 
-    /// The next element, or `None` after the last one. Allocates only where a letter has to be read with what stands around it. Fails
-    /// only where an allocation does; discard the cursor then.
+    /// The next element, or `None` after the last one. Allocates only where a letter has to be read with what stands
+    /// around it. Fails only where an allocation does; discard the cursor then.
     #[inline]
     pub fn next(&mut self) -> Result<Option<CollationElement>, AllocError>
         ensures next { IfOk result (λ next. cursor_gives T.text self.old
@@ -155,6 +155,18 @@ impl<'c, 'd, T: EncodedText> ElementCursor<'c, 'd, T> {
             self.recent.push(c);
             return Ok(());
         }
+        self.begin_piece(c, rest)
+    }
+
+    /// Reads the piece that a letter begins. Out of line: a function clears its large locals each time that it is
+    /// called, and a piece's reader is large.
+    #[inline(never)]
+    fn begin_piece(&mut self, c: char, rest: T) -> Result<(), AllocError>
+        requires nothing { HasNothingReady self.old }
+        requires text { T.text self.old.text ≡ c ∷ T.text rest }
+        ensures same { OnOk result (cursor_gives T.text self.new ≡ cursor_gives T.text self.old) }
+        ensures shorter { OnOk result (length (T.text self.new.text) ≤ length (T.text rest)) }
+    {
         let (piece, left) = split_piece(self.tables, c, rest)?;
         let reader = read_piece(self.tables, self.recent, piece.as_slice())?;
         self.piece = Some(reader);

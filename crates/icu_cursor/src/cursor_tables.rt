@@ -29,9 +29,9 @@ pub struct CursorTables<'d> {
 impl<'d> CursorTables<'d> {
     ghost use Rattle.icu_cursor.specs.Cursors.{cursor_reading};
 
-    /// By these tables, whose rows name no other characters than `named` has, and with these letters, which were worked out for
-    /// them. `numeric_primary` is the lead byte of numbers, where digits are read as numbers. With `lithuanian_dot_above`, U+0307
-    /// before a diacritic above is silent. Does not allocate.
+    /// By these tables, whose rows name no other characters than `named` has, and with these letters, which were worked
+    /// out for them. `numeric_primary` is the lead byte of numbers, where digits are read as numbers. With
+    /// `lithuanian_dot_above`, U+0307 before a diacritic above is silent. Does not allocate.
     #[tactic(auto, unfolding(crate::specs::Cursors::cursor_reading))]
     pub fn new(
         tables: ElementTables<'d>,
@@ -54,6 +54,15 @@ impl<'d> CursorTables<'d> {
         }
     }
 
+    /// Before which characters the texts may be cut.
+    #[inline]
+    #[tactic(auto, unfolding(crate::specs::Cursors::cursor_reading))]
+    pub fn places(&self) -> &SafePlaces<'d>
+        ensures { safe_reading result.now ≡ cursor_reading self.now }
+    {
+        &self.places
+    }
+
     /// What is kept of a character, if it is one of those that are read most.
     #[inline]
     #[tactic(auto, unfolding(crate::specs::Cursors::cursor_reading))]
@@ -70,7 +79,18 @@ impl<'d> CursorTables<'d> {
     {
         match self.kept_letter(c) {
             Some(letter) => *letter,
-            None => letter_of(self.places, c),
+            None => self.other_letter(c),
+        }
+    }
+
+    /// The same of one that isn't among those that are read most.
+    #[tactic(auto, unfolding(crate::specs::Cursors::cursor_reading))]
+    fn other_letter(&self, c: char) -> Letter
+        ensures { Serves (cursor_reading self.now) c result }
+    {
+        match self.letters.syllable(c) {
+            Some(letter) => letter,
+            None => letter_of(&self.places, c),
         }
     }
 
@@ -85,8 +105,8 @@ impl<'d> CursorTables<'d> {
         }
     }
 
-    /// The class of a character in a run of marks: 0 where its decomposition begins with a starter, which ends the run. `None`
-    /// where it decomposes to several characters, the first of which is a mark.
+    /// The class of a character in a run of marks: 0 where its decomposition begins with a starter, which ends the run.
+    /// `None` where it decomposes to several characters, the first of which is a mark.
     #[tactic(auto, unfolding(crate::specs::Cursors::cursor_reading))]
     pub(crate) fn class_in_run(&self, c: char) -> Option<u8>
         ensures { IfSome result (λ class. IsInRun c class) }

@@ -1,5 +1,5 @@
-//! The collation elements of an encoded text, one by one (UTS #10, section 7.2): letters that stand by themselves are read from what is
-//! kept of them, and all else piece by piece.
+//! The collation elements of an encoded text, one by one (UTS #10, "Produce Collation Element Arrays"): letters that
+//! stand by themselves are read from what is kept of them, and all else piece by piece.
 #![tactic(auto)]
 
 pub mod cursor;

@@ -16,8 +16,8 @@ use icu_entries::CollationElement;
 use std::alloc::AllocError;
 use unicode_normalization::slice::extend_nfd;
 
-/// The piece that begins with a character, and ends before the next character of the text before which it may be cut; and the text
-/// from there on.
+/// The piece that begins with a character, and ends before the next character of the text before which it may be cut;
+/// and the text from there on.
 pub(crate) fn split_piece<T: EncodedText>(
     tables: &CursorTables<'_>,
     first: char,

@@ -10,8 +10,8 @@ use std::alloc::{AllocError, Global};
 use unicode_normalization::Form;
 use unicode_normalization::char::decomposition;
 
-/// The last two characters that were read, as they stand in the text. They decompose to two characters at least, and prefixes look no
-/// further back (UTS #35 part 5, section 3.11).
+/// The last two characters that were read, as they stand in the text. They decompose to two characters at least, and
+/// prefixes look no further back (UTS #35 part 5, "Context-Sensitive Mappings").
 #[derive(Debug, Clone, Copy)]
 pub(crate) struct RecentLetters {
     older: Option<char>,

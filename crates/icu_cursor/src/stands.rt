@@ -9,10 +9,12 @@ use crate::cursor_tables::CursorTables;
 use icu_encodings::EncodedText;
 use icu_shortcuts::{Letter, LetterKind};
 
-/// How many marks of a run are looked at, at most. A longer run is read as a piece, so that no mark is looked at more often than this.
+/// How many marks of a run are looked at, at most. A longer run is read as a piece, so that no mark is looked at more
+/// often than this.
 const MARKS_AHEAD: u32 = 6;
 
-/// Whether the classes of the marks that a text begins with rise from this one, and are few. False is right of any text.
+/// Whether the classes of the marks that a text begins with rise from this one, and are few. False is right of any
+/// text.
 fn rises<T: EncodedText>(tables: &CursorTables<'_>, class: u8, text: T) -> bool
     ensures { IsTrue result → Rises class (T.text text) }
 {
@@ -37,7 +39,8 @@ fn rises<T: EncodedText>(tables: &CursorTables<'_>, class: u8, text: T) -> bool
     false
 }
 
-/// Whether a letter gives its own elements before a text, and changes nothing of the text's. False is right of any letter.
+/// Whether a letter gives its own elements before a text, and changes nothing of the text's. False is right of any
+/// letter.
 pub(crate) fn stands_before<T: EncodedText>(
     tables: &CursorTables<'_>,
     letter: &Letter,

@@ -9,8 +9,6 @@ mod BlockWalkLemmas
 mod VisitedLemmas
 pub mod ViolationLemmas
 pub mod WeightLemmas
+pub mod BothLemmas
 pub mod ImplicitLemmas
 mod WorkedData
-mod AddedRows
-mod BlockLemmas
-mod BuildingLemmas

@@ -1,4 +1,5 @@
--- Which violation a walk reports, by any judge, and the judge of a root or a tailoring alone: the first condition that an entry fails.
+-- Which violation a walk reports, by any judge, and the judge of a root or a tailoring alone: the first condition that
+-- an entry fails.
 use Rattle.std.proofs.Common.{◌≡◌, ℕ, ◌<◌, ◌≤◌, Bool, true, false, not, List, [], ◌∷◌, ◌⊎◌, Option, Some, None, if◌then◌else◌, refl, sym, ap, ◌∙◌, subst, IfSome, IsTrue, ◌↔◌, nat_lt, inl, inr, arith}
 use Rattle.std.proofs.lemmas.Bool.{and_parts, and_from}
 use Rattle.std.proofs.lemmas.Bool.Decides.{nat_tests}

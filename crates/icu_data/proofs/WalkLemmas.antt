@@ -1,4 +1,5 @@
--- A walk over characters: what each of its visits keeps it keeps, and what its end says goes back to each entry that is live.
+-- A walk over characters: what each of its visits keeps it keeps, and what its end says goes back to each entry that is
+-- live.
 use Rattle.std.proofs.Common.{◌≡◌, ℕ, Bool, true, false, ◌==◌, ◌&&◌, List, [], ◌∷◌, if◌then◌else◌, refl, sym, ap, ◌∙◌, subst, arith, fold, Result, Ok, Err, OnOk, inl, inr}
 use Rattle.std.proofs.lemmas.Bool.Decides.{nat_tests}
 use Rattle.std.specs.List.{AllByRecursion}

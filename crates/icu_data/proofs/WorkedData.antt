@@ -13,8 +13,8 @@ use Rattle.icu_data.specs.DataConditions.{is_inside, has_short_rows, avoids_diac
 use Rattle.icu_entries.specs.EntryConditions.{has_digit, has_known_byte, has_offset_weight}
 use Rattle.icu_data.specs.LiveConditions.{first_failing}
 
--- A table in which each character has one entry, with offset data, a plain entry, and two contexts: the first for a prefix, which
--- leads to the second, a contraction, whose row leads to a digit.
+-- A table in which each character has one entry, with offset data, a plain entry, and two contexts: the first for a
+-- prefix, which leads to the second, a contraction, whose row leads to a digit.
 abbrev with_entry : ℕ → Data
 with_entry e = record {
   value = λ c. e;

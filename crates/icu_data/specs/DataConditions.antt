@@ -1,4 +1,5 @@
--- The conditions on one entry of a root or a tailoring, each in one word over the entry, its home and, where it counts, its character.
+-- The conditions on one entry of a root or a tailoring, each in one word over the entry, its home and, where it counts,
+-- its character.
 use Rattle.std.specs.Prelude.{ℕ, ◌+◌, Bool, true, not, ◌&&◌, nat_le, nat_lt, length, take, drop}
 use Rattle.std.specs.List.{list_all}
 use Rattle.icu_entries.specs.declared.entry.EntryKind.TheVariants.{Expansion32, Expansion, Prefix, Contraction, Digit, Offset}

@@ -10,7 +10,8 @@ use Rattle.icu_data.specs.Data.{HomedEntry}
 abbrev pub listed : {A : Type 0} → ℕ → List A → List A
 listed e xs = take (list_length e) (drop (entry_index e) xs)
 
--- the elements that a final entry gives for a character; any other entry has none, nor has an offset entry whose data is missing
+-- the elements that a final entry gives for a character; any other entry has none, nor has an offset entry whose data
+-- is missing
 unfoldable pub final_elements : HomedEntry → ℕ → List Element
 final_elements h c =
     elim (kind_of h.entry) [

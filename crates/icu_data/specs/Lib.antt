@@ -9,8 +9,4 @@ pub mod LiveWeights
 pub mod CodePointTables
 pub mod Contexts
 pub mod StoredData
-pub mod OwnedData
-pub mod AddedContexts
-pub mod Building
-pub mod Blocks
 pub mod inner

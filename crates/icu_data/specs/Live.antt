@@ -1,6 +1,7 @@
--- The entries that reading a text may come to from an entry. Prefixes lead to contractions, those to digits, and digits to final
--- entries, so there are three layers. Where an entry leads to one that it may not lead to, that one is live, and opens nothing. An index
--- outside its table reads as the empty context, or as entry 0, as it does where texts are read.
+-- The entries that reading a text may come to from an entry. Prefixes lead to contractions, those to digits, and digits
+-- to final entries, so there are three layers. Where an entry leads to one that it may not lead to, that one is live,
+-- and opens nothing. An index outside its table reads as the empty context, or as entry 0, as it does where texts are
+-- read.
 use Rattle.std.specs.Prelude.{ℕ, Bool, true, false, ◌&&◌, ◌==◌, List, [], ◌∷◌, map, flat_map, if◌then◌else◌}
 use Rattle.std.specs.Char.{IsScalar}
 use Rattle.std.specs.List.{AllByRecursion, list_any}
@@ -29,13 +30,13 @@ unfoldable pub live_from : Data → ℕ → List ℕ
 live_from home e =
     elim (kind_of e) [ Prefix ↦ e ∷ flat_map (live_contraction home) (named_entries home e) | _ ↦ live_contraction home e ]
 
--- The entries that are live with a character of a code point table. A tailoring falls back: where its entry is fallback, the root's
--- stands for it, and it has none.
+-- The entries that are live with a character of a code point table. A tailoring falls back: where its entry is
+-- fallback, the root's stands for it, and it has none.
 abbrev pub live_at : Bool → Data → ℕ → List ℕ
 live_at falls_back home c = if falls_back && home.value c == fallback_entry then [] else live_from home (home.value c)
 
--- What the entry gives goes by its character: a weight that is counted from that of another, or an implicit one (UTS #10, section
--- 10.1). Any other entry gives the same with each character.
+-- What the entry gives goes by its character: a weight that is counted from that of another, or an implicit one (UTS
+-- #10, "Implicit Weights"). Any other entry gives the same with each character.
 unfoldable pub goes_by_character : ℕ → Bool
 goes_by_character e = elim (kind_of e) [ Offset ↦ true | Implicit ↦ true | _ ↦ false ]
 

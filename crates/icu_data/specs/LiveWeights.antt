@@ -1,5 +1,5 @@
--- The weights of the elements of live entries, as they are collected. Those of implicit weights (UTS #10, section 10.1) aren't: they
--- follow from the character, and there are a million of them.
+-- The weights of the elements of live entries, as they are collected. Those of implicit weights (UTS #10, "Implicit
+-- Weights") aren't: they follow from the character, and there are a million of them.
 use Rattle.std.specs.Prelude.{ℕ, ◌≡◌, Bool, true, false, ◌&&◌, List, Option, Some, IsTrue}
 use Rattle.std.specs.Char.{IsScalar}
 use Rattle.std.specs.List.{Contains}
@@ -15,7 +15,8 @@ use Rattle.icu_data.specs.Live.{live_at}
 unfoldable pub is_stated : Data → ℕ → ℕ → Bool
 is_stated home c e = (elim (kind_of e) [ Implicit ↦ false | _ ↦ true ]) && is_readable home c e
 
--- a weight that is collected of an element of one of these entries with this character; of an entry that states none, none is
+-- a weight that is collected of an element of one of these entries with this character; of an entry that states none,
+-- none is
 pub record IsWeightAmong (weight : Element → Option ℕ) (home : Data) (c : ℕ) (es : List ℕ) (w : ℕ) : Type 0 where
   pub e : ℕ
   pub live : Contains es e

@@ -15,8 +15,12 @@ after_all after v home c es = fold (λ v e. after v home c e) v es
 abbrev pub after_chars : {V : Type 0} → (V → Data → ℕ → ℕ → V) → Bool → V → Data → List ℕ → V
 after_chars after falls_back v home cs = fold (λ v c. after_all after v home c (live_at falls_back home c)) v cs
 
--- One of these characters stands for a character: it has its entry, and nothing that is live from there goes by the character, unless
--- it is that character.
+-- what two visitors are after one more entry, which both of them visit
+abbrev pub after_both : {V W : Type 0} → (V → Data → ℕ → ℕ → V) → (W → Data → ℕ → ℕ → W) → V × W → Data → ℕ → ℕ → V × W
+after_both first second s home c e = (first s.0 home c e, second s.1 home c e)
+
+-- One of these characters stands for a character: it has its entry, and nothing that is live from there goes by the
+-- character, unless it is that character.
 pub record StandsFor (home : Data) (cs : List ℕ) (c : ℕ) : Type 0 where
   pub other : ℕ
   pub among : Contains cs other
@@ -28,8 +32,8 @@ pub record IsPassed {V : Type 0} (after : V → Data → ℕ → ℕ → V) (hom
   pub implicit : kind_of (home.value c) ≡ Implicit
   pub nothing : after v home c (home.value c) ≡ v
 
--- A visitor went from one state to another by visits of entries that are live, in any order and any number of times: for each character
--- another one stands whose entries were visited, or it is passed.
+-- A visitor went from one state to another by visits of entries that are live, in any order and any number of times:
+-- for each character another one stands whose entries were visited, or it is passed.
 pub record Walked {V : Type 0} (after : V → Data → ℕ → ℕ → V) (falls_back : Bool) (home : Data) (old new : V) : Type 0 where
   pub chars : List ℕ
   pub scalars : AllByRecursion IsScalar chars

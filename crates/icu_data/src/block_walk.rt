@@ -1,4 +1,5 @@
-//! A walk over all characters, block by block: what is stored once is visited once, as far as it doesn't go by the character.
+//! A walk over all characters, block by block: what is stored once is visited once, as far as it doesn't go by the
+//! character.
 ghost use Rattle.std.specs.Prelude.{◌≡◌, ℕ, ◌+◌, ◌*◌, ◌^◌, ◌<◌, ◌||◌, ◌⊎◌, Bool, true, false, OnOk, IsTrue};
 ghost use Rattle.std.specs.Char.{IsScalar};
 ghost use Rattle.icu_data.specs.Data.{Data};
@@ -15,9 +16,9 @@ use icu_entries::{CollationElement32, EntryKind};
 use std::convert::Infallible;
 
 /// Which characters are visited.
-#[derive(Debug, Clone, Copy, PartialEq, Eq)]
+#[derive(Clone, Copy)]
 enum Part {
-    /// All but those with an implicit weight (UTS #10, section 10.1).
+    /// All but those with an implicit weight (UTS #10, "Implicit Weights").
     Stated,
     /// Of these, those that lead to an entry that goes by its character.
     ByCharacter,
@@ -26,7 +27,7 @@ enum Part {
 }
 
 /// What was done with the values of a block.
-#[derive(Debug, Clone, Copy, PartialEq, Eq)]
+#[derive(Clone, Copy)]
 enum BlockState {
     /// No character read it so far.
     Unread,
@@ -36,7 +37,8 @@ enum BlockState {
     Shared,
 }
 
-/// Whether what an entry gives goes by its character: a weight that is counted from that of another character, or an implicit one.
+/// Whether what an entry gives goes by its character: a weight that is counted from that of another character, or an
+/// implicit one.
 #[tactic(auto, unfolding(crate::specs::Live::goes_by_character))]
 pub(crate) fn goes_by_character(entry: CollationElement32) -> bool
     ensures { result ≡ goes_by_character entry }
@@ -134,8 +136,8 @@ fn is_wanted(part: Part, home: CollationData<'_>, entry: CollationElement32) -> 
     }
 }
 
-/// Visits each entry that is live with a character of the code point table. With `falls_back`, as in a tailoring, fallback entries
-/// are passed over.
+/// Visits each entry that is live with a character of the code point table. With `falls_back`, as in a tailoring,
+/// fallback entries are passed over.
 fn visit_char<V: Visit>(
     visitor: &mut V,
     home: CollationData<'_>,
@@ -391,9 +393,10 @@ fn visit_stated<V: Visit>(
     Ok(())
 }
 
-/// Visits entries that are live with characters: one that goes by its character with each character, any other at least once. With
-/// `falls_back`, as in a tailoring, fallback entries of the code point table are passed over; entries for implicit weights are, where
-/// the visitor says that they change nothing. A block of the code point table that several indices name is visited once.
+/// Visits entries that are live with characters: one that goes by its character with each character, any other at least
+/// once. With `falls_back`, as in a tailoring, fallback entries of the code point table are passed over; entries for
+/// implicit weights are, where the visitor says that they change nothing. A block of the code point table that several
+/// indices name is visited once.
 pub fn visit_chars<V: Visit>(
     visitor: &mut V,
     home: CollationData<'_>,

@@ -11,7 +11,7 @@ pub const BLOCK_LEN: usize = 64;
 pub const BLOCK_COUNT: usize = 17408;
 
 /// How many code points there are.
-pub(crate) const CODE_POINT_COUNT: usize = 0x110000;
+pub const CODE_POINT_COUNT: usize = 0x110000;
 
 /// A function from characters to entries. There are 17408 blocks of 64 code points; character c has the value
 /// `values[64 * blocks[c / 64] + c % 64]`.
@@ -25,8 +25,8 @@ pub struct CodePointTable<'d> {
 impl<'d> CodePointTable<'d> {
     ghost use Rattle.icu_data.specs.StoredData.{table_value, table_block};
 
-    /// Borrows the blocks and the values. Refuses with `Length` if there are not 17408 blocks or the values don't come in
-    /// whole blocks of 64, and with `Index` if a block number lies past them.
+    /// Borrows the blocks and the values. Refuses with `Length` if there are not 17408 blocks or the values don't come
+    /// in whole blocks of 64, and with `Index` if a block number lies past them.
     pub fn new(blocks: &'d [u16], values: &'d [u32]) -> Result<CodePointTable<'d>, DataErrorKind>
         ensures accepts { IsOk result ↔ IsCodePointTable blocks.entry.now values.entry.now }
         ensures kind { IfErr result (FailsBlocks blocks.entry.now values.entry.now) }

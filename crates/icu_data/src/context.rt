@@ -27,9 +27,9 @@ pub struct ContextRow {
     pub entry: u32,
 }
 
-/// What prefix and contraction entries name: an entry for each of some lists of characters, and one for all else. The characters
-/// of a contraction's rows come after the entry's own; those of a prefix's come before it, the nearest first (UTS #35 part 5,
-/// section 3.11 "Context-Sensitive Mappings").
+/// What prefix and contraction entries name: an entry for each of some lists of characters, and one for all else. The
+/// characters of a contraction's rows come after the entry's own; those of a prefix's come before it, the nearest first
+/// (UTS #35 part 5, "Context-Sensitive Mappings").
 #[derive(Debug, Clone, Copy, PartialEq)]
 pub struct ContextTable<'d> {
     contexts: &'d [Context],
@@ -128,9 +128,9 @@ fn have_ascending_rows(contexts: &[Context], rows: &[ContextRow], chars: &[char]
 impl<'d> ContextTable<'d> {
     ghost use Rattle.icu_data.specs.StoredData.{contexts_of, found_context};
 
-    /// Borrows contexts, their rows, and the rows' characters. Refuses with `Index` if a range lies outside its list, and with
-    /// `Context` if in a context a row has no character, or the rows do not ascend by the numbers of their characters, a beginning
-    /// before the longer.
+    /// Borrows contexts, their rows, and the rows' characters. Refuses with `Index` if a range lies outside its list,
+    /// and with `Context` if in a context a row has no character, or the rows do not ascend by the numbers of their
+    /// characters, a beginning before the longer.
     pub fn new(
         contexts: &'d [Context],
         rows: &'d [ContextRow],
@@ -149,8 +149,8 @@ impl<'d> ContextTable<'d> {
         Ok(ContextTable::new_unchecked(contexts, rows, chars))
     }
 
-    /// The contexts, their rows, and the rows' characters, as `new` takes them. In each context the rows ascend by the numbers of their
-    /// characters.
+    /// The contexts, their rows, and the rows' characters, as `new` takes them. In each context the rows ascend by the
+    /// numbers of their characters.
     #[tactic(auto, using(crate::proofs::ContextLemmas::ascending_rows))]
     pub fn parts(self) -> (&'d [Context], &'d [ContextRow], &'d [char])
         ensures value { stored_contexts result.0.now result.1.now result.2.now ≡ contexts_of self.entry }

@@ -27,8 +27,8 @@ pub struct CollationData<'d> {
 impl<'d> CollationData<'d> {
     ghost use Rattle.icu_data.specs.StoredData.{data_of, data_by, found_context, block_in};
 
-    /// Borrows a root or a tailoring whose entries nothing has checked. Its look-ups ask their callers for what they need, so that it
-    /// does no harm; `new` checks the entries.
+    /// Borrows a root or a tailoring whose entries nothing has checked. Its look-ups ask their callers for what they
+    /// need, so that it does no harm; `new` checks the entries.
     #[tactic(auto, unfolding(crate::specs::StoredData::data_of))]
     pub fn new_unchecked(
         trie: CodePointTable<'d>,
@@ -46,12 +46,12 @@ impl<'d> CollationData<'d> {
         }
     }
 
-    /// Borrows a root or a tailoring, which may have fallback entries in its code point table. It is refused if an entry that a text
-    /// may come to fails a condition: with `Index` if what it refers to is not there, or a list has no member; `Context` if a row of a
-    /// prefix has not one character or two; `Chain` if it leads to an entry that it may not lead to; `Digit` if a digit is above 9;
-    /// `Tag` if its low byte, or that of a list's member, has no meaning where it stands; `Element` if a character has no weight by
-    /// its offset data, or an element is malformed, or a weight has a lead byte that it may not have. Secondary weights may lead
-    /// with 02.
+    /// Borrows a root or a tailoring, which may have fallback entries in its code point table. It is refused if an
+    /// entry that a text may come to fails a condition: with `Index` if what it refers to is not there, or a list has
+    /// no member; `Context` if a row of a prefix has not one character or two; `Chain` if it leads to an entry that it
+    /// may not lead to; `Digit` if a digit is above 9; `Tag` if its low byte, or that of a list's member, has no
+    /// meaning where it stands; `Element` if a character has no weight by its offset data, or an element is malformed,
+    /// or a weight has a lead byte that it may not have. Secondary weights may lead with 02.
     pub fn new(
         trie: CodePointTable<'d>,
         ces: &'d [u64],
@@ -78,8 +78,8 @@ impl<'d> CollationData<'d> {
         }
     }
 
-    /// The code point table, the bits of the elements, the entries, and the contexts, as `new` takes them. In each context the rows
-    /// ascend by the numbers of their characters.
+    /// The code point table, the bits of the elements, the entries, and the contexts, as `new` takes them. In each
+    /// context the rows ascend by the numbers of their characters.
     #[tactic(auto, using(crate::proofs::ContextLemmas::ascending_rows), unfolding(crate::specs::StoredData::data_of))]
     pub fn parts(self) -> (CodePointTable<'d>, &'d [u64], &'d [u32], ContextTable<'d>)
         ensures value { data_by result.0 result.1.now result.2.now result.3 ≡ data_of self.entry }
@@ -178,8 +178,8 @@ impl<'d> CollationData<'d> {
         CollationElement::new(self.ces[entry.index()])
     }
 
-    /// The element of a character by an offset entry. Its primary weight, of three bytes, comes as many weights after that of the
-    /// entry's data as the step says for each character from the base on.
+    /// The element of a character by an offset entry. Its primary weight, of three bytes, comes as many weights after
+    /// that of the entry's data as the step says for each character from the base on.
     #[tactic(auto, unfolding(crate::specs::Final::final_elements, crate::specs::DataConditions::fits_offset))]
     pub fn ce_from_offset_ce32(self, c: char, entry: CollationElement32) -> CollationElement
         requires offset { kind_of entry ≡ EntryKind.Offset }

@@ -1,17 +1,14 @@
-//! Roots and tailorings: entries by character, with the lists and contexts that they refer to, the entries that are live in them,
-//! and the conditions that these meet.
+//! Roots and tailorings: entries by character, with the lists and contexts that they refer to, the entries that are
+//! live in them, and the conditions that these meet.
 #![tactic(auto)]
 
-mod added_context;
 pub mod block_walk;
-mod blocks;
+pub mod both;
 pub mod code_point_table;
 pub mod context;
 mod context_conditions;
 pub mod data;
-pub mod data_builder;
 mod data_conditions;
-pub mod data_vectors;
 pub mod element_walk;
 pub mod live_condition;
 pub mod live_weights;
@@ -23,5 +20,3 @@ pub mod walk;
 pub use code_point_table::CodePointTable;
 pub use context::{Context, ContextRow, ContextTable, FoundContext, FoundRow};
 pub use data::CollationData;
-pub use data_builder::DataBuilder;
-pub use data_vectors::{DataVectors, OwnedData};

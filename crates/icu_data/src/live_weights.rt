@@ -26,8 +26,8 @@ pub trait Weigh {
     fn weight(&self, element: CollationElement) -> Option<u32>
         ensures { result ≡ weight self.now element };
 
-    /// Whether a weight of an element with a primary weight and common weights below may be collected, as those of entries that go by
-    /// their character are. `true` leaves that open.
+    /// Whether a weight of an element with a primary weight and common weights below may be collected, as those of
+    /// entries that go by their character are. `true` leaves that open.
     fn weighs_primaries(&self) -> bool
         ensures { result ≡ false → (p : ℕ) → weight self.now (of_primary p) ≡ None }
     {
@@ -54,8 +54,8 @@ pub fn sort_and_dedup(weights: &mut Vec<u32>)
     weights.dedup();
 }
 
-/// Makes room for one more weight. Where the list is full, each stays once, and it grows only where more than half of it is
-/// different weights: so it has room for at most four times as many as are different.
+/// Makes room for one more weight. Where the list is full, each stays once, and it grows only where more than half of
+/// it is different weights: so it has room for at most four times as many as are different.
 fn make_room(weights: &mut Vec<u32>) -> Result<(), AllocError>
     ensures { OnOk result ((w : ℕ) → Contains weights.new.items w ↔ Contains weights.old.items w) }
 {
@@ -94,14 +94,16 @@ fn is_stated(home: CollationData<'_>, c: char, entry: CollationElement32) -> boo
 
 /// A visitor that collects weights.
 #[derive(Drop)]
-struct Collector<'w, W> {
-    weigh: &'w W,
-    weights: Vec<u32>,
+pub struct Collector<'w, W> {
+    /// Which weights.
+    pub weigh: &'w W,
+    /// Those so far.
+    pub weights: Vec<u32>,
 }
 
 impl<'w, W: Weigh> Collector<'w, W> {
     /// A collector that goes on with a list, which is left empty.
-    fn over(weigh: &'w W, weights: &mut Vec<u32>) -> Collector<'w, W>
+    pub fn over(weigh: &'w W, weights: &mut Vec<u32>) -> Collector<'w, W>
         ensures weigh { result.weigh.now ≡ weigh.now }
         ensures weights { result.weights.items ≡ weights.old.items }
     {
@@ -161,9 +163,10 @@ impl<'w, W: Weigh> Visit for Collector<'w, W> {
     }
 }
 
-/// Adds to a list the weights that are collected of the elements of all entries that are live in a root or a tailoring, in any
-/// order, with or without repetition. A tailoring falls back: a fallback entry of its code point table is none. An entry whose
-/// elements can't be read, one that is not final, and one for an implicit weight, gives none. After an `Err`, out of memory, nothing is said of the list.
+/// Adds to a list the weights that are collected of the elements of all entries that are live in a root or a tailoring,
+/// in any order, with or without repetition. A tailoring falls back: a fallback entry of its code point table is none.
+/// An entry whose elements can't be read, one that is not final, and one for an implicit weight, gives none. After an
+/// `Err`, out of memory, nothing is said of the list.
 pub fn collect_weights<W: Weigh>(
     weights: &mut Vec<u32>,
     weigh: &W,

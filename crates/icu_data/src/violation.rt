@@ -45,8 +45,8 @@ pub trait Judge {
     fn is_alike(&self)
         ensures { (home : Data) (c d e : ℕ) → goes_by_character e ≡ false → violation self.now home c e ≡ violation self.now home d e };
 
-    /// Whether no entry for an implicit weight (UTS #10, section 10.1) has a violation, so that a walk may pass over the million
-    /// characters that have one. `false` leaves that open.
+    /// Whether no entry for an implicit weight (UTS #10, "Implicit Weights") has a violation, so that a walk may pass
+    /// over the million characters that have one. `false` leaves that open.
     fn passes_implicit(&self) -> bool
         ensures { result ≡ true → (home : Data) (c e : ℕ) → kind_of e ≡ EntryKind.Implicit → violation self.now home c e ≡ None }
     {
@@ -103,8 +103,8 @@ impl<'j, J: Judge> Visit for FirstViolation<'j, J> {
     }
 }
 
-/// The violation with the least rank among one found before and those of the entries that are live in a root or a tailoring. A tailoring
-/// falls back: a fallback entry of its code point table is none.
+/// The violation with the least rank among one found before and those of the entries that are live in a root or a
+/// tailoring. A tailoring falls back: a fallback entry of its code point table is none.
 pub fn first_violation<J: Judge>(
     judge: &J,
     first: Option<J::Violation>,

@@ -2,7 +2,8 @@
 ghost use Rattle.std.specs.Prelude.{ℕ, ◌≡◌, ◌⊎◌, ◌<◌, true};
 ghost use Rattle.icu_data.specs.inner.VisitedEntries.{IsRemembered};
 
-/// Entries that were visited. Each has one place, from which another one drives it, so that remembering one does not allocate.
+/// Entries that were visited. Each has one place, from which another one drives it, so that remembering one does not
+/// allocate.
 #[derive(Drop)]
 pub(crate) struct VisitedEntries {
     entries: [Option<u32>; 1024],

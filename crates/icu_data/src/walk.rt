@@ -34,8 +34,8 @@ pub trait Visit {
     ) -> Result<(), Self::Refusal>
         ensures { OnOk result (seen self.new ≡ after (seen self.old) (data_of home.entry) c entry) };
 
-    /// Whether a visit of an entry for an implicit weight (UTS #10, section 10.1) changes nothing, so that a walk may pass over the
-    /// million characters that have one. `false` leaves that open.
+    /// Whether a visit of an entry for an implicit weight (UTS #10, "Implicit Weights") changes nothing, so that a walk
+    /// may pass over the million characters that have one. `false` leaves that open.
     fn passes_implicit(&self) -> bool
         ensures { result ≡ true → (home : Data) (c e : ℕ) → kind_of e ≡ EntryKind.Implicit → after (seen self.now) home c e ≡ seen self.now }
     {

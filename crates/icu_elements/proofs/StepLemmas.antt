@@ -1,5 +1,5 @@
--- The elements of a text are those of one step and of what it leaves: a step leaves no more than stood after its character, so any
--- list that is long enough will do to go by.
+-- The elements of a text are those of one step and of what it leaves: a step leaves no more than stood after its
+-- character, so any list that is long enough will do to go by.
 use Rattle.std.proofs.Common.{◌≡◌, ℕ, ◌+◌, ◌≤◌, List, [], ◌∷◌, ◌++◌, length, drop, map, take_while, refl, ap, arith, length-append, length-drop}
 use Rattle.icu_entries.specs.declared.entry.EntryKind.{EntryKind}
 use Rattle.icu_entries.specs.declared.entry.EntryKind.TheVariants.{Contraction, Digit}

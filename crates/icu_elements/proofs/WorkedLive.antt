@@ -4,8 +4,8 @@ use Rattle.icu_entries.specs.Entries.{kind_of}
 use Rattle.icu_data.specs.Data.{Data}
 use Rattle.icu_data.specs.Live.{live_digit, live_contraction, live_from}
 
--- The first context is a contraction's, with a row that comes to a digit. The second is a prefix's: its default is that contraction,
--- and its row comes to a prefix.
+-- The first context is a contraction's, with a row that comes to a digit. The second is a prefix's: its default is that
+-- contraction, and its row comes to a prefix.
 abbrev small : Data
 small = record {
   value = λ c. 0;

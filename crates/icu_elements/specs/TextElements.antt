@@ -1,4 +1,5 @@
--- The elements of a decomposed text (UTS #10, section 7.2; numbers and prefixes by UTS #35 part 5).
+-- The elements of a decomposed text (UTS #10, "Produce Collation Element Arrays"; numbers and prefixes by UTS #35 part
+-- 5).
 use Rattle.std.specs.Prelude.{ℕ, Bool, true, false, not, ◌&&◌, ◌||◌, ◌==◌, List, [], ◌∷◌, ◌++◌, Option, Some, None, if◌then◌else◌, take, drop, length, map, reverse, is_some, take_while}
 use Rattle.unicode_normalization.specs.Order.{is_nonstarter}
 use Rattle.icu_levels.specs.Numbers.{run_weights}
@@ -11,8 +12,8 @@ use Rattle.icu_provider.specs.Tables.{Tables, entry_of, diacritic_of}
 use Rattle.icu_data.specs.Final.{final_elements}
 use Rattle.icu_matches.specs.Matches.{Match, match_of}
 
--- How a text is read: the tables, the lead byte of numbers where digits are read as numbers, and whether U+0307 before an
--- diacritic above is silent, as in Lithuanian.
+-- How a text is read: the tables, the lead byte of numbers where digits are read as numbers, and whether U+0307 before
+-- an diacritic above is silent, as in Lithuanian.
 pub record Reading : Type 0 where
   pub tables : Tables
   pub numeric : Option ℕ
@@ -55,7 +56,8 @@ digit_of tables c = digit_value (entry_of tables c).entry
 abbrev pub number_elements : ℕ → List ℕ → List Element
 number_elements lead digits = map of_primary (run_weights lead digits)
 
--- A number: the digit with the run of digits after it, or the digit alone where its match consumed a suffix or a mark follows.
+-- A number: the digit with the run of digits after it, or the digit alone where its match consumed a suffix or a mark
+-- follows.
 unfoldable pub number_step : Tables → ℕ → Match → Step
 number_step tables lead m =
     let run = take_while (continues_number tables) m.rest in
@@ -71,7 +73,8 @@ number_step tables lead m =
 abbrev pub final_step : Data → ℕ → ℕ → Match → Step
 final_step home c entry m = record { elements = final_elements (homed home entry) c; suffix = m.suffix; rest = m.rest }
 
--- what the entry that a match came to gives: a digit is a number, or its other entry where digits aren't read as numbers
+-- what the entry that a match came to gives: a digit is a number, or its other entry where digits aren't read as
+-- numbers
 unfoldable pub entry_step : Reading → Data → ℕ → Match → Step
 entry_step reading home c m =
     let letter : Step = final_step home c (plain_of home m.entry) m in

@@ -1,4 +1,5 @@
--- What the elements of decomposed texts are put together from: the elements of live entries, those of diacritics, and numbers.
+-- What the elements of decomposed texts are put together from: the elements of live entries, those of diacritics, and
+-- numbers.
 use Rattle.std.specs.Prelude.{ℕ, ◌≡◌, ◌⊎◌, ◌<◌, Bool, not, ◌||◌, ◌==◌, List, [], ◌∷◌, ◌++◌, Option, Some, IfSome, IsTrue}
 use Rattle.std.specs.Char.{IsScalar}
 use Rattle.std.specs.List.{AllByRecursion, Contains, list_all}

@@ -10,7 +10,7 @@ use crate::tables::ElementTables;
 use icu_entries::CollationElement;
 use std::alloc::AllocError;
 
-/// Reads a decomposed text and gives its collation elements, one by one (UTS #10, section 7.2).
+/// Reads a decomposed text and gives its collation elements, one by one (UTS #10, "Produce Collation Element Arrays").
 #[derive(Drop)]
 pub struct ElementReader<'d> {
     pub(crate) reading: TextReading<'d>,
@@ -41,8 +41,9 @@ impl<'d> ElementReader<'d> {
         ElementReader::after(&[], text, tables, numeric_primary, lithuanian_dot_above)
     }
 
-    /// The same of a text that comes after other characters. `before` has them in the order of the text, decomposed: the last two
-    /// are enough, since prefixes look no further back (UTS #35 part 5, section 3.11). Does not allocate.
+    /// The same of a text that comes after other characters. `before` has them in the order of the text, decomposed:
+    /// the last two are enough, since prefixes look no further back (UTS #35 part 5, "Context-Sensitive Mappings").
+    /// Does not allocate.
     pub fn after(
         before: &[char],
         text: Vec<char>,

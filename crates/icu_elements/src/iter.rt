@@ -22,8 +22,9 @@ enum Progress {
     Refused,
 }
 
-/// The collation elements of a text, one by one (UTS #10, section 7.2). The delegate is read no further than the next element
-/// asks: as far as its contraction or its number may go on, and as far as marks may change places by decomposition.
+/// The collation elements of a text, one by one (UTS #10, "Produce Collation Element Arrays"). The delegate is read no
+/// further than the next element asks: as far as its contraction or its number may go on, and as far as marks may
+/// change places by decomposition.
 #[derive(Drop)]
 pub struct CollationElements<'d, I> {
     source: Decompositions<I>,

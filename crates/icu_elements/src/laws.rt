@@ -9,22 +9,22 @@ pub fn texts_decompose()
     ensures { TextsDecompose }
 {}
 
-/// What holds of each part of a text's elements, and of two lists one after the other where it holds of both, holds of the
-/// elements of each decomposed text. The parts are the elements of each live entry, of each diacritic, and of each number
-/// (UTS #10, section 7.2).
+/// What holds of each part of a text's elements, and of two lists one after the other where it holds of both, holds of
+/// the elements of each decomposed text. The parts are the elements of each live entry, of each diacritic, and of each
+/// number (UTS #10, "Produce Collation Element Arrays").
 pub fn good_parts_make_good_texts()
     ensures lists { GoodPartsMakeGoodTexts }
     ensures elements { ElementsPass }
 {}
 
-/// Where each live digit entry's digit is at most 9, each element of each text is one of a live entry, of a diacritic or
-/// of a number (UTS #10, section 7.2).
+/// Where each live digit entry's digit is at most 9, each element of each text is one of a live entry, of a diacritic
+/// or of a number (UTS #10, "Produce Collation Element Arrays").
 pub fn elements_have_sources()
     ensures { ElementsHaveSources }
 {}
 
-/// By tables that meet the conditions, each element of each text is live by one of them, or is that of one of a number's
-/// weights (UTS #10, section 7.2; numbers by UTS #35 part 5).
+/// By tables that meet the conditions, each element of each text is live by one of them, or is that of one of a
+/// number's weights (UTS #10, "Produce Collation Element Arrays"; numbers by UTS #35 part 5).
 pub fn good_tables_give_live_elements()
     ensures { GoodTablesGiveLiveElements }
 {}

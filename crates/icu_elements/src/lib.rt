@@ -1,5 +1,5 @@
-//! The collation elements of a text (UTS #10, section 7.2): by contractions and prefixes, tailorings, numbers where digits are read as
-//! numbers, and the Lithuanian rule where it is asked for.
+//! The collation elements of a text (UTS #10, "Produce Collation Element Arrays"): by contractions and prefixes,
+//! tailorings, numbers where digits are read as numbers, and the Lithuanian rule where it is asked for.
 #![tactic(auto)]
 
 mod element_list;

@@ -10,8 +10,8 @@ ghost use Rattle.icu_elements.specs.inner.Iterating.{StillReads};
 use std::alloc::{AllocError, Global};
 use unicode_normalization::Decompositions;
 
-/// The canonical decomposition of the text that an iterator spells (UAX #15, "Normalization Form D"). Fails only where an
-/// allocation does.
+/// The canonical decomposition of the text that an iterator spells (UAX #15, "Normalization Forms"). Fails only where
+/// an allocation does.
 pub fn decomposed_text<I: Iterator<Item = char> + Drop>(
     alloc: Global,
     delegate: I,

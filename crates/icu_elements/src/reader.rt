@@ -1,5 +1,6 @@
-//! Reads a decomposed text, step by step (UTS #10, section 7.2; numbers and prefixes by UTS #35 part 5). At each character a step
-//! takes what it takes off the text, appends its elements to a list, and leaves the rest.
+//! Reads a decomposed text, step by step (UTS #10, "Produce Collation Element Arrays"; numbers and prefixes by UTS #35
+//! part 5). At each character a step takes what it takes off the text, appends its elements to a list, and leaves the
+//! rest.
 
 ghost use Rattle.std.specs.Prelude.{◌≡◌, IfOk};
 ghost use Rattle.icu_elements.specs.TextElements.{elements_of};
@@ -20,8 +21,8 @@ use crate::tables::ElementTables;
 use icu_entries::CollationElement;
 use std::alloc::AllocError;
 
-/// How a text is read: the tables, the lead byte of numbers where digits are read as numbers, and whether U+0307 before a diacritic
-/// above is silent.
+/// How a text is read: the tables, the lead byte of numbers where digits are read as numbers, and whether U+0307 before
+/// a diacritic above is silent.
 #[derive(Debug, Clone, Copy)]
 pub(crate) struct TextReading<'d> {
     pub(crate) tables: ElementTables<'d>,

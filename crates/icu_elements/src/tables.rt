@@ -71,8 +71,9 @@ impl<'d> ElementTables<'d> {
         }
     }
 
-    /// The entry of a character, with its home: that of a conjoining jamo by their table, whose home is the root, else the
-    /// tailoring's, and where there is none, or it is fallback, the root's (UTS #35 part 5, section 3).
+    /// The entry of a character, with its home: that of a conjoining jamo by their table, whose home is the root, else
+    /// the tailoring's, and where there is none, or it is fallback, the root's (UTS #35 part 5, "Collation
+    /// Tailorings").
     pub(crate) fn entry(self, c: char) -> HomedEntry<'d>
         ensures value { entry_of (element_tables self.entry) c ≡ homed (data_of result.home) result.ce32 }
         ensures good { IsGoodFrom (data_of result.home) c result.ce32 }
@@ -80,7 +81,7 @@ impl<'d> ElementTables<'d> {
         self.found(c)
     }
 
-    /// The kind of the entry of a character (UTS #35 part 5, section 3).
+    /// The kind of the entry of a character (UTS #35 part 5, "Collation Tailorings").
     pub fn kind(self, c: char) -> EntryKind
         ensures { result ≡ kind_of (entry_of (element_tables self.entry) c).entry }
     {

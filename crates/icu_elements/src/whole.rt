@@ -13,9 +13,9 @@ use crate::tables::ElementTables;
 use icu_entries::CollationElement;
 use std::alloc::AllocError;
 
-/// All elements of the text that an iterator spells (UTS #10, section 7.2). `numeric_primary` is the
-/// lead byte of numbers, where digits are read as numbers. With `lithuanian_dot_above`, U+0307 before
-/// a diacritic above is silent. Fails only where an allocation does.
+/// All elements of the text that an iterator spells (UTS #10, "Produce Collation Element Arrays"). `numeric_primary` is
+/// the lead byte of numbers, where digits are read as numbers. With `lithuanian_dot_above`, U+0307 before a diacritic
+/// above is silent. Fails only where an allocation does.
 pub fn all_elements<I: Iterator<Item = char> + Drop>(
     tables: ElementTables<'_>,
     delegate: I,

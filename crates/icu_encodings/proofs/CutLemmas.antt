@@ -9,6 +9,7 @@ use Rattle.bstr.specs.Utf8.{decoded, good, or_replacement}
 use Rattle.bstr.proofs.lemmas.PieceLemmas.{StartsClean as StartsPiece, pieces-append, lossy_chars-step, lossy_chars-nil, piece-bounds, value-1}
 use Rattle.icu_encodings.specs.inner.Utf16Units.{is_pair, lone_char}
 use Rattle.icu_encodings.specs.inner.Cuts.{StartsClean, StartsNoTrail}
+use Rattle.icu_encodings.specs.inner.Fronts.{HaveHead}
 use Rattle.icu_encodings.specs.DecodedTexts.{utf8_text, utf16_text}
 use Rattle.icu_encodings.proofs.Utf16Lemmas.{IsApart, IsCut, text_parted, text_of_none, first_is_lone, apart_from_all}
 
@@ -42,10 +43,6 @@ utf16_cut at us h =
     ap utf16_text (sym (take-append-drop at us)) ∙ text_parted (take at us) (drop at us) (cut_before (take at us) (drop at us) h)
 
 -- ---- common beginnings
-
--- the two lists begin alike, up to what is left of each
-abbrev pub HaveHead : (xs ys xs_left ys_left : List ℕ) → Type 0
-HaveHead xs ys xs_left ys_left = (head : List ℕ) × (xs ≡ head ++ xs_left) × (ys ≡ head ++ ys_left)
 
 pub no_head : (xs ys : List ℕ) → HaveHead xs ys xs ys
 no_head xs ys = ([], refl, refl)
@@ -142,3 +139,9 @@ pub utf16_first_unit : (u : ℕ) (us : List ℕ) → u < 0x80 → utf16_text (u 
 utf16_first_unit u us h =
     first_is_lone u us (apart_from_all u us (λ w. byte_is_alone u w (omega arith)))
     ∙ ap (λ c. c ∷ utf16_text us) (byte_is_itself u (omega arith))
+
+-- ---- words
+
+-- a longer common beginning goes on from a shorter one
+pub head_on : (xs ys xs_left ys_left xs_rest ys_rest : List ℕ) → HaveHead xs ys xs_left ys_left → HaveHead xs_left ys_left xs_rest ys_rest → HaveHead xs ys xs_rest ys_rest
+head_on xs ys xs_left ys_left xs_rest ys_rest h more = longer_head xs ys xs_left ys_left more.0 xs_rest ys_rest h more.1 more.2

@@ -4,3 +4,4 @@ pub mod ReadBackLemmas
 pub mod SpellLemmas
 pub mod Utf16Lemmas
 pub mod Utf8Lemmas
+mod WordLemmas

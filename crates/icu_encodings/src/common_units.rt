@@ -1,10 +1,11 @@
 //! The common beginning of two texts.
 
-ghost use Rattle.std.specs.Prelude.{◌≡◌, ◌≤◌, ℕ, take, length, MatchOption};
-ghost use Rattle.icu_encodings.specs.inner.Fronts.{BeginAlike, EndTogether};
+ghost use Rattle.std.specs.Prelude.{◌≡◌, ◌≤◌, ℕ, take, length, IsTrue, MatchOption};
+ghost use Rattle.icu_encodings.specs.inner.Fronts.{BeginAlike, EndTogether, HaveHead};
 ghost use Rattle.icu_encodings.specs.DecodedTexts.{latin1_text, utf16_text};
 
 use crate::encoded_text::{EncodedText, Latin1Text, Utf8Text, Utf16Text};
+use std::simd::prelude::*;
 
 /// Two encodings whose texts can be compared unit by unit.
 pub trait CommonUnits<R: EncodedText>: EncodedText {
@@ -88,11 +89,38 @@ fn after_common_number<'a, 'b>(one: &'a [u8], other: &'b [u16]) -> Option<(&'a [
     }
 }
 
-/// How many first bytes two lists have in common, eight at a time as long as that goes.
+/// What follows the blocks of 64 bytes that two lists both begin with.
 #[inline]
-fn common_bytes(left: &[u8], right: &[u8]) -> usize
-    ensures same { left.now ≡ right.now → result ≡ length left.now }
-    ensures fronts { take result left.now ≡ take result right.now }
+fn after_common_blocks<'a, 'b>(left: &'a [u8], right: &'b [u8]) -> (&'a [u8], &'b [u8])
+    ensures { HaveHead left.entry.now right.entry.now result.0.now result.1.now }
+{
+    let mut one = left;
+    let mut other = right;
+    'wide: while let Some((block, rest)) = one.split_first_chunk::<64>() {
+        let Some((other_block, other_rest)) = other.split_first_chunk::<64>() else {
+            break 'wide;
+        };
+        if block != other_block {
+            break 'wide;
+        }
+        one = rest;
+        other = other_rest;
+    }
+    (one, other)
+}
+
+/// Whether two words have the same eight bytes.
+#[inline(always)]
+fn are_same_words(one: &[u8; 8], other: &[u8; 8]) -> bool
+    ensures { IsTrue result → one.now ≡ other.now }
+{
+    u64::from_le_bytes(*one) == u64::from_le_bytes(*other)
+}
+
+/// What follows the words of eight bytes that two lists both begin with.
+#[inline]
+fn after_common_words<'a, 'b>(left: &'a [u8], right: &'b [u8]) -> (&'a [u8], &'b [u8])
+    ensures { HaveHead left.entry.now right.entry.now result.0.now result.1.now }
 {
     let mut one = left;
     let mut other = right;
@@ -100,12 +128,56 @@ fn common_bytes(left: &[u8], right: &[u8]) -> usize
         let Some((other_word, other_rest)) = other.split_first_chunk::<8>() else {
             break 'words;
         };
-        if word != other_word {
+        if are_same_words(word, other_word) {
+            one = rest;
+            other = other_rest;
+        } else {
             break 'words;
         }
-        one = rest;
-        other = other_rest;
     }
+    (one, other)
+}
+
+/// How many first bytes two words that differ have in common, found at once: 0 of the same words.
+#[inline(always)]
+fn common_in_word(one: &[u8; 8], other: &[u8; 8]) -> usize
+    ensures bound { result ≤ 8 }
+    ensures front { take result one.now ≡ take result other.now }
+{
+    let differing = u8x8::from_array(*one).simd_ne(u8x8::from_array(*other));
+    let mask = differing.to_bitmask();
+    if mask == 0 {
+        return 0;
+    }
+    mask.trailing_zeros() as usize
+}
+
+/// What follows the bytes that the first words of two lists have in common, where both have one.
+#[inline]
+fn after_common_in_word<'a, 'b>(left: &'a [u8], right: &'b [u8]) -> (&'a [u8], &'b [u8])
+    ensures { HaveHead left.entry.now right.entry.now result.0.now result.1.now }
+{
+    let Some((word, _)) = left.split_first_chunk::<8>() else {
+        return (left, right);
+    };
+    let Some((other_word, _)) = right.split_first_chunk::<8>() else {
+        return (left, right);
+    };
+    let count = common_in_word(word, other_word);
+    let (_, rest) = left.split_at(count);
+    let (_, other_rest) = right.split_at(count);
+    (rest, other_rest)
+}
+
+/// How many first bytes two lists have in common.
+#[inline]
+fn common_bytes(left: &[u8], right: &[u8]) -> usize
+    ensures same { left.now ≡ right.now → result ≡ length left.now }
+    ensures fronts { take result left.now ≡ take result right.now }
+{
+    let (one, other) = after_common_blocks(left, right);
+    let (one, other) = after_common_words(one, other);
+    let (mut one, mut other) = after_common_in_word(one, other);
     'bytes: while let Some((rest, other_rest)) = after_common_byte(one, other) {
         one = rest;
         other = other_rest;

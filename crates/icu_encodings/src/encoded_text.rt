@@ -62,11 +62,10 @@ impl<'a> EncodedText for Utf8Text<'a> {
 
     #[inline]
     fn split_first_char(self) -> Option<(char, Self)> {
-        if self.0.is_empty() {
-            return None;
+        if let Some((byte, rest)) = self.split_first_ascii() {
+            return Some((char::from(byte), rest));
         }
-        let (c, size) = decode_lossy(self.0);
-        let (_, rest) = self.0.split_at(size);
+        let (c, rest) = split_first_decoded(self.0)?;
         Some((c, Utf8Text(rest)))
     }
 
@@ -98,7 +97,20 @@ impl<'a> EncodedText for Utf8Text<'a> {
     }
 }
 
-/// Whether bytes begin with one that can't begin a character (Unicode Standard, Table 3-7).
+/// The first character of UTF-8, which is decoded, and the bytes after it.
+#[inline]
+fn split_first_decoded(bytes: &[u8]) -> Option<(char, &[u8])>
+    ensures { MatchOption result (utf8_text bytes.now ≡ []) (λ p. utf8_text bytes.now ≡ p.0 ∷ utf8_text p.1.now) }
+{
+    if bytes.is_empty() {
+        return None;
+    }
+    let (c, size) = decode_lossy(bytes);
+    let (_, rest) = bytes.split_at(size);
+    Some((c, rest))
+}
+
+/// Whether bytes begin with one that can't begin a character (Unicode Standard, "Unicode Encoding Forms").
 #[inline]
 fn begins_within(bytes: &[u8]) -> bool
     ensures { result ≡ false → StartsClean bytes.now }

@@ -17,8 +17,8 @@ pub enum Primary {
     OfIdeograph(char),
 }
 
-/// An element: `[primary, secondary, tertiary]`, or `[U+X, secondary, tertiary]` with the primary weight of the ideograph X,
-/// where the secondary weight or both may be left out, and are common then.
+/// An element: `[primary, secondary, tertiary]`, or `[U+X, secondary, tertiary]` with the primary weight of the
+/// ideograph X, where the secondary weight or both may be left out, and are common then.
 #[derive(Debug, Clone, Copy, PartialEq, Eq)]
 pub struct FractionalElement {
     /// The primary weight.

@@ -1,5 +1,5 @@
-//! The lines of FractionalUCA.txt, in which the Unicode consortium publishes the root collation of CLDR (UTS #35 part 5, section 2.6
-//! "Root Collation Data Files"): each is read by itself into a value, or refused with what was expected.
+//! The lines of FractionalUCA.txt, in which the Unicode consortium publishes the root collation of CLDR (UTS #35 part
+//! 5, "Root Collation Data Files"): each is read by itself into a value, or refused with what was expected.
 #![tactic(auto)]
 
 pub mod digits;

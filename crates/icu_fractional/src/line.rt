@@ -36,8 +36,8 @@ pub enum Line {
     LeadByte(LeadByte),
     /// The lead byte of the primary weights of numbers: `FDD0 0034; [0F, 05, 05]`.
     NumericLead(u8),
-    /// What a text comes to. Where the first character is U+FDD1, which is of no text, it is the least primary weight of a
-    /// script or a group of variable elements.
+    /// What a text comes to. Where the first character is U+FDD1, which is of no text, it is the least primary weight
+    /// of a script or a group of variable elements.
     Mapping(Mapping),
 }
 
@@ -114,8 +114,8 @@ fn line_of(mapping: Mapping) -> Result<Line, LineError> {
 }
 
 impl Line {
-    /// Reads a line, without the line feed at its end. A line with nothing but white space before its comment says nothing. One
-    /// that begins with `[` and doesn't end with `]` is refused.
+    /// Reads a line, without the line feed at its end. A line with nothing but white space before its comment says
+    /// nothing. One that begins with `[` and doesn't end with `]` is refused.
     pub fn parse(alloc: Global, line: &str) -> Result<Line, LineError>
         ensures nothing { text_of line.now ≡ [] → result ≡ Ok Line.Nothing }
         ensures unclosed { (inside : List ℕ) → text_of line.now ≡ 91 ∷ inside

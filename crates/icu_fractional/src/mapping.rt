@@ -7,8 +7,8 @@ use crate::element::FractionalElement;
 use crate::expected::{Expected, LineError};
 use std::alloc::Global;
 
-/// What a text comes to: `004C | 00B7; [, FB DB, 05]`. The characters behind the bar are mapped to the elements where those before
-/// the bar, if there are any, stand before them.
+/// What a text comes to: `004C | 00B7; [, FB DB, 05]`. The characters behind the bar are mapped to the elements where
+/// those before the bar, if there are any, stand before them.
 #[derive(Debug, Drop)]
 pub struct Mapping {
     /// The characters before, in the order of the text. Mostly there are none.

@@ -13,8 +13,8 @@ KeyWrites took refused x s bytes (Ok v) y t = took x s bytes y t
 KeyWrites took refused x s bytes (Err (Sink e)) y t = WriteFails took refused x s bytes e y t
 KeyWrites took refused x s bytes (Err NoMemory) y t = TakesBeginning (λ front. took x s front y t) bytes
 
--- The same of a call that is fed a part of a text: `before` and `after` say what is still to be written of the key before
--- the call and after it, given the rest of the text
+-- The same of a call that is fed a part of a text: `before` and `after` say what is still to be written of the key
+-- before the call and after it, given the rest of the text
 abbrev pub KeyFeeds : {X St E R : Type 0} → (X → St → List ℕ → X → St → Type 0) → (X → St → List ℕ → E → X → St → Type 0)
     → X → St → (R → List ℕ) → (R → List ℕ) → Result Unit (SortKeyError E) → X → St → Type 0
 KeyFeeds took refused x s before after (Ok v) y t = Brings took x s before after y t

@@ -6,8 +6,8 @@ ghost use Rattle.icu_keys.specs.Accumulated.{has_quaternary_bits};
 use icu_entries::NonPrimary;
 use std::marker::Model;
 
-/// Accumulates the lower halves of collation elements, and says whether any had quaternary bits (bits 7 and 6). It is seen
-/// as that.
+/// Accumulates the lower halves of collation elements, and says whether any had quaternary bits (bits 7 and 6). It is
+/// seen as that.
 #[derive(Clone, Copy, Debug, Drop)]
 pub struct AnyQuaternaryAccumulator {
     any: bool,

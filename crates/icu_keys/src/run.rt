@@ -12,7 +12,7 @@ use icu_levels::run_bytes::RunBytes;
 /// The common weights that came last at a level, as far as no byte stands for them yet: at most a full count.
 ///
 /// Both kinds of run of n + 1 weights begin with n / count middle bytes, so one is due as soon as a run is longer than
-/// a full count (UTS #10, "Run-length Compression").
+/// a full count (UTS #10, "Run-Length Compression").
 #[derive(Clone, Copy, Debug, Drop)]
 pub struct Run {
     /// How many weights.

@@ -12,7 +12,8 @@ use icu_levels::run_bytes::SECONDARY_RUNS;
 /// Writes the secondary level of a text, or of one segment of a backward level whose weights come in reversed order.
 ///
 /// It is fed the nonzero secondary weights one at a time and closed at the end. Runs of the common weight 0500 cost a
-/// counter, and other weights stand without a zero byte at their end (UTS #10, "Run-length Compression" and "Large Weight Values").
+/// counter, and other weights stand without a zero byte at their end (UTS #10, "Run-Length Compression" and "Large
+/// Weight Values").
 #[derive(Clone, Copy, Debug, Drop)]
 pub struct SecondaryWriter {
     run: Run,

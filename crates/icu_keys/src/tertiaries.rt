@@ -44,7 +44,7 @@ fn moved(form: TertiaryForm, weight: u16) -> u16
 /// Writes the tertiary level of a text.
 ///
 /// It is fed the nonzero tertiary weights one at a time, as the form has them, and closed at the end (UTS #10,
-/// "Run-length Compression" and "Large Weight Values"; UTS #35 part 5, "Case Parameters").
+/// "Run-Length Compression" and "Large Weight Values"; UTS #35 part 5, "Case Parameters").
 #[derive(Clone, Copy, Debug, Drop)]
 pub struct TertiaryWriter {
     form: TertiaryForm,

@@ -67,8 +67,8 @@ fn push_tertiary(level: &mut HeldTertiaries, weight: u16) -> Result<(), AllocErr
     level.push(weight)
 }
 
-/// Writes the primary, secondary and tertiary level of a text, secondaries from the front and tertiaries in one of their
-/// forms (UTS #10, section 7.3 "Form Sort Keys").
+/// Writes the primary, secondary and tertiary level of a text, secondaries from the front and tertiaries in one of
+/// their forms (UTS #10, "Form Sort Keys").
 ///
 /// It is fed the three weights of one element after another, and closed at the end. Primaries go straight to the sink,
 /// and the other two levels are held until their end.

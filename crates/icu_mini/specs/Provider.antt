@@ -15,7 +15,7 @@ use Rattle.icu_mini.specs.declared.mini.Mini.{Mini}
 use Rattle.icu_mini.specs.declared.provider.MiniProvider.{MiniProvider}
 use Rattle.icu_mini.specs.Mini.{special_held}
 use Rattle.icu_mini.specs.ReorderingData.{reordering_held, HasAllLeads}
-use Rattle.icu_data.specs.OwnedData.{vectors_data, MayBeData, FailsVectors}
+use Rattle.icu_owned_data.specs.OwnedData.{vectors_data, MayBeData, FailsVectors}
 
 -- the locale and the type don't matter
 abbrev pub loads_of : MiniProvider → Loads

@@ -1,9 +1,9 @@
 //! The characters of Mini.
 ghost use Rattle.std.specs.Prelude.{◌≡◌};
-ghost use Rattle.icu_data.specs.Building.{built_data};
+ghost use Rattle.icu_owned_data.specs.Building.{built_data};
 ghost use Rattle.icu_mini.specs.Characters.{mini_characters, with_characters};
 
-use icu_data::DataBuilder;
+use icu_owned_data::DataBuilder;
 
 /// Mini's characters that have entries of their own: ignored, the separator of merged texts, the replacement character;
 /// space, "-", "."; digits, each with its value and the index of its plain entry; letters, and a circled "A".

@@ -1,7 +1,7 @@
 //! Mini's tables.
 ghost use Rattle.std.specs.Prelude.{◌≡◌, ◌↔◌, IsOk, IfOk, IfErr, IfSome};
 ghost use Rattle.std.specs.Option.{option_map};
-ghost use Rattle.icu_data.specs.OwnedData.{vectors_data, MayBeData, FailsVectors};
+ghost use Rattle.icu_owned_data.specs.OwnedData.{vectors_data, MayBeData, FailsVectors};
 ghost use Rattle.icu_data.specs.StoredData.{data_of};
 ghost use Rattle.icu_provider.specs.Diacritics.{IsDiacritics, FailsDiacritics};
 ghost use Rattle.icu_provider.specs.Jamo.{IsJamo, FailsJamo};
@@ -10,8 +10,9 @@ ghost use Rattle.icu_provider.specs.StoredTables.{diacritics_of, jamo_of, reorde
 
 use crate::parts::{diacritics, jamo, root};
 use crate::reordering_data::ReorderingData;
-use icu_data::{CollationData, DataVectors};
+use icu_data::CollationData;
 use icu_entries::DataErrorKind;
+use icu_owned_data::DataVectors;
 use icu_provider::{
     CollationDiacritics, CollationJamo, CollationMetadata, CollationReordering,
     CollationSpecialPrimaries,

@@ -1,13 +1,13 @@
 //! What Mini and its variants are put together from.
 ghost use Rattle.std.specs.Prelude.{◌≡◌, ◌++◌, ◌+◌, ◌*◌, ◌^◌, ◌<◌, ◌∷◌, [], IfOk};
-ghost use Rattle.icu_data.specs.AddedContexts.{given_context};
-ghost use Rattle.icu_data.specs.Building.{SaysOfCharacters};
-ghost use Rattle.icu_data.specs.OwnedData.{vectors_data};
+ghost use Rattle.icu_owned_data.specs.AddedContexts.{given_context};
+ghost use Rattle.icu_owned_data.specs.Building.{SaysOfCharacters};
+ghost use Rattle.icu_owned_data.specs.OwnedData.{vectors_data};
 ghost use Rattle.icu_mini.specs.Characters.{run};
 ghost use Rattle.icu_mini.specs.Mini.{mini_root, mini_tailoring};
 
 use crate::characters::{mini_characters, set_characters};
-use icu_data::{DataBuilder, DataVectors};
+use icu_owned_data::{DataBuilder, DataVectors};
 use std::alloc::{AllocError, Global};
 
 /// The entry of a character whose weight follows from its number.

@@ -4,7 +4,7 @@ ghost use Rattle.icu_provider.specs.Diacritics.{FailsDiacritics, IsDiacritics};
 ghost use Rattle.icu_provider.specs.Jamo.{FailsJamo, IsJamo};
 ghost use Rattle.icu_provider.specs.SpecialPrimaries.{FailsSpecial, IsSpecialPrimaries};
 ghost use Rattle.icu_provider.specs.StoredTables.{diacritics_of, jamo_of, reordering_of, special_of};
-ghost use Rattle.icu_data.specs.OwnedData.{FailsVectors, MayBeData, vectors_data};
+ghost use Rattle.icu_owned_data.specs.OwnedData.{FailsVectors, MayBeData, vectors_data};
 ghost use Rattle.icu_data.specs.StoredData.{data_of};
 
 use crate::mini::Mini;

@@ -16,10 +16,10 @@ use Rattle.icu_checks.specs.declared.condition.ElementCondition.TheVariants.{Wid
 use Rattle.icu_checks.specs.declared.condition.PairCondition.TheVariants.{Primaries, Compression}
 use Rattle.icu_checks.specs.declared.condition.LeadCondition.TheVariants as leads
 use Rattle.icu_provider.specs.CollatorTables.{CollatorTables, reorder_by, reorder, new_lead}
-use Rattle.icu_checks.specs.Leads.{is_middle}
+use Rattle.icu_weights.specs.Leads.{is_middle}
 use Rattle.icu_checks.specs.ElementConditions.{primary_meets, implicit_lead, is_apart, has_second_byte}
 use Rattle.icu_checks.specs.GoodTables.{IsReordering, IsGoodTables}
-use Rattle.icu_checks.proofs.LeadLemmas.{reordered-rest, reordered-bound}
+use Rattle.icu_weights.proofs.LeadLemmas.{reordered-rest, reordered-bound}
 use Rattle.icu_order.specs.Levels.{primary_of}
 use Rattle.icu_order.specs.Forms.{compression_of}
 use Rattle.icu_order.specs.LiveWeights.{IsLivePrimary, IsShiftedPrimary}

@@ -3,6 +3,7 @@
 
 pub mod diacritics;
 pub mod jamo;
+pub mod loads;
 pub mod metadata;
 pub mod provider;
 pub mod reordering;
@@ -12,6 +13,7 @@ pub mod table_set;
 
 pub use diacritics::{CollationDiacritics, OwnedDiacritics};
 pub use jamo::{CollationJamo, OwnedJamo};
+pub use loads::load_tables;
 pub use metadata::CollationMetadata;
 pub use provider::CollationProvider;
 pub use reordering::{CollationReordering, OwnedReordering};

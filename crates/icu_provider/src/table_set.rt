@@ -1,6 +1,6 @@
 //! The seven tables of a collator together: borrowed, and in vectors of their own.
 ghost use Rattle.std.specs.Prelude.{◌≡◌, Ok, Some, None, IfOk, IfErr, option_map};
-ghost use Rattle.icu_data.specs.OwnedData.{owned_data};
+ghost use Rattle.icu_owned_data.specs.OwnedData.{owned_data};
 ghost use Rattle.icu_data.specs.StoredData.{data_of};
 ghost use Rattle.icu_provider.specs.CollatorTables.{is_forward, reorder, new_lead};
 ghost use Rattle.icu_provider.specs.OwnedTables.{owned_reordering, owned_tables};
@@ -14,8 +14,9 @@ use crate::provider::CollationProvider;
 use crate::reordering::{CollationReordering, OwnedReordering, lead_byte};
 use crate::request::DataRequest;
 use crate::special_primaries::{CollationSpecialPrimaries, OwnedSpecialPrimaries};
-use icu_data::{CollationData, OwnedData};
+use icu_data::CollationData;
 use icu_entries::{DataError, DataErrorKind, DataTable};
+use icu_owned_data::OwnedData;
 use std::alloc::{AllocError, Global};
 
 /// The seven tables of a collator, each of which has passed its own checks. As a provider it gives them for each

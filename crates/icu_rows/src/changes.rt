@@ -1,8 +1,9 @@
 //! Changes of tables, each a word that names it and words that follow.
 use crate::lists::{put, resize};
 use crate::notation::{character, characters, index, number, number8, number16, number32, numbers};
-use icu_data::{Context, ContextRow, DataBuilder, DataVectors};
+use icu_data::{Context, ContextRow};
 use icu_mini::mini::Mini;
+use icu_owned_data::{DataBuilder, DataVectors};
 use std::alloc::Global;
 
 /// Makes one change, if the words are one.

@@ -9,8 +9,9 @@ use icu_entries::CollationElement;
 use icu_options::{CollatorOptions, CollatorPreferences};
 use std::alloc::Global;
 
-/// A row is tables, whether digits are read as numbers, and a text. Its elements are printed in hexadecimal, of equal ones in a row the first and how many
-/// there are. They are read as one list, and one by one until the end element has come twice.
+/// A row is tables, whether digits are read as numbers, and a text. Its elements are printed in hexadecimal, of equal
+/// ones in a row the first and how many there are. They are read as one list, and one by one until the end element has
+/// come twice.
 pub(crate) fn elements(alloc: Global, row: &str) -> Option<String> {
     let (written, row) = row.split_once('|')?;
     let (settings, row) = row.split_once('|')?;

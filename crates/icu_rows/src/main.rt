@@ -1,5 +1,6 @@
-//! Worked rows: tables and what they are refused with, texts and their order, keys and elements, values of tables, settings. The rows stand in
-//! files, each with what is expected at its end; the program prints the rows that don't hold, and how many do.
+//! Worked rows: tables and what they are refused with, texts and their order, keys and elements, values of tables,
+//! settings. The rows stand in files, each with what is expected at its end; the program prints the rows that don't
+//! hold, and how many do.
 #![tactic(auto)]
 
 mod base;

@@ -1,8 +1,8 @@
 //! How rows write characters, texts and numbers.
 use std::alloc::Global;
 
-/// The characters of a text in which `{301}` is U+0301, `{61*3}` is U+0061 three times, and `{301 323*3}` is U+0301 U+0323
-/// three times.
+/// The characters of a text in which `{301}` is U+0301, `{61*3}` is U+0061 three times, and `{301 323*3}` is U+0301
+/// U+0323 three times.
 pub(crate) fn characters(alloc: Global, written: &str) -> Option<String> {
     let mut text = String::new(alloc);
     for part in written.split('{') {

@@ -1,14 +1,15 @@
 //! What tables are refused with.
 use crate::base::tables;
 use icu_checks::CheckedTables;
-use icu_data::{CodePointTable, CollationData, ContextTable, DataVectors};
+use icu_data::{CodePointTable, CollationData, ContextTable};
 use icu_entries::{DataError, DataErrorKind, DataTable};
 use icu_mini::mini::Mini;
+use icu_owned_data::DataVectors;
 use icu_provider::TableSet;
 use std::alloc::Global;
 
-/// A row is a name and tables. What they are refused with stands in two parts: by the constructors of single tables, the
-/// first that refuses, and by the check of all tables together. A table that is good has `ok` there.
+/// A row is a name and tables. What they are refused with stands in two parts: by the constructors of single tables,
+/// the first that refuses, and by the check of all tables together. A table that is good has `ok` there.
 pub(crate) fn refusals(alloc: Global, row: &str) -> Option<String> {
     let (_name, written) = row.split_once('|')?;
     let mini = tables(alloc, written)?;

@@ -15,8 +15,9 @@ pub(crate) struct Sources {
     pub(crate) preferences: CollatorPreferences<'static>,
 }
 
-/// What a row names, with commas between: `metadata` and its bits, a setting and its value, or the number of a strength, or
-/// `i` for the identical one. `resolved` takes what was named before it, resolved, for the options and the preferences.
+/// What a row names, with commas between: `metadata` and its bits, a setting and its value, or the number of a
+/// strength, or `i` for the identical one. `resolved` takes what was named before it, resolved, for the options and the
+/// preferences.
 pub(crate) fn named_sources(alloc: Global, row: &str) -> Option<Sources> {
     let mut sources = Sources {
         metadata: 0,

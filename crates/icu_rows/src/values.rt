@@ -2,8 +2,9 @@
 use crate::base::tables;
 use crate::notation::{character, index, number8, number32};
 use crate::settings::variable_group;
-use icu_data::{CodePointTable, DataVectors};
+use icu_data::CodePointTable;
 use icu_mini::mini::Mini;
+use icu_owned_data::DataVectors;
 use icu_provider::CollationMetadata;
 use std::alloc::Global;
 

@@ -1,5 +1,5 @@
 -- What is kept of a character by tests is what is known of it.
-use Rattle.std.proofs.Common.{◌≡◌, ◌≢◌, ◌==◌, ◌&&◌, ℕ, Bool, true, false, not, List, [], ◌∷◌, IsTrue, refl, ap, ◌∙◌, is_some, arith}
+use Rattle.std.proofs.Common.{◌≡◌, ◌==◌, ◌&&◌, ℕ, Bool, true, false, not, List, [], ◌∷◌, refl, ap, ◌∙◌, is_some, arith}
 use Rattle.std.proofs.lemmas.Bool.{eqb-true}
 use Rattle.std.proofs.lemmas.Bool.Decides.{nat_tests}
 use Rattle.ucd_normal.specs.declared.forms.Form.TheVariants.{Nfd}
@@ -10,7 +10,7 @@ use Rattle.icu_elements.specs.TextElements.{Reading, continues_number}
 use Rattle.icu_cuts.specs.Alone.{elements_of_char, is_alone}
 use Rattle.icu_cuts.specs.Cuts.{IsSafe, is_named, is_named_by_tailoring, has_prefix}
 use Rattle.icu_shortcuts.specs.SafeTables.{IsSafeBefore}
-use Rattle.icu_shortcuts.specs.Letters.{BeginsWithStarter, IsLetter, IsMarkedStarter, LeadsWith, StandsAlone, rises_to}
+use Rattle.icu_shortcuts.specs.Letters.{BeginsWithStarter, IsLetter, IsMarkedStarter, LeadsWith, StandsAlone}
 use Rattle.icu_shortcuts.specs.KeptLetters.{KeptLetter, begins_with, is_marked_starter, is_safe_place, starts_safely, starts_with_primary, starts_with_starter}
 use Rattle.icu_shortcuts.specs.declared.letter_facts.Letter.{Letter}
 

@@ -3,3 +3,4 @@ mod TableLemmas
 mod EntryLemmas
 mod FewLemmas
 mod KeptLemmas
+mod SyllableLemmas

@@ -4,11 +4,12 @@ use Rattle.icu_elements.specs.TextElements.{Reading}
 use Rattle.icu_shortcuts.specs.KeptLetters.{AreLettersFrom}
 use Rattle.icu_shortcuts.specs.declared.letter_table.Letters.{Letters}
 
--- those that are read most: U+0000 to U+027F, and U+1E00 to U+1EFF
+-- those that are read most: U+0000 to U+037F, the jamo U+1100 to U+11FF, and U+1E00 to U+1EFF
 abbrev pub is_kept : ℕ → Bool
-is_kept c = nat_lt c 0x280 || (nat_le 0x1E00 c && nat_lt c 0x1F00)
+is_kept c = nat_lt c 0x380 || ((nat_le 0x1E00 c && nat_lt c 0x1F00) || (nat_le 0x1100 c && nat_lt c 0x1200))
 
 -- all that is kept is so
 pub record AreLetters (reading : Reading) (t : Letters) : Type 0 where
   pub latin : AreLettersFrom reading 0 t.latin.items
+  pub jamo : AreLettersFrom reading 0x1100 t.jamo.items
   pub additional : AreLettersFrom reading 0x1E00 t.additional.items

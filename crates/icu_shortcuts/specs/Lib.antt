@@ -6,3 +6,4 @@ pub mod KeptLetters
 pub mod LetterTables
 pub mod FewElements
 pub mod ReadLetters
+pub mod Syllables

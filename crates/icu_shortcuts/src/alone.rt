@@ -44,8 +44,8 @@ fn with_digit(
     }
 }
 
-/// These elements and those that a character's entry gives wherever the character stands. None where that goes by what stands
-/// around it, or there is a fourth.
+/// These elements and those that a character's entry gives wherever the character stands. None where that goes by what
+/// stands around it, or there is a fourth.
 fn with_entry(
     numeric_primary: Option<u8>,
     home: CollationData<'_>,
@@ -64,7 +64,8 @@ fn with_entry(
     }
 }
 
-/// These elements and those of a character of a decomposed text that stands alone. None where it does not, or there is a fourth.
+/// These elements and those of a character of a decomposed text that stands alone. None where it does not, or there is
+/// a fourth.
 #[tactic(auto, unfolding(crate::specs::SafeTables::safe_reading, icu_cuts::specs::Alone::elements_of_char))]
 pub(crate) fn with_char(places: &SafePlaces<'_>, c: char, few: FewElements) -> Option<FewElements>
     ensures stands { IfSome result (λ _. is_alone (safe_reading places.now) c ≡ true) }

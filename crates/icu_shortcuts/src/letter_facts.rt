@@ -9,18 +9,19 @@ use icu_entries::CollationElement;
 pub enum LetterKind {
     /// Nothing is known: it is read with what stands around it.
     Unknown,
-    /// Its decomposition has starters alone, each of which gives the same elements wherever it stands: it may be read by
-    /// itself whatever follows.
+    /// Its decomposition has starters alone, each of which gives the same elements wherever it stands: it may be read
+    /// by itself whatever follows.
     Starters,
-    /// Its decomposition is a starter with marks in order after it, each of which gives the same elements wherever it stands:
-    /// it may be read by itself before a starter, and before marks whose classes are not below its own.
+    /// Its decomposition is a starter with marks in order after it, each of which gives the same elements wherever it
+    /// stands: it may be read by itself before a starter, and before marks whose classes are not below its own.
     Marked,
-    /// A mark that decomposes to itself and gives the same elements wherever it stands: it may be read by itself where no later
-    /// mark of its run has a lower class.
+    /// A mark that decomposes to itself and gives the same elements wherever it stands: it may be read by itself where
+    /// no later mark of its run has a lower class.
     Mark,
 }
 
-/// What is known of a character, by its canonical decomposition (UAX #15) and its entries (UTS #35 part 5, section 3).
+/// What is known of a character, by its canonical decomposition (UAX #15) and its entries (UTS #35 part 5, "Collation
+/// Tailorings").
 #[derive(Debug, Clone, Copy)]
 pub struct Letter {
     /// Its collation elements, as many as `count` says, where its kind is known. Those past them have no meaning.

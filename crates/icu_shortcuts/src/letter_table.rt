@@ -11,12 +11,14 @@ use crate::read_letter::letter_of;
 use crate::safe_places::SafePlaces;
 use std::alloc::{AllocError, Global};
 
-/// What is known of the characters that are read most: U+0000 to U+027F, and U+1E00 to U+1EFF.
+/// What is known of the characters that are read most: U+0000 to U+037F, U+1100 to U+11FF, and U+1E00 to U+1EFF.
 #[derive(Debug, Drop)]
 pub struct Letters {
     latin: Vec<Letter>,
+    jamo: Vec<Letter>,
     additional: Vec<Letter>,
-    ghost latin_count: { length latin.items ≡ 0x280 },
+    ghost latin_count: { length latin.items ≡ 0x380 },
+    ghost jamo_count: { length jamo.items ≡ 0x100 },
     ghost additional_count: { length additional.items ≡ 0x100 },
 }
 
@@ -27,22 +29,29 @@ impl Letters {
     pub fn new(alloc: Global, places: SafePlaces<'_>) -> Result<Letters, AllocError>
         ensures { IfOk result (λ l. AreLetters (safe_reading places.entry) l) }
     {
-        let latin = letters_from(alloc, places, 0, 0x280)?;
+        let latin = letters_from(alloc, places, 0, 0x380)?;
+        let jamo = letters_from(alloc, places, 0x1100, 0x100)?;
         let additional = letters_from(alloc, places, 0x1E00, 0x100)?;
-        Ok(Letters { latin, additional })
+        Ok(Letters {
+            latin,
+            jamo,
+            additional,
+        })
     }
 
-    /// What is known of a character, or none outside of U+0000 to U+027F and U+1E00 to U+1EFF.
+    /// What is known of a character, or none outside of U+0000 to U+037F, U+1100 to U+11FF and U+1E00 to U+1EFF.
     #[inline]
     pub fn get(&self, c: char) -> Option<&Letter>
         ensures known { (reading : Reading) → AreLetters reading self.now → IfSome result (λ l. IsLetter reading c l.now) }
         ensures kept { is_some result ≡ is_kept c }
     {
         let code = c as usize;
-        if code < 0x280 {
+        if code < 0x380 {
             Some(&self.latin[code])
         } else if code >= 0x1E00 && code < 0x1F00 {
             Some(&self.additional[code - 0x1E00])
+        } else if code >= 0x1100 && code < 0x1200 {
+            Some(&self.jamo[code - 0x1100])
         } else {
             None
         }
@@ -74,7 +83,7 @@ fn letter_at(places: SafePlaces<'_>, code: u32) -> Letter
     ensures { KeptLetter (safe_reading places.entry) code result }
 {
     match char::from_u32(code) {
-        Some(c) => letter_of(places, c),
+        Some(c) => letter_of(&places, c),
         None => unreachable!(),
     }
 }

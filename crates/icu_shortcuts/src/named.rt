@@ -9,8 +9,8 @@ use icu_checks::CheckedTables;
 use icu_data::CollationData;
 use std::alloc::{AllocError, Global};
 
-/// The characters that rows of prefixes and contractions name (UTS #35 part 5, section 3.11), of a root and of its tailoring,
-/// in ascending order.
+/// The characters that rows of prefixes and contractions name (UTS #35 part 5, "Context-Sensitive Mappings"), of a root
+/// and of its tailoring, in ascending order.
 #[derive(Debug, Drop)]
 pub struct NamedCharacters {
     chars: Vec<char>,

@@ -52,7 +52,7 @@ fn outline(places: &SafePlaces<'_>, first: char, leading_primary: u32) -> Letter
 
 /// The same of a character that stands alone, with its elements, its kind and its class.
 #[tactic(auto, unfolding(crate::specs::FewElements::few_elements))]
-fn with_elements(known: Letter, all: FewElements, shape: (LetterKind, u8)) -> Letter
+pub(crate) fn with_elements(known: Letter, all: FewElements, shape: (LetterKind, u8)) -> Letter
     ensures elements { letter_elements result ≡ few_elements all }
     ensures kind { (result.kind ≡ shape.0) × (result.class ≡ shape.1) }
     ensures first { (reading : Reading) (first : ℕ) → IsOutline reading first known → IsOutline reading first result }
@@ -100,13 +100,39 @@ fn letter_from(places: &SafePlaces<'_>, c: char, first: char, more: &[char]) -> 
     }
 }
 
-/// What is known of a character as texts are read whose safe places these are. Does not allocate.
-pub fn letter_of(places: SafePlaces<'_>, c: char) -> Letter
-    ensures { IsLetter (safe_reading places.entry) c result }
+/// What the first character of a decomposition shows of a character that decomposes to it and others.
+fn outline_from(places: &SafePlaces<'_>, c: char, first: char, more: &[char]) -> Letter
+    requires { decompose Nfd c ≡ first ∷ more.now }
+    ensures { IsLetter (safe_reading places.now) c result }
+{
+    match with_char(places, first, FewElements::new()) {
+        Some(few) => {
+            let primary = leading_primary(places, first, &few);
+            outline(places, first, primary)
+        }
+        None => outline(places, first, 0),
+    }
+}
+
+/// What is known of a character by the first one of its decomposition alone, as texts are read whose safe places these
+/// are: whether a text may be cut before it, and its leading primary weight. Does not allocate.
+pub fn outline_of(places: &SafePlaces<'_>, c: char) -> Letter
+    ensures { IsLetter (safe_reading places.now) c result }
 {
     let mut room = [c; 3];
     match decomposition(c, Form::Nfd, &mut room) {
-        [first, more @ ..] => letter_from(&places, c, *first, more),
+        [first, more @ ..] => outline_from(places, c, *first, more),
+        [] => unreachable!(),
+    }
+}
+
+/// What is known of a character as texts are read whose safe places these are. Does not allocate.
+pub fn letter_of(places: &SafePlaces<'_>, c: char) -> Letter
+    ensures { IsLetter (safe_reading places.now) c result }
+{
+    let mut room = [c; 3];
+    match decomposition(c, Form::Nfd, &mut room) {
+        [first, more @ ..] => letter_from(places, c, *first, more),
         [] => unreachable!(),
     }
 }

@@ -16,7 +16,8 @@ fn are_starters(chars: &[char]) -> bool
     chars.iter().all(|c| canonical_combining_class(*c) == 0)
 }
 
-/// The class of the last of some marks, or 0 where there is none. None where one is a starter, or their classes don't rise.
+/// The class of the last of some marks, or 0 where there is none. None where one is a starter, or their classes don't
+/// rise.
 #[tactic(auto, unfolding(crate::specs::Letters::rises_to))]
 fn last_class(marks: &[char]) -> Option<u8>
     ensures { IfSome result (λ class. rises_to 0 marks.now class ≡ true) }

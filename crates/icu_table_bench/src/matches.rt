@@ -4,9 +4,10 @@ ghost use Rattle.std.specs.Prelude.{true};
 ghost use Rattle.icu_data.specs.LiveConditions.{IsGoodData};
 ghost use Rattle.icu_data.specs.StoredData.{data_of};
 
-use icu_data::{CollationData, DataBuilder, DataVectors};
+use icu_data::CollationData;
 use icu_entries::CollationElement32;
 use icu_matches::{Matched, Text, find_match};
+use icu_owned_data::{DataBuilder, DataVectors};
 use std::alloc::{AllocError, Global};
 use std::process::Abort;
 use std::test::Fail;
@@ -173,7 +174,8 @@ static ROWS: [Row; 14] = [
     },
 ];
 
-/// The table of the rows: `a` is a contraction whose hint bits say the contrary of its rows, and `c` and `d` are prefixes.
+/// The table of the rows: `a` is a contraction whose hint bits say the contrary of its rows, and `c` and `d` are
+/// prefixes.
 fn table(alloc: Global) -> Result<DataVectors, Fail> {
     let mut builder = DataBuilder::new(alloc, 0xC0)?;
     builder.add_context(
@@ -189,7 +191,8 @@ fn table(alloc: Global) -> Result<DataVectors, Fail> {
     builder.add_context(C, &[(&['b'], C_AFTER_B), (&['b', 'a'], C_AFTER_BA)])?;
     builder.add_context(D, &[(&['e'], D_AFTER_BE)])?;
     builder.add_context(D, &[(&['b'], 0x40C9)])?;
-    // the low byte of a contraction, or of a prefix, and from bit 13 on its context; bit 9 says that each row of `a` begins with a mark
+    // the low byte of a contraction, or of a prefix, and from bit 13 on its context; bit 9 says that each row of `a`
+    // begins with a mark
     builder.set_entry('a', 0x2C9);
     builder.set_entry('c', 0x20C8);
     builder.set_entry('d', 0x60C8);

@@ -13,7 +13,8 @@ pub(crate) struct Stored {
 }
 
 impl Stored {
-    // The table that gives these characters these entries, and all others one entry. Characters of one block stand in a row.
+    // The table that gives these characters these entries, and all others one entry. Characters of one block stand in a
+    // row.
     pub(crate) fn new(alloc: Global, rows: &[(char, u32)], others: u32) -> Result<Stored, Fail> {
         let mut stored = Stored {
             blocks: vec![in alloc; 0u16; 17408]?,

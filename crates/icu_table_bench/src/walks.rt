@@ -123,8 +123,8 @@ static ROWS: [ContextRow; 2] = [
 
 static CHARS: [char; 1] = ['x'];
 
-// A tailoring in which "a" has an entry of its own, "b" a contraction, "d" a prefix that leads to it, "e" a list, and "f" another
-// contraction. All else has this entry.
+// A tailoring in which "a" has an entry of its own, "b" a contraction, "d" a prefix that leads to it, "e" a list, and
+// "f" another contraction. All else has this entry.
 fn stored(alloc: Global, others: u32) -> Result<Stored, Fail> {
     let rows = [
         ('a', 0x6110_0505),

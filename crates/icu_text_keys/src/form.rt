@@ -82,8 +82,8 @@ fn is_identical(strength: Strength) -> bool
     }
 }
 
-/// The levels that the keys of a collator have, and their forms (UTS #35 part 5, "Setting Options"). The secondary level
-/// is backward where the metadata says so.
+/// The levels that the keys of a collator have, and their forms (UTS #35 part 5, "Setting Options"). The secondary
+/// level is backward where the metadata says so.
 pub fn key_form(tables: &CheckedTables, settings: CollatorOptionsBitField) -> KeyForm
     ensures { result ≡ form_by (checked_tables tables.now) (values_of settings) }
 {

@@ -1,4 +1,4 @@
-//! The elements of a text as variable weighting leaves them (UTS #10, section 4 "Variable Weighting").
+//! The elements of a text as variable weighting leaves them (UTS #10, "Variable Weighting").
 
 ghost use Rattle.std.specs.Prelude.{◌≡◌, List, IfOk, IfErr};
 ghost use Rattle.icu_order.specs.Handled.{HandledElement};

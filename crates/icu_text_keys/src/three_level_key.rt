@@ -66,8 +66,8 @@ fn push_stayed<S: CollationKeySink, C: PrimaryCompression>(
     )
 }
 
-/// Writes what the next element gives: nothing where it is shifted, since it counts at the quaternary level alone. After
-/// an error, discard the writer.
+/// Writes what the next element gives: nothing where it is shifted, since it counts at the quaternary level alone.
+/// After an error, discard the writer.
 #[inline(always)]
 fn push_handled<S: CollationKeySink, C: PrimaryCompression>(
     writer: &mut ThreeLevelWriter,
@@ -156,8 +156,8 @@ fn write_in_form<S: CollationKeySink, C: PrimaryCompression, H: HandledSource>(
     write_rest(sink, state, compression, form, writer, elements)
 }
 
-/// Writes a key of three levels, of the elements that are still to come. Each form of tertiaries has a loop of its own, so
-/// that none is asked for at an element.
+/// Writes a key of three levels, of the elements that are still to come. Each form of tertiaries has a loop of its own,
+/// so that none is asked for at an element.
 pub(crate) fn write_three_levels<S: CollationKeySink, C: PrimaryCompression, H: HandledSource>(
     alloc: Global,
     sink: &mut S,

@@ -39,8 +39,8 @@ fn write_elements<S: CollationKeySink, C: PrimaryCompression, H: HandledSource>(
     writer.close(sink, state, characters)
 }
 
-/// Writes all levels of a key. One of three levels, as keys mostly are, has a writer of its own, which asks for no level
-/// at an element.
+/// Writes all levels of a key. One of three levels, as keys mostly are, has a writer of its own, which asks for no
+/// level at an element.
 fn write_levels<S: CollationKeySink, C: PrimaryCompression, H: HandledSource>(
     alloc: Global,
     sink: &mut S,
@@ -69,13 +69,14 @@ fn write_levels<S: CollationKeySink, C: PrimaryCompression, H: HandledSource>(
     }
 }
 
-/// Writes the key of a text to a sink, and ends it, from the state that keys begin with (UTS #10, section 7.3 "Form Sort
-/// Keys"): of its elements, as variable weighting leaves them, and of all characters of its decomposition, which count
-/// at the identical level alone.
+/// Writes the key of a text to a sink, and ends it, from the state that keys begin with (UTS #10, "Form Sort Keys"): of
+/// its elements, as variable weighting leaves them, and of all characters of its decomposition, which count at the
+/// identical level alone.
 ///
 /// `Ok` means that the sink took the whole key, and is what `finish` returned. `Sink` is the sink's own error: what a
-/// write returned after a beginning of the key was taken, or what `finish` returned after the whole key. `NoMemory` says
-/// that an allocation failed, of a level that is held or of what gives the elements; a beginning of the key was taken.
+/// write returned after a beginning of the key was taken, or what `finish` returned after the whole key. `NoMemory`
+/// says that an allocation failed, of a level that is held or of what gives the elements; a beginning of the key was
+/// taken.
 pub fn write_key<S: CollationKeySink, C: PrimaryCompression, H: HandledSource>(
     alloc: Global,
     sink: &mut S,

@@ -42,10 +42,10 @@ fn push_primary<S: CollationKeySink, C: PrimaryCompression>(
     writer.push(sink, state, compression, weight)
 }
 
-/// Writes the key of a text, all levels in one pass over its elements (UTS #10, section 7.3 "Form Sort Keys").
+/// Writes the key of a text, all levels in one pass over its elements (UTS #10, "Form Sort Keys").
 ///
-/// It is fed the elements one at a time, as variable weighting leaves them, and closed at the end. Primaries go straight
-/// to the sink. Each later level is held, inline while it is short, and written by `close`.
+/// It is fed the elements one at a time, as variable weighting leaves them, and closed at the end. Primaries go
+/// straight to the sink. Each later level is held, inline while it is short, and written by `close`.
 #[derive(Debug, Drop)]
 pub struct KeyWriter {
     primaries: PrimaryWriter,
@@ -132,7 +132,8 @@ impl KeyWriter {
         }
     }
 
-    /// Writes the rest of the key, given all characters of the decomposed text, which count at the identical level alone.
+    /// Writes the rest of the key, given all characters of the decomposed text, which count at the identical level
+    /// alone.
     #[tactic(auto, unfolding(icu_order::specs::Levels::weights))]
     pub fn close<S: CollationKeySink>(
         self,

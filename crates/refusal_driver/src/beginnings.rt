@@ -61,8 +61,8 @@ fn number_collator(rt: &HostRuntime, mini: &Mini) -> Result<Collator, Stop> {
     Collator::try_new_unstable(rt.alloc(), &mini.provider(), preferences, options).map_err(stop_of)
 }
 
-/// Runs one of the parts whose numbers of allocations are compared: a collator alone, texts that are the same, short texts, and
-/// the same behind a long common beginning. None of them is run with the other parts.
+/// Runs one of the parts whose numbers of allocations are compared: a collator alone, texts that are the same, short
+/// texts, and the same behind a long common beginning. None of them is run with the other parts.
 pub(crate) fn run(rt: &HostRuntime, part: Option<&str>) -> Result<(), Stop> {
     let Some(part) = part else {
         return Ok(());

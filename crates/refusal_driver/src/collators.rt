@@ -1,10 +1,11 @@
 //! Tables and collators.
 use crate::stop::{Stop, twice};
-use icu_checks::{CheckedTables, load_tables};
+use icu_checks::CheckedTables;
 use icu_comparison::Collator;
 use icu_entries::{DataError, DataErrorKind, DataTable};
 use icu_mini::mini::Mini;
 use icu_options::{CollatorOptions, CollatorPreferences, Strength};
+use icu_provider::load_tables;
 use std::alloc::Global;
 
 fn name_of(table: DataTable) -> &'static str {

@@ -1,8 +1,8 @@
 //! Makes each public call that allocates, and makes it once more, over the same values, where an allocation failed.
 //!
-//! So a run in which one allocation fails prints what a run prints in which none does. One in which each fails from some
-//! place on prints a beginning of that, says `no memory`, and ends with status 1. `tests/programs.py` has each allocation
-//! fail in turn. A word after the program's name names the one part that is run.
+//! So a run in which one allocation fails prints what a run prints in which none does. One in which each fails from
+//! some place on prints a beginning of that, says `no memory`, and ends with status 1. `tests/programs.py` has each
+//! allocation fail in turn. A word after the program's name names the one part that is run.
 #![tactic(auto)]
 
 mod beginnings;

@@ -10,8 +10,9 @@ use std::test::Fail;
 const USAGE: &str =
     "usage: collate compare STRENGTH A B | collate key STRENGTH TEXT | collate sort STRENGTH\n";
 
-/// A writer with room for so many bytes, which allocates nothing and takes at most so many bytes at a time. The first write is
-/// interrupted. Where there is no room left, a write fails. What was taken reaches the page by a flush, which may fail as well.
+/// A writer with room for so many bytes, which allocates nothing and takes at most so many bytes at a time. The first
+/// write is interrupted. Where there is no room left, a write fails. What was taken reaches the page by a flush, which
+/// may fail as well.
 #[derive(Drop)]
 struct Page {
     bytes: [u8; 128],
@@ -75,8 +76,8 @@ impl Write for Page {
     }
 }
 
-/// A reader of these bytes that gives at most so many at a time, each time after a signal has come first, and that may fail
-/// where they end.
+/// A reader of these bytes that gives at most so many at a time, each time after a signal has come first, and that may
+/// fail where they end.
 #[derive(Drop)]
 struct Tape<'a> {
     left: &'a [u8],
@@ -187,7 +188,8 @@ fn shows_keys(rt: HostRuntime) -> Result<(), Fail> {
     Ok(())
 }
 
-/// The key of "a" 10,000 times at the primary level is one lead and 10,000 times 10: the leads that follow are compressed.
+/// The key of "a" 10,000 times at the primary level is one lead and 10,000 times 10: the leads that follow are
+/// compressed.
 #[test]
 fn shows_the_key_of_a_long_text(rt: HostRuntime) -> Result<(), Fail> {
     let alloc = rt.alloc();

@@ -1,4 +1,4 @@
--- Primary weights of tables that begin an implicit weight (UTS #10, section 10.1).
+-- Primary weights of tables that begin an implicit weight (UTS #10, "Implicit Weights").
 use Rattle.std.specs.Prelude.{ℕ, ◌≡◌, ◌≢◌, Bool, true, false}
 use Rattle.icu_entries.specs.declared.error.DataTable.{DataTable}
 use Rattle.icu_levels.specs.ListOrder.{IsBeginning}

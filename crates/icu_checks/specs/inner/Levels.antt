@@ -8,7 +8,7 @@ use Rattle.icu_checks.specs.declared.check.weights.Level.TheVariants.{Primary, S
 use Rattle.icu_checks.specs.declared.check.weights.WeightList.{WeightList}
 use Rattle.icu_checks.specs.declared.check.weights.WeightList.TheVariants as lists
 use Rattle.icu_provider.specs.CollatorTables.{CollatorTables}
-use Rattle.icu_checks.specs.inner.Overlaps.{written_bytes}
+use Rattle.icu_weights.specs.Overlaps.{written_bytes}
 
 -- the weights of a level, as they are collected
 abbrev pub list_of : Level → WeightList

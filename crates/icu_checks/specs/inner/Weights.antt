@@ -17,8 +17,8 @@ use Rattle.icu_provider.specs.CollatorTables.{CollatorTables}
 use Rattle.icu_checks.specs.ElementConditions.{is_tertiary_element}
 use Rattle.icu_checks.specs.LiveElements.{IsLiveBy, IsOfLiveDiacritic}
 
--- A weight of two bytes with two zero bytes after it. Zero is none; the common weight needs no comparison, since its lead byte is
--- its alone.
+-- A weight of two bytes with two zero bytes after it. Zero is none; the common weight needs no comparison, since its
+-- lead byte is its alone.
 abbrev pub left_aligned : ℕ → Option ℕ
 left_aligned w = if w == 0 || w == common then None else Some (w * 2 ^ 16)
 

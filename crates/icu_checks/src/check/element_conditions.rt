@@ -1,15 +1,15 @@
 ghost use Rattle.std.specs.Prelude.{◌≡◌};
 ghost use Rattle.icu_entries.specs.Elements.{Element};
-ghost use Rattle.icu_checks.specs.Leads.{is_middle};
+ghost use Rattle.icu_weights.specs.Leads.{is_middle};
 ghost use Rattle.icu_provider.specs.TableSets.{tables_in};
 ghost use Rattle.icu_checks.specs.ElementConditions.{is_tertiary_element, is_high_tertiary_element, has_low_bytes, has_second_byte, primary_meets, element_meets};
 
-use crate::check::leads::is_middle;
 use crate::check::lookups::is_apart;
 use crate::condition::ElementCondition;
 use icu_entries::CollationElement;
 use icu_provider::TableSet;
 use icu_provider::reordering::lead_byte;
+use icu_weights::leads::is_middle;
 
 /// The lead byte of implicit weights.
 pub(crate) const IMPLICIT_LEAD: u8 = 0xFE;

@@ -1,9 +1,10 @@
 //! The violations of what is live in one table.
-ghost use Rattle.std.specs.Prelude.{◌≡◌, true, Option, IsTrue};
+ghost use Rattle.std.specs.Prelude.{◌≡◌, true, Option, Some, IsTrue};
 ghost use Rattle.icu_checks.specs.declared.violation.Violation.{Violation};
 ghost use Rattle.icu_entries.specs.declared.error.DataTable.{DataTable};
 ghost use Rattle.icu_entries.specs.Elements.{Element};
 ghost use Rattle.icu_data.specs.DataConditions.{is_readable};
+ghost use Rattle.icu_data.specs.LiveConditions.{first_failing};
 ghost use Rattle.icu_data.specs.StoredData.{data_of};
 ghost use Rattle.icu_provider.specs.CollatorTables.{CollatorTables};
 ghost use Rattle.icu_provider.specs.TableSets.{tables_in};
@@ -14,6 +15,7 @@ use crate::condition::{Condition, ElementCondition, LeadCondition};
 use crate::violation::{Violation, later};
 use icu_data::CollationData;
 use icu_data::element_walk::{VisitElement, visit_elements};
+use icu_data::live_condition::LiveCondition;
 use icu_data::violation::{Judge, earlier};
 use icu_entries::{CollationElement, CollationElement32, DataTable};
 use icu_provider::TableSet;
@@ -133,8 +135,33 @@ fn rows_violation(
     }
 }
 
-/// What finds the violations of the entries that are live in a table, by all tables of a collator. Entries for implicit weights, a million
-/// of them, are passed over where reordering leaves these weights a lead byte of their own.
+/// The first violation of an entry that fails a condition on its own.
+#[tactic(auto, unfolding(crate::specs::inner::EntryViolations::entry_violation))]
+fn violation_beside(
+    judge: &EntryJudge<'_>,
+    condition: LiveCondition,
+    home: CollationData<'_>,
+    c: char,
+    entry: CollationElement32,
+) -> Option<Violation>
+    requires { first_failing (data_of home) c entry ≡ Some condition }
+    ensures { result ≡ entry_violation (tables_in judge.now.tables) judge.now.table (data_of home.entry) c entry }
+{
+    let own = Violation {
+        condition: Condition::Entry(condition),
+        table: judge.table,
+    };
+    let found = earlier(Some(own), rows_violation(judge.tables, home, entry));
+    let of_elements = if home.is_readable(c, entry) {
+        elements_violation(judge.tables, judge.table, home, c, entry)
+    } else {
+        None
+    };
+    earlier(found, of_elements)
+}
+
+/// What finds the violations of the entries that are live in a table, by all tables of a collator. Entries for implicit
+/// weights, a million of them, are passed over where reordering leaves these weights a lead byte of their own.
 #[derive(Drop)]
 pub(crate) struct EntryJudge<'d> {
     pub(crate) tables: TableSet<'d>,
@@ -143,7 +170,8 @@ pub(crate) struct EntryJudge<'d> {
     ghost passes: { implicit_passes ≡ true → ImplicitPasses (tables_in tables) },
 }
 
-/// Whether implicit weights meet every condition on elements: reordering takes them to one lead byte, and numbers to another.
+/// Whether implicit weights meet every condition on elements: reordering takes them to one lead byte, and numbers to
+/// another.
 #[tactic(auto, using(crate::proofs::ImplicitLemmas::implicit_pass))]
 pub(crate) fn implicit_passes(tables: TableSet<'_>) -> bool
     ensures { result ≡ true → ImplicitPasses (tables_in tables.entry) }
@@ -157,27 +185,20 @@ impl<'d> Judge for EntryJudge<'d> {
 
     ghost violation = { λ j home c e. entry_violation (tables_in j.tables) j.table home c e };
 
-    #[tactic(auto, unfolding(crate::specs::inner::EntryViolations::entry_violation))]
+    #[tactic(auto, using(crate::proofs::EntryViolationLemmas::is_readable_where_none_fails), unfolding(crate::specs::inner::EntryViolations::entry_violation))]
     fn violation(
         &self,
         home: CollationData<'_>,
         c: char,
         entry: CollationElement32,
     ) -> Option<Violation> {
-        let own = match home.first_failing(c, entry) {
-            Some(condition) => Some(Violation {
-                condition: Condition::Entry(condition),
-                table: self.table,
-            }),
-            None => None,
-        };
-        let found = earlier(own, rows_violation(self.tables, home, entry));
-        let of_elements = if home.is_readable(c, entry) {
-            elements_violation(self.tables, self.table, home, c, entry)
-        } else {
-            None
-        };
-        earlier(found, of_elements)
+        match home.first_failing(c, entry) {
+            Some(condition) => violation_beside(self, condition, home, c, entry),
+            None => earlier(
+                rows_violation(self.tables, home, entry),
+                elements_violation(self.tables, self.table, home, c, entry),
+            ),
+        }
     }
 
     #[tactic(auto, using(crate::proofs::EntryViolationLemmas::entry_alike))]

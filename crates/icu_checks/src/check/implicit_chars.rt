@@ -1,5 +1,5 @@
-//! Which characters have an implicit weight (UTS #10, section 10.1) that is live, as they are looked up where weights are compared with
-//! these.
+//! Which characters have an implicit weight (UTS #10, "Implicit Weights") that is live, as they are looked up where
+//! weights are compared with these.
 ghost use Rattle.std.specs.Prelude.{ℕ, ◌<◌, ◌^◌, ⊤};
 
 use crate::check::lookups::jamo_char;
@@ -29,7 +29,8 @@ pub(crate) struct CodePoints {
     pub(crate) end: u32,
 }
 
-/// The implicit weights with some second and third bytes, as many in a row: those of `count` characters from `first` - 1 on.
+/// The implicit weights with some second and third bytes, as many in a row: those of `count` characters from `first` -
+/// 1 on.
 fn code_points(first: u32, count: u32) -> CodePoints
     requires first { first < 2 ^ 24 }
     requires count { count < 2 ^ 24 }
@@ -45,8 +46,8 @@ pub(crate) fn second_byte(primary: u32) -> u8 {
     primary.to_be_bytes()[1]
 }
 
-/// The characters whose implicit weights have this second byte, and the last two bytes of a weight as far as these aren't zero. The
-/// third byte has 254 values, the fourth 18.
+/// The characters whose implicit weights have this second byte, and the last two bytes of a weight as far as these
+/// aren't zero. The third byte has 254 values, the fourth 18.
 pub(crate) fn chars_beside(second: u8, primary: u32) -> CodePoints {
     let bytes = primary.to_be_bytes();
     let first = u32::from(second).saturating_sub(4) * WITH_SECOND;

@@ -1,7 +1,7 @@
-//! Primary weights that begin an implicit weight (UTS #10, section 10.1).
+//! Primary weights that begin an implicit weight (UTS #10, "Implicit Weights").
 //!
-//! Implicit weights follow from their characters, so none of them is collected: which characters have an implicit weight that begins
-//! with given bytes is arithmetic.
+//! Implicit weights follow from their characters, so none of them is collected: which characters have an implicit
+//! weight that begins with given bytes is arithmetic.
 ghost use Rattle.std.specs.Prelude.{◌≡◌, ◌||◌, Bool, IfOk, IfSome, IsTrue};
 ghost use Rattle.std.specs.List.{list_any};
 ghost use Rattle.icu_data.specs.Live.{live_from};
@@ -14,7 +14,6 @@ ghost use Rattle.icu_checks.specs.inner.ImplicitOverlaps.{is_for_implicit, IsImp
 use crate::check::collecting::collect;
 use crate::check::element_conditions::IMPLICIT_LEAD;
 use crate::check::implicit_chars::{ImplicitChars, chars_beside, second_byte};
-use crate::check::overlap::{Overlap, is_beginning};
 use crate::check::overlap_tables::{clash_table, table_of};
 use crate::check::overlap_violations::LIVE_TABLES;
 use crate::check::weights::{Level, WeightList};
@@ -26,10 +25,12 @@ use icu_data::walk::{Visit, visit_from};
 use icu_entries::{CollationElement, CollationElement32, DataTable, EntryKind};
 use icu_provider::TableSet;
 use icu_provider::reordering::lead_byte;
+use icu_weights::overlap::{Overlap, is_beginning};
 use std::alloc::{AllocError, Global};
 use std::convert::Infallible;
 
-/// A primary weight of a table that begins the implicit weight of a character, which is live by another table or the same one.
+/// A primary weight of a table that begins the implicit weight of a character, which is live by another table or the
+/// same one.
 #[derive(Clone, Copy)]
 pub(crate) struct ImplicitClash {
     pub(crate) primary: u32,
@@ -133,8 +134,9 @@ fn may_begin_implicit(
     !together || reordered == 0 || lead_byte(reordered) == tables.new_lead(IMPLICIT_LEAD)
 }
 
-/// Whether reordering takes a weight to a lead byte that it takes some implicit weight with a second byte to. It is asked of the first
-/// and the last weight with these bytes alone, as weights between them go with one or the other. The weight 0 begins each one.
+/// Whether reordering takes a weight to a lead byte that it takes some implicit weight with a second byte to. It is
+/// asked of the first and the last weight with these bytes alone, as weights between them go with one or the other. The
+/// weight 0 begins each one.
 fn may_begin_with_second(tables: TableSet<'_>, primary: u32, second: u8) -> bool {
     let reordered = tables.reorder(primary);
     let first = u32::from(IMPLICIT_LEAD) << 24 | u32::from(second) << 16;
@@ -261,8 +263,8 @@ fn first_clash_among(
     None
 }
 
-/// The first such clash of some weights: of all of them, or only of weights that overlap before reordering too. Which characters have an
-/// implicit weight is looked up only where some weight may have a clash.
+/// The first such clash of some weights: of all of them, or only of weights that overlap before reordering too. Which
+/// characters have an implicit weight is looked up only where some weight may have a clash.
 fn first_clash(
     alloc: Global,
     tables: TableSet<'_>,
@@ -301,8 +303,8 @@ fn clash_violation(
     })
 }
 
-/// A clash as it is named. Those that there are before reordering too are looked for table by table, so that the earliest tables are
-/// named; where there are none, the given one is named.
+/// A clash as it is named. Those that there are before reordering too are looked for table by table, so that the
+/// earliest tables are named; where there are none, the given one is named.
 fn named_clash(
     alloc: Global,
     tables: TableSet<'_>,

@@ -7,9 +7,9 @@ ghost use Rattle.icu_provider.specs.TableSets.{tables_in};
 ghost use Rattle.icu_checks.specs.LeadConditions.{TakesLeadBy, TakesLead, TakesTogether, LeadMeets};
 
 use crate::check::element_conditions::IMPLICIT_LEAD;
-use crate::check::leads::{is_middle, takes_lead};
 use crate::condition::LeadCondition;
 use icu_provider::{CollationReordering, TableSet};
+use icu_weights::leads::{is_middle, takes_lead};
 
 /// The primary weight of the merge separator.
 const SEPARATOR: u32 = 0x0200_0000;

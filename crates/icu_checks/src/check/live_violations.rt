@@ -56,7 +56,8 @@ fn violation_of_jamo(
     let judge = EntryJudge {
         tables,
         table: DataTable::Jamo,
-        implicit_passes: implicit_passes(tables),
+        // of one entry and those that it leads to, there is nothing to pass over
+        implicit_passes: false,
     };
     match jamo_char(place) {
         Some(c) => first_violation_from(&judge, None, tables.root, c, entry),

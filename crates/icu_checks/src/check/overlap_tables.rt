@@ -7,13 +7,13 @@ ghost use Rattle.icu_checks.specs.inner.Weights.{IsWeightBy};
 ghost use Rattle.icu_checks.specs.inner.PairViolations.{IsListedWeight, AreClashing, IsClashTable};
 
 use crate::check::collecting::collect;
-use crate::check::overlap::{Overlap, are_overlapping};
-use crate::check::weight_list::contains;
 use crate::check::weights::{Level, WeightList};
 use crate::condition::Condition;
 use crate::violation::{Violation, later};
 use icu_entries::DataTable;
 use icu_provider::TableSet;
+use icu_weights::overlap::{Overlap, are_overlapping};
+use icu_weights::weight_list::contains;
 use std::alloc::{AllocError, Global};
 
 /// Whether a weight is live by a table.
@@ -52,8 +52,8 @@ pub(crate) fn table_of(
     }
 }
 
-/// The table by which an overlap is named whose weights are live by two tables: the later one, but the reordering where they are
-/// primary weights that overlap only by it.
+/// The table by which an overlap is named whose weights are live by two tables: the later one, but the reordering where
+/// they are primary weights that overlap only by it.
 pub(crate) fn clash_table(
     level: Level,
     first: DataTable,

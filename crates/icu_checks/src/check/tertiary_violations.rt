@@ -1,20 +1,22 @@
-//! Tertiary weights of elements without a secondary weight, which stand above those beside one (UTS #10, section 3.2).
+//! Tertiary weights of elements without a secondary weight, which stand above those beside one (UTS #10,
+//! "Well-Formedness of Collation Element Tables").
 ghost use Rattle.std.specs.Prelude.{ℕ, ◌≡◌, ◌<◌, None, Contains, IfSome, IfOk};
 ghost use Rattle.icu_provider.specs.TableSets.{tables_in};
 ghost use Rattle.icu_checks.specs.inner.Violations.{IsTrueViolation};
-ghost use Rattle.icu_checks.specs.inner.PairViolations.{AreTooLow, IsLowPair, TertiaryElementsAreHigh, IsOutcome};
+ghost use Rattle.icu_checks.specs.inner.PairViolations.{HoldsLevel, AreTooLow, IsLowPair, TertiaryElementsAreHigh, IsOutcome};
 
 use crate::check::collecting::collect;
 use crate::check::overlap_tables::table_of;
-use crate::check::overlap_violations::{LIVE_TABLES, listed_weights};
-use crate::check::weight_list::{greatest, least};
+use crate::check::overlap_violations::LIVE_TABLES;
 use crate::check::weights::WeightList;
 use crate::condition::{Condition, PairCondition};
 use crate::violation::{Violation, later};
 use icu_provider::TableSet;
+use icu_weights::weight_list::{greatest, least};
 use std::alloc::{AllocError, Global};
 
-/// A tertiary weight of an element without a secondary weight, and one beside a secondary weight that it doesn't stand above.
+/// A tertiary weight of an element without a secondary weight, and one beside a secondary weight that it doesn't stand
+/// above.
 #[derive(Clone, Copy)]
 pub(crate) struct LowPair {
     pub(crate) alone: u32,
@@ -74,12 +76,14 @@ fn named_pair(alloc: Global, tables: TableSet<'_>, pair: LowPair) -> Result<Viol
 pub(crate) fn tertiary_violation(
     alloc: Global,
     tables: TableSet<'_>,
+    alone: &[u32],
+    beside: &[u32],
 ) -> Result<Option<Violation>, AllocError>
+    requires alone { HoldsLevel WeightList.TertiaryElements (tables_in tables).tables alone.now }
+    requires beside { HoldsLevel WeightList.WithSecondary (tables_in tables).tables beside.now }
     ensures { IfOk result (IsOutcome (tables_in tables.entry) (TertiaryElementsAreHigh (tables_in tables.entry).tables)) }
 {
-    let alone = listed_weights(alloc, tables, WeightList::TertiaryElements)?;
-    let beside = listed_weights(alloc, tables, WeightList::WithSecondary)?;
-    match first_low(&alone, &beside) {
+    match first_low(alone, beside) {
         Some(pair) => Ok(Some(named_pair(alloc, tables, pair)?)),
         None => Ok(None),
     }

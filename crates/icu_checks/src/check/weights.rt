@@ -14,8 +14,11 @@ use icu_provider::{CollationReordering, TableSet};
 /// A level of weights, none of which may begin another.
 #[derive(Clone, Copy)]
 pub enum Level {
+    /// Primary weights.
     Primary,
+    /// Secondary weights.
     Secondary,
+    /// Tertiary weights.
     Tertiary,
 }
 

@@ -6,7 +6,8 @@ use Rattle.icu_elements.specs.declared.element_reader.ElementReader.{ElementRead
 use Rattle.icu_elements.specs.ElementReaders.{elements_to_come}
 use Rattle.icu_elements.specs.TextElements.{Reading, elements_after}
 
--- a text that has the character may be cut before it: the elements are those of the two parts, whatever stands before either
+-- a text that has the character may be cut before it: the elements are those of the two parts, whatever stands before
+-- either
 abbrev pub MayBeCut : Reading → ℕ → Type 0
 MayBeCut reading c =
     (before after piece text : List ℕ)

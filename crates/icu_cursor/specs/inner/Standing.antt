@@ -16,7 +16,8 @@ abbrev pub StandsBefore : Reading → ℕ → Letter → List ℕ → Type 0
 StandsBefore reading c l text =
     (before : List ℕ) → elements_after reading before (nfd (c ∷ text)) ≡ letter_elements l ++ elements_after reading (context_after before (decompose Nfd c)) (nfd text)
 
--- what is kept of a character says when it stands by itself, that runs of marks end before it, and that texts may be cut there
+-- what is kept of a character says when it stands by itself, that runs of marks end before it, and that texts may be
+-- cut there
 pub record Serves (reading : Reading) (c : ℕ) (l : Letter) : Type 0 where
   pub starters : l.kind ≡ Starters → (text : List ℕ) → StandsBefore reading c l text
   pub marked : l.kind ≡ Marked → (text : List ℕ) → Rises l.class text → StandsBefore reading c l text

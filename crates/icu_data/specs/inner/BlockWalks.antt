@@ -22,8 +22,8 @@ is_wanted Stated home e = elim (kind_of e) [ ImplicitKind ↦ false | _ ↦ true
 is_wanted ByCharacter home e = elim (kind_of e) [ ImplicitKind ↦ false | _ ↦ leads_to_character home e ]
 is_wanted Implicit home e = elim (kind_of e) [ ImplicitKind ↦ true | _ ↦ false ]
 
--- A visitor went from one state to another by visits of entries that are live with these characters and stand for those of a part
--- from one code point up to another.
+-- A visitor went from one state to another by visits of entries that are live with these characters and stand for those
+-- of a part from one code point up to another.
 pub record WalkedTo {V : Type 0} (after : V → Data → ℕ → ℕ → V) (falls_back : Bool) (part : Part) (home : Data) (old new : V) (from end : ℕ) : Type 0 where
   pub chars : List ℕ
   pub scalars : AllByRecursion IsScalar chars
@@ -40,7 +40,8 @@ pub record IsVisited (home : Data) (cs : List ℕ) (e : ℕ) : Type 0 where
   pub among : Contains cs char
   pub has : home.value char ≡ e
 
--- a visitor went up to a code point, but for implicit weights, and the entries that are remembered were visited on the way
+-- a visitor went up to a code point, but for implicit weights, and the entries that are remembered were visited on the
+-- way
 pub record Holds {V : Type 0} (after : V → Data → ℕ → ℕ → V) (falls_back : Bool) (home : Data) (seen : VisitedEntries) (old new : V) (end : ℕ) : Type 0 where
   pub walked : WalkedTo after falls_back Stated home old new 0 end
   pub visited : (e : ℕ) → IsRemembered seen e → IsVisited home walked.chars e

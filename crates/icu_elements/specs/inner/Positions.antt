@@ -26,8 +26,8 @@ unread_at p = unread p.text
 abbrev pub elements_left : TextReading → Position → List Element
 elements_left reading p = elements_after (reading_by_tables reading) (consumed_last p) (unread_at p)
 
--- A step at a character was taken: its elements came after those that there were, what it consumes was consumed, and what it leaves
--- is left.
+-- A step at a character was taken: its elements came after those that there were, what it consumes was consumed, and
+-- what it leaves is left.
 pub record IsStep (s : Step) (c : ℕ) (before : List ℕ) (old new : List Element) (p : Position) : Type 0 where
   pub elements : new ≡ old ++ s.elements
   pub recent : consumed_last p ≡ last_two before (consumed c s)

@@ -11,7 +11,8 @@ use Rattle.icu_matches.specs.ReadAhead.{are_decided, row_length}
 use Rattle.icu_elements.specs.TextElements.{Reading, continues_number}
 use Rattle.icu_elements.specs.inner.Iterating.{StillReads}
 
--- Some more came after the text that there was, of what the source had; then the text is as it is to be, or the source has no more.
+-- Some more came after the text that there was, of what the source had; then the text is as it is to be, or the source
+-- has no more.
 pub record ReadsTo {I : Type 0} (steps : I → Option ℕ → I → Type 0) (Is : List ℕ → Type 0) (old : Decompositions I) (text : List ℕ) (new : Decompositions I) (longer : List ℕ) : Type 0 where
   pub more : List ℕ
   pub grown : longer ≡ text ++ more

@@ -155,7 +155,8 @@ fn longest_len(context: FoundContext<'_>, text: &Text) -> usize
     }
 }
 
-/// Reads on until a contraction's row is decided, and with it the marks that may join. Returns how many characters the row takes.
+/// Reads on until a contraction's row is decided, and with it the marks that may join. Returns how many characters the
+/// row takes.
 fn read_match<I: Iterator<Item = char> + Drop>(
     context: FoundContext<'_>,
     source: &mut Decompositions<I>,

@@ -3,8 +3,8 @@
 ghost use Rattle.std.specs.Prelude.{◌≡◌, ◌≤◌, ◌∷◌, []};
 ghost use Rattle.icu_elements.specs.TextElements.{last_two};
 
-/// The last characters that were consumed, two at most, the nearest first. A prefix looks no further back (UTS #35 part 5, section
-/// 3.11).
+/// The last characters that were consumed, two at most, the nearest first. A prefix looks no further back (UTS #35 part
+/// 5, "Context-Sensitive Mappings").
 #[derive(Debug, Clone, Copy)]
 pub(crate) struct RecentChars {
     chars: [char; 2],

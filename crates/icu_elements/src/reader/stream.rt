@@ -1,4 +1,5 @@
-//! Steps of reading a text that comes from a source of decomposed characters, which is read no further than each step looks.
+//! Steps of reading a text that comes from a source of decomposed characters, which is read no further than each step
+//! looks.
 
 ghost use Rattle.std.specs.Prelude.{◌≡◌, ◌<◌, [], List, IfOk, OnOk, IsTrue, IsFalse};
 ghost use Rattle.icu_entries.specs.Elements.{Element};

@@ -1,5 +1,5 @@
 -- Two lists from their fronts.
-use Rattle.std.specs.Prelude.{◌≡◌, ℕ, List, [], ◌∷◌}
+use Rattle.std.specs.Prelude.{◌≡◌, ℕ, List, [], ◌∷◌, ◌++◌}
 
 -- both begin with one number, and these follow it
 abbrev pub BeginAlike : (xs ys xs_rest ys_rest : List ℕ) → Type 0
@@ -8,3 +8,7 @@ BeginAlike xs ys xs_rest ys_rest = (x : ℕ) × (xs ≡ x ∷ xs_rest) × (ys �
 -- the same lists are empty
 abbrev pub EndTogether : List ℕ → List ℕ → Type 0
 EndTogether xs ys = xs ≡ ys → xs ≡ []
+
+-- the two lists begin alike, up to what is left of each
+abbrev pub HaveHead : (xs ys xs_left ys_left : List ℕ) → Type 0
+HaveHead xs ys xs_left ys_left = (head : List ℕ) × (xs ≡ head ++ xs_left) × (ys ≡ head ++ ys_left)

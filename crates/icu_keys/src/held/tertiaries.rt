@@ -106,7 +106,8 @@ impl HeldTertiaries {
         self.write(sink, state)
     }
 
-    /// Writes the level to a sink, as it ends here, between the bytes that open and close it. An error is the sink's own.
+    /// Writes the level to a sink, as it ends here, between the bytes that open and close it. An error is the sink's
+    /// own.
     pub fn write_closed<S: CollationKeySink>(
         &self,
         sink: &mut S,

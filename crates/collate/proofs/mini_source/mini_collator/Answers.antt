@@ -4,7 +4,7 @@ use Rattle.std.proofs.Common.{◌≡◌, Some, ap}
 use Rattle.icu_entries.specs.declared.error.DataErrorKind.TheVariants.{NoMemory}
 use Rattle.icu_provider.specs.CollatorTables.{CollatorTables}
 use Rattle.icu_checks.specs.GoodTables.{IsGoodTables}
-use Rattle.icu_checks.specs.Loads.{lent_tables}
+use Rattle.icu_provider.specs.LentTables.{lent_tables}
 use Rattle.icu_mini.specs.Provider.{loads_of}
 use Rattle.icu_options.specs.declared.options.CollatorOptions.{CollatorOptions}
 use Rattle.icu_comparison.specs.Collators.{request_in}

@@ -1,27 +1,18 @@
--- A word or a unit more that both have goes to the common beginning.
-use Rattle.std.proofs.Common.{◌≡◌, ap, ◌∙◌, ◌∷◌, ◌++◌, [], sym, drop, take-append-drop}
-use Rattle.icu_encodings.proofs.CutLemmas.{rest_alike, none_left, longer_head, same_words}
+-- A byte more that both have goes to the common beginning.
+use Rattle.std.proofs.Common.{◌∷◌, []}
+use Rattle.icu_encodings.proofs.CutLemmas.{rest_alike, none_left, longer_head, head_on}
 use Rattle.icu_encodings.proofs.common_units.common_bytes.Goals as goal
-
-pub words-preserved : goal.words-preserved
-words-preserved c =
-    let one = c.words.one.now in
-    let other = c.words.other.now in
-    let first = c.in-Some.ensures.cases in
-    let second = c.in-Some-split_first_chunk.ensures.cases in
-    let word = c.in-Some.word.now in
-    let whole : one ≡ word ++ c.in-Some.rest.now = sym (take-append-drop 8 one) ∙ ap (λ w. w ++ drop 8 one) (sym first.0) ∙ ap (λ l. word ++ l) (sym first.1) in
-    let same : word ≡ c.in-Some-split_first_chunk.other_word.now = same_words _ _ (sym c.ne.ensures ∙ c.if-ne.false) in
-    let other_whole : other ≡ word ++ c.in-Some-split_first_chunk.other_rest.now =
-    sym (take-append-drop 8 other) ∙ ap (λ w. w ++ drop 8 other) (sym second.0 ∙ sym same) ∙ ap (λ l. word ++ l) (sym second.1) in
-    longer_head _ _ one other word _ _ c.words.invariant whole other_whole
 
 pub bytes-preserved : goal.bytes-preserved
 bytes-preserved c =
-    let both = c.in-Some-after_common_byte.ensures in
+    let both = c.in-Some.ensures in
     longer_head _ _ _ _ (both.0 ∷ []) _ _ c.bytes.invariant both.1 both.2
 
 pub returns-clause-same : goal.returns-clause-same
 returns-clause-same c = λ e.
-    let empty = c.in_default-after_common_byte.ensures (rest_alike _ _ _ _ c.bytes.invariant e) in
+    let empty = c.in_default.ensures (rest_alike _ _ _ _ c.bytes.invariant e) in
     none_left c.args.left.now c.bytes.one.now empty
+
+pub bytes-init : goal.bytes-init
+bytes-init c =
+    head_on _ _ _ _ _ _ (head_on _ _ _ _ _ _ c.after_common_blocks.ensures c.after_common_words.ensures) c.after_common_in_word.ensures

@@ -1,6 +1,6 @@
 -- One character more gets its entry after those before it.
 use Rattle.std.proofs.Common.{ℕ, get_or, refl, sym, ap, ◌∙◌}
-use Rattle.icu_data.specs.Building.{built_data, with_entries}
+use Rattle.icu_owned_data.specs.Building.{built_data, with_entries}
 use Rattle.icu_data.specs.Data.{Data}
 use Rattle.icu_mini.specs.Characters.{with_characters}
 use Rattle.icu_mini.proofs.CharacterLemmas.{with_characters_more}

@@ -1,9 +1,9 @@
 -- The one character, and the one context.
 use Rattle.std.proofs.Common.{◌++◌, ◌∷◌, [], ap, subst, ◌∙◌, IfOk}
-use Rattle.icu_data.specs.AddedContexts.{given_context}
-use Rattle.icu_data.specs.Building.{SaysOfCharacters}
+use Rattle.icu_owned_data.specs.AddedContexts.{given_context}
+use Rattle.icu_owned_data.specs.Building.{SaysOfCharacters}
 use Rattle.icu_data.specs.Data.{Context, Data}
-use Rattle.icu_data.specs.OwnedData.{vectors_data}
+use Rattle.icu_owned_data.specs.OwnedData.{vectors_data}
 use Rattle.icu_mini.specs.Characters.{with_characters}
 use Rattle.icu_mini.proofs.parts.in_context.Goals as goal
 

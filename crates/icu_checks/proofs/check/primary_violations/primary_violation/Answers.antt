@@ -14,8 +14,8 @@ returns c =
           let last = both_none _ _ _ c.earlier-2.ensures h in
           let first = both_none _ _ _ c.earlier.ensures last.0 in
           record {
-            weights = c.in_ok-weights.weights.items;
-            all_held = c.in_ok-weights.ensures.weights.all;
+            weights = c.args.weights.now.items;
+            all_held = c.requires.weights.all;
             free = c.in_ok-overlap.ensures.none first.0;
             alike = subst (AreAlike all) c.deref.ensures.value (c.compression_violation-unlike.ensures.none last.1);
           };

@@ -10,11 +10,11 @@ pub returns-then-primary-last_variable : goal.returns-then-primary-last_variable
 returns-then-primary-last_variable g c =
     let all = tables_borrowed c.args.self.now in
     let settings = settings_borrowed c.args.self.now in
-    let p = c.letter-primary.result.leading_primary in
+    let p = c.front-primary.result.leading_primary in
     let above : last_variable_by all settings < p = subst (λ (x : ℕ). x < p) c.last_variable.ensures c.if-primary-last_variable.true in
     subst (λ (t : List ℕ). LeadsWith all settings t p) (sym c.in-Some.ensures)
     (first_leads all settings c.first_starters_lead.ensures c.in-Some.first (g.T.EncodedText.text c.in-Some.field-0-1) p
-    (c.letter-primary.ensures.leads (above_nothing _ p above)) above)
+    (c.front-primary.ensures.leads (above_nothing _ p above)) above)
 
 pub returns-in-None : goal.returns-in-None
 returns-in-None g c =

@@ -11,7 +11,7 @@ returns-then-letter-ne0 g c = λ nonzero.
     let settings = settings_borrowed c.args.self.now in
     let first = c.in-Some.first in
     let rest = g.T.EncodedText.text c.in-Some.field-0-1 in
-    let p = c.letter-letter.result.leading_primary in
-    let has = first_has_primary all settings c.first_starters_lead.ensures first rest p (c.letter-letter.ensures.leads c.if-letter-ne0.true) c.if-letter-ne0.true in
+    let p = c.front-letter.result.leading_primary in
+    let has = first_has_primary all settings c.first_starters_lead.ensures first rest p (c.front-letter.ensures.leads c.if-letter-ne0.true) c.if-letter-ne0.true in
     subst (λ (t : List ℕ). IsTail all settings t) (sym c.in-Some.ensures)
-    (tail_of all settings first rest (c.letter-letter.ensures.safe c.if-letter.true) (inr has))
+    (tail_of all settings first rest (c.front-letter.ensures.safe c.if-letter.true) (inr has))

@@ -4,8 +4,8 @@ use Rattle.icu_shortcuts.specs.KeptLetters.{KeptLetter}
 use Rattle.icu_shortcuts.proofs.KeptLemmas.{known_letter}
 use Rattle.icu_shortcuts.proofs.letter_table.Letters.get.Goals as goal
 
-pub returns-then-code-lt640-clause-known : goal.returns-then-code-lt640-clause-known
-returns-then-code-lt640-clause-known c = λ reading are.
+pub returns-then-code-lt896-clause-known : goal.returns-then-code-lt896-clause-known
+returns-then-code-lt896-clause-known c = λ reading are.
     let kept : KeptLetter reading c.args.c c.index.result.now = search rules in
     known_letter reading c.args.c c.index.result.now kept
 
@@ -13,3 +13,8 @@ pub returns-then-code-lt7936-clause-known : goal.returns-then-code-lt7936-clause
 returns-then-code-lt7936-clause-known c = λ reading are.
     let kept : KeptLetter reading c.args.c c.index-then-code-lt7936.result.now = search rules in
     known_letter reading c.args.c c.index-then-code-lt7936.result.now kept
+
+pub returns-then-code-lt4608-clause-known : goal.returns-then-code-lt4608-clause-known
+returns-then-code-lt4608-clause-known c = λ reading are.
+    let kept : KeptLetter reading c.args.c c.index-then-code-lt4608.result.now = search rules in
+    known_letter reading c.args.c c.index-then-code-lt4608.result.now kept

@@ -1,0 +1,158 @@
+//! The weights that are compared with one another, all lists on one walk over a table.
+ghost use Rattle.std.specs.Prelude.{◌≡◌, [], IfOk, OnOk};
+ghost use Rattle.std.specs.List.Sorted.{IsStrictlyIncreasing};
+ghost use Rattle.icu_data.specs.LiveWeights.{IsLiveWeight};
+ghost use Rattle.icu_data.specs.StoredData.{data_of};
+ghost use Rattle.icu_provider.specs.TableSets.{tables_in};
+ghost use Rattle.icu_checks.specs.inner.Weights.{weight_at, Adds};
+ghost use Rattle.icu_checks.specs.inner.ListedWeights.{HasNone, AddsEach, HasSame, HoldsEach};
+
+use crate::check::collecting::collect;
+use crate::check::weights::WeightList;
+use icu_data::CollationData;
+use icu_data::block_walk::visit_chars;
+use icu_data::both::Both;
+use icu_data::live_weights::{Collector, sort_and_dedup};
+use icu_entries::DataTable;
+use icu_provider::TableSet;
+use std::alloc::{AllocError, Global};
+
+/// The weights that are compared with one another, list by list.
+#[derive(Drop)]
+pub(crate) struct ListedWeights {
+    pub(crate) primaries: Vec<u32>,
+    pub(crate) secondaries: Vec<u32>,
+    pub(crate) tertiaries: Vec<u32>,
+    pub(crate) tertiary_elements: Vec<u32>,
+    pub(crate) with_secondary: Vec<u32>,
+}
+
+impl ListedWeights {
+    /// No weights so far.
+    fn new(alloc: Global) -> ListedWeights
+        ensures { HasNone result }
+    {
+        ListedWeights {
+            primaries: Vec::new(alloc),
+            secondaries: Vec::new(alloc),
+            tertiaries: Vec::new(alloc),
+            tertiary_elements: Vec::new(alloc),
+            with_secondary: Vec::new(alloc),
+        }
+    }
+
+    /// Puts each list in ascending order, each weight once.
+    fn sort(&mut self)
+        ensures same { HasSame self.old self.new }
+        ensures primaries { IsStrictlyIncreasing self.new.primaries.items }
+        ensures secondaries { IsStrictlyIncreasing self.new.secondaries.items }
+        ensures tertiaries { IsStrictlyIncreasing self.new.tertiaries.items }
+    {
+        sort_and_dedup(&mut self.primaries);
+        sort_and_dedup(&mut self.secondaries);
+        sort_and_dedup(&mut self.tertiaries);
+    }
+}
+
+/// Adds the weights of all that is live in a root or a tailoring, by one walk.
+fn collect_home(
+    lists: &mut ListedWeights,
+    home: CollationData<'_>,
+    falls_back: bool,
+) -> Result<(), AllocError>
+    ensures primaries { OnOk result (Adds (IsLiveWeight (weight_at WeightList.Primaries) falls_back (data_of home.entry)) lists.old.primaries.items lists.new.primaries.items) }
+    ensures secondaries { OnOk result (Adds (IsLiveWeight (weight_at WeightList.Secondaries) falls_back (data_of home.entry)) lists.old.secondaries.items lists.new.secondaries.items) }
+    ensures tertiaries { OnOk result (Adds (IsLiveWeight (weight_at WeightList.Tertiaries) falls_back (data_of home.entry)) lists.old.tertiaries.items lists.new.tertiaries.items) }
+    ensures tertiary_elements { OnOk result (Adds (IsLiveWeight (weight_at WeightList.TertiaryElements) falls_back (data_of home.entry)) lists.old.tertiary_elements.items lists.new.tertiary_elements.items) }
+    ensures with_secondary { OnOk result (Adds (IsLiveWeight (weight_at WeightList.WithSecondary) falls_back (data_of home.entry)) lists.old.with_secondary.items lists.new.with_secondary.items) }
+{
+    let primaries = Collector::over(&WeightList::Primaries, &mut lists.primaries);
+    let secondaries = Collector::over(&WeightList::Secondaries, &mut lists.secondaries);
+    let tertiaries = Collector::over(&WeightList::Tertiaries, &mut lists.tertiaries);
+    let alone = Collector::over(&WeightList::TertiaryElements, &mut lists.tertiary_elements);
+    let beside = Collector::over(&WeightList::WithSecondary, &mut lists.with_secondary);
+    let mut visitor = Both {
+        first: primaries,
+        second: Both {
+            first: Both {
+                first: secondaries,
+                second: tertiaries,
+            },
+            second: Both {
+                first: alone,
+                second: beside,
+            },
+        },
+    };
+    let outcome = visit_chars(&mut visitor, home, falls_back);
+    lists.primaries = visitor.first.weights;
+    lists.secondaries = visitor.second.first.first.weights;
+    lists.tertiaries = visitor.second.first.second.weights;
+    lists.tertiary_elements = visitor.second.second.first.weights;
+    lists.with_secondary = visitor.second.second.second.weights;
+    outcome
+}
+
+fn collect_root(tables: TableSet<'_>, lists: &mut ListedWeights) -> Result<(), AllocError>
+    ensures { OnOk result (AddsEach DataTable.Root (tables_in tables.entry).tables lists.old lists.new) }
+{
+    collect_home(lists, tables.root, false)
+}
+
+fn collect_tailoring(tables: TableSet<'_>, lists: &mut ListedWeights) -> Result<(), AllocError>
+    ensures { OnOk result (AddsEach DataTable.Tailoring (tables_in tables.entry).tables lists.old lists.new) }
+{
+    match tables.tailoring {
+        Some(tailoring) => collect_home(lists, tailoring, true),
+        None => Ok(()),
+    }
+}
+
+/// Adds the weights of what is live by a table, one list after another: for tables without a walk.
+fn collect_each(
+    tables: TableSet<'_>,
+    table: DataTable,
+    lists: &mut ListedWeights,
+) -> Result<(), AllocError>
+    ensures { OnOk result (AddsEach table (tables_in tables.entry).tables lists.old lists.new) }
+{
+    collect(tables, WeightList::Primaries, table, &mut lists.primaries)?;
+    collect(
+        tables,
+        WeightList::Secondaries,
+        table,
+        &mut lists.secondaries,
+    )?;
+    collect(tables, WeightList::Tertiaries, table, &mut lists.tertiaries)?;
+    collect(
+        tables,
+        WeightList::TertiaryElements,
+        table,
+        &mut lists.tertiary_elements,
+    )?;
+    collect(
+        tables,
+        WeightList::WithSecondary,
+        table,
+        &mut lists.with_secondary,
+    )
+}
+
+/// All weights of all tables. Primaries, secondaries and tertiaries are in ascending order, each once.
+pub(crate) fn listed_weights(
+    alloc: Global,
+    tables: TableSet<'_>,
+) -> Result<ListedWeights, AllocError>
+    ensures primaries { IfOk result (λ lists. IsStrictlyIncreasing lists.primaries.items) }
+    ensures secondaries { IfOk result (λ lists. IsStrictlyIncreasing lists.secondaries.items) }
+    ensures tertiaries { IfOk result (λ lists. IsStrictlyIncreasing lists.tertiaries.items) }
+    ensures weights { IfOk result (HoldsEach (tables_in tables.entry).tables) }
+{
+    let mut lists = ListedWeights::new(alloc);
+    collect_root(tables, &mut lists)?;
+    collect_each(tables, DataTable::Jamo, &mut lists)?;
+    collect_tailoring(tables, &mut lists)?;
+    collect_each(tables, DataTable::Diacritics, &mut lists)?;
+    lists.sort();
+    Ok(lists)
+}

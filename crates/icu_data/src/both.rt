@@ -1,0 +1,40 @@
+//! Two visitors that one walk serves.
+ghost use Rattle.std.specs.Prelude.{◌≡◌, ℕ};
+ghost use Rattle.icu_data.specs.Walks.{after_both};
+
+use crate::data::CollationData;
+use crate::walk::Visit;
+use icu_entries::CollationElement32;
+
+/// Two visitors: an entry is visited by the first one, and then by the second.
+#[derive(Drop)]
+pub struct Both<A, B> {
+    /// The first visitor.
+    pub first: A,
+    /// The second visitor.
+    pub second: B,
+}
+
+impl<A: Visit, B: Visit<Refusal = A::Refusal>> Visit for Both<A, B> {
+    type Refusal = A::Refusal;
+
+    ghost Seen = { A.Seen × B.Seen };
+
+    ghost seen = { λ v. (A.seen v.first, B.seen v.second) };
+
+    ghost after = { after_both A.after B.after };
+
+    fn visit(
+        &mut self,
+        home: CollationData<'_>,
+        c: char,
+        entry: CollationElement32,
+    ) -> Result<(), A::Refusal> {
+        self.first.visit(home, c, entry)?;
+        self.second.visit(home, c, entry)
+    }
+
+    fn passes_implicit(&self) -> bool {
+        self.first.passes_implicit() && self.second.passes_implicit()
+    }
+}

@@ -1,0 +1,10 @@
+-- What is left of the two lists comes after a common beginning.
+use Rattle.std.proofs.Common.{length}
+use Rattle.icu_encodings.specs.inner.Fronts.{HaveHead}
+use Rattle.icu_encodings.proofs.common_units.after_common_blocks.Given as goal
+
+abbrev pub invariant-wide : goal.invariant-wide
+invariant-wide l = HaveHead l.left l.right l.one l.other
+
+abbrev pub decreases-wide : goal.decreases-wide
+decreases-wide l = length l.one

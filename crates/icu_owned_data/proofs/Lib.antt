@@ -1,0 +1,3 @@
+mod AddedRows
+mod BlockLemmas
+mod BuildingLemmas

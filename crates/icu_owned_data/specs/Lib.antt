@@ -1,0 +1,5 @@
+pub mod OwnedData
+pub mod AddedContexts
+pub mod Building
+pub mod Blocks
+pub mod inner

@@ -1,0 +1,85 @@
+-- Letters whose characters decompose to themselves.
+use Rattle.std.proofs.Common.{◌≡◌, ◌≤◌, ◌&&◌, ℕ, Bool, true, false, List, [], ◌∷◌, ◌++◌, take, length, get_or, refl, sym, ap, ap₂, subst, ◌∙◌, arith}
+use Rattle.std.specs.List.{list_all}
+use Rattle.std.proofs.lemmas.List.Folds.{list_all-append}
+use Rattle.std.proofs.lemmas.List.Concat.{flat_map-append}
+use Rattle.ucd_normal.specs.declared.forms.Form.TheVariants.{Nfd}
+use Rattle.unicode_normalization.specs.Decompose.{decompose}
+use Rattle.unicode_normalization.specs.Order.{is_starter}
+use Rattle.icu_entries.specs.Elements.{Element}
+use Rattle.icu_elements.specs.TextElements.{Reading}
+use Rattle.icu_cuts.specs.Alone.{elements_by_char, elements_of_char, is_alone}
+use Rattle.icu_cuts.specs.Cuts.{IsSafe}
+use Rattle.icu_shortcuts.specs.Letters.{IsLetter, letter_elements}
+use Rattle.icu_shortcuts.specs.ReadLetters.{IsOutline, LeadsBy}
+use Rattle.icu_shortcuts.specs.Syllables.{IsOwnLetter, StandByThemselves}
+use Rattle.icu_shortcuts.specs.declared.letter_facts.Letter.{Letter}
+use Rattle.icu_shortcuts.specs.declared.letter_facts.LetterKind.TheVariants.{Starters}
+
+both : (a b : Bool) → a ≡ true → b ≡ true → (a && b) ≡ true
+both a b h k = rw (h, k) refl
+
+former : (a b : Bool) → (a && b) ≡ true → a ≡ true
+former true b h = refl
+former false b h = cc
+
+head_same : (a b : ℕ) (xs ys : List ℕ) → a ∷ xs ≡ b ∷ ys → a ≡ b
+head_same a b xs ys e = ap (λ (l : List ℕ). get_or l 0 0) e
+
+first_of : (xs : List Element) (e d : Element) → 1 ≤ length xs → e ≡ get_or xs 0 d → take 1 xs ≡ e ∷ []
+first_of [] e d some is = absurd (omega arith)
+first_of (x ∷ xs) e d some is = ap (λ y. y ∷ []) (sym is)
+
+pub own_none : (reading : Reading) (es : List Element) → es ≡ [] → StandByThemselves reading [] es
+own_none reading es e = record { alone = refl; starters = refl; elements = e }
+
+-- one more
+module _ (reading : Reading) (cs : List ℕ) (c : ℕ) (l : Letter) (es : List Element) (e d : Element)
+    (s : StandByThemselves reading cs es) (o : IsOwnLetter reading c l) (some : 1 ≤ length l.elements) (is : e ≡ get_or l.elements 0 d) where
+  one : e ∷ [] ≡ elements_by_char reading.tables (c ∷ [])
+  one =
+      sym (ap (λ n. take n l.elements) o.count ∙ first_of l.elements e d some is)
+      ∙ (o.is.starters o.kind).stands.elements
+      ∙ ap (elements_by_char reading.tables) o.itself
+
+  pub own_more : StandByThemselves reading (cs ++ c ∷ []) (es ++ e ∷ [])
+  own_more = record {
+    alone = list_all-append (is_alone reading) cs (c ∷ []) ∙ both _ _ s.alone (ap (list_all (is_alone reading)) (sym o.itself) ∙ (o.is.starters o.kind).stands.alone);
+    starters = list_all-append is_starter cs (c ∷ []) ∙ both _ _ s.starters (ap (list_all is_starter) (sym o.itself) ∙ (o.is.starters o.kind).starters);
+    elements = ap₂ (λ (xs ys : List Element). xs ++ ys) s.elements one ∙ sym (flat_map-append (elements_of_char reading.tables) cs (c ∷ []));
+  }
+
+-- what is known of it is known of its only character
+pub own_outline : (reading : Reading) (c : ℕ) (l : Letter) → IsOwnLetter reading c l → IsOutline reading c l
+own_outline reading c l o = record {
+  begins = λ e. former (is_starter c) true (ap (list_all is_starter) (sym o.itself) ∙ (o.is.starters o.kind).starters);
+  safe = λ e. let h = o.is.safe e in subst (IsSafe reading) (head_same _ _ _ _ (sym h.decomposes ∙ o.itself)) h.safe;
+  leads = λ e. let h = o.is.leads e in
+      subst (λ x. LeadsBy reading x l.leading_primary) (head_same _ _ _ _ (sym h.decomposes ∙ o.itself))
+      (record { element = h.element; rest = h.rest; starter = h.starter; alone = h.alone; elements = h.elements; leading = h.leading });
+}
+
+-- a letter whose decomposition they are
+pub whole_letter : (reading : Reading) (c first : ℕ) (more parts : List ℕ) (l : Letter) → decompose Nfd c ≡ parts → parts ≡ first ∷ more
+    → IsOutline reading first l → StandByThemselves reading parts (letter_elements l) → l.kind ≡ Starters → IsLetter reading c l
+whole_letter reading c first more parts l dec p h s kind = record {
+  starters = λ e. record {
+    stands = record { alone = ap (list_all (is_alone reading)) dec ∙ s.alone; elements = s.elements ∙ ap (elements_by_char reading.tables) (sym dec) };
+    starters = ap (list_all is_starter) dec ∙ s.starters;
+  };
+  marked = λ e. absurd (cc (sym kind ∙ e));
+  mark = λ e. absurd (cc (sym kind ∙ e));
+  begins = λ e. record { first = first; more = more; decomposes = dec ∙ p; starter = h.begins e };
+  safe = λ e. record { first = first; more = more; decomposes = dec ∙ p; safe = h.safe e };
+  leads = λ e. let k = h.leads e in record {
+    first = first;
+    more = more;
+    element = k.element;
+    rest = k.rest;
+    decomposes = dec ∙ p;
+    starter = k.starter;
+    alone = k.alone;
+    elements = k.elements;
+    leading = k.leading;
+  };
+}

@@ -1,0 +1,6 @@
+pub mod WeightLemmas
+pub mod BeginningLemmas
+pub mod NeighbourLemmas
+pub mod OverlapLemmas
+pub mod LeadLemmas
+pub mod AlikeLemmas
