@@ -557,15 +557,16 @@ REFUSED = ["Absent", "Length", "Index", "Digit", "Chain", "Tag", "Element", "Con
            "SpecialPrimary"]
 # How often a long text is compared in a run, how many times as long the second size is, how many times as long it may take, and
 # how often that is measured at most.
-TIMES, LONGER, SLOWER, ATTEMPTS = 4, 4, 8, 5
-# What a long text is made of, its first size, and what is printed of a text of a size.
+TIMES, LONGER, SLOWER, ATTEMPTS = 2, 4, 8, 5
+# What a long text is made of, its first size, and what is printed of a text of a size. No size is small: what fits into a
+# processor's own cache takes less time for a character.
 LONG_TEXTS = [
     ("letters", 250_000, lambda size: f"Less, {size + 1} bytes"),
-    ("marks", 25_000, lambda size: "Equal, 2 bytes"),
-    ("digits", 25_000, lambda size: "Less, 5 bytes"),
-    ("beginnings", 25_000, lambda size: f"Greater, {size - 3} bytes"),
-    ("passed", 25_000, lambda size: "Equal, 2 bytes"),
-    ("unended", 25_000, lambda size: f"Less, {size // 2 + 1} bytes"),
+    ("marks", 100_000, lambda size: "Equal, 2 bytes"),
+    ("digits", 100_000, lambda size: "Less, 5 bytes"),
+    ("beginnings", 100_000, lambda size: f"Greater, {size - 3} bytes"),
+    ("passed", 100_000, lambda size: "Equal, 2 bytes"),
+    ("unended", 100_000, lambda size: f"Less, {size // 2 + 1} bytes"),
 ]
 
 
