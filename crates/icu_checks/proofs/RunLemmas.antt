@@ -1,5 +1,5 @@
--- Characters in a row with one offset entry: where the first and the last of their weights fail no condition and share a
--- lead byte, which reordering takes to one, none between them fails one.
+-- Characters in a row with one offset entry: where the first and the last of their weights fail no condition and share
+-- a lead byte, which reordering takes to one, none between them fails one.
 use Rattle.std.proofs.Common.{◌≡◌, ◌≢◌, ℕ, ◌*◌, ◌/◌, ◌%◌, ◌^◌, ◌≤◌, Bool, true, false, not, ◌==◌, ◌&&◌, ◌||◌, nat_eq, nat_le, nat_lt, List, [], ◌∷◌, map, take, drop, Some, None, IsTrue, refl, sym, ap, ◌∙◌, subst, arith}
 use Rattle.std.specs.Prelude.{slice_index}
 use Rattle.std.proofs.lemmas.Bool.{and_parts}

@@ -199,8 +199,8 @@ fn visit_codes<V: Visit>(
     Ok(())
 }
 
-/// Remembers an entry that was visited, if it leads to a list or a context, so that it is worth it, and to none that goes
-/// by its character.
+/// Remembers an entry that was visited, if it leads to a list or a context, so that it is worth it, and to none that
+/// goes by its character.
 fn remember(home: CollationData<'_>, bits: u32, seen: &mut VisitedEntries)
     ensures { (e : ℕ) → IsRemembered seen.new e → IsRemembered seen.old e ⊎ ((e ≡ bits) × (leads_to_character (data_of home.entry) e ≡ false)) }
 {
