@@ -16,3 +16,4 @@ pub mod ListedLemmas
 pub mod ImplicitOverlapLemmas
 pub mod CheckLemmas
 pub mod ImplicitLemmas
+pub mod RunLemmas

@@ -1,6 +1,6 @@
 -- How a walk goes on from block to block.
-use Rattle.std.proofs.Common.{◌≡◌, ℕ, ◌+◌, ◌-◌, ◌*◌, ◌/◌, ◌%◌, ◌<◌, ◌≤◌, Bool, true, false, List, [], ◌∷◌, ◌++◌, ◌⊎◌, inl, inr, refl, sym, ap, ◌∙◌, subst, arith, fold}
-use Rattle.std.specs.Prelude.{◌||◌, slice_index_or, set, replicate, length}
+use Rattle.std.proofs.Common.{◌≡◌, ℕ, zero, suc, ◌+◌, ◌-◌, ◌*◌, ◌/◌, ◌%◌, ◌<◌, ◌≤◌, Bool, true, false, List, [], ◌∷◌, ◌++◌, ◌⊎◌, inl, inr, refl, sym, ap, ◌∙◌, subst, arith, fold}
+use Rattle.std.specs.Prelude.{◌||◌, ◌==◌, slice_index_or, set, replicate, length}
 use Rattle.std.specs.Char.{IsScalar}
 use Rattle.std.specs.List.{list_any}
 use Rattle.std.proofs.Math.Utf8.{scalar, scalar_cases, low_scalar}
@@ -11,8 +11,8 @@ use Rattle.std.proofs.lemmas.List.{get_or-set_same, get_or-set_other}
 use Rattle.std.proofs.lemmas.List.Sums.{fold-append}
 use Rattle.std.proofs.lemmas.List.Elements.{Contains-append_left, Contains-append_right, Contains-push}
 use Rattle.icu_entries.specs.declared.entry.EntryKind.{EntryKind}
-use Rattle.icu_entries.specs.declared.entry.EntryKind.TheVariants.{Simple, LongPrimary, LongSecondary, Offset, Implicit as ImplicitKind}
-use Rattle.icu_entries.specs.Entries.{kind_of}
+use Rattle.icu_entries.specs.declared.entry.EntryKind.TheVariants.{Fallback, Simple, LongPrimary, LongSecondary, Offset, Implicit as ImplicitKind}
+use Rattle.icu_entries.specs.Entries.{kind_of, is_self_contained}
 use Rattle.icu_data.specs.declared.block_walk.BlockState.{BlockState}
 use Rattle.icu_data.specs.declared.block_walk.BlockState.TheVariants.{Unread, Visited, Shared}
 use Rattle.icu_data.specs.declared.block_walk.Part.{Part}
@@ -22,11 +22,12 @@ use Rattle.icu_data.specs.Data.{Data}
 use Rattle.icu_data.specs.Live.{goes_by_character, leads_to_character, live_digit, live_contraction, live_from, live_at}
 use Rattle.icu_data.specs.StoredData.{data_of, block_in}
 use Rattle.icu_data.specs.Walks.{after_all, after_chars, StandsFor, Walked}
-use Rattle.icu_data.specs.inner.BlockWalks.{is_wanted, WalkedTo, AreShared, IsVisited, Holds, IsShared, IsState, IsRead, HasState, AreStates}
+use Rattle.icu_data.specs.inner.BlockWalks.{is_wanted, WalkedTo, AreShared, IsVisited, Holds, IsPassedRun, IsShared, IsState, IsRead, HasState, AreStates}
 use Rattle.icu_data.specs.inner.VisitedEntries.{IsRemembered}
 use Rattle.icu_data.specs.declared.visited_entries.VisitedEntries.{VisitedEntries}
 use Rattle.icu_data.proofs.ListLemmas.{all_append}
 use Rattle.icu_data.proofs.CharLemmas.{scalar_below}
+use Rattle.icu_data.proofs.WalkLemmas.{isnt_fallback, kept}
 
 -- ---- the search for an entry that goes by its character
 
@@ -78,9 +79,17 @@ itself LongPrimary e h is = rw (is, goes_by_character) refl
 itself LongSecondary e h is = rw (is, goes_by_character) refl
 itself _ e h is = cc
 
-pub one_element : (e : ℕ) → spells_one (kind_of e) ≡ true → (home : Data) → leads_to_character home e ≡ false
-unfolding leads_to_character
-one_element e h home = ap (list_any goes_by_character) (alone (kind_of e) e home h refl) ∙ itself (kind_of e) e h refl
+spelt : (k : EntryKind) → (elim k as (λ _. Bool) [ Simple ↦ true | LongPrimary ↦ true | LongSecondary ↦ true | _ ↦ false ]) ≡ true → spells_one k ≡ true
+spelt Simple h = refl
+spelt LongPrimary h = refl
+spelt LongSecondary h = refl
+spelt _ h = cc
+
+pub one_element : (home : Data) (e : ℕ) → is_self_contained e ≡ true → leads_to_character home e ≡ false
+unfolding is_self_contained leads_to_character
+one_element home e h =
+    let spells : spells_one (kind_of e) ≡ true = spelt (kind_of e) h in
+    ap (list_any goes_by_character) (alone (kind_of e) e home spells refl) ∙ itself (kind_of e) e spells refl
 
 -- one that is counted from another character's goes by its own
 offset_digit : (e : ℕ) (home : Data) → kind_of e ≡ Offset → live_digit home e ≡ e ∷ []
@@ -102,6 +111,15 @@ offset_itself e is = rw (is, goes_by_character) refl
 pub offset_leads : (e : ℕ) → kind_of e ≡ Offset → (home : Data) → leads_to_character home e ≡ true
 unfolding leads_to_character
 offset_leads e is home = ap (list_any goes_by_character) (offset_from e home is) ∙ offset_itself e is
+
+not_offset : Fallback ≡ Offset → ⊥
+not_offset h = cc
+
+-- so it is all that is live with its character
+pub offset_alone : (falls_back : Bool) (home : Data) (c : ℕ) → kind_of (home.value c) ≡ Offset → live_at falls_back home c ≡ home.value c ∷ []
+offset_alone falls_back home c is =
+    kept falls_back (home.value c == 0xC0) (home.value c) (live_from home (home.value c)) (isnt_fallback Offset (home.value c) not_offset is)
+    ∙ offset_from (home.value c) home is
 
 -- ---- parts of the characters
 
@@ -187,6 +205,27 @@ module _ {V : Type 0} (after : V → Data → ℕ → ℕ → V) (falls_back : B
     where
       below_or : (c b : ℕ) → (c < b) ⊎ (b ≤ c)
       below_or c b = grind arith
+
+  -- a visit of an offset entry is all that its character comes to
+  pub offset_adds : (v w : V) (c e : ℕ) → e ≡ home.value c → kind_of e ≡ Offset → w ≡ after v home c e → w ≡ after_all after v home c (live_at falls_back home c)
+  offset_adds v w c e is offset adds =
+      adds ∙ ap (after v home c) is ∙ sym (ap (λ es. after_all after v home c es) (offset_alone falls_back home c (ap kind_of (sym is) ∙ offset)))
+
+  -- characters in a row of one offset entry, whose visits change nothing
+  run_adds : (v : V) (first c : ℕ) (r : IsPassedRun after v home first) → first ≤ c → c < first + 64 → IsScalar c → v ≡ after_all after v home c (live_at falls_back home c)
+  run_adds v first c r low high s =
+      let same : home.value c ≡ r.entry = r.same c low high s in
+      sym (ap (λ es. after_all after v home c es) (offset_alone falls_back home c (ap kind_of same ∙ r.offset)) ∙ ap (after v home c) same ∙ r.nothing c low high)
+
+  pub passed_run : (part : Part) (v : V) (first n : ℕ) → IsPassedRun after v home first → ((c : ℕ) → first ≤ c → c < first + 64 → IsScalar c) → n ≤ 64 → To part v v first (first + n)
+  passed_run part v first zero r scalars h =
+      let at : first ≡ first + zero = omega arith in
+      subst (To part v v first) at (walked_none part v first)
+  passed_run part v first (suc n) r scalars h =
+      let next : (first + n) + 1 ≡ first + suc n = omega arith in
+      let s : IsScalar (first + n) = scalars (first + n) (omega arith) (omega arith) in
+      let one : To part v v (first + n) (first + n + 1) = walked_char part v v (first + n) s (run_adds v first (first + n) r (omega arith) (omega arith) s) in
+      subst (To part v v first) next (walked_on part v v v first (first + n) (first + n + 1) (passed_run part v first n r scalars (omega arith)) one)
 
   -- a block that was read is visited again only where an entry goes by its character
   pub read_again : (s t u : V) (first other : ℕ) → other + 64 ≤ first → ((c : ℕ) → first ≤ c → c < first + 64 → IsScalar (other + (c - first)) × (home.value (other + (c - first)) ≡ home.value c))

@@ -44,39 +44,40 @@ unfolding ends_at_zero
 ends a b c d p q r =
     rw (may a b p, may b c q, may c d r) refl
 
-module _ (b2 b3 b4 : ℕ) (low2 : 1 ≤ b2) (high2 : b2 < 256) (low3 : 1 ≤ b3) (high3 : b3 < 256) (high4 : b4 < 256) where
-  first : 1 ≤ byte_at 3 (weight 0xFE b2 b3 b4)
+-- the element of a weight with at least three nonzero bytes, whose lead isn't below 03
+module _ (b1 b2 b3 b4 : ℕ) (low1 : 3 ≤ b1) (high1 : b1 < 256) (low2 : 1 ≤ b2) (high2 : b2 < 256) (low3 : 1 ≤ b3) (high3 : b3 < 256) (high4 : b4 < 256) where
+  first : 1 ≤ byte_at 3 (weight b1 b2 b3 b4)
   first = omega arith
 
-  second : 1 ≤ byte_at 2 (weight 0xFE b2 b3 b4)
+  second : 1 ≤ byte_at 2 (weight b1 b2 b3 b4)
   second = omega arith
 
-  third : 1 ≤ byte_at 1 (weight 0xFE b2 b3 b4)
+  third : 1 ≤ byte_at 1 (weight b1 b2 b3 b4)
   third = omega arith
 
-  four_end : ends_at_zero (four_bytes (weight 0xFE b2 b3 b4)) ≡ true
+  four_end : ends_at_zero (four_bytes (weight b1 b2 b3 b4)) ≡ true
   four_end = ends _ _ _ _ first second third
 
-  shape : has_shape (of_primary (weight 0xFE b2 b3 b4)) ≡ true
+  pub shape : has_shape (of_primary (weight b1 b2 b3 b4)) ≡ true
   unfolding has_shape ends_at_zero
-  shape = rw (four_end, or_true (nat_eq (weight 0xFE b2 b3 b4) 0)) refl
+  shape = rw (four_end, or_true (nat_eq (weight b1 b2 b3 b4) 0)) refl
 
-  is_high : nat_le 0x03000000 (weight 0xFE b2 b3 b4) ≡ true
+  is_high : nat_le 0x03000000 (weight b1 b2 b3 b4) ≡ true
   is_high = grind (arith, nat_tests)
 
-  lead : has_primary_lead (of_primary (weight 0xFE b2 b3 b4)) ≡ true
+  pub lead : has_primary_lead (of_primary (weight b1 b2 b3 b4)) ≡ true
   unfolding has_primary_lead
-  lead = or_right (nat_eq (weight 0xFE b2 b3 b4) 0) _ (is_separator (of_primary (weight 0xFE b2 b3 b4))) is_high
+  lead = or_right (nat_eq (weight b1 b2 b3 b4) 0) _ (is_separator (of_primary (weight b1 b2 b3 b4))) is_high
 
 implicit_shape : (c : ℕ) → has_shape (of_primary (implicit_weight c)) ≡ true
 unfolding implicit_weight
-implicit_shape c = shape _ _ _ (omega arith) (omega arith) (omega arith) (omega arith) (omega arith)
+implicit_shape c = shape 0xFE _ _ _ (omega arith) (omega arith) (omega arith) (omega arith) (omega arith) (omega arith) (omega arith)
 
 implicit_lead : (c : ℕ) → has_primary_lead (of_primary (implicit_weight c)) ≡ true
 unfolding implicit_weight
-implicit_lead c = lead _ _ _ (omega arith) (omega arith) (omega arith) (omega arith) (omega arith)
+implicit_lead c = lead 0xFE _ _ _ (omega arith) (omega arith) (omega arith) (omega arith) (omega arith) (omega arith) (omega arith)
 
-and_true : (a : Bool) → a ≡ true → (a && true) ≡ true
+pub and_true : (a : Bool) → a ≡ true → (a && true) ≡ true
 and_true true h = refl
 and_true false h = cc
 

@@ -11,4 +11,5 @@ pub mod ViolationLemmas
 pub mod WeightLemmas
 pub mod BothLemmas
 pub mod ImplicitLemmas
+pub mod RunLemmas
 mod WorkedData

@@ -5,6 +5,7 @@ use Rattle.std.proofs.lemmas.Bool.Decides.{nat_tests}
 use Rattle.std.specs.List.{AllByRecursion}
 use Rattle.std.specs.Char.{IsScalar}
 use Rattle.icu_data.specs.Data.{Data}
+use Rattle.icu_entries.specs.declared.entry.EntryKind.{EntryKind}
 use Rattle.icu_entries.specs.declared.entry.EntryKind.TheVariants.{Fallback, Implicit}
 use Rattle.icu_entries.specs.Entries.{kind_of}
 use Rattle.icu_data.specs.Live.{goes_by_character, leads_to_character, live_digit, live_contraction, live_from, live_at, EachLive}
@@ -30,14 +31,11 @@ fallback_kind : kind_of 0xC0 ≡ Fallback
 unfolding kind_of
 fallback_kind = refl
 
-isnt_fallback : (e : ℕ) → kind_of e ≡ Implicit → (e == 0xC0) ≡ false
-isnt_fallback e is = by_test (e == 0xC0) refl
+pub isnt_fallback : (k : EntryKind) (e : ℕ) → (Fallback ≡ k → ⊥) → kind_of e ≡ k → (e == 0xC0) ≡ false
+isnt_fallback k e differ is = by_test (e == 0xC0) refl
   where
     same : (e : ℕ) → (e == 0xC0) ≡ true → e ≡ 0xC0
     same e h = grind (arith, nat_tests)
-
-    differ : Fallback ≡ Implicit → ⊥
-    differ h = cc
 
     by_test : (b : Bool) → (e == 0xC0) ≡ b → b ≡ false
     by_test false h = refl
@@ -55,12 +53,15 @@ alone : (home : Data) (e : ℕ) → kind_of e ≡ Implicit → live_from home e 
 unfolding live_from
 alone home e is = rw (is, live_from) (contraction_alone home e is)
 
-kept : (a b : Bool) (e : ℕ) (es : List ℕ) → b ≡ false → (if a && b then [] else es) ≡ es
+not_implicit : Fallback ≡ Implicit → ⊥
+not_implicit h = cc
+
+pub kept : (a b : Bool) (e : ℕ) (es : List ℕ) → b ≡ false → (if a && b then [] else es) ≡ es
 kept true b e es h = rw h refl
 kept false b e es h = refl
 
 pub implicit_alone : (falls_back : Bool) (home : Data) (c : ℕ) → kind_of (home.value c) ≡ Implicit → live_at falls_back home c ≡ home.value c ∷ []
-implicit_alone falls_back home c is = kept falls_back (home.value c == 0xC0) (home.value c) (live_from home (home.value c)) (isnt_fallback (home.value c) is) ∙ alone home (home.value c) is
+implicit_alone falls_back home c is = kept falls_back (home.value c == 0xC0) (home.value c) (live_from home (home.value c)) (isnt_fallback Implicit (home.value c) not_implicit is) ∙ alone home (home.value c) is
 
 -- ---- the same of a walk
 

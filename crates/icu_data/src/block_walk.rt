@@ -2,11 +2,12 @@
 //! character.
 ghost use Rattle.std.specs.Prelude.{◌≡◌, ℕ, ◌+◌, ◌*◌, ◌^◌, ◌<◌, ◌||◌, ◌⊎◌, Bool, true, false, OnOk, IsTrue};
 ghost use Rattle.std.specs.Char.{IsScalar};
+ghost use Rattle.icu_entries.specs.Entries.{kind_of};
 ghost use Rattle.icu_data.specs.Data.{Data};
 ghost use Rattle.icu_data.specs.Live.{goes_by_character, leads_to_character, live_at};
 ghost use Rattle.icu_data.specs.StoredData.{data_of, block_in};
 ghost use Rattle.icu_data.specs.Walks.{Walked, after_all};
-ghost use Rattle.icu_data.specs.inner.BlockWalks.{is_wanted, WalkedTo, Holds, AreShared, IsShared, IsState, AreStates};
+ghost use Rattle.icu_data.specs.inner.BlockWalks.{is_wanted, WalkedTo, Holds, AreShared, IsPassedRun, IsState, AreStates};
 ghost use Rattle.icu_data.specs.inner.VisitedEntries.{IsRemembered};
 
 use crate::data::CollationData;
@@ -75,21 +76,11 @@ impl Visit for CharacterSearch {
     }
 }
 
-/// Whether an entry spells an element itself.
-#[tactic(auto, using(crate::proofs::BlockWalkLemmas::one_element))]
-fn is_of_one_element(entry: CollationElement32) -> bool
-    ensures { result ≡ true → (home : Data) → leads_to_character home entry ≡ false }
-{
-    match entry.kind() {
-        EntryKind::Simple | EntryKind::LongPrimary | EntryKind::LongSecondary => true,
-        _ => false,
-    }
-}
-
 /// Whether an entry is counted from another character's, so that it goes by its own character.
 #[tactic(auto, using(crate::proofs::BlockWalkLemmas::offset_leads))]
 fn is_offset(entry: CollationElement32) -> bool
-    ensures { result ≡ true → (home : Data) → leads_to_character home entry ≡ true }
+    ensures kind { result ≡ true → kind_of entry ≡ EntryKind.Offset }
+    ensures leads { result ≡ true → (home : Data) → leads_to_character home entry ≡ true }
 {
     match entry.kind() {
         EntryKind::Offset => true,
@@ -98,11 +89,12 @@ fn is_offset(entry: CollationElement32) -> bool
 }
 
 /// Whether an entry that goes by its character is live from this one.
+#[tactic(auto, using(crate::proofs::BlockWalkLemmas::one_element))]
 fn leads_to_character(home: CollationData<'_>, entry: CollationElement32) -> bool
     ensures { result ≡ leads_to_character (data_of home.entry) entry }
 {
     // most entries of a root, and those of most characters
-    if is_of_one_element(entry) {
+    if entry.is_self_contained() {
         return false;
     }
     if is_offset(entry) {
@@ -150,6 +142,9 @@ fn visit_char<V: Visit>(
 {
     if falls_back && entry.is_fallback() {
         return Ok(());
+    }
+    if is_offset(entry) {
+        return visitor.visit(home, c, entry);
     }
     visit_from(visitor, home, c, entry)
 }
@@ -204,23 +199,17 @@ fn visit_codes<V: Visit>(
     Ok(())
 }
 
-/// Whether an entry leads to a list or a context, so that it is worth remembering.
-fn is_long(entry: CollationElement32) -> bool {
-    match entry.kind() {
-        EntryKind::Expansion32
-        | EntryKind::Expansion
-        | EntryKind::Prefix
-        | EntryKind::Contraction => true,
-        _ => false,
-    }
-}
-
-/// Remembers an entry that was visited, if it is worth it and leads to none that goes by its character.
+/// Remembers an entry that was visited, if it leads to a list or a context, so that it is worth it, and to none that
+/// goes by its character.
 fn remember(home: CollationData<'_>, bits: u32, seen: &mut VisitedEntries)
     ensures { (e : ℕ) → IsRemembered seen.new e → IsRemembered seen.old e ⊎ ((e ≡ bits) × (leads_to_character (data_of home.entry) e ≡ false)) }
 {
     let entry = CollationElement32::new(bits);
-    if is_long(entry) && !leads_to_character(home, entry) {
+    let long = matches!(
+        entry.kind(),
+        EntryKind::Expansion32 | EntryKind::Expansion | EntryKind::Prefix | EntryKind::Contraction
+    );
+    if long && !leads_to_character(home, entry) {
         seen.remember(bits);
     }
 }
@@ -295,20 +284,42 @@ fn is_by_character(home: CollationData<'_>, c: char, seen: &VisitedEntries) -> b
     !seen.has(bits) && is_wanted(Part::ByCharacter, home, CollationElement32::new(bits))
 }
 
-/// Whether no character of a block leads to an entry that goes by it, but for implicit weights.
-fn is_shared(home: CollationData<'_>, first: u32, seen: &VisitedEntries) -> bool
+/// What is to be done with the values of a block that were visited: whether a character of it leads to an entry that
+/// goes by it, but for implicit weights.
+fn state_of(home: CollationData<'_>, first: u32, seen: &VisitedEntries) -> BlockState
     requires first { first < 0x110000 }
     requires shared { AreShared (data_of home) seen.now }
-    ensures { result ≡ true → IsShared (data_of home.entry) first }
+    ensures { IsState (data_of home.entry) first result }
 {
     for code in first..first + 64 {
         if let Some(c) = char::from_u32(code) {
             if is_by_character(home, c, seen) {
+                return BlockState::Visited;
+            }
+        }
+    }
+    BlockState::Shared
+}
+
+/// Whether the 64 characters from this one on have one offset entry, and visits of it with them change nothing.
+fn passes_block<V: Visit>(visitor: &V, home: CollationData<'_>, first: char) -> bool
+    requires { first < 0x110000 }
+    ensures { result ≡ true → IsPassedRun V.after (V.seen visitor.now) (data_of home.entry) first }
+{
+    let bits = home.bits_for_char(first);
+    let entry = CollationElement32::new(bits);
+    if !is_offset(entry) {
+        return false;
+    }
+    let start = first as u32;
+    for code in start..start + 64 {
+        if let Some(c) = char::from_u32(code) {
+            if home.bits_for_char(c) != bits {
                 return false;
             }
         }
     }
-    true
+    visitor.passes_run(home, first, entry)
 }
 
 /// Visits what the block of 64 characters shows that wasn't visited in another block of the same number.
@@ -335,23 +346,11 @@ fn visit_block<V: Visit>(
             states[block] = state_of(home, 64 * index, seen);
             Ok(())
         }
-        BlockState::Visited => {
-            visit_codes(visitor, home, 64 * index, 64, falls_back, Part::ByCharacter)
-        }
+        BlockState::Visited => match char::from_u32(64 * index) {
+            Some(first) if passes_block(visitor, home, first) => Ok(()),
+            _ => visit_codes(visitor, home, 64 * index, 64, falls_back, Part::ByCharacter),
+        },
         BlockState::Shared => Ok(()),
-    }
-}
-
-/// What is to be done with the values of a block that were visited.
-fn state_of(home: CollationData<'_>, first: u32, seen: &VisitedEntries) -> BlockState
-    requires first { first < 0x110000 }
-    requires shared { AreShared (data_of home) seen.now }
-    ensures { IsState (data_of home.entry) first result }
-{
-    if is_shared(home, first, seen) {
-        BlockState::Shared
-    } else {
-        BlockState::Visited
     }
 }
 

@@ -37,4 +37,8 @@ impl<A: Visit, B: Visit<Refusal = A::Refusal>> Visit for Both<A, B> {
     fn passes_implicit(&self) -> bool {
         self.first.passes_implicit() && self.second.passes_implicit()
     }
+
+    fn passes_run(&self, home: CollationData<'_>, first: char, entry: CollationElement32) -> bool {
+        self.first.passes_run(home, first, entry) && self.second.passes_run(home, first, entry)
+    }
 }

@@ -206,13 +206,6 @@ impl<'d> CollationData<'d> {
     }
 
     #[tactic(auto, unfolding(crate::specs::StoredData::data_of))]
-    pub(crate) fn entry_count(self) -> usize
-        ensures { result ≡ length (data_of self.entry).entries }
-    {
-        self.ce32s.len()
-    }
-
-    #[tactic(auto, unfolding(crate::specs::StoredData::data_of))]
     pub(crate) fn element_count(self) -> usize
         ensures { result ≡ length (data_of self.entry).elements }
     {

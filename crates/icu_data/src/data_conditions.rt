@@ -24,10 +24,10 @@ impl<'d> CollationData<'d> {
         ensures { result ≡ is_inside (data_of self.entry) entry }
     {
         match entry.kind() {
-            EntryKind::Expansion32 => entry.is_listed(self.entry_count()),
+            EntryKind::Expansion32 => entry.is_listed(self.entries().len()),
             EntryKind::Expansion => entry.is_listed(self.element_count()),
             EntryKind::Prefix | EntryKind::Contraction => entry.index() < self.context_count(),
-            EntryKind::Digit => entry.index() < self.entry_count(),
+            EntryKind::Digit => entry.index() < self.entries().len(),
             EntryKind::Offset => entry.index() < self.element_count(),
             _ => true,
         }

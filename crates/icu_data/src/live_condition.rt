@@ -5,7 +5,7 @@ ghost use Rattle.icu_data.specs.Violations.{condition_rank};
 
 use crate::data::CollationData;
 use crate::violation::{Judge, Ranked};
-use icu_entries::{CollationElement32, DataErrorKind};
+use icu_entries::{CollationElement32, DataErrorKind, EntryKind};
 
 /// A condition on an entry that is live in a root or a tailoring, in the order in which they are reported.
 #[derive(Debug, Clone, Copy, PartialEq, Eq)]
@@ -62,7 +62,7 @@ impl Ranked for LiveCondition {
 }
 
 /// The judge of a root or a tailoring alone: the first condition that an entry fails.
-#[derive(Debug, Clone, Copy, PartialEq)]
+#[derive(Debug, Clone, Copy)]
 pub struct EntryJudge;
 
 impl Judge for EntryJudge {
@@ -85,5 +85,25 @@ impl Judge for EntryJudge {
     #[tactic(auto, using(crate::proofs::ImplicitLemmas::implicit_passes))]
     fn passes_implicit(&self) -> bool {
         true
+    }
+
+    /// The weights of the characters rise, so the first and the last show what holds of each.
+    fn passes_run(&self, home: CollationData<'_>, first: char, entry: CollationElement32) -> bool {
+        match (entry.kind(), char::from_u32(first as u32 + 63)) {
+            (EntryKind::Offset, Some(last)) if home.is_inside(entry) => {
+                let data = home.offset_data(entry);
+                if !data.has_offset_weight(first) {
+                    return false;
+                }
+                if !data.has_offset_weight(last) {
+                    return false;
+                }
+                if data.offset_element(first).primary() < 0x0300_0000 {
+                    return false;
+                }
+                true
+            }
+            _ => false,
+        }
     }
 }

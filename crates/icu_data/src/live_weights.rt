@@ -62,6 +62,8 @@ fn make_room(weights: &mut Vec<u32>) -> Result<(), AllocError>
     if weights.len() < weights.capacity() {
         return Ok(());
     }
+    // most of them stand in order, which the stable sort makes use of
+    weights.sort()?;
     sort_and_dedup(weights);
     if weights.capacity() / 2 < weights.len() {
         weights.reserve(weights.len())?;
@@ -160,6 +162,18 @@ impl<'w, W: Weigh> Visit for Collector<'w, W> {
 
     fn passes_implicit(&self) -> bool {
         true
+    }
+
+    fn passes_run(
+        &self,
+        _home: CollationData<'_>,
+        _first: char,
+        entry: CollationElement32,
+    ) -> bool {
+        if self.weigh.weighs_primaries() {
+            return false;
+        }
+        goes_by_character(entry)
     }
 }
 

@@ -1,5 +1,5 @@
 //! The first violation of the entries that are live in a root or a tailoring, by a judge of each.
-ghost use Rattle.std.specs.Prelude.{◌≡◌, ◌↔◌, ◌⊎◌, ℕ, true, false, Option, IfSome, None, Some};
+ghost use Rattle.std.specs.Prelude.{◌≡◌, ◌≤◌, ◌<◌, ◌+◌, ◌↔◌, ◌⊎◌, ℕ, true, false, Option, IfSome, None, Some};
 ghost use Rattle.std.specs.List.{AllByRecursion};
 ghost use Rattle.icu_entries.specs.Entries.{kind_of};
 ghost use Rattle.icu_data.specs.Data.{Data};
@@ -52,6 +52,14 @@ pub trait Judge {
     {
         false
     }
+
+    /// Whether an entry has no violation with any of the 64 characters from one on, so that a walk may pass over them.
+    /// `false` leaves that open.
+    fn passes_run(&self, home: CollationData<'_>, first: char, entry: CollationElement32) -> bool
+        ensures { result ≡ true → (c : ℕ) → first ≤ c → c < first + 64 → violation self.now (data_of home.entry) c entry ≡ None }
+    {
+        false
+    }
 }
 
 /// The violation with the lesser rank; of two with one rank, the best so far.
@@ -100,6 +108,10 @@ impl<'j, J: Judge> Visit for FirstViolation<'j, J> {
 
     fn passes_implicit(&self) -> bool {
         self.judge.passes_implicit()
+    }
+
+    fn passes_run(&self, home: CollationData<'_>, first: char, entry: CollationElement32) -> bool {
+        self.judge.passes_run(home, first, entry)
     }
 }
 

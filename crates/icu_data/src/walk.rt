@@ -1,5 +1,5 @@
 //! A walk over the entries that are live with characters: one for all that is asked of them.
-ghost use Rattle.std.specs.Prelude.{◌≡◌, ℕ, true, OnOk};
+ghost use Rattle.std.specs.Prelude.{◌≡◌, ◌≤◌, ◌<◌, ◌+◌, ℕ, true, OnOk};
 ghost use Rattle.icu_entries.specs.Entries.{kind_of};
 ghost use Rattle.icu_data.specs.Data.{Data};
 ghost use Rattle.icu_data.specs.Live.{live_digit, live_contraction, live_from};
@@ -38,6 +38,14 @@ pub trait Visit {
     /// may pass over the million characters that have one. `false` leaves that open.
     fn passes_implicit(&self) -> bool
         ensures { result ≡ true → (home : Data) (c e : ℕ) → kind_of e ≡ EntryKind.Implicit → after (seen self.now) home c e ≡ seen self.now }
+    {
+        false
+    }
+
+    /// Whether visits of an entry with any of the 64 characters from one on change nothing, so that a walk may pass
+    /// over them. `false` leaves that open.
+    fn passes_run(&self, home: CollationData<'_>, first: char, entry: CollationElement32) -> bool
+        ensures { result ≡ true → (c : ℕ) → first ≤ c → c < first + 64 → after (seen self.now) (data_of home.entry) c entry ≡ seen self.now }
     {
         false
     }

@@ -16,7 +16,8 @@ use Rattle.icu_data.specs.LiveConditions.{first_failing}
 use Rattle.icu_checks.specs.declared.condition.Condition.TheVariants as conditions
 use Rattle.icu_checks.specs.declared.condition.ElementCondition.{ElementCondition}
 use Rattle.icu_checks.specs.declared.violation.Violation.{Violation}
-use Rattle.icu_provider.specs.CollatorTables.{CollatorTables}
+use Rattle.icu_provider.specs.Reorderings.{Reordering, lead_byte}
+use Rattle.icu_provider.specs.CollatorTables.{CollatorTables, reorder_by}
 use Rattle.icu_checks.specs.ElementConditions.{element_meets, element_conditions}
 use Rattle.icu_checks.specs.GoodTables.{later, table_of_element, EachEntry, EachElement, EntryMeets, HasPlainRows}
 use Rattle.icu_checks.specs.inner.Violations.{violation_rank}
@@ -32,6 +33,10 @@ first_failing_element all x = find (λ condition. not (element_meets condition a
 -- implicit weights fail none
 abbrev pub ImplicitPasses : CollatorTables → Type 0
 ImplicitPasses all = (c : ℕ) → first_failing_element all (of_primary (implicit_weight c)) ≡ None
+
+-- a reordering takes all primary weights with a lead byte to one
+abbrev pub TakesWhole : Option Reordering → ℕ → Type 0
+TakesWhole r b = (p q : ℕ) → lead_byte p ≡ b → lead_byte q ≡ b → lead_byte (reorder_by r p) ≡ lead_byte (reorder_by r q)
 
 abbrev pub element_violation : CollatorTables → DataTable → Element → Option Violation
 element_violation all table x = option_map (of_element table) (first_failing_element all x)

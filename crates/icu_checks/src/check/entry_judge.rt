@@ -1,24 +1,25 @@
 //! The violations of what is live in one table.
-ghost use Rattle.std.specs.Prelude.{◌≡◌, true, Option, Some, IsTrue};
+ghost use Rattle.std.specs.Prelude.{ℕ, ◌≡◌, ◌≤◌, true, Option, Some, None, IsTrue};
 ghost use Rattle.icu_checks.specs.declared.violation.Violation.{Violation};
 ghost use Rattle.icu_entries.specs.declared.error.DataTable.{DataTable};
-ghost use Rattle.icu_entries.specs.Elements.{Element};
+ghost use Rattle.icu_entries.specs.Elements.{Element, of_primary};
 ghost use Rattle.icu_data.specs.DataConditions.{is_readable};
 ghost use Rattle.icu_data.specs.LiveConditions.{first_failing};
 ghost use Rattle.icu_data.specs.StoredData.{data_of};
 ghost use Rattle.icu_provider.specs.CollatorTables.{CollatorTables};
 ghost use Rattle.icu_provider.specs.TableSets.{tables_in};
-ghost use Rattle.icu_checks.specs.inner.EntryViolations.{first_failing_element, element_violation, after_element, judged_element, elements_violation, rows_violation, entry_violation, ImplicitPasses};
+ghost use Rattle.icu_checks.specs.inner.EntryViolations.{first_failing_element, element_violation, after_element, judged_element, elements_violation, rows_violation, entry_violation, ImplicitPasses, TakesWhole};
 
 use crate::check::lead_conditions::numeric_lead;
 use crate::condition::{Condition, ElementCondition, LeadCondition};
 use crate::violation::{Violation, later};
 use icu_data::CollationData;
 use icu_data::element_walk::{VisitElement, visit_elements};
-use icu_data::live_condition::LiveCondition;
+use icu_data::live_condition::{EntryJudge as OwnJudge, LiveCondition};
 use icu_data::violation::{Judge, earlier};
-use icu_entries::{CollationElement, CollationElement32, DataTable};
+use icu_entries::{CollationElement, CollationElement32, DataTable, EntryKind};
 use icu_provider::TableSet;
+use icu_provider::reordering::lead_byte;
 use std::convert::Infallible;
 
 /// The first condition that an element fails, in the order in which a refusal names them.
@@ -64,6 +65,44 @@ pub(crate) fn element_violation(
             table: later(table, condition.table()),
         }),
         None => None,
+    }
+}
+
+/// Whether the reordering takes all primary weights with a lead byte to one lead byte, as far as one look shows it.
+#[tactic(auto, using(crate::proofs::RunLemmas::kept_whole, crate::proofs::RunLemmas::replaced_whole, crate::proofs::RunLemmas::stays_whole), unfolding(icu_provider::specs::TableSets::tables_in))]
+fn takes_whole(tables: TableSet<'_>, lead: u8) -> bool
+    ensures { result ≡ true → TakesWhole (tables_in tables.entry).reordering lead }
+{
+    match tables.reordering {
+        Some(reordering) => {
+            let (limit, leads, _) = reordering.parts();
+            if leads[usize::from(lead)] != 0 {
+                return true;
+            }
+            limit <= u32::from(lead) * 0x0100_0000
+        }
+        None => true,
+    }
+}
+
+/// Whether no primary weight from one to another, with common weights below, fails a condition: where they share their
+/// lead byte, the two show what holds of those between them.
+#[tactic(auto, using(crate::proofs::RunLemmas::between_passes))]
+fn passes_between(tables: TableSet<'_>, least: u32, greatest: u32) -> bool
+    ensures { result ≡ true → (p : ℕ) → least ≤ p → p ≤ greatest → first_failing_element (tables_in tables.entry) (of_primary p) ≡ None }
+{
+    if least == 0 || least % 256 != 0 || lead_byte(least) != lead_byte(greatest) {
+        return false;
+    }
+    if !takes_whole(tables, lead_byte(least)) {
+        return false;
+    }
+    match first_failing_element(tables, CollationElement::new_from_primary(least)) {
+        Some(_) => false,
+        None => match first_failing_element(tables, CollationElement::new_from_primary(greatest)) {
+            Some(_) => false,
+            None => true,
+        },
     }
 }
 
@@ -206,5 +245,20 @@ impl<'d> Judge for EntryJudge<'d> {
 
     fn passes_implicit(&self) -> bool {
         self.implicit_passes
+    }
+
+    /// The weights of the characters rise, so those of the first and the last show what holds of each.
+    fn passes_run(&self, home: CollationData<'_>, first: char, entry: CollationElement32) -> bool {
+        if !OwnJudge.passes_run(home, first, entry) {
+            return false;
+        }
+        match (entry.kind(), char::from_u32(first as u32 + 63)) {
+            (EntryKind::Offset, Some(last)) => {
+                let least = home.ce_from_offset_ce32(first, entry).primary();
+                let greatest = home.ce_from_offset_ce32(last, entry).primary();
+                passes_between(self.tables, least, greatest)
+            }
+            _ => false,
+        }
     }
 }

@@ -1,18 +1,18 @@
-//! The weights that are compared with one another, all lists on one walk over a table.
+//! The weights that are compared with one another, all lists on two walks over a table.
 ghost use Rattle.std.specs.Prelude.{◌≡◌, [], IfOk, OnOk};
 ghost use Rattle.std.specs.List.Sorted.{IsStrictlyIncreasing};
 ghost use Rattle.icu_data.specs.LiveWeights.{IsLiveWeight};
 ghost use Rattle.icu_data.specs.StoredData.{data_of};
 ghost use Rattle.icu_provider.specs.TableSets.{tables_in};
 ghost use Rattle.icu_checks.specs.inner.Weights.{weight_at, Adds};
-ghost use Rattle.icu_checks.specs.inner.ListedWeights.{HasNone, AddsEach, HasSame, HoldsEach};
+ghost use Rattle.icu_checks.specs.inner.ListedWeights.{HasNone, AreSame, AddsEach, HasSame, HoldsEach};
 
 use crate::check::collecting::collect;
 use crate::check::weights::WeightList;
 use icu_data::CollationData;
 use icu_data::block_walk::visit_chars;
 use icu_data::both::Both;
-use icu_data::live_weights::{Collector, sort_and_dedup};
+use icu_data::live_weights::{Collector, collect_weights, sort_and_dedup};
 use icu_entries::DataTable;
 use icu_provider::TableSet;
 use std::alloc::{AllocError, Global};
@@ -25,6 +25,16 @@ pub(crate) struct ListedWeights {
     pub(crate) tertiaries: Vec<u32>,
     pub(crate) tertiary_elements: Vec<u32>,
     pub(crate) with_secondary: Vec<u32>,
+}
+
+/// Puts weights in ascending order, each once. Where most of them stand in order, the stable sort makes use of that.
+fn sort_runs(weights: &mut Vec<u32>) -> Result<(), AllocError>
+    ensures ascending { OnOk result (IsStrictlyIncreasing weights.new.items) }
+    ensures same { OnOk result (AreSame weights.old.items weights.new.items) }
+{
+    weights.sort()?;
+    sort_and_dedup(weights);
+    Ok(())
 }
 
 impl ListedWeights {
@@ -42,19 +52,21 @@ impl ListedWeights {
     }
 
     /// Puts each list in ascending order, each weight once.
-    fn sort(&mut self)
-        ensures same { HasSame self.old self.new }
-        ensures primaries { IsStrictlyIncreasing self.new.primaries.items }
-        ensures secondaries { IsStrictlyIncreasing self.new.secondaries.items }
-        ensures tertiaries { IsStrictlyIncreasing self.new.tertiaries.items }
+    fn sort(&mut self) -> Result<(), AllocError>
+        ensures same { OnOk result (HasSame self.old self.new) }
+        ensures primaries { OnOk result (IsStrictlyIncreasing self.new.primaries.items) }
+        ensures secondaries { OnOk result (IsStrictlyIncreasing self.new.secondaries.items) }
+        ensures tertiaries { OnOk result (IsStrictlyIncreasing self.new.tertiaries.items) }
     {
-        sort_and_dedup(&mut self.primaries);
+        sort_runs(&mut self.primaries)?;
         sort_and_dedup(&mut self.secondaries);
         sort_and_dedup(&mut self.tertiaries);
+        Ok(())
     }
 }
 
-/// Adds the weights of all that is live in a root or a tailoring, by one walk.
+/// Adds the weights of all that is live in a root or a tailoring, by a walk for primary weights and one for all others,
+/// which passes over ideographs.
 fn collect_home(
     lists: &mut ListedWeights,
     home: CollationData<'_>,
@@ -66,30 +78,31 @@ fn collect_home(
     ensures tertiary_elements { OnOk result (Adds (IsLiveWeight (weight_at WeightList.TertiaryElements) falls_back (data_of home.entry)) lists.old.tertiary_elements.items lists.new.tertiary_elements.items) }
     ensures with_secondary { OnOk result (Adds (IsLiveWeight (weight_at WeightList.WithSecondary) falls_back (data_of home.entry)) lists.old.with_secondary.items lists.new.with_secondary.items) }
 {
-    let primaries = Collector::over(&WeightList::Primaries, &mut lists.primaries);
+    collect_weights(
+        &mut lists.primaries,
+        &WeightList::Primaries,
+        home,
+        falls_back,
+    )?;
     let secondaries = Collector::over(&WeightList::Secondaries, &mut lists.secondaries);
     let tertiaries = Collector::over(&WeightList::Tertiaries, &mut lists.tertiaries);
     let alone = Collector::over(&WeightList::TertiaryElements, &mut lists.tertiary_elements);
     let beside = Collector::over(&WeightList::WithSecondary, &mut lists.with_secondary);
     let mut visitor = Both {
-        first: primaries,
+        first: Both {
+            first: secondaries,
+            second: tertiaries,
+        },
         second: Both {
-            first: Both {
-                first: secondaries,
-                second: tertiaries,
-            },
-            second: Both {
-                first: alone,
-                second: beside,
-            },
+            first: alone,
+            second: beside,
         },
     };
     let outcome = visit_chars(&mut visitor, home, falls_back);
-    lists.primaries = visitor.first.weights;
-    lists.secondaries = visitor.second.first.first.weights;
-    lists.tertiaries = visitor.second.first.second.weights;
-    lists.tertiary_elements = visitor.second.second.first.weights;
-    lists.with_secondary = visitor.second.second.second.weights;
+    lists.secondaries = visitor.first.first.weights;
+    lists.tertiaries = visitor.first.second.weights;
+    lists.tertiary_elements = visitor.second.first.weights;
+    lists.with_secondary = visitor.second.second.weights;
     outcome
 }
 
@@ -153,6 +166,6 @@ pub(crate) fn listed_weights(
     collect_each(tables, DataTable::Jamo, &mut lists)?;
     collect_tailoring(tables, &mut lists)?;
     collect_each(tables, DataTable::Diacritics, &mut lists)?;
-    lists.sort();
+    lists.sort()?;
     Ok(lists)
 }

@@ -2,7 +2,7 @@
 use Rattle.std.specs.Prelude.{ℕ, ◌≡◌, ◌+◌, ◌*◌, ◌<◌, ◌≤◌, Bool, true, false, List, slice_index_or, ⊤}
 use Rattle.std.specs.Char.{IsScalar}
 use Rattle.std.specs.List.{AllByRecursion, Contains}
-use Rattle.icu_entries.specs.declared.entry.EntryKind.TheVariants.{Implicit as ImplicitKind}
+use Rattle.icu_entries.specs.declared.entry.EntryKind.TheVariants.{Offset, Implicit as ImplicitKind}
 use Rattle.icu_entries.specs.Entries.{kind_of}
 use Rattle.icu_data.specs.declared.block_walk.BlockState.{BlockState}
 use Rattle.icu_data.specs.declared.block_walk.BlockState.TheVariants.{Unread, Visited, Shared}
@@ -49,6 +49,14 @@ pub record Holds {V : Type 0} (after : V → Data → ℕ → ℕ → V) (falls_
 -- of the 64 code points from this one on, no character leads to an entry that goes by it, but for implicit weights
 abbrev pub IsShared : Data → ℕ → Type 0
 IsShared home first = (c : ℕ) → first ≤ c → c < first + 64 → IsScalar c → is_wanted ByCharacter home (home.value c) ≡ false
+
+-- the 64 code points from this one on, as far as they are characters, have one offset entry, whose visits with them
+-- change nothing
+pub record IsPassedRun {V : Type 0} (after : V → Data → ℕ → ℕ → V) (v : V) (home : Data) (first : ℕ) : Type 0 where
+  pub entry : ℕ
+  pub offset : kind_of entry ≡ Offset
+  pub same : (c : ℕ) → first ≤ c → c < first + 64 → IsScalar c → home.value c ≡ entry
+  pub nothing : (c : ℕ) → first ≤ c → c < first + 64 → after v home c entry ≡ v
 
 -- what the state of a block says of its values, by the code points that read it
 abbrev pub IsState : Data → ℕ → BlockState → Type 0

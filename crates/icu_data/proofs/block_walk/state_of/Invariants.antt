@@ -3,7 +3,7 @@ use Rattle.std.specs.Char.{IsScalar}
 use Rattle.icu_data.specs.StoredData.{data_of}
 use Rattle.icu_data.specs.declared.block_walk.Part.TheVariants.{ByCharacter}
 use Rattle.icu_data.specs.inner.BlockWalks.{is_wanted}
-use Rattle.icu_data.proofs.block_walk.is_shared.Given as goal
+use Rattle.icu_data.proofs.block_walk.state_of.Given as goal
 
 -- none so far leads to an entry that goes by its character
 abbrev pub invariant-loop-code : goal.invariant-loop-code
