@@ -68,6 +68,16 @@ module _ (all : CollatorTables) (settings : Settings) (law : FirstStartersLead) 
       ∙ first_counts h.element _ nonzero in
       subst (IsFirst p) (sym list) (h.leading, λ e. nonzero (h.leading ∙ e))
 
+-- where what is known of the first character is a primary above the variable ones, a text leads with it
+pub opening_leads : (all : CollatorTables) (settings : Settings) (law : FirstStartersLead) (c : ℕ) (cs : List ℕ) (q : ℕ) (t : List ℕ)
+    → (q ≢ 0 → LetterLeads (reading_by all settings) c q) → t ≡ c ∷ cs → (r : Option ℕ)
+    → IfSome r (λ p. (p ≡ q) × (last_variable_by all settings < p)) → IfSome r (λ p. LeadsWith all settings t p)
+opening_leads all settings law c cs q t leads e None h = tt
+opening_leads all settings law c cs q t leads e (Some p) h =
+    let nonzero : q ≢ 0 = λ z. above_nothing (last_variable_by all settings) p h.1 (h.0 ∙ z) in
+    subst (λ (l : List ℕ). LeadsWith all settings l p) (sym e)
+    (first_leads all settings law c cs p (subst (λ (x : ℕ). LetterLeads (reading_by all settings) c x) (sym h.0) (leads nonzero)) h.1)
+
 no_elements : (reading : Reading) → elements_of reading (nfd []) ≡ []
 unfolding elements_after elements_along
 no_elements reading = ap (elements_of reading) nfd-nil

@@ -4,3 +4,4 @@ pub mod SegmentsLeft
 pub mod ElementOrders
 pub mod Tails
 pub mod Fronts
+pub mod InStep

@@ -122,8 +122,11 @@ impl<'a> CollatorBorrowed<'a> {
             return Ok(Ordering::Equal);
         }
         if !self.reads_backward() {
-            if let Some((one, other)) = self.tails(left, right, common) {
-                return self.compare_levels(one, other);
+            if let Some((one, other, order)) = self.tails(left, right, common) {
+                return match order {
+                    Some(order) => Ok(order),
+                    None => self.compare_rest(one, other),
+                };
             }
         }
         self.compare_levels(left, right)
@@ -151,6 +154,18 @@ impl<'a> CollatorBorrowed<'a> {
         if let Some(order) = self.compare_fronts(left, right) {
             return Ok(order);
         }
+        self.compare_rest(left, right)
+    }
+
+    /// The order of two texts by their levels in turn.
+    fn compare_rest<L: EncodedText, R: EncodedText>(
+        &self,
+        left: L,
+        right: R,
+    ) -> Result<Ordering, AllocError>
+        ensures { IfOk result (λ o. o ≡ text_order (tables_borrowed self.now)
+            (settings_borrowed self.now) (L.text left) (R.text right)) }
+    {
         let order = self.compare_elements(left, right)?;
         if order != Ordering::Equal {
             return Ok(order);

@@ -1,13 +1,16 @@
 //! The levels that are compared from the front, weight by weight.
 
-ghost use Rattle.std.specs.Prelude.{◌≡◌, ◌≤◌, ◌∷◌, ◌+◌, [], length, IfOk, IfSome, MatchOption};
+ghost use Rattle.std.specs.Prelude.{◌≡◌, ◌≤◌, ◌∷◌, ◌+◌, [], List, Some, length, IfOk, IfSome, IsTrue, MatchOption};
+ghost use Rattle.std.specs.Ordering.{ordering_then};
 ghost use Rattle.icu_levels.specs.ListOrder.{list_order};
 ghost use Rattle.icu_order.specs.Levels.{case_rank, tertiary_in, quaternary_weight};
 ghost use Rattle.icu_provider.specs.CollatorTables.{reorder_by};
 ghost use Rattle.icu_provider.specs.StoredTables.{reordering_of};
 ghost use Rattle.std.specs.Prelude.{option_map};
 ghost use Rattle.icu_text_keys.specs.HandledSources.{handled_as};
+ghost use Rattle.icu_order.specs.Handled.{HandledElement};
 ghost use Rattle.icu_comparison.specs.inner.LevelWeights.{weight_of, read_as, weight_in, level_weights};
+ghost use Rattle.icu_comparison.specs.inner.InStep.{from_first, order_on, order_from, DecidesOn, HasWeight};
 
 use icu_entries::CollationElement;
 use icu_levels::forms::{CaseForm, SecondaryForm, TertiaryForm};
@@ -157,6 +160,107 @@ impl<'d> Level<'d> {
                 }
                 (one, other) => return Ok(one.is_some().cmp(&other.is_some())),
             }
+        }
+    }
+
+    /// The same from these elements on, which the sources gave last: none of a source that has ended.
+    #[tactic(auto, unfolding(crate::specs::inner::InStep::order_on))]
+    pub(crate) fn compare_from<L: HandledSource, R: HandledSource>(
+        self,
+        one: Option<Handled>,
+        other: Option<Handled>,
+        left: &mut L,
+        right: &mut R,
+    ) -> Result<Ordering, AllocError>
+        ensures { IfOk result (λ o. o ≡ order_from self.entry one other (L.handled_left left.old) (R.handled_left right.old)) }
+    {
+        match (self.next_from(one, left)?, self.next_from(other, right)?) {
+            (Some(weight), Some(other_weight)) => {
+                let order = weight.cmp(&other_weight);
+                if order != Ordering::Equal {
+                    return Ok(order);
+                }
+                self.compare(left, right)
+            }
+            (Some(_), None) => Ok(Ordering::Greater),
+            (None, Some(_)) => Ok(Ordering::Less),
+            (None, None) => Ok(Ordering::Equal),
+        }
+    }
+
+    /// The next weight of a text on this level from this element on, which its source gave last.
+    #[tactic(auto, unfolding(crate::specs::inner::LevelWeights::level_weights))]
+    fn next_from<S: HandledSource>(
+        self,
+        first: Option<Handled>,
+        rest: &mut S,
+    ) -> Result<Option<u64>, AllocError>
+        ensures { IfOk result (λ next. MatchOption next (level_weights self.entry (from_first first (S.handled_left rest.old)) ≡ [])
+            (λ w. level_weights self.entry (from_first first (S.handled_left rest.old)) ≡ w ∷ level_weights self.entry (S.handled_left rest.new))) }
+    {
+        let Some(handled) = first else {
+            return Ok(None);
+        };
+        match self.weight(handled) {
+            Some(weight) => Ok(Some(weight)),
+            None => self.next(rest),
+        }
+    }
+
+    /// Whether the level has the same weight for two elements, or none for either.
+    pub(crate) fn ties(self, one: &Handled, other: &Handled) -> bool
+        ensures { IsTrue result → weight_in self.entry (handled_as one.now) ≡ weight_in self.entry (handled_as other.now) }
+    {
+        match (self.weight(*one), self.weight(*other)) {
+            (Some(weight), Some(other_weight)) => weight == other_weight,
+            (None, None) => true,
+            _ => false,
+        }
+    }
+
+    /// The order of two elements on this level, where it has a weight for both or for neither.
+    pub(crate) fn order_of_weights(self, one: &Handled, other: &Handled) -> Option<Ordering>
+        ensures { IfSome result (λ o. (hs ks : List HandledElement) →
+            order_on self.entry (handled_as one.now ∷ hs) (handled_as other.now ∷ ks) ≡ ordering_then o (order_on self.entry hs ks)) }
+    {
+        match (self.weight(*one), self.weight(*other)) {
+            (Some(weight), Some(other_weight)) => Some(weight.cmp(&other_weight)),
+            (None, None) => Some(Ordering::Equal),
+            _ => None,
+        }
+    }
+
+    /// The order on this level of lists that begin with these elements, or have ended, where these decide it.
+    pub(crate) fn decide(self, one: &Option<Handled>, other: &Option<Handled>) -> Option<Ordering>
+        ensures { IfSome result (λ o. DecidesOn self.entry one.now other.now o) }
+    {
+        match (*one, *other) {
+            (Some(one), Some(other)) => self.decide_by_weights(one, other),
+            (Some(one), None) => self.decide_at_end(one, Ordering::Greater),
+            (None, Some(other)) => self.decide_at_end(other, Ordering::Less),
+            (None, None) => None,
+        }
+    }
+
+    /// The order that an element decides where the other list has ended: it does if the level has a weight for it.
+    fn decide_at_end(self, element: Handled, order: Ordering) -> Option<Ordering>
+        ensures { IfSome result (λ o. (o ≡ order) × HasWeight self.entry element) }
+    {
+        match self.weight(element) {
+            Some(_) => Some(order),
+            None => None,
+        }
+    }
+
+    /// The same of two elements.
+    fn decide_by_weights(self, one: Handled, other: Handled) -> Option<Ordering>
+        ensures { IfSome result (λ o. DecidesOn self.entry (Some one) (Some other) o) }
+    {
+        match (self.weight(one), self.weight(other)) {
+            (Some(weight), Some(other_weight)) if weight != other_weight => {
+                Some(weight.cmp(&other_weight))
+            }
+            _ => None,
         }
     }
 

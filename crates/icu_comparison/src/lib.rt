@@ -5,6 +5,7 @@ mod characters;
 pub mod collator;
 pub mod compare;
 pub mod handled;
+mod in_step;
 mod levels;
 mod order;
 mod segments;

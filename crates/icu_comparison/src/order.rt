@@ -1,45 +1,27 @@
 //! The order of two texts' elements, level by level.
 
-ghost use Rattle.std.specs.Prelude.{◌≡◌, IfOk, IsTrue};
+ghost use Rattle.std.specs.Prelude.{◌≡◌, ℕ, List, IfOk, IfSome, MatchOption};
+ghost use Rattle.std.specs.declared.cmp.Ordering.TheVariants.{Equal};
 ghost use Rattle.icu_levels.specs.ListOrder.{list_order, segments_order};
-ghost use Rattle.icu_levels.specs.Keys.{primaries_order, secondaries_order, cases_order, tertiaries_order, quaternaries_order};
-ghost use Rattle.icu_order.specs.Forms.{compression_of, form_by};
+ghost use Rattle.icu_levels.specs.Keys.{secondaries_order, cases_order, tertiaries_order, quaternaries_order};
+ghost use Rattle.icu_order.specs.Forms.{form_by};
 ghost use Rattle.icu_order.specs.TextOrder.{handled_by, lists_by};
 ghost use Rattle.icu_comparison.specs.inner.LevelWeights.{level_weights};
 ghost use Rattle.unicode_normalization.specs.Forms.{nfd};
 
 use crate::collator::CollatorBorrowed;
+use crate::in_step::{compare_from_difference, compare_in_step};
 use crate::levels::Level;
 use crate::segments::compare_segments;
 use icu_encodings::EncodedText;
-use icu_levels::forms::SecondaryForm;
-use icu_text_keys::HandledSource;
+use icu_levels::forms::{SecondaryForm, TertiaryForm};
 use std::alloc::AllocError;
 use std::cmp::Ordering;
 
-/// Whether two sources give the same elements. Fails only where an allocation does.
-fn give_the_same<L: HandledSource, R: HandledSource>(
-    left: &mut L,
-    right: &mut R,
-) -> Result<bool, AllocError>
-    ensures { IfOk result (λ same. IsTrue same → L.handled_left left.old ≡ R.handled_left right.old) }
-{
-    'pairs: loop {
-        match (left.next_handled()?, right.next_handled()?) {
-            (Some(one), Some(other)) => {
-                if one != other {
-                    return Ok(false);
-                }
-            }
-            (None, None) => return Ok(true),
-            _ => return Ok(false),
-        }
-    }
-}
-
 impl<'a> CollatorBorrowed<'a> {
     ghost use Rattle.icu_comparison.specs.Collators.{tables_borrowed, settings_borrowed};
-    ghost use Rattle.icu_comparison.specs.inner.ElementOrders.{elements_order};
+    ghost use Rattle.icu_comparison.specs.inner.ElementOrders.{elements_order, leading_order, lower_order};
+    ghost use Rattle.icu_comparison.specs.inner.InStep.{order_on, IsThreeLevel};
 
     /// The order of two texts on a level that is compared from the front.
     fn compare_on<L: EncodedText, R: EncodedText>(
@@ -57,19 +39,6 @@ impl<'a> CollatorBorrowed<'a> {
         let mut left = self.handled_text(&tables, left);
         let mut right = self.handled_text(&tables, right);
         level.compare(&mut left, &mut right)
-    }
-
-    /// The order of the primary weights, reordered.
-    fn compare_primaries<L: EncodedText, R: EncodedText>(
-        &self,
-        left: L,
-        right: R,
-    ) -> Result<Ordering, AllocError>
-        ensures { let all = tables_borrowed self.now in let settings = settings_borrowed self.now in
-            IfOk result (λ o. o ≡ primaries_order (compression_of all)
-            (lists_by all settings (nfd (L.text left))) (lists_by all settings (nfd (R.text right)))) }
-    {
-        self.compare_on(Level::Primary(self.tables.reordering()), left, right)
     }
 
     /// The order of the secondary weights, forward or backward, where they count.
@@ -156,8 +125,7 @@ impl<'a> CollatorBorrowed<'a> {
         }
     }
 
-    /// The order of two texts by their elements: all levels but the identical one. Texts of the same elements are gone
-    /// through once.
+    /// The order of two texts by their elements: all levels but the identical one.
     #[inline(never)]
     pub(crate) fn compare_elements<L: EncodedText, R: EncodedText>(
         &self,
@@ -167,41 +135,66 @@ impl<'a> CollatorBorrowed<'a> {
         ensures { IfOk result (λ o. o ≡ elements_order (tables_borrowed self.now)
             (settings_borrowed self.now) (nfd (L.text left)) (nfd (R.text right))) }
     {
-        if self.have_the_same_elements(left, right)? {
-            return Ok(Ordering::Equal);
+        match self.compare_at_once(left, right)? {
+            Some(order) => Ok(order),
+            None => self.compare_lower(left, right),
         }
-        self.compare_in_turn(left, right)
     }
 
-    /// Whether two texts have the same elements, as they are handled. False is right of any texts.
-    fn have_the_same_elements<L: EncodedText, R: EncodedText>(
+    /// The same, where one pass over both texts shows it. It goes past the elements that both have, and compares
+    /// primary weights from the first on that differ; where only secondary and tertiary weights count after them, it
+    /// compares these as well, as far as elements are in step. None where the primary weights tie, and no more is
+    /// known.
+    fn compare_at_once<L: EncodedText, R: EncodedText>(
         &self,
         left: L,
         right: R,
-    ) -> Result<bool, AllocError>
+    ) -> Result<Option<Ordering>, AllocError>
         ensures { let all = tables_borrowed self.now in let settings = settings_borrowed self.now in
-            IfOk result (λ same. IsTrue same → handled_by all settings (nfd (L.text left)) ≡ handled_by all settings (nfd (R.text right))) }
+            IfOk result (λ found. MatchOption found (leading_order all settings (nfd (L.text left)) (nfd (R.text right)) ≡ Equal)
+            (λ o. o ≡ elements_order all settings (nfd (L.text left)) (nfd (R.text right)))) }
     {
         let tables = self.cursor_tables();
         let mut left = self.handled_text(&tables, left);
         let mut right = self.handled_text(&tables, right);
-        give_the_same(&mut left, &mut right)
+        let first = self.primary_level();
+        match self.three_level_form() {
+            Some(form) => compare_in_step(first, form, &mut left, &mut right),
+            None => compare_from_difference(first, &mut left, &mut right),
+        }
     }
 
-    /// The levels in turn: the first that differs decides.
-    #[tactic(auto, unfolding(crate::specs::inner::ElementOrders::elements_order, crate::specs::inner::ElementOrders::before_characters))]
-    fn compare_in_turn<L: EncodedText, R: EncodedText>(
+    /// The level of the primary weights, reordered.
+    fn primary_level(&self) -> Level<'a>
+        ensures { let all = tables_borrowed self.now in let settings = settings_borrowed self.now in (t u : List ℕ) →
+            order_on result (handled_by all settings t) (handled_by all settings u) ≡ leading_order all settings t u }
+    {
+        Level::Primary(self.tables.reordering())
+    }
+
+    /// The form of the tertiary level, where that, the primary and the secondary level are all before the identical
+    /// one, and secondary weights are compared forward.
+    fn three_level_form(&self) -> Option<TertiaryForm>
+        ensures { IfSome result (λ form. IsThreeLevel (form_by (tables_borrowed self.now) (settings_borrowed self.now)) form) }
+    {
+        let form = self.key_form();
+        match (form.secondary, form.cases, form.tertiary, form.quaternary) {
+            (Some(SecondaryForm::Forward), None, Some(tertiary), None) => Some(tertiary),
+            _ => None,
+        }
+    }
+
+    /// The levels between the primary and the identical one in turn: the first that differs decides.
+    #[inline(never)]
+    #[tactic(auto, unfolding(crate::specs::inner::ElementOrders::lower_order))]
+    fn compare_lower<L: EncodedText, R: EncodedText>(
         &self,
         left: L,
         right: R,
     ) -> Result<Ordering, AllocError>
-        ensures { IfOk result (λ o. o ≡ elements_order (tables_borrowed self.now)
+        ensures { IfOk result (λ o. o ≡ lower_order (tables_borrowed self.now)
             (settings_borrowed self.now) (nfd (L.text left)) (nfd (R.text right))) }
     {
-        let order = self.compare_primaries(left, right)?;
-        if order != Ordering::Equal {
-            return Ok(order);
-        }
         let order = self.compare_secondaries(left, right)?;
         if order != Ordering::Equal {
             return Ok(order);

@@ -1,63 +1,124 @@
 //! What the first characters of two texts decide, and what follows the common beginning of two texts.
 
-ghost use Rattle.std.specs.Prelude.{◌≡◌, ◌≤◌, ℕ, IfSome, IsTrue};
+ghost use Rattle.std.specs.Prelude.{◌≡◌, ◌≢◌, ◌<◌, ◌≤◌, ◌⊎◌, ℕ, List, IfSome, IsTrue};
 ghost use Rattle.icu_levels.specs.Fronts.{ReadsForward};
-ghost use Rattle.icu_order.specs.Forms.{form_by};
+ghost use Rattle.icu_order.specs.Forms.{form_by, last_variable_by};
 ghost use Rattle.icu_order.specs.TextOrder.{text_order};
 ghost use Rattle.icu_comparison.specs.inner.Tails.{unequal_order};
 
-use crate::collator::CollatorBorrowed;
+use crate::collator::{CollatorBorrowed, Front};
 use crate::levels::reordered;
 use icu_cuts::laws::first_starters_lead;
 use icu_encodings::EncodedText;
 use icu_order::laws::common_beginnings_do_not_count;
 use std::cmp::Ordering;
 
+/// What the first character of a text says: whether the text may follow others without a change of what it gives, and
+/// the first primary weight of the text, 0 of an empty one, where that is known and elements that begin with it aren't
+/// variable.
+#[derive(Debug, Clone, Copy)]
+struct Opening {
+    is_tail: bool,
+    primary: Option<u32>,
+}
+
 impl<'a> CollatorBorrowed<'a> {
     ghost use Rattle.icu_comparison.specs.Collators.{tables_borrowed, settings_borrowed};
     ghost use Rattle.icu_comparison.specs.inner.Tails.{LeadsWith};
     ghost use Rattle.icu_order.specs.TextCuts.{IsTail};
 
-    /// What two texts have from the last safe place on within their common beginning, which is `common` units long.
-    /// `None` where there is none but that at its front.
+    /// What two texts have from the last safe place on within their common beginning, which is `common` units long, and
+    /// the order of the texts where the first characters from there on decide it. `None` where there is no such place
+    /// but that at its front.
     pub(crate) fn tails<L: EncodedText, R: EncodedText>(
         &self,
         left: L,
         right: R,
         common: usize,
-    ) -> Option<(L, R)>
+    ) -> Option<(L, R, Option<Ordering>)>
         requires heads { (n : ℕ) → n ≤ common → L.head left n ≡ R.head right n }
         requires forward { ReadsForward (form_by (tables_borrowed self.now) (settings_borrowed self.now)).secondary }
         ensures { let all = tables_borrowed self.now in let settings = settings_borrowed self.now in
-            IfSome result (λ p. text_order all settings (L.text p.0) (R.text p.1)
-            ≡ text_order all settings (L.text left) (R.text right)) }
+            IfSome result (λ p. (text_order all settings (L.text p.0) (R.text p.1) ≡ text_order all settings (L.text left) (R.text right))
+            × IfSome p.2 (λ o. o ≡ text_order all settings (L.text left) (R.text right))) }
     {
         for at in (1..=common).rev() {
-            if let Some(one) = left.split_at(at) {
-                if let Some(other) = right.split_at(at) {
-                    if self.starts_anew(one) && self.starts_anew(other) {
-                        common_beginnings_do_not_count();
-                        return Some((one, other));
-                    }
-                }
+            let tails = self.tails_at(left, right, at);
+            if tails.is_some() {
+                return tails;
             }
         }
         None
     }
 
-    /// Whether a text may follow others without a change of what it gives: it is empty, or may be cut off before its
-    /// first character, and where elements may be variable its first one has a primary weight. False is right of any
-    /// text.
-    fn starts_anew<T: EncodedText>(&self, text: T) -> bool
-        ensures { IsTrue result → IsTail (tables_borrowed self.now) (settings_borrowed self.now) (T.text text) }
+    /// The same, where both texts may be cut at this place.
+    #[inline]
+    fn tails_at<L: EncodedText, R: EncodedText>(
+        &self,
+        left: L,
+        right: R,
+        at: usize,
+    ) -> Option<(L, R, Option<Ordering>)>
+        requires head { L.head left at ≡ R.head right at }
+        requires forward { ReadsForward (form_by (tables_borrowed self.now) (settings_borrowed self.now)).secondary }
+        ensures { let all = tables_borrowed self.now in let settings = settings_borrowed self.now in
+            IfSome result (λ p. (text_order all settings (L.text p.0) (R.text p.1) ≡ text_order all settings (L.text left) (R.text right))
+            × IfSome p.2 (λ o. o ≡ text_order all settings (L.text left) (R.text right))) }
+    {
+        let one = left.split_at(at)?;
+        let other = right.split_at(at)?;
+        let opening = self.opening(one);
+        let other_opening = self.opening(other);
+        if !opening.is_tail || !other_opening.is_tail {
+            return None;
+        }
+        common_beginnings_do_not_count();
+        let order = self.order_of(opening, other_opening);
+        Some((one, other, order))
+    }
+
+    /// What the first character of a text says, which is looked up once.
+    #[inline]
+    fn opening<T: EncodedText>(&self, text: T) -> Opening
+        ensures tail { IsTrue result.is_tail → IsTail (tables_borrowed self.now) (settings_borrowed self.now) (T.text text) }
+        ensures leads { IfSome result.primary (λ p. LeadsWith (tables_borrowed self.now) (settings_borrowed self.now) (T.text text) p) }
     {
         match text.split_first_char() {
             Some((first, _)) => {
-                let letter = self.front(first);
+                let front = self.front(first);
                 first_starters_lead();
-                letter.is_safe && (letter.leading_primary != 0 || self.last_variable() == 0)
+                let is_tail = self.begins_tail(front);
+                let primary = self.known_primary(front);
+                Opening { is_tail, primary }
             }
-            None => true,
+            None => Opening {
+                is_tail: true,
+                primary: Some(0),
+            },
+        }
+    }
+
+    /// Whether a text may follow others that has this front: it may be cut off before its first character, and where
+    /// elements may be variable its first one has a primary weight. False is right of any text.
+    #[inline]
+    fn begins_tail(&self, front: Front) -> bool
+        ensures { IsTrue result → IsTrue front.is_safe
+            × ((front.leading_primary ≢ 0) ⊎ (last_variable_by (tables_borrowed self.now) (settings_borrowed self.now) ≡ 0)) }
+    {
+        front.is_safe && (front.leading_primary != 0 || self.last_variable() == 0)
+    }
+
+    /// The first primary weight of this front, where it is known and elements that begin with it aren't variable.
+    #[inline]
+    fn known_primary(&self, front: Front) -> Option<u32>
+        ensures { IfSome result (λ p. (p ≡ front.leading_primary)
+            × (last_variable_by (tables_borrowed self.now) (settings_borrowed self.now) < p)) }
+    {
+        let primary = front.leading_primary;
+        if primary > self.last_variable() {
+            Some(primary)
+        } else {
+            None
         }
     }
 
@@ -70,32 +131,35 @@ impl<'a> CollatorBorrowed<'a> {
         ensures { let all = tables_borrowed self.now in let settings = settings_borrowed self.now in
             IfSome result (λ o. o ≡ text_order all settings (L.text left) (R.text right)) }
     {
-        let one = self.leading_primary(left)?;
-        let other = self.leading_primary(right)?;
+        self.order_of(self.opening(left), self.opening(right))
+    }
+
+    /// The same of texts that open so.
+    #[inline]
+    fn order_of(&self, one: Opening, other: Opening) -> Option<Ordering>
+        ensures { let all = tables_borrowed self.now in let settings = settings_borrowed self.now in
+            (t u : List ℕ) → IfSome one.primary (λ p. LeadsWith all settings t p) → IfSome other.primary (λ p. LeadsWith all settings u p)
+            → IfSome result (λ o. o ≡ text_order all settings t u) }
+    {
+        match (one.primary, other.primary) {
+            (Some(primary), Some(other_primary)) => {
+                self.order_of_primaries(primary, other_primary)
+            }
+            _ => None,
+        }
+    }
+
+    /// The order of texts that begin with these primary weights, 0 of an empty one, where they differ.
+    #[inline]
+    fn order_of_primaries(&self, one: u32, other: u32) -> Option<Ordering>
+        ensures { let all = tables_borrowed self.now in let settings = settings_borrowed self.now in
+            (t u : List ℕ) → LeadsWith all settings t one → LeadsWith all settings u other → IfSome result (λ o. o ≡ text_order all settings t u) }
+    {
         if one == 0 || other == 0 {
             return unequal(one, other);
         }
         let reordering = self.tables.reordering();
         unequal(reordered(reordering, one), reordered(reordering, other))
-    }
-
-    /// The first primary weight of a text, where its first character says it and elements that begin with it aren't
-    /// variable: 0 of an empty text.
-    fn leading_primary<T: EncodedText>(&self, text: T) -> Option<u32>
-        ensures { IfSome result (λ p. LeadsWith (tables_borrowed self.now) (settings_borrowed self.now) (T.text text) p) }
-    {
-        match text.split_first_char() {
-            Some((first, _)) => {
-                let primary = self.front(first).leading_primary;
-                first_starters_lead();
-                if primary > self.last_variable() {
-                    Some(primary)
-                } else {
-                    None
-                }
-            }
-            None => Some(0),
-        }
     }
 }
 

@@ -10,16 +10,29 @@ use Rattle.icu_provider.specs.CollatorTables.{CollatorTables, reorder}
 use Rattle.icu_order.specs.Forms.{form_by}
 use Rattle.icu_order.specs.TextOrder.{lists_by}
 
--- all levels in turn but the identical one
-unfoldable pub before_characters : (ℕ → ℕ) → KeyForm → LevelLists → LevelLists → Ordering
-before_characters reorder form t u =
-    ordering_then (list_order (map reorder t.primaries) (map reorder u.primaries)) (
+-- the levels in turn between the primary and the identical one
+abbrev pub after_primaries : KeyForm → LevelLists → LevelLists → Ordering
+after_primaries form t u =
     ordering_then (secondaries_order form.secondary t u) (
     ordering_then (cases_order form.cases t u) (
     ordering_then (tertiaries_order form.tertiary t u)
-    (quaternaries_order form.quaternary t u))))
+    (quaternaries_order form.quaternary t u)))
+
+-- all levels in turn but the identical one
+unfoldable pub before_characters : (ℕ → ℕ) → KeyForm → LevelLists → LevelLists → Ordering
+before_characters reorder form t u =
+    ordering_then (list_order (map reorder t.primaries) (map reorder u.primaries)) (after_primaries form t u)
 
 -- the same of two decomposed texts, by the tables and the settings of a collator
 unfoldable pub elements_order : CollatorTables → Settings → List ℕ → List ℕ → Ordering
 elements_order all settings t u =
     before_characters (reorder all) (form_by all settings) (lists_by all settings t) (lists_by all settings u)
+
+-- the order of their primaries
+unfoldable pub leading_order : CollatorTables → Settings → List ℕ → List ℕ → Ordering
+leading_order all settings t u =
+    list_order (map (reorder all) (lists_by all settings t).primaries) (map (reorder all) (lists_by all settings u).primaries)
+
+-- that of the levels between the primary and the identical one
+unfoldable pub lower_order : CollatorTables → Settings → List ℕ → List ℕ → Ordering
+lower_order all settings t u = after_primaries (form_by all settings) (lists_by all settings t) (lists_by all settings u)

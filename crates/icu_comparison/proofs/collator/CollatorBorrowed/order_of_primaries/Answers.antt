@@ -5,34 +5,30 @@ use Rattle.icu_order.specs.TextOrder.{text_order}
 use Rattle.icu_comparison.specs.Collators.{tables_borrowed, settings_borrowed}
 use Rattle.icu_comparison.specs.inner.Tails.{unequal_order}
 use Rattle.icu_comparison.proofs.TailLemmas.{ends_order, leads_order}
-use Rattle.icu_comparison.proofs.collator.CollatorBorrowed.compare_fronts.Goals.{then-one-eq0-via-then-one-eq0, then-one-eq0-via-else-one-eq0+then-other-eq0}
-use Rattle.icu_comparison.proofs.collator.CollatorBorrowed.compare_fronts.Goals as goal
+use Rattle.icu_comparison.proofs.collator.CollatorBorrowed.order_of_primaries.Goals.{then-one-eq0-via-then-one-eq0, then-one-eq0-via-else-one-eq0+then-other-eq0}
+use Rattle.icu_comparison.proofs.collator.CollatorBorrowed.order_of_primaries.Goals as goal
 
 pub returns-then-one-eq0 : goal.returns-then-one-eq0
-returns-then-one-eq0 g c =
+returns-then-one-eq0 c = λ t u h k.
     let all = tables_borrowed c.args.self.now in
     let settings = settings_borrowed c.args.self.now in
-    let t = g.L.EncodedText.text c.args.left in
-    let u = g.R.EncodedText.text c.args.right in
-    let one = c.in_ok-one.one in
-    let other = c.in_ok-other.other in
+    let one = c.args.one in
+    let other = c.args.other in
     let empty : (one ≡ 0) ⊎ (other ≡ 0) = elim c.then-one-eq0.branch [
       | then-one-eq0-via-then-one-eq0 w ↦ inl w.if-one-eq0.true
       | then-one-eq0-via-else-one-eq0+then-other-eq0 w ↦ inr w.if-other-eq0.true
     ] in
     subst (λ (r : Option Ordering). IfSome r (λ o. o ≡ text_order all settings t u)) (sym c.unequal.ensures)
-    (ends_order all settings t u one other c.in_ok-one.ensures c.in_ok-other.ensures empty)
+    (ends_order all settings t u one other h k empty)
 
 pub returns : goal.returns
-returns g c =
+returns c = λ t u h k.
     let all = tables_borrowed c.args.self.now in
     let settings = settings_borrowed c.args.self.now in
-    let t = g.L.EncodedText.text c.args.left in
-    let u = g.R.EncodedText.text c.args.right in
-    let one = c.in_ok-one.one in
-    let other = c.in_ok-other.other in
+    let one = c.args.one in
+    let other = c.args.other in
     let left : c.reordered.result ≡ reorder all one = c.reordered.ensures ∙ ap (λ r. reorder_by r one) c.reordering-reordering.ensures in
     let right : c.reordered-2.result ≡ reorder all other = c.reordered-2.ensures ∙ ap (λ r. reorder_by r other) c.reordering-reordering.ensures in
     let found = c.unequal-2.ensures ∙ ap (λ x. unequal_order x c.reordered-2.result) left ∙ ap (unequal_order (reorder all one)) right in
     subst (λ (r : Option Ordering). IfSome r (λ o. o ≡ text_order all settings t u)) (sym found)
-    (leads_order all settings t u one other c.in_ok-one.ensures c.in_ok-other.ensures c.if-one-eq0.false c.if-other-eq0.false)
+    (leads_order all settings t u one other h k c.if-one-eq0.false c.if-other-eq0.false)
