@@ -1,4 +1,4 @@
--- What Mini lends: its tables say what they are to say.
+-- What Mini returns: its tables say what they are to say.
 use Rattle.std.proofs.Common.{◌≡◌, ℕ, List, Option, Some, None, Result, Ok, Err, IfOk, refl, sym, ap, ◌∙◌, subst}
 use Rattle.std.specs.Option.{option_map}
 use Rattle.icu_entries.specs.declared.error.DataError.{DataError}
@@ -8,16 +8,16 @@ use Rattle.icu_provider.specs.Requests.{Request}
 use Rattle.icu_provider.specs.SpecialPrimaries.{SpecialPrimaries}
 use Rattle.icu_data.specs.Data.{Data}
 use Rattle.icu_provider.specs.CollatorTables.{CollatorTables}
-use Rattle.icu_provider.specs.LentTables.{and_then, or_else, typed_first, if_named, diacritics_request, lent_tables}
+use Rattle.icu_provider.specs.LoadedTables.{and_then, or_else, typed_first, if_named, diacritics_request, loaded_tables}
 use Rattle.icu_mini.specs.declared.mini.Mini.{Mini}
 use Rattle.icu_mini.specs.declared.provider.MiniProvider.{MiniProvider}
 use Rattle.icu_owned_data.specs.declared.data_vectors.DataVectors.{DataVectors}
 use Rattle.icu_owned_data.specs.OwnedData.{vectors_data}
 use Rattle.icu_mini.specs.Mini.{IsMini, special_held, SaysAny}
-use Rattle.icu_mini.specs.Provider.{LendsMini, loads_of}
+use Rattle.icu_mini.specs.Provider.{LoadsMini, loads_of}
 use Rattle.collate.specs.Answers.{mini_tables}
 
--- ---- what is lent
+-- ---- what is returned
 
 -- an answer that comes after others needs theirs
 record Follows {A B : Type 0} (x : Result A DataError) (next : A → Result B DataError) (b : B) : Type 0 where
@@ -30,8 +30,8 @@ follows (Ok a) next b h = record { value = a; first = refl; then_next = h }
 follows (Err e) next b h = absurd (cc)
 
 said : {T A : Type 0} (says : T → A) (r : Result T DataError) (a held : A) → IfOk r (λ t. says t ≡ held) → answer says r ≡ Ok a → a ≡ held
-said says (Ok t) a held lends h = cc
-said says (Err e) a held lends h = absurd (cc)
+said says (Ok t) a held holds h = cc
+said says (Err e) a held holds h = absurd (cc)
 
 again : {A : Type 0} (x : Result A DataError) → or_else x x ≡ x
 again (Ok a) = refl
@@ -66,23 +66,23 @@ made_of root tailoring jamo diacritics special = record {
   reordering = None;
 }
 
-pub mini-lent : (m : Mini) (p : MiniProvider) (r : Request) (all : CollatorTables) → IsMini m → LendsMini m p → lent_tables (loads_of p) r ≡ Ok all → all ≡ mini_tables m
-unfolding lent_tables from_bits made_of
-mini-lent m p r all mini lends h =
+pub mini-loaded : (m : Mini) (p : MiniProvider) (r : Request) (all : CollatorTables) → IsMini m → LoadsMini m p → loaded_tables (loads_of p) r ≡ Ok all → all ≡ mini_tables m
+unfolding loaded_tables from_bits made_of
+mini-loaded m p r all mini holds h =
     let root = follows _ _ all h in
     let jamo = follows _ _ all root.then_next in
     let special = follows _ _ all jamo.then_next in
     let metadata = follows _ _ all special.then_next in
     let bits : metadata.value ≡ 1 =
-    said _ p.metadata _ _ lends.metadata.0 (sym (whatever_type _ r.collation_type) ∙ metadata.first) ∙ mini.metadata in
+    said _ p.metadata _ _ holds.metadata.0 (sym (whatever_type _ r.collation_type) ∙ metadata.first) ∙ mini.metadata in
     let rest : from_bits (loads_of p) r root.value jamo.value special.value 1 ≡ Ok all =
     subst (λ b. from_bits (loads_of p) r root.value jamo.value special.value b ≡ Ok all) bits metadata.then_next in
     let diacritics = follows _ _ all rest in
     let made : made_of root.value None jamo.value diacritics.value special.value ≡ all = cc (diacritics.then_next) in
-    let first : root.value ≡ vectors_data m.root = said _ p.root _ _ lends.root.lends root.first in
-    let second : jamo.value ≡ m.jamo.items = said _ p.jamo _ _ lends.jamo.lends jamo.first in
-    let third : special.value ≡ special_held m = said _ p.special _ _ lends.special.lends special.first in
-    let fourth : diacritics.value ≡ m.diacritics.items = said _ p.diacritics _ _ lends.diacritics.lends diacritics.first in
+    let first : root.value ≡ vectors_data m.root = said _ p.root _ _ holds.root.holds root.first in
+    let second : jamo.value ≡ m.jamo.items = said _ p.jamo _ _ holds.jamo.holds jamo.first in
+    let third : special.value ≡ special_held m = said _ p.special _ _ holds.special.holds special.first in
+    let fourth : diacritics.value ≡ m.diacritics.items = said _ p.diacritics _ _ holds.diacritics.holds diacritics.first in
     let none = no_tailoring m.tailoring mini.tailoring in
     sym made
     ∙ ap (λ x. made_of x None jamo.value diacritics.value special.value) first

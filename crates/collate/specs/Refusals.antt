@@ -5,22 +5,22 @@ use Rattle.icu_entries.specs.declared.error.DataErrorKind.TheVariants.{NoMemory}
 use Rattle.icu_options.specs.declared.settings.Strength.{Strength}
 use Rattle.icu_provider.specs.CollatorTables.{CollatorTables}
 use Rattle.icu_checks.specs.GoodTables.{IsGoodTables}
-use Rattle.icu_provider.specs.LentTables.{lent_tables}
+use Rattle.icu_provider.specs.LoadedTables.{loaded_tables}
 use Rattle.icu_provider.specs.Requests.{Request}
 use Rattle.icu_mini.specs.declared.mini.Mini.{Mini}
 use Rattle.icu_mini.specs.declared.provider.MiniProvider.{MiniProvider}
 use Rattle.icu_mini.specs.Mini.{IsMini}
-use Rattle.icu_mini.specs.Provider.{LendsMini, loads_of}
+use Rattle.icu_mini.specs.Provider.{LoadsMini, loads_of}
 use Rattle.collate.specs.Faults.{refused_line}
 
--- Mini's tables are not all lent, or those that are lent don't meet the conditions on the tables of a collator.
+-- Mini's tables are not all returned, or those that are returned don't meet the conditions on the tables of a collator.
 pub record TablesFail : Type 0 where
   pub tables : Mini
   pub provider : MiniProvider
   pub request : Request
   pub mini : IsMini tables
-  pub lends : LendsMini tables provider
-  pub fails : (all : CollatorTables) → lent_tables (loads_of provider) request ≡ Ok all → IsGoodTables all → ⊥
+  pub holds : LoadsMini tables provider
+  pub fails : (all : CollatorTables) → loaded_tables (loads_of provider) request ≡ Ok all → IsGoodTables all → ⊥
 
 -- the line by which a collator is refused, and what it says is true
 abbrev pub mini_refuses : Strength → List ℕ → Type 0

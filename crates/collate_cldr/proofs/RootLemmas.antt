@@ -1,6 +1,6 @@
 -- A collator that is made of a root has its tables, and the chosen settings.
 use Rattle.std.proofs.Common.{◌≡◌, ℕ, List, false, Option, Some, None, Ok, Err, Result, ap, refl, sym, ◌∙◌, subst, unwrap_or, option_map}
-use Rattle.icu_provider.specs.LentTables.{lent_tables}
+use Rattle.icu_provider.specs.LoadedTables.{loaded_tables}
 use Rattle.icu_cldr.specs.Roots.{IsRoot}
 use Rattle.icu_data.specs.Data.{Data}
 use Rattle.icu_entries.specs.declared.error.DataError.{DataError}
@@ -33,12 +33,12 @@ root_of root jamo diacritics special = record {
   reordering = None;
 }
 
-lent_so : (root : Data) (jamo diacritics : List ℕ) (special : SpecialPrimaries) (locale : List ℕ) (t : Option (List ℕ))
-    → lent_tables (loads_of (root_of root jamo diacritics special)) (record { locale = locale; collation_type = t })
+loaded_so : (root : Data) (jamo diacritics : List ℕ) (special : SpecialPrimaries) (locale : List ℕ) (t : Option (List ℕ))
+    → loaded_tables (loads_of (root_of root jamo diacritics special)) (record { locale = locale; collation_type = t })
     ≡ Ok (root_of root jamo diacritics special)
-unfolding lent_tables root_of
-lent_so root jamo diacritics special locale None = refl
-lent_so root jamo diacritics special locale (Some x) = refl
+unfolding loaded_tables root_of
+loaded_so root jamo diacritics special locale None = refl
+loaded_so root jamo diacritics special locale (Some x) = refl
 
 parts_are : (all : CollatorTables) → IsRoot all → all ≡ root_of all.tables.root all.tables.jamo all.tables.diacritics all.special
 unfolding root_of
@@ -52,12 +52,12 @@ parts_are all is = λ i. record {
 same_tables : (x y : CollatorTables) (r : Result CollatorTables DataError) → r ≡ Ok x → r ≡ Ok y → x ≡ y
 same_tables x y r h k = cc
 
-pub root_lent : (all : CollatorTables) (r : Request) (kept : CollatorTables) → IsRoot all → lent_tables (loads_of all) r ≡ Ok kept → IsRoot kept
+pub root_lent : (all : CollatorTables) (r : Request) (kept : CollatorTables) → IsRoot all → loaded_tables (loads_of all) r ≡ Ok kept → IsRoot kept
 root_lent all r kept is h =
-    let lent : lent_tables (loads_of all) r ≡ Ok all =
-    subst (λ a. lent_tables (loads_of a) r ≡ Ok a) (sym (parts_are all is))
-    (lent_so all.tables.root all.tables.jamo all.tables.diacritics all.special r.locale r.collation_type) in
-    subst IsRoot (same_tables all kept (lent_tables (loads_of all) r) lent h) is
+    let loaded : loaded_tables (loads_of all) r ≡ Ok all =
+    subst (λ a. loaded_tables (loads_of a) r ≡ Ok a) (sym (parts_are all is))
+    (loaded_so all.tables.root all.tables.jamo all.tables.diacritics all.special r.locale r.collation_type) in
+    subst IsRoot (same_tables all kept (loaded_tables (loads_of all) r) loaded h) is
 
 -- ---- the settings
 

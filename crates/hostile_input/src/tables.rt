@@ -18,17 +18,17 @@ use std::alloc::{AllocError, Global};
 const PAIRS: u32 = 3;
 
 /// A refusal that names its table.
-fn named<T>(table: DataTable, lent: Result<T, DataErrorKind>) -> Result<T, DataError> {
-    match lent {
-        Ok(lent) => Ok(lent),
+fn named<T>(table: DataTable, loaded: Result<T, DataErrorKind>) -> Result<T, DataError> {
+    match loaded {
+        Ok(loaded) => Ok(loaded),
         Err(kind) => Err(DataError { table, kind }),
     }
 }
 
 /// A table that the metadata names has to be there.
-fn there<T>(table: DataTable, lent: Option<T>) -> Result<T, DataError> {
-    match lent {
-        Some(lent) => Ok(lent),
+fn there<T>(table: DataTable, loaded: Option<T>) -> Result<T, DataError> {
+    match loaded {
+        Some(loaded) => Ok(loaded),
         None => Err(DataError {
             table,
             kind: DataErrorKind::Absent,
@@ -38,21 +38,21 @@ fn there<T>(table: DataTable, lent: Option<T>) -> Result<T, DataError> {
 
 /// The tables by their constructors, in the order in which a collator loads them.
 pub(crate) fn set(mini: &Mini) -> Result<TableSet<'_>, DataError> {
-    let root = named(DataTable::Root, mini.lend_root())?;
-    let jamo = named(DataTable::Jamo, mini.lend_jamo())?;
-    let special = named(DataTable::SpecialPrimaries, mini.lend_special_primaries())?;
+    let root = named(DataTable::Root, mini.load_root())?;
+    let jamo = named(DataTable::Jamo, mini.load_jamo())?;
+    let special = named(DataTable::SpecialPrimaries, mini.load_special_primaries())?;
     let metadata = mini.metadata;
     let mut tailoring = None;
     if metadata.tailored() {
-        let lent = named(DataTable::Tailoring, mini.lend_tailoring())?;
-        tailoring = Some(there(DataTable::Tailoring, lent)?);
+        let loaded = named(DataTable::Tailoring, mini.load_tailoring())?;
+        tailoring = Some(there(DataTable::Tailoring, loaded)?);
     }
     let mut reordering = None;
     if metadata.reordering() {
-        let lent = named(DataTable::Reordering, mini.lend_reordering())?;
-        reordering = Some(there(DataTable::Reordering, lent)?);
+        let loaded = named(DataTable::Reordering, mini.load_reordering())?;
+        reordering = Some(there(DataTable::Reordering, loaded)?);
     }
-    let diacritics = named(DataTable::Diacritics, mini.lend_diacritics())?;
+    let diacritics = named(DataTable::Diacritics, mini.load_diacritics())?;
     Ok(TableSet {
         root,
         jamo,
@@ -102,12 +102,12 @@ fn judge(
     spoiled: bool,
     tally: &mut Tally,
 ) -> Result<(), AllocError> {
-    let mut lent = copied(alloc, mini)?;
+    let mut loaded = copied(alloc, mini)?;
     if spoiled {
-        damage(dice, &mut lent)?;
+        damage(dice, &mut loaded)?;
     }
     let checked = by_constructors(alloc, mini).err();
-    let made = by_provider(alloc, &lent);
+    let made = by_provider(alloc, &loaded);
     let agreed = match &made {
         Ok(_) => checked.is_none(),
         Err(refusal) => checked == Some(*refusal),

@@ -1,4 +1,4 @@
-//! Tables that are accepted together, and what checked tables lend.
+//! Tables that are accepted together, and what checked tables return.
 use icu_checks::CheckedTables;
 use icu_data::CollationData;
 use icu_entries::CollationElement32;
@@ -12,13 +12,13 @@ use std::test::Fail;
 fn checked(alloc: Global, mini: &Mini) -> Result<CheckedTables, Fail> {
     let tables = CheckedTables::new(
         alloc,
-        mini.lend_root()?,
-        mini.lend_jamo()?,
-        mini.lend_special_primaries()?,
+        mini.load_root()?,
+        mini.load_jamo()?,
+        mini.load_special_primaries()?,
         mini.metadata,
-        mini.lend_tailoring()?,
-        mini.lend_reordering()?,
-        mini.lend_diacritics()?,
+        mini.load_tailoring()?,
+        mini.load_reordering()?,
+        mini.load_diacritics()?,
     )?;
     Ok(tables)
 }
@@ -30,7 +30,7 @@ fn lengths(data: CollationData<'_>) -> (usize, usize, usize) {
 }
 
 #[test]
-fn a_root_and_its_companions_are_lent_as_they_came(rt: HostRuntime) -> Result<(), Fail> {
+fn a_root_and_its_companions_are_kept_as_they_came(rt: HostRuntime) -> Result<(), Fail> {
     let mini = Mini::with_high_currency(rt.alloc())?;
     let tables = checked(rt.alloc(), &mini)?;
     for (c, entry) in [
@@ -84,7 +84,7 @@ fn a_root_and_its_companions_are_lent_as_they_came(rt: HostRuntime) -> Result<()
 }
 
 #[test]
-fn a_tailoring_and_a_reordering_are_lent_as_they_came(rt: HostRuntime) -> Result<(), Fail> {
+fn a_tailoring_and_a_reordering_are_kept_as_they_came(rt: HostRuntime) -> Result<(), Fail> {
     let mini = Mini::with_swapped_leads(rt.alloc())?;
     let tables = checked(rt.alloc(), &mini)?;
     assert_eq!(rt; tables.metadata().bits, 0x29);
@@ -117,7 +117,7 @@ fn a_tailoring_and_a_reordering_are_lent_as_they_came(rt: HostRuntime) -> Result
 }
 
 #[test]
-fn lists_and_ranges_are_lent_as_they_came(rt: HostRuntime) -> Result<(), Fail> {
+fn lists_and_ranges_are_kept_as_they_came(rt: HostRuntime) -> Result<(), Fail> {
     let kana = Mini::with_kana(rt.alloc())?;
     let tables = checked(rt.alloc(), &kana)?;
     let (_trie, ces, _ce32s, _contexts) = tables.root().parts();

@@ -12,13 +12,13 @@ use std::test::Fail;
 fn checked(alloc: Global, mini: &Mini) -> Result<CheckedTables, Fail> {
     let tables = CheckedTables::new(
         alloc,
-        mini.lend_root()?,
-        mini.lend_jamo()?,
-        mini.lend_special_primaries()?,
+        mini.load_root()?,
+        mini.load_jamo()?,
+        mini.load_special_primaries()?,
         mini.metadata,
-        mini.lend_tailoring()?,
-        mini.lend_reordering()?,
-        mini.lend_diacritics()?,
+        mini.load_tailoring()?,
+        mini.load_reordering()?,
+        mini.load_diacritics()?,
     )?;
     Ok(tables)
 }

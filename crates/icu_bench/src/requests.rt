@@ -1,6 +1,6 @@
 //! What a provider is asked for, in which order, and what is made of its refusals.
 ghost use Rattle.std.specs.Prelude.{◌≡◌};
-ghost use Rattle.icu_bench.specs.Answering.{by_request};
+ghost use Rattle.icu_bench.specs.RequestedProvider.{by_request};
 ghost use Rattle.icu_mini.specs.Provider.{loads_of};
 ghost use Rattle.icu_provider.specs.Requests.{request_of};
 
@@ -23,7 +23,7 @@ use std::test::Fail;
 /// A request as the provider saw it: for which table, and whether it named a type.
 type Asked = (DataTable, bool);
 
-/// A provider that answers a request with a type, one for a locale alone, and the empty one each in its way, and writes
+/// A provider that serves a request with a type, one for a locale alone, and the empty one each in its way, and writes
 /// down what it is asked for.
 #[derive(Drop)]
 struct ByRequest<'m> {
@@ -34,7 +34,7 @@ struct ByRequest<'m> {
 }
 
 impl<'m> ByRequest<'m> {
-    /// The same answers to all requests.
+    /// The same tables for all requests.
     fn same(alloc: Global, provider: MiniProvider<'m>) -> ByRequest<'m> {
         ByRequest {
             typed: provider,
@@ -44,7 +44,7 @@ impl<'m> ByRequest<'m> {
         }
     }
 
-    fn answering(&self, request: DataRequest<'_>) -> MiniProvider<'m>
+    fn provider_for(&self, request: DataRequest<'_>) -> MiniProvider<'m>
         ensures { result ≡ by_request self.now.typed self.now.local self.now.empty (request_of request.entry) }
     {
         if request.collation_type.is_some() {
@@ -108,12 +108,12 @@ impl<'m> CollationProvider for ByRequest<'m> {
 
     fn load_metadata(&self, request: DataRequest<'_>) -> Result<CollationMetadata, DataError> {
         self.note(DataTable::Metadata, request.collation_type.is_some());
-        self.answering(request).metadata
+        self.provider_for(request).metadata
     }
 
     fn load_tailoring(&self, request: DataRequest<'_>) -> Result<CollationData<'_>, DataError> {
         self.note(DataTable::Tailoring, request.collation_type.is_some());
-        self.answering(request).tailoring
+        self.provider_for(request).tailoring
     }
 
     fn load_reordering(
@@ -121,7 +121,7 @@ impl<'m> CollationProvider for ByRequest<'m> {
         request: DataRequest<'_>,
     ) -> Result<CollationReordering<'_>, DataError> {
         self.note(DataTable::Reordering, request.collation_type.is_some());
-        self.answering(request).reordering
+        self.provider_for(request).reordering
     }
 
     fn load_diacritics(
@@ -129,7 +129,7 @@ impl<'m> CollationProvider for ByRequest<'m> {
         request: DataRequest<'_>,
     ) -> Result<CollationDiacritics<'_>, DataError> {
         self.note(DataTable::Diacritics, request.collation_type.is_some());
-        self.answering(request).diacritics
+        self.provider_for(request).diacritics
     }
 }
 
@@ -303,10 +303,10 @@ fn tables_are_asked_for_in_turn(rt: HostRuntime) -> Result<(), Fail> {
     let mut mini = Mini::with_swapped_leads(rt.alloc())?;
     'rows: for row in &ROWS {
         mini.metadata.bits = row.bits;
-        let lent = mini.provider();
+        let loaded = mini.provider();
         let all = MiniProvider {
-            tailoring: lent.root,
-            ..lent
+            tailoring: loaded.root,
+            ..loaded
         };
         let mut provider = ByRequest::same(rt.alloc(), all);
         'refused: for (refusing, table, kind) in row.refused {

@@ -13,13 +13,13 @@ use std::test::Fail;
 pub(crate) fn checked(alloc: Global, mini: &Mini) -> Result<CheckedTables, Fail> {
     let tables = CheckedTables::new(
         alloc,
-        mini.lend_root()?,
-        mini.lend_jamo()?,
-        mini.lend_special_primaries()?,
+        mini.load_root()?,
+        mini.load_jamo()?,
+        mini.load_special_primaries()?,
         mini.metadata,
-        mini.lend_tailoring()?,
-        mini.lend_reordering()?,
-        mini.lend_diacritics()?,
+        mini.load_tailoring()?,
+        mini.load_reordering()?,
+        mini.load_diacritics()?,
     )?;
     Ok(tables)
 }
@@ -49,8 +49,8 @@ fn given(
         count.set(count.get().wrapping_add(1));
         c
     });
-    let lent = ElementTables::new(tables);
-    let iterator = CollationElements::new(delegate, lent, numeric_primary, false);
+    let loaded = ElementTables::new(tables);
+    let iterator = CollationElements::new(delegate, loaded, numeric_primary, false);
     read(iterator, elements)?;
     Ok(count.get())
 }

@@ -201,7 +201,7 @@ module _ (list : WeightList) (all : CollatorTables) where
   pub reordering_none : (w : ℕ) → IsWeightBy list Reordering all.tables w → ⊥
   reordering_none w is = is.read.live
 
--- ---- as tables are lent
+-- ---- as tables are returned
 
 on_ok : {X E : Type 0} (A B : Type 0) → (A → B) → (r : Result X E) → OnOk r A → OnOk r B
 on_ok A B f (Ok x) h = f h
@@ -211,35 +211,35 @@ abbrev Found : (ℕ → Type 0) → List ℕ → List ℕ → Type 0
 Found P old new = (w : ℕ) → Contains new w ↔ (Contains old w ⊎ P w)
 
 module _ (s : TableSet) (list : WeightList) where
-  pub lent_root : {X E : Type 0} (r : Result X E) (old new : List ℕ) → OnOk r (Found (IsLiveWeight (weight_at list) false (data_of s.root)) old new) → OnOk r (Adds (IsWeightBy list Root (tables_in s).tables) old new)
+  pub loaded_root : {X E : Type 0} (r : Result X E) (old new : List ℕ) → OnOk r (Found (IsLiveWeight (weight_at list) false (data_of s.root)) old new) → OnOk r (Adds (IsWeightBy list Root (tables_in s).tables) old new)
   unfolding tables_in
-  lent_root r old new = on_ok _ _ (adds_same (IsLiveWeight (weight_at list) false (data_of s.root)) (IsWeightBy list Root (tables_in s).tables) old new (root_same list (tables_in s))) r
+  loaded_root r old new = on_ok _ _ (adds_same (IsLiveWeight (weight_at list) false (data_of s.root)) (IsWeightBy list Root (tables_in s).tables) old new (root_same list (tables_in s))) r
 
-  pub lent_tailoring : (t : CollationData) → s.tailoring ≡ Some t → {X E : Type 0} (r : Result X E) (old new : List ℕ) → OnOk r (Found (IsLiveWeight (weight_at list) true (data_of t)) old new) → OnOk r (Adds (IsWeightBy list Tailoring (tables_in s).tables) old new)
+  pub loaded_tailoring : (t : CollationData) → s.tailoring ≡ Some t → {X E : Type 0} (r : Result X E) (old new : List ℕ) → OnOk r (Found (IsLiveWeight (weight_at list) true (data_of t)) old new) → OnOk r (Adds (IsWeightBy list Tailoring (tables_in s).tables) old new)
   unfolding tables_in
-  lent_tailoring t found r old new =
+  loaded_tailoring t found r old new =
       on_ok _ _ (adds_same (IsLiveWeight (weight_at list) true (data_of t)) (IsWeightBy list Tailoring (tables_in s).tables) old new
       (tailoring_same list (tables_in s) (data_of t) (ap (option_map data_of) found))) r
 
-  pub lent_no_tailoring : s.tailoring ≡ None → (old : List ℕ) → Adds (IsWeightBy list Tailoring (tables_in s).tables) old old
+  pub loaded_no_tailoring : s.tailoring ≡ None → (old : List ℕ) → Adds (IsWeightBy list Tailoring (tables_in s).tables) old old
   unfolding tables_in
-  lent_no_tailoring found old = adds_none (IsWeightBy list Tailoring (tables_in s).tables) old old refl (no_tailoring list (tables_in s) (ap (option_map data_of) found))
+  loaded_no_tailoring found old = adds_none (IsWeightBy list Tailoring (tables_in s).tables) old old refl (no_tailoring list (tables_in s) (ap (option_map data_of) found))
 
-  pub lent_of_jamo : (i e c : ℕ) → e ≡ slice_index (jamo_of s.jamo) i → c ≡ 0x1100 + i → {X E : Type 0} (r : Result X E) (old new : List ℕ)
+  pub loaded_of_jamo : (i e c : ℕ) → e ≡ slice_index (jamo_of s.jamo) i → c ≡ 0x1100 + i → {X E : Type 0} (r : Result X E) (old new : List ℕ)
       → OnOk r (Found (IsWeightAmong (weight_at list) (data_of s.root) c (live_from (data_of s.root) e)) old new) → OnOk r (Adds (IsJamoWeight list (tables_in s) i) old new)
   unfolding tables_in
-  lent_of_jamo i e c is at r old new h =
+  loaded_of_jamo i e c is at r old new h =
       subst (λ e. OnOk r (Found (IsWeightAmong (weight_at list) (data_of s.root) (0x1100 + i) (live_from (data_of s.root) e)) old new)) is
       (subst (λ d. OnOk r (Found (IsWeightAmong (weight_at list) (data_of s.root) d (live_from (data_of s.root) e)) old new)) at h)
 
-  pub lent_jamo : (n : ℕ) → n ≡ 256 → (old new : List ℕ) → Adds (IsBelow (IsJamoWeight list (tables_in s)) n) old new → Adds (IsWeightBy list Jamo (tables_in s).tables) old new
-  lent_jamo n count old new adds =
+  pub loaded_jamo : (n : ℕ) → n ≡ 256 → (old new : List ℕ) → Adds (IsBelow (IsJamoWeight list (tables_in s)) n) old new → Adds (IsWeightBy list Jamo (tables_in s).tables) old new
+  loaded_jamo n count old new adds =
       adds_same (IsBelow (IsJamoWeight list (tables_in s)) 256) (IsWeightBy list Jamo (tables_in s).tables) old new (jamo_same list (tables_in s))
       (subst (λ n. Adds (IsBelow (IsJamoWeight list (tables_in s)) n) old new) count adds)
 
-  pub lent_diacritics : (n : ℕ) → n ≡ length (diacritics_of s.diacritics) → (old new : List ℕ) → Adds (IsBelow (IsDiacriticWeight list (tables_in s)) n) old new → Adds (IsWeightBy list Diacritics (tables_in s).tables) old new
+  pub loaded_diacritics : (n : ℕ) → n ≡ length (diacritics_of s.diacritics) → (old new : List ℕ) → Adds (IsBelow (IsDiacriticWeight list (tables_in s)) n) old new → Adds (IsWeightBy list Diacritics (tables_in s).tables) old new
   unfolding tables_in
-  lent_diacritics n count old new adds = adds_same (IsBelow (IsDiacriticWeight list (tables_in s)) n) (IsWeightBy list Diacritics (tables_in s).tables) old new (diacritics_same list (tables_in s) n count) adds
+  loaded_diacritics n count old new adds = adds_same (IsBelow (IsDiacriticWeight list (tables_in s)) n) (IsWeightBy list Diacritics (tables_in s).tables) old new (diacritics_same list (tables_in s) n count) adds
 
   same_some_weight : (v w : ℕ) → Some v ≡ Some w → v ≡ w
   same_some_weight v w h = cc
@@ -250,18 +250,18 @@ module _ (s : TableSet) (list : WeightList) where
   abbrev diacritic_weight : ℕ → Option ℕ
   diacritic_weight i = weight_at list (of_secondary (slice_index (diacritics_of s.diacritics) i))
 
-  pub lent_diacritic : (i v : ℕ) → is_replaced_index i ≡ false → diacritic_weight i ≡ Some v → (old new : List ℕ) → new ≡ old ++ v ∷ [] → Adds (IsDiacriticWeight list (tables_in s) i) old new
+  pub loaded_diacritic : (i v : ℕ) → is_replaced_index i ≡ false → diacritic_weight i ≡ Some v → (old new : List ℕ) → new ≡ old ++ v ∷ [] → Adds (IsDiacriticWeight list (tables_in s) i) old new
   unfolding tables_in
-  lent_diacritic i v kept weighs old new is =
+  loaded_diacritic i v kept weighs old new is =
       adds_one (IsDiacriticWeight list (tables_in s) i) old new v is (record { kept = kept; weighs = weighs }) (λ w p. same_some_weight v w (sym weighs ∙ p.weighs))
 
-  pub lent_no_diacritic : (i : ℕ) → diacritic_weight i ≡ None → (old : List ℕ) → Adds (IsDiacriticWeight list (tables_in s) i) old old
+  pub loaded_no_diacritic : (i : ℕ) → diacritic_weight i ≡ None → (old : List ℕ) → Adds (IsDiacriticWeight list (tables_in s) i) old old
   unfolding tables_in
-  lent_no_diacritic i weighs old = adds_none (IsDiacriticWeight list (tables_in s) i) old old refl (λ w p. none_some_weight w (sym weighs ∙ p.weighs))
+  loaded_no_diacritic i weighs old = adds_none (IsDiacriticWeight list (tables_in s) i) old old refl (λ w p. none_some_weight w (sym weighs ∙ p.weighs))
 
   true_false : (b : Bool) → b ≡ true → b ≡ false → ⊥
   true_false true h k = cc
   true_false false h k = cc
 
-  pub lent_replaced : (i : ℕ) → is_replaced_index i ≡ true → (old : List ℕ) → Adds (IsDiacriticWeight list (tables_in s) i) old old
-  lent_replaced i replaced old = adds_none (IsDiacriticWeight list (tables_in s) i) old old refl (λ w p. true_false _ replaced p.kept)
+  pub loaded_replaced : (i : ℕ) → is_replaced_index i ≡ true → (old : List ℕ) → Adds (IsDiacriticWeight list (tables_in s) i) old old
+  loaded_replaced i replaced old = adds_none (IsDiacriticWeight list (tables_in s) i) old old refl (λ w p. true_false _ replaced p.kept)

@@ -95,9 +95,9 @@ has_implicit (e ∷ es) h =
 -- ---- table by table
 
 module _ (s : TableSet) (c e : ℕ) where
-  pub lent_root : IsScalar c → e ≡ (data_of s.root).value c → list_any is_for_implicit (live_from (data_of s.root) e) ≡ true → IsImplicitBy Root (tables_in s).tables c
+  pub loaded_root : IsScalar c → e ≡ (data_of s.root).value c → list_any is_for_implicit (live_from (data_of s.root) e) ≡ true → IsImplicitBy Root (tables_in s).tables c
   unfolding tables_in
-  lent_root scalar is h =
+  loaded_root scalar is h =
       let found = has_implicit (live_from (data_of s.root) e) h in
       record {
         home = data_of s.root;
@@ -109,9 +109,9 @@ module _ (s : TableSet) (c e : ℕ) where
   in_range : 0x1100 ≤ c → c < 0x1200 → IsTrue (is_jamo c)
   in_range low high = grind (arith, nat_tests)
 
-  pub lent_jamo : 0x1100 ≤ c → c < 0x1200 → e ≡ slice_index (jamo_of s.jamo) (c - 0x1100) → list_any is_for_implicit (live_from (data_of s.root) e) ≡ true → IsImplicitBy Jamo (tables_in s).tables c
+  pub loaded_jamo : 0x1100 ≤ c → c < 0x1200 → e ≡ slice_index (jamo_of s.jamo) (c - 0x1100) → list_any is_for_implicit (live_from (data_of s.root) e) ≡ true → IsImplicitBy Jamo (tables_in s).tables c
   unfolding tables_in
-  lent_jamo low high is h =
+  loaded_jamo low high is h =
       let found = has_implicit (live_from (data_of s.root) e) h in
       record {
         home = data_of s.root;
@@ -124,10 +124,10 @@ module _ (s : TableSet) (c e : ℕ) where
   not_fallback false es x h has = has
   not_fallback true es x h has = cc
 
-  pub lent_tailoring : (t : CollationData) → s.tailoring ≡ Some t → IsScalar c → e ≡ (data_of t).value c → (e == 0xC0) ≡ false → list_any is_for_implicit (live_from (data_of t) e) ≡ true
+  pub loaded_tailoring : (t : CollationData) → s.tailoring ≡ Some t → IsScalar c → e ≡ (data_of t).value c → (e == 0xC0) ≡ false → list_any is_for_implicit (live_from (data_of t) e) ≡ true
       → IsImplicitBy Tailoring (tables_in s).tables c
   unfolding tables_in
-  lent_tailoring t found scalar is other h =
+  loaded_tailoring t found scalar is other h =
       let has = has_implicit (live_from (data_of t) e) h in
       record {
         home = data_of t;

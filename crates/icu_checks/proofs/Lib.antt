@@ -4,7 +4,7 @@ pub mod CommonLemmas
 pub mod LeadMeetings
 pub mod EntryViolationLemmas
 pub mod LiveViolationLemmas
-pub mod LentViolationLemmas
+pub mod LoadedViolationLemmas
 pub mod ViolationPairs
 pub mod CollectLemmas
 pub mod LevelLemmas

@@ -10,7 +10,7 @@ use Rattle.icu_checks.specs.declared.check.listed_weights.ListedWeights.{ListedW
 use Rattle.icu_checks.specs.declared.check.weights.WeightList.TheVariants.{Primaries, Secondaries, Tertiaries, TertiaryElements, WithSecondary}
 use Rattle.icu_checks.specs.inner.Weights.{IsWeightBy, Adds}
 use Rattle.icu_checks.specs.inner.ListedWeights.{HasNone, AddsEach, HasSame, HoldsEach}
-use Rattle.icu_checks.proofs.CollectLemmas.{lent_no_tailoring}
+use Rattle.icu_checks.proofs.CollectLemmas.{loaded_no_tailoring}
 use Rattle.icu_checks.proofs.WeightListLemmas.{holds_level}
 
 -- what was added to each list was added to all
@@ -28,11 +28,11 @@ each_on table tables old new (Err e) primaries secondaries tertiaries alone besi
 -- without a tailoring nothing is added
 pub no_tailoring : (s : TableSet) (lists : ListedWeights) → s.tailoring ≡ None → AddsEach Tailoring (tables_in s).tables lists lists
 no_tailoring s lists none = record {
-  primaries = lent_no_tailoring s Primaries none lists.primaries.items;
-  secondaries = lent_no_tailoring s Secondaries none lists.secondaries.items;
-  tertiaries = lent_no_tailoring s Tertiaries none lists.tertiaries.items;
-  tertiary_elements = lent_no_tailoring s TertiaryElements none lists.tertiary_elements.items;
-  with_secondary = lent_no_tailoring s WithSecondary none lists.with_secondary.items;
+  primaries = loaded_no_tailoring s Primaries none lists.primaries.items;
+  secondaries = loaded_no_tailoring s Secondaries none lists.secondaries.items;
+  tertiaries = loaded_no_tailoring s Tertiaries none lists.tertiaries.items;
+  tertiary_elements = loaded_no_tailoring s TertiaryElements none lists.tertiary_elements.items;
+  with_secondary = loaded_no_tailoring s WithSecondary none lists.with_secondary.items;
 }
 
 -- after the four tables each list holds all its weights

@@ -82,8 +82,8 @@ module _ (s : TableSet) (r : CollationReordering) (found : s.reordering ≡ Some
   leads : (p : ℕ) → lead_byte (reorder (tables_in s) p) ≡ lead_byte (reordered (reordering_of r) p)
   leads p = ap lead_byte (reorders p)
 
-  pub lent_alike : (ws : List ℕ) → CompressAlike ws (special_of s.special) (reordering_of r) → AreAlike (tables_in s) ws
-  lent_alike ws alike v w in_v in_w same =
+  pub loaded_alike : (ws : List ℕ) → CompressAlike ws (special_of s.special) (reordering_of r) → AreAlike (tables_in s) ws
+  loaded_alike ws alike v w in_v in_w same =
       subst (λ special. is_compressible special (lead_byte v) ≡ is_compressible special (lead_byte w)) (sym same_special)
       (alike v w in_v in_w (sym (leads v) ∙ same ∙ leads w))
 
@@ -91,8 +91,8 @@ module _ (s : TableSet) (r : CollationReordering) (found : s.reordering ≡ Some
   unlike true b p q e = cc
   unlike false b p q e = cc
 
-  pub lent_apart : (ws : List ℕ) → HoldsLevel Primaries (tables_in s).tables ws → CompressApart ws (special_of s.special) (reordering_of r) → MeetsBy (conditions.Pair Compression) Reordering (tables_in s) → ⊥
-  lent_apart ws held apart meets =
+  pub loaded_apart : (ws : List ℕ) → HoldsLevel Primaries (tables_in s).tables ws → CompressApart ws (special_of s.special) (reordering_of r) → MeetsBy (conditions.Pair Compression) Reordering (tables_in s) → ⊥
+  loaded_apart ws held apart meets =
       let v = apart.compressed in
       let w = apart.other in
       let of_v = held.only v apart.has_compressed in

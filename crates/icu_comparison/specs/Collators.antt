@@ -8,7 +8,7 @@ use Rattle.icu_provider.specs.Loads.{Loads}
 use Rattle.icu_provider.specs.Requests.{Request}
 use Rattle.icu_checks.specs.Checked.{checked_tables}
 use Rattle.icu_provider.specs.CollatorTables.{CollatorTables}
-use Rattle.icu_provider.specs.LentTables.{lent_tables}
+use Rattle.icu_provider.specs.LoadedTables.{loaded_tables}
 use Rattle.icu_comparison.specs.declared.collator.Collator.{Collator}
 use Rattle.icu_comparison.specs.declared.collator.CollatorBorrowed.{CollatorBorrowed}
 
@@ -20,7 +20,7 @@ request_in p = record { locale = p.locale.now; collation_type = option_map (λ t
 
 -- the tables that a provider returns for them, or the first refusal that no further request mends
 abbrev pub loaded_for : Loads → CollatorPreferences → Result CollatorTables DataError
-loaded_for loads preferences = lent_tables loads (request_in preferences)
+loaded_for loads preferences = loaded_tables loads (request_in preferences)
 
 -- ---- what a collator has
 

@@ -99,7 +99,7 @@ impl<'a> CollatorBorrowed<'a> {
     }
 
     /// Whether a text may follow others that has this front: it may be cut off before its first character, and where
-    /// elements may be variable its first one has a primary weight. False is right of any text.
+    /// elements may be variable its first one has a primary weight. False says nothing.
     #[inline]
     fn begins_tail(&self, front: Front) -> bool
         ensures { IsTrue result → IsTrue front.is_safe

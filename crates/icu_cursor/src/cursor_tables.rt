@@ -93,7 +93,7 @@ impl<'d> CursorTables<'d> {
         }
     }
 
-    /// Whether a text may be cut before this character. False is right of any character.
+    /// Whether a text may be cut before this character. False says nothing.
     #[tactic(auto, unfolding(crate::specs::Cursors::cursor_reading))]
     pub(crate) fn is_safe(&self, c: char) -> bool
         ensures { IsTrue result → MayBeCut (cursor_reading self.now) c }

@@ -14,8 +14,8 @@ use icu_shortcuts::{Letter, LetterKind};
 /// often than this.
 const MARKS_AHEAD: u32 = 6;
 
-/// Whether the classes of the marks that a text begins with rise from this one, and are few. False is right of any
-/// text.
+/// Whether the classes of the marks that a text begins with rise from this one, and are few. False says
+/// nothing.
 fn rises<T: EncodedText>(tables: &CursorTables<'_>, class: u8, text: T) -> bool
     ensures { IsTrue result → Rises class (T.text text) }
 {
@@ -40,7 +40,7 @@ fn rises<T: EncodedText>(tables: &CursorTables<'_>, class: u8, text: T) -> bool
     false
 }
 
-/// Whether a text ends, or may be cut before its first character. False is right of any text.
+/// Whether a text ends, or may be cut before its first character. False says nothing.
 pub(crate) fn begins_safely<T: EncodedText>(tables: &CursorTables<'_>, text: T) -> bool
     ensures { IsTrue result → BeginsSafely (cursor_reading tables.now) (T.text text) }
 {
@@ -50,8 +50,8 @@ pub(crate) fn begins_safely<T: EncodedText>(tables: &CursorTables<'_>, text: T) 
     }
 }
 
-/// Whether a letter gives its own elements before a text, and changes nothing of the text's. False is right of any
-/// letter.
+/// Whether a letter gives its own elements before a text, and changes nothing of the text's. False says
+/// nothing.
 pub(crate) fn stands_before<T: EncodedText>(
     tables: &CursorTables<'_>,
     letter: &Letter,

@@ -19,7 +19,7 @@ use icu_provider::{
 };
 use std::alloc::{AllocError, Global};
 
-/// The tables of Mini, a small collation for tests, or of a variant of it. It owns them and lends each in the form in
+/// The tables of Mini, a small collation for tests, or of a variant of it. It owns them and returns each in the form in
 /// which a collator takes it. The fields are public, so that a test may damage a table.
 #[derive(Debug, Drop)]
 pub struct Mini {
@@ -76,19 +76,19 @@ impl Mini {
     }
 
     /// The root as a collator takes it, or the kind of a condition that it fails.
-    pub fn lend_root(&self) -> Result<CollationData<'_>, DataErrorKind>
+    pub fn load_root(&self) -> Result<CollationData<'_>, DataErrorKind>
         ensures accepts { IsOk result ↔ MayBeData self.now.root }
         ensures kind { IfErr result (FailsVectors self.now.root) }
-        ensures lends { IfOk result (λ d. data_of d ≡ vectors_data self.now.root) }
+        ensures holds { IfOk result (λ d. data_of d ≡ vectors_data self.now.root) }
     {
         self.root.as_data()
     }
 
     /// The tailoring, if there is one, or the kind of a condition that it fails.
-    pub fn lend_tailoring(&self) -> Result<Option<CollationData<'_>>, DataErrorKind>
+    pub fn load_tailoring(&self) -> Result<Option<CollationData<'_>>, DataErrorKind>
         ensures accepts { IsOk result ↔ IfSome self.now.tailoring MayBeData }
         ensures kind { IfErr result (λ k. IfSome self.now.tailoring (λ d. FailsVectors d k)) }
-        ensures lends { IfOk result (λ d. option_map data_of d ≡ option_map vectors_data self.now.tailoring) }
+        ensures holds { IfOk result (λ d. option_map data_of d ≡ option_map vectors_data self.now.tailoring) }
     {
         match &self.tailoring {
             None => Ok(None),
@@ -97,41 +97,41 @@ impl Mini {
     }
 
     /// The entries of the jamo as a collator takes them, or the kind of a condition that they fail.
-    pub fn lend_jamo(&self) -> Result<CollationJamo<'_>, DataErrorKind>
+    pub fn load_jamo(&self) -> Result<CollationJamo<'_>, DataErrorKind>
         ensures accepts { IsOk result ↔ IsJamo self.now.jamo.items }
         ensures kind { IfErr result (FailsJamo self.now.jamo.items) }
-        ensures lends { IfOk result (λ j. jamo_of j ≡ self.now.jamo.items) }
+        ensures holds { IfOk result (λ j. jamo_of j ≡ self.now.jamo.items) }
     {
         CollationJamo::new(self.jamo.as_slice())
     }
 
     /// The secondary weights of the diacritics as a collator takes them, or the kind of a condition that they fail.
-    pub fn lend_diacritics(&self) -> Result<CollationDiacritics<'_>, DataErrorKind>
+    pub fn load_diacritics(&self) -> Result<CollationDiacritics<'_>, DataErrorKind>
         ensures accepts { IsOk result ↔ IsDiacritics self.now.diacritics.items }
         ensures kind { IfErr result (FailsDiacritics self.now.diacritics.items) }
-        ensures lends { IfOk result (λ d. diacritics_of d ≡ self.now.diacritics.items) }
+        ensures holds { IfOk result (λ d. diacritics_of d ≡ self.now.diacritics.items) }
     {
         CollationDiacritics::new(self.diacritics.as_slice())
     }
 
     /// The special primary weights as a collator takes them, or the kind of a condition that they fail.
-    pub fn lend_special_primaries(&self) -> Result<CollationSpecialPrimaries<'_>, DataErrorKind>
+    pub fn load_special_primaries(&self) -> Result<CollationSpecialPrimaries<'_>, DataErrorKind>
         ensures accepts { IsOk result ↔ IsSpecialPrimaries self.now.last_primaries.items self.now.numeric_primary }
         ensures kind { IfErr result (FailsSpecial self.now.last_primaries.items self.now.numeric_primary) }
-        ensures lends { IfOk result (λ s. special_of s ≡ special_held self.now) }
+        ensures holds { IfOk result (λ s. special_of s ≡ special_held self.now) }
     {
         CollationSpecialPrimaries::new(self.last_primaries.as_slice(), self.numeric_primary)
     }
 
     /// The reordering, if there is one, or the kind of a condition that it fails.
-    pub fn lend_reordering(&self) -> Result<Option<CollationReordering<'_>>, DataErrorKind>
+    pub fn load_reordering(&self) -> Result<Option<CollationReordering<'_>>, DataErrorKind>
         ensures accepts { IsOk result ↔ IfSome self.now.reordering HasAllLeads }
         ensures kind { IfErr result (λ k. k ≡ DataErrorKind.Length) }
-        ensures lends { IfOk result (λ r. option_map reordering_of r ≡ option_map reordering_held self.now.reordering) }
+        ensures holds { IfOk result (λ r. option_map reordering_of r ≡ option_map reordering_held self.now.reordering) }
     {
         match &self.reordering {
             None => Ok(None),
-            Some(reordering) => Ok(Some(reordering.lend()?)),
+            Some(reordering) => Ok(Some(reordering.load()?)),
         }
     }
 }

@@ -1,4 +1,4 @@
-//! Mini's tables as a provider lends them.
+//! Mini's tables as a provider returns them.
 ghost use Rattle.std.specs.Prelude.{◌≡◌};
 ghost use Rattle.icu_provider.specs.Diacritics.{FailsDiacritics, IsDiacritics};
 ghost use Rattle.icu_provider.specs.Jamo.{FailsJamo, IsJamo};
@@ -16,7 +16,7 @@ use icu_provider::{
 };
 
 /// A provider that returns the same tables for every locale and type. The fields are public, so that a test may have it
-/// refuse a table, or lend another one.
+/// refuse a table, or return another one.
 #[derive(Debug, Clone, Copy)]
 pub struct MiniProvider<'m> {
     /// The root.
@@ -85,12 +85,12 @@ fn refusal(table: DataTable, kind: DataErrorKind) -> DataError
 impl Mini {
     ghost use Rattle.icu_mini.specs.Mini.{special_held};
     ghost use Rattle.icu_mini.specs.ReorderingData.{reordering_held, HasAllLeads};
-    ghost use Rattle.icu_mini.specs.Provider.{IsLent, IsLentIfAny, LendsMini, Names};
+    ghost use Rattle.icu_mini.specs.Provider.{IsLoaded, IsLoadedIfAny, LoadsMini, Names};
 
     /// A provider of these tables, for every locale and type. A table that fails a condition of its own is refused with
     /// the kind of one; a tailoring and a reordering that there isn't are `Absent`.
     pub fn provider(&self) -> MiniProvider<'_>
-        ensures { LendsMini self.now result }
+        ensures { LoadsMini self.now result }
     {
         MiniProvider {
             root: self.named_root(),
@@ -104,35 +104,35 @@ impl Mini {
     }
 
     fn named_root(&self) -> Result<CollationData<'_>, DataError>
-        ensures { IsLent data_of (vectors_data self.now.root) (MayBeData self.now.root) (Names DataTable.Root (FailsVectors self.now.root)) result }
+        ensures { IsLoaded data_of (vectors_data self.now.root) (MayBeData self.now.root) (Names DataTable.Root (FailsVectors self.now.root)) result }
     {
-        match self.lend_root() {
+        match self.load_root() {
             Ok(root) => Ok(root),
             Err(kind) => Err(refusal(DataTable::Root, kind)),
         }
     }
 
     fn named_jamo(&self) -> Result<CollationJamo<'_>, DataError>
-        ensures { IsLent jamo_of self.now.jamo.items (IsJamo self.now.jamo.items) (Names DataTable.Jamo (FailsJamo self.now.jamo.items)) result }
+        ensures { IsLoaded jamo_of self.now.jamo.items (IsJamo self.now.jamo.items) (Names DataTable.Jamo (FailsJamo self.now.jamo.items)) result }
     {
-        match self.lend_jamo() {
+        match self.load_jamo() {
             Ok(jamo) => Ok(jamo),
             Err(kind) => Err(refusal(DataTable::Jamo, kind)),
         }
     }
 
     fn named_special_primaries(&self) -> Result<CollationSpecialPrimaries<'_>, DataError>
-        ensures { IsLent special_of (special_held self.now) (IsSpecialPrimaries self.now.last_primaries.items self.now.numeric_primary)
+        ensures { IsLoaded special_of (special_held self.now) (IsSpecialPrimaries self.now.last_primaries.items self.now.numeric_primary)
             (Names DataTable.SpecialPrimaries (FailsSpecial self.now.last_primaries.items self.now.numeric_primary)) result }
     {
-        match self.lend_special_primaries() {
+        match self.load_special_primaries() {
             Ok(special) => Ok(special),
             Err(kind) => Err(refusal(DataTable::SpecialPrimaries, kind)),
         }
     }
 
     fn named_tailoring(&self) -> Result<CollationData<'_>, DataError>
-        ensures { IsLentIfAny data_of vectors_data DataTable.Tailoring MayBeData FailsVectors self.now.tailoring result }
+        ensures { IsLoadedIfAny data_of vectors_data DataTable.Tailoring MayBeData FailsVectors self.now.tailoring result }
     {
         let Some(tailoring) = &self.tailoring else {
             return Err(refusal(DataTable::Tailoring, DataErrorKind::Absent));
@@ -144,21 +144,21 @@ impl Mini {
     }
 
     fn named_reordering(&self) -> Result<CollationReordering<'_>, DataError>
-        ensures { IsLentIfAny reordering_of reordering_held DataTable.Reordering HasAllLeads (λ r k. k ≡ DataErrorKind.Length) self.now.reordering result }
+        ensures { IsLoadedIfAny reordering_of reordering_held DataTable.Reordering HasAllLeads (λ r k. k ≡ DataErrorKind.Length) self.now.reordering result }
     {
         let Some(reordering) = &self.reordering else {
             return Err(refusal(DataTable::Reordering, DataErrorKind::Absent));
         };
-        match reordering.lend() {
+        match reordering.load() {
             Ok(reordering) => Ok(reordering),
             Err(kind) => Err(refusal(DataTable::Reordering, kind)),
         }
     }
 
     fn named_diacritics(&self) -> Result<CollationDiacritics<'_>, DataError>
-        ensures { IsLent diacritics_of self.now.diacritics.items (IsDiacritics self.now.diacritics.items) (Names DataTable.Diacritics (FailsDiacritics self.now.diacritics.items)) result }
+        ensures { IsLoaded diacritics_of self.now.diacritics.items (IsDiacritics self.now.diacritics.items) (Names DataTable.Diacritics (FailsDiacritics self.now.diacritics.items)) result }
     {
-        match self.lend_diacritics() {
+        match self.load_diacritics() {
             Ok(diacritics) => Ok(diacritics),
             Err(kind) => Err(refusal(DataTable::Diacritics, kind)),
         }

@@ -19,10 +19,10 @@ impl ReorderingData {
     ghost use Rattle.icu_mini.specs.ReorderingData.{reordering_held, HasAllLeads};
 
     /// The reordering as a collator takes it, or the kind of a condition that it fails.
-    pub fn lend(&self) -> Result<CollationReordering<'_>, DataErrorKind>
+    pub fn load(&self) -> Result<CollationReordering<'_>, DataErrorKind>
         ensures accepts { IsOk result ↔ HasAllLeads self.now }
         ensures kind { IfErr result (λ k. k ≡ DataErrorKind.Length) }
-        ensures lends { IfOk result (λ r. reordering_of r ≡ reordering_held self.now) }
+        ensures holds { IfOk result (λ r. reordering_of r ≡ reordering_held self.now) }
     {
         CollationReordering::new(
             self.min_high_no_reorder,

@@ -9,6 +9,6 @@ pub mod Requests
 pub mod Loads
 pub mod StoredTables
 pub mod CollatorTables
-pub mod LentTables
+pub mod LoadedTables
 pub mod TableSets
 pub mod OwnedTables

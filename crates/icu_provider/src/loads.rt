@@ -1,11 +1,11 @@
-//! The tables of a collation, as a provider lends them.
+//! The tables of a collation, as a provider returns them.
 ghost use Rattle.std.specs.Prelude.{◌≡◌, Some, option_map};
 ghost use Rattle.icu_provider.specs.Loads.{answer};
 ghost use Rattle.icu_provider.specs.Metadata.{has_reordering, is_tailored};
 ghost use Rattle.icu_provider.specs.Requests.{request_of, without_type};
 ghost use Rattle.icu_provider.specs.StoredTables.{diacritics_of, reordering_of};
 ghost use Rattle.icu_data.specs.StoredData.{data_of};
-ghost use Rattle.icu_provider.specs.LentTables.{diacritics_request, if_named, lent_tables, typed_first};
+ghost use Rattle.icu_provider.specs.LoadedTables.{diacritics_request, if_named, loaded_tables, typed_first};
 ghost use Rattle.icu_provider.specs.TableSets.{tables_in};
 
 use crate::diacritics::CollationDiacritics;
@@ -121,15 +121,15 @@ fn load_diacritics<'p, P: CollationProvider>(
 /// Metadata, tailoring and reordering are asked for with locale and type, and after a refusal with the locale alone;
 /// where no type is given they are asked for once. A tailoring or a reordering is asked for only where the metadata
 /// says that there is one. Diacritics of the collation's own are asked for with locale and type, once, and others by
-/// the empty request. The last refusal of the first table that isn't lent is answered as it is. The tables aren't
+/// the empty request. The last refusal of the first table that isn't returned is returned as it is. The tables aren't
 /// checked.
-#[tactic(auto, unfolding(crate::specs::TableSets::tables_in, crate::specs::LentTables::lent_tables))]
+#[tactic(auto, unfolding(crate::specs::TableSets::tables_in, crate::specs::LoadedTables::loaded_tables))]
 pub fn load_tables<'p, P: CollationProvider>(
     provider: &'p P,
     locale: &str,
     collation_type: Option<&str>,
 ) -> Result<TableSet<'p>, DataError>
-    ensures { answer tables_in result ≡ lent_tables (P.loads provider.now) (record { locale = locale.now; collation_type = option_map (λ t. t.now) collation_type.entry }) }
+    ensures { answer tables_in result ≡ loaded_tables (P.loads provider.now) (record { locale = locale.now; collation_type = option_map (λ t. t.now) collation_type.entry }) }
 {
     let request = DataRequest {
         locale,

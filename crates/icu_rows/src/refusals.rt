@@ -13,7 +13,7 @@ use std::alloc::Global;
 pub(crate) fn refusals(alloc: Global, row: &str) -> Option<String> {
     let (_name, written) = row.split_once('|')?;
     let mini = tables(alloc, written)?;
-    let alone = refusal(alloc, lend_all(&mini).err())?;
+    let alone = refusal(alloc, load_all(&mini).err())?;
     let together = refusal(alloc, checked(alloc, &mini).err())?;
     format!(in alloc; "{alone}, {together}").ok()
 }
@@ -27,15 +27,15 @@ fn refusal(alloc: Global, refusal: Option<DataError>) -> Option<String> {
 }
 
 /// A refusal's table and kind.
-fn of_table<T>(table: DataTable, lent: Result<T, DataErrorKind>) -> Result<T, DataError> {
-    match lent {
-        Ok(lent) => Ok(lent),
+fn of_table<T>(table: DataTable, loaded: Result<T, DataErrorKind>) -> Result<T, DataError> {
+    match loaded {
+        Ok(loaded) => Ok(loaded),
         Err(kind) => Err(DataError { table, kind }),
     }
 }
 
 /// A root or a tailoring without the check of its entries.
-fn lend_unchecked(held: &DataVectors) -> Result<CollationData<'_>, DataErrorKind> {
+fn load_unchecked(held: &DataVectors) -> Result<CollationData<'_>, DataErrorKind> {
     let trie = CodePointTable::new(held.blocks.as_slice(), held.values.as_slice())?;
     let contexts = ContextTable::new(
         held.contexts.as_slice(),
@@ -45,9 +45,9 @@ fn lend_unchecked(held: &DataVectors) -> Result<CollationData<'_>, DataErrorKind
     Ok(CollationData::new_unchecked(trie, held.ces.as_slice(), held.ce32s.as_slice(), contexts))
 }
 
-fn lend_tailoring_unchecked(mini: &Mini) -> Result<Option<CollationData<'_>>, DataErrorKind> {
+fn load_tailoring_unchecked(mini: &Mini) -> Result<Option<CollationData<'_>>, DataErrorKind> {
     match &mini.tailoring {
-        Some(tailoring) => Ok(Some(lend_unchecked(tailoring)?)),
+        Some(tailoring) => Ok(Some(load_unchecked(tailoring)?)),
         None => Ok(None),
     }
 }
@@ -60,26 +60,26 @@ fn set<'m>(
 ) -> Result<TableSet<'m>, DataError> {
     Ok(TableSet {
         root: of_table(DataTable::Root, root)?,
-        jamo: of_table(DataTable::Jamo, mini.lend_jamo())?,
-        special: of_table(DataTable::SpecialPrimaries, mini.lend_special_primaries())?,
+        jamo: of_table(DataTable::Jamo, mini.load_jamo())?,
+        special: of_table(DataTable::SpecialPrimaries, mini.load_special_primaries())?,
         metadata: mini.metadata,
         tailoring: of_table(DataTable::Tailoring, tailoring)?,
-        reordering: of_table(DataTable::Reordering, mini.lend_reordering())?,
-        diacritics: of_table(DataTable::Diacritics, mini.lend_diacritics())?,
+        reordering: of_table(DataTable::Reordering, mini.load_reordering())?,
+        diacritics: of_table(DataTable::Diacritics, mini.load_diacritics())?,
     })
 }
 
 /// The tables, each checked by itself.
-fn lend_all(mini: &Mini) -> Result<TableSet<'_>, DataError> {
-    set(mini, mini.lend_root(), mini.lend_tailoring())
+fn load_all(mini: &Mini) -> Result<TableSet<'_>, DataError> {
+    set(mini, mini.load_root(), mini.load_tailoring())
 }
 
 /// The tables checked together, the entries of the root and the tailoring not by themselves before.
 fn checked(alloc: Global, mini: &Mini) -> Result<CheckedTables, DataError> {
     let set = set(
         mini,
-        lend_unchecked(&mini.root),
-        lend_tailoring_unchecked(mini),
+        load_unchecked(&mini.root),
+        load_tailoring_unchecked(mini),
     )?;
     CheckedTables::new(
         alloc,

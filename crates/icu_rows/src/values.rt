@@ -66,12 +66,12 @@ fn part<T>(items: &[T], start: u32, len: u32) -> Option<&[T]> {
 }
 
 fn reordered(alloc: Global, mini: &Mini, primary: u32) -> Option<String> {
-    let reordering = mini.lend_reordering().ok()??;
+    let reordering = mini.load_reordering().ok()??;
     format!(in alloc; "{:08X}", reordering.reorder(primary)).ok()
 }
 
 fn special_value(alloc: Global, mini: &Mini, words: &[&str]) -> Option<String> {
-    let special = mini.lend_special_primaries().ok()?;
+    let special = mini.load_special_primaries().ok()?;
     match words {
         ["compressible", lead] => {
             format!(in alloc; "{}", special.is_compressible(number8(lead)?)).ok()

@@ -72,7 +72,7 @@ fn begins_contractions(places: &SafePlaces<'_>, c: char) -> bool
 }
 
 /// Whether a character's decomposition begins with one that begins contractions, and what stands before it changes
-/// nothing of what it gives at the end of a text. False is right of any character.
+/// nothing of what it gives at the end of a text. False says nothing.
 #[tactic(auto, unfolding(crate::specs::SafeTables::safe_reading))]
 fn is_base(places: &SafePlaces<'_>, c: char, letter: &Letter) -> bool
     requires { IsLetter (safe_reading places.now) c letter.now }

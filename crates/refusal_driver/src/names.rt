@@ -16,7 +16,10 @@ const NAMES: [(&str, &str); 7] = [
     ("Résumé", "résumé"),
     // Nothing.
     ("résumé", "re\u{301}sume\u{301}"),
-    ("\u{D55C}\u{AE00}", "\u{1112}\u{1161}\u{11AB}\u{1100}\u{1173}\u{11AF}"),
+    (
+        "\u{D55C}\u{AE00}",
+        "\u{1112}\u{1161}\u{11AB}\u{1100}\u{1173}\u{11AF}",
+    ),
     // A primary weight of the last syllable.
     ("\u{D55C}\u{AD6D}", "\u{D55C}\u{AE00}"),
 ];
@@ -43,7 +46,11 @@ fn write_keys(rt: &HostRuntime, collator: &Collator) -> Result<(), Stop> {
 
 /// Compares texts that are read with what follows them: to hold that, something is allocated.
 fn compare_pieces(rt: &HostRuntime, collator: &Collator) -> Result<(), Stop> {
-    print_order(rt, collator, Texts::Characters("b\u{E1}\u{323}", "b\u{1EA1}"))
+    print_order(
+        rt,
+        collator,
+        Texts::Characters("b\u{E1}\u{323}", "b\u{1EA1}"),
+    )
 }
 
 /// Runs one of the parts whose numbers of allocations are compared: a collator alone, names, their keys, and texts that

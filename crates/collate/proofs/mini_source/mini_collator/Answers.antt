@@ -1,15 +1,15 @@
--- What Mini lends is what the collator keeps, and the settings are those that its metadata leaves. What is refused is
+-- What Mini returns is what the collator keeps, and the settings are those that its metadata leaves. What is refused is
 -- memory, or tables that fail a condition.
 use Rattle.std.proofs.Common.{◌≡◌, Some, ap}
 use Rattle.icu_entries.specs.declared.error.DataErrorKind.TheVariants.{NoMemory}
 use Rattle.icu_provider.specs.CollatorTables.{CollatorTables}
 use Rattle.icu_checks.specs.GoodTables.{IsGoodTables}
-use Rattle.icu_provider.specs.LentTables.{lent_tables}
+use Rattle.icu_provider.specs.LoadedTables.{loaded_tables}
 use Rattle.icu_mini.specs.Provider.{loads_of}
 use Rattle.icu_options.specs.declared.options.CollatorOptions.{CollatorOptions}
 use Rattle.icu_comparison.specs.Collators.{request_in}
 use Rattle.collate.specs.Refusals.{IsForCause, mini_refuses}
-use Rattle.collate.proofs.MiniLemmas.{mini-lent}
+use Rattle.collate.proofs.MiniLemmas.{mini-loaded}
 use Rattle.collate.proofs.RefusalLemmas.{of_ok, refusal_says}
 use Rattle.collate.proofs.SettingLemmas.{mini-compares}
 use Rattle.collate.proofs.mini_source.mini_collator.Goals as goal
@@ -21,7 +21,7 @@ returns-in-Ok-clause-compares c =
       m,
       mini,
       mini-compares m c.args.strength _ _ _ c.default-2.result
-          (mini-lent m c.provider.result (request_in c.default-2.result) _ mini c.provider.ensures c.in-Ok.ensures.keeps)
+          (mini-loaded m c.provider.result (request_in c.default-2.result) _ mini c.provider.ensures c.in-Ok.ensures.keeps)
           (ap (λ (o : CollatorOptions). record o { strength = Some c.args.strength }) c.default.ensures) c.default-2.ensures c.in-Ok.ensures.settings,
     )
 
@@ -37,8 +37,8 @@ returns-clause-refused c =
         provider = provider;
         request = request;
         mini = c.in_ok-mini.ensures;
-        lends = c.provider.ensures;
-        fails = λ all lent good. of_ok fails (lent_tables (loads_of provider) request) all c.in-Err.ensures.exact lent h.0 good;
+        holds = c.provider.ensures;
+        fails = λ all loaded good. of_ok fails (loaded_tables (loads_of provider) request) all c.in-Err.ensures.exact loaded h.0 good;
       },
       h.1,
     )) _ c.refused.ensures

@@ -13,11 +13,11 @@ pub returns-in_ok-from_slice-in-Compare-clause-answer : goal.returns-in_ok-from_
 returns-in_ok-from_slice-in-Compare-clause-answer g c =
     let order = c.in_ok-order-in-Compare.ensures.order in
     let collator = c.args.collator.now in
-    let lent = c.as_borrowed.result in
+    let loaded = c.as_borrowed.result in
     let left = chars c.in-Compare.texts.left.now in
     let right = chars c.in-Compare.texts.right.now in
     let by_collator = order
-    ∙ ap (λ (t : CollatorTables). text_order t (settings_borrowed lent) left right) c.as_borrowed.ensures.tables
+    ∙ ap (λ (t : CollatorTables). text_order t (settings_borrowed loaded) left right) c.as_borrowed.ensures.tables
     ∙ ap (λ (s : Settings). text_order (tables_kept collator) s left right) c.as_borrowed.ensures.settings in
     rw c.in-Compare.is (
       [],

@@ -1,7 +1,7 @@
 use Rattle.std.proofs.Common.{◌≡◌, ℕ, ◌≤◌, List, length, ap, arith}
 use Rattle.icu_provider.specs.TableSets.{tables_in}
 use Rattle.icu_checks.specs.inner.Weights.{IsDiacriticWeight}
-use Rattle.icu_checks.proofs.CollectLemmas.{below_step, lent_diacritics}
+use Rattle.icu_checks.proofs.CollectLemmas.{below_step, loaded_diacritics}
 use Rattle.icu_checks.proofs.check.collecting.collect_diacritics.Goals as goal
 
 whole : (xs ys : List ℕ) (n : ℕ) → length xs ≡ length ys → length xs ≤ n → n ≤ length xs → n ≡ length ys
@@ -13,5 +13,5 @@ loop-place-preserved c =
 
 pub returns : goal.returns
 returns c =
-    lent_diacritics c.args.tables c.args.list c.loop-place.place
+    loaded_diacritics c.args.tables c.args.list c.loop-place.place
     (whole _ _ _ (ap length c.secondaries-secondary-items.ensures.value) c.loop-place-test.false c.loop-place.auto.place-end) _ _ c.loop-place.invariant

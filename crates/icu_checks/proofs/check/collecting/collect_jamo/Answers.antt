@@ -1,7 +1,7 @@
 use Rattle.std.proofs.Common.{◌≡◌, ℕ, ◌≤◌, List, length, ap, arith}
 use Rattle.icu_provider.specs.TableSets.{tables_in}
 use Rattle.icu_checks.specs.inner.Weights.{IsJamoWeight}
-use Rattle.icu_checks.proofs.CollectLemmas.{below_step, lent_jamo}
+use Rattle.icu_checks.proofs.CollectLemmas.{below_step, loaded_jamo}
 use Rattle.icu_checks.proofs.check.collecting.collect_jamo.Goals as goal
 
 whole : (xs ys : List ℕ) (n : ℕ) → length xs ≡ length ys → length ys ≡ 256 → length xs ≤ n → n ≤ length xs → n ≡ 256
@@ -13,5 +13,5 @@ loop-place-preserved c =
 
 pub returns : goal.returns
 returns c =
-    lent_jamo c.args.tables c.args.list c.loop-place.place
+    loaded_jamo c.args.tables c.args.list c.loop-place.place
     (whole _ _ _ (ap length c.ce32s-entry-items.ensures.value) c.ce32s-entry-items.ensures.jamo.count c.loop-place-test.false c.loop-place.auto.place-end) _ _ c.loop-place.invariant

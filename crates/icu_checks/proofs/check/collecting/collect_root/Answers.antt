@@ -1,5 +1,5 @@
-use Rattle.icu_checks.proofs.CollectLemmas.{lent_root}
+use Rattle.icu_checks.proofs.CollectLemmas.{loaded_root}
 use Rattle.icu_checks.proofs.check.collecting.collect_root.Goals as goal
 
 pub returns : goal.returns
-returns c = lent_root c.args.tables c.args.list _ _ _ c.collect_weights.ensures
+returns c = loaded_root c.args.tables c.args.list _ _ _ c.collect_weights.ensures

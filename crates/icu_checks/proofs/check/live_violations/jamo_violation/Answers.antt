@@ -3,7 +3,7 @@ use Rattle.icu_data.proofs.ViolationLemmas.{earlier-keeps}
 use Rattle.icu_provider.specs.TableSets.{tables_in}
 use Rattle.icu_checks.specs.inner.Violations.{violation_rank, IsTrueViolation}
 use Rattle.icu_checks.specs.inner.EntryViolations.{JamoPasses}
-use Rattle.icu_checks.proofs.LentViolationLemmas.{none_step, lent_places}
+use Rattle.icu_checks.proofs.LoadedViolationLemmas.{none_step, loaded_places}
 use Rattle.icu_checks.proofs.check.live_violations.jamo_violation.Goals as goal
 
 reached : (xs ys : List ℕ) (i n : ℕ) → length xs ≡ length ys → length ys ≡ 256 → length xs ≤ n → i < 256 → i < n
@@ -17,4 +17,4 @@ loop-place-preserved c = (
 )
 
 pub returns-clause-none : goal.returns-clause-none
-returns-clause-none c = λ h. lent_places c.args.tables (λ i inside. c.loop-place.invariant.0 h i (reached _ _ i _ (ap length c.ce32s-entry-items.ensures.value) c.ce32s-entry-items.ensures.jamo.count c.loop-place-test.false inside))
+returns-clause-none c = λ h. loaded_places c.args.tables (λ i inside. c.loop-place.invariant.0 h i (reached _ _ i _ (ap length c.ce32s-entry-items.ensures.value) c.ce32s-entry-items.ensures.jamo.count c.loop-place-test.false inside))

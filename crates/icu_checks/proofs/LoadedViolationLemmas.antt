@@ -1,4 +1,4 @@
--- The violations of all that is live by one table, as tables are lent.
+-- The violations of all that is live by one table, as tables are returned.
 use Rattle.std.proofs.Common.{◌≡◌, ◌⊎◌, ℕ, ◌+◌, ◌-◌, ◌<◌, false, true, Option, Some, None, IfSome, IsTrue, slice_index, length, refl, sym, ap, ◌∙◌, subst, arith, inl, inr, option_map}
 use Rattle.std.proofs.lemmas.Bool.{cases_eq}
 use Rattle.std.proofs.lemmas.Bool.Decides.{nat_tests}
@@ -25,35 +25,35 @@ use Rattle.icu_checks.proofs.EntryViolationLemmas.{passes_element, element_true}
 use Rattle.icu_checks.proofs.LiveViolationLemmas.{root_meets, jamo_meets, tailoring_meets, no_tailoring_meets, root_true, jamo_true, tailoring_true}
 
 module _ (s : TableSet) where
-  pub lent_root : EachLive (λ c e. entry_violation (tables_in s) Root (data_of s.root) c e ≡ None) false (data_of s.root) → MeetsIn Root (tables_in s)
+  pub loaded_root : EachLive (λ c e. entry_violation (tables_in s) Root (data_of s.root) c e ≡ None) false (data_of s.root) → MeetsIn Root (tables_in s)
   unfolding tables_in
-  lent_root each = root_meets (tables_in s) each
+  loaded_root each = root_meets (tables_in s) each
 
-  pub lent_root_true : (o : Option Violation) → IfSome o (λ f. (None ≡ Some f) ⊎ IsLiveViolation (entry_violation (tables_in s) Root) false (data_of s.root) f) → IfSome o (IsTrueViolation (tables_in s))
+  pub loaded_root_true : (o : Option Violation) → IfSome o (λ f. (None ≡ Some f) ⊎ IsLiveViolation (entry_violation (tables_in s) Root) false (data_of s.root) f) → IfSome o (IsTrueViolation (tables_in s))
   unfolding tables_in
-  lent_root_true o h = weaker_some _ (IsTrueViolation (tables_in s)) (λ f found. root_true (tables_in s) f (not_before f _ found)) o h
+  loaded_root_true o h = weaker_some _ (IsTrueViolation (tables_in s)) (λ f found. root_true (tables_in s) f (not_before f _ found)) o h
 
-  pub lent_tailoring : (t : CollationData) → s.tailoring ≡ Some t → EachLive (λ c e. entry_violation (tables_in s) Tailoring (data_of t) c e ≡ None) true (data_of t) → MeetsIn Tailoring (tables_in s)
+  pub loaded_tailoring : (t : CollationData) → s.tailoring ≡ Some t → EachLive (λ c e. entry_violation (tables_in s) Tailoring (data_of t) c e ≡ None) true (data_of t) → MeetsIn Tailoring (tables_in s)
   unfolding tables_in
-  lent_tailoring t is each = tailoring_meets (tables_in s) (data_of t) (subst (λ o. option_map data_of o ≡ Some (data_of t)) (sym is) refl) each
+  loaded_tailoring t is each = tailoring_meets (tables_in s) (data_of t) (subst (λ o. option_map data_of o ≡ Some (data_of t)) (sym is) refl) each
 
-  pub lent_no_tailoring : s.tailoring ≡ None → MeetsIn Tailoring (tables_in s)
+  pub loaded_no_tailoring : s.tailoring ≡ None → MeetsIn Tailoring (tables_in s)
   unfolding tables_in
-  lent_no_tailoring is = no_tailoring_meets (tables_in s) (subst (λ o. option_map data_of o ≡ None) (sym is) refl)
+  loaded_no_tailoring is = no_tailoring_meets (tables_in s) (subst (λ o. option_map data_of o ≡ None) (sym is) refl)
 
-  pub lent_tailoring_true : (t : CollationData) → s.tailoring ≡ Some t → (o : Option Violation) → IfSome o (λ f. (None ≡ Some f) ⊎ IsLiveViolation (entry_violation (tables_in s) Tailoring) true (data_of t) f) → IfSome o (IsTrueViolation (tables_in s))
+  pub loaded_tailoring_true : (t : CollationData) → s.tailoring ≡ Some t → (o : Option Violation) → IfSome o (λ f. (None ≡ Some f) ⊎ IsLiveViolation (entry_violation (tables_in s) Tailoring) true (data_of t) f) → IfSome o (IsTrueViolation (tables_in s))
   unfolding tables_in
-  lent_tailoring_true t is o h =
+  loaded_tailoring_true t is o h =
       weaker_some _ (IsTrueViolation (tables_in s)) (λ f found. tailoring_true (tables_in s) (data_of t) (subst (λ o. option_map data_of o ≡ Some (data_of t)) (sym is) refl) f (not_before f _ found)) o h
 
-  pub lent_jamo : ((c : ℕ) → IsTrue (is_jamo c) → AllByRecursion (λ e. entry_violation (tables_in s) Jamo (data_of s.root) c e ≡ None) (live_from (data_of s.root) (slice_index (jamo_of s.jamo) (c - 0x1100)))) → MeetsIn Jamo (tables_in s)
+  pub loaded_jamo : ((c : ℕ) → IsTrue (is_jamo c) → AllByRecursion (λ e. entry_violation (tables_in s) Jamo (data_of s.root) c e ≡ None) (live_from (data_of s.root) (slice_index (jamo_of s.jamo) (c - 0x1100)))) → MeetsIn Jamo (tables_in s)
   unfolding tables_in
-  lent_jamo each = jamo_meets (tables_in s) each
+  loaded_jamo each = jamo_meets (tables_in s) each
 
-  pub lent_jamo_true : (c : ℕ) → IsTrue (is_jamo c) → (o : Option Violation)
+  pub loaded_jamo_true : (c : ℕ) → IsTrue (is_jamo c) → (o : Option Violation)
       → IfSome o (λ f. (None ≡ Some f) ⊎ IsViolationAmong (entry_violation (tables_in s) Jamo) (data_of s.root) c (live_from (data_of s.root) (slice_index (jamo_of s.jamo) (c - 0x1100))) f) → IfSome o (IsTrueViolation (tables_in s))
   unfolding tables_in
-  lent_jamo_true c is o h = weaker_some _ (IsTrueViolation (tables_in s)) (λ f found. jamo_true (tables_in s) c is f (not_before f _ found)) o h
+  loaded_jamo_true c is o h = weaker_some _ (IsTrueViolation (tables_in s)) (λ f found. jamo_true (tables_in s) c is f (not_before f _ found)) o h
 
   place_back : (c : ℕ) → IsTrue (is_jamo c) → 0x1100 + (c - 0x1100) ≡ c
   place_back c is = grind (arith, nat_tests)
@@ -61,15 +61,15 @@ module _ (s : TableSet) where
   place_inside : (c : ℕ) → IsTrue (is_jamo c) → c - 0x1100 < 256
   place_inside c is = grind (arith, nat_tests)
 
-  pub lent_places : ((i : ℕ) → i < 256 → JamoPasses (tables_in s) i) → MeetsIn Jamo (tables_in s)
+  pub loaded_places : ((i : ℕ) → i < 256 → JamoPasses (tables_in s) i) → MeetsIn Jamo (tables_in s)
   unfolding tables_in
-  lent_places each = lent_jamo (λ c is.
+  loaded_places each = loaded_jamo (λ c is.
       subst (λ d. AllByRecursion (λ e. entry_violation (tables_in s) Jamo (data_of s.root) d e ≡ None) (live_from (data_of s.root) (slice_index (jamo_of s.jamo) (c - 0x1100)))) (place_back c is)
       (each (c - 0x1100) (place_inside c is)))
 
-  pub lent_place : (i e c : ℕ) → e ≡ slice_index (jamo_of s.jamo) i → c ≡ 0x1100 + i → AllByRecursion (λ e. entry_violation (tables_in s) Jamo (data_of s.root) c e ≡ None) (live_from (data_of s.root) e) → JamoPasses (tables_in s) i
+  pub loaded_place : (i e c : ℕ) → e ≡ slice_index (jamo_of s.jamo) i → c ≡ 0x1100 + i → AllByRecursion (λ e. entry_violation (tables_in s) Jamo (data_of s.root) c e ≡ None) (live_from (data_of s.root) e) → JamoPasses (tables_in s) i
   unfolding tables_in
-  lent_place i e c is at each =
+  loaded_place i e c is at each =
       subst (λ e. AllByRecursion (λ e. entry_violation (tables_in s) Jamo (data_of s.root) (0x1100 + i) e ≡ None) (live_from (data_of s.root) e)) is
       (subst (λ d. AllByRecursion (λ e. entry_violation (tables_in s) Jamo (data_of s.root) d e ≡ None) (live_from (data_of s.root) e)) at each)
 
@@ -79,11 +79,11 @@ module _ (s : TableSet) where
   char_place : (i : ℕ) → 0x1100 + i - 0x1100 ≡ i
   char_place i = omega arith
 
-  pub lent_place_true : (i e c : ℕ) → i < 256 → e ≡ slice_index (jamo_of s.jamo) i → c ≡ 0x1100 + i → (o : Option Violation)
+  pub loaded_place_true : (i e c : ℕ) → i < 256 → e ≡ slice_index (jamo_of s.jamo) i → c ≡ 0x1100 + i → (o : Option Violation)
       → IfSome o (λ f. (None ≡ Some f) ⊎ IsViolationAmong (entry_violation (tables_in s) Jamo) (data_of s.root) c (live_from (data_of s.root) e) f) → IfSome o (IsTrueViolation (tables_in s))
-  lent_place_true i e c inside is at o h =
+  loaded_place_true i e c inside is at o h =
       let there : slice_index (jamo_of s.jamo) (0x1100 + i - 0x1100) ≡ slice_index (jamo_of s.jamo) i = ap (slice_index (jamo_of s.jamo)) (char_place i) in
-      lent_jamo_true (0x1100 + i) (char_jamo i inside) o
+      loaded_jamo_true (0x1100 + i) (char_jamo i inside) o
       (subst (λ d. IfSome o (λ f. (None ≡ Some f) ⊎ IsViolationAmong (entry_violation (tables_in s) Jamo) (data_of s.root) d (live_from (data_of s.root) (slice_index (jamo_of s.jamo) (0x1100 + i - 0x1100))) f)) at
       (subst (λ e. IfSome o (λ f. (None ≡ Some f) ⊎ IsViolationAmong (entry_violation (tables_in s) Jamo) (data_of s.root) c (live_from (data_of s.root) e) f)) (is ∙ sym there) h))
 
@@ -97,21 +97,21 @@ module _ (s : TableSet) where
   no_violation None h = refl
   no_violation (Some x) h = cc
 
-  pub lent_diacritic : (i : ℕ) (x : Element) → x ≡ diacritic_at i → element_violation (tables_in s) Diacritics x ≡ None → DiacriticMeets (tables_in s) i
+  pub loaded_diacritic : (i : ℕ) (x : Element) → x ≡ diacritic_at i → element_violation (tables_in s) Diacritics x ≡ None → DiacriticMeets (tables_in s) i
   unfolding tables_in
-  lent_diacritic i x is none = λ kept. subst (λ x. (condition : ElementCondition) → IsTrue (element_meets condition (tables_in s) x)) is (passes_element (tables_in s) x (no_violation _ none))
+  loaded_diacritic i x is none = λ kept. subst (λ x. (condition : ElementCondition) → IsTrue (element_meets condition (tables_in s) x)) is (passes_element (tables_in s) x (no_violation _ none))
 
-  pub lent_diacritics : ((i : ℕ) → i < length (diacritics_of s.diacritics) → DiacriticMeets (tables_in s) i) → MeetsIn Diacritics (tables_in s)
+  pub loaded_diacritics : ((i : ℕ) → i < length (diacritics_of s.diacritics) → DiacriticMeets (tables_in s) i) → MeetsIn Diacritics (tables_in s)
   unfolding tables_in
-  lent_diacritics each = record {
+  loaded_diacritics each = record {
     entries = λ condition home c e is. absurd is;
     rows = λ home c e is. absurd is;
     elements = λ condition x is. subst (λ x. IsTrue (element_meets condition (tables_in s) x)) (sym is.is) (each is.place is.inside is.kept condition);
   }
 
-  pub lent_diacritic_true : (i : ℕ) → i < length (diacritics_of s.diacritics) → is_replaced_index i ≡ false → (x : Element) → x ≡ of_secondary (slice_index (diacritics_of s.diacritics) i) → IfSome (element_violation (tables_in s) Diacritics x) (IsTrueViolation (tables_in s))
+  pub loaded_diacritic_true : (i : ℕ) → i < length (diacritics_of s.diacritics) → is_replaced_index i ≡ false → (x : Element) → x ≡ of_secondary (slice_index (diacritics_of s.diacritics) i) → IfSome (element_violation (tables_in s) Diacritics x) (IsTrueViolation (tables_in s))
   unfolding tables_in
-  lent_diacritic_true i inside kept x is = element_true (tables_in s) Diacritics x (record { place = i; inside = inside; kept = kept; is = is })
+  loaded_diacritic_true i inside kept x is = element_true (tables_in s) Diacritics x (record { place = i; inside = inside; kept = kept; is = is })
 
 -- ---- one more place
 

@@ -1,4 +1,4 @@
--- The tables that a provider lends for a collation, and the order in which it is asked.
+-- The tables that a provider returns for a collation, and the order in which it is asked.
 use Rattle.std.specs.Prelude.{ℕ, Bool, true, false, Option, Some, None, Result, Ok, Err, if◌then◌else◌}
 use Rattle.icu_entries.specs.declared.error.DataError.{DataError}
 use Rattle.icu_provider.specs.Loads.{Loads, answer}
@@ -6,12 +6,12 @@ use Rattle.icu_provider.specs.Metadata.{is_tailored, has_tailored_diacritics, ha
 use Rattle.icu_provider.specs.Requests.{Request, empty_request, without_type}
 use Rattle.icu_provider.specs.CollatorTables.{CollatorTables}
 
--- the first refusal, or what comes after the answer
+-- the first refusal, or what comes after the first result
 abbrev pub and_then : {A B : Type 0} → Result A DataError → (A → Result B DataError) → Result B DataError
 and_then (Ok x) next = next x
 and_then (Err e) next = Err e
 
--- the second answer, where the first one is a refusal
+-- the second result, where the first one is a refusal
 abbrev pub or_else : {A : Type 0} → Result A DataError → Result A DataError → Result A DataError
 or_else (Ok x) again = Ok x
 or_else (Err e) again = again
@@ -26,16 +26,16 @@ typed_first load r =
 
 -- a table that the metadata names, or no table
 abbrev pub if_named : {A : Type 0} → Bool → Result A DataError → Result (Option A) DataError
-if_named true lent = answer Some lent
-if_named false lent = Ok None
+if_named true loaded = answer Some loaded
+if_named false loaded = Ok None
 
 -- diacritics of the collation's own are asked for as they are wanted, and others by the empty request
 abbrev pub diacritics_request : ℕ → Request → Request
 diacritics_request bits r = if has_tailored_diacritics bits then r else empty_request
 
 -- all tables, or the first refusal that no further request mends
-unfoldable pub lent_tables : Loads → Request → Result CollatorTables DataError
-lent_tables loads r =
+unfoldable pub loaded_tables : Loads → Request → Result CollatorTables DataError
+loaded_tables loads r =
     and_then loads.root (λ root.
     and_then loads.jamo (λ jamo.
     and_then loads.special (λ special.

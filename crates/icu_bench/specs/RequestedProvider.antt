@@ -1,4 +1,4 @@
--- The answers of the provider in the tests: to a request with a type, to one for a locale alone, and to the empty
+-- What the provider in the tests returns: to a request with a type, to one for a locale alone, and to the empty
 -- request.
 use Rattle.std.specs.Prelude.{ℕ, List, [], ◌∷◌, Some, None}
 use Rattle.icu_provider.specs.Requests.{Request}
