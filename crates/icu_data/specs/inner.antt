@@ -1,4 +1,4 @@
--- Words of private contracts and proofs only: no public contract names them.
+-- Words of private contracts and proofs, and what the visitors that are public add up to.
 pub mod Visitors
 pub mod BlockWalks
 pub mod VisitedEntries
