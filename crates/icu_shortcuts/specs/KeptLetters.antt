@@ -1,5 +1,5 @@
 -- What a table keeps of a character, each fact by a test of its decomposition.
-use Rattle.std.specs.Prelude.{◌≡◌, ◌≢◌, ◌<◌, ◌+◌, ◌==◌, ◌&&◌, ℕ, Bool, true, false, not, List, [], ◌∷◌, ◌++◌, length, slice_index_or, IsTrue, Some, is_some}
+use Rattle.std.specs.Prelude.{◌≡◌, ◌≢◌, ◌<◌, ◌+◌, ◌==◌, ◌&&◌, ℕ, Bool, true, false, not, List, [], ◌∷◌, ◌++◌, length, slice_index_or, IsTrue, IfSome, is_some}
 use Rattle.ucd_normal.specs.declared.forms.Form.TheVariants.{Nfd}
 use Rattle.unicode_normalization.specs.Decompose.{decompose}
 use Rattle.unicode_normalization.specs.Order.{is_starter}
@@ -46,7 +46,7 @@ pub record KeptLetter (reading : Reading) (c : ℕ) (l : Letter) : Type 0 where
   pub marked : l.kind ≡ Marked → is_marked_starter l.class (decompose Nfd c) ≡ true
   pub mark : l.kind ≡ Mark → IsLoneMark reading c l
   pub base : l.kind ≡ Base → IsBase reading c l
-  pub digit : (d : ℕ) → l.digit ≡ Some d → IsNumberDigit reading c d
+  pub digit : IfSome l.digit (λ d. IsNumberDigit reading c d)
   pub begins : IsTrue l.begins_with_starter → starts_with_starter (decompose Nfd c) ≡ true
   pub safe : IsTrue l.is_safe → starts_safely reading (decompose Nfd c) ≡ true
   pub leads : l.leading_primary ≢ 0 → starts_with_primary reading l.leading_primary (decompose Nfd c) ≡ true
