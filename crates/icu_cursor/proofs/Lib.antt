@@ -2,5 +2,4 @@ pub mod ContextLemmas
 pub mod StandLemmas
 pub mod PieceLemmas
 pub mod ReadyLemmas
-pub mod NumberLemmas
 pub mod CursorLemmas

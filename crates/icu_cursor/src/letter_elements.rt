@@ -1,18 +1,16 @@
 //! The elements of a letter, one by one.
 
-ghost use Rattle.std.specs.Prelude.{◌≡◌, ◌≤◌, [], ◌++◌, None, drop, option_to_list};
+ghost use Rattle.std.specs.Prelude.{◌≡◌, [], ◌++◌, None, option_to_list};
 ghost use Rattle.icu_shortcuts.specs.Letters.{letter_elements};
 
 use icu_entries::CollationElement;
-use icu_shortcuts::Letter;
+use icu_shortcuts::{Letter, LetterKind};
 
 /// The elements of a letter that were not given yet.
 #[derive(Debug, Clone, Copy)]
 pub(crate) struct LetterElements {
-    elements: [CollationElement; 3],
-    count: u8,
-    next: u8,
-    ghost at_most_three: { count ≤ 3 },
+    letter: Letter,
+    next: usize,
 }
 
 impl LetterElements {
@@ -24,40 +22,25 @@ impl LetterElements {
         ensures { elements_ready result ≡ [] }
     {
         LetterElements {
-            elements: [CollationElement::default(); 3],
-            count: 0,
+            letter: Letter {
+                elements: [CollationElement::default(); 3],
+                count: 0,
+                kind: LetterKind::Unknown,
+                class: 0,
+                is_safe: false,
+                begins_with_starter: false,
+                leading_primary: 0,
+            },
             next: 0,
         }
     }
 
-    /// Those of a letter after its first.
+    /// All elements of a letter.
     #[tactic(auto, unfolding(crate::specs::inner::Ready::elements_ready))]
-    fn after_first(letter: &Letter) -> LetterElements
-        ensures { elements_ready result ≡ drop 1 (letter_elements letter.now) }
+    pub(crate) fn all(letter: Letter) -> LetterElements
+        ensures { elements_ready result ≡ letter_elements letter }
     {
-        LetterElements {
-            elements: letter.elements,
-            count: letter.count,
-            next: 1,
-        }
-    }
-
-    /// The first element of a letter, where none of another is left. The others are kept.
-    #[inline]
-    pub(crate) fn begin(&mut self, letter: &Letter) -> Option<CollationElement>
-        requires { elements_ready self.old ≡ [] }
-        ensures { letter_elements letter.now ≡ option_to_list result ++ elements_ready self.new }
-    {
-        if letter.count == 0 {
-            return None;
-        }
-        let elements = &letter.elements[..];
-        let first = elements[0];
-        if letter.count == 1 {
-            return Some(first);
-        }
-        *self = LetterElements::after_first(letter);
-        Some(first)
+        LetterElements { letter, next: 0 }
     }
 
     /// The first of them, which is given.
@@ -66,11 +49,11 @@ impl LetterElements {
         ensures next { elements_ready self.old ≡ option_to_list result ++ elements_ready self.new }
         ensures end { result ≡ None → elements_ready self.old ≡ [] }
     {
-        if self.next >= self.count {
+        if self.next >= self.letter.count as usize {
             return None;
         }
-        let elements = &self.elements[..];
-        let element = elements[self.next as usize];
+        let elements = &self.letter.elements[..];
+        let element = elements[self.next];
         self.next += 1;
         Some(element)
     }

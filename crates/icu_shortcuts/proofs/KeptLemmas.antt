@@ -74,8 +74,6 @@ kept_letter reading c l h = record {
   marked_alone = λ e. (h.marked e).stands;
   marked = λ e. let m = h.marked e in ap (is_marked_starter l.class) m.decomposes ∙ both _ _ m.starter m.in_order;
   mark = h.mark;
-  base = h.base;
-  digit = h.digit;
   begins = λ e. let b = h.begins e in ap starts_with_starter b.decomposes ∙ b.starter;
   safe = λ e. let s = h.safe e in ap (starts_safely reading) s.decomposes ∙ safe_tests reading s.first s.safe;
   leads = λ e. let p = h.leads e in
@@ -135,8 +133,6 @@ module _ (reading : Reading) (c : ℕ) where
     starters = h.starters;
     marked = λ e. marked_from l _ refl (h.marked_alone e) (h.marked e);
     mark = h.mark;
-    base = h.base;
-    digit = h.digit;
     begins = λ e. starter_from _ refl (h.begins e);
     safe = λ e. safely_from _ refl (h.safe e);
     leads = λ e. leads_from l.leading_primary _ refl (h.leads e);

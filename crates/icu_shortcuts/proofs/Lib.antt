@@ -4,4 +4,3 @@ mod EntryLemmas
 mod FewLemmas
 mod KeptLemmas
 mod SyllableLemmas
-mod BaseLemmas
