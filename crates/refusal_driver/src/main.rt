@@ -12,7 +12,6 @@ mod elements;
 mod index;
 mod kept;
 mod keys;
-mod names;
 mod sinks;
 mod stop;
 mod texts;
@@ -53,9 +52,7 @@ fn run(rt: &HostRuntime) -> Result<(), Stop> {
     if wants("index") {
         index::run(rt)?;
     }
-    let part = part.as_ref().map(|part| part.as_str());
-    beginnings::run(rt, part)?;
-    names::run(rt, part)
+    beginnings::run(rt, part.as_ref().map(|part| part.as_str()))
 }
 
 fn main(rt: HostRuntime) -> ExitCode {
