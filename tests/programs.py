@@ -514,6 +514,7 @@ def check_driver(report, shim):
             faults = [] if named == NAMED_TABLES else [f"{named}; wanted: {NAMED_TABLES}"]
             report.say("refusal_driver: the tables that refusals name", faults, len(outcomes))
     report.say("refusal_driver: nothing is allocated for common beginnings", faults_of_beginnings(shim, program), 4)
+    report.say("refusal_driver: nothing is allocated for names", faults_of_names(shim, program), 4)
 
 
 def faults_of_beginnings(shim, program):
@@ -524,6 +525,25 @@ def faults_of_beginnings(shim, program):
     faults = [f"{part} allocates: {counts}" for part in ("same", "ends", "beginnings") if counts[part] != counts["collator"]]
     wanted = {"collator": b"", "same": b"=\n" * 5, "ends": b"<\n" * 5, "beginnings": b"<\n" * 5}
     return faults + [f"{part}: {it}" for part, it in runs.items() if it.came_to() != (0, wanted[part], b"")]
+
+
+# What the parts of the driver print that compare names with accents and in Hangul, and write their keys.
+PARTS_OF_NAMES = {
+    "plain": b"",
+    "names": b"<\n>\n<\n>\n=\n=\n<\n",
+    "name-keys": b"10 bytes\n18 bytes\n13 bytes\n17 bytes\n16 bytes\n19 bytes\n19 bytes\n",
+    "pieces": b">\n",
+}
+
+
+def faults_of_names(shim, program):
+    """What is wrong with how much is allocated for names: nothing beside the collator, but for a mark that comes before the one
+    that it follows."""
+    runs = {part: run(program, [part], shim=shim) for part in PARTS_OF_NAMES}
+    counts = {part: it.counts["allocation"] for part, it in runs.items()}
+    faults = [f"{part} allocates: {counts}" for part in ("names", "name-keys") if counts[part] != counts["plain"]]
+    faults += [f"no allocation is seen: {counts}"] * (counts["pieces"] <= counts["plain"])
+    return faults + [f"{part}: {it}" for part, it in runs.items() if it.came_to() != (0, PARTS_OF_NAMES[part], b"")]
 
 
 # ---- hostile input: damaged tables, random texts, long texts, checks that are timed

@@ -5,11 +5,11 @@ use Rattle.ucd_normal.specs.declared.forms.Form.TheVariants.{Nfd}
 use Rattle.unicode_normalization.specs.Decompose.{decompose}
 use Rattle.unicode_normalization.specs.Forms.{nfd}
 use Rattle.icu_entries.specs.Elements.{Element}
-use Rattle.icu_elements.specs.declared.element_reader.ElementReader.{ElementReader}
 use Rattle.icu_elements.specs.TextElements.{Reading, elements_after}
 use Rattle.icu_cuts.specs.Alone.{context_after}
 use Rattle.icu_shortcuts.specs.declared.letter_facts.Letter.{Letter}
 use Rattle.icu_shortcuts.specs.Letters.{letter_elements}
+use Rattle.icu_cursor.specs.declared.piece.Piece.{Piece}
 use Rattle.icu_cursor.specs.inner.Pieces.{IsPiece, piece_gives}
 use Rattle.icu_cursor.specs.inner.Standing.{StandsBefore}
 use Rattle.icu_cursor.proofs.PieceLemmas.{nothing, pieces_part}
@@ -22,9 +22,9 @@ first_of (x ∷ xs) e d some is = ap (λ y. y ∷ []) (sym is)
 pub nothing_ready : (ready piece rest : List Element) → ready ≡ [] → piece ≡ [] → ready ++ (piece ++ rest) ≡ rest
 nothing_ready ready piece rest none no_piece = ap₂ (λ (es fs : List Element). es ++ (fs ++ rest)) none no_piece
 
-pub no_piece : (p : Option ElementReader) → is_some p ≡ false → piece_gives p ≡ []
+pub no_piece : (p : Option Piece) → is_some p ≡ false → piece_gives p ≡ []
 no_piece None none = refl
-no_piece (Some r) none = cc
+no_piece (Some p) none = cc
 
 -- the first of those that stand ready
 pub ready_taken : (first before after rest : List Element) → before ≡ first ++ after → before ++ rest ≡ first ++ (after ++ rest)
@@ -61,6 +61,13 @@ module _ (reading : Reading) (ready piece : List Element) (before : List ℕ) (n
       ∙ sym (stands before)
       ∙ ap (λ t. elements_after reading before (nfd t)) (sym is)
       ∙ sym (nothing_ready ready piece _ none piece_ended)
+
+  -- its first element is given, and the others are kept
+  pub letter_begun : (c : ℕ) (l : Letter) (all text after : List ℕ) (first others : List Element) → all ≡ c ∷ text → StandsBefore reading c l text → letter_elements l ≡ first ++ others
+      → after ≡ context_after before (decompose Nfd c)
+      → ready ++ (piece ++ elements_after reading before (nfd all)) ≡ first ++ (others ++ (piece ++ elements_after reading after (nfd text)))
+  letter_begun c l all text after first others is stands given remembered =
+      sym (letter_read c l all text after (letter_elements l) is stands refl remembered) ∙ ready_taken first (letter_elements l) others _ given
 
   -- so is one of one element, which is given at once
   pub lone_read : (c : ℕ) (l : Letter) (all text after : List ℕ) (e d : Element) → all ≡ c ∷ text → StandsBefore reading c l text → after ≡ context_after before (decompose Nfd c)

@@ -2,4 +2,5 @@ pub mod ContextLemmas
 pub mod StandLemmas
 pub mod PieceLemmas
 pub mod ReadyLemmas
+pub mod NumberLemmas
 pub mod CursorLemmas

@@ -7,7 +7,8 @@ use Rattle.icu_elements.proofs.StepLemmas.{elements_after_nil}
 use Rattle.icu_cuts.proofs.CutLemmas.{safe_cut, safe_start}
 use Rattle.icu_cuts.proofs.NfdLemmas.{nfd-nil}
 use Rattle.icu_shortcuts.specs.SafeTables.{IsSafeBefore}
-use Rattle.icu_cursor.specs.inner.Pieces.{MayBeCut, BeginsSafely, IsPiece}
+use Rattle.icu_cursor.specs.inner.Places.{MayBeCut, BeginsSafely}
+use Rattle.icu_cursor.specs.inner.Pieces.{IsPiece}
 
 pub nothing : (reading : Reading) (before : List ℕ) → elements_after reading before (nfd []) ≡ []
 nothing reading before = ap (elements_after reading before) nfd-nil ∙ elements_after_nil reading before
@@ -19,7 +20,7 @@ may_be_cut reading c safe = λ before after piece text.
     ∙ ap (λ (es : List Element). elements_after reading before (nfd piece) ++ es) (safe_start reading c safe.first safe.more text safe.decomposes safe.safe [] after)
 
 -- the elements of a text are those of its two parts, and those of the second are the same whatever stands before
-parted : (reading : Reading) (before after piece rest : List ℕ) → BeginsSafely reading rest
+pub parted : (reading : Reading) (before after piece rest : List ℕ) → BeginsSafely reading rest
     → elements_after reading before (nfd (piece ++ rest)) ≡ elements_after reading before (nfd piece) ++ elements_after reading after (nfd rest)
 parted reading before after piece [] safe =
     ap (λ l. elements_after reading before (nfd l)) (append-nil piece)

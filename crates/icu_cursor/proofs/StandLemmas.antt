@@ -1,5 +1,5 @@
 -- Letters that are read by themselves, and the runs of marks that they stand before.
-use Rattle.std.proofs.Common.{◌≡◌, ◌≢◌, ℕ, ◌<◌, ◌≤◌, Bool, true, false, not, ◌&&◌, ◌||◌, ◌==◌, nat_le, List, [], ◌∷◌, ◌++◌, length, get_or, flat_map, Option, Some, None, IfSome, refl, sym, ap, ◌∙◌, arith}
+use Rattle.std.proofs.Common.{◌≡◌, ◌≢◌, ℕ, ◌<◌, ◌≤◌, Bool, true, false, not, ◌&&◌, ◌||◌, ◌==◌, nat_le, List, [], ◌∷◌, ◌++◌, length, get_or, flat_map, Option, Some, None, IfSome, refl, sym, ap, subst, ◌∙◌, arith}
 use Rattle.std.proofs.lemmas.Bool.{and_parts, and_from, not-true, eqb-true, eq-eqb, ne_eqb, le-leb}
 use Rattle.ucd_normal.specs.CanonicalCombiningClass.{canonical_combining_class as class_of}
 use Rattle.ucd_normal.specs.declared.forms.Form.TheVariants.{Nfd}
@@ -7,7 +7,7 @@ use Rattle.unicode_normalization.specs.Decompose.{decompose}
 use Rattle.unicode_normalization.specs.Order.{is_starter, is_nonstarter}
 use Rattle.unicode_normalization.specs.Forms.{nfd}
 use Rattle.icu_elements.specs.TextElements.{Reading, elements_after}
-use Rattle.icu_cursor.proofs.PieceLemmas.{may_be_cut}
+use Rattle.icu_cursor.proofs.PieceLemmas.{may_be_cut, parted}
 use Rattle.icu_entries.specs.Elements.{Element}
 use Rattle.std.proofs.Props.{props}
 use Rattle.std.proofs.Math.Logic.{∥∥₁_elim}
@@ -16,7 +16,8 @@ use Rattle.icu_cuts.specs.Alone.{context_after, stays_first, all_stay, rises_fro
 use Rattle.icu_cuts.proofs.AloneLemmas.{letter_of_starters, letter_that_stays}
 use Rattle.icu_cuts.proofs.NfdLemmas.{stays_first-rises}
 use Rattle.icu_shortcuts.specs.declared.letter_facts.Letter.{Letter}
-use Rattle.icu_shortcuts.specs.Letters.{StandsAlone, HasStarters, IsMarkedStarter, IsLoneMark, IsLetter, letter_elements, rises_to}
+use Rattle.icu_shortcuts.specs.Letters.{StandsAlone, HasStarters, IsMarkedStarter, IsLoneMark, IsBase, IsNumberDigit, IsLetter, letter_elements, rises_to}
+use Rattle.icu_cursor.specs.inner.Places.{BeginsSafely}
 use Rattle.icu_cursor.specs.inner.Runs.{Rises, EndsRuns, IsInRun}
 use Rattle.icu_cursor.specs.inner.Standing.{StandsBefore, Serves}
 
@@ -92,11 +93,23 @@ module _ (reading : Reading) (c : ℕ) (l : Letter) (text : List ℕ) where
       let stay : all_stay (c ∷ []) rest ≡ true = rw stays (either (is_starter c)) in
       stays_alone h.stands (ap (λ ds. all_stay ds rest) h.itself ∙ stay)
 
+-- a letter before a safe place gives what it gives at the end of a text
+pub base_stands : (reading : Reading) (c : ℕ) (l : Letter) (text : List ℕ) → IsBase reading c l → BeginsSafely reading text → StandsBefore reading c l text
+base_stands reading c l text h safe = λ before.
+    let after = context_after before (decompose Nfd c) in
+    parted reading before after (c ∷ []) text safe ∙ ap (λ (es : List Element). es ++ elements_after reading after (nfd text)) (h.at_end before)
+
+some_is : (o : Option ℕ) (P : ℕ → Type 0) → IfSome o P → (d : ℕ) → o ≡ Some d → P d
+some_is (Some e) P h d is = let same : e ≡ d = cc in subst P same h
+some_is None P h d is = absurd (cc)
+
 pub serves : (reading : Reading) (c : ℕ) (l : Letter) → IsLetter reading c l → Serves reading c l
 serves reading c l h = record {
   starters = λ kind text. starters_stand reading c l text (h.starters kind);
   marked = λ kind text. marked_stand reading c l text (h.marked kind);
   mark = λ kind text. marks_stand reading c l text (h.mark kind);
+  base = λ kind text safe. base_stands reading c l text (h.base kind) safe;
+  digit = some_is l.digit (λ d. IsNumberDigit reading c d) h.digit;
   begins = λ begins. let b = h.begins begins in ends_runs c b.first b.more b.decomposes b.starter;
   safe = λ safe. may_be_cut reading c (h.safe safe);
 }

@@ -1,18 +1,18 @@
 //! The elements of an encoded text, one by one.
 
-ghost use Rattle.std.specs.Prelude.{◌≡◌, ◌<◌, ◌≤◌, [], ◌∷◌, ◌++◌, None, length, option_to_list, IfOk, OnOk, MatchBool};
+ghost use Rattle.std.specs.Prelude.{◌≡◌, ◌≤◌, [], ◌∷◌, ◌++◌, None, length, option_to_list, IfOk, OnOk};
 ghost use Rattle.unicode_normalization.specs.Forms.{nfd};
 ghost use Rattle.icu_elements.specs.TextElements.{elements_of};
 
 use crate::cursor_tables::CursorTables;
 use crate::letter_elements::LetterElements;
-use crate::piece::{next_of_piece, read_piece, split_piece};
+use crate::number::read_number;
+use crate::piece::{Piece, next_of_piece, read_piece, split_piece};
 use crate::recent_letters::RecentLetters;
 use crate::stands::stands_before;
-use icu_elements::ElementReader;
 use icu_encodings::EncodedText;
 use icu_entries::CollationElement;
-use icu_shortcuts::LetterKind;
+use icu_shortcuts::{Letter, LetterKind};
 use std::alloc::AllocError;
 
 /// Reads an encoded text and gives its collation elements, one by one (UTS #10, "Produce Collation Element Arrays"). A
@@ -24,12 +24,14 @@ pub struct ElementCursor<'c, 'd, T> {
     text: T,
     recent: RecentLetters,
     ready: LetterElements,
-    piece: Option<ElementReader<'d>>,
+    piece: Option<Piece<'d>>,
 }
 
 impl<'c, 'd, T: EncodedText> ElementCursor<'c, 'd, T> {
     ghost use Rattle.icu_cursor.specs.Cursors.{cursor_reading, cursor_gives};
+    ghost use Rattle.icu_shortcuts.specs.Letters.{IsNumberDigit};
     ghost use Rattle.icu_cursor.specs.inner.Ready.{elements_ready, HasNothingReady};
+    ghost use Rattle.icu_cursor.specs.inner.Standing.{Serves};
 
     /// Reads a text, by these tables. Does not allocate.
     pub fn new(tables: &'c CursorTables<'d>, text: T) -> ElementCursor<'c, 'd, T>
@@ -107,8 +109,11 @@ impl<'c, 'd, T: EncodedText> ElementCursor<'c, 'd, T> {
             if let Some(element) = self.take_read()? {
                 return Ok(Some(element));
             }
-            if !self.read_on()? {
+            let Some((c, rest)) = self.text.split_first_char() else {
                 return Ok(None);
+            };
+            if let Some(element) = self.read_from(c, rest)? {
+                return Ok(Some(element));
             }
         }
     }
@@ -126,36 +131,85 @@ impl<'c, 'd, T: EncodedText> ElementCursor<'c, 'd, T> {
         next_of_piece(&mut self.piece)
     }
 
-    /// Reads the next letter by itself, or else the piece that it begins. Returns whether there was one.
-    fn read_on(&mut self) -> Result<bool, AllocError>
-        requires { HasNothingReady self.old }
-        ensures same { OnOk result (cursor_gives T.text self.new ≡ cursor_gives T.text self.old) }
-        ensures shorter { IfOk result (λ more. MatchBool more
-            (length (T.text self.new.text) < length (T.text self.old.text))
-            (cursor_gives T.text self.old ≡ [])) }
-    {
-        let Some((c, rest)) = self.text.split_first_char() else {
-            return Ok(false);
-        };
-        self.read_from(c, rest)?;
-        Ok(true)
-    }
-
-    /// Reads a letter by itself, or else the piece that it begins. `rest` is what follows the letter.
-    fn read_from(&mut self, c: char, rest: T) -> Result<(), AllocError>
+    /// Reads a letter by itself and gives its first element, or else begins the piece that it begins. `rest` is what
+    /// follows the letter.
+    #[inline]
+    fn read_from(&mut self, c: char, rest: T) -> Result<Option<CollationElement>, AllocError>
         requires nothing { HasNothingReady self.old }
         requires text { T.text self.old.text ≡ c ∷ T.text rest }
+        ensures next { IfOk result (λ first. cursor_gives T.text self.old
+            ≡ option_to_list first ++ cursor_gives T.text self.new) }
+        ensures shorter { OnOk result (length (T.text self.new.text) ≤ length (T.text rest)) }
+    {
+        let tables = self.tables;
+        match tables.kept_letter(c) {
+            Some(letter) => self.read_letter(c, letter, rest),
+            None => self.read_other(c, rest),
+        }
+    }
+
+    /// The same of a letter that isn't among those that are read most. Out of line: a function clears its locals each
+    /// time that it is called.
+    #[inline(never)]
+    fn read_other(&mut self, c: char, rest: T) -> Result<Option<CollationElement>, AllocError>
+        requires nothing { HasNothingReady self.old }
+        requires text { T.text self.old.text ≡ c ∷ T.text rest }
+        ensures next { IfOk result (λ first. cursor_gives T.text self.old
+            ≡ option_to_list first ++ cursor_gives T.text self.new) }
+        ensures shorter { OnOk result (length (T.text self.new.text) ≤ length (T.text rest)) }
+    {
+        let letter = self.tables.other_letter(c);
+        self.read_letter(c, &letter, rest)
+    }
+
+    /// The same of a letter of which this is known.
+    #[inline]
+    fn read_letter(
+        &mut self,
+        c: char,
+        letter: &Letter,
+        rest: T,
+    ) -> Result<Option<CollationElement>, AllocError>
+        requires nothing { HasNothingReady self.old }
+        requires text { T.text self.old.text ≡ c ∷ T.text rest }
+        requires letter { Serves (cursor_reading self.old.tables.now) c letter.now }
+        ensures next { IfOk result (λ first. cursor_gives T.text self.old
+            ≡ option_to_list first ++ cursor_gives T.text self.new) }
+        ensures shorter { OnOk result (length (T.text self.new.text) ≤ length (T.text rest)) }
+    {
+        if stands_before(self.tables, letter, rest) {
+            self.text = rest;
+            self.recent.push(c);
+            return Ok(self.ready.begin(letter));
+        }
+        match letter.digit {
+            Some(digit) => self.begin_number(c, digit, rest)?,
+            None => self.begin_piece(c, rest)?,
+        }
+        Ok(None)
+    }
+
+    /// Reads the number that a digit begins, where digits are read as numbers and one may be cut after it, or else the
+    /// piece.
+    #[inline(never)]
+    fn begin_number(&mut self, c: char, digit: u8, rest: T) -> Result<(), AllocError>
+        requires nothing { HasNothingReady self.old }
+        requires text { T.text self.old.text ≡ c ∷ T.text rest }
+        requires digit { IsNumberDigit (cursor_reading self.old.tables.now) c digit }
         ensures same { OnOk result (cursor_gives T.text self.new ≡ cursor_gives T.text self.old) }
         ensures shorter { OnOk result (length (T.text self.new.text) ≤ length (T.text rest)) }
     {
-        let letter = self.tables.letter(c);
-        if stands_before(self.tables, &letter, rest) {
-            self.ready = LetterElements::all(letter);
-            self.text = rest;
-            self.recent.push(c);
-            return Ok(());
+        let Some(lead) = self.tables.numeric_primary else {
+            return self.begin_piece(c, rest);
+        };
+        match read_number(self.tables, lead, c, digit, rest)? {
+            Some((number, left)) => {
+                self.piece = Some(Piece::Number(number));
+                self.text = left;
+                Ok(())
+            }
+            None => self.begin_piece(c, rest),
         }
-        self.begin_piece(c, rest)
     }
 
     /// Reads the piece that a letter begins. Out of line: a function clears its large locals each time that it is
@@ -168,8 +222,8 @@ impl<'c, 'd, T: EncodedText> ElementCursor<'c, 'd, T> {
         ensures shorter { OnOk result (length (T.text self.new.text) ≤ length (T.text rest)) }
     {
         let (piece, left) = split_piece(self.tables, c, rest)?;
-        let reader = read_piece(self.tables, self.recent, piece.as_slice())?;
-        self.piece = Some(reader);
+        let begun = read_piece(self.tables, self.recent, piece.as_slice())?;
+        self.piece = Some(begun);
         self.text = left;
         Ok(())
     }

@@ -2,10 +2,11 @@
 
 ghost use Rattle.std.specs.Prelude.{◌≡◌, ℕ, IfSome, IsTrue};
 ghost use Rattle.icu_elements.specs.Reading.{element_tables, reading_of};
+ghost use Rattle.icu_shortcuts.specs.Letters.{IsNumberDigit};
 ghost use Rattle.icu_shortcuts.specs.LetterTables.{AreLetters};
 ghost use Rattle.icu_shortcuts.specs.Named.{NamesAll};
 ghost use Rattle.icu_shortcuts.specs.SafeTables.{safe_reading};
-ghost use Rattle.icu_cursor.specs.inner.Pieces.{MayBeCut};
+ghost use Rattle.icu_cursor.specs.inner.Places.{MayBeCut};
 ghost use Rattle.icu_cursor.specs.inner.Runs.{IsInRun};
 ghost use Rattle.icu_cursor.specs.inner.Standing.{Serves};
 
@@ -72,20 +73,18 @@ impl<'d> CursorTables<'d> {
         self.letters.get(c)
     }
 
-    /// What is known of a character.
-    #[tactic(auto, unfolding(crate::specs::Cursors::cursor_reading))]
-    pub(crate) fn letter(&self, c: char) -> Letter
-        ensures { Serves (cursor_reading self.now) c result }
+    /// The value that a digit has in a number, if it is one of those that are read most.
+    #[inline]
+    pub(crate) fn digit(&self, c: char) -> Option<u8>
+        ensures { IfSome result (λ d. IsNumberDigit (cursor_reading self.now) c d) }
     {
-        match self.kept_letter(c) {
-            Some(letter) => *letter,
-            None => self.other_letter(c),
-        }
+        let letter = self.kept_letter(c)?;
+        letter.digit
     }
 
-    /// The same of one that isn't among those that are read most.
+    /// What is known of a character that isn't among those that are read most.
     #[tactic(auto, unfolding(crate::specs::Cursors::cursor_reading))]
-    fn other_letter(&self, c: char) -> Letter
+    pub(crate) fn other_letter(&self, c: char) -> Letter
         ensures { Serves (cursor_reading self.now) c result }
     {
         match self.letters.syllable(c) {
@@ -94,7 +93,7 @@ impl<'d> CursorTables<'d> {
         }
     }
 
-    /// Whether a text may be cut before this character. False is right of any character.
+    /// Whether a text may be cut before this character. False says nothing.
     #[tactic(auto, unfolding(crate::specs::Cursors::cursor_reading))]
     pub(crate) fn is_safe(&self, c: char) -> bool
         ensures { IsTrue result → MayBeCut (cursor_reading self.now) c }

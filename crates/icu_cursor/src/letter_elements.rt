@@ -1,16 +1,18 @@
 //! The elements of a letter, one by one.
 
-ghost use Rattle.std.specs.Prelude.{◌≡◌, [], ◌++◌, None, option_to_list};
+ghost use Rattle.std.specs.Prelude.{◌≡◌, ◌≤◌, [], ◌++◌, None, drop, option_to_list};
 ghost use Rattle.icu_shortcuts.specs.Letters.{letter_elements};
 
 use icu_entries::CollationElement;
-use icu_shortcuts::{Letter, LetterKind};
+use icu_shortcuts::Letter;
 
 /// The elements of a letter that were not given yet.
 #[derive(Debug, Clone, Copy)]
 pub(crate) struct LetterElements {
-    letter: Letter,
-    next: usize,
+    elements: [CollationElement; 3],
+    count: u8,
+    next: u8,
+    ghost at_most_three: { count ≤ 3 },
 }
 
 impl LetterElements {
@@ -22,25 +24,40 @@ impl LetterElements {
         ensures { elements_ready result ≡ [] }
     {
         LetterElements {
-            letter: Letter {
-                elements: [CollationElement::default(); 3],
-                count: 0,
-                kind: LetterKind::Unknown,
-                class: 0,
-                is_safe: false,
-                begins_with_starter: false,
-                leading_primary: 0,
-            },
+            elements: [CollationElement::default(); 3],
+            count: 0,
             next: 0,
         }
     }
 
-    /// All elements of a letter.
+    /// Those of a letter after its first.
     #[tactic(auto, unfolding(crate::specs::inner::Ready::elements_ready))]
-    pub(crate) fn all(letter: Letter) -> LetterElements
-        ensures { elements_ready result ≡ letter_elements letter }
+    fn after_first(letter: &Letter) -> LetterElements
+        ensures { elements_ready result ≡ drop 1 (letter_elements letter.now) }
     {
-        LetterElements { letter, next: 0 }
+        LetterElements {
+            elements: letter.elements,
+            count: letter.count,
+            next: 1,
+        }
+    }
+
+    /// The first element of a letter, where none of another is left. The others are kept.
+    #[inline]
+    pub(crate) fn begin(&mut self, letter: &Letter) -> Option<CollationElement>
+        requires { elements_ready self.old ≡ [] }
+        ensures { letter_elements letter.now ≡ option_to_list result ++ elements_ready self.new }
+    {
+        if letter.count == 0 {
+            return None;
+        }
+        let elements = &letter.elements[..];
+        let first = elements[0];
+        if letter.count == 1 {
+            return Some(first);
+        }
+        *self = LetterElements::after_first(letter);
+        Some(first)
     }
 
     /// The first of them, which is given.
@@ -49,11 +66,11 @@ impl LetterElements {
         ensures next { elements_ready self.old ≡ option_to_list result ++ elements_ready self.new }
         ensures end { result ≡ None → elements_ready self.old ≡ [] }
     {
-        if self.next >= self.letter.count as usize {
+        if self.next >= self.count {
             return None;
         }
-        let elements = &self.letter.elements[..];
-        let element = elements[self.next];
+        let elements = &self.elements[..];
+        let element = elements[self.next as usize];
         self.next += 1;
         Some(element)
     }

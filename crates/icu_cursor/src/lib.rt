@@ -5,6 +5,7 @@
 pub mod cursor;
 pub mod cursor_tables;
 mod letter_elements;
+mod number;
 mod piece;
 mod recent_letters;
 mod stands;

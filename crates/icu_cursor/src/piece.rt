@@ -6,15 +6,25 @@ ghost use Rattle.icu_elements.specs.ElementReaders.{elements_to_come};
 ghost use Rattle.icu_elements.specs.TextElements.{elements_after};
 ghost use Rattle.icu_cursor.specs.Cursors.{cursor_reading};
 ghost use Rattle.icu_cursor.specs.inner.Contexts.{context_of};
-ghost use Rattle.icu_cursor.specs.inner.Pieces.{IsPiece, piece_gives};
+ghost use Rattle.icu_cursor.specs.inner.Pieces.{IsPiece, begun_gives, piece_gives};
 
 use crate::cursor_tables::CursorTables;
+use crate::number::NumberElements;
 use crate::recent_letters::RecentLetters;
 use icu_elements::ElementReader;
 use icu_encodings::EncodedText;
 use icu_entries::CollationElement;
 use std::alloc::AllocError;
 use unicode_normalization::slice::extend_nfd;
+
+/// A piece of which not all elements were given.
+#[derive(Drop)]
+pub(crate) enum Piece<'d> {
+    /// A text, which is read. The reader is large, so it stands apart.
+    Text(Box<ElementReader<'d>>),
+    /// A number.
+    Number(NumberElements),
+}
 
 /// The piece that begins with a character, and ends before the next character of the text before which it may be cut;
 /// and the text from there on.
@@ -44,33 +54,50 @@ pub(crate) fn read_piece<'d>(
     tables: &CursorTables<'d>,
     before: RecentLetters,
     piece: &[char],
-) -> Result<ElementReader<'d>, AllocError>
-    ensures { IfOk result (λ r. elements_to_come r ≡ elements_after (cursor_reading tables.now) (context_of before) (nfd piece.now)) }
+) -> Result<Piece<'d>, AllocError>
+    ensures { IfOk result (λ p. begun_gives p ≡ elements_after (cursor_reading tables.now) (context_of before) (nfd piece.now)) }
 {
     let alloc = tables.tables.allocator();
     let before = before.decomposed(alloc)?;
     let mut text = Vec::new(alloc);
     extend_nfd(&mut text, piece)?;
-    Ok(ElementReader::after(
+    let reader = ElementReader::after(
         before.as_slice(),
         text,
         tables.tables,
         tables.numeric_primary,
         tables.lithuanian_dot_above,
-    ))
+    );
+    Ok(Piece::Text(Box::new(alloc, reader)?))
+}
+
+impl Piece<'_> {
+    /// Its next element, or `None` after the last one.
+    fn next(&mut self) -> Result<Option<CollationElement>, AllocError>
+        ensures next { IfOk result (λ next. begun_gives self.old ≡ option_to_list next ++ begun_gives self.new) }
+        ensures end { IfOk result (λ next. next ≡ None → begun_gives self.old ≡ []) }
+    {
+        match self {
+            Piece::Text(reader) => {
+                let next = reader.next()?;
+                Ok(next)
+            }
+            Piece::Number(number) => Ok(number.take_first()),
+        }
+    }
 }
 
 /// The next element of a piece. After its last one there is no piece any more.
 pub(crate) fn next_of_piece(
-    piece: &mut Option<ElementReader<'_>>,
+    piece: &mut Option<Piece<'_>>,
 ) -> Result<Option<CollationElement>, AllocError>
     ensures next { IfOk result (λ next. piece_gives piece.old ≡ option_to_list next ++ piece_gives piece.new) }
     ensures end { IfOk result (λ next. next ≡ None → piece_gives piece.new ≡ []) }
 {
-    if let Some(reader) = piece {
-        let next = reader.next()?;
-        if next.is_some() {
-            return Ok(next);
+    if let Some(begun) = piece {
+        let given = begun.next()?;
+        if given.is_some() {
+            return Ok(given);
         }
     }
     *piece = None;

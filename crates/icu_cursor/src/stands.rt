@@ -2,6 +2,7 @@
 
 ghost use Rattle.std.specs.Prelude.{ℕ, IsTrue};
 ghost use Rattle.icu_cursor.specs.Cursors.{cursor_reading};
+ghost use Rattle.icu_cursor.specs.inner.Places.{BeginsSafely};
 ghost use Rattle.icu_cursor.specs.inner.Runs.{Rises};
 ghost use Rattle.icu_cursor.specs.inner.Standing.{Serves, StandsBefore};
 
@@ -13,8 +14,8 @@ use icu_shortcuts::{Letter, LetterKind};
 /// often than this.
 const MARKS_AHEAD: u32 = 6;
 
-/// Whether the classes of the marks that a text begins with rise from this one, and are few. False is right of any
-/// text.
+/// Whether the classes of the marks that a text begins with rise from this one, and are few. False says
+/// nothing.
 fn rises<T: EncodedText>(tables: &CursorTables<'_>, class: u8, text: T) -> bool
     ensures { IsTrue result → Rises class (T.text text) }
 {
@@ -39,8 +40,18 @@ fn rises<T: EncodedText>(tables: &CursorTables<'_>, class: u8, text: T) -> bool
     false
 }
 
-/// Whether a letter gives its own elements before a text, and changes nothing of the text's. False is right of any
-/// letter.
+/// Whether a text ends, or may be cut before its first character. False says nothing.
+pub(crate) fn begins_safely<T: EncodedText>(tables: &CursorTables<'_>, text: T) -> bool
+    ensures { IsTrue result → BeginsSafely (cursor_reading tables.now) (T.text text) }
+{
+    match text.split_first_char() {
+        Some((c, _)) => tables.is_safe(c),
+        None => true,
+    }
+}
+
+/// Whether a letter gives its own elements before a text, and changes nothing of the text's. False says
+/// nothing.
 pub(crate) fn stands_before<T: EncodedText>(
     tables: &CursorTables<'_>,
     letter: &Letter,
@@ -53,5 +64,6 @@ pub(crate) fn stands_before<T: EncodedText>(
         LetterKind::Unknown => false,
         LetterKind::Starters => true,
         LetterKind::Marked | LetterKind::Mark => rises(tables, letter.class, text),
+        LetterKind::Base => begins_safely(tables, text),
     }
 }

@@ -16,6 +16,3 @@ pub use encoded_text::{Characters, EncodedText, Latin1Text, Utf8Text, Utf16Text}
 pub use latin1::{Latin1Chars, Latin1Iter};
 pub use utf8::utf8_chars;
 pub use utf16::Utf16Chars;
-
-#[cfg(test)]
-mod tests;

@@ -1,5 +1,5 @@
 -- What is kept of a character by tests is what is known of it.
-use Rattle.std.proofs.Common.{◌≡◌, ◌==◌, ◌&&◌, ℕ, Bool, true, false, not, List, [], ◌∷◌, refl, ap, ◌∙◌, is_some, arith}
+use Rattle.std.proofs.Common.{◌≡◌, ◌==◌, ◌&&◌, ℕ, Bool, true, false, not, List, [], ◌∷◌, refl, ap, ◌∙◌, is_some, arith, Option, Some, None, IfSome, subst}
 use Rattle.std.proofs.lemmas.Bool.{eqb-true}
 use Rattle.std.proofs.lemmas.Bool.Decides.{nat_tests}
 use Rattle.ucd_normal.specs.declared.forms.Form.TheVariants.{Nfd}
@@ -10,7 +10,7 @@ use Rattle.icu_elements.specs.TextElements.{Reading, continues_number}
 use Rattle.icu_cuts.specs.Alone.{elements_of_char, is_alone}
 use Rattle.icu_cuts.specs.Cuts.{IsSafe, is_named, is_named_by_tailoring, has_prefix}
 use Rattle.icu_shortcuts.specs.SafeTables.{IsSafeBefore}
-use Rattle.icu_shortcuts.specs.Letters.{BeginsWithStarter, IsLetter, IsMarkedStarter, LeadsWith, StandsAlone}
+use Rattle.icu_shortcuts.specs.Letters.{BeginsWithStarter, IsLetter, IsNumberDigit, IsMarkedStarter, LeadsWith, StandsAlone}
 use Rattle.icu_shortcuts.specs.KeptLetters.{KeptLetter, begins_with, is_marked_starter, is_safe_place, starts_safely, starts_with_primary, starts_with_starter}
 use Rattle.icu_shortcuts.specs.declared.letter_facts.Letter.{Letter}
 
@@ -65,6 +65,16 @@ module _ (reading : Reading) (x : ℕ) where
         no_number = unset number (second (not prefix) _ c);
       }
 
+-- ---- digits
+
+some_is : (o : Option ℕ) (P : ℕ → Type 0) → IfSome o P → (d : ℕ) → o ≡ Some d → P d
+some_is (Some e) P h d is = let same : e ≡ d = cc in subst P same h
+some_is None P h d is = absurd (cc)
+
+if_some : (o : Option ℕ) (P : ℕ → Type 0) → ((d : ℕ) → o ≡ Some d → P d) → IfSome o P
+if_some (Some d) P h = h d refl
+if_some None P h = tt
+
 -- ---- from what is known to what is kept
 
 pub kept_letter : (reading : Reading) (c : ℕ) (l : Letter) → IsLetter reading c l → KeptLetter reading c l
@@ -74,6 +84,8 @@ kept_letter reading c l h = record {
   marked_alone = λ e. (h.marked e).stands;
   marked = λ e. let m = h.marked e in ap (is_marked_starter l.class) m.decomposes ∙ both _ _ m.starter m.in_order;
   mark = h.mark;
+  base = h.base;
+  digit = some_is l.digit (λ d. IsNumberDigit reading c d) h.digit;
   begins = λ e. let b = h.begins e in ap starts_with_starter b.decomposes ∙ b.starter;
   safe = λ e. let s = h.safe e in ap (starts_safely reading) s.decomposes ∙ safe_tests reading s.first s.safe;
   leads = λ e. let p = h.leads e in
@@ -133,6 +145,8 @@ module _ (reading : Reading) (c : ℕ) where
     starters = h.starters;
     marked = λ e. marked_from l _ refl (h.marked_alone e) (h.marked e);
     mark = h.mark;
+    base = h.base;
+    digit = if_some l.digit (λ d. IsNumberDigit reading c d) h.digit;
     begins = λ e. starter_from _ refl (h.begins e);
     safe = λ e. safely_from _ refl (h.safe e);
     leads = λ e. leads_from l.leading_primary _ refl (h.leads e);

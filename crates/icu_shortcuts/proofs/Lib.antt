@@ -4,3 +4,4 @@ mod EntryLemmas
 mod FewLemmas
 mod KeptLemmas
 mod SyllableLemmas
+mod BaseLemmas

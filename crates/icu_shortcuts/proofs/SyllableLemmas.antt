@@ -1,16 +1,17 @@
 -- Letters whose characters decompose to themselves.
-use Rattle.std.proofs.Common.{◌≡◌, ◌≤◌, ◌&&◌, ℕ, Bool, true, false, List, [], ◌∷◌, ◌++◌, take, length, get_or, refl, sym, ap, ap₂, subst, ◌∙◌, arith}
+use Rattle.std.proofs.Common.{◌≡◌, ◌≤◌, ◌<◌, ◌&&◌, ℕ, Bool, true, false, List, [], ◌∷◌, ◌++◌, take, length, get_or, Option, None, IfSome, refl, sym, ap, ap₂, subst, ◌∙◌, arith}
 use Rattle.std.specs.List.{list_all}
 use Rattle.std.proofs.lemmas.List.Folds.{list_all-append}
 use Rattle.std.proofs.lemmas.List.Concat.{flat_map-append}
 use Rattle.ucd_normal.specs.declared.forms.Form.TheVariants.{Nfd}
 use Rattle.unicode_normalization.specs.Decompose.{decompose}
 use Rattle.unicode_normalization.specs.Order.{is_starter}
+use Rattle.unicode_normalization.proofs.DecomposeLemmas.{decompose-final, is_final-jamo}
 use Rattle.icu_entries.specs.Elements.{Element}
 use Rattle.icu_elements.specs.TextElements.{Reading}
 use Rattle.icu_cuts.specs.Alone.{elements_by_char, elements_of_char, is_alone}
 use Rattle.icu_cuts.specs.Cuts.{IsSafe}
-use Rattle.icu_shortcuts.specs.Letters.{IsLetter, letter_elements}
+use Rattle.icu_shortcuts.specs.Letters.{IsLetter, IsNumberDigit, letter_elements}
 use Rattle.icu_shortcuts.specs.ReadLetters.{IsOutline, LeadsBy}
 use Rattle.icu_shortcuts.specs.Syllables.{IsOwnLetter, StandByThemselves}
 use Rattle.icu_shortcuts.specs.declared.letter_facts.Letter.{Letter}
@@ -32,6 +33,15 @@ first_of (x ∷ xs) e d some is = ap (λ y. y ∷ []) (sym is)
 
 pub own_none : (reading : Reading) (es : List Element) → es ≡ [] → StandByThemselves reading [] es
 own_none reading es e = record { alone = refl; starters = refl; elements = e }
+
+-- a jamo
+pub own_jamo : (reading : Reading) (c : ℕ) (l : Letter) → 0x1100 ≤ c → c < 0x1200 → l.kind ≡ Starters → l.count ≡ 1 → IsLetter reading c l → IsOwnLetter reading c l
+own_jamo reading c l low high kind count is = record {
+  itself = decompose-final Nfd c (is_final-jamo Nfd c low high);
+  kind = kind;
+  count = count;
+  is = is;
+}
 
 -- one more
 module _ (reading : Reading) (cs : List ℕ) (c : ℕ) (l : Letter) (es : List Element) (e d : Element)
@@ -61,14 +71,16 @@ own_outline reading c l o = record {
 
 -- a letter whose decomposition they are
 pub whole_letter : (reading : Reading) (c first : ℕ) (more parts : List ℕ) (l : Letter) → decompose Nfd c ≡ parts → parts ≡ first ∷ more
-    → IsOutline reading first l → StandByThemselves reading parts (letter_elements l) → l.kind ≡ Starters → IsLetter reading c l
-whole_letter reading c first more parts l dec p h s kind = record {
+    → IsOutline reading first l → StandByThemselves reading parts (letter_elements l) → l.kind ≡ Starters → l.digit ≡ None → IsLetter reading c l
+whole_letter reading c first more parts l dec p h s kind no_digit = record {
   starters = λ e. record {
     stands = record { alone = ap (list_all (is_alone reading)) dec ∙ s.alone; elements = s.elements ∙ ap (elements_by_char reading.tables) (sym dec) };
     starters = ap (list_all is_starter) dec ∙ s.starters;
   };
   marked = λ e. absurd (cc (sym kind ∙ e));
   mark = λ e. absurd (cc (sym kind ∙ e));
+  base = λ e. absurd (cc (sym kind ∙ e));
+  digit = subst (λ (o : Option ℕ). IfSome o (λ d. IsNumberDigit reading c d)) (sym no_digit) tt;
   begins = λ e. record { first = first; more = more; decomposes = dec ∙ p; starter = h.begins e };
   safe = λ e. record { first = first; more = more; decomposes = dec ∙ p; safe = h.safe e };
   leads = λ e. let k = h.leads e in record {

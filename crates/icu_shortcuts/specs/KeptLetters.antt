@@ -1,5 +1,5 @@
 -- What a table keeps of a character, each fact by a test of its decomposition.
-use Rattle.std.specs.Prelude.{◌≡◌, ◌≢◌, ◌<◌, ◌+◌, ◌==◌, ◌&&◌, ℕ, Bool, true, false, not, List, [], ◌∷◌, length, slice_index_or, IsTrue, is_some}
+use Rattle.std.specs.Prelude.{◌≡◌, ◌≢◌, ◌<◌, ◌+◌, ◌==◌, ◌&&◌, ℕ, Bool, true, false, not, List, [], ◌∷◌, ◌++◌, length, slice_index_or, IsTrue, Some, is_some}
 use Rattle.ucd_normal.specs.declared.forms.Form.TheVariants.{Nfd}
 use Rattle.unicode_normalization.specs.Decompose.{decompose}
 use Rattle.unicode_normalization.specs.Order.{is_starter}
@@ -7,9 +7,9 @@ use Rattle.icu_entries.specs.Elements.{Element}
 use Rattle.icu_elements.specs.TextElements.{Reading, continues_number}
 use Rattle.icu_cuts.specs.Alone.{elements_of_char, is_alone}
 use Rattle.icu_cuts.specs.Cuts.{is_named, is_named_by_tailoring, has_prefix}
-use Rattle.icu_shortcuts.specs.Letters.{StandsAlone, HasStarters, IsLoneMark, rises_to}
+use Rattle.icu_shortcuts.specs.Letters.{StandsAlone, HasStarters, IsLoneMark, IsBase, IsNumberDigit, rises_to}
 use Rattle.icu_shortcuts.specs.declared.letter_facts.Letter.{Letter}
-use Rattle.icu_shortcuts.specs.declared.letter_facts.LetterKind.TheVariants.{Starters, Marked, Mark}
+use Rattle.icu_shortcuts.specs.declared.letter_facts.LetterKind.TheVariants.{Starters, Marked, Mark, Base}
 
 -- a text may be cut before it, as the tests say
 abbrev pub is_safe_place : Reading → ℕ → Bool
@@ -45,6 +45,8 @@ pub record KeptLetter (reading : Reading) (c : ℕ) (l : Letter) : Type 0 where
   pub marked_alone : l.kind ≡ Marked → StandsAlone reading c l
   pub marked : l.kind ≡ Marked → is_marked_starter l.class (decompose Nfd c) ≡ true
   pub mark : l.kind ≡ Mark → IsLoneMark reading c l
+  pub base : l.kind ≡ Base → IsBase reading c l
+  pub digit : (d : ℕ) → l.digit ≡ Some d → IsNumberDigit reading c d
   pub begins : IsTrue l.begins_with_starter → starts_with_starter (decompose Nfd c) ≡ true
   pub safe : IsTrue l.is_safe → starts_safely reading (decompose Nfd c) ≡ true
   pub leads : l.leading_primary ≢ 0 → starts_with_primary reading l.leading_primary (decompose Nfd c) ≡ true
@@ -52,3 +54,9 @@ pub record KeptLetter (reading : Reading) (c : ℕ) (l : Letter) : Type 0 where
 -- what is kept of characters from this one on, in order, is so
 abbrev pub AreLettersFrom : Reading → ℕ → List Letter → Type 0
 AreLettersFrom reading first letters = (k : ℕ) (other : Letter) → k < length letters → KeptLetter reading (first + k) (slice_index_or letters k other)
+
+-- what is kept of one more character was appended
+pub record IsOneMore (reading : Reading) (c : ℕ) (old new : List Letter) : Type 0 where
+  pub letter : Letter
+  pub appended : new ≡ old ++ letter ∷ []
+  pub kept : KeptLetter reading c letter

@@ -1,16 +1,17 @@
 -- What is known of a character before it is read: how it may be read by itself, and where a text may be cut before it.
-use Rattle.std.specs.Prelude.{◌≡◌, ◌≢◌, ℕ, Bool, true, ◌&&◌, ◌==◌, nat_le, List, [], ◌∷◌, take, IsTrue}
+use Rattle.std.specs.Prelude.{◌≡◌, ◌≢◌, ◌<◌, ℕ, Bool, true, ◌&&◌, ◌==◌, nat_le, List, [], ◌∷◌, take, IsTrue, IfSome}
 use Rattle.std.specs.List.{list_all}
 use Rattle.ucd_normal.specs.CanonicalCombiningClass.{canonical_combining_class as class_of}
 use Rattle.ucd_normal.specs.declared.forms.Form.TheVariants.{Nfd}
 use Rattle.unicode_normalization.specs.Decompose.{decompose}
+use Rattle.unicode_normalization.specs.Forms.{nfd}
 use Rattle.unicode_normalization.specs.Order.{is_starter, is_nonstarter}
 use Rattle.icu_entries.specs.Elements.{Element}
-use Rattle.icu_elements.specs.TextElements.{Reading}
+use Rattle.icu_elements.specs.TextElements.{Reading, continues_number, digit_of, elements_after}
 use Rattle.icu_cuts.specs.Alone.{elements_by_char, elements_of_char, is_alone}
 use Rattle.icu_shortcuts.specs.SafeTables.{IsSafeBefore}
 use Rattle.icu_shortcuts.specs.declared.letter_facts.Letter.{Letter}
-use Rattle.icu_shortcuts.specs.declared.letter_facts.LetterKind.TheVariants.{Starters, Marked, Mark}
+use Rattle.icu_shortcuts.specs.declared.letter_facts.LetterKind.TheVariants.{Starters, Marked, Mark, Base}
 
 -- the elements that are kept of a character
 abbrev pub letter_elements : Letter → List Element
@@ -65,11 +66,24 @@ pub record LeadsWith (reading : Reading) (c : ℕ) (primary : ℕ) : Type 0 wher
   pub elements : elements_of_char reading.tables first ≡ element ∷ rest
   pub leading : element.primary ≡ primary
 
+-- it gives the elements kept as a text by itself, whatever stands before
+pub record IsBase (reading : Reading) (c : ℕ) (l : Letter) : Type 0 where
+  pub at_end : (before : List ℕ) → elements_after reading before (nfd (c ∷ [])) ≡ letter_elements l
+
+-- a digit that decomposes to itself, goes on numbers, and has this value there
+pub record IsNumberDigit (reading : Reading) (c digit : ℕ) : Type 0 where
+  pub low : c < 0xC0
+  pub continues : continues_number reading.tables c ≡ true
+  pub value : digit_of reading.tables c ≡ digit
+  pub decimal : digit < 10
+
 -- what is known of a character is so
 pub record IsLetter (reading : Reading) (c : ℕ) (l : Letter) : Type 0 where
   pub starters : l.kind ≡ Starters → HasStarters reading c l
   pub marked : l.kind ≡ Marked → IsMarkedStarter reading c l
   pub mark : l.kind ≡ Mark → IsLoneMark reading c l
+  pub base : l.kind ≡ Base → IsBase reading c l
+  pub digit : IfSome l.digit (λ d. IsNumberDigit reading c d)
   pub begins : IsTrue l.begins_with_starter → BeginsWithStarter c
   pub safe : IsTrue l.is_safe → IsSafeBefore reading c
   pub leads : l.leading_primary ≢ 0 → LeadsWith reading c l.leading_primary

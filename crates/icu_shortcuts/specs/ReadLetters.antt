@@ -10,7 +10,7 @@ use Rattle.icu_cuts.specs.Alone.{elements_of_char, is_alone}
 use Rattle.icu_shortcuts.specs.Letters.{rises_to}
 use Rattle.icu_shortcuts.specs.declared.letter_facts.Letter.{Letter}
 use Rattle.icu_shortcuts.specs.declared.letter_facts.LetterKind.{LetterKind}
-use Rattle.icu_shortcuts.specs.declared.letter_facts.LetterKind.TheVariants.{Starters, Marked, Mark}
+use Rattle.icu_shortcuts.specs.declared.letter_facts.LetterKind.TheVariants.{Starters, Marked, Mark, Base}
 
 -- of what kind it is, if all of it stands alone
 pub record IsShaped (c first : ℕ) (more : List ℕ) (kind : LetterKind) (last : ℕ) : Type 0 where
@@ -20,6 +20,7 @@ pub record IsShaped (c first : ℕ) (more : List ℕ) (kind : LetterKind) (last 
   pub mark : kind ≡ Mark → more ≡ []
   pub itself : kind ≡ Mark → first ≡ c
   pub class : kind ≡ Mark → class_of c ≡ last
+  pub no_base : kind ≢ Base
 
 -- a starter that stands alone, whose elements begin with this primary weight
 pub record LeadsBy (reading : Reading) (first : ℕ) (primary : ℕ) : Type 0 where

@@ -18,6 +18,10 @@ pub enum LetterKind {
     /// A mark that decomposes to itself and gives the same elements wherever it stands: it may be read by itself where
     /// no later mark of its run has a lower class.
     Mark,
+    /// Its decomposition begins with a character that begins contractions, and its elements are those that it gives as
+    /// a text by itself, whatever stands before it: it may be read by itself at the end of a text, and before a
+    /// character before which texts may be cut.
+    Base,
 }
 
 /// What is known of a character, by its canonical decomposition (UAX #15) and its entries (UTS #35 part 5, "Collation
@@ -38,5 +42,8 @@ pub struct Letter {
     pub begins_with_starter: bool,
     /// The primary weight that the elements of each text that begins with it begin with, or 0 where that is not known.
     pub leading_primary: u32,
+    /// The value that it has in a number, from 0 to 9, where it is a digit below U+00C0 and digits may be read as
+    /// numbers (UTS #35 part 5, "Setting Options"). Where this is `None`, that is not known.
+    pub digit: Option<u8>,
     ghost at_most_three: { count ≤ 3 },
 }

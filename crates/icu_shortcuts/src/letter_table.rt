@@ -1,13 +1,13 @@
 //! What is known of the characters that are read most.
 
-ghost use Rattle.std.specs.Prelude.{◌≡◌, ◌+◌, ◌≤◌, ◌<◌, ◌++◌, ◌∷◌, [], length, is_some, IfOk, IfSome, OnOk};
+ghost use Rattle.std.specs.Prelude.{◌≡◌, ◌+◌, ◌≤◌, ◌<◌, length, is_some, IfOk, IfSome, OnOk};
 ghost use Rattle.icu_elements.specs.TextElements.{Reading};
 ghost use Rattle.icu_shortcuts.specs.SafeTables.{safe_reading};
 ghost use Rattle.icu_shortcuts.specs.Letters.{IsLetter};
-ghost use Rattle.icu_shortcuts.specs.KeptLetters.{KeptLetter, AreLettersFrom};
+ghost use Rattle.icu_shortcuts.specs.KeptLetters.{KeptLetter, AreLettersFrom, IsOneMore};
 
+use crate::bases::letter_to_keep;
 use crate::letter_facts::Letter;
-use crate::read_letter::letter_of;
 use crate::safe_places::SafePlaces;
 use std::alloc::{AllocError, Global};
 
@@ -71,26 +71,33 @@ fn letters_from(
 {
     let mut letters: Vec<Letter> = Vec::with_capacity(alloc, count as usize)?;
     for code in first..first + count {
-        push_letter(&mut letters, letter_at(places, code))?;
+        push_letter_at(alloc, places, &mut letters, code)?;
     }
     Ok(letters)
 }
 
 /// What is known of the character with a code below U+D800.
 #[tactic(auto, using(crate::proofs::KeptLemmas::kept_letter))]
-fn letter_at(places: SafePlaces<'_>, code: u32) -> Letter
+fn letter_at(alloc: Global, places: SafePlaces<'_>, code: u32) -> Result<Letter, AllocError>
     requires { code < 0xD800 }
-    ensures { KeptLetter (safe_reading places.entry) code result }
+    ensures { IfOk result (λ letter. KeptLetter (safe_reading places.entry) code letter) }
 {
     match char::from_u32(code) {
-        Some(c) => letter_of(&places, c),
+        Some(c) => letter_to_keep(alloc, &places, c),
         None => unreachable!(),
     }
 }
 
-/// Appends what is known of one more character.
-fn push_letter(letters: &mut Vec<Letter>, letter: Letter) -> Result<(), AllocError>
-    ensures { OnOk result (letters.new.items ≡ letters.old.items ++ letter ∷ []) }
+/// Appends what is known of one more character, with a code below U+D800.
+fn push_letter_at(
+    alloc: Global,
+    places: SafePlaces<'_>,
+    letters: &mut Vec<Letter>,
+    code: u32,
+) -> Result<(), AllocError>
+    requires { code < 0xD800 }
+    ensures { OnOk result (IsOneMore (safe_reading places.entry) code letters.old.items letters.new.items) }
 {
+    let letter = letter_at(alloc, places, code)?;
     letters.extend_from_slice(&[letter])
 }

@@ -3,6 +3,8 @@
 #![tactic(auto)]
 
 mod alone;
+mod bases;
+mod digits;
 mod few_elements;
 pub mod letter_facts;
 pub mod letter_table;

@@ -1,6 +1,6 @@
 //! What is known of one character, worked out from the tables.
 
-ghost use Rattle.std.specs.Prelude.{◌≡◌, ◌≢◌, ◌∷◌, ℕ, true};
+ghost use Rattle.std.specs.Prelude.{◌≡◌, ◌≢◌, ◌∷◌, ℕ, true, None};
 ghost use Rattle.ucd_normal.specs.declared.forms.Form.TheVariants.{Nfd};
 ghost use Rattle.unicode_normalization.specs.Decompose.{decompose};
 ghost use Rattle.icu_elements.specs.TextElements.{Reading};
@@ -37,6 +37,7 @@ fn leading_primary(places: &SafePlaces<'_>, first: char, few: &FewElements) -> u
 fn outline(places: &SafePlaces<'_>, first: char, leading_primary: u32) -> Letter
     requires { leading_primary ≢ 0 → LeadsBy (safe_reading places.now) first leading_primary }
     ensures kind { result.kind ≡ Unknown }
+    ensures digit { result.digit ≡ None }
     ensures first { IsOutline (safe_reading places.now) first result }
 {
     Letter {
@@ -47,6 +48,7 @@ fn outline(places: &SafePlaces<'_>, first: char, leading_primary: u32) -> Letter
         is_safe: places.is_safe_first(first),
         begins_with_starter: canonical_combining_class(first) == 0,
         leading_primary,
+        digit: None,
     }
 }
 
@@ -55,6 +57,10 @@ fn outline(places: &SafePlaces<'_>, first: char, leading_primary: u32) -> Letter
 pub(crate) fn with_elements(known: Letter, all: FewElements, shape: (LetterKind, u8)) -> Letter
     ensures elements { letter_elements result ≡ few_elements all }
     ensures kind { (result.kind ≡ shape.0) × (result.class ≡ shape.1) }
+    ensures digit { result.digit ≡ None }
+    ensures safe { result.is_safe ≡ known.is_safe }
+    ensures begins { result.begins_with_starter ≡ known.begins_with_starter }
+    ensures leads { result.leading_primary ≡ known.leading_primary }
     ensures first { (reading : Reading) (first : ℕ) → IsOutline reading first known → IsOutline reading first result }
 {
     Letter {
@@ -65,6 +71,7 @@ pub(crate) fn with_elements(known: Letter, all: FewElements, shape: (LetterKind,
         is_safe: known.is_safe,
         begins_with_starter: known.begins_with_starter,
         leading_primary: known.leading_primary,
+        digit: None,
     }
 }
 

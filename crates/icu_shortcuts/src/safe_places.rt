@@ -46,7 +46,7 @@ impl<'d> SafePlaces<'d> {
     }
 
     /// Whether a text may be cut before this character. It may where the first character of its canonical decomposition
-    /// is a starter that no row names, and has no prefixes and goes on no number. False is right of any character.
+    /// is a starter that no row names, and has no prefixes and goes on no number. False says nothing.
     pub fn is_safe(&self, c: char) -> bool
         ensures { IsTrue result → IsSafeBefore (safe_reading self.now) c }
     {

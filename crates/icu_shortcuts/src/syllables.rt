@@ -17,18 +17,17 @@ use unicode_normalization::Form;
 use unicode_normalization::char::decomposition;
 
 impl Letters {
-    /// What is kept of a character that decomposes to itself, is a starter, and has one element.
+    /// What is kept of a conjoining jamo that has one element: each decomposes to itself (UAX #15).
     #[inline]
     fn own_letter(&self, c: char) -> Option<&Letter>
         ensures { IfSome result (λ l. (reading : Reading) → AreLetters reading self.now → IsOwnLetter reading c l.now) }
     {
-        let letter = self.get(c)?;
-        if letter.count != 1 || letter.kind != LetterKind::Starters {
+        if c < '\u{1100}' || c >= '\u{1200}' {
             return None;
         }
-        let mut room = [c; 3];
-        match decomposition(c, Form::Nfd, &mut room) {
-            [itself] if *itself == c => Some(letter),
+        let letter = self.get(c)?;
+        match letter.kind {
+            LetterKind::Starters if letter.count == 1 => Some(letter),
             _ => None,
         }
     }

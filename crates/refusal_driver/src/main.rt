@@ -12,6 +12,7 @@ mod elements;
 mod index;
 mod kept;
 mod keys;
+mod names;
 mod sinks;
 mod stop;
 mod texts;
@@ -52,7 +53,9 @@ fn run(rt: &HostRuntime) -> Result<(), Stop> {
     if wants("index") {
         index::run(rt)?;
     }
-    beginnings::run(rt, part.as_ref().map(|part| part.as_str()))
+    let part = part.as_ref().map(|part| part.as_str());
+    beginnings::run(rt, part)?;
+    names::run(rt, part)
 }
 
 fn main(rt: HostRuntime) -> ExitCode {

@@ -1,29 +1,24 @@
 -- Pieces of a text.
-use Rattle.std.specs.Prelude.{◌≡◌, ℕ, List, [], ◌∷◌, ◌++◌, Option, Some, None, ⊤}
-use Rattle.unicode_normalization.specs.Forms.{nfd}
+use Rattle.std.specs.Prelude.{◌≡◌, ℕ, List, [], ◌++◌, Option, Some, None}
 use Rattle.icu_entries.specs.Elements.{Element}
-use Rattle.icu_elements.specs.declared.element_reader.ElementReader.{ElementReader}
 use Rattle.icu_elements.specs.ElementReaders.{elements_to_come}
-use Rattle.icu_elements.specs.TextElements.{Reading, elements_after}
-
--- a text that has the character may be cut before it: the elements are those of the two parts, whatever stands before
--- either
-abbrev pub MayBeCut : Reading → ℕ → Type 0
-MayBeCut reading c =
-    (before after piece text : List ℕ)
-    → elements_after reading before (nfd (piece ++ c ∷ text)) ≡ elements_after reading before (nfd piece) ++ elements_after reading after (nfd (c ∷ text))
-
--- the text ends, or may be cut before its first character
-abbrev pub BeginsSafely : Reading → List ℕ → Type 0
-BeginsSafely reading [] = ⊤
-BeginsSafely reading (c ∷ cs) = MayBeCut reading c
+use Rattle.icu_elements.specs.TextElements.{Reading}
+use Rattle.icu_cursor.specs.declared.piece.Piece.{Piece}
+use Rattle.icu_cursor.specs.declared.piece.Piece.TheVariants.{Text, Number}
+use Rattle.icu_cursor.specs.inner.Numbers.{number_left}
+use Rattle.icu_cursor.specs.inner.Places.{BeginsSafely}
 
 -- a text is this piece, and then the rest, which begins safely
 pub record IsPiece (reading : Reading) (text piece rest : List ℕ) : Type 0 where
   pub parts : text ≡ piece ++ rest
   pub safe : BeginsSafely reading rest
 
--- what the reader of a piece still gives, if there is one
-abbrev pub piece_gives : Option ElementReader → List Element
+-- what a piece still gives
+abbrev pub begun_gives : Piece → List Element
+begun_gives (Text r) = elements_to_come r.value
+begun_gives (Number n) = number_left n
+
+-- the same, if there is one
+abbrev pub piece_gives : Option Piece → List Element
 piece_gives None = []
-piece_gives (Some r) = elements_to_come r
+piece_gives (Some p) = begun_gives p

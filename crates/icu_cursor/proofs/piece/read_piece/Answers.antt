@@ -1,5 +1,6 @@
 use Rattle.std.proofs.Common.{ℕ, List, [], ◌++◌, ap, ap₂, ◌∙◌}
 use Rattle.unicode_normalization.specs.Forms.{nfd}
+use Rattle.icu_elements.specs.ElementReaders.{elements_to_come}
 use Rattle.icu_elements.specs.TextElements.{elements_after, last_two}
 use Rattle.icu_cursor.specs.Cursors.{cursor_reading}
 use Rattle.icu_cursor.specs.inner.Contexts.{context_of}
@@ -9,6 +10,7 @@ pub returns : goal.returns
 unfolding cursor_reading context_of
 returns c =
     let piece = c.args.piece.now in
-    c.after.ensures
+    ap elements_to_come c.in_ok-new.ensures.ok
+    ∙ c.after-reader.ensures
     ∙ ap₂ (λ (b t : List ℕ). elements_after (cursor_reading c.args.tables.now) (last_two [] b) t) (c.as_slice.ensures.value ∙ c.in_ok-before.ensures)
     (c.in_ok-extend_nfd.ensures.ok ∙ ap (λ (l : List ℕ). l ++ nfd piece) c.new-text.ensures.items)

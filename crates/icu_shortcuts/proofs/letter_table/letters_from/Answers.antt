@@ -8,11 +8,12 @@ use Rattle.icu_shortcuts.proofs.letter_table.letters_from.Goals as goal
 pub loop-code-preserved : goal.loop-code-preserved
 loop-code-preserved c =
     let old = c.loop-code.letters.items in
-    let letter = c.letter_at.result in
-    let new : c.push_letter.new.letters.items ≡ old ++ letter ∷ [] = c.in_ok-push_letter.ensures in
+    let more = c.in_ok-push_letter_at.ensures in
+    let letter = more.letter in
+    let new : c.push_letter_at.new.letters.items ≡ old ++ letter ∷ [] = more.appended in
     let longer = ap length new ∙ length-append old (letter ∷ []) in
     let reading = safe_reading c.args.places in
     let at = c.loop-code.invariant.0 in (
       omega (arith, longer, at),
-      subst (AreLettersFrom reading c.args.first) (sym new) (letters_more reading c.args.first c.loop-code.code old letter at c.loop-code.invariant.1 c.letter_at.ensures),
+      subst (AreLettersFrom reading c.args.first) (sym new) (letters_more reading c.args.first c.loop-code.code old letter at c.loop-code.invariant.1 more.kept),
     )

@@ -6,10 +6,10 @@ use Rattle.icu_cursor.proofs.letter_elements.LetterElements.take_first.Goals as 
 pub returns-then-self-clause-end : goal.returns-then-self-clause-end
 unfolding elements_ready
 returns-then-self-clause-end c = λ _.
-    let l = c.args.self.now in none_taken l.letter.elements l.next l.letter.count c.if-self.true
+    let l = c.args.self.now in none_taken l.elements l.next l.count c.if-self.true
 
 pub returns-clause-next : goal.returns-clause-next
 unfolding elements_ready
 returns-clause-next c =
     let l = c.args.self.now in
-    next_taken l.letter.elements l.next l.letter.count _ c.if-self.false (search rules) c.index-elements-self.is
+    next_taken l.elements l.next l.count _ c.if-self.false (search rules) c.index-elements-self.is

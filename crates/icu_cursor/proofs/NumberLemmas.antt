@@ -1,0 +1,87 @@
+-- Runs of digits that are read as numbers.
+use Rattle.std.proofs.Common.{nat_lt, ◌≡◌, ℕ, ◌<◌, ◌≤◌, ◌+◌, Bool, true, false, not, ◌&&◌, List, [], ◌∷◌, ◌++◌, length, drop, get_or, map, Option, Some, refl, sym, ap, ap₂, ◌∙◌, append-nil, append_assoc, arith, zero-le}
+use Rattle.std.specs.List.{list_all}
+use Rattle.std.proofs.lemmas.Bool.{and_parts, and_from, ltb-true, lt-ltb}
+use Rattle.std.proofs.lemmas.List.{drop_more, map-append}
+use Rattle.std.proofs.Math.ListN.{drop_of_length-le}
+use Rattle.std.proofs.lemmas.List.Folds.{list_all-append}
+use Rattle.unicode_normalization.specs.Forms.{nfd}
+use Rattle.unicode_normalization.specs.Order.{is_starter}
+use Rattle.unicode_normalization.proofs.TableFacts.{class_of_latin}
+use Rattle.icu_entries.specs.Elements.{Element, of_primary}
+use Rattle.icu_elements.specs.TextElements.{Reading, continues_number, digit_of, begins_with_mark, number_elements, last_two, elements_after}
+use Rattle.icu_elements.proofs.StepLemmas.{elements_after_nil}
+use Rattle.icu_cuts.proofs.DigitLemmas.{elements_after-digits}
+use Rattle.icu_cuts.proofs.LetterLemmas.{low_text}
+use Rattle.icu_cuts.proofs.NfdLemmas.{nfd-nil}
+use Rattle.icu_shortcuts.specs.Letters.{IsNumberDigit}
+use Rattle.icu_cursor.specs.inner.Numbers.{IsRun, IsNumberPiece}
+use Rattle.icu_cursor.specs.inner.Places.{BeginsSafely}
+
+-- ---- runs
+
+-- no digit yet
+pub run_begun : (reading : Reading) (text digits : List ℕ) → IsRun reading text text digits digits
+run_begun reading text digits = record { chars = []; parts = refl; low = refl; continues = refl; values = sym (append-nil digits) }
+
+-- one more
+pub run_more : (reading : Reading) (text rest after old new : List ℕ) (c d : ℕ) → IsRun reading text rest old new → rest ≡ c ∷ after → IsNumberDigit reading c d
+    → IsRun reading text after old (new ++ d ∷ [])
+run_more reading text rest after old new c d h next is = record {
+  chars = h.chars ++ c ∷ [];
+  parts = h.parts ∙ ap (λ (l : List ℕ). h.chars ++ l) next ∙ sym (append_assoc h.chars (c ∷ []) after);
+  low = list_all-append (λ x. nat_lt x 0xC0) h.chars (c ∷ []) ∙ and_from _ _ h.low (and_from _ _ (lt-ltb c 0xC0 is.low) refl);
+  continues = list_all-append (continues_number reading.tables) h.chars (c ∷ []) ∙ and_from _ _ h.continues (and_from _ _ is.continues refl);
+  values =
+      ap₂ (λ (l : List ℕ) (e : ℕ). l ++ e ∷ []) h.values (sym is.value)
+      ∙ append_assoc old (map (digit_of reading.tables) h.chars) (digit_of reading.tables c ∷ [])
+      ∙ ap (λ (l : List ℕ). old ++ l) (sym (map-append (digit_of reading.tables) h.chars (c ∷ [])));
+}
+
+-- ---- numbers
+
+-- a low character is no mark
+unmarked : (cs : List ℕ) → list_all (λ c. nat_lt c 0xC0) cs ≡ true → begins_with_mark (cs ++ []) ≡ false
+unmarked [] low = refl
+unmarked (c ∷ cs) low =
+    let parts = and_parts (nat_lt c 0xC0) _ low in
+    ap not (class_of_latin c zero-le (omega (arith, ltb-true c 0xC0 parts.0)))
+
+low_piece : (cs : List ℕ) → list_all (λ c. nat_lt c 0xC0) cs ≡ true → nfd cs ≡ cs ++ []
+low_piece cs low = ap nfd (sym (append-nil cs)) ∙ low_text cs [] low ∙ ap (λ (l : List ℕ). cs ++ l) nfd-nil
+
+-- a text of digits is one number
+digits_alone : (reading : Reading) (lead : ℕ) (c : ℕ) (cs before : List ℕ) → reading.numeric ≡ Some lead → list_all (λ c. nat_lt c 0xC0) (c ∷ cs) ≡ true
+    → list_all (continues_number reading.tables) (c ∷ cs) ≡ true
+    → elements_after reading before (nfd (c ∷ cs)) ≡ number_elements lead (map (digit_of reading.tables) (c ∷ cs))
+digits_alone reading lead c cs before numeric low continues =
+    let parts = and_parts (nat_lt c 0xC0) _ low in
+    let es = number_elements lead (map (digit_of reading.tables) (c ∷ cs)) in
+    ap (elements_after reading before) (low_piece (c ∷ cs) low)
+    ∙ elements_after-digits reading lead before c cs [] numeric continues refl (unmarked cs parts.1)
+    ∙ ap (λ (l : List Element). es ++ l) (elements_after_nil reading (last_two before (c ∷ cs)))
+    ∙ append-nil es
+
+-- a digit and the run after it
+pub number_piece : (reading : Reading) (lead c d : ℕ) (text rest digits : List ℕ) (es : List Element) → reading.numeric ≡ Some lead → IsNumberDigit reading c d
+    → IsRun reading text rest (d ∷ []) digits → BeginsSafely reading rest → es ≡ number_elements lead digits → IsNumberPiece reading (c ∷ text) rest es
+number_piece reading lead c d text rest digits es numeric is run safe given = record {
+  piece = c ∷ run.chars;
+  parts = ap (λ (l : List ℕ). c ∷ l) run.parts;
+  safe = safe;
+  elements = λ before.
+      given
+      ∙ ap (number_elements lead) (run.values ∙ ap (λ (e : ℕ). e ∷ map (digit_of reading.tables) run.chars) (sym is.value))
+      ∙ sym (digits_alone reading lead c run.chars before numeric (and_from _ _ (lt-ltb c 0xC0 is.low) run.low) (and_from _ _ is.continues run.continues));
+}
+
+-- ---- their elements, one by one
+
+pub weight_taken : (ws : List ℕ) (next w : ℕ) (e : Element) → next < length ws → w ≡ get_or ws next w → e ≡ of_primary w
+    → map of_primary (drop next ws) ≡ e ∷ map of_primary (drop (next + 1) ws)
+weight_taken ws next w e inside is made =
+    ap (map of_primary) (drop_more ws next w inside ∙ ap (λ x. x ∷ drop (next + 1) ws) (sym is))
+    ∙ ap (λ (f : Element). f ∷ map of_primary (drop (next + 1) ws)) (sym made)
+
+pub no_weight : (ws : List ℕ) (next : ℕ) → length ws ≤ next → map of_primary (drop next ws) ≡ []
+no_weight ws next past = ap (map of_primary) (drop_of_length-le ws past)

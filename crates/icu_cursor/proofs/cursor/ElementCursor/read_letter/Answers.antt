@@ -1,0 +1,10 @@
+use Rattle.std.proofs.Common.{option_to_list}
+use Rattle.icu_cursor.specs.Cursors.{cursor_reading, cursor_gives}
+use Rattle.icu_cursor.proofs.CursorLemmas.{letter_begun}
+use Rattle.icu_cursor.proofs.cursor.ElementCursor.read_letter.Goals as goal
+
+pub returns-then-stands_before-clause-next : goal.returns-then-stands_before-clause-next
+unfolding cursor_gives
+returns-then-stands_before-clause-next g c =
+    letter_begun (cursor_reading c.args.self.now.tables.now) _ _ _ c.requires.nothing.letter c.requires.nothing.piece c.args.c c.args.letter.now _ (g.T.EncodedText.text c.args.rest) _
+    (option_to_list c.begin.result) _ c.requires.text (c.stands_before.ensures c.args.c c.requires.letter c.if-stands_before.true) c.begin.ensures c.push.ensures

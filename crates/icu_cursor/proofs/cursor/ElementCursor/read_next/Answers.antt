@@ -1,0 +1,13 @@
+use Rattle.std.proofs.Common.{◌++◌, option_to_list, ap, sym, ◌∙◌}
+use Rattle.icu_cursor.specs.Cursors.{cursor_gives}
+use Rattle.icu_cursor.proofs.CursorLemmas.{all_read}
+use Rattle.icu_cursor.proofs.cursor.ElementCursor.read_next.Goals as goal
+
+pub returns-in_default-split_first_char-clause-end : goal.returns-in_default-split_first_char-clause-end
+unfolding cursor_gives
+returns-in_default-split_first_char-clause-end g c =
+    let gives = cursor_gives g.T.EncodedText.text c.take_read.new.self in
+    let nothing = c.in_ok-element.ensures.end c.in_default.is in
+    λ _.
+    sym c.turns.invariant ∙ c.in_ok-element.ensures.next ∙ ap (λ o. option_to_list o ++ gives) c.in_default.is
+    ∙ all_read _ _ _ _ nothing.letter nothing.piece _ c.in_default-split_first_char.ensures
