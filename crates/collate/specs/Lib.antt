@@ -1,4 +1,4 @@
 pub mod Answers
 pub mod Faults
 pub mod Refusals
-pub mod Runs
+pub mod ProgramRuns

@@ -5,7 +5,7 @@ ghost use Rattle.collate_commands.specs.Commands.{command_of};
 ghost use Rattle.collate_commands.specs.Faults.{lines_in};
 ghost use Rattle.collate_commands.specs.declared.fault.Fault.TheVariants.{WrongWords};
 ghost use Rattle.collate.specs.Faults.{fault_lines};
-ghost use Rattle.collate.specs.Runs.{Says, PrintsAnswer, Fails};
+ghost use Rattle.collate.specs.ProgramRuns.{Says, PrintsAnswer, Fails};
 
 use crate::mini_source::MiniSource;
 use collate_commands::Wording;

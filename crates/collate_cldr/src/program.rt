@@ -3,8 +3,8 @@ ghost use Rattle.std.specs.Prelude.{◌≡◌, ◌≤◌, ◌↔◌, None, IfSom
 ghost use Rattle.std.specs.Io.KnownBytes.{Keeps};
 ghost use Rattle.collate_commands.specs.Commands.{command_of};
 ghost use Rattle.collate_commands.specs.Faults.{lines_in};
-ghost use Rattle.collate_commands.specs.Runs.{PrintsAnswer, Fails};
-ghost use Rattle.collate_commands.specs.Writing.{AppendsBeginning};
+ghost use Rattle.collate_commands.specs.ProgramRuns.{PrintsAnswer, Fails};
+ghost use Rattle.collate_commands.specs.PartialWrites.{AppendsBeginning};
 ghost use Rattle.collate_cldr.specs.Faults.{fault_lines, usage_text};
 ghost use Rattle.collate_cldr.specs.Files.{ComparesAs, IsLineOf};
 

@@ -2,7 +2,7 @@
 use Rattle.std.proofs.Common.{◌≡◌, ℕ, ◌<◌, ◌==◌, List, [], ◌∷◌, length, refl, arith}
 use Rattle.std.specs.Io.BufRead.{strip_last}
 use Rattle.std.specs.List.{slice_split}
-use Rattle.collate_commands.specs.Lines.{lines_of}
+use Rattle.collate_commands.specs.InputLines.{lines_of}
 
 pub no_lines : (bytes : List ℕ) → length bytes ≡ 0 → lines_of bytes ≡ []
 no_lines [] h = refl

@@ -1,11 +1,10 @@
 pub mod Commands
-pub mod Asked
 pub mod KeyText
-pub mod Lines
-pub mod Reading
+pub mod InputLines
+pub mod InputRead
 pub mod Answers
 pub mod Faults
 pub mod Refusals
-pub mod Writing
-pub mod Runs
+pub mod PartialWrites
+pub mod ProgramRuns
 pub mod inner

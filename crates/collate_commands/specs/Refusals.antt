@@ -1,7 +1,7 @@
 -- What keeps an answer from being found.
 use Rattle.std.specs.Prelude.{ℕ, List, string_bytes}
 use Rattle.collate_commands.specs.Commands.{Asked}
-use Rattle.collate_commands.specs.Reading.{AsksForInput}
+use Rattle.collate_commands.specs.InputRead.{AsksForInput}
 use Rattle.collate_commands.specs.declared.fault.Fault.{Fault}
 use Rattle.collate_commands.specs.declared.fault.Fault.TheVariants.{NoMemory, Refused, ReadFailed}
 

@@ -6,9 +6,9 @@ ghost use Rattle.icu_index.specs.Listings.{listed, name_order};
 ghost use Rattle.icu_index.specs.NameIndexes.{index_settings, index_tables, listing};
 ghost use Rattle.icu_order.specs.TextOrder.{text_key};
 ghost use Rattle.collate_commands.specs.Answers.{IsAnswerBy, SortsLines, sign_of};
-ghost use Rattle.collate_commands.specs.Asked.{asked};
-ghost use Rattle.collate_commands.specs.Lines.{lines_text};
-ghost use Rattle.collate_commands.specs.Reading.{ReadsFor, TakesWhole};
+ghost use Rattle.collate_commands.specs.inner.Asked.{asked};
+ghost use Rattle.collate_commands.specs.InputLines.{lines_text};
+ghost use Rattle.collate_commands.specs.InputRead.{ReadsFor, TakesWhole};
 ghost use Rattle.collate_commands.specs.Refusals.{IsUnanswered};
 ghost use Rattle.collate_commands.specs.inner.Shown.{shown};
 

@@ -43,7 +43,7 @@ pub fn strength_named(word: &str) -> Option<Strength>
 }
 
 impl<'a> Command<'a> {
-    ghost use Rattle.collate_commands.specs.Asked.{asked};
+    ghost use Rattle.collate_commands.specs.inner.Asked.{asked};
     ghost use Rattle.collate_commands.specs.Commands.{strength_of};
 
     /// The strength that is asked for.

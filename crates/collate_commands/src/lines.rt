@@ -2,8 +2,8 @@
 ghost use Rattle.std.specs.Prelude.{◌≡◌, ◌⊎◌, ◌==◌, IfOk, IfErr};
 ghost use Rattle.std.specs.Io.BufRead.{strip_last};
 ghost use Rattle.std.specs.List.{slice_split};
-ghost use Rattle.collate_commands.specs.Lines.{lines_of};
-ghost use Rattle.collate_commands.specs.Reading.{TakesWhole};
+ghost use Rattle.collate_commands.specs.InputLines.{lines_of};
+ghost use Rattle.collate_commands.specs.InputRead.{TakesWhole};
 ghost use Rattle.collate_commands.specs.inner.Shown.{shown};
 
 use crate::fault::Fault;

@@ -1,11 +1,11 @@
 //! One run of a program.
 ghost use Rattle.std.specs.Prelude.{◌≡◌, ◌≤◌, ◌↔◌, None, IfSome, IfErr, OnOk, map, string_bytes};
 ghost use Rattle.std.specs.Io.KnownBytes.{Keeps};
-ghost use Rattle.collate_commands.specs.Asked.{asked};
+ghost use Rattle.collate_commands.specs.inner.Asked.{asked};
 ghost use Rattle.collate_commands.specs.Commands.{command_of};
 ghost use Rattle.collate_commands.specs.Faults.{line_of, lines_in, status_of};
-ghost use Rattle.collate_commands.specs.Runs.{PrintsAnswer, Fails};
-ghost use Rattle.collate_commands.specs.Writing.{AppendsBeginning};
+ghost use Rattle.collate_commands.specs.ProgramRuns.{PrintsAnswer, Fails};
+ghost use Rattle.collate_commands.specs.PartialWrites.{AppendsBeginning};
 ghost use Rattle.collate_commands.specs.inner.Stops.{Stops};
 
 use crate::answer::answer;

@@ -9,7 +9,7 @@ use Rattle.icu_checks.specs.LeadConditions.{LeadMeets}
 use Rattle.icu_checks.specs.inner.EntryViolations.{LiveMeets}
 use Rattle.icu_checks.specs.GoodTables.{AreTables, HasDiacriticCount, Meets, IsGoodTables}
 use Rattle.icu_checks.specs.inner.Checks.{LeadsMeet, PairsMeet}
-use Rattle.icu_checks.proofs.LevelLemmas.{meets_in}
+use Rattle.icu_checks.proofs.ComparedLevelLemmas.{meets_in}
 use Rattle.icu_checks.proofs.LevelMeets.{tertiary_element_meet, secondaries_meet, tertiaries_meet}
 use Rattle.icu_checks.proofs.PrimaryMeets.{primaries_meet, compression_meets}
 

@@ -7,12 +7,12 @@ use Rattle.std.specs.List.{Contains}
 use Rattle.icu_data.specs.declared.data.CollationData.{CollationData}
 use Rattle.icu_entries.specs.declared.error.DataTable.TheVariants.{Root, Jamo, SpecialPrimaries, Metadata, Tailoring, Reordering, Diacritics}
 use Rattle.icu_entries.specs.Elements.{of_secondary}
-use Rattle.icu_data.specs.LiveWeights.{is_stated}
+use Rattle.icu_data.specs.CollectedWeights.{is_stated}
 use Rattle.icu_data.specs.Final.{final_elements}
 use Rattle.icu_data.specs.Data.{Data, homed}
 use Rattle.icu_provider.specs.Tables.{is_jamo}
 use Rattle.icu_data.specs.Live.{live_from, live_at}
-use Rattle.icu_data.specs.LiveWeights.{IsWeightAmong, IsLiveWeight}
+use Rattle.icu_data.specs.CollectedWeights.{IsWeightAmong, IsLiveWeight}
 use Rattle.icu_provider.specs.Diacritics.{is_replaced_index}
 use Rattle.icu_data.specs.StoredData.{data_of}
 use Rattle.icu_provider.specs.StoredTables.{jamo_of, diacritics_of}
@@ -20,7 +20,7 @@ use Rattle.icu_provider.specs.declared.table_set.TableSet.{TableSet}
 use Rattle.icu_checks.specs.declared.check.weights.WeightList.{WeightList}
 use Rattle.icu_provider.specs.CollatorTables.{CollatorTables}
 use Rattle.icu_provider.specs.TableSets.{tables_in}
-use Rattle.icu_checks.specs.inner.Weights.{weight_at, IsWeightBy, Adds, IsBelow, IsJamoWeight, IsDiacriticWeight}
+use Rattle.icu_checks.specs.inner.ComparedWeights.{weight_at, IsWeightBy, Adds, IsBelow, IsJamoWeight, IsDiacriticWeight}
 
 -- ---- what is added
 

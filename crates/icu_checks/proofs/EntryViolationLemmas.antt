@@ -15,7 +15,7 @@ use Rattle.icu_data.specs.Violations.{earlier}
 use Rattle.icu_data.specs.Live.{goes_by_character}
 use Rattle.icu_data.specs.LiveConditions.{meets, first_failing}
 use Rattle.icu_data.proofs.ViolationLemmas.{find_passes, find_none, not_false, not_true, weaker_some, passes_meets, failing_fails, earlier-none, earlier-keeps}
-use Rattle.icu_data.proofs.CharacterLemmas.{failing_alike, readable_alike, elements_alike}
+use Rattle.icu_data.proofs.SameEntryLemmas.{failing_alike, readable_alike, elements_alike}
 use Rattle.icu_data.proofs.ListLemmas.{weaker, all_members}
 use Rattle.icu_checks.specs.declared.condition.Condition.TheVariants as conditions
 use Rattle.icu_checks.specs.declared.condition.ElementCondition.{ElementCondition}

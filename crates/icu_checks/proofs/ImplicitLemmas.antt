@@ -25,7 +25,7 @@ use Rattle.icu_checks.specs.ElementConditions.{implicit_lead, has_low_bytes, has
 use Rattle.icu_checks.specs.declared.condition.LeadCondition.TheVariants.{ImplicitLead, LeadsApart}
 use Rattle.icu_checks.specs.LeadConditions.{TakesTogether, LeadMeets}
 use Rattle.icu_checks.specs.inner.EntryViolations.{first_failing_element, elements_violation, entry_violation, ImplicitPasses}
-use Rattle.icu_checks.specs.inner.Weights.{weight_at}
+use Rattle.icu_checks.specs.inner.ComparedWeights.{weight_at}
 
 -- ---- the bytes of an implicit weight
 

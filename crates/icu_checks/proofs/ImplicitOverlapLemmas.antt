@@ -29,11 +29,11 @@ use Rattle.icu_provider.specs.CollatorTables.{CollatorTables}
 use Rattle.icu_provider.specs.TableSets.{tables_in}
 use Rattle.icu_checks.specs.GoodTables.{MeetsBy, IsOverlapTable}
 use Rattle.icu_checks.specs.LiveElements.{IsElementBy, IsOfEntryBy}
-use Rattle.icu_checks.specs.inner.Levels.{bytes_at}
-use Rattle.icu_checks.specs.inner.Weights.{IsWeightBy}
+use Rattle.icu_checks.specs.inner.ComparedLevels.{bytes_at}
+use Rattle.icu_checks.specs.inner.ComparedWeights.{IsWeightBy}
 use Rattle.icu_checks.specs.inner.ImplicitOverlaps.{is_for_implicit, IsImplicitBy, IsImplicitClash}
 use Rattle.icu_checks.proofs.ImplicitLemmas.{implicit_bytes}
-use Rattle.icu_checks.proofs.LevelLemmas.{element_by, implicit_elements, primary_weighs}
+use Rattle.icu_checks.proofs.ComparedLevelLemmas.{element_by, implicit_elements, primary_weighs}
 use Rattle.icu_checks.proofs.LevelRefutes.{refute_elements}
 
 -- ---- a search

@@ -27,10 +27,10 @@ use Rattle.icu_checks.specs.ElementConditions.{is_tertiary_element, is_high_tert
 use Rattle.icu_checks.specs.inner.EntryViolations.{MeetsIn, LiveMeets}
 use Rattle.icu_checks.specs.GoodTables.{AreTables, Meets}
 use Rattle.icu_checks.specs.inner.PairViolations.{TertiaryElementsAreHigh}
-use Rattle.icu_checks.specs.inner.Weights.{left_aligned, weight_at, IsWeightBy}
-use Rattle.icu_checks.proofs.CommonLemmas.{HaveLeads, none_begins}
+use Rattle.icu_checks.specs.inner.ComparedWeights.{left_aligned, weight_at, IsWeightBy}
+use Rattle.icu_checks.proofs.CommonWeightLemmas.{HaveLeads, none_begins}
 use Rattle.icu_weights.proofs.OverlapLemmas.{free_of_two_bytes}
-use Rattle.icu_checks.proofs.LevelLemmas.{IsExplicit, meets_in, read_by, weighs_explicit, two_bytes_kept, tertiary_element_kept, beside_kept, second_of_three, third_of_three, implied, passes}
+use Rattle.icu_checks.proofs.ComparedLevelLemmas.{IsExplicit, meets_in, read_by, weighs_explicit, two_bytes_kept, tertiary_element_kept, beside_kept, second_of_three, third_of_three, implied, passes}
 
 -- ---- what is collected, and what is live
 module _ (all : CollatorTables) where

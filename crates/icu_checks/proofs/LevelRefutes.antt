@@ -15,12 +15,12 @@ use Rattle.icu_checks.specs.declared.check.weights.WeightList.TheVariants.{Prima
 use Rattle.icu_provider.specs.CollatorTables.{CollatorTables, reorder}
 use Rattle.icu_checks.specs.PairConditions.{BeginsNot, PairMeets}
 use Rattle.icu_checks.specs.GoodTables.{EachPair, MeetsBy, IsOverlapTable}
-use Rattle.icu_checks.specs.inner.Levels.{list_of, overlap_condition, bytes_at}
+use Rattle.icu_checks.specs.inner.ComparedLevels.{list_of, overlap_condition, bytes_at}
 use Rattle.icu_checks.specs.LiveElements.{IsElementBy}
 use Rattle.icu_checks.specs.inner.PairViolations.{IsClashTable}
-use Rattle.icu_checks.specs.inner.Weights.{IsWeightBy}
+use Rattle.icu_checks.specs.inner.ComparedWeights.{IsWeightBy}
 use Rattle.icu_weights.proofs.BeginningLemmas.{moved_up_bytes}
-use Rattle.icu_checks.proofs.LevelLemmas.{element_by, primary_weighs, secondary_weighs, tertiary_weighs, tertiary_element_weighs, beside_weighs}
+use Rattle.icu_checks.proofs.ComparedLevelLemmas.{element_by, primary_weighs, secondary_weighs, tertiary_weighs, tertiary_element_weighs, beside_weighs}
 
 -- two weights of two bytes clash where they do with two zero bytes after them
 two_bytes_clash : (s r v w : ℕ) → (s ≢ 0) × (s * 2 ^ 16 ≡ v) → (r ≢ 0) × (r * 2 ^ 16 ≡ w) → v < 2 ^ 32 → w < 2 ^ 32 → v ≢ w

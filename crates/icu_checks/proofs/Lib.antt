@@ -1,13 +1,13 @@
 pub mod GoodLemmas
 pub mod PrimaryLemmas
-pub mod CommonLemmas
+pub mod CommonWeightLemmas
 pub mod LeadMeetings
 pub mod EntryViolationLemmas
 pub mod LiveViolationLemmas
 pub mod LoadedViolationLemmas
 pub mod ViolationPairs
 pub mod CollectLemmas
-pub mod LevelLemmas
+pub mod ComparedLevelLemmas
 pub mod LevelRefutes
 pub mod LevelMeets
 pub mod PrimaryMeets

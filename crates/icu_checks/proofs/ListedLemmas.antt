@@ -8,7 +8,7 @@ use Rattle.icu_provider.specs.TableSets.{tables_in}
 use Rattle.icu_provider.specs.declared.table_set.TableSet.{TableSet}
 use Rattle.icu_checks.specs.declared.check.listed_weights.ListedWeights.{ListedWeights}
 use Rattle.icu_checks.specs.declared.check.weights.WeightList.TheVariants.{Primaries, Secondaries, Tertiaries, TertiaryElements, WithSecondary}
-use Rattle.icu_checks.specs.inner.Weights.{IsWeightBy, Adds}
+use Rattle.icu_checks.specs.inner.ComparedWeights.{IsWeightBy, Adds}
 use Rattle.icu_checks.specs.inner.ListedWeights.{HasNone, AddsEach, HasSame, HoldsEach}
 use Rattle.icu_checks.proofs.CollectLemmas.{loaded_no_tailoring}
 use Rattle.icu_checks.proofs.WeightListLemmas.{holds_level}

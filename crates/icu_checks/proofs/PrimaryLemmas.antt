@@ -9,7 +9,7 @@ use Rattle.icu_provider.specs.CollatorTables.{CollatorTables, reorder, new_lead}
 use Rattle.icu_checks.specs.ElementConditions.{implicit_lead, has_low_bytes}
 use Rattle.icu_weights.specs.Leads.{is_middle}
 use Rattle.icu_checks.specs.LeadConditions.{TakesTogether}
-use Rattle.icu_weights.proofs.WeightLemmas.{same_first, same_weight}
+use Rattle.icu_weights.proofs.WrittenWeightLemmas.{same_first, same_weight}
 
 middle_some : (b : ℕ) → IsTrue (is_middle b) → 1 ≤ b
 middle_some b h = grind (arith, nat_tests)

@@ -30,7 +30,7 @@ use Rattle.icu_checks.specs.LeadConditions.{LeadMeets}
 use Rattle.icu_weights.specs.Leads.{is_middle}
 use Rattle.icu_weights.proofs.LeadLemmas.{reordered-rest}
 use Rattle.icu_checks.proofs.PrimaryLemmas.{AreApart, none_begins, compress_alike}
-use Rattle.icu_checks.proofs.LevelLemmas.{meets_in, primary_kept, lead_explicit, first_of_three, implied, passes}
+use Rattle.icu_checks.proofs.ComparedLevelLemmas.{meets_in, primary_kept, lead_explicit, first_of_three, implied, passes}
 use Rattle.icu_checks.proofs.LevelMeets.{Collected, IsLiveWeight, collected_at}
 
 -- ---- one weight

@@ -17,9 +17,9 @@ use Rattle.icu_provider.specs.CollatorTables.{CollatorTables, reorder_by, reorde
 use Rattle.icu_provider.specs.TableSets.{tables_in}
 use Rattle.icu_weights.specs.Alike.{CompressAlike, CompressApart}
 use Rattle.icu_weights.specs.Overlaps.{Overlaps}
-use Rattle.icu_checks.specs.inner.Levels.{list_of, bytes_at}
+use Rattle.icu_checks.specs.inner.ComparedLevels.{list_of, bytes_at}
 use Rattle.icu_checks.specs.GoodTables.{MeetsBy}
-use Rattle.icu_checks.specs.inner.Weights.{IsWeightBy, Adds}
+use Rattle.icu_checks.specs.inner.ComparedWeights.{IsWeightBy, Adds}
 use Rattle.icu_checks.specs.inner.PairViolations.{IsListedWeight, AreListed, HoldsAll, HoldsLevel, AreClashing, AreAlike}
 use Rattle.icu_checks.proofs.CollectLemmas.{special_none, metadata_none, reordering_none}
 use Rattle.icu_checks.proofs.LevelRefutes.{refute_compression}

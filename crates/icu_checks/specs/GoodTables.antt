@@ -31,7 +31,7 @@ use Rattle.icu_checks.specs.ElementConditions.{element_meets}
 use Rattle.icu_weights.specs.Overlaps.{AreOverlapping}
 use Rattle.icu_checks.specs.PairConditions.{PairMeets}
 use Rattle.icu_checks.specs.LeadConditions.{LeadMeets}
-use Rattle.icu_checks.specs.Groups.{group_of, kind_in}
+use Rattle.icu_checks.specs.ConditionGroups.{group_of, kind_in}
 
 -- ---- what each table shows by itself
 

@@ -2,7 +2,7 @@ pub mod LiveElements
 pub mod ElementConditions
 pub mod PairConditions
 pub mod LeadConditions
-pub mod Groups
+pub mod ConditionGroups
 pub mod GoodTables
 pub mod GoodProps
 pub mod Checked

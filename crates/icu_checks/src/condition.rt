@@ -1,5 +1,5 @@
 ghost use Rattle.std.specs.Prelude.{◌≡◌, ◌<◌};
-ghost use Rattle.icu_checks.specs.Groups.{group_of_entry, group_of_element, group_of_pair, group_of_lead, group_of, group_index, kind_in};
+ghost use Rattle.icu_checks.specs.ConditionGroups.{group_of_entry, group_of_element, group_of_pair, group_of_lead, group_of, group_index, kind_in};
 
 use icu_data::live_condition::LiveCondition;
 use icu_entries::DataErrorKind;

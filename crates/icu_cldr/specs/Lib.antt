@@ -1,4 +1,3 @@
-pub mod Diacritics
-pub mod Entries
 pub mod Errors
 pub mod Roots
+pub mod inner

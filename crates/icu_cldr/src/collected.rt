@@ -1,6 +1,6 @@
 //! What the lines said so far.
 ghost use Rattle.std.specs.Prelude.{◌≡◌, ◌+◌, ◌<◌, ◌≤◌, IfSome, IfOk, length};
-ghost use Rattle.icu_cldr.specs.Diacritics.{SaysOfMark};
+ghost use Rattle.icu_cldr.specs.inner.Diacritics.{SaysOfMark};
 
 use crate::contexts::{Contexts, Surroundings};
 use crate::entries::{

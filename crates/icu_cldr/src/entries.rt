@@ -3,7 +3,7 @@ ghost use Rattle.std.specs.Prelude.{◌≡◌, ◌+◌, ◌*◌, ◌^◌, ◌<�
 ghost use Rattle.icu_entries.specs.Elements.{bits_of, element_of};
 ghost use Rattle.icu_entries.specs.Entries.{kind_of, self_contained, entry_index, list_length, digit_value};
 ghost use Rattle.icu_entries.specs.declared.entry.EntryKind.{EntryKind};
-ghost use Rattle.icu_cldr.specs.Entries.{element_of_weights};
+ghost use Rattle.icu_cldr.specs.inner.RootWeights.{element_of_weights};
 
 /// The entry of a character whose weight follows from its number.
 pub(crate) const IMPLICIT_CE32: u32 = 0xCF;

@@ -1,7 +1,7 @@
 pub mod KeyLemmas
 pub mod LevelLemmas
-pub mod OrderLemmas
+pub mod OrdersInTurn
 pub mod SegmentLemmas
-pub mod StepLemmas
+pub mod InStepLemmas
 mod TailLemmas
 mod TieLemmas

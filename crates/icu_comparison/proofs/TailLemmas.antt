@@ -6,7 +6,7 @@ use Rattle.std.proofs.lemmas.Bool.Decides.{nat_tests}
 use Rattle.unicode_normalization.specs.Forms.{nfd}
 use Rattle.icu_options.specs.Settings.{Settings}
 use Rattle.icu_options.specs.declared.settings.AlternateHandling.{AlternateHandling}
-use Rattle.icu_levels.specs.Fronts.{ReadsForward}
+use Rattle.icu_levels.specs.CommonBeginnings.{ReadsForward}
 use Rattle.icu_levels.specs.ListOrder.{list_order}
 use Rattle.icu_levels.proofs.Order.{less_number, more_number}
 use Rattle.icu_entries.specs.Elements.{Element}

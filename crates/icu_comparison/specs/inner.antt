@@ -3,5 +3,5 @@ pub mod LevelWeights
 pub mod SegmentsLeft
 pub mod ElementOrders
 pub mod Tails
-pub mod Fronts
+pub mod TextFronts
 pub mod InStep

@@ -1,7 +1,7 @@
 //! What the first characters of two texts decide, and what follows the common beginning of two texts.
 
 ghost use Rattle.std.specs.Prelude.{◌≡◌, ◌≢◌, ◌<◌, ◌≤◌, ◌⊎◌, ℕ, List, IfSome, IsTrue};
-ghost use Rattle.icu_levels.specs.Fronts.{ReadsForward};
+ghost use Rattle.icu_levels.specs.CommonBeginnings.{ReadsForward};
 ghost use Rattle.icu_order.specs.Forms.{form_by, last_variable_by};
 ghost use Rattle.icu_order.specs.TextOrder.{text_order};
 ghost use Rattle.icu_comparison.specs.inner.Tails.{unequal_order};

@@ -1,4 +1,4 @@
-pub mod ContextLemmas
+pub mod ReadCharacterLemmas
 pub mod StandLemmas
 pub mod PieceLemmas
 pub mod ReadyLemmas

@@ -18,7 +18,7 @@ use Rattle.icu_cuts.proofs.NfdLemmas.{stays_first-rises}
 use Rattle.icu_shortcuts.specs.declared.letter_facts.Letter.{Letter}
 use Rattle.icu_shortcuts.specs.Letters.{StandsAlone, HasStarters, IsMarkedStarter, IsLoneMark, IsBase, IsNumberDigit, IsLetter, letter_elements, rises_to}
 use Rattle.icu_cursor.specs.inner.Places.{BeginsSafely}
-use Rattle.icu_cursor.specs.inner.Runs.{Rises, EndsRuns, IsInRun}
+use Rattle.icu_cursor.specs.inner.MarkRuns.{Rises, EndsRuns, IsInRun}
 use Rattle.icu_cursor.specs.inner.Standing.{StandsBefore, Serves}
 
 -- ---- runs of marks

@@ -6,7 +6,7 @@ use Rattle.icu_elements.specs.Reading.{reading_of}
 use Rattle.icu_elements.specs.TextElements.{Reading, elements_after}
 use Rattle.icu_cursor.specs.declared.cursor.ElementCursor.{ElementCursor}
 use Rattle.icu_cursor.specs.declared.cursor_tables.CursorTables.{CursorTables}
-use Rattle.icu_cursor.specs.inner.Contexts.{context_of}
+use Rattle.icu_cursor.specs.inner.ReadCharacters.{context_of}
 use Rattle.icu_cursor.specs.inner.Pieces.{piece_gives}
 use Rattle.icu_cursor.specs.inner.Ready.{elements_ready}
 

@@ -1,8 +1,8 @@
 -- Words of private contracts and proofs only: no public contract names them.
-pub mod Contexts
+pub mod ReadCharacters
 pub mod Ready
 pub mod Places
-pub mod Numbers
+pub mod NumberElements
 pub mod Pieces
-pub mod Runs
+pub mod MarkRuns
 pub mod Standing

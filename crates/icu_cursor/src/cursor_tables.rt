@@ -7,7 +7,7 @@ ghost use Rattle.icu_shortcuts.specs.LetterTables.{AreLetters};
 ghost use Rattle.icu_shortcuts.specs.Named.{NamesAll};
 ghost use Rattle.icu_shortcuts.specs.SafeTables.{safe_reading};
 ghost use Rattle.icu_cursor.specs.inner.Places.{MayBeCut};
-ghost use Rattle.icu_cursor.specs.inner.Runs.{IsInRun};
+ghost use Rattle.icu_cursor.specs.inner.MarkRuns.{IsInRun};
 ghost use Rattle.icu_cursor.specs.inner.Standing.{Serves};
 
 use icu_elements::ElementTables;

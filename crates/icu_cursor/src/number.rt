@@ -4,7 +4,7 @@ ghost use Rattle.std.specs.Prelude.{◌≡◌, ◌<◌, ◌≤◌, ◌∷◌, []
 ghost use Rattle.icu_elements.specs.TextElements.{number_elements};
 ghost use Rattle.icu_shortcuts.specs.Letters.{IsNumberDigit};
 ghost use Rattle.icu_cursor.specs.Cursors.{cursor_reading};
-ghost use Rattle.icu_cursor.specs.inner.Numbers.{IsDigitTaken, IsRun, IsNumberPiece, number_left};
+ghost use Rattle.icu_cursor.specs.inner.NumberElements.{IsDigitTaken, IsRun, IsNumberPiece, number_left};
 
 use crate::cursor_tables::CursorTables;
 use crate::stands::begins_safely;

@@ -5,7 +5,7 @@ ghost use Rattle.unicode_normalization.specs.Forms.{nfd};
 ghost use Rattle.icu_elements.specs.ElementReaders.{elements_to_come};
 ghost use Rattle.icu_elements.specs.TextElements.{elements_after};
 ghost use Rattle.icu_cursor.specs.Cursors.{cursor_reading};
-ghost use Rattle.icu_cursor.specs.inner.Contexts.{context_of};
+ghost use Rattle.icu_cursor.specs.inner.ReadCharacters.{context_of};
 ghost use Rattle.icu_cursor.specs.inner.Pieces.{IsPiece, begun_gives, piece_gives};
 
 use crate::cursor_tables::CursorTables;

@@ -19,7 +19,7 @@ pub(crate) struct RecentLetters {
 }
 
 impl RecentLetters {
-    ghost use Rattle.icu_cursor.specs.inner.Contexts.{letters_read, context_of};
+    ghost use Rattle.icu_cursor.specs.inner.ReadCharacters.{letters_read, context_of};
 
     /// None was read yet.
     #[tactic(auto, unfolding(crate::specs::inner::Contexts::context_of))]

@@ -3,7 +3,7 @@
 ghost use Rattle.std.specs.Prelude.{ℕ, IsTrue};
 ghost use Rattle.icu_cursor.specs.Cursors.{cursor_reading};
 ghost use Rattle.icu_cursor.specs.inner.Places.{BeginsSafely};
-ghost use Rattle.icu_cursor.specs.inner.Runs.{Rises};
+ghost use Rattle.icu_cursor.specs.inner.MarkRuns.{Rises};
 ghost use Rattle.icu_cursor.specs.inner.Standing.{Serves, StandsBefore};
 
 use crate::cursor_tables::CursorTables;

@@ -14,7 +14,7 @@ use Rattle.icu_data.specs.Data.{Data, HomedEntry, homed}
 use Rattle.icu_provider.specs.Tables.{entry_of, diacritic_of}
 use Rattle.icu_data.specs.Final.{final_elements}
 use Rattle.icu_matches.specs.Matches.{Match, after_prefix, match_from, match_of}
-use Rattle.icu_matches.specs.ReadAhead.{lone_match}
+use Rattle.icu_matches.specs.MatchesAhead.{lone_match}
 use Rattle.icu_elements.specs.TextElements.{Reading, Step, is_digit_kind, is_diacritic_above, is_silent_dot, entry_step, matched_step, step, consumed, last_two, elements_after}
 use Rattle.icu_cuts.specs.Alone.{names_no_context, plain_entry, elements_of_char, looks_at_nothing, has_own_elements, is_dot, is_alone, context_after, stays_first, all_stay}
 use Rattle.icu_elements.proofs.StepLemmas.{elements_after_cons}

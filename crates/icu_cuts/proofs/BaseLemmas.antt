@@ -9,7 +9,7 @@ use Rattle.icu_provider.specs.Tables.{entry_of}
 use Rattle.icu_matches.specs.Matches.{after_prefix, match_from, match_of}
 use Rattle.icu_elements.specs.TextElements.{Reading, Step, continues_number, step, consumed, last_two, elements_after}
 use Rattle.icu_cuts.specs.Cuts.{is_named_in, is_prefix_kind, has_prefix}
-use Rattle.icu_matches.specs.ReadAhead.{and_then}
+use Rattle.icu_matches.specs.MatchesAhead.{and_then}
 use Rattle.icu_matches.proofs.ChoiceLemmas.{contraction_by}
 use Rattle.icu_elements.specs.ReadAhead.{and_more}
 use Rattle.icu_elements.proofs.StepLemmas.{Rests-step, elements_after_cons}

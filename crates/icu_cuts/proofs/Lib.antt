@@ -3,8 +3,8 @@ pub mod AloneLemmas
 pub mod MatchCuts
 pub mod StepCuts
 pub mod CutLemmas
-pub mod ContextLemmas
-pub mod DigitLemmas
+pub mod LeftContextLemmas
+pub mod DigitRunLemmas
 pub mod BaseLemmas
 mod WorkedCuts
 pub mod LetterLemmas

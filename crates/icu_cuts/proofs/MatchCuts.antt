@@ -8,7 +8,7 @@ use Rattle.icu_entries.specs.declared.entry.EntryKind.TheVariants.{Prefix}
 use Rattle.icu_entries.specs.Entries.{kind_of, entry_index}
 use Rattle.icu_data.specs.Data.{Row, Context, HomedEntry, homed, row_entry, better, is_longer, longest_from, longest_row, no_context, context_of}
 use Rattle.icu_matches.specs.Matches.{Match, after_prefix, is_blocked, with_marks, contracted, match_of, match_from}
-use Rattle.icu_matches.specs.ReadAhead.{and_then}
+use Rattle.icu_matches.specs.MatchesAhead.{and_then}
 use Rattle.icu_matches.proofs.ChoiceLemmas.{either_by, maybe_by, contraction_by}
 use Rattle.icu_matches.proofs.ReadAheadLemmas.{longest_row-fits}
 use Rattle.icu_cuts.specs.Cuts.{cut, names, is_named_in, is_named}

@@ -16,7 +16,7 @@ use Rattle.icu_elements.specs.TextElements.{Reading, Step, is_diacritic_above, i
 use Rattle.icu_elements.proofs.Computing.{icu_elements}
 use Rattle.icu_cuts.specs.Cuts.{cut, is_named, is_named_by_tailoring, is_prefix_kind, has_prefix, IsSafe}
 use Rattle.icu_cuts.proofs.MatchCuts.{same_cut, cut-append, match_of-append, match_of-same}
-use Rattle.icu_matches.specs.ReadAhead.{and_then}
+use Rattle.icu_matches.specs.MatchesAhead.{and_then}
 use Rattle.icu_matches.proofs.ChoiceLemmas.{either as either_of, either_by, maybe_by, nil_by, digit_by}
 use Rattle.icu_elements.specs.ReadAhead.{and_more}
 use Rattle.icu_elements.proofs.StepLemmas.{Rests-step, elements_along-enough}

@@ -13,7 +13,7 @@ use Rattle.icu_elements.proofs.Computing.{icu_elements}
 use Rattle.icu_elements.proofs.WorkedTables.{mini, ring, two_marks, prefixed, numeric}
 use Rattle.icu_cuts.specs.Alone.{is_alone, stays_before, stays_first, run_ascends, all_stay}
 use Rattle.icu_cuts.specs.Cuts.{IsSafe, cut, is_named_by_tailoring}
-use Rattle.icu_cuts.specs.Contexts.{context_along, context_left}
+use Rattle.icu_cuts.specs.LeftContexts.{context_along, context_left}
 
 unfoldable cuts : Unit {0}
 unfolding icu_elements stays_before stays_first run_ascends all_stay cut context_along context_left

@@ -13,7 +13,7 @@ use Rattle.icu_elements.specs.TextElements.{Reading, continues_number, digit_of,
 use Rattle.icu_elements.specs.ReadAhead.{IsEnough, HasWholeStep}
 use Rattle.icu_cuts.specs.Alone.{elements_by_char, elements_of_char, is_alone, context_after, stays_first, all_stay}
 use Rattle.icu_cuts.specs.Cuts.{IsSafe, has_prefix, is_named_in, ends_run}
-use Rattle.icu_cuts.specs.Contexts.{context_left}
+use Rattle.icu_cuts.specs.LeftContexts.{context_left}
 
 -- the elements of a text are those of one step, and of what it leaves
 abbrev pub TextsGoByTurns : Type 0

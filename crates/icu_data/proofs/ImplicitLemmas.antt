@@ -15,7 +15,7 @@ use Rattle.icu_entries.specs.ElementConditions.{four_bytes, ends_at_zero, has_sh
 use Rattle.icu_data.specs.DataConditions.{is_inside, has_short_rows, leads_on, has_known_members, fits_offset}
 use Rattle.icu_entries.specs.EntryConditions.{has_digit, has_known_byte}
 use Rattle.icu_data.specs.LiveConditions.{meets, first_failing}
-use Rattle.icu_data.specs.LiveWeights.{is_stated}
+use Rattle.icu_data.specs.CollectedWeights.{is_stated}
 use Rattle.icu_data.specs.inner.Visitors.{given_elements, collected_at}
 use Rattle.icu_data.proofs.ViolationLemmas.{meets_passes}
 

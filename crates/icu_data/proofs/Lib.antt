@@ -3,12 +3,12 @@ pub mod CharLemmas
 pub mod EntryLemmas
 pub mod ElementLemmas
 pub mod ContextLemmas
-pub mod CharacterLemmas
+pub mod SameEntryLemmas
 pub mod WalkLemmas
 mod BlockWalkLemmas
 mod VisitedLemmas
 pub mod ViolationLemmas
-pub mod WeightLemmas
+pub mod CollectedWeightLemmas
 pub mod BothLemmas
 pub mod ImplicitLemmas
 pub mod RunLemmas

@@ -11,7 +11,7 @@ use Rattle.icu_entries.specs.Entries.{kind_of}
 use Rattle.icu_data.specs.Live.{goes_by_character, leads_to_character, live_digit, live_contraction, live_from, live_at, EachLive}
 use Rattle.icu_data.specs.Walks.{after_all, StandsFor, IsPassed, Walked}
 use Rattle.icu_data.proofs.ListLemmas.{all_of, of_member, weaker}
-use Rattle.icu_data.proofs.CharacterLemmas.{none_passes}
+use Rattle.icu_data.proofs.SameEntryLemmas.{none_passes}
 
 -- ---- what a fold keeps, and what its end says of each step
 

@@ -5,7 +5,7 @@ pub mod DataConditions
 pub mod LiveConditions
 pub mod Walks
 pub mod Violations
-pub mod LiveWeights
+pub mod CollectedWeights
 pub mod CodePointTables
 pub mod Contexts
 pub mod StoredData

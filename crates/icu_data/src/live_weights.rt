@@ -6,7 +6,7 @@ ghost use Rattle.icu_entries.specs.Elements.{Element, of_primary};
 ghost use Rattle.icu_data.specs.Live.{live_from};
 ghost use Rattle.icu_data.specs.StoredData.{data_of};
 ghost use Rattle.icu_data.specs.DataConditions.{is_readable};
-ghost use Rattle.icu_data.specs.LiveWeights.{is_stated, IsWeightAmong, IsLiveWeight};
+ghost use Rattle.icu_data.specs.CollectedWeights.{is_stated, IsWeightAmong, IsLiveWeight};
 ghost use Rattle.icu_data.specs.inner.Visitors.{is_last, holds, and_weight, collected, collected_at};
 
 use crate::block_walk::{goes_by_character, visit_chars};

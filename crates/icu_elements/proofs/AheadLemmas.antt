@@ -11,7 +11,7 @@ use Rattle.icu_data.specs.Contexts.{has_ascending_rows}
 use Rattle.icu_data.specs.Data.{Data, Context, HomedEntry, homed, no_context, context_of, longest_row}
 use Rattle.icu_provider.specs.Tables.{entry_of, diacritic_of}
 use Rattle.icu_matches.specs.Matches.{after_prefix}
-use Rattle.icu_matches.specs.ReadAhead.{are_decided, row_length}
+use Rattle.icu_matches.specs.MatchesAhead.{are_decided, row_length}
 use Rattle.icu_matches.proofs.ReadAheadLemmas.{are_decided-longer, any_behind-longer, longest_from-decided}
 use Rattle.icu_elements.specs.TextElements.{Reading, is_digit_kind}
 use Rattle.icu_elements.specs.ReadAhead.{HasWholeStep}

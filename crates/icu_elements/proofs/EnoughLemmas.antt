@@ -13,7 +13,7 @@ use Rattle.icu_data.specs.Contexts.{ascend_from}
 use Rattle.icu_data.specs.Data.{Data, homed, context_of}
 use Rattle.icu_provider.specs.Tables.{Tables, entry_of, diacritic_of}
 use Rattle.icu_matches.specs.Matches.{Match, after_prefix, match_of}
-use Rattle.icu_matches.specs.ReadAhead.{and_then, HasWholeMatch}
+use Rattle.icu_matches.specs.MatchesAhead.{and_then, HasWholeMatch}
 use Rattle.icu_matches.proofs.ChoiceLemmas.{either_by, maybe_by, nil_by, digit_by}
 use Rattle.icu_matches.proofs.ReadAheadLemmas.{HasWholeMatch-other, HasWholeMatch-contraction, match_of-other, match_of-contraction, contracted-none, contracted-lone}
 use Rattle.icu_elements.specs.TextElements.{Reading, Step, is_diacritic_above, is_silent_dot, continues_number, digit_of, begins_with_mark, number_elements, number_step, entry_step, diacritic_step, matched_step, step, consumed, last_two, elements_after}

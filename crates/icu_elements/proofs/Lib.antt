@@ -1,7 +1,7 @@
 pub mod IterLemmas
 pub mod DecomposedLemmas
-pub mod PartLemmas
-pub mod SourceLemmas
+pub mod ElementPartLemmas
+pub mod ElementSourceLemmas
 pub mod ReadableLemmas
 pub mod LiveTextLemmas
 pub mod StepLemmas
@@ -10,7 +10,7 @@ pub mod ReadsAheadLemmas
 pub mod AheadLemmas
 pub mod StreamLemmas
 pub mod ReaderLemmas
-pub mod DigitLemmas
+pub mod TakenDigitLemmas
 pub mod Computing
 pub mod WorkedTables
 mod WorkedTexts

@@ -20,7 +20,7 @@ use Rattle.icu_elements.specs.TextElements.{Reading, elements_of}
 use Rattle.icu_elements.specs.TextParts.{is_replaced, IsOfDiacritic, IsOfNumber, IsTextElement}
 use Rattle.icu_elements.specs.LiveTexts.{IsLiveElement, IsNumberElement, IsLiveOrNumber, collator_reading}
 use Rattle.icu_elements.proofs.ReadableLemmas.{good_readable, readable_digits}
-use Rattle.icu_elements.proofs.SourceLemmas.{elements_of-sources}
+use Rattle.icu_elements.proofs.ElementSourceLemmas.{elements_of-sources}
 
 -- ---- entries
 

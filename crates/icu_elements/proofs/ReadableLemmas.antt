@@ -30,8 +30,8 @@ use Rattle.icu_elements.specs.declared.tables.ElementTables.{ElementTables}
 use Rattle.icu_matches.specs.GoodEntries.{MeetAll, IsGoodFrom, IsGoodMatch}
 use Rattle.icu_elements.specs.inner.Readable.{AreReadable, tables_from}
 use Rattle.icu_elements.specs.Reading.{element_tables}
-use Rattle.icu_elements.proofs.PartLemmas.{live_digit-head, live_from-head, entry_of-live, AllLive-weaker}
-use Rattle.icu_elements.proofs.SourceLemmas.{all_live}
+use Rattle.icu_elements.proofs.ElementPartLemmas.{live_digit-head, live_from-head, entry_of-live, AllLive-weaker}
+use Rattle.icu_elements.proofs.ElementSourceLemmas.{all_live}
 
 -- ---- tables that were checked
 

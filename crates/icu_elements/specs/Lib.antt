@@ -23,6 +23,6 @@ pub mod Reading
 pub mod ElementReaders
 pub mod CollationElements
 pub mod TextParts
-pub mod TextLaws
+pub mod TextElementLaws
 pub mod LiveTexts
 pub mod inner

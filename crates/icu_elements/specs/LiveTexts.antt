@@ -11,7 +11,7 @@ use Rattle.icu_checks.specs.GoodTables.{IsGoodTables}
 use Rattle.icu_checks.specs.LiveElements.{IsElementBy}
 use Rattle.icu_elements.specs.TextElements.{Reading, elements_of}
 use Rattle.icu_elements.specs.TextParts.{AreDigits}
-use Rattle.icu_elements.specs.TextLaws.{IsText}
+use Rattle.icu_elements.specs.TextElementLaws.{IsText}
 
 -- live by one of the tables
 pub record IsLiveElement (tables : Tables) (x : Element) : Type 0 where

@@ -3,6 +3,6 @@ pub mod Readable
 pub mod Iterating
 pub mod ReadsAhead
 pub mod Positions
-pub mod Digits
+pub mod TakenDigits
 pub mod ReadyElements
 pub mod Streams

@@ -1,6 +1,6 @@
 //! The theorems on the elements of all texts, each as a function that makes no call.
 
-ghost use Rattle.icu_elements.specs.TextLaws.{TextsDecompose, GoodPartsMakeGoodTexts, ElementsPass, ElementsHaveSources};
+ghost use Rattle.icu_elements.specs.TextElementLaws.{TextsDecompose, GoodPartsMakeGoodTexts, ElementsPass, ElementsHaveSources};
 ghost use Rattle.icu_elements.specs.LiveTexts.{GoodTablesGiveLiveElements};
 
 /// Canonical decomposition of a text of scalar values gives scalar values, and none of U+0340, U+0341, U+0343 and

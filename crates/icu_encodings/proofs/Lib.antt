@@ -1,4 +1,4 @@
-pub mod CutLemmas
+pub mod UnitCutLemmas
 pub mod Latin1Lemmas
 pub mod ReadBackLemmas
 pub mod SpellLemmas

@@ -4,7 +4,7 @@ use Rattle.std.proofs.lemmas.List.{take-take}
 use Rattle.std.proofs.lemmas.Simd.{mask_l-mod, tops_compared, trailing_mask_l}
 use Rattle.std.proofs.lemmas.List.Sums.{prefix_len-le-length}
 use Rattle.std.specs.List.{prefix_len}
-use Rattle.icu_encodings.specs.inner.Fronts.{HaveHead}
+use Rattle.icu_encodings.specs.inner.ListFronts.{HaveHead}
 use mir.Syntax.{w8}
 use lib.Count.{count_trailing_zeros}
 use lib.Lanes.{zip2, mask_l, top}

@@ -1,4 +1,4 @@
 -- Words that only private contracts and proofs use.
-pub mod Cuts
-pub mod Fronts
+pub mod UnitCuts
+pub mod ListFronts
 pub mod Utf16Units

@@ -1,7 +1,7 @@
 //! The common beginning of two texts.
 
 ghost use Rattle.std.specs.Prelude.{◌≡◌, ◌≤◌, ℕ, take, length, IsTrue, MatchOption};
-ghost use Rattle.icu_encodings.specs.inner.Fronts.{BeginAlike, EndTogether, HaveHead};
+ghost use Rattle.icu_encodings.specs.inner.ListFronts.{BeginAlike, EndTogether, HaveHead};
 ghost use Rattle.icu_encodings.specs.DecodedTexts.{latin1_text, utf16_text};
 
 use crate::encoded_text::{EncodedText, Latin1Text, Utf8Text, Utf16Text};

@@ -1,7 +1,7 @@
 //! Texts, each in its encoding, that are read character by character as often as need be.
 
 ghost use Rattle.std.specs.Prelude.{◌≡◌, false, ◌<◌, ◌∷◌, ◌++◌, [], ℕ, List, take, length, MatchOption, IfSome};
-ghost use Rattle.icu_encodings.specs.inner.Cuts.{StartsClean, StartsNoTrail};
+ghost use Rattle.icu_encodings.specs.inner.UnitCuts.{StartsClean, StartsNoTrail};
 ghost use Rattle.std.specs.List.{AllByRecursion};
 ghost use Rattle.std.specs.Char.{IsScalar};
 ghost use Rattle.std.specs.Iterator.{YieldsFirst, item_count};

@@ -1,1 +1,1 @@
-pub mod DigitLemmas
+pub mod HexDigitLemmas

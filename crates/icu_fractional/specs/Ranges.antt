@@ -1,6 +1,6 @@
 -- Ranges of characters as a line writes them.
 use Rattle.std.specs.Prelude.{◌≡◌, ℕ, List, ◌++◌, ◌⊎◌, Some, codes}
-use Rattle.icu_fractional.specs.Digits.{character_written}
+use Rattle.icu_fractional.specs.HexDigits.{character_written}
 
 -- a word is two other words with `..` between, or stands for both
 abbrev pub JoinsEnds : List ℕ → List ℕ → List ℕ → Type 0

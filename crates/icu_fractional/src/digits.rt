@@ -1,6 +1,6 @@
 //! Numbers in hexadecimal digits, 0 to 9 and A to F.
 ghost use Rattle.std.specs.Prelude.{◌≡◌, ◌+◌, ◌*◌, ◌^◌, ◌<◌, ◌≤◌, IfSome, length};
-ghost use Rattle.icu_fractional.specs.Digits.{digit_of, number_written, character_written, byte_written};
+ghost use Rattle.icu_fractional.specs.HexDigits.{digit_of, number_written, character_written, byte_written};
 
 /// The digit that a byte of text is.
 fn digit_of(byte: u8) -> Option<u8>

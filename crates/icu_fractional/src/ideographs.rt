@@ -1,6 +1,6 @@
 //! The ideographs, in the order of their weights.
 ghost use Rattle.std.specs.Prelude.{◌≡◌, ◌≤◌, ◌↔◌, IsTrue, IfOk};
-ghost use Rattle.icu_fractional.specs.Digits.{character_written};
+ghost use Rattle.icu_fractional.specs.HexDigits.{character_written};
 ghost use Rattle.icu_fractional.specs.Ranges.{JoinsEnds, WritesRange};
 
 use crate::digits::character;

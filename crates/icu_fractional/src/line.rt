@@ -1,7 +1,7 @@
 //! Lines.
 ghost use Rattle.std.specs.Prelude.{◌≡◌, ◌≢◌, ◌==◌, ◌++◌, ◌∷◌, [], ℕ, List, Ok, Err, MatchOption};
 ghost use Rattle.std.specs.List.{before_first};
-ghost use Rattle.icu_fractional.specs.Lines.{text_of};
+ghost use Rattle.icu_fractional.specs.LineParts.{text_of};
 
 use crate::digits::byte;
 use crate::element::{FractionalElement, Primary};

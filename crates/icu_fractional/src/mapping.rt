@@ -1,6 +1,6 @@
 //! Mappings.
 ghost use Rattle.std.specs.Prelude.{◌≡◌, Err};
-ghost use Rattle.icu_fractional.specs.Lines.{Lacks};
+ghost use Rattle.icu_fractional.specs.LineParts.{Lacks};
 
 use crate::digits::character;
 use crate::element::FractionalElement;

@@ -13,7 +13,7 @@ use Rattle.std.specs.declared.cmp.Ordering.TheVariants.{Less, Equal, Greater}
 use Rattle.icu_data.proofs.ListLemmas.{all_append}
 use Rattle.icu_levels.specs.ListOrder.{list_order}
 use Rattle.icu_index.specs.Listings.{inserted, equal_names}
-use Rattle.icu_index.specs.inner.Groups.{Group, added, names_in, IsKeyed}
+use Rattle.icu_index.specs.inner.NameGroups.{Group, added, names_in, IsKeyed}
 
 -- ---- choices and lists
 

@@ -1,4 +1,4 @@
 pub mod GroupLemmas
-pub mod EntryLemmas
+pub mod GroupEntryLemmas
 pub mod NameLemmas
 pub mod InsertionLemmas

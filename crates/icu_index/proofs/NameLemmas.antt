@@ -9,7 +9,7 @@ use Rattle.icu_encodings.specs.DecodedTexts.{utf8_text}
 use Rattle.icu_levels.specs.ListOrder.{list_order}
 use Rattle.icu_order.proofs.TextOrders.{keys_keep}
 use Rattle.icu_index.specs.Listings.{name_order, inserted, equal_names}
-use Rattle.icu_index.specs.inner.Groups.{Group, key_of, added, names_in, IsKeyed}
+use Rattle.icu_index.specs.inner.NameGroups.{Group, key_of, added, names_in, IsKeyed}
 use Rattle.icu_index.proofs.GroupLemmas.{Ascend, found_at, added_is_inserted, added_keyed, found_are_equal, length_inserted}
 
 pub names_keep : (c : CollatorBorrowed) → IsGoodTables (tables_borrowed c) → (x y : List ℕ)

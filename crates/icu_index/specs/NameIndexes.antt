@@ -8,7 +8,7 @@ use Rattle.icu_comparison.specs.Collators.{tables_borrowed, settings_borrowed}
 use Rattle.icu_index.specs.declared.index.NameIndex.{NameIndex}
 use Rattle.icu_index.specs.declared.iter.NameIter.{NameIter}
 use Rattle.icu_index.specs.Listings.{name_order}
-use Rattle.icu_index.specs.inner.Groups.{names_of, names_in, groups_of}
+use Rattle.icu_index.specs.inner.NameGroups.{names_of, names_in, groups_of}
 
 -- the tables and the settings that names are ordered by
 abbrev pub index_tables : NameIndex → CollatorTables

@@ -2,7 +2,7 @@
 
 ghost use Rattle.std.specs.Prelude.{◌≡◌, ◌∷◌, [], OnOk, OnErr};
 ghost use Rattle.std.specs.BTreeMap.{IsOrdered};
-ghost use Rattle.icu_index.specs.inner.Groups.{added, groups_of, key_order};
+ghost use Rattle.icu_index.specs.inner.NameGroups.{added, groups_of, key_order};
 
 use std::alloc::{AllocError, Global};
 use std::collections::BTreeMap;

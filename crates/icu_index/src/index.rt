@@ -5,7 +5,7 @@ ghost use Rattle.std.proofs.Props.{props};
 ghost use Rattle.std.specs.BTreeMap.{IsOrdered};
 ghost use Rattle.icu_comparison.specs.Collators.{settings_borrowed, settings_kept, tables_borrowed, tables_kept};
 ghost use Rattle.icu_index.specs.Listings.{equal_names, inserted};
-ghost use Rattle.icu_index.specs.inner.Groups.{groups_of, key_of, key_order, names_in, IsKeyed};
+ghost use Rattle.icu_index.specs.inner.NameGroups.{groups_of, key_of, key_order, names_in, IsKeyed};
 
 use crate::groups::{Groups, add_name};
 use crate::iter::NameIter;

@@ -3,7 +3,7 @@ pub mod Writes
 pub mod KeyWrites
 pub mod SliceSinks
 pub mod ListSinkLaws
-pub mod Cases
+pub mod CaseRanks
 pub mod QuaternaryWeights
 pub mod WriterRests
 pub mod HeldRests

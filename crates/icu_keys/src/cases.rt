@@ -2,7 +2,7 @@
 
 ghost use Rattle.std.specs.Prelude.{◌≡◌, ℕ, ◌<◌, ◌≤◌, List, [], ◌∷◌};
 ghost use Rattle.icu_levels.specs.Cases.{packed, case_runs, case_nibble, case_nibbles};
-ghost use Rattle.icu_keys.specs.Cases.{rank_of};
+ghost use Rattle.icu_keys.specs.CaseRanks.{rank_of};
 ghost use Rattle.icu_keys.specs.Writes.{Writes, Feeds};
 
 use crate::nibbles::Nibbles;

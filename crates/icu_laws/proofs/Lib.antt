@@ -1,4 +1,4 @@
-pub mod OrderLemmas
+pub mod TextOrderLemmas
 pub mod EquivalentLemmas
 pub mod StrengthLemmas
 pub mod IdenticalLemmas

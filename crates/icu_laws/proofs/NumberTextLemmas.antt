@@ -19,7 +19,7 @@ use Rattle.icu_entries.specs.Elements.{Element, of_primary}
 use Rattle.icu_provider.specs.CollatorTables.{CollatorTables, reorder}
 use Rattle.icu_checks.specs.GoodTables.{IsGoodTables}
 use Rattle.icu_elements.specs.TextElements.{digit_of, elements_of, number_elements}
-use Rattle.icu_elements.specs.TextLaws.{IsText}
+use Rattle.icu_elements.specs.TextElementLaws.{IsText}
 use Rattle.icu_elements.proofs.DecomposedLemmas.{IsDecomposedText-nfd}
 use Rattle.icu_elements.proofs.ReadableLemmas.{good_readable}
 use Rattle.icu_order.specs.Forms.{compression_of, form_by, is_identical}

@@ -7,7 +7,7 @@ use Rattle.icu_levels.specs.ListOrder.{list_order}
 use Rattle.icu_levels.specs.Primaries.{Compression}
 use Rattle.icu_levels.specs.Identical.{identical_rank}
 use Rattle.icu_levels.specs.Keys.{LevelLists, secondaries_order, cases_order, tertiaries_order, quaternaries_order, characters_order, levels_order}
-use Rattle.icu_levels.specs.Fronts.{HasFront, ReadsForward}
+use Rattle.icu_levels.specs.CommonBeginnings.{HasFront, ReadsForward}
 use Rattle.icu_levels.specs.declared.forms.CaseForm.{CaseForm}
 use Rattle.icu_levels.specs.declared.forms.KeyForm.{KeyForm}
 use Rattle.icu_levels.specs.declared.forms.QuaternaryForm.{QuaternaryForm}

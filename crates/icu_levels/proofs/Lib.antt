@@ -16,7 +16,7 @@ pub mod NibbleOrder
 pub mod CaseOrder
 pub mod QuaternaryOrder
 pub mod CompressionOrder
-pub mod PieceLemmas
+pub mod NumberPieceLemmas
 pub mod PrimaryOrder
 pub mod FrontLemmas
 pub mod KeyOrder

@@ -11,7 +11,7 @@ use Rattle.icu_levels.proofs.WeightOrder.{digits_less, trimmed_less}
 use Rattle.icu_levels.proofs.PrecedesLemmas.{begins_alike}
 use Rattle.icu_levels.proofs.StepwiseOrder.{stepwise_bytes, StandAlong, IsRising, stepwise_order}
 use Rattle.icu_levels.proofs.CompressionOrder.{FitsAfter, next_leads, next_rises}
-use Rattle.icu_levels.proofs.PieceLemmas.{first_pieces_apart, further_pieces_apart}
+use Rattle.icu_levels.proofs.NumberPieceLemmas.{first_pieces_apart, further_pieces_apart}
 
 -- where the primary level stands: the lead that is dropped, if any, and whether inside a number
 pub record Place : Type 0 where

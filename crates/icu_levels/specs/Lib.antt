@@ -9,7 +9,7 @@ pub mod Quaternaries
 pub mod Identical
 pub mod Premises
 pub mod Keys
-pub mod Fronts
+pub mod CommonBeginnings
 pub mod KeyPremises
 pub mod LevelLaws
 pub mod RunLaws

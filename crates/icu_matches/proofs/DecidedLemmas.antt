@@ -6,9 +6,9 @@ use Rattle.std.proofs.lemmas.Bool.{and_parts, and_from, and_left, eqb-true, eq-e
 use Rattle.std.proofs.lemmas.Option.{slice_get_within, slice_get_cases}
 use Rattle.icu_data.specs.Contexts.{is_before, ascend_from}
 use Rattle.icu_data.specs.Data.{Row}
-use Rattle.icu_matches.specs.ReadAhead.{is_decided, are_decided}
+use Rattle.icu_matches.specs.MatchesAhead.{is_decided, are_decided}
 use Rattle.icu_matches.specs.inner.Rows.{IsSplit}
-use Rattle.icu_matches.proofs.OrderLemmas.{before_trans, not_before_back, not_before_itself, same_head, not_before_head}
+use Rattle.icu_matches.proofs.CharacterOrderLemmas.{before_trans, not_before_back, not_before_itself, same_head, not_before_head}
 use Rattle.icu_matches.proofs.RowLemmas.{same_row, ascending_at}
 
 -- ---- one row

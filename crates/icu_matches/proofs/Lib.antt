@@ -1,10 +1,10 @@
 pub mod ChoiceLemmas
-pub mod CommonLemmas
+pub mod CommonPartLemmas
 pub mod DecidedLemmas
 pub mod LiveLemmas
 pub mod MarkLemmas
 pub mod MatchLemmas
-pub mod OrderLemmas
+pub mod CharacterOrderLemmas
 pub mod ReadAheadLemmas
 pub mod RowLemmas
 pub mod TextLemmas

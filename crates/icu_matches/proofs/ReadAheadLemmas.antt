@@ -12,7 +12,7 @@ use Rattle.icu_entries.specs.Entries.{kind_of}
 use Rattle.icu_data.specs.Contexts.{is_before, ascend_from}
 use Rattle.icu_data.specs.Data.{Row, Context, HomedEntry, homed, row_entry, better, is_longer, longest_from, longest_row, context_of}
 use Rattle.icu_matches.specs.Matches.{Match, after_prefix, is_blocked, with_marks, contracted, match_from, match_of}
-use Rattle.icu_matches.specs.ReadAhead.{and_then, lone_match, HasWholeMatch, is_decided, are_decided, row_length}
+use Rattle.icu_matches.specs.MatchesAhead.{and_then, lone_match, HasWholeMatch, is_decided, are_decided, row_length}
 use Rattle.icu_matches.proofs.ChoiceLemmas.{either, either_by, maybe_by, maybe_any}
 use Rattle.icu_matches.proofs.RowLemmas.{ascends}
 

@@ -7,7 +7,7 @@ use Rattle.icu_data.specs.Contexts.{is_before, ascend_from}
 use Rattle.icu_data.specs.Data.{Row, row_entry, is_longer, better, longest_from}
 use Rattle.icu_matches.specs.inner.Beginnings.{common}
 use Rattle.icu_matches.specs.inner.Rows.{IsUpTo, ComeAfter, IsSplit}
-use Rattle.icu_matches.proofs.OrderLemmas.{before_trans, not_before_back, not_before_itself, before_differs, same_lists, beginning_not_after, shorter_before, begins_common, begins_whole}
+use Rattle.icu_matches.proofs.CharacterOrderLemmas.{before_trans, not_before_back, not_before_itself, before_differs, same_lists, beginning_not_after, shorter_before, begins_common, begins_whole}
 
 -- ---- a row by its index
 

@@ -1,5 +1,5 @@
 pub mod GoodEntries
 pub mod Matches
-pub mod ReadAhead
+pub mod MatchesAhead
 pub mod Texts
 pub mod inner

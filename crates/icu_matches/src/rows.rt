@@ -5,7 +5,7 @@ ghost use Rattle.std.specs.Prelude.{◌≡◌, ◌<◌, ◌≤◌, IsTrue, IfSom
 ghost use Rattle.icu_data.specs.Contexts.{has_ascending_rows, is_before};
 ghost use Rattle.icu_data.specs.Data.{row_entry, longest_row};
 ghost use Rattle.icu_data.specs.StoredData.{found_context};
-ghost use Rattle.icu_matches.specs.ReadAhead.{are_decided};
+ghost use Rattle.icu_matches.specs.MatchesAhead.{are_decided};
 ghost use Rattle.icu_matches.specs.inner.Beginnings.{common};
 ghost use Rattle.icu_matches.specs.inner.Rows.{IsSplit, row_at};
 

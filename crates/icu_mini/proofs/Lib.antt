@@ -1,3 +1,3 @@
 pub mod CharacterLemmas
-pub mod RunLemmas
+pub mod WeightRunLemmas
 mod WorkedRows

@@ -1,2 +1,2 @@
 pub mod PairLemmas
-pub mod RunLemmas
+pub mod DigitRunLemmas

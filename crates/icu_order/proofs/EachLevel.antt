@@ -9,7 +9,7 @@ use Rattle.icu_levels.proofs.KeepLemmas.{tie, keeps}
 use Rattle.icu_levels.proofs.PrimaryOrder.{primary_order}
 use Rattle.icu_levels.proofs.KeyOrder.{part_determines, secondary_determines, case_determines, tertiary_determines, quaternary_determines, identical_determines}
 use Rattle.icu_levels.proofs.SameKeys.{secondaries_from, cases_from, tertiaries_from, quaternaries_from, characters_from}
-use Rattle.icu_order.specs.TextLaws.{LevelKeeps, LevelsKeep}
+use Rattle.icu_order.specs.TextOrderLaws.{LevelKeeps, LevelsKeep}
 
 level_keeps : (p q : LevelPart) (o : Ordering) (Same : Type 0) → PartDetermines p q o → (o ≡ Equal → Same) → LevelKeeps p q o Same
 level_keeps p q o Same determines same =

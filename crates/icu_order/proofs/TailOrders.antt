@@ -2,7 +2,7 @@
 use Rattle.std.proofs.Common.{◌≡◌, ◌⊎◌, ℕ, false, List, [], ◌∷◌, ◌++◌, refl, ap, sym, ◌∙◌, append-nil, inr, true}
 use Rattle.unicode_normalization.specs.Forms.{nfd}
 use Rattle.icu_options.specs.Settings.{Settings}
-use Rattle.icu_levels.specs.Fronts.{HasFront, ReadsForward}
+use Rattle.icu_levels.specs.CommonBeginnings.{HasFront, ReadsForward}
 use Rattle.icu_levels.specs.Keys.{LevelLists}
 use Rattle.icu_levels.proofs.FrontLemmas.{front_does_not_count}
 use Rattle.icu_provider.specs.CollatorTables.{CollatorTables, reorder}

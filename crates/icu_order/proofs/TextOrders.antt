@@ -33,7 +33,7 @@ use Rattle.icu_order.specs.Handled.{is_variable, handled}
 use Rattle.icu_order.specs.Forms.{compression_of, direction, secondary_form, tertiary_form, quaternary_form, handling_form, form_by, last_variable, last_variable_by}
 use Rattle.icu_order.specs.TextOrder.{reading_by, handled_by, lists_by, text_order, text_key}
 use Rattle.icu_order.specs.LiveWeights.{IsLivePrimary, live_weights}
-use Rattle.icu_order.specs.TextLaws.{LevelsKeep}
+use Rattle.icu_order.specs.TextOrderLaws.{LevelsKeep}
 use Rattle.icu_order.proofs.HandledLemmas.{HoldsOf, handled_hold}
 use Rattle.icu_order.proofs.FormWeights.{weights_live}
 use Rattle.icu_order.proofs.SpecialBounds.{under}

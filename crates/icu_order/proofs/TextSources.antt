@@ -17,9 +17,9 @@ use Rattle.icu_checks.specs.GoodTables.{IsGoodTables}
 use Rattle.icu_elements.specs.TextElements.{Reading, elements_of}
 use Rattle.icu_elements.specs.TextParts.{HasGoodParts, GoodNumbers}
 use Rattle.icu_elements.specs.LiveTexts.{IsLiveElement, IsNumberElement, IsLiveOrNumber}
-use Rattle.icu_elements.proofs.PartLemmas.{elements_of-good, AllLive-weaker}
+use Rattle.icu_elements.proofs.ElementPartLemmas.{elements_of-good, AllLive-weaker}
 use Rattle.icu_elements.proofs.ReadableLemmas.{good_readable, readable_digits}
-use Rattle.icu_elements.proofs.SourceLemmas.{all_contained, all_live}
+use Rattle.icu_elements.proofs.ElementSourceLemmas.{all_contained, all_live}
 use Rattle.icu_elements.proofs.LiveTextLemmas.{live_entry, good_tables_live}
 use Rattle.icu_elements.proofs.DecomposedLemmas.{IsDecomposedText-nfd}
 use Rattle.icu_order.specs.TextOrder.{reading_by}

@@ -3,5 +3,5 @@ pub mod Levels
 pub mod Forms
 pub mod TextOrder
 pub mod LiveWeights
-pub mod TextLaws
+pub mod TextOrderLaws
 pub mod TextCuts

@@ -4,7 +4,7 @@ use Rattle.ucd_normal.specs.declared.forms.Form.TheVariants.{Nfd}
 use Rattle.unicode_normalization.specs.Decompose.{decompose}
 use Rattle.unicode_normalization.specs.Forms.{nfd}
 use Rattle.icu_options.specs.Settings.{Settings}
-use Rattle.icu_levels.specs.Fronts.{ReadsForward}
+use Rattle.icu_levels.specs.CommonBeginnings.{ReadsForward}
 use Rattle.icu_entries.specs.Elements.{Element}
 use Rattle.icu_provider.specs.CollatorTables.{CollatorTables}
 use Rattle.icu_elements.specs.TextElements.{elements_of}

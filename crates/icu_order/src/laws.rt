@@ -2,7 +2,7 @@
 
 ghost use Rattle.icu_order.specs.LiveWeights.{GoodTablesServeLevels};
 ghost use Rattle.icu_order.specs.TextCuts.{CommonBeginningsDoNotCount};
-ghost use Rattle.icu_order.specs.TextLaws.{EqualTextsHaveOneKey, KeysDetermineTextLists, KeysKeepTextOrder, LevelsKeepTextOrder};
+ghost use Rattle.icu_order.specs.TextOrderLaws.{EqualTextsHaveOneKey, KeysDetermineTextLists, KeysKeepTextOrder, LevelsKeepTextOrder};
 
 /// The weights that tables give which meet the conditions on all tables of a collator are as the order theorem of sort
 /// keys asks, for keys of each form (UTS #10, "Form Sort Keys"; UTS #35 part 5, "Collation Reordering" and "Case

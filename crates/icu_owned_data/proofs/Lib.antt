@@ -1,3 +1,3 @@
-mod AddedRows
+mod AddedRowLemmas
 mod BlockLemmas
 mod BuildingLemmas

@@ -1,6 +1,6 @@
 mod NamedLemmas
 mod TableLemmas
-mod EntryLemmas
+mod DigitEntryLemmas
 mod FewLemmas
 mod KeptLemmas
 mod SyllableLemmas

@@ -12,8 +12,8 @@ use Rattle.icu_elements.specs.TextElements.{Reading}
 use Rattle.icu_cuts.specs.Alone.{elements_by_char, elements_of_char, is_alone}
 use Rattle.icu_cuts.specs.Cuts.{IsSafe}
 use Rattle.icu_shortcuts.specs.Letters.{IsLetter, IsNumberDigit, letter_elements}
-use Rattle.icu_shortcuts.specs.ReadLetters.{IsOutline, LeadsBy}
-use Rattle.icu_shortcuts.specs.Syllables.{IsOwnLetter, StandByThemselves}
+use Rattle.icu_shortcuts.specs.inner.ReadLetters.{IsOutline, LeadsBy}
+use Rattle.icu_shortcuts.specs.inner.Syllables.{IsOwnLetter, StandByThemselves}
 use Rattle.icu_shortcuts.specs.declared.letter_facts.Letter.{Letter}
 use Rattle.icu_shortcuts.specs.declared.letter_facts.LetterKind.TheVariants.{Starters}
 

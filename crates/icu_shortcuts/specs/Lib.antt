@@ -4,6 +4,4 @@ pub mod SafeTables
 pub mod Letters
 pub mod KeptLetters
 pub mod LetterTables
-pub mod FewElements
-pub mod ReadLetters
-pub mod Syllables
+pub mod inner

@@ -9,7 +9,7 @@ ghost use Rattle.icu_entries.specs.declared.entry.EntryKind.TheVariants.{Digit};
 ghost use Rattle.icu_entries.specs.Entries.{kind_of};
 ghost use Rattle.icu_matches.specs.GoodEntries.{IsGoodFrom};
 ghost use Rattle.icu_cuts.specs.Alone.{elements_by_char, elements_of_char, is_alone, is_dot, looks_at_nothing, plain_entry};
-ghost use Rattle.icu_shortcuts.specs.FewElements.{few_elements};
+ghost use Rattle.icu_shortcuts.specs.inner.FewElements.{few_elements};
 ghost use Rattle.icu_shortcuts.specs.SafeTables.{safe_reading};
 
 use crate::few_elements::FewElements;

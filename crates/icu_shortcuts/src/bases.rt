@@ -7,7 +7,7 @@ ghost use Rattle.icu_entries.specs.Entries.{kind_of};
 ghost use Rattle.icu_provider.specs.Tables.{entry_of};
 ghost use Rattle.icu_elements.specs.ElementReaders.{elements_to_come};
 ghost use Rattle.icu_elements.specs.TextElements.{elements_after, elements_of};
-ghost use Rattle.icu_shortcuts.specs.FewElements.{few_elements};
+ghost use Rattle.icu_shortcuts.specs.inner.FewElements.{few_elements};
 ghost use Rattle.icu_shortcuts.specs.Letters.{IsLetter};
 ghost use Rattle.icu_shortcuts.specs.SafeTables.{safe_reading};
 

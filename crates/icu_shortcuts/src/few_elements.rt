@@ -24,7 +24,7 @@ pub(crate) struct FewElements {
 pub(crate) struct TooMany;
 
 impl VisitElement for FewElements {
-    ghost use Rattle.icu_shortcuts.specs.FewElements.{few_elements};
+    ghost use Rattle.icu_shortcuts.specs.inner.FewElements.{few_elements};
 
     type Refusal = TooMany;
 
@@ -48,7 +48,7 @@ impl VisitElement for FewElements {
 
 impl FewElements {
     ghost use Rattle.std.specs.Prelude.{IsTrue};
-    ghost use Rattle.icu_shortcuts.specs.FewElements.{few_elements};
+    ghost use Rattle.icu_shortcuts.specs.inner.FewElements.{few_elements};
 
     /// No element.
     #[tactic(auto, unfolding(crate::specs::FewElements::few_elements))]

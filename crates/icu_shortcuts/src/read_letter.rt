@@ -5,10 +5,10 @@ ghost use Rattle.ucd_normal.specs.declared.forms.Form.TheVariants.{Nfd};
 ghost use Rattle.unicode_normalization.specs.Decompose.{decompose};
 ghost use Rattle.icu_elements.specs.TextElements.{Reading};
 ghost use Rattle.icu_cuts.specs.Alone.{elements_of_char, is_alone};
-ghost use Rattle.icu_shortcuts.specs.FewElements.{few_elements};
+ghost use Rattle.icu_shortcuts.specs.inner.FewElements.{few_elements};
 ghost use Rattle.icu_shortcuts.specs.SafeTables.{safe_reading};
 ghost use Rattle.icu_shortcuts.specs.Letters.{IsLetter, letter_elements};
-ghost use Rattle.icu_shortcuts.specs.ReadLetters.{LeadsBy, IsOutline};
+ghost use Rattle.icu_shortcuts.specs.inner.ReadLetters.{LeadsBy, IsOutline};
 ghost use Rattle.icu_shortcuts.specs.declared.letter_facts.LetterKind.TheVariants.{Unknown};
 
 use crate::alone::{with_char, with_chars};

@@ -4,7 +4,7 @@ ghost use Rattle.std.specs.Prelude.{◌≡◌, true, IfSome, IsTrue};
 ghost use Rattle.std.specs.List.{list_all};
 ghost use Rattle.unicode_normalization.specs.Order.{is_starter};
 ghost use Rattle.icu_shortcuts.specs.Letters.{rises_to};
-ghost use Rattle.icu_shortcuts.specs.ReadLetters.{IsShaped};
+ghost use Rattle.icu_shortcuts.specs.inner.ReadLetters.{IsShaped};
 
 use crate::letter_facts::LetterKind;
 use unicode_normalization::char::canonical_combining_class;

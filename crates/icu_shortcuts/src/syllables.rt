@@ -4,10 +4,10 @@ ghost use Rattle.std.specs.Prelude.{◌≡◌, ◌∷◌, List, ℕ, IfSome};
 ghost use Rattle.ucd_normal.specs.declared.forms.Form.TheVariants.{Nfd};
 ghost use Rattle.unicode_normalization.specs.Decompose.{decompose};
 ghost use Rattle.icu_elements.specs.TextElements.{Reading};
-ghost use Rattle.icu_shortcuts.specs.FewElements.{few_elements};
+ghost use Rattle.icu_shortcuts.specs.inner.FewElements.{few_elements};
 ghost use Rattle.icu_shortcuts.specs.Letters.{IsLetter};
 ghost use Rattle.icu_shortcuts.specs.LetterTables.{AreLetters};
-ghost use Rattle.icu_shortcuts.specs.Syllables.{IsOwnLetter, StandByThemselves};
+ghost use Rattle.icu_shortcuts.specs.inner.Syllables.{IsOwnLetter, StandByThemselves};
 
 use crate::few_elements::FewElements;
 use crate::letter_facts::{Letter, LetterKind};

@@ -9,7 +9,7 @@ use Rattle.icu_data.proofs.ListLemmas.{weaker}
 use Rattle.icu_provider.specs.CollatorTables.{CollatorTables}
 use Rattle.icu_checks.specs.GoodTables.{IsGoodTables}
 use Rattle.icu_elements.specs.TextElements.{elements_of}
-use Rattle.icu_elements.specs.TextLaws.{IsText}
+use Rattle.icu_elements.specs.TextElementLaws.{IsText}
 use Rattle.icu_order.specs.Forms.{last_variable_by}
 use Rattle.icu_order.specs.Handled.{HandledElement, stayed, shifted_primary}
 use Rattle.icu_order.specs.TextOrder.{reading_by, handled_by}

@@ -1,4 +1,4 @@
-pub mod PartLemmas
-pub mod SourceLemmas
+pub mod KeyPartLemmas
+pub mod KeySourceLemmas
 pub mod CaseLemmas
 pub mod ThreeLevelLemmas

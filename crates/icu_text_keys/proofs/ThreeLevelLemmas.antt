@@ -10,7 +10,7 @@ use Rattle.icu_keys.specs.KeyWrites.{KeyWrites, KeyFeeds}
 use Rattle.icu_keys.specs.ThreeLists.{weight_before, element_before}
 use Rattle.icu_order.specs.Handled.{HandledElement, stayed, stayed_elements}
 use Rattle.icu_order.specs.Levels.{weights, primaries, secondaries, tertiaries}
-use Rattle.icu_text_keys.specs.ThreeLevelKeys.{three_lists}
+use Rattle.icu_text_keys.specs.inner.ThreeLevelKeys.{three_lists}
 
 -- two levels, and others that are absent
 pub two_parts : (p q : LevelPart) → parts_bytes (p ∷ absent ∷ q ∷ absent ∷ absent ∷ []) ≡ part_bytes p ++ part_bytes q

@@ -3,4 +3,4 @@ pub mod LevelRests
 pub mod KeyRests
 pub mod HandledSources
 pub mod TextCases
-pub mod ThreeLevelKeys
+pub mod inner

@@ -3,7 +3,7 @@
 ghost use Rattle.std.specs.Prelude.{◌≡◌, ◌≢◌, ◌<◌, ◌≤◌, ◌+◌, ◌^◌, List, ◌∷◌};
 ghost use Rattle.icu_levels.specs.Tertiaries.{moved_tertiary};
 ghost use Rattle.icu_entries.specs.Elements.{Element};
-ghost use Rattle.icu_keys.specs.Cases.{rank_of};
+ghost use Rattle.icu_keys.specs.CaseRanks.{rank_of};
 ghost use Rattle.icu_keys.specs.QuaternaryWeights.{weight_of};
 ghost use Rattle.icu_keys.specs.ThreeLists.{weight_before};
 ghost use Rattle.icu_order.specs.Levels.{case_reads, case_rank, masked_tertiary, tertiary_in, tertiaries, quaternary_weight};

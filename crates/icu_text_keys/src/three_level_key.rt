@@ -9,7 +9,7 @@ ghost use Rattle.icu_keys.specs.ThreeLevels.{three_levels_form};
 ghost use Rattle.icu_order.specs.Handled.{HandledElement, stayed};
 ghost use Rattle.icu_order.specs.Levels.{level_lists};
 ghost use Rattle.icu_text_keys.specs.HandledSources.{HasCase, handled_as};
-ghost use Rattle.icu_text_keys.specs.ThreeLevelKeys.{form_of_three_levels, three_levels_left};
+ghost use Rattle.icu_text_keys.specs.inner.ThreeLevelKeys.{form_of_three_levels, three_levels_left};
 
 use crate::element_weights::tertiary_or_none;
 use crate::handled::{Handled, HandledSource, next_element};

@@ -1,4 +1,4 @@
-pub mod WeightLemmas
+pub mod WrittenWeightLemmas
 pub mod BeginningLemmas
 pub mod NeighbourLemmas
 pub mod OverlapLemmas

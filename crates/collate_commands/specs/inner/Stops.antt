@@ -3,8 +3,8 @@ use Rattle.std.specs.Prelude.{string_bytes}
 use Rattle.std.specs.Io.KnownBytes.{Keeps}
 use Rattle.collate_commands.specs.Answers.{Compares}
 use Rattle.collate_commands.specs.Commands.{Asked, strength_of}
-use Rattle.collate_commands.specs.Reading.{AsksForInput}
-use Rattle.collate_commands.specs.Runs.{Known, Refuses, PrintsBeginning}
+use Rattle.collate_commands.specs.InputRead.{AsksForInput}
+use Rattle.collate_commands.specs.ProgramRuns.{Known, Refuses, PrintsBeginning}
 use Rattle.collate_commands.specs.declared.fault.Fault.{Fault}
 use Rattle.collate_commands.specs.declared.fault.Fault.TheVariants.{WrongWords, NoMemory, Refused, ReadFailed, WriteFailed}
 

@@ -12,7 +12,7 @@ use Rattle.icu_checks.specs.declared.check.weights.Level.TheVariants.{Primary}
 use Rattle.icu_checks.specs.declared.check.weights.WeightList.TheVariants.{Primaries}
 use Rattle.icu_provider.specs.CollatorTables.{CollatorTables}
 use Rattle.icu_checks.specs.LiveElements.{IsLiveBy}
-use Rattle.icu_checks.specs.inner.Levels.{bytes_at}
+use Rattle.icu_checks.specs.inner.ComparedLevels.{bytes_at}
 use Rattle.icu_checks.specs.inner.PairViolations.{IsListedWeight}
 
 unfoldable pub is_for_implicit : ℕ → Bool

@@ -5,7 +5,7 @@ use Rattle.icu_entries.specs.declared.error.DataTable.{DataTable}
 use Rattle.icu_provider.specs.Tables.{Tables}
 use Rattle.icu_checks.specs.declared.check.listed_weights.ListedWeights.{ListedWeights}
 use Rattle.icu_checks.specs.declared.check.weights.WeightList.TheVariants.{Primaries, Secondaries, Tertiaries, TertiaryElements, WithSecondary}
-use Rattle.icu_checks.specs.inner.Weights.{IsWeightBy, Adds}
+use Rattle.icu_checks.specs.inner.ComparedWeights.{IsWeightBy, Adds}
 use Rattle.icu_checks.specs.inner.PairViolations.{HoldsLevel}
 
 -- no list has a weight

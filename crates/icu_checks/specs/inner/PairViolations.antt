@@ -14,10 +14,10 @@ use Rattle.icu_checks.specs.declared.check.weights.Level.TheVariants as levels
 use Rattle.icu_checks.specs.declared.check.weights.WeightList.{WeightList}
 use Rattle.icu_checks.specs.declared.check.weights.WeightList.TheVariants.{Primaries, TertiaryElements, WithSecondary}
 use Rattle.icu_provider.specs.CollatorTables.{CollatorTables, reorder}
-use Rattle.icu_checks.specs.inner.Levels.{list_of, bytes_at}
+use Rattle.icu_checks.specs.inner.ComparedLevels.{list_of, bytes_at}
 use Rattle.icu_checks.specs.GoodTables.{later, IsOverlapTable}
 use Rattle.icu_checks.specs.inner.Violations.{IsTrueViolation}
-use Rattle.icu_checks.specs.inner.Weights.{IsWeightBy}
+use Rattle.icu_checks.specs.inner.ComparedWeights.{IsWeightBy}
 
 -- what is found in weights: none begins another, or a true violation
 pub record IsOutcome (all : CollatorTables) (IsFree : Type 0) (found : Option Violation) : Type 0 where

@@ -2,7 +2,7 @@
 ghost use Rattle.std.specs.Prelude.{◌≡◌, ◌<◌, OnOk, length, slice_index};
 ghost use Rattle.icu_provider.specs.StoredTables.{jamo_of, diacritics_of};
 ghost use Rattle.icu_provider.specs.TableSets.{tables_in};
-ghost use Rattle.icu_checks.specs.inner.Weights.{Adds, IsWeightBy, IsJamoWeight, IsDiacriticWeight};
+ghost use Rattle.icu_checks.specs.inner.ComparedWeights.{Adds, IsWeightBy, IsJamoWeight, IsDiacriticWeight};
 
 use crate::check::lookups::jamo_char;
 use crate::check::weights::WeightList;

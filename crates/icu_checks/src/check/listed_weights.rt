@@ -1,10 +1,10 @@
 //! The weights that are compared with one another, all lists on two walks over a table.
 ghost use Rattle.std.specs.Prelude.{◌≡◌, [], IfOk, OnOk};
 ghost use Rattle.std.specs.List.Sorted.{IsStrictlyIncreasing};
-ghost use Rattle.icu_data.specs.LiveWeights.{IsLiveWeight};
+ghost use Rattle.icu_data.specs.CollectedWeights.{IsLiveWeight};
 ghost use Rattle.icu_data.specs.StoredData.{data_of};
 ghost use Rattle.icu_provider.specs.TableSets.{tables_in};
-ghost use Rattle.icu_checks.specs.inner.Weights.{weight_at, Adds};
+ghost use Rattle.icu_checks.specs.inner.ComparedWeights.{weight_at, Adds};
 ghost use Rattle.icu_checks.specs.inner.ListedWeights.{HasNone, AreSame, AddsEach, HasSame, HoldsEach};
 
 use crate::check::collecting::collect;

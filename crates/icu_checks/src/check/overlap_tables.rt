@@ -2,8 +2,8 @@
 ghost use Rattle.std.specs.Prelude.{◌≡◌, ◌↔◌, IfOk, IsTrue};
 ghost use Rattle.icu_provider.specs.TableSets.{tables_in};
 ghost use Rattle.icu_checks.specs.inner.Violations.{IsTrueViolation};
-ghost use Rattle.icu_checks.specs.inner.Levels.{list_of};
-ghost use Rattle.icu_checks.specs.inner.Weights.{IsWeightBy};
+ghost use Rattle.icu_checks.specs.inner.ComparedLevels.{list_of};
+ghost use Rattle.icu_checks.specs.inner.ComparedWeights.{IsWeightBy};
 ghost use Rattle.icu_checks.specs.inner.PairViolations.{IsListedWeight, AreClashing, IsClashTable};
 
 use crate::check::collecting::collect;

@@ -3,7 +3,7 @@ ghost use Rattle.std.specs.Prelude.{◌≡◌, IfOk};
 ghost use Rattle.std.specs.List.Sorted.{IsStrictlyIncreasing};
 ghost use Rattle.icu_provider.specs.TableSets.{tables_in};
 ghost use Rattle.icu_checks.specs.inner.Violations.{IsTrueViolation};
-ghost use Rattle.icu_checks.specs.inner.Levels.{list_of};
+ghost use Rattle.icu_checks.specs.inner.ComparedLevels.{list_of};
 ghost use Rattle.icu_checks.specs.inner.PairViolations.{HoldsLevel, AreFree, AreClashing, IsOutcome, LevelIsFree};
 
 use crate::check::collecting::collect;

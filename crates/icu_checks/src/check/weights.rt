@@ -2,8 +2,8 @@
 ghost use Rattle.std.specs.Prelude.{◌≡◌, option_map};
 ghost use Rattle.icu_provider.specs.StoredTables.{reordering_of};
 ghost use Rattle.icu_provider.specs.TableSets.{tables_in};
-ghost use Rattle.icu_checks.specs.inner.Weights.{left_aligned, nonzero, uncommon};
-ghost use Rattle.icu_checks.specs.inner.Levels.{list_of, overlap_condition, reordering_at};
+ghost use Rattle.icu_checks.specs.inner.ComparedWeights.{left_aligned, nonzero, uncommon};
+ghost use Rattle.icu_checks.specs.inner.ComparedLevels.{list_of, overlap_condition, reordering_at};
 
 use crate::check::element_conditions::is_tertiary_element;
 use crate::condition::PairCondition;
@@ -102,7 +102,7 @@ fn uncommon(tertiary: u16) -> Option<u32>
 }
 
 impl Weigh for WeightList {
-    ghost use Rattle.icu_checks.specs.inner.Weights.{weight_at};
+    ghost use Rattle.icu_checks.specs.inner.ComparedWeights.{weight_at};
 
     ghost weight = { λ list x. weight_at list x };
 

@@ -5,7 +5,7 @@ use Rattle.icu_elements.specs.ElementReaders.{elements_to_come}
 use Rattle.icu_elements.specs.TextElements.{Reading}
 use Rattle.icu_cursor.specs.declared.piece.Piece.{Piece}
 use Rattle.icu_cursor.specs.declared.piece.Piece.TheVariants.{Text, Number}
-use Rattle.icu_cursor.specs.inner.Numbers.{number_left}
+use Rattle.icu_cursor.specs.inner.NumberElements.{number_left}
 use Rattle.icu_cursor.specs.inner.Places.{BeginsSafely}
 
 -- a text is this piece, and then the rest, which begins safely

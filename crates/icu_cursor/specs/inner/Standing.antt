@@ -9,7 +9,7 @@ use Rattle.icu_shortcuts.specs.declared.letter_facts.Letter.{Letter}
 use Rattle.icu_shortcuts.specs.declared.letter_facts.LetterKind.TheVariants.{Starters, Marked, Mark, Base}
 use Rattle.icu_shortcuts.specs.Letters.{letter_elements, IsNumberDigit}
 use Rattle.icu_cursor.specs.inner.Places.{MayBeCut, BeginsSafely}
-use Rattle.icu_cursor.specs.inner.Runs.{Rises, EndsRuns}
+use Rattle.icu_cursor.specs.inner.MarkRuns.{Rises, EndsRuns}
 
 -- a character gives what is kept of it before a text, whatever stands before, and the text gives what it gives after it
 abbrev pub StandsBefore : Reading → ℕ → Letter → List ℕ → Type 0

@@ -5,7 +5,7 @@ use Rattle.icu_entries.specs.declared.element_conditions.ElementCondition.TheVar
 use Rattle.icu_entries.specs.Elements.{Element}
 use Rattle.icu_data.specs.Data.{Data, Row, homed}
 use Rattle.icu_data.specs.Final.{final_elements}
-use Rattle.icu_data.specs.LiveWeights.{is_stated}
+use Rattle.icu_data.specs.CollectedWeights.{is_stated}
 use Rattle.icu_entries.specs.ElementConditions.{element_meets}
 use Rattle.icu_data.specs.Violations.{earlier}
 use Rattle.icu_data.specs.Walks.{after_all}

@@ -7,7 +7,7 @@ use Rattle.icu_entries.specs.declared.entry.EntryKind.TheVariants.{Digit}
 use Rattle.icu_entries.specs.Entries.{kind_of}
 use Rattle.icu_data.specs.Data.{Context, longest_row}
 use Rattle.icu_provider.specs.Tables.{Tables}
-use Rattle.icu_matches.specs.ReadAhead.{are_decided, row_length}
+use Rattle.icu_matches.specs.MatchesAhead.{are_decided, row_length}
 use Rattle.icu_elements.specs.TextElements.{Reading, continues_number}
 use Rattle.icu_elements.specs.inner.Iterating.{StillReads}
 

@@ -11,7 +11,7 @@ ghost use Rattle.icu_elements.specs.inner.Positions.{reading_by_tables, recent_c
 ghost use Rattle.icu_elements.specs.inner.ReadsAhead.{ReadsTo, ReadsOne, IsBegun, has_run_end, IsRunRead, IsMatchRead, HasWholeContraction, IsDotRead};
 ghost use Rattle.icu_elements.specs.Reading.{element_tables};
 ghost use Rattle.icu_data.specs.Data.{longest_row};
-ghost use Rattle.icu_matches.specs.ReadAhead.{are_decided, row_length};
+ghost use Rattle.icu_matches.specs.MatchesAhead.{are_decided, row_length};
 ghost use Rattle.icu_matches.specs.Texts.{unread};
 ghost use Rattle.unicode_normalization.specs.Decompositions.{CanDecompose, decompositions_size};
 ghost use Rattle.unicode_normalization.specs.Order.{is_starter};

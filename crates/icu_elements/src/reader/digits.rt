@@ -7,7 +7,7 @@ ghost use Rattle.icu_matches.specs.Texts.{unread};
 ghost use Rattle.icu_elements.specs.Reading.{element_tables};
 ghost use Rattle.icu_elements.specs.TextElements.{begins_with_mark, digit_of};
 ghost use Rattle.icu_elements.specs.inner.Positions.{unread_at};
-ghost use Rattle.icu_elements.specs.inner.Digits.{IsNoDigit, IsDigitTaken, IsRunTaken, IsNumberTaken, matched, stands_alone};
+ghost use Rattle.icu_elements.specs.inner.TakenDigits.{IsNoDigit, IsDigitTaken, IsRunTaken, IsNumberTaken, matched, stands_alone};
 
 use crate::reader::position::Position;
 use crate::tables::ElementTables;

@@ -9,7 +9,7 @@ ghost use Rattle.icu_matches.specs.GoodEntries.{IsGoodMatch};
 ghost use Rattle.icu_elements.specs.Reading.{element_tables};
 ghost use Rattle.icu_elements.specs.TextElements.{number_elements, number_step, entry_step, final_step};
 ghost use Rattle.icu_elements.specs.inner.Positions.{IsStep, reading_by_tables, consumed_last, unread_at};
-ghost use Rattle.icu_elements.specs.inner.Digits.{matched, digit_step};
+ghost use Rattle.icu_elements.specs.inner.TakenDigits.{matched, digit_step};
 
 use crate::element_list::ElementList;
 use crate::reader::TextReading;

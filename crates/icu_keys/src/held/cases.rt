@@ -2,7 +2,7 @@
 
 ghost use Rattle.std.specs.Prelude.{◌≡◌, ℕ, List, [], ◌∷◌, OnOk, IfOk};
 ghost use Rattle.icu_levels.specs.Cases.{case_level};
-ghost use Rattle.icu_keys.specs.Cases.{rank_of};
+ghost use Rattle.icu_keys.specs.CaseRanks.{rank_of};
 
 use crate::cases::{CaseWriter, LetterCase};
 use crate::held::INLINE;

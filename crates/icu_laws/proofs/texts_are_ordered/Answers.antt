@@ -1,4 +1,4 @@
-use Rattle.icu_laws.proofs.OrderLemmas.{texts_ordered}
+use Rattle.icu_laws.proofs.TextOrderLemmas.{texts_ordered}
 use Rattle.icu_laws.proofs.texts_are_ordered.Goals as goal
 
 pub returns : goal.returns

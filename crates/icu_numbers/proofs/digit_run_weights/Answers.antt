@@ -1,5 +1,5 @@
 use Rattle.std.proofs.Common.{◌<◌, length, rules, ◌∙◌}
-use Rattle.icu_numbers.proofs.RunLemmas.{number_decimal, number_first, number_fits, rest_decimal, rest_shorter, weights_more}
+use Rattle.icu_numbers.proofs.DigitRunLemmas.{number_decimal, number_first, number_fits, rest_decimal, rest_shorter, weights_more}
 use Rattle.icu_numbers.proofs.digit_run_weights.Goals as goal
 
 pub push_number-requires-clause-decimal : goal.push_number-requires-clause-decimal

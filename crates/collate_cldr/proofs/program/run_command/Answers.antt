@@ -1,7 +1,7 @@
 -- A run that fails is one of the commands' body, with the program's own lines.
 use Rattle.std.proofs.Common.{Global, IfSome, map, string_bytes, subst}
 use Rattle.collate_commands.specs.Commands.{command_of}
-use Rattle.collate_commands.specs.Runs.{Fails}
+use Rattle.collate_commands.specs.ProgramRuns.{Fails}
 use Rattle.collate_cldr.specs.Files.{ComparesAs, IsLineOf}
 use Rattle.collate_cldr.proofs.program.run_command.Goals as goal
 

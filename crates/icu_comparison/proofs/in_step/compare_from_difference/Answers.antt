@@ -1,6 +1,6 @@
 -- The same elements tie.
 use Rattle.std.proofs.Common.{sym}
-use Rattle.icu_comparison.proofs.StepLemmas.{same_order}
+use Rattle.icu_comparison.proofs.InStepLemmas.{same_order}
 use Rattle.icu_comparison.proofs.in_step.compare_from_difference.Goals as goal
 
 pub returns-in-None-clause-order : goal.returns-in-None-clause-order

@@ -1,7 +1,7 @@
 -- What was compared of the same elements is the order.
 use Rattle.std.proofs.Common.{◌∙◌, sym}
 use Rattle.icu_comparison.specs.inner.InStep.{three_levels}
-use Rattle.icu_comparison.proofs.StepLemmas.{same_three}
+use Rattle.icu_comparison.proofs.InStepLemmas.{same_three}
 use Rattle.icu_comparison.proofs.in_step.compare_in_step.Goals as goal
 
 pub returns-in_default : goal.returns-in_default

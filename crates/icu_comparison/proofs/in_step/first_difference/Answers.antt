@@ -6,7 +6,7 @@ use Rattle.icu_order.specs.Handled.{HandledElement}
 use Rattle.std.proofs.Common.{List}
 use Rattle.icu_comparison.specs.inner.InStep.{order_on}
 use Rattle.icu_comparison.specs.inner.LevelWeights.{weight_in}
-use Rattle.icu_comparison.proofs.StepLemmas.{tied_order}
+use Rattle.icu_comparison.proofs.InStepLemmas.{tied_order}
 use Rattle.icu_comparison.proofs.in_step.first_difference.Goals as goal
 
 pub pairs-preserved : goal.pairs-preserved

@@ -1,7 +1,7 @@
 -- Elements that tie on two levels step by the third.
 use Rattle.std.proofs.Common.{rules}
 use Rattle.icu_comparison.specs.inner.InStep.{three_levels}
-use Rattle.icu_comparison.proofs.StepLemmas.{steps_by}
+use Rattle.icu_comparison.proofs.InStepLemmas.{steps_by}
 use Rattle.icu_comparison.proofs.in_step.order_of_pair.Goals as goal
 
 pub returns : goal.returns

@@ -1,7 +1,7 @@
 use Rattle.std.proofs.Common.{◌<◌, ◌∷◌, ◌++◌, [], ℕ, List, All, ap, sym, subst, ◌∙◌}
 use Rattle.std.proofs.lemmas.List.Elements.{All-push}
 use Rattle.icu_cursor.specs.Cursors.{cursor_reading}
-use Rattle.icu_cursor.specs.inner.Numbers.{IsRun}
+use Rattle.icu_cursor.specs.inner.NumberElements.{IsRun}
 use Rattle.icu_cursor.proofs.NumberLemmas.{run_begun, run_more}
 use Rattle.icu_cursor.proofs.number.push_run.Goals as goal
 

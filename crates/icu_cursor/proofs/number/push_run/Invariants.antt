@@ -1,6 +1,6 @@
 use Rattle.std.proofs.Common.{ℕ, ◌<◌, All, length}
 use Rattle.icu_cursor.specs.Cursors.{cursor_reading}
-use Rattle.icu_cursor.specs.inner.Numbers.{IsRun}
+use Rattle.icu_cursor.specs.inner.NumberElements.{IsRun}
 use Rattle.icu_cursor.proofs.number.push_run.Given as goal
 
 -- the digits that were read are those of the text up to the rest

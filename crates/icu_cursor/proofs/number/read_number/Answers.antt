@@ -1,7 +1,7 @@
 use Rattle.std.proofs.Common.{◌∷◌, ◌++◌, [], ℕ, List, ap, subst, ◌∙◌}
 use Rattle.icu_elements.specs.TextElements.{number_elements}
 use Rattle.icu_cursor.specs.Cursors.{cursor_reading}
-use Rattle.icu_cursor.specs.inner.Numbers.{IsRun}
+use Rattle.icu_cursor.specs.inner.NumberElements.{IsRun}
 use Rattle.icu_cursor.proofs.NumberLemmas.{number_piece}
 use Rattle.icu_cursor.proofs.number.read_number.Goals as goal
 

@@ -3,7 +3,7 @@ use Rattle.unicode_normalization.specs.Forms.{nfd}
 use Rattle.icu_elements.specs.ElementReaders.{elements_to_come}
 use Rattle.icu_elements.specs.TextElements.{elements_after, last_two}
 use Rattle.icu_cursor.specs.Cursors.{cursor_reading}
-use Rattle.icu_cursor.specs.inner.Contexts.{context_of}
+use Rattle.icu_cursor.specs.inner.ReadCharacters.{context_of}
 use Rattle.icu_cursor.proofs.piece.read_piece.Goals as goal
 
 pub returns : goal.returns

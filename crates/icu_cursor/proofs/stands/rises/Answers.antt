@@ -1,5 +1,5 @@
 use Rattle.std.proofs.Common.{sym, subst}
-use Rattle.icu_cursor.specs.inner.Runs.{Rises}
+use Rattle.icu_cursor.specs.inner.MarkRuns.{Rises}
 use Rattle.icu_cursor.proofs.StandLemmas.{nothing_rises}
 use Rattle.icu_cursor.proofs.stands.rises.Goals as goal
 

@@ -1,4 +1,4 @@
-use Rattle.icu_cursor.specs.inner.Runs.{Rises}
+use Rattle.icu_cursor.specs.inner.MarkRuns.{Rises}
 use Rattle.icu_cursor.proofs.stands.rises.Given as goal
 
 -- where the rest rises from the last class, so does the text from the first

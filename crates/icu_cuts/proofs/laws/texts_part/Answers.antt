@@ -1,5 +1,5 @@
 use Rattle.icu_cuts.proofs.CutLemmas.{safe_cut, safe_start}
-use Rattle.icu_cuts.proofs.ContextLemmas.{elements_after-piece}
+use Rattle.icu_cuts.proofs.LeftContextLemmas.{elements_after-piece}
 use Rattle.icu_cuts.proofs.laws.texts_part.Goals as goal
 
 pub returns : goal.returns

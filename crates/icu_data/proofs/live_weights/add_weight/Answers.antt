@@ -1,6 +1,6 @@
 use Rattle.std.proofs.Common.{ap, sym, ◌∙◌}
 use Rattle.icu_data.specs.inner.Visitors.{holds, is_last}
-use Rattle.icu_data.proofs.WeightLemmas.{last_again, one_more}
+use Rattle.icu_data.proofs.CollectedWeightLemmas.{last_again, one_more}
 use Rattle.icu_data.proofs.live_weights.add_weight.Goals as goal
 
 pub returns-then-is_last : goal.returns-then-is_last

@@ -1,5 +1,5 @@
 use Rattle.icu_data.specs.StoredData.{data_of}
-use Rattle.icu_data.proofs.WeightLemmas.{collected_live}
+use Rattle.icu_data.proofs.CollectedWeightLemmas.{collected_live}
 use Rattle.icu_data.proofs.live_weights.collect_weights.Goals as goal
 
 pub returns : goal.returns

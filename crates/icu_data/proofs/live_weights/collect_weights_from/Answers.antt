@@ -1,7 +1,7 @@
 use Rattle.std.proofs.Common.{true}
 use Rattle.icu_data.specs.Live.{live_from}
 use Rattle.icu_data.specs.StoredData.{data_of}
-use Rattle.icu_data.proofs.WeightLemmas.{collected_among}
+use Rattle.icu_data.proofs.CollectedWeightLemmas.{collected_among}
 use Rattle.icu_data.proofs.live_weights.collect_weights_from.Goals as goal
 
 pub returns : goal.returns

@@ -1,4 +1,4 @@
-use Rattle.icu_elements.proofs.SourceLemmas.{elements_of-sources}
+use Rattle.icu_elements.proofs.ElementSourceLemmas.{elements_of-sources}
 use Rattle.icu_elements.proofs.laws.elements_have_sources.Goals as goal
 
 pub returns : goal.returns

@@ -1,5 +1,5 @@
 use Rattle.std.proofs.Common.{IsTrue}
-use Rattle.icu_elements.proofs.PartLemmas.{elements_of-good, elements_of-pass}
+use Rattle.icu_elements.proofs.ElementPartLemmas.{elements_of-good, elements_of-pass}
 use Rattle.icu_elements.proofs.laws.good_parts_make_good_texts.Goals as goal
 
 pub returns : goal.returns

@@ -1,6 +1,6 @@
 -- A block more that both have goes to the common beginning.
 use Rattle.std.proofs.Common.{◌≡◌, ap, ◌∙◌, ◌++◌, sym, drop, take-append-drop}
-use Rattle.icu_encodings.proofs.CutLemmas.{longer_head, same_words}
+use Rattle.icu_encodings.proofs.UnitCutLemmas.{longer_head, same_words}
 use Rattle.icu_encodings.proofs.common_units.after_common_blocks.Goals as goal
 
 pub wide-preserved : goal.wide-preserved

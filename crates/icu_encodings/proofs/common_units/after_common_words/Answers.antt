@@ -1,6 +1,6 @@
 -- A word more that both have goes to the common beginning.
 use Rattle.std.proofs.Common.{◌≡◌, ap, ◌∙◌, ◌++◌, sym, drop, take-append-drop}
-use Rattle.icu_encodings.proofs.CutLemmas.{longer_head}
+use Rattle.icu_encodings.proofs.UnitCutLemmas.{longer_head}
 use Rattle.icu_encodings.proofs.common_units.after_common_words.Goals as goal
 
 pub words-preserved : goal.words-preserved

@@ -1,6 +1,6 @@
 -- What is left of the two lists comes after a common beginning.
 use Rattle.std.proofs.Common.{length}
-use Rattle.icu_encodings.specs.inner.Fronts.{HaveHead}
+use Rattle.icu_encodings.specs.inner.ListFronts.{HaveHead}
 use Rattle.icu_encodings.proofs.common_units.after_common_words.Given as goal
 
 abbrev pub invariant-words : goal.invariant-words

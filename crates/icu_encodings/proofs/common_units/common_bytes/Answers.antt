@@ -1,6 +1,6 @@
 -- A byte more that both have goes to the common beginning.
 use Rattle.std.proofs.Common.{◌∷◌, []}
-use Rattle.icu_encodings.proofs.CutLemmas.{rest_alike, none_left, longer_head, head_on}
+use Rattle.icu_encodings.proofs.UnitCutLemmas.{rest_alike, none_left, longer_head, head_on}
 use Rattle.icu_encodings.proofs.common_units.common_bytes.Goals as goal
 
 pub bytes-preserved : goal.bytes-preserved

@@ -1,6 +1,6 @@
 -- A word or a unit more that both have goes to the common beginning.
 use Rattle.std.proofs.Common.{arith, ◌∷◌, []}
-use Rattle.icu_encodings.proofs.CutLemmas.{rest_alike, none_left, longer_head, same_front, same_characters}
+use Rattle.icu_encodings.proofs.UnitCutLemmas.{rest_alike, none_left, longer_head, same_front, same_characters}
 use Rattle.icu_encodings.proofs.common_units.common_bytes_and_units.Goals as goal
 
 pub units-preserved : goal.units-preserved

@@ -1,6 +1,6 @@
 -- What is left of the two lists comes after a common beginning.
 use Rattle.std.proofs.Common.{length}
-use Rattle.icu_encodings.specs.inner.Fronts.{HaveHead}
+use Rattle.icu_encodings.specs.inner.ListFronts.{HaveHead}
 use Rattle.icu_encodings.proofs.common_units.common_bytes_and_units.Given as goal
 
 abbrev pub invariant-units : goal.invariant-units

@@ -1,6 +1,6 @@
 -- A word or a unit more that both have goes to the common beginning.
 use Rattle.std.proofs.Common.{◌≡◌, ap, ◌∙◌, ◌∷◌, ◌++◌, [], sym, drop, take-append-drop}
-use Rattle.icu_encodings.proofs.CutLemmas.{rest_alike, none_left, longer_head, same_words}
+use Rattle.icu_encodings.proofs.UnitCutLemmas.{rest_alike, none_left, longer_head, same_words}
 use Rattle.icu_encodings.proofs.common_units.common_units16.Goals as goal
 
 pub words-preserved : goal.words-preserved

@@ -3,7 +3,7 @@ use Rattle.std.proofs.Common.{rules, ◌≤◌, ◌∙◌, ◌∷◌, ap, sym, s
 use Rattle.std.proofs.lemmas.List.{nil_from_length}
 use Rattle.bstr.specs.Utf8.{decoded}
 use Rattle.icu_encodings.specs.DecodedTexts.{utf8_text}
-use Rattle.icu_encodings.proofs.CutLemmas.{utf8_first, utf8_empty, piece_fits}
+use Rattle.icu_encodings.proofs.UnitCutLemmas.{utf8_first, utf8_empty, piece_fits}
 use Rattle.icu_encodings.proofs.encoded_text.split_first_decoded.Goals as goal
 
 pub returns-then-is_empty : goal.returns-then-is_empty

@@ -1,5 +1,5 @@
 use Rattle.std.proofs.Common.{◌<◌, arith, sym, ◌∙◌}
-use Rattle.icu_fractional.proofs.DigitLemmas.{digit_more, room, number_more, number_stops, number_end}
+use Rattle.icu_fractional.proofs.HexDigitLemmas.{digit_more, room, number_more, number_stops, number_end}
 use Rattle.icu_fractional.proofs.digits.number.Goals as goal
 
 pub overflow_mul-number : goal.overflow_mul-number

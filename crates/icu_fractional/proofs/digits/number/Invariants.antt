@@ -1,5 +1,5 @@
 use Rattle.std.proofs.Common.{◌≡◌, ◌^◌, ◌<◌, drop}
-use Rattle.icu_fractional.specs.Digits.{number_behind}
+use Rattle.icu_fractional.specs.HexDigits.{number_behind}
 use Rattle.icu_fractional.proofs.digits.number.Given as goal
 
 abbrev pub invariant-loop-byte : goal.invariant-loop-byte

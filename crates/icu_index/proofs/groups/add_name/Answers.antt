@@ -1,7 +1,7 @@
 use Rattle.std.proofs.Common.{◌≡◌, [], ◌∷◌, sym, ap, ◌∙◌, rules}
 use Rattle.std.specs.BTreeMap.{insert_entry}
-use Rattle.icu_index.proofs.EntryLemmas.{names_pushed, new_group, put_in_group, same_group}
-use Rattle.icu_index.specs.inner.Groups.{added, names_of, groups_of, key_order}
+use Rattle.icu_index.proofs.GroupEntryLemmas.{names_pushed, new_group, put_in_group, same_group}
+use Rattle.icu_index.specs.inner.NameGroups.{added, names_of, groups_of, key_order}
 use Rattle.icu_index.proofs.groups.add_name.Goals as goal
 
 pub returns-in_err-push-clause-err : goal.returns-in_err-push-clause-err

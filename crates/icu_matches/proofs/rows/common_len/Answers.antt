@@ -1,7 +1,7 @@
 use Rattle.std.proofs.Common.{◌≡◌, ℕ, List, length, take, ap, sym, ◌∙◌, inl, inr, rules, arith}
 use Rattle.std.proofs.lemmas.Bool.{cases_lt}
 use Rattle.icu_matches.specs.inner.Beginnings.{common}
-use Rattle.icu_matches.proofs.CommonLemmas.{common_goes_on, common_stops, common_ends, common_ends_text}
+use Rattle.icu_matches.proofs.CommonPartLemmas.{common_goes_on, common_stops, common_ends, common_ends_text}
 use Rattle.icu_matches.proofs.rows.common_len.Goals as goal
 
 pub returns-then-row-index-clause-common : goal.returns-then-row-index-clause-common

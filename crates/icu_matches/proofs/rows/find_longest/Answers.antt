@@ -5,7 +5,7 @@ use Rattle.icu_data.specs.StoredData.{found_context, found_row}
 use Rattle.icu_data.specs.Contexts.{is_before}
 use Rattle.icu_data.specs.Data.{Row, longest_row}
 use Rattle.icu_matches.specs.inner.Rows.{IsSplit}
-use Rattle.icu_matches.proofs.OrderLemmas.{common_shorter}
+use Rattle.icu_matches.proofs.CharacterOrderLemmas.{common_shorter}
 use Rattle.icu_matches.proofs.RowLemmas.{longest_none, longest_found, longest_cut}
 use Rattle.icu_matches.proofs.rows.find_longest.Goals as goal
 

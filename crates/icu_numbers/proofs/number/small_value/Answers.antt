@@ -1,5 +1,5 @@
 use Rattle.std.proofs.Common.{arith}
-use Rattle.icu_numbers.proofs.RunLemmas.{few_digits}
+use Rattle.icu_numbers.proofs.DigitRunLemmas.{few_digits}
 use Rattle.icu_numbers.proofs.number.small_value.Goals as goal
 
 pub overflow_mul-value : goal.overflow_mul-value

@@ -1,4 +1,4 @@
-use Rattle.icu_numbers.proofs.RunLemmas.{odd_split, even_split}
+use Rattle.icu_numbers.proofs.DigitRunLemmas.{odd_split, even_split}
 use Rattle.icu_numbers.proofs.pairs.first_pair.Goals as goal
 
 pub returns-then-digits-eq1 : goal.returns-then-digits-eq1

@@ -2,7 +2,7 @@
 use Rattle.std.proofs.Common.{sym}
 use Rattle.std.proofs.lemmas.List.{length-map}
 use Rattle.icu_owned_data.specs.AddedContexts.{given_row}
-use Rattle.icu_owned_data.proofs.AddedRows.{stored_contexts-added}
+use Rattle.icu_owned_data.proofs.AddedRowLemmas.{stored_contexts-added}
 use Rattle.icu_owned_data.proofs.added_context.add_context.Goals as goal
 
 pub returns-in-Ok-clause-adds : goal.returns-in-Ok-clause-adds

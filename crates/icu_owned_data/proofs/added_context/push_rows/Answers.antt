@@ -1,7 +1,7 @@
 -- One row more is one given row more.
 use Rattle.std.proofs.Common.{[], refl}
 use Rattle.icu_owned_data.specs.AddedContexts.{given_row}
-use Rattle.icu_owned_data.proofs.AddedRows.{AddsRows-none, AddsRows-more, map-take_more}
+use Rattle.icu_owned_data.proofs.AddedRowLemmas.{AddsRows-none, AddsRows-more, map-take_more}
 use Rattle.icu_owned_data.proofs.added_context.push_rows.Goals as goal
 
 pub loop-list-init : goal.loop-list-init

@@ -1,7 +1,7 @@
 use Rattle.std.proofs.Common.{◌≡◌, ◌++◌, true, take}
 use Rattle.std.specs.List.{list_all}
 use Rattle.icu_cuts.specs.Alone.{elements_by_char, is_alone}
-use Rattle.icu_shortcuts.specs.FewElements.{few_elements}
+use Rattle.icu_shortcuts.specs.inner.FewElements.{few_elements}
 use Rattle.icu_shortcuts.specs.SafeTables.{safe_reading}
 use Rattle.icu_shortcuts.proofs.alone.with_chars.Given as goal
 

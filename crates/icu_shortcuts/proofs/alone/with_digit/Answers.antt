@@ -2,7 +2,7 @@
 use Rattle.std.proofs.Common.{rules}
 use Rattle.icu_data.specs.StoredData.{data_of}
 use Rattle.icu_elements.proofs.ReadableLemmas.{plain_inside, plain_readable}
-use Rattle.icu_shortcuts.proofs.EntryLemmas.{good_digit}
+use Rattle.icu_shortcuts.proofs.DigitEntryLemmas.{good_digit}
 use Rattle.icu_shortcuts.proofs.alone.with_digit.Goals as goal
 
 pub get_ce32-requires : goal.get_ce32-requires

@@ -1,6 +1,6 @@
 use Rattle.std.proofs.Common.{◌≡◌, ◌++◌}
 use Rattle.icu_elements.specs.ElementReaders.{elements_to_come}
-use Rattle.icu_shortcuts.specs.FewElements.{few_elements}
+use Rattle.icu_shortcuts.specs.inner.FewElements.{few_elements}
 use Rattle.icu_shortcuts.proofs.bases.few_left.Given as goal
 
 -- those that were read, and those that are left

@@ -1,6 +1,6 @@
 -- The first element is the first of those that are kept.
 use Rattle.std.proofs.Common.{arith, eq-eqb, sym, ◌∙◌}
-use Rattle.icu_shortcuts.specs.FewElements.{few_elements}
+use Rattle.icu_shortcuts.specs.inner.FewElements.{few_elements}
 use Rattle.icu_shortcuts.proofs.FewLemmas.{first_taken}
 use Rattle.icu_shortcuts.proofs.read_letter.leading_primary.Goals as goal
 

@@ -7,8 +7,8 @@ use Rattle.icu_keys.proofs.KeyWriting.{key_owed, feeds_stopped}
 use Rattle.icu_order.specs.Handled.{HandledElement}
 use Rattle.icu_text_keys.specs.declared.handled.Handled.{Handled}
 use Rattle.icu_text_keys.specs.HandledSources.{HasCase, handled_as}
-use Rattle.icu_text_keys.specs.ThreeLevelKeys.{three_levels_left}
-use Rattle.icu_text_keys.proofs.SourceLemmas.{one_given, none_given, stopped}
+use Rattle.icu_text_keys.specs.inner.ThreeLevelKeys.{three_levels_left}
+use Rattle.icu_text_keys.proofs.KeySourceLemmas.{one_given, none_given, stopped}
 use Rattle.icu_text_keys.proofs.three_level_key.write_rest.Goals as goal
 
 pub returns-in_err-element-clause-bytes : goal.returns-in_err-element-clause-bytes

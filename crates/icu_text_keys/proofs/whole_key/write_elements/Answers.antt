@@ -8,7 +8,7 @@ use Rattle.icu_order.specs.Handled.{HandledElement}
 use Rattle.icu_text_keys.specs.declared.handled.Handled.{Handled}
 use Rattle.icu_text_keys.specs.HandledSources.{HasCase, handled_as}
 use Rattle.icu_text_keys.specs.KeyRests.{key_rest}
-use Rattle.icu_text_keys.proofs.SourceLemmas.{one_given, none_given, stopped}
+use Rattle.icu_text_keys.proofs.KeySourceLemmas.{one_given, none_given, stopped}
 use Rattle.icu_text_keys.proofs.whole_key.write_elements.Goals as goal
 
 pub returns-in_err-element-clause-bytes : goal.returns-in_err-element-clause-bytes

@@ -1,6 +1,6 @@
 use Rattle.std.proofs.Common.{OnOk, sym, subst}
 use Rattle.icu_provider.specs.TableSets.{tables_in}
-use Rattle.icu_checks.specs.inner.Weights.{Adds, IsWeightBy}
+use Rattle.icu_checks.specs.inner.ComparedWeights.{Adds, IsWeightBy}
 use Rattle.icu_checks.proofs.check.collecting.collect.Goals as goal
 
 pub returns-in-Root : goal.returns-in-Root

@@ -1,6 +1,6 @@
 use Rattle.std.proofs.Common.{sym, ap, ◌∙◌}
 use Rattle.icu_entries.specs.Elements.{of_secondary}
-use Rattle.icu_checks.specs.inner.Weights.{weight_at}
+use Rattle.icu_checks.specs.inner.ComparedWeights.{weight_at}
 use Rattle.icu_checks.proofs.CollectLemmas.{loaded_diacritic, loaded_no_diacritic}
 use Rattle.icu_checks.proofs.check.collecting.collect_diacritic.Goals as goal
 

@@ -1,6 +1,6 @@
 use Rattle.std.proofs.Common.{◌≡◌, ℕ, ◌≤◌, List, length, ap, arith}
 use Rattle.icu_provider.specs.TableSets.{tables_in}
-use Rattle.icu_checks.specs.inner.Weights.{IsDiacriticWeight}
+use Rattle.icu_checks.specs.inner.ComparedWeights.{IsDiacriticWeight}
 use Rattle.icu_checks.proofs.CollectLemmas.{below_step, loaded_diacritics}
 use Rattle.icu_checks.proofs.check.collecting.collect_diacritics.Goals as goal
 

@@ -1,5 +1,5 @@
 use Rattle.icu_provider.specs.TableSets.{tables_in}
-use Rattle.icu_checks.specs.inner.Weights.{Adds, IsBelow, IsDiacriticWeight}
+use Rattle.icu_checks.specs.inner.ComparedWeights.{Adds, IsBelow, IsDiacriticWeight}
 use Rattle.icu_checks.proofs.check.collecting.collect_diacritics.Given as goal
 
 -- the weights of the places so far were added

@@ -1,6 +1,6 @@
 use Rattle.std.proofs.Common.{◌≡◌, ℕ, ◌≤◌, List, length, ap, arith}
 use Rattle.icu_provider.specs.TableSets.{tables_in}
-use Rattle.icu_checks.specs.inner.Weights.{IsJamoWeight}
+use Rattle.icu_checks.specs.inner.ComparedWeights.{IsJamoWeight}
 use Rattle.icu_checks.proofs.CollectLemmas.{below_step, loaded_jamo}
 use Rattle.icu_checks.proofs.check.collecting.collect_jamo.Goals as goal
 

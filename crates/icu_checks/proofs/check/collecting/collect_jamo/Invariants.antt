@@ -1,5 +1,5 @@
 use Rattle.icu_provider.specs.TableSets.{tables_in}
-use Rattle.icu_checks.specs.inner.Weights.{Adds, IsBelow, IsJamoWeight}
+use Rattle.icu_checks.specs.inner.ComparedWeights.{Adds, IsBelow, IsJamoWeight}
 use Rattle.icu_checks.proofs.check.collecting.collect_jamo.Given as goal
 
 -- the weights of the places so far were added

@@ -1,9 +1,9 @@
 -- A walk of all collectors is a walk of each.
 use Rattle.icu_data.specs.StoredData.{data_of}
 use Rattle.icu_data.proofs.BothLemmas.{on_first, on_second}
-use Rattle.icu_data.proofs.WeightLemmas.{collected_live}
+use Rattle.icu_data.proofs.CollectedWeightLemmas.{collected_live}
 use Rattle.icu_checks.specs.declared.check.weights.WeightList.TheVariants.{Secondaries, Tertiaries, TertiaryElements, WithSecondary}
-use Rattle.icu_checks.specs.inner.Weights.{weight_at}
+use Rattle.icu_checks.specs.inner.ComparedWeights.{weight_at}
 use Rattle.icu_checks.proofs.check.listed_weights.collect_home.Goals as goal
 
 pub returns-clause-secondaries : goal.returns-clause-secondaries

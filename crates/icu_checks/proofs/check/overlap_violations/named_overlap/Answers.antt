@@ -1,7 +1,7 @@
 use Rattle.std.proofs.Common.{IfSome, subst, option_map}
 use Rattle.icu_provider.specs.StoredTables.{reordering_of}
 use Rattle.icu_provider.specs.TableSets.{tables_in}
-use Rattle.icu_checks.specs.inner.Levels.{list_of}
+use Rattle.icu_checks.specs.inner.ComparedLevels.{list_of}
 use Rattle.icu_weights.specs.Overlaps.{written_bytes, Overlaps}
 use Rattle.icu_checks.proofs.WeightListLemmas.{clashing, sorted_listed, same_listed}
 use Rattle.icu_checks.proofs.check.overlap_violations.named_overlap.Goals as goal

@@ -1,5 +1,5 @@
 use Rattle.icu_provider.specs.TableSets.{tables_in}
-use Rattle.icu_checks.specs.inner.Levels.{list_of}
+use Rattle.icu_checks.specs.inner.ComparedLevels.{list_of}
 use Rattle.icu_checks.specs.inner.PairViolations.{AreListed}
 use Rattle.icu_checks.proofs.check.overlap_violations.named_overlap.Given as goal
 

@@ -2,7 +2,7 @@
 use Rattle.unicode_normalization.specs.Forms.{nfd}
 use Rattle.icu_comparison.specs.Collators.{tables_borrowed, settings_borrowed}
 use Rattle.icu_comparison.specs.HandledRests.{handled_to_come}
-use Rattle.icu_comparison.proofs.StepLemmas.{in_step_read, difference_read}
+use Rattle.icu_comparison.proofs.InStepLemmas.{in_step_read, difference_read}
 use Rattle.icu_comparison.proofs.collator.CollatorBorrowed.compare_at_once.Goals as goal
 
 pub returns-in-Some : goal.returns-in-Some

@@ -2,7 +2,7 @@
 use Rattle.std.proofs.Common.{◌≡◌, Ordering, IfOk, subst}
 use Rattle.unicode_normalization.specs.Forms.{nfd}
 use Rattle.icu_comparison.specs.Collators.{tables_borrowed, settings_borrowed}
-use Rattle.icu_comparison.proofs.StepLemmas.{lower_decides}
+use Rattle.icu_comparison.proofs.InStepLemmas.{lower_decides}
 use Rattle.icu_comparison.proofs.collator.CollatorBorrowed.compare_elements.Goals as goal
 
 pub returns-in-None : goal.returns-in-None

@@ -2,7 +2,7 @@
 use Rattle.std.proofs.Common.{◌≡◌, ◌∙◌, sym, subst, IfOk}
 use Rattle.std.specs.declared.cmp.Ordering.{Ordering}
 use Rattle.icu_comparison.specs.Collators.{tables_borrowed, settings_borrowed}
-use Rattle.icu_comparison.proofs.OrderLemmas.{ends, goes_on_ok, order_in_two}
+use Rattle.icu_comparison.proofs.OrdersInTurn.{ends, goes_on_ok, order_in_two}
 use Rattle.icu_comparison.proofs.collator.CollatorBorrowed.compare_rest.Goals as goal
 
 pub returns-then-ne : goal.returns-then-ne

@@ -1,6 +1,6 @@
 -- The weights of the level are the primaries, reordered.
 use Rattle.icu_comparison.specs.Collators.{tables_borrowed, settings_borrowed}
-use Rattle.icu_comparison.proofs.StepLemmas.{leading_read}
+use Rattle.icu_comparison.proofs.InStepLemmas.{leading_read}
 use Rattle.icu_comparison.proofs.collator.CollatorBorrowed.primary_level.Goals as goal
 
 pub returns : goal.returns

@@ -1,5 +1,5 @@
 use Rattle.std.proofs.Common.{◌∙◌}
-use Rattle.icu_comparison.proofs.OrderLemmas.{none_handled}
+use Rattle.icu_comparison.proofs.OrdersInTurn.{none_handled}
 use Rattle.icu_comparison.proofs.handled.HandledTextHandledSource.next_handled.Goals as goal
 
 pub returns : goal.returns

@@ -1,6 +1,6 @@
 -- A list that has ended comes before one that has a weight.
 use Rattle.std.proofs.Common.{rules}
-use Rattle.icu_comparison.proofs.StepLemmas.{left_ends, right_ends}
+use Rattle.icu_comparison.proofs.InStepLemmas.{left_ends, right_ends}
 use Rattle.icu_comparison.proofs.levels.Level.decide.Goals as goal
 
 pub returns-in-Some-None : goal.returns-in-Some-None

@@ -1,6 +1,6 @@
 -- Weights that differ decide.
 use Rattle.std.proofs.Common.{sym, ◌∙◌}
-use Rattle.icu_comparison.proofs.StepLemmas.{both_decide, differ}
+use Rattle.icu_comparison.proofs.InStepLemmas.{both_decide, differ}
 use Rattle.icu_comparison.proofs.levels.Level.decide_by_weights.Goals as goal
 
 pub returns-in-Some-Some : goal.returns-in-Some-Some

@@ -1,5 +1,5 @@
 use Rattle.icu_cursor.specs.Cursors.{cursor_reading, cursor_gives}
-use Rattle.icu_cursor.specs.inner.Contexts.{context_of}
+use Rattle.icu_cursor.specs.inner.ReadCharacters.{context_of}
 use Rattle.icu_cursor.proofs.CursorLemmas.{piece_begun}
 use Rattle.icu_cursor.proofs.cursor.ElementCursor.begin_number.Goals as goal
 

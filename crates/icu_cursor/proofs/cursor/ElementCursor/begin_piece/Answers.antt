@@ -2,7 +2,7 @@ use Rattle.std.proofs.Common.{ap, ◌∙◌}
 use Rattle.unicode_normalization.specs.Forms.{nfd}
 use Rattle.icu_elements.specs.TextElements.{elements_after}
 use Rattle.icu_cursor.specs.Cursors.{cursor_reading, cursor_gives}
-use Rattle.icu_cursor.specs.inner.Contexts.{context_of}
+use Rattle.icu_cursor.specs.inner.ReadCharacters.{context_of}
 use Rattle.icu_cursor.proofs.CursorLemmas.{piece_begun}
 use Rattle.icu_cursor.proofs.cursor.ElementCursor.begin_piece.Goals as goal
 

@@ -1,5 +1,5 @@
 use Rattle.std.proofs.Common.{rules}
-use Rattle.icu_cursor.specs.inner.Numbers.{number_left}
+use Rattle.icu_cursor.specs.inner.NumberElements.{number_left}
 use Rattle.icu_cursor.proofs.NumberLemmas.{weight_taken, no_weight}
 use Rattle.icu_cursor.proofs.number.NumberElements.take_first.Goals as goal
 

@@ -2,7 +2,7 @@ use Rattle.std.proofs.Common.{rules, ◌≡◌, true, false, sym, ◌∙◌}
 use Rattle.icu_data.specs.Live.{goes_by_character}
 use Rattle.icu_data.specs.StoredData.{data_of}
 use Rattle.icu_data.specs.inner.Visitors.{holds}
-use Rattle.icu_data.proofs.WeightLemmas.{passes_primaries}
+use Rattle.icu_data.proofs.CollectedWeightLemmas.{passes_primaries}
 use Rattle.icu_data.proofs.live_weights.CollectorVisit.passes_run.Goals as goal
 
 pub returns : goal.returns

@@ -1,6 +1,6 @@
 use Rattle.std.proofs.Common.{◌≡◌, None, sym, rules, ◌∙◌}
 use Rattle.icu_elements.specs.Reading.{element_tables}
-use Rattle.icu_elements.proofs.DigitLemmas.{none_left, no_digit, digit_taken}
+use Rattle.icu_elements.proofs.TakenDigitLemmas.{none_left, no_digit, digit_taken}
 use Rattle.icu_elements.proofs.reader.digits.take_digit.Goals as goal
 
 pub returns-in_err-c : goal.returns-in_err-c

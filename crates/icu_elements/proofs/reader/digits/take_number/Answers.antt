@@ -3,9 +3,9 @@ use Rattle.icu_entries.specs.Entries.{digit_value}
 use Rattle.icu_elements.specs.declared.reader.position.Position.{Position}
 use Rattle.icu_elements.specs.Reading.{element_tables}
 use Rattle.icu_elements.specs.TextElements.{last_two}
-use Rattle.icu_elements.specs.inner.Digits.{matched, IsRunTaken}
+use Rattle.icu_elements.specs.inner.TakenDigits.{matched, IsRunTaken}
 use Rattle.icu_elements.specs.inner.Positions.{recent_chars, unread_at}
-use Rattle.icu_elements.proofs.DigitLemmas.{taken_alone, taken_together}
+use Rattle.icu_elements.proofs.TakenDigitLemmas.{taken_alone, taken_together}
 use Rattle.icu_elements.proofs.reader.digits.take_number.Goals as goal
 
 pub returns-then-stands_alone-clause-number : goal.returns-then-stands_alone-clause-number

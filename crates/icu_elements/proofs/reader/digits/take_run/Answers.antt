@@ -1,7 +1,7 @@
 use Rattle.std.proofs.Common.{◌≡◌, ◌<◌, ◌++◌, [], ◌∷◌, ℕ, List, All, rules, subst, sym}
 use Rattle.std.proofs.lemmas.List.Elements.{All-push}
 use Rattle.icu_elements.specs.Reading.{element_tables}
-use Rattle.icu_elements.proofs.DigitLemmas.{ComesTo, ComesTo-itself, ComesTo-taken, IsRunTaken-end, fewer}
+use Rattle.icu_elements.proofs.TakenDigitLemmas.{ComesTo, ComesTo-itself, ComesTo-taken, IsRunTaken-end, fewer}
 use Rattle.icu_elements.proofs.reader.digits.take_run.Goals as goal
 
 pub loop-digit-init : goal.loop-digit-init

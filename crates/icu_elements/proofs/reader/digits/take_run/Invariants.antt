@@ -1,7 +1,7 @@
 use Rattle.std.proofs.Common.{ℕ, ◌<◌, All, length}
 use Rattle.icu_elements.specs.Reading.{element_tables}
 use Rattle.icu_elements.specs.inner.Positions.{unread_at}
-use Rattle.icu_elements.proofs.DigitLemmas.{ComesTo}
+use Rattle.icu_elements.proofs.TakenDigitLemmas.{ComesTo}
 use Rattle.icu_elements.proofs.reader.digits.take_run.Given as goal
 
 abbrev pub invariant-loop-digit : goal.invariant-loop-digit

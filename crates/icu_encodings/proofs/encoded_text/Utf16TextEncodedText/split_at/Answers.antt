@@ -1,8 +1,8 @@
 -- A text is cut where no character goes on.
 use Rattle.std.proofs.Common.{rules, ◌≡◌, ◌∙◌, sym, subst, ap, take, drop, ◌++◌}
 use Rattle.icu_encodings.specs.DecodedTexts.{utf16_text}
-use Rattle.icu_encodings.specs.inner.Cuts.{StartsNoTrail}
-use Rattle.icu_encodings.proofs.CutLemmas.{utf16_cut}
+use Rattle.icu_encodings.specs.inner.UnitCuts.{StartsNoTrail}
+use Rattle.icu_encodings.proofs.UnitCutLemmas.{utf16_cut}
 use Rattle.icu_encodings.proofs.encoded_text.Utf16TextEncodedText.split_at.Goals as goal
 
 pub returns-else-begins_with_trail : goal.returns-else-begins_with_trail

@@ -1,8 +1,8 @@
 -- A text is cut where no character goes on.
 use Rattle.std.proofs.Common.{rules, ◌≡◌, ◌∙◌, sym, subst, ap, take, drop, ◌++◌}
 use Rattle.icu_encodings.specs.DecodedTexts.{utf8_text}
-use Rattle.icu_encodings.specs.inner.Cuts.{StartsClean}
-use Rattle.icu_encodings.proofs.CutLemmas.{utf8_cut}
+use Rattle.icu_encodings.specs.inner.UnitCuts.{StartsClean}
+use Rattle.icu_encodings.proofs.UnitCutLemmas.{utf8_cut}
 use Rattle.icu_encodings.proofs.encoded_text.Utf8TextEncodedText.split_at.Goals as goal
 
 pub returns-else-begins_within : goal.returns-else-begins_within

@@ -1,8 +1,8 @@
 use Rattle.std.proofs.Common.{[], ◌∙◌, ap}
 use Rattle.std.specs.Option.{option_map_or}
-use Rattle.icu_index.proofs.EntryLemmas.{found_names, groups_ascend}
+use Rattle.icu_index.proofs.GroupEntryLemmas.{found_names, groups_ascend}
 use Rattle.icu_index.proofs.NameLemmas.{lists_equal}
-use Rattle.icu_index.specs.inner.Groups.{groups_of, names_of}
+use Rattle.icu_index.specs.inner.NameGroups.{groups_of, names_of}
 use Rattle.icu_index.proofs.index.NameIndex.equal_to.Goals as goal
 
 pub returns-in-Some : goal.returns-in-Some

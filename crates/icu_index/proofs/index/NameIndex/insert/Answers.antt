@@ -1,7 +1,7 @@
 use Rattle.std.proofs.Common.{◌≡◌, ◌+◌, ◌∙◌, sym, ap, add-one, rules, suc}
-use Rattle.icu_index.proofs.EntryLemmas.{groups_ascend}
+use Rattle.icu_index.proofs.GroupEntryLemmas.{groups_ascend}
 use Rattle.icu_index.proofs.NameLemmas.{lists_one_more, one_more, still_keyed}
-use Rattle.icu_index.specs.inner.Groups.{groups_of}
+use Rattle.icu_index.specs.inner.NameGroups.{groups_of}
 use Rattle.icu_index.proofs.index.NameIndex.insert.Goals as goal
 
 pub invariant_of-self-2 : goal.invariant_of-self-2

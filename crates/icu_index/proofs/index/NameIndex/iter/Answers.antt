@@ -1,4 +1,4 @@
-use Rattle.icu_index.proofs.EntryLemmas.{names_of_values}
+use Rattle.icu_index.proofs.GroupEntryLemmas.{names_of_values}
 use Rattle.icu_index.proofs.index.NameIndex.iter.Goals as goal
 
 pub returns : goal.returns

@@ -1,6 +1,6 @@
 use Rattle.std.proofs.Common.{◌++◌, ◌∙◌, ap, option_to_list, sym}
 use Rattle.icu_levels.specs.Cases.{case_runs, case_nibble}
-use Rattle.icu_keys.specs.Cases.{rank_of}
+use Rattle.icu_keys.specs.CaseRanks.{rank_of}
 use Rattle.icu_keys.proofs.CaseSteps.{counted_case, other_case}
 use Rattle.icu_keys.proofs.Writing.{feeds_writes}
 use Rattle.icu_keys.proofs.cases.CaseWriter.push.Goals as goal

@@ -1,7 +1,7 @@
 -- There are 256 jamo.
 use Rattle.std.proofs.Common.{◌≡◌, ◌+◌, ◌∙◌, ap, arith, length, length-append}
 use Rattle.icu_mini.specs.Characters.{run}
-use Rattle.icu_mini.proofs.RunLemmas.{length_run}
+use Rattle.icu_mini.proofs.WeightRunLemmas.{length_run}
 use Rattle.icu_mini.proofs.mini.Mini.with_jamo_list.Goals as goal
 
 pub index_mut-requires : goal.index_mut-requires

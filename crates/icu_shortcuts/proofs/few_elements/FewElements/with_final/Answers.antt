@@ -4,7 +4,7 @@ use Rattle.icu_data.specs.Data.{homed}
 use Rattle.icu_data.specs.Final.{final_elements}
 use Rattle.icu_data.specs.StoredData.{data_of}
 use Rattle.icu_elements.proofs.ReaderLemmas.{fold_pushed}
-use Rattle.icu_shortcuts.specs.FewElements.{few_elements}
+use Rattle.icu_shortcuts.specs.inner.FewElements.{few_elements}
 use Rattle.icu_shortcuts.proofs.few_elements.FewElements.with_final.Goals as goal
 
 pub returns-in-Ok : goal.returns-in-Ok

@@ -1,6 +1,6 @@
 use Rattle.std.proofs.Common.{List, sym, subst}
 use Rattle.icu_entries.specs.Elements.{Element}
-use Rattle.icu_shortcuts.specs.Syllables.{StandByThemselves}
+use Rattle.icu_shortcuts.specs.inner.Syllables.{StandByThemselves}
 use Rattle.icu_shortcuts.proofs.SyllableLemmas.{own_outline, whole_letter}
 use Rattle.icu_shortcuts.proofs.letter_table.Letters.letter_of_parts.Goals as goal
 

@@ -1,8 +1,8 @@
 use Rattle.std.proofs.Common.{◌≡◌, ◌∷◌, ◌++◌, ◌+◌, ◌≤◌, ℕ, List, [], length, take, take_all, sym, subst, rules}
 use Rattle.std.proofs.lemmas.List.{take_more}
 use Rattle.icu_entries.specs.Elements.{Element}
-use Rattle.icu_shortcuts.specs.FewElements.{few_elements}
-use Rattle.icu_shortcuts.specs.Syllables.{StandByThemselves}
+use Rattle.icu_shortcuts.specs.inner.FewElements.{few_elements}
+use Rattle.icu_shortcuts.specs.inner.Syllables.{StandByThemselves}
 use Rattle.icu_shortcuts.proofs.SyllableLemmas.{own_none, own_more}
 use Rattle.icu_shortcuts.proofs.letter_table.Letters.own_elements.Goals as goal
 

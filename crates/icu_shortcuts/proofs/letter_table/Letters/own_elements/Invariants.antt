@@ -1,8 +1,8 @@
 use Rattle.std.proofs.Common.{take}
 use Rattle.icu_elements.specs.TextElements.{Reading}
-use Rattle.icu_shortcuts.specs.FewElements.{few_elements}
+use Rattle.icu_shortcuts.specs.inner.FewElements.{few_elements}
 use Rattle.icu_shortcuts.specs.LetterTables.{AreLetters}
-use Rattle.icu_shortcuts.specs.Syllables.{StandByThemselves}
+use Rattle.icu_shortcuts.specs.inner.Syllables.{StandByThemselves}
 use Rattle.icu_shortcuts.proofs.letter_table.Letters.own_elements.Given as goal
 
 abbrev pub invariant-loop-c : goal.invariant-loop-c

@@ -2,7 +2,7 @@ use Rattle.std.proofs.Common.{◌≡◌, ℕ, List, [], ◌∷◌, ◌++◌, map
 use Rattle.icu_levels.specs.Keys.{LevelPart, part_bytes, parts_bytes}
 use Rattle.icu_keys.specs.Writes.{WriteFails}
 use Rattle.icu_text_keys.specs.LevelRests.{characters_left, levels_left, part_of}
-use Rattle.icu_text_keys.proofs.PartLemmas.{parts_end}
+use Rattle.icu_text_keys.proofs.KeyPartLemmas.{parts_end}
 use Rattle.icu_text_keys.proofs.later_levels.LaterLevels.write.Goals as goal
 
 -- the levels that end in one

@@ -16,7 +16,7 @@ use Rattle.std.specs.declared.cmp.Ordering.{Ordering}
 use Rattle.std.specs.declared.cmp.Ordering.TheVariants.{Less, Equal, Greater}
 use Rattle.icu_levels.specs.ListOrder.{list_order}
 use Rattle.icu_index.proofs.GroupLemmas.{found_at}
-use Rattle.icu_index.specs.inner.Groups.{Group, added, groups_of, key_order, names_in, names_of}
+use Rattle.icu_index.specs.inner.NameGroups.{Group, added, groups_of, key_order, names_in, names_of}
 
 abbrev pub Entries : Type 0
 Entries = List (Vec ℕ × Vec (Vec ℕ))

@@ -14,7 +14,7 @@ use Rattle.icu_data.specs.Final.{final_elements}
 use Rattle.icu_data.specs.Live.{goes_by_character}
 use Rattle.icu_data.specs.DataConditions.{is_inside, has_known_members, fits_offset, is_readable}
 use Rattle.icu_data.specs.LiveConditions.{meets, live_conditions, first_failing}
-use Rattle.icu_data.specs.LiveWeights.{is_stated}
+use Rattle.icu_data.specs.CollectedWeights.{is_stated}
 use Rattle.icu_data.specs.inner.Visitors.{given_elements}
 
 abbrev by_kind : EntryKind → Bool

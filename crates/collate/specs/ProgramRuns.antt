@@ -2,8 +2,8 @@
 -- that it has: by Mini's tables, with the program's own lines.
 use Rattle.collate_commands.specs.Commands.{Asked}
 use Rattle.collate_commands.specs.Faults.{line_of}
-use Rattle.collate_commands.specs.Runs as runs
-use Rattle.collate_commands.specs.Writing.{AppendsBeginning}
+use Rattle.collate_commands.specs.ProgramRuns as runs
+use Rattle.collate_commands.specs.PartialWrites.{AppendsBeginning}
 use Rattle.collate_commands.specs.declared.fault.Fault.{Fault}
 use Rattle.collate.specs.Answers.{mini_compares}
 use Rattle.collate.specs.Faults.{fault_lines}

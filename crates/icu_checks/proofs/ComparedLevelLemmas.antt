@@ -15,7 +15,7 @@ use Rattle.icu_entries.specs.Weights.{implicit_weight}
 use Rattle.icu_data.specs.Data.{Data, homed}
 use Rattle.icu_data.specs.DataConditions.{is_readable}
 use Rattle.icu_data.specs.Final.{final_elements}
-use Rattle.icu_data.specs.LiveWeights.{is_stated}
+use Rattle.icu_data.specs.CollectedWeights.{is_stated}
 use Rattle.icu_entries.specs.ElementConditions.{tertiary_of}
 use Rattle.icu_provider.specs.Tables.{Tables}
 use Rattle.icu_provider.specs.Reorderings.{lead_byte}
@@ -25,7 +25,7 @@ use Rattle.icu_provider.specs.CollatorTables.{CollatorTables}
 use Rattle.icu_checks.specs.ElementConditions.{implicit_lead, is_tertiary_element}
 use Rattle.icu_checks.specs.LiveElements.{IsElementBy}
 use Rattle.icu_checks.specs.inner.EntryViolations.{MeetsIn, LiveMeets}
-use Rattle.icu_checks.specs.inner.Weights.{left_aligned, nonzero, uncommon, weight_at, IsReadBy}
+use Rattle.icu_checks.specs.inner.ComparedWeights.{left_aligned, nonzero, uncommon, weight_at, IsReadBy}
 use Rattle.icu_checks.proofs.EntryViolationLemmas.{readable}
 use Rattle.icu_checks.proofs.ImplicitLemmas.{implicit_bytes, weighs_nothing}
 

@@ -4,7 +4,7 @@ use Rattle.std.proofs.lemmas.Bool.{cases_eq}
 use Rattle.icu_levels.specs.ListOrder.{IsBeginning}
 use Rattle.icu_levels.specs.WeightBytes.{weight_bytes}
 use Rattle.icu_entries.specs.Elements.{common}
-use Rattle.icu_weights.proofs.WeightLemmas.{same_first}
+use Rattle.icu_weights.proofs.WrittenWeightLemmas.{same_first}
 
 module _ (IsLive : ℕ → Type 0) where
   -- live weights lead with no zero byte, and with 05 in the common one alone

@@ -9,7 +9,7 @@ use Rattle.icu_matches.specs.Matches.{Match}
 use Rattle.icu_elements.specs.declared.reader.position.Position.{Position}
 use Rattle.icu_elements.specs.TextElements.{is_digit_kind, continues_number, digit_of, last_two}
 use Rattle.icu_elements.specs.inner.Positions.{consumed_last, unread_at}
-use Rattle.icu_elements.specs.inner.Digits.{run_of, IsNoDigit, IsDigitTaken, IsRunTaken, stands_alone, IsNumberTaken}
+use Rattle.icu_elements.specs.inner.TakenDigits.{run_of, IsNoDigit, IsDigitTaken, IsRunTaken, stands_alone, IsNumberTaken}
 use Rattle.icu_elements.proofs.ReaderLemmas.{last_two-append, none_more}
 
 -- ---- runs of digits

@@ -3,7 +3,7 @@ use Rattle.std.proofs.Common.{◌≡◌, ℕ, ◌+◌, ◌*◌, ◌^◌, ◌<◌
 use Rattle.std.specs.Prelude.{option_and_then}
 use Rattle.std.proofs.Math.Nat.{pow-le-pow_right, pow-succ'}
 use Rattle.std.proofs.lemmas.List.{at_drop_more, at_drop_all}
-use Rattle.icu_fractional.specs.Digits.{digit_of, number_behind}
+use Rattle.icu_fractional.specs.HexDigits.{digit_of, number_behind}
 
 -- sixteen times as much
 pub next_power : (i : ℕ) → 16 ^ (i + 1) ≡ 16 * 16 ^ i

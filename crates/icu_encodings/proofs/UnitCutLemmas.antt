@@ -8,8 +8,8 @@ use Rattle.std.specs.Cmp.Lexicographic.{pointwise}
 use Rattle.bstr.specs.Utf8.{decoded, good, or_replacement}
 use Rattle.bstr.proofs.lemmas.PieceLemmas.{StartsClean as StartsPiece, pieces-append, lossy_chars-step, lossy_chars-nil, piece-bounds, value-1}
 use Rattle.icu_encodings.specs.inner.Utf16Units.{is_pair, lone_char}
-use Rattle.icu_encodings.specs.inner.Cuts.{StartsClean, StartsNoTrail}
-use Rattle.icu_encodings.specs.inner.Fronts.{HaveHead}
+use Rattle.icu_encodings.specs.inner.UnitCuts.{StartsClean, StartsNoTrail}
+use Rattle.icu_encodings.specs.inner.ListFronts.{HaveHead}
 use Rattle.icu_encodings.specs.DecodedTexts.{utf8_text, utf16_text}
 use Rattle.icu_encodings.proofs.Utf16Lemmas.{IsApart, IsCut, text_parted, text_of_none, first_is_lone, apart_from_all}
 

@@ -6,8 +6,8 @@ use Rattle.icu_options.specs.declared.settings.Strength.{Strength}
 use Rattle.collate_commands.specs.Answers.{Compares, IsAnswer}
 use Rattle.collate_commands.specs.Commands.{Asked, strength_of}
 use Rattle.collate_commands.specs.Faults.{Lines}
-use Rattle.collate_commands.specs.Reading.{ReadsFor, AsksForInput}
-use Rattle.collate_commands.specs.Writing.{AppendsBeginning}
+use Rattle.collate_commands.specs.InputRead.{ReadsFor, AsksForInput}
+use Rattle.collate_commands.specs.PartialWrites.{AppendsBeginning}
 
 -- the bytes that a reader has left or a writer holds, where they are known
 abbrev pub Known : Type 0

@@ -8,7 +8,7 @@ use Rattle.icu_entries.specs.declared.entry.EntryKind.TheVariants.{Digit}
 use Rattle.icu_entries.specs.Entries.{kind_of, digit_value}
 use Rattle.icu_data.specs.Data.{Data}
 use Rattle.icu_provider.specs.Tables.{Tables, entry_of, diacritic_of}
-use Rattle.icu_matches.specs.ReadAhead.{lone_match}
+use Rattle.icu_matches.specs.MatchesAhead.{lone_match}
 use Rattle.icu_cuts.specs.Alone.{names_no_context}
 use Rattle.icu_elements.specs.TextElements.{Reading, Step, is_digit_kind, continues_number, digit_of, begins_with_mark, number_elements, number_step, entry_step, matched_step, step, consumed, last_two, elements_after}
 use Rattle.icu_cuts.specs.Cuts.{ends_run}

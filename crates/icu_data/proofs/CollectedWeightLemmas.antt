@@ -16,10 +16,10 @@ use Rattle.icu_data.specs.Data.{Data, homed}
 use Rattle.icu_data.specs.Final.{final_elements}
 use Rattle.icu_data.specs.Live.{goes_by_character, live_at, EachLive}
 use Rattle.icu_data.specs.Walks.{after_all, after_chars, StandsFor, IsPassed, Walked}
-use Rattle.icu_data.specs.LiveWeights.{is_stated, IsWeightAmong, IsLiveWeight}
+use Rattle.icu_data.specs.CollectedWeights.{is_stated, IsWeightAmong, IsLiveWeight}
 use Rattle.icu_data.specs.inner.Visitors.{is_last, holds, and_weight, and_found, collected, collected_at, given_elements}
 use Rattle.icu_data.proofs.ListLemmas.{weaker, all_of, all_members, of_member}
-use Rattle.icu_data.proofs.CharacterLemmas.{given_alike}
+use Rattle.icu_data.proofs.SameEntryLemmas.{given_alike}
 use Rattle.icu_data.proofs.WalkLemmas.{fold_keeps, fold_back, walk_keeps, walk_back}
 
 -- ---- one more weight

@@ -8,7 +8,7 @@ use Rattle.icu_elements.specs.TextElements.{last_two}
 use Rattle.icu_elements.proofs.ReaderLemmas.{last_two-append}
 use Rattle.icu_cuts.specs.Alone.{context_after}
 use Rattle.icu_cursor.specs.declared.recent_letters.RecentLetters.{RecentLetters}
-use Rattle.icu_cursor.specs.inner.Contexts.{letters_read, context_of}
+use Rattle.icu_cursor.specs.inner.ReadCharacters.{letters_read, context_of}
 
 short : (xs : List ℕ) → length (take 2 xs) ≤ 2
 short xs = omega (arith, length-take 2 xs)

@@ -2,7 +2,7 @@
 use Rattle.std.proofs.Common.{◌≡◌, ℕ, ◌≤◌, List, [], ◌∷◌, ◌++◌, length, reverse, refl, ap, ◌∙◌, arith, length-append}
 use Rattle.icu_elements.specs.TextElements.{Reading, Step, step, consumed, last_two, elements_after}
 use Rattle.icu_cuts.specs.Cuts.{cut, IsSafe}
-use Rattle.icu_cuts.specs.Contexts.{AreAlike, context_along, context_left}
+use Rattle.icu_cuts.specs.LeftContexts.{AreAlike, context_along, context_left}
 use Rattle.icu_elements.proofs.StepLemmas.{Rests-step}
 use Rattle.icu_cuts.proofs.MatchCuts.{same_cut}
 use Rattle.icu_cuts.proofs.StepCuts.{step-append, step-same, step-at, cut-last_two, cut_taken, elements_along-same}

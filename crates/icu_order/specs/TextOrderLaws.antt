@@ -12,7 +12,7 @@ use Rattle.icu_levels.specs.KeyLaws.{SameSecondaries, SameCases, SameTertiaries,
 use Rattle.icu_levels.specs.declared.forms.KeyForm.{KeyForm}
 use Rattle.icu_provider.specs.CollatorTables.{CollatorTables}
 use Rattle.icu_checks.specs.GoodTables.{IsGoodTables}
-use Rattle.icu_elements.specs.TextLaws.{IsText}
+use Rattle.icu_elements.specs.TextElementLaws.{IsText}
 use Rattle.icu_order.specs.Forms.{compression_of, form_by}
 use Rattle.icu_order.specs.TextOrder.{lists_by, text_order, text_key}
 

@@ -13,7 +13,7 @@ use Rattle.icu_elements.specs.TextElements.{Reading, number_elements, elements_o
 use Rattle.icu_provider.specs.LiveTables.{jamo_entry, AllLive, HasDigits, IsLive}
 use Rattle.icu_elements.specs.TextParts.{IsDecomposed, GoodNumbers, IsTextElement}
 use Rattle.icu_elements.proofs.DecomposedLemmas.{IsDecomposedText-nfd}
-use Rattle.icu_elements.proofs.PartLemmas.{elements_of-good, AllLive-weaker}
+use Rattle.icu_elements.proofs.ElementPartLemmas.{elements_of-good, AllLive-weaker}
 
 later : {X : Type 0} (x y : X) (xs : List X) → Contains xs y → Contains (x ∷ xs) y
 later x y xs c = (suc c.0, omega arith, c.2)

@@ -8,7 +8,7 @@ use Rattle.icu_entries.specs.Elements.{Element, common, of_secondary}
 use Rattle.icu_entries.specs.ElementConditions.{tertiary_of}
 use Rattle.icu_data.specs.Final.{final_elements}
 use Rattle.icu_data.specs.Live.{live_from}
-use Rattle.icu_data.specs.LiveWeights.{is_stated, IsWeightAmong}
+use Rattle.icu_data.specs.CollectedWeights.{is_stated, IsWeightAmong}
 use Rattle.icu_data.specs.Data.{Data, homed}
 use Rattle.icu_provider.specs.Tables.{Tables}
 use Rattle.icu_checks.specs.declared.check.weights.WeightList.{WeightList}
