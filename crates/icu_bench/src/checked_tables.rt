@@ -9,7 +9,7 @@ use std::process::Abort;
 use std::test::Fail;
 
 /// The tables, checked together.
-fn checked(alloc: Global, mini: &Mini) -> Result<CheckedTables, Fail> {
+pub(crate) fn checked(alloc: Global, mini: &Mini) -> Result<CheckedTables, Fail> {
     let tables = CheckedTables::new(
         alloc,
         mini.load_root()?,

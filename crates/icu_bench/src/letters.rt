@@ -1,5 +1,5 @@
 //! What is known of characters before they are read, over Mini.
-use icu_checks::CheckedTables;
+use crate::checked_tables::checked;
 use icu_elements::ElementTables;
 use icu_entries::CollationElement;
 use icu_mini::mini::Mini;
@@ -7,21 +7,6 @@ use icu_shortcuts::{Letter, LetterKind, Letters, NamedCharacters, SafePlaces, le
 use std::alloc::Global;
 use std::process::Abort;
 use std::test::Fail;
-
-/// The tables, checked together.
-fn checked(alloc: Global, mini: &Mini) -> Result<CheckedTables, Fail> {
-    let tables = CheckedTables::new(
-        alloc,
-        mini.load_root()?,
-        mini.load_jamo()?,
-        mini.load_special_primaries()?,
-        mini.metadata,
-        mini.load_tailoring()?,
-        mini.load_reordering()?,
-        mini.load_diacritics()?,
-    )?;
-    Ok(tables)
-}
 
 /// How the texts of a test are read.
 #[derive(Debug, Clone, Copy)]

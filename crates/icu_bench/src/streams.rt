@@ -1,28 +1,14 @@
 //! How far an iterator of elements reads its delegate.
 ghost use Rattle.icu_elements.specs.CollationElements.{CanGive};
 
+use crate::checked_tables::checked;
 use icu_checks::CheckedTables;
 use icu_elements::{CollationElements, ElementTables};
 use icu_mini::mini::Mini;
-use std::alloc::{AllocError, Global};
+use std::alloc::AllocError;
 use std::cell::Cell;
 use std::process::Abort;
 use std::test::Fail;
-
-/// The tables, checked together.
-pub(crate) fn checked(alloc: Global, mini: &Mini) -> Result<CheckedTables, Fail> {
-    let tables = CheckedTables::new(
-        alloc,
-        mini.load_root()?,
-        mini.load_jamo()?,
-        mini.load_special_primaries()?,
-        mini.metadata,
-        mini.load_tailoring()?,
-        mini.load_reordering()?,
-        mini.load_diacritics()?,
-    )?;
-    Ok(tables)
-}
 
 /// Reads as many elements.
 fn read<I: Iterator<Item = char> + Drop>(

@@ -1,43 +1,17 @@
 -- Lists of equal elements tie on each level.
-use Rattle.std.proofs.Common.{◌≡◌, ℕ, List, map, Option, Some, None, Ordering, Equal, refl, ap, ◌∙◌}
+use Rattle.std.proofs.Common.{◌≡◌, ℕ, List, map, Ordering, Equal, refl, ap, ◌∙◌}
 use Rattle.std.specs.Ordering.{ordering_then}
 use Rattle.icu_options.specs.Settings.{Settings}
-use Rattle.icu_levels.specs.Keys.{LevelLists, secondaries_order, cases_order, tertiaries_order, quaternaries_order}
-use Rattle.icu_levels.specs.declared.forms.CaseForm.{CaseForm}
+use Rattle.icu_levels.specs.Keys.{LevelLists}
 use Rattle.icu_levels.specs.declared.forms.KeyForm.{KeyForm}
-use Rattle.icu_levels.specs.declared.forms.QuaternaryForm.{QuaternaryForm}
-use Rattle.icu_levels.specs.declared.forms.SecondaryForm.{SecondaryForm}
-use Rattle.icu_levels.specs.declared.forms.SecondaryForm.TheVariants.{Forward, Backward}
-use Rattle.icu_levels.specs.declared.forms.TertiaryForm.{TertiaryForm}
 use Rattle.icu_levels.proofs.Order.{same_lists_order}
-use Rattle.icu_levels.proofs.KeepLemmas.{same_segments_order}
+use Rattle.icu_levels.proofs.OwnOrder.{own_secondaries, own_cases, own_tertiaries, own_quaternaries}
 use Rattle.icu_provider.specs.CollatorTables.{CollatorTables, reorder}
 use Rattle.icu_order.specs.Handled.{HandledElement}
 use Rattle.icu_order.specs.Levels.{level_lists}
 use Rattle.icu_order.specs.Forms.{form_by}
 use Rattle.icu_order.specs.TextOrder.{handled_by, lists_by}
 use Rattle.icu_comparison.specs.inner.ElementOrders.{before_characters, elements_order}
-
-module _ (t : LevelLists) (cs : List ℕ) where
-  abbrev u : LevelLists
-  u = record t { characters = cs }
-
-  own_secondaries : (f : Option SecondaryForm) → secondaries_order f t u ≡ Equal
-  own_secondaries None = refl
-  own_secondaries (Some Forward) = same_lists_order t.secondaries t.secondaries refl
-  own_secondaries (Some Backward) = same_segments_order t.segments t.segments refl
-
-  own_cases : (f : Option CaseForm) → cases_order f t u ≡ Equal
-  own_cases None = refl
-  own_cases (Some form) = same_lists_order t.cases t.cases refl
-
-  own_tertiaries : (f : Option TertiaryForm) → tertiaries_order f t u ≡ Equal
-  own_tertiaries None = refl
-  own_tertiaries (Some form) = same_lists_order t.tertiaries t.tertiaries refl
-
-  own_quaternaries : (f : Option QuaternaryForm) → quaternaries_order f t u ≡ Equal
-  own_quaternaries None = refl
-  own_quaternaries (Some form) = same_lists_order t.quaternaries t.quaternaries refl
 
 five_tie : (a b c d e : Ordering) → a ≡ Equal → b ≡ Equal → c ≡ Equal → d ≡ Equal → e ≡ Equal
     → ordering_then a (ordering_then b (ordering_then c (ordering_then d e))) ≡ Equal

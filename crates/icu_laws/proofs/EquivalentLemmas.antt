@@ -1,5 +1,5 @@
 -- Canonically equivalent texts have the same lists, and at the identical level they alone.
-use Rattle.std.proofs.Common.{◌≡◌, ℕ, Bool, true, false, List, [], ◌∷◌, map, Option, Some, None, Ordering, Equal, refl, ap, ◌∙◌, subst}
+use Rattle.std.proofs.Common.{◌≡◌, ℕ, Bool, true, false, List, [], ◌∷◌, map, Ordering, Equal, refl, ap, ◌∙◌, subst}
 use Rattle.unicode_normalization.specs.Forms.{nfd}
 use Rattle.icu_options.specs.Settings.{Settings}
 use Rattle.icu_options.specs.declared.settings.Strength.{Strength}
@@ -7,41 +7,16 @@ use Rattle.icu_options.specs.declared.settings.Strength.TheVariants.{Identical}
 use Rattle.icu_levels.specs.Identical.{identical_rank}
 use Rattle.icu_levels.specs.Primaries.{Compression}
 use Rattle.icu_levels.specs.Keys.{LevelLists, in_turn, levels_order, primaries_order, secondaries_order, cases_order, tertiaries_order, quaternaries_order, characters_order}
-use Rattle.icu_levels.specs.declared.forms.CaseForm.{CaseForm}
 use Rattle.icu_levels.specs.declared.forms.KeyForm.{KeyForm}
-use Rattle.icu_levels.specs.declared.forms.QuaternaryForm.{QuaternaryForm}
-use Rattle.icu_levels.specs.declared.forms.SecondaryForm.{SecondaryForm}
-use Rattle.icu_levels.specs.declared.forms.SecondaryForm.TheVariants.{Forward, Backward}
-use Rattle.icu_levels.specs.declared.forms.TertiaryForm.{TertiaryForm}
 use Rattle.icu_levels.proofs.Order.{same_lists_order, tied_lists}
-use Rattle.icu_levels.proofs.KeepLemmas.{both_tie, same_segments_order}
+use Rattle.icu_levels.proofs.KeepLemmas.{both_tie}
+use Rattle.icu_levels.proofs.OwnOrder.{own_secondaries, own_cases, own_tertiaries, own_quaternaries}
 use Rattle.icu_levels.proofs.IdenticalOrder.{same_from_ranks}
 use Rattle.icu_provider.specs.CollatorTables.{CollatorTables}
 use Rattle.icu_order.specs.Forms.{compression_of, form_by, is_identical}
 use Rattle.icu_order.specs.TextOrder.{lists_by, text_order, text_key}
 
 -- ---- a text ties with itself, whatever its characters where they don't count
-
-module _ (t : LevelLists) (cs : List ℕ) where
-  abbrev u : LevelLists
-  u = record t { characters = cs }
-
-  own_secondaries : (f : Option SecondaryForm) → secondaries_order f t u ≡ Equal
-  own_secondaries None = refl
-  own_secondaries (Some Forward) = same_lists_order t.secondaries t.secondaries refl
-  own_secondaries (Some Backward) = same_segments_order t.segments t.segments refl
-
-  own_cases : (f : Option CaseForm) → cases_order f t u ≡ Equal
-  own_cases None = refl
-  own_cases (Some form) = same_lists_order t.cases t.cases refl
-
-  own_tertiaries : (f : Option TertiaryForm) → tertiaries_order f t u ≡ Equal
-  own_tertiaries None = refl
-  own_tertiaries (Some form) = same_lists_order t.tertiaries t.tertiaries refl
-
-  own_quaternaries : (f : Option QuaternaryForm) → quaternaries_order f t u ≡ Equal
-  own_quaternaries None = refl
-  own_quaternaries (Some form) = same_lists_order t.quaternaries t.quaternaries refl
 
 all_tie : (a b c d e f : Ordering) → a ≡ Equal → b ≡ Equal → c ≡ Equal → d ≡ Equal → e ≡ Equal → f ≡ Equal
     → in_turn (a ∷ b ∷ c ∷ d ∷ e ∷ f ∷ []) ≡ Equal

@@ -39,3 +39,4 @@ pub mod CasedTertiaries
 pub mod MetPremises
 pub mod DigitsFromTheEnd
 pub mod TrimmedLemmas
+pub mod OwnOrder
