@@ -531,7 +531,7 @@ def faults_of_beginnings(shim, program):
 PARTS_OF_NAMES = {
     "plain": b"",
     "names": b"<\n>\n<\n>\n=\n=\n<\n",
-    "name-keys": b"10 bytes\n18 bytes\n13 bytes\n17 bytes\n16 bytes\n19 bytes\n19 bytes\n",
+    "name-keys": b"18 bytes\n13 bytes\n17 bytes\n16 bytes\n19 bytes\n19 bytes\n",
     "pieces": b">\n",
 }
 
