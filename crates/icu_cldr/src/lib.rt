@@ -12,8 +12,6 @@ mod ideograph_weights;
 mod reader;
 pub mod root;
 mod special;
-#[cfg(test)]
-mod tests;
 
 pub use error::{Missing, ReadError, Refusal};
 pub use root::{CldrRoot, read_root};

@@ -8,8 +8,6 @@ pub mod expected;
 pub mod ideographs;
 pub mod line;
 pub mod mapping;
-#[cfg(test)]
-mod tests;
 
 pub use element::{FractionalElement, Primary};
 pub use expected::{Expected, LineError};

@@ -1,16 +1,18 @@
 //! Worked rows: tables and what they are refused with, texts and their order, keys and elements, values of tables,
-//! settings. The rows stand in files, each with what is expected at its end; the program prints the rows that don't
-//! hold, and how many do.
+//! settings, texts in each encoding. The rows stand in files, each with what is expected at its end; the program prints
+//! the rows that don't hold, and how many do.
 #![tactic(auto)]
 
 mod base;
 mod changes;
 mod elements;
+mod encodings;
 mod keys;
 mod lists;
 mod notation;
 mod order;
 mod refusals;
+mod runs;
 mod settings;
 mod texts;
 mod values;
@@ -27,6 +29,7 @@ enum Subject {
     Elements,
     Values,
     Settings,
+    Encodings,
 }
 
 impl Subject {
@@ -38,6 +41,7 @@ impl Subject {
             Subject::Elements => "elements.txt",
             Subject::Values => "values.txt",
             Subject::Settings => "settings.txt",
+            Subject::Encodings => "encodings.txt",
         }
     }
 
@@ -50,6 +54,7 @@ impl Subject {
             Subject::Elements => elements::elements(alloc, input),
             Subject::Values => values::value(alloc, input),
             Subject::Settings => settings::settings(alloc, input),
+            Subject::Encodings => encodings::answer(alloc, input),
         }
     }
 }
@@ -89,5 +94,6 @@ fn main(rt: HostRuntime) -> io::Result<()> {
     check_rows(&rt, Subject::Keys)?;
     check_rows(&rt, Subject::Elements)?;
     check_rows(&rt, Subject::Values)?;
-    check_rows(&rt, Subject::Settings)
+    check_rows(&rt, Subject::Settings)?;
+    check_rows(&rt, Subject::Encodings)
 }
