@@ -15,7 +15,7 @@ use Rattle.icu_data.specs.Data.{Data, homed}
 use Rattle.icu_data.specs.Final.{final_elements}
 use Rattle.icu_data.specs.DataConditions.{is_inside, is_readable, has_short_rows, leads_on, has_known_members, fits_offset}
 use Rattle.icu_data.specs.LiveConditions.{meets, first_failing}
-use Rattle.icu_data.specs.LiveWeights.{is_stated}
+use Rattle.icu_data.specs.CollectedWeights.{is_stated}
 use Rattle.icu_data.specs.Walks.{after_run}
 use Rattle.icu_data.specs.inner.Visitors.{collected, collected_at, given_elements, IsRunData}
 use Rattle.icu_data.proofs.ViolationLemmas.{meets_passes}
