@@ -26,7 +26,7 @@ pub(crate) struct NumberElements {
 
 impl NumberElements {
     /// The elements of a number of these digits.
-    #[tactic(auto, unfolding(crate::specs::inner::Numbers::number_left))]
+    #[tactic(auto, unfolding(crate::specs::inner::NumberElements::number_left))]
     fn of_digits(alloc: Global, lead: u8, digits: &[u8]) -> Result<NumberElements, AllocError>
         requires { All (λ d. d < 10) digits.now }
         ensures { IfOk result (λ n. number_left n ≡ number_elements lead digits.now) }

@@ -22,7 +22,7 @@ impl RecentLetters {
     ghost use Rattle.icu_cursor.specs.inner.ReadCharacters.{letters_read, context_of};
 
     /// None was read yet.
-    #[tactic(auto, unfolding(crate::specs::inner::Contexts::context_of))]
+    #[tactic(auto, unfolding(crate::specs::inner::ReadCharacters::context_of))]
     pub(crate) fn new() -> RecentLetters
         ensures { context_of result ≡ [] }
     {
@@ -34,7 +34,7 @@ impl RecentLetters {
 
     /// One more character was read.
     #[inline]
-    #[tactic(auto, using(crate::proofs::ContextLemmas::context_more))]
+    #[tactic(auto, using(crate::proofs::ReadCharacterLemmas::context_more))]
     pub(crate) fn push(&mut self, c: char)
         ensures { context_of self.new ≡ context_after (context_of self.old) (decompose Nfd c) }
     {
@@ -43,7 +43,7 @@ impl RecentLetters {
     }
 
     /// What they decompose to.
-    #[tactic(auto, unfolding(crate::specs::inner::Contexts::context_of))]
+    #[tactic(auto, unfolding(crate::specs::inner::ReadCharacters::context_of))]
     pub(crate) fn decomposed(self, alloc: Global) -> Result<Vec<char>, AllocError>
         ensures { IfOk result (λ cs. cs.items ≡ flat_map (decompose Nfd) (letters_read self.older self.last)) }
     {

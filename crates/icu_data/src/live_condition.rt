@@ -79,7 +79,7 @@ impl Judge for EntryJudge {
         home.first_failing(c, entry)
     }
 
-    #[tactic(auto, using(crate::proofs::CharacterLemmas::failing_alike))]
+    #[tactic(auto, using(crate::proofs::SameEntryLemmas::failing_alike))]
     fn is_alike(&self) {}
 
     #[tactic(auto, using(crate::proofs::ImplicitLemmas::implicit_passes))]

@@ -83,7 +83,7 @@ fn add_weight(weights: &mut Vec<u32>, weight: u32) -> Result<(), AllocError>
 }
 
 /// Whether the table states the elements of an entry: they can be read, and aren't for an implicit weight.
-#[tactic(auto, unfolding(crate::specs::LiveWeights::is_stated))]
+#[tactic(auto, unfolding(crate::specs::CollectedWeights::is_stated))]
 fn is_stated(home: CollationData<'_>, c: char, entry: CollationElement32) -> bool
     ensures value { result ≡ is_stated (data_of home.entry) c entry }
     ensures readable { result ≡ true → IsTrue (is_readable (data_of home.entry) c entry) }

@@ -89,7 +89,7 @@ impl<'d> ElementTables<'d> {
     }
 
     /// The digit of a character that goes on a number: no diacritic, and its own entry is a digit's.
-    #[tactic(auto, using(crate::proofs::DigitLemmas::other_kind))]
+    #[tactic(auto, using(crate::proofs::TakenDigitLemmas::other_kind))]
     pub(crate) fn digit(self, c: char) -> Option<u8>
         ensures value { result ≡ (if continues_number (element_tables self.entry) c then Some (digit_of (element_tables self.entry) c) else None) }
         ensures decimal { IfSome result (λ d. d < 10) }

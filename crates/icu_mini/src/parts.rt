@@ -66,7 +66,7 @@ pub(crate) fn in_context(
 }
 
 /// So many numbers, each with `step` more than the one before.
-#[tactic(auto, using(crate::proofs::RunLemmas::run_more, crate::proofs::RunLemmas::run_none))]
+#[tactic(auto, using(crate::proofs::WeightRunLemmas::run_more, crate::proofs::WeightRunLemmas::run_none))]
 pub(crate) fn run(alloc: Global, first: u32, step: u32, count: u32) -> Result<Vec<u32>, AllocError>
     requires { first + step * count < 2 ^ 32 }
     ensures { IfOk result (λ v. v.items ≡ run first step count) }
@@ -88,7 +88,7 @@ pub(crate) fn jamo(alloc: Global) -> Result<Vec<u32>, AllocError>
 }
 
 /// The secondary weights of the diacritics: the lead byte rises from 46.
-#[tactic(auto, using(crate::proofs::RunLemmas::run_more, crate::proofs::RunLemmas::run_none))]
+#[tactic(auto, using(crate::proofs::WeightRunLemmas::run_more, crate::proofs::WeightRunLemmas::run_none))]
 pub(crate) fn diacritics(alloc: Global) -> Result<Vec<u16>, AllocError>
     ensures { IfOk result (λ v. v.items ≡ run 0x4600 0x100 79) }
 {
@@ -100,7 +100,7 @@ pub(crate) fn diacritics(alloc: Global) -> Result<Vec<u16>, AllocError>
 }
 
 /// Each byte in turn: lead bytes that stay.
-#[tactic(auto, using(crate::proofs::RunLemmas::run_more, crate::proofs::RunLemmas::run_none))]
+#[tactic(auto, using(crate::proofs::WeightRunLemmas::run_more, crate::proofs::WeightRunLemmas::run_none))]
 pub(crate) fn all_leads(alloc: Global) -> Result<Vec<u8>, AllocError>
     ensures { IfOk result (λ v. v.items ≡ run 0 1 256) }
 {

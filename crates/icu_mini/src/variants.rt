@@ -180,7 +180,7 @@ impl Mini {
     }
 
     /// Mini where the jamo U+1100 is a list of two entries of the root.
-    #[tactic(auto, using(crate::proofs::RunLemmas::length_run))]
+    #[tactic(auto, using(crate::proofs::WeightRunLemmas::length_run))]
     pub fn with_jamo_list(alloc: Global) -> Result<Mini, AllocError>
         ensures { IfOk result (Holds variants.mini_jamo_list) }
     {
@@ -234,7 +234,7 @@ fn swapped_leads(alloc: Global) -> Result<Vec<u8>, AllocError>
 }
 
 /// Every lead byte stands for itself, but 61 has a 0.
-#[tactic(auto, using(crate::proofs::RunLemmas::length_run))]
+#[tactic(auto, using(crate::proofs::WeightRunLemmas::length_run))]
 fn split_leads(alloc: Global) -> Result<Vec<u8>, AllocError>
     ensures { IfOk result (λ v. v.items ≡ slice_set (run 0 1 256) 0x61 0) }
 {

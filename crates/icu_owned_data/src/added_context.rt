@@ -34,7 +34,7 @@ pub(crate) fn add_context(
 }
 
 /// The same, but an `Err` may leave rows and characters behind.
-#[tactic(auto, using(crate::proofs::AddedRows::grows_by_none))]
+#[tactic(auto, using(crate::proofs::AddedRowLemmas::grows_by_none))]
 fn push_context(
     contexts: &mut Vec<Context>,
     rows: &mut Vec<ContextRow>,

@@ -34,7 +34,7 @@ impl VisitElement for FewElements {
 
     ghost after = { push };
 
-    #[tactic(auto, unfolding(crate::specs::FewElements::few_elements))]
+    #[tactic(auto, unfolding(crate::specs::inner::FewElements::few_elements))]
     fn visit(&mut self, element: CollationElement) -> Result<(), TooMany> {
         let count = self.count as usize;
         if count >= 3 {
@@ -51,7 +51,7 @@ impl FewElements {
     ghost use Rattle.icu_shortcuts.specs.inner.FewElements.{few_elements};
 
     /// No element.
-    #[tactic(auto, unfolding(crate::specs::FewElements::few_elements))]
+    #[tactic(auto, unfolding(crate::specs::inner::FewElements::few_elements))]
     pub(crate) fn new() -> FewElements
         ensures { few_elements result ≡ [] }
     {

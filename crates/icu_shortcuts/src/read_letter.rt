@@ -53,7 +53,7 @@ fn outline(places: &SafePlaces<'_>, first: char, leading_primary: u32) -> Letter
 }
 
 /// The same of a character that stands alone, with its elements, its kind and its class.
-#[tactic(auto, unfolding(crate::specs::FewElements::few_elements))]
+#[tactic(auto, unfolding(crate::specs::inner::FewElements::few_elements))]
 pub(crate) fn with_elements(known: Letter, all: FewElements, shape: (LetterKind, u8)) -> Letter
     ensures elements { letter_elements result ≡ few_elements all }
     ensures kind { (result.kind ≡ shape.0) × (result.class ≡ shape.1) }

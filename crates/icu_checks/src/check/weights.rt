@@ -106,7 +106,7 @@ impl Weigh for WeightList {
 
     ghost weight = { λ list x. weight_at list x };
 
-    #[tactic(auto, unfolding(crate::specs::inner::Weights::weight_at))]
+    #[tactic(auto, unfolding(crate::specs::inner::ComparedWeights::weight_at))]
     fn weight(&self, element: CollationElement) -> Option<u32> {
         let tertiary = element.non_primary().tertiary();
         match self {
@@ -130,7 +130,7 @@ impl Weigh for WeightList {
         }
     }
 
-    #[tactic(auto, unfolding(crate::specs::inner::Weights::weight_at))]
+    #[tactic(auto, unfolding(crate::specs::inner::ComparedWeights::weight_at))]
     fn weighs_primaries(&self) -> bool {
         match self {
             WeightList::Primaries => true,
