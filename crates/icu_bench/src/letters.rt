@@ -38,7 +38,8 @@ fn is_as(letter: &Letter, row: Row) -> bool {
         && (!known || (letter.class == class && letter.count as usize == elements.len() && same))
 }
 
-/// Looks each character up, and works it out.
+/// Looks each character up, and works it out. That a character may be read by itself at the end of a text is kept alone:
+/// it is not worked out for one that is not kept.
 fn expect(
     rt: &impl Abort,
     alloc: Global,
@@ -58,7 +59,11 @@ fn expect(
     for row in rows {
         let code = row.0 as u32;
         let letter = letter_of(&places, row.0);
-        assert!(rt; is_as(&letter, *row), "{code}: {letter:?}");
+        let is_so = match row.1 {
+            LetterKind::Base => letter.kind == LetterKind::Unknown,
+            _ => is_as(&letter, *row),
+        };
+        assert!(rt; is_so, "{code}: {letter:?}");
         if let Some(kept) = letters.get(row.0) {
             assert!(rt; is_as(kept, *row), "kept {code}: {kept:?}");
         }
@@ -130,7 +135,9 @@ fn letters_marks_and_syllables_are_known(rt: HostRuntime) -> Result<(), Fail> {
 }
 
 #[test]
-fn what_is_read_with_others_is_not_known(rt: HostRuntime) -> Result<(), Fail> {
+fn what_is_read_with_others_is_known_at_the_end_of_a_text_at_most(
+    rt: HostRuntime,
+) -> Result<(), Fail> {
     let mini = Mini::new(rt.alloc())?;
     let rows: [Row; 3] = [
         ('\u{344}', LetterKind::Unknown, 0, &[], false, 0),
@@ -140,7 +147,7 @@ fn what_is_read_with_others_is_not_known(rt: HostRuntime) -> Result<(), Fail> {
     expect(&rt, rt.alloc(), &mini, PLAIN, &rows)?;
     let contraction = Mini::with_double_l(rt.alloc())?;
     let rows: [Row; 3] = [
-        ('l', LetterKind::Unknown, 0, &[], false, 0),
+        ('l', LetterKind::Base, 0, &[0x613C_0000_0500_0500], false, 0),
         ('ĺ', LetterKind::Unknown, 0, &[], false, 0),
         (
             'a',
