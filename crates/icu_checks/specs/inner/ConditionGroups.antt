@@ -1,7 +1,5 @@
--- The order in which failing conditions are reported, and by which kind.
+-- The order in which failing conditions are reported.
 use Rattle.std.specs.Prelude.{ℕ}
-use Rattle.icu_entries.specs.declared.error.DataErrorKind.{DataErrorKind}
-use Rattle.icu_entries.specs.declared.error.DataErrorKind.TheVariants as kinds
 use Rattle.icu_data.specs.declared.live_condition.LiveCondition.{LiveCondition}
 use Rattle.icu_data.specs.declared.live_condition.LiveCondition.TheVariants as of_entry
 use Rattle.icu_checks.specs.declared.condition.Condition.{Condition}
@@ -33,25 +31,6 @@ group_index KeptLeads = 12
 group_index OwnLeads = 13
 group_index ReorderedLeads = 14
 group_index Compression = 15
-
--- the kind by which the conditions of a group are reported
-abbrev pub kind_in : ConditionGroup → DataErrorKind
-kind_in Counts = kinds.Length
-kind_in Indices = kinds.Index
-kind_in PrefixRows = kinds.Context
-kind_in Chains = kinds.Chain
-kind_in Digits = kinds.Digit
-kind_in Bytes = kinds.Tag
-kind_in Offsets = kinds.Element
-kind_in Shapes = kinds.Element
-kind_in Leads = kinds.Element
-kind_in TertiaryElements = kinds.Element
-kind_in Overlaps = kinds.Overlap
-kind_in Primaries = kinds.Element
-kind_in KeptLeads = kinds.Reordering
-kind_in OwnLeads = kinds.Overlap
-kind_in ReorderedLeads = kinds.Reordering
-kind_in Compression = kinds.Compression
 
 -- the group of each condition
 abbrev pub group_of_entry : LiveCondition → ConditionGroup
