@@ -12,6 +12,7 @@ ghost use Rattle.icu_data.specs.inner.Visitors.{is_last, holds, and_weight, coll
 use crate::block_walk::{goes_by_character, visit_chars};
 use crate::data::CollationData;
 use crate::element_walk::{VisitElement, visit_elements};
+use crate::live_condition::run_data;
 use crate::walk::{Visit, visit_from};
 use icu_entries::{CollationElement, CollationElement32, EntryKind};
 use std::alloc::AllocError;
@@ -174,6 +175,24 @@ impl<'w, W: Weigh> Visit for Collector<'w, W> {
             return false;
         }
         goes_by_character(entry)
+    }
+
+    fn visit_run(
+        &mut self,
+        home: CollationData<'_>,
+        first: char,
+        entry: CollationElement32,
+    ) -> Result<bool, AllocError> {
+        let Some(data) = run_data(home, first, entry) else {
+            return Ok(false);
+        };
+        let start = first as u32;
+        for code in start..start + 64 {
+            if let Some(c) = char::from_u32(code) {
+                VisitElement::visit(self, data.offset_element(c))?;
+            }
+        }
+        Ok(true)
     }
 }
 

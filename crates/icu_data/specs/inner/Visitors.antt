@@ -1,8 +1,12 @@
 -- What the visitors of this crate add up to.
 use Rattle.std.specs.List.{list_any}
-use Rattle.std.specs.Prelude.{ℕ, Bool, ◌&&◌, ◌||◌, ◌==◌, List, [], Option, Some, None, if◌then◌else◌, fold, map, flat_map, ◌-◌, false, length, slice_get}
+use Rattle.std.specs.Prelude.{ℕ, ◌≡◌, ◌+◌, ◌≤◌, ◌<◌, ◌∷◌, IsTrue, take, drop, Bool, ◌&&◌, ◌||◌, ◌==◌, List, [], Option, Some, None, if◌then◌else◌, fold, map, flat_map, ◌-◌, false, length, slice_get}
 use Rattle.icu_entries.specs.declared.element_conditions.ElementCondition.TheVariants.{Shape, Leads, Primary}
+use Rattle.icu_entries.specs.declared.entry.EntryKind.TheVariants.{Offset}
 use Rattle.icu_entries.specs.Elements.{Element}
+use Rattle.icu_entries.specs.Entries.{kind_of, entry_index}
+use Rattle.icu_entries.specs.EntryConditions.{has_offset_weight}
+use Rattle.icu_data.specs.DataConditions.{is_inside}
 use Rattle.icu_data.specs.Data.{Data, Row, homed}
 use Rattle.icu_data.specs.Final.{final_elements}
 use Rattle.icu_data.specs.CollectedWeights.{is_stated}
@@ -37,6 +41,13 @@ and_weight has w v = has v || w == v
 abbrev pub and_found : (ℕ → Bool) → Option ℕ → ℕ → Bool
 and_found has None = has
 and_found has (Some w) = and_weight has w
+
+-- the data of an offset entry by which each of the 64 characters from one on has a weight
+pub record IsRunData (home : Data) (first e : ℕ) (d : Element) : Type 0 where
+  pub offset : kind_of e ≡ Offset
+  pub inside : IsTrue (is_inside home e)
+  pub taken : take 1 (drop (entry_index e) home.elements) ≡ d ∷ []
+  pub fits : (c : ℕ) → first ≤ c → c < first + 64 → IsTrue (has_offset_weight d c)
 
 -- what collects, and which weights are held so far, after one more element, and after one more entry
 abbrev pub collected : {W : Type 0} → (W → Element → Option ℕ) → W × (ℕ → Bool) → Element → W × (ℕ → Bool)
