@@ -205,30 +205,6 @@ fn remember(home: CollationData<'_>, bits: u32, seen: &mut VisitedEntries)
 }
 
 /// Visits a character for the first time, unless its entry is one for an implicit weight or is remembered.
-fn visit_new<V: Visit>(
-    visitor: &mut V,
-    home: CollationData<'_>,
-    c: char,
-    falls_back: bool,
-    seen: &mut VisitedEntries,
-) -> Result<(), V::Refusal>
-    requires { AreShared (data_of home) seen.old }
-    ensures shared { AreShared (data_of home.entry) seen.new }
-    ensures walks { OnOk result ((start : V.Seen) → Holds V.after falls_back (data_of home.entry) seen.old start (V.seen visitor.old) c → Holds V.after falls_back (data_of home.entry) seen.new start (V.seen visitor.new) (c + 1)) }
-{
-    let bits = home.bits_for_char(c);
-    let entry = CollationElement32::new(bits);
-    if entry.is_implicit() {
-        return Ok(());
-    }
-    if seen.has(bits) {
-        return Ok(());
-    }
-    visit_char(visitor, home, c, entry, falls_back)?;
-    remember(home, bits, seen);
-    Ok(())
-}
-
 fn visit_new_code<V: Visit>(
     visitor: &mut V,
     home: CollationData<'_>,
@@ -240,10 +216,20 @@ fn visit_new_code<V: Visit>(
     ensures shared { AreShared (data_of home.entry) seen.new }
     ensures walks { OnOk result ((start : V.Seen) → Holds V.after falls_back (data_of home.entry) seen.old start (V.seen visitor.old) code → Holds V.after falls_back (data_of home.entry) seen.new start (V.seen visitor.new) (code + 1)) }
 {
-    match char::from_u32(code) {
-        Some(c) => visit_new(visitor, home, c, falls_back, seen),
-        None => Ok(()),
+    let Some(c) = char::from_u32(code) else {
+        return Ok(());
+    };
+    let bits = home.bits_for_char(c);
+    let entry = CollationElement32::new(bits);
+    if entry.is_implicit() {
+        return Ok(());
     }
+    if seen.has(bits) {
+        return Ok(());
+    }
+    visit_char(visitor, home, c, entry, falls_back)?;
+    remember(home, bits, seen);
+    Ok(())
 }
 
 /// Visits the 64 characters from this one on for the first time.

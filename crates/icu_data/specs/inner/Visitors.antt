@@ -1,6 +1,6 @@
 -- What the visitors of this crate add up to.
 use Rattle.std.specs.List.{list_any}
-use Rattle.std.specs.Prelude.{ℕ, ◌≡◌, ◌+◌, ◌≤◌, ◌<◌, ◌∷◌, IsTrue, take, drop, Bool, ◌&&◌, ◌||◌, ◌==◌, List, [], Option, Some, None, if◌then◌else◌, fold, map, flat_map, ◌-◌, false, length, slice_get}
+use Rattle.std.specs.Prelude.{ℕ, ◌≡◌, ◌+◌, ◌≤◌, ◌<◌, ◌∷◌, IsTrue, take, drop, Bool, ◌&&◌, ◌||◌, ◌==◌, List, [], Option, Some, None, if◌then◌else◌, fold, map, flat_map}
 use Rattle.icu_entries.specs.declared.element_conditions.ElementCondition.TheVariants.{Shape, Leads, Primary}
 use Rattle.icu_entries.specs.declared.entry.EntryKind.TheVariants.{Offset}
 use Rattle.icu_entries.specs.Elements.{Element}
@@ -25,10 +25,6 @@ judged rank violation s home c e = (s.0, earlier rank s.1 (violation s.0 home c 
 -- after what each row's entry leads to
 abbrev pub after_rows : {V : Type 0} → (V → Data → ℕ → ℕ → V) → (ℕ → List ℕ) → Data → ℕ → List Row → V → V
 after_rows after lead home c rows v = after_all after v home c (flat_map lead (map (λ (row : Row). row.entry) rows))
-
--- the weight is the last of these
-unfoldable pub is_last : List ℕ → ℕ → Bool
-is_last ws w = elim (slice_get ws (length ws - 1)) [ Some last ↦ last == w | None ↦ false ]
 
 -- which weights a list holds
 unfoldable pub holds : List ℕ → ℕ → Bool
