@@ -38,8 +38,8 @@ fn is_as(letter: &Letter, row: Row) -> bool {
         && (!known || (letter.class == class && letter.count as usize == elements.len() && same))
 }
 
-/// Looks each character up, and works it out. That a character may be read by itself at the end of a text is kept alone:
-/// it is not worked out for one that is not kept.
+/// Looks each character up, and works it out. Which elements a letter gives that begins contractions is kept, and not
+/// worked out again.
 fn expect(
     rt: &impl Abort,
     alloc: Global,
