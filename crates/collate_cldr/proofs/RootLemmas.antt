@@ -52,8 +52,8 @@ parts_are all is = λ i. record {
 same_tables : (x y : CollatorTables) (r : Result CollatorTables DataError) → r ≡ Ok x → r ≡ Ok y → x ≡ y
 same_tables x y r h k = cc
 
-pub root_lent : (all : CollatorTables) (r : Request) (kept : CollatorTables) → IsRoot all → loaded_tables (loads_of all) r ≡ Ok kept → IsRoot kept
-root_lent all r kept is h =
+pub root_loaded : (all : CollatorTables) (r : Request) (kept : CollatorTables) → IsRoot all → loaded_tables (loads_of all) r ≡ Ok kept → IsRoot kept
+root_loaded all r kept is h =
     let loaded : loaded_tables (loads_of all) r ≡ Ok all =
     subst (λ a. loaded_tables (loads_of a) r ≡ Ok a) (sym (parts_are all is))
     (loaded_so all.tables.root all.tables.jamo all.tables.diacritics all.special r.locale r.collation_type) in

@@ -1,5 +1,5 @@
 //! Checks of tables, as often as is asked for, so that they can be timed.
-use crate::stop::Stop;
+use crate::fault::Fault;
 use crate::tables::set;
 use crate::timed_root::{root_like_cldr, tailoring_like_cldr};
 use icu_checks::CheckedTables;
@@ -188,7 +188,7 @@ fn check(rt: &HostRuntime, mini: &Mini) -> io::Result<()> {
 }
 
 /// Prints how many numbers tables store, and checks them as often as is asked for: each single table, and all together.
-pub(crate) fn run(rt: &HostRuntime, tables: TimedTables, times: u64) -> Result<(), Stop> {
+pub(crate) fn run(rt: &HostRuntime, tables: TimedTables, times: u64) -> Result<(), Fault> {
     let mini = tables.tables(rt.alloc())?;
     println!(rt; "numbers {}", stored(&mini))?;
     for _ in 0..times {

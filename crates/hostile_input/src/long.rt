@@ -1,6 +1,6 @@
 //! Long texts: how two of them are ordered, and how long the key of the first is.
+use crate::fault::Fault;
 use crate::settings::Setting;
-use crate::stop::Stop;
 use icu_comparison::{Collator, SortKeyError};
 use icu_mini::mini::Mini;
 use icu_options::{CollationNumericOrdering, CollatorOptions, CollatorPreferences, Strength};
@@ -45,7 +45,7 @@ impl Kind {
         }
     }
 
-    fn collator(self, alloc: Global, strength: Strength) -> Result<Collator, Stop> {
+    fn collator(self, alloc: Global, strength: Strength) -> Result<Collator, Fault> {
         match self {
             Kind::Letters | Kind::Marks => Setting::new(0, strength).collator(alloc),
             Kind::Digits => Setting {
@@ -107,7 +107,7 @@ fn push_repeated(text: &mut String, part: &str, count: u64) -> Result<(), AllocE
 }
 
 /// Mini where "a" begins the contractions "ab", "aab" and so on, up to seven times "a".
-fn with_beginnings(alloc: Global, strength: Strength) -> Result<Collator, Stop> {
+fn with_beginnings(alloc: Global, strength: Strength) -> Result<Collator, Fault> {
     let mut mini = Mini::new(alloc)?;
     let mut builder = DataBuilder::new(alloc, FALLBACK_CE32)?;
     builder.set_entry('a', CONTRACTION_CE32);
@@ -146,7 +146,7 @@ fn key_length(alloc: Global, collator: &Collator, text: &str) -> Result<usize, A
 
 /// Prints the order of two long texts at the strength Identical, and how many bytes the first one's key has at Primary,
 /// as often as is asked for.
-pub(crate) fn run(rt: &HostRuntime, kind: Kind, count: u64, times: u64) -> Result<(), Stop> {
+pub(crate) fn run(rt: &HostRuntime, kind: Kind, count: u64, times: u64) -> Result<(), Fault> {
     let identical = kind.collator(rt.alloc(), Strength::Identical)?;
     let primary = kind.collator(rt.alloc(), Strength::Primary)?;
     let (left, right) = kind.texts(rt.alloc(), count)?;

@@ -7,50 +7,50 @@
 #![tactic(auto)]
 
 mod agreement;
-mod bases;
+mod base_tables;
 mod checks;
 mod cuts;
 mod damage;
 mod dice;
 mod encoded;
+mod fault;
 mod long;
 mod readers;
 mod settings;
-mod stop;
 mod tables;
 mod tally;
 mod texts;
 mod timed_root;
 
 use checks::TimedTables;
+use fault::Fault;
 use long::Kind;
 use std::alloc::{AllocError, Global};
 use std::env;
 use std::process::ExitCode;
-use stop::Stop;
 
 /// How many sets of tables and texts a run without words has.
 const FEW: u64 = 34;
 
 /// The number that a word writes.
-fn number(word: &str) -> Result<u64, Stop> {
+fn number(word: &str) -> Result<u64, Fault> {
     match word.parse::<u64>() {
         Ok(number) => Ok(number),
-        Err(_) => Err(Stop::WrongWords),
+        Err(_) => Err(Fault::WrongWords),
     }
 }
 
 /// Whether the check is to fail, by the words behind the numbers.
-fn spoiled(words: &[&str]) -> Result<bool, Stop> {
+fn spoiled(words: &[&str]) -> Result<bool, Fault> {
     match words {
         [] => Ok(false),
         ["spoiled"] => Ok(true),
-        _ => Err(Stop::WrongWords),
+        _ => Err(Fault::WrongWords),
     }
 }
 
 /// A little of each part.
-fn run_few(rt: &HostRuntime) -> Result<(), Stop> {
+fn run_few(rt: &HostRuntime) -> Result<(), Fault> {
     let tables = tables::run(rt.alloc(), 0, FEW, false)?;
     println!(rt;
         "tables: {} apart, {} disordered",
@@ -73,7 +73,7 @@ fn run_few(rt: &HostRuntime) -> Result<(), Stop> {
 }
 
 /// Runs one part.
-fn run_part(rt: &HostRuntime, words: &[&str]) -> Result<(), Stop> {
+fn run_part(rt: &HostRuntime, words: &[&str]) -> Result<(), Fault> {
     match words {
         [] => run_few(rt)?,
         ["tables", first, count, rest @ ..] => {
@@ -89,20 +89,20 @@ fn run_part(rt: &HostRuntime, words: &[&str]) -> Result<(), Stop> {
             readers::run(rt.alloc(), first, count, spoiled(rest)?)?.print(rt)?;
         }
         ["long", kind, count, times] => {
-            let kind = Kind::named(kind).ok_or(Stop::WrongWords)?;
+            let kind = Kind::named(kind).ok_or(Fault::WrongWords)?;
             long::run(rt, kind, number(count)?, number(times)?)?;
         }
         ["checks", tables, times] => {
-            let tables = TimedTables::named(tables).ok_or(Stop::WrongWords)?;
+            let tables = TimedTables::named(tables).ok_or(Fault::WrongWords)?;
             checks::run(rt, tables, number(times)?)?;
         }
-        _ => return Err(Stop::WrongWords),
+        _ => return Err(Fault::WrongWords),
     }
     Ok(())
 }
 
 /// The words after the program's name.
-fn words(rt: &HostRuntime) -> Result<Vec<String>, Stop> {
+fn words(rt: &HostRuntime) -> Result<Vec<String>, Fault> {
     Ok(env::args(rt)?.skip(1).collect(rt.alloc())?)
 }
 
@@ -111,7 +111,7 @@ fn borrowed(alloc: Global, words: &[String]) -> Result<Vec<&str>, AllocError> {
 }
 
 /// Runs the part that the words after the program's name ask for.
-fn run(rt: &HostRuntime) -> Result<(), Stop> {
+fn run(rt: &HostRuntime) -> Result<(), Fault> {
     let words = words(rt)?;
     let words = borrowed(rt.alloc(), words.as_slice())?;
     run_part(rt, words.as_slice())
@@ -120,8 +120,8 @@ fn run(rt: &HostRuntime) -> Result<(), Stop> {
 fn main(rt: HostRuntime) -> ExitCode {
     match run(&rt) {
         Ok(()) => ExitCode::SUCCESS,
-        Err(stop) => {
-            let _ = eprintln!(rt; "hostile_input: {stop:?}");
+        Err(fault) => {
+            let _ = eprintln!(rt; "hostile_input: {fault:?}");
             ExitCode::FAILURE
         }
     }

@@ -2,11 +2,11 @@
 //! encoding.
 ghost use Rattle.icu_elements.specs.CollationElements.{CanGive};
 
-use crate::bases::{BASES, base};
+use crate::base_tables::{BASES, base};
 use crate::cuts::{after_cut, before_cut};
 use crate::dice::Dice;
 use crate::encoded::Encoded;
-use crate::stop::Stop;
+use crate::fault::Fault;
 use crate::tables::set;
 use crate::texts::{any_text, spoil};
 use icu_checks::CheckedTables;
@@ -191,7 +191,7 @@ fn read_by(
     count: u64,
     spoiled: bool,
     found: &mut Found,
-) -> Result<(), Stop> {
+) -> Result<(), Fault> {
     let number = reading / 2;
     let mini = base(alloc, number)?;
     let numeric_primary = if reading % 2 == 0 {
@@ -228,7 +228,7 @@ fn read_by(
 
 /// Reads texts: so many from one number on. The UTF-16 of a text has another unit at its end where the check is to
 /// fail.
-pub(crate) fn run(alloc: Global, first: u64, count: u64, spoiled: bool) -> Result<Found, Stop> {
+pub(crate) fn run(alloc: Global, first: u64, count: u64, spoiled: bool) -> Result<Found, Fault> {
     let mut found = Found::default();
     for reading in 0..READINGS {
         read_by(alloc, reading, first, count, spoiled, &mut found)?;

@@ -1,6 +1,6 @@
 //! The collators that random texts are compared by.
-use crate::bases::base;
-use crate::stop::Stop;
+use crate::base_tables::base;
+use crate::fault::Fault;
 use icu_comparison::Collator;
 use icu_options::{
     AlternateHandling, CaseLevel, CollationCaseFirst, CollationNumericOrdering, CollatorOptions,
@@ -33,7 +33,7 @@ impl Setting {
     }
 
     /// The collator by the tables with this number.
-    pub(crate) fn collator(&self, alloc: Global) -> Result<Collator, Stop> {
+    pub(crate) fn collator(&self, alloc: Global) -> Result<Collator, Fault> {
         let mini = base(alloc, self.base)?;
         let options = CollatorOptions {
             strength: Some(self.strength),
@@ -51,7 +51,7 @@ impl Setting {
 }
 
 /// All strengths, and each other setting and each kind of table at some of them.
-fn settings() -> [Setting; 14] {
+fn settings() -> [Setting; 15] {
     [
         Setting::new(0, Strength::Primary),
         Setting::new(0, Strength::Identical),
@@ -75,6 +75,10 @@ fn settings() -> [Setting; 14] {
             ..Setting::new(1, Strength::Identical)
         },
         Setting {
+            alternate: AlternateHandling::Blanked,
+            ..Setting::new(13, Strength::Identical)
+        },
+        Setting {
             case_level: CaseLevel::On,
             ..Setting::new(12, Strength::Primary)
         },
@@ -91,7 +95,7 @@ fn settings() -> [Setting; 14] {
 }
 
 /// A collator by each of the settings.
-pub(crate) fn collators(alloc: Global) -> Result<Vec<Collator>, Stop> {
+pub(crate) fn collators(alloc: Global) -> Result<Vec<Collator>, Fault> {
     let mut collators = Vec::new(alloc);
     for setting in &settings() {
         push(&mut collators, setting.collator(alloc)?)?;

@@ -1,7 +1,7 @@
 //! Damaged tables: both ways to a collator agree on them, and a collator of those that are accepted orders texts by
 //! their keys.
 use crate::agreement::agree;
-use crate::bases::{BASES, base, copied};
+use crate::base_tables::{BASES, base, copied};
 use crate::damage::damage;
 use crate::dice::Dice;
 use crate::tally::Tally;

@@ -3,8 +3,8 @@ use crate::agreement::agree;
 use crate::cuts::{after_cut, before_cut};
 use crate::dice::Dice;
 use crate::encoded::Encoded;
+use crate::fault::Fault;
 use crate::settings::collators;
-use crate::stop::Stop;
 use icu_comparison::Collator;
 use std::alloc::{AllocError, Global};
 use std::io;
@@ -111,7 +111,7 @@ pub(crate) fn spoil(text: &mut Encoded) -> Result<(), AllocError> {
 
 /// Compares texts, and the parts of each: so many from one number on. The UTF-16 of a text has another unit at its end
 /// where the check is to fail.
-pub(crate) fn run(alloc: Global, first: u64, count: u64, spoiled: bool) -> Result<Found, Stop> {
+pub(crate) fn run(alloc: Global, first: u64, count: u64, spoiled: bool) -> Result<Found, Fault> {
     let collators = collators(alloc)?;
     let mut found = Found::default();
     for place in 0..count {
@@ -119,7 +119,7 @@ pub(crate) fn run(alloc: Global, first: u64, count: u64, spoiled: bool) -> Resul
         let mut dice = Dice::new(number);
         let index = dice.index(collators.len());
         let Some(collator) = collators.get(index) else {
-            return Err(Stop::Failed);
+            return Err(Fault::Failed);
         };
         let (mut left, right) = two_texts(alloc, &mut dice)?;
         if spoiled {

@@ -1,5 +1,5 @@
 //! The sort keys of texts in each kind of sink. Rows of keys stand in `icu_rows`.
-use crate::limited::{Limited, Stopped};
+use crate::limited::{Limited, SinkFault};
 use icu_comparison::{Collator, SortKeyError, TooSmall};
 use icu_mini::mini::Mini;
 use icu_options::{
@@ -218,7 +218,7 @@ fn sinks_of_each_size_took_what_fits(rt: HostRuntime) -> Result<(), Fail> {
             if fits < key.len() {
                 assert_eq!(rt;
                     result,
-                    Err(SortKeyError::Sink(Stopped::Full)),
+                    Err(SortKeyError::Sink(SinkFault::Full)),
                     "{:?} at {limit}",
                     row.text
                 );
@@ -255,13 +255,13 @@ fn sinks_that_take_one_byte_of_a_write_or_do_not_finish(rt: HostRuntime) -> Resu
         let expected = if taken.len() == key.len() {
             Ok(())
         } else {
-            Err(SortKeyError::Sink(Stopped::Full))
+            Err(SortKeyError::Sink(SinkFault::Full))
         };
         assert_eq!(rt; result, expected, "{:?}", row.text);
 
         let mut unfinished = Limited::unfinished(rt.alloc());
         let result = borrowed.write_sort_key_to(row.text, &mut unfinished);
-        let expected = Err(SortKeyError::Sink(Stopped::Unfinished));
+        let expected = Err(SortKeyError::Sink(SinkFault::Unfinished));
         assert_eq!(rt; result, expected, "{:?}", row.text);
         assert_eq!(rt;
             unfinished.taken.as_slice(),

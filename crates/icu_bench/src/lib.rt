@@ -8,9 +8,9 @@ mod index;
 #[cfg(test)]
 mod keys;
 #[cfg(test)]
-mod letters;
-#[cfg(test)]
 mod limited;
+#[cfg(test)]
+mod public_names;
 #[cfg(test)]
 mod requests;
 #[cfg(test)]

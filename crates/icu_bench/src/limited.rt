@@ -8,7 +8,7 @@ use std::alloc::Global;
 
 /// Why the sink took no more.
 #[derive(Debug, PartialEq, Eq, Drop)]
-pub(crate) enum Stopped {
+pub(crate) enum SinkFault {
     Full,
     NoMemory,
     Unfinished,
@@ -52,7 +52,7 @@ impl Limited {
 }
 
 impl CollationKeySink for Limited {
-    type Error = Stopped;
+    type Error = SinkFault;
 
     type State = ();
 
@@ -74,26 +74,26 @@ impl CollationKeySink for Limited {
 
     ghost refused_took = { λ x y _ _ b _ _ p. p };
 
-    fn write(&mut self, _state: &mut (), buf: &[u8]) -> Result<(), Stopped> {
+    fn write(&mut self, _state: &mut (), buf: &[u8]) -> Result<(), SinkFault> {
         let room = self.limit.saturating_sub(self.taken.len());
         let (fits, rest) = buf.split_at(room.min(self.at_once).min(buf.len()));
         match self.taken.extend_from_slice(fits) {
-            Err(_) => Err(Stopped::NoMemory),
+            Err(_) => Err(SinkFault::NoMemory),
             Ok(()) => {
                 if rest.is_empty() {
                     Ok(())
                 } else {
-                    Err(Stopped::Full)
+                    Err(SinkFault::Full)
                 }
             }
         }
     }
 
-    fn finish(&mut self, _state: ()) -> Result<(), Stopped> {
+    fn finish(&mut self, _state: ()) -> Result<(), SinkFault> {
         if self.finishes {
             Ok(())
         } else {
-            Err(Stopped::Unfinished)
+            Err(SinkFault::Unfinished)
         }
     }
 }

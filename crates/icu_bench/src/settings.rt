@@ -24,11 +24,12 @@ fn settings_come_from_their_sources(rt: HostRuntime) -> Result<(), Fail> {
         CollatorOptions::default(),
     )?;
     let settings = collator.as_borrowed().resolved_options();
-    assert!(rt; settings.strength == Strength::Tertiary);
-    assert!(rt; settings.alternate_handling == AlternateHandling::Shifted);
-    assert!(rt; settings.case_first == CollationCaseFirst::False);
-    assert!(rt; settings.max_variable == MaxVariable::Punctuation);
-    assert!(rt; settings.case_level == CaseLevel::Off);
-    assert!(rt; settings.numeric == CollationNumericOrdering::True);
+    let is_as_set = settings.strength == Strength::Tertiary
+        && settings.alternate_handling == AlternateHandling::Shifted
+        && settings.case_first == CollationCaseFirst::False
+        && settings.max_variable == MaxVariable::Punctuation
+        && settings.case_level == CaseLevel::Off
+        && settings.numeric == CollationNumericOrdering::True;
+    assert!(rt; is_as_set, "{settings:?}");
     Ok(())
 }

@@ -7,6 +7,7 @@ use Rattle.icu_entries.specs.declared.error.DataErrorKind.TheVariants as kinds
 use Rattle.icu_entries.specs.declared.error.DataTable.{DataTable}
 use Rattle.icu_entries.specs.declared.error.DataTable.TheVariants as tables
 use Rattle.icu_data.specs.declared.live_condition.LiveCondition.{LiveCondition}
+use Rattle.icu_data.specs.declared.live_condition.LiveCondition.TheVariants as of_entry
 use Rattle.icu_entries.specs.Elements.{Element}
 use Rattle.icu_data.specs.Data.{Context, Data}
 use Rattle.icu_data.specs.Contexts.{has_ascending_rows}
@@ -31,7 +32,6 @@ use Rattle.icu_checks.specs.ElementConditions.{element_meets}
 use Rattle.icu_weights.specs.Overlaps.{AreOverlapping}
 use Rattle.icu_checks.specs.PairConditions.{PairMeets}
 use Rattle.icu_checks.specs.LeadConditions.{LeadMeets}
-use Rattle.icu_checks.specs.ConditionGroups.{group_of, kind_in}
 
 -- ---- what each table shows by itself
 
@@ -88,8 +88,27 @@ pub record IsGoodTables (all : CollatorTables) : Type 0 where
 
 -- ---- what a refusal says
 
+-- the kind by which a condition is reported
 abbrev pub kind_of : Condition → DataErrorKind
-kind_of condition = kind_in (group_of condition)
+kind_of conditions.DiacriticCount = kinds.Length
+kind_of (conditions.Entry of_entry.Indices) = kinds.Index
+kind_of (conditions.Entry of_entry.PrefixRows) = kinds.Context
+kind_of (conditions.Entry of_entry.Chains) = kinds.Chain
+kind_of (conditions.Entry of_entry.Digits) = kinds.Digit
+kind_of (conditions.Entry of_entry.Bytes) = kinds.Tag
+kind_of (conditions.Entry _) = kinds.Element
+kind_of conditions.PrefixRows = kinds.Context
+kind_of (conditions.Element of_element.MiddleLead) = kinds.Reordering
+kind_of (conditions.Element of_element.ImplicitLength) = kinds.Overlap
+kind_of (conditions.Element of_element.NumericLead) = kinds.Overlap
+kind_of (conditions.Element of_element.SharedLead) = kinds.Reordering
+kind_of (conditions.Element of_element.SecondByte) = kinds.Compression
+kind_of (conditions.Element _) = kinds.Element
+kind_of (conditions.Pair of_pair.TertiaryElementWeights) = kinds.Element
+kind_of (conditions.Pair of_pair.Compression) = kinds.Compression
+kind_of (conditions.Pair _) = kinds.Overlap
+kind_of (conditions.Lead of_lead.NumericWhole) = kinds.Compression
+kind_of (conditions.Lead _) = kinds.Reordering
 
 -- the order in which tables are named
 abbrev pub table_rank : DataTable → ℕ

@@ -2,7 +2,6 @@ pub mod LiveElements
 pub mod ElementConditions
 pub mod PairConditions
 pub mod LeadConditions
-pub mod ConditionGroups
 pub mod GoodTables
 pub mod GoodProps
 pub mod Checked

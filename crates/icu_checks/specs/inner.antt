@@ -7,3 +7,4 @@ pub mod EntryViolations
 pub mod ComparedLevels
 pub mod ImplicitOverlaps
 pub mod Violations
+pub mod ConditionGroups

@@ -1,5 +1,6 @@
 ghost use Rattle.std.specs.Prelude.{◌≡◌, ◌<◌};
-ghost use Rattle.icu_checks.specs.ConditionGroups.{group_of_entry, group_of_element, group_of_pair, group_of_lead, group_of, group_index, kind_in};
+ghost use Rattle.icu_checks.specs.GoodTables.{kind_of};
+ghost use Rattle.icu_checks.specs.inner.ConditionGroups.{group_of_entry, group_of_element, group_of_pair, group_of_lead, group_of, group_index};
 
 use icu_data::live_condition::LiveCondition;
 use icu_entries::DataErrorKind;
@@ -120,28 +121,6 @@ impl ConditionGroup {
     {
         self as u32
     }
-
-    /// The kind of a refusal for its conditions.
-    fn kind(self) -> DataErrorKind
-        ensures { result ≡ kind_in self }
-    {
-        match self {
-            ConditionGroup::Counts => DataErrorKind::Length,
-            ConditionGroup::Indices => DataErrorKind::Index,
-            ConditionGroup::PrefixRows => DataErrorKind::Context,
-            ConditionGroup::Chains => DataErrorKind::Chain,
-            ConditionGroup::Digits => DataErrorKind::Digit,
-            ConditionGroup::Bytes => DataErrorKind::Tag,
-            ConditionGroup::Offsets
-            | ConditionGroup::Shapes
-            | ConditionGroup::Leads
-            | ConditionGroup::TertiaryElements
-            | ConditionGroup::Primaries => DataErrorKind::Element,
-            ConditionGroup::Overlaps | ConditionGroup::OwnLeads => DataErrorKind::Overlap,
-            ConditionGroup::KeptLeads | ConditionGroup::ReorderedLeads => DataErrorKind::Reordering,
-            ConditionGroup::Compression => DataErrorKind::Compression,
-        }
-    }
 }
 
 fn group_of_entry(condition: LiveCondition) -> ConditionGroup
@@ -217,8 +196,47 @@ impl Condition {
 
     /// The kind of a refusal for this condition.
     pub fn kind(self) -> DataErrorKind
-        ensures { result ≡ kind_in (group_of self) }
+        ensures { result ≡ kind_of self }
     {
-        self.group().kind()
+        match self {
+            Condition::DiacriticCount => DataErrorKind::Length,
+            Condition::Entry(condition) => kind_of_entry(condition),
+            Condition::PrefixRows => DataErrorKind::Context,
+            Condition::Element(condition) => kind_of_element(condition),
+            Condition::Pair(PairCondition::TertiaryElementWeights) => DataErrorKind::Element,
+            Condition::Pair(PairCondition::Compression) => DataErrorKind::Compression,
+            Condition::Pair(_) => DataErrorKind::Overlap,
+            Condition::Lead(LeadCondition::NumericWhole) => DataErrorKind::Compression,
+            Condition::Lead(_) => DataErrorKind::Reordering,
+        }
+    }
+}
+
+fn kind_of_entry(condition: LiveCondition) -> DataErrorKind
+    ensures { result ≡ kind_of (Condition.Entry condition) }
+{
+    match condition {
+        LiveCondition::Indices => DataErrorKind::Index,
+        LiveCondition::PrefixRows => DataErrorKind::Context,
+        LiveCondition::Chains => DataErrorKind::Chain,
+        LiveCondition::Digits => DataErrorKind::Digit,
+        LiveCondition::Bytes => DataErrorKind::Tag,
+        LiveCondition::Offsets
+        | LiveCondition::Shapes
+        | LiveCondition::Leads
+        | LiveCondition::Primaries => DataErrorKind::Element,
+    }
+}
+
+fn kind_of_element(condition: ElementCondition) -> DataErrorKind
+    ensures { result ≡ kind_of (Condition.Element condition) }
+{
+    match condition {
+        ElementCondition::Width
+        | ElementCondition::BackwardLead
+        | ElementCondition::TertiaryElement => DataErrorKind::Element,
+        ElementCondition::MiddleLead | ElementCondition::SharedLead => DataErrorKind::Reordering,
+        ElementCondition::ImplicitLength | ElementCondition::NumericLead => DataErrorKind::Overlap,
+        ElementCondition::SecondByte => DataErrorKind::Compression,
     }
 }

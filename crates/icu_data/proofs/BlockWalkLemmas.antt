@@ -21,8 +21,8 @@ use Rattle.icu_data.specs.declared.data.CollationData.{CollationData}
 use Rattle.icu_data.specs.Data.{Data}
 use Rattle.icu_data.specs.Live.{goes_by_character, leads_to_character, live_digit, live_contraction, live_from, live_at}
 use Rattle.icu_data.specs.StoredData.{data_of, block_in}
-use Rattle.icu_data.specs.Walks.{after_all, after_chars, StandsFor, Walked}
-use Rattle.icu_data.specs.inner.BlockWalks.{is_wanted, WalkedTo, AreShared, IsVisited, Holds, IsPassedRun, IsShared, IsState, IsRead, HasState, AreStates}
+use Rattle.icu_data.specs.Walks.{after_all, after_run, after_chars, StandsFor, Walked}
+use Rattle.icu_data.specs.inner.BlockWalks.{is_wanted, WalkedTo, AreShared, IsVisited, Holds, IsRun, IsShared, IsState, IsRead, HasState, AreStates}
 use Rattle.icu_data.specs.inner.VisitedEntries.{IsRemembered}
 use Rattle.icu_data.specs.declared.visited_entries.VisitedEntries.{VisitedEntries}
 use Rattle.icu_data.proofs.ListLemmas.{all_append}
@@ -211,21 +211,37 @@ module _ {V : Type 0} (after : V → Data → ℕ → ℕ → V) (falls_back : B
   offset_adds v w c e is offset adds =
       adds ∙ ap (after v home c) is ∙ sym (ap (λ es. after_all after v home c es) (offset_alone falls_back home c (ap kind_of (sym is) ∙ offset)))
 
-  -- characters in a row of one offset entry, whose visits change nothing
-  run_adds : (v : V) (first c : ℕ) (r : IsPassedRun after v home first) → first ≤ c → c < first + 64 → IsScalar c → v ≡ after_all after v home c (live_at falls_back home c)
-  run_adds v first c r low high s =
-      let same : home.value c ≡ r.entry = r.same c low high s in
-      sym (ap (λ es. after_all after v home c es) (offset_alone falls_back home c (ap kind_of same ∙ r.offset)) ∙ ap (after v home c) same ∙ r.nothing c low high)
+  -- so are visits of it with each of some characters in a row
+  run_adds : (v : V) (first e c : ℕ) → IsRun home first e → first ≤ c → c < first + 64 → IsScalar c → after v home c e ≡ after_all after v home c (live_at falls_back home c)
+  run_adds v first e c r low high s = offset_adds v (after v home c e) c e (sym (r.same c low high s)) r.offset refl
 
-  pub passed_run : (part : Part) (v : V) (first n : ℕ) → IsPassedRun after v home first → ((c : ℕ) → first ≤ c → c < first + 64 → IsScalar c) → n ≤ 64 → To part v v first (first + n)
-  passed_run part v first zero r scalars h =
+  pub visited_run : (part : Part) (v : V) (first e n : ℕ) → IsRun home first e → ((c : ℕ) → first ≤ c → c < first + 64 → IsScalar c) → n ≤ 64
+      → To part v (after_run after v home first e n) first (first + n)
+  unfolding after_run
+  visited_run part v first e zero r scalars h =
       let at : first ≡ first + zero = omega arith in
       subst (To part v v first) at (walked_none part v first)
-  passed_run part v first (suc n) r scalars h =
+  visited_run part v first e (suc n) r scalars h =
       let next : (first + n) + 1 ≡ first + suc n = omega arith in
       let s : IsScalar (first + n) = scalars (first + n) (omega arith) (omega arith) in
-      let one : To part v v (first + n) (first + n + 1) = walked_char part v v (first + n) s (run_adds v first (first + n) r (omega arith) (omega arith) s) in
-      subst (To part v v first) next (walked_on part v v v first (first + n) (first + n + 1) (passed_run part v first n r scalars (omega arith)) one)
+      let before : V = after_run after v home first e n in
+      let one : To part before (after before home (first + n) e) (first + n) (first + n + 1) =
+      walked_char part before (after before home (first + n) e) (first + n) s (run_adds before first e (first + n) r (omega arith) (omega arith) s) in
+      subst (To part v (after before home (first + n) e) first) next
+      (walked_on part v before (after before home (first + n) e) first (first + n) (first + n + 1) (visited_run part v first e n r scalars (omega arith)) one)
+
+  -- and where visits of it change nothing, none of them is needed
+  same_run : (v : V) (first e n : ℕ) → ((c : ℕ) → first ≤ c → c < first + 64 → after v home c e ≡ v) → n ≤ 64 → after_run after v home first e n ≡ v
+  unfolding after_run
+  same_run v first e zero nothing h = refl
+  same_run v first e (suc n) nothing h =
+      ap (λ v. after v home (first + n) e) (same_run v first e n nothing (omega arith)) ∙ nothing (first + n) (omega arith) (omega arith)
+
+  pub passed_run : (part : Part) (v : V) (first e : ℕ) → IsRun home first e → ((c : ℕ) → first ≤ c → c < first + 64 → IsScalar c)
+      → ((c : ℕ) → first ≤ c → c < first + 64 → after v home c e ≡ v) → To part v v first (first + 64)
+  passed_run part v first e r scalars nothing =
+      let whole : 64 ≤ 64 = omega arith in
+      subst (λ u. To part v u first (first + 64)) (same_run v first e 64 nothing whole) (visited_run part v first e 64 r scalars whole)
 
   -- a block that was read is visited again only where an entry goes by its character
   pub read_again : (s t u : V) (first other : ℕ) → other + 64 ≤ first → ((c : ℕ) → first ≤ c → c < first + 64 → IsScalar (other + (c - first)) × (home.value (other + (c - first)) ≡ home.value c))

@@ -17,22 +17,15 @@ use Rattle.icu_data.specs.Final.{final_elements}
 use Rattle.icu_data.specs.Live.{goes_by_character, live_at, EachLive}
 use Rattle.icu_data.specs.Walks.{after_all, after_chars, StandsFor, IsPassed, Walked}
 use Rattle.icu_data.specs.CollectedWeights.{is_stated, IsWeightAmong, IsLiveWeight}
-use Rattle.icu_data.specs.inner.Visitors.{is_last, holds, and_weight, and_found, collected, collected_at, given_elements}
+use Rattle.icu_data.specs.inner.Visitors.{holds, and_weight, and_found, collected, collected_at, given_elements}
 use Rattle.icu_data.proofs.ListLemmas.{weaker, all_of, all_members, of_member}
 use Rattle.icu_data.proofs.SameEntryLemmas.{given_alike}
 use Rattle.icu_data.proofs.WalkLemmas.{fold_keeps, fold_back, walk_keeps, walk_back}
 
 -- ---- one more weight
 
-same_last : (o : Option ℕ) (w : ℕ) → (elim o as (λ _. Bool) [ Some last ↦ last == w | None ↦ false ]) ≡ true → o ≡ Some w
-same_last None w h = cc
-same_last (Some x) w h = let same : x ≡ w = grind (arith, nat_tests) in cc
-
-is_last-contained : (ws : List ℕ) (w : ℕ) → is_last ws w ≡ true → Contains ws w
-unfolding is_last
-is_last-contained ws w h =
-    let is : slice_get ws (length ws - 1) ≡ Some w = same_last (slice_get ws (length ws - 1)) w h in
-    (length ws - 1, slice_get_within ws (length ws - 1) w is, get_or_from_slice_get ws (length ws - 1) w w is)
+last_contained : (ws : List ℕ) (w : ℕ) → slice_get ws (length ws - 1) ≡ Some w → Contains ws w
+last_contained ws w is = (length ws - 1, slice_get_within ws (length ws - 1) w is, get_or_from_slice_get ws (length ws - 1) w w is)
 
 -- ---- which weights a list holds
 
@@ -74,12 +67,12 @@ or_cases true b h = inl refl
 or_cases false b h = inr h
 
 -- the last weight once more, and another one
-pub last_again : (ws : List ℕ) (w : ℕ) → is_last ws w ≡ true → holds ws ≡ and_weight (holds ws) w
+pub last_again : (ws : List ℕ) (w : ℕ) → slice_get ws (length ws - 1) ≡ Some w → holds ws ≡ and_weight (holds ws) w
 last_again ws w last =
     held_as ws (and_weight (holds ws) w) (λ v h. or_left (holds ws v) (w == v) (contained-held ws v h))
     (λ v h. elim (or_cases (holds ws v) (w == v) h) [
       | inl old ↦ held-contained ws v old
-      | inr same ↦ subst (Contains ws) (same_number w v same) (is_last-contained ws w last)
+      | inr same ↦ subst (Contains ws) (same_number w v same) (last_contained ws w last)
     ])
 
 pub one_more : (old room : List ℕ) (w : ℕ) → ((v : ℕ) → Contains room v ↔ Contains old v) → holds (room ++ w ∷ []) ≡ and_weight (holds old) w

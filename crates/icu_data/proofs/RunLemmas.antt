@@ -1,5 +1,5 @@
 -- Characters in a row with one offset entry: their weights rise, so the ends of the row show what holds of each.
-use Rattle.std.proofs.Common.{◌≡◌, ℕ, ◌-◌, ◌*◌, ◌<◌, ◌≤◌, Bool, true, false, ◌&&◌, nat_le, nat_lt, [], ◌∷◌, None, refl, arith, IsTrue, take, drop}
+use Rattle.std.proofs.Common.{◌≡◌, ◌∙◌, ap, sym, fold, Option, ℕ, suc, ◌-◌, ◌*◌, ◌<◌, ◌≤◌, Bool, true, false, ◌&&◌, nat_le, nat_lt, List, [], ◌∷◌, ◌+◌, if◌then◌else◌, None, refl, arith, IsTrue, take, drop}
 use Rattle.std.proofs.lemmas.Bool.{and_parts, and_from}
 use Rattle.std.proofs.lemmas.Bool.Decides.{nat_tests}
 use Rattle.std.proofs.lemmas.Nat.{mul-le}
@@ -11,10 +11,13 @@ use Rattle.icu_entries.specs.declared.entry.EntryKind.TheVariants.{Offset}
 use Rattle.icu_entries.specs.Entries.{kind_of, entry_index}
 use Rattle.icu_entries.specs.EntryConditions.{is_three_byte_weight, has_offset_weight, has_digit, has_known_byte}
 use Rattle.icu_entries.specs.ElementConditions.{has_shape, has_secondary_lead, has_tertiary_lead, has_primary_lead}
-use Rattle.icu_data.specs.Data.{Data}
+use Rattle.icu_data.specs.Data.{Data, homed}
 use Rattle.icu_data.specs.Final.{final_elements}
-use Rattle.icu_data.specs.DataConditions.{is_inside, has_short_rows, leads_on, has_known_members, fits_offset}
+use Rattle.icu_data.specs.DataConditions.{is_inside, is_readable, has_short_rows, leads_on, has_known_members, fits_offset}
 use Rattle.icu_data.specs.LiveConditions.{meets, first_failing}
+use Rattle.icu_data.specs.CollectedWeights.{is_stated}
+use Rattle.icu_data.specs.Walks.{after_run}
+use Rattle.icu_data.specs.inner.Visitors.{collected, collected_at, given_elements, IsRunData}
 use Rattle.icu_data.proofs.ViolationLemmas.{meets_passes}
 use Rattle.icu_data.proofs.ImplicitLemmas.{shape, lead, and_true}
 
@@ -42,7 +45,7 @@ still_below : (n m : ℕ) → nat_lt m 256 ≡ true → n ≤ m → nat_lt n 256
 still_below n m is h = grind (arith, nat_tests)
 
 -- between two characters that have a weight, each has one
-has_between : (d : Element) (a c z : ℕ) → a ≤ c → c ≤ z → IsTrue (has_offset_weight d a) → IsTrue (has_offset_weight d z) → IsTrue (has_offset_weight d c)
+pub has_between : (d : Element) (a c z : ℕ) → a ≤ c → c ≤ z → IsTrue (has_offset_weight d a) → IsTrue (has_offset_weight d z) → IsTrue (has_offset_weight d c)
 unfolding has_offset_weight
 has_between d a c z low high at_a at_z =
     let compressible : Bool = offset_compressible d in
@@ -101,7 +104,56 @@ module _ (home : Data) (d : Element) (e : ℕ) (is : kind_of e ≡ Offset) (insi
   offset_meets c fits high Leads = rw (is, final_elements, taken) refl
   offset_meets c fits high Primaries = rw (is, final_elements, taken) (and_true _ (offset_lead d c fits high))
 
-  -- the characters between two fail no condition, if both have a weight and the first one's isn't below 03
-  pub run_passes : (a z : ℕ) → IsTrue (has_offset_weight d a) → IsTrue (has_offset_weight d z) → 0x03000000 ≤ offset_weight d a → (c : ℕ) → a ≤ c → c ≤ z → first_failing home c e ≡ None
-  run_passes a z at_a at_z high c low below =
-      meets_passes home c e (offset_meets c (has_between d a c z low below at_a at_z) (high_between d a c low high))
+-- none of the characters by such data fails a condition, if the first one's weight isn't below 03
+pub run_passes : (home : Data) (first e : ℕ) (d : Element) → IsRunData home first e d → 0x03000000 ≤ offset_weight d first → (c : ℕ) → first ≤ c → c < first + 64 → first_failing home c e ≡ None
+run_passes home first e d r high c low below =
+    meets_passes home c e (offset_meets home d e r.offset r.inside r.taken c (r.fits c low below) (high_between d first c low high))
+
+-- ---- what they give
+
+module _ (home : Data) (d : Element) (e : ℕ) (is : kind_of e ≡ Offset) (inside : IsTrue (is_inside home e)) (taken : take 1 (drop (entry_index e) home.elements) ≡ d ∷ []) (c : ℕ) (fits : IsTrue (has_offset_weight d c)) where
+  readable : is_readable home c e ≡ true
+  unfolding is_readable has_known_members fits_offset
+  readable =
+      let known : has_known_members home e ≡ true = rw (is, has_known_members) refl in
+      let all : fits_offset home c e ≡ true = rw (is, fits_offset, taken) (and_true _ fits) in
+      and_from _ _ (and_from _ _ inside known) all
+
+  stated : is_stated home c e ≡ true
+  unfolding is_stated
+  stated = rw (is, is_stated) readable
+
+  finals : final_elements (homed home e) c ≡ offset_element d c ∷ []
+  unfolding final_elements
+  finals = rw (is, final_elements, taken) refl
+
+  if_so : (b : Bool) (xs ys : List Element) → b ≡ true → xs ≡ ys → (if b then xs else []) ≡ ys
+  if_so true xs ys h same = same
+  if_so false xs ys h same = cc
+
+  given : given_elements home c e ≡ offset_element d c ∷ []
+  unfolding given_elements
+  given = if_so _ _ _ stated finals
+
+pub run_given : (home : Data) (first e : ℕ) (d : Element) → IsRunData home first e d → (c : ℕ) → first ≤ c → c < first + 64 → given_elements home c e ≡ offset_element d c ∷ []
+run_given home first e d r c low below = given home d e r.offset r.inside r.taken c (r.fits c low below)
+
+-- ---- what collects, after so many of them
+
+-- one more of them
+module _ {W : Type 0} (weight : W → Element → Option ℕ) (home : Data) (first e : ℕ) where
+  abbrev pub RanTo : W × (ℕ → Bool) → W × (ℕ → Bool) → ℕ → Type 0
+  RanTo old new n = new ≡ after_run (collected_at weight) old home first e n
+
+  pub ran_none : (s : W × (ℕ → Bool)) (n : ℕ) → n ≡ 0 → RanTo s s n
+  unfolding after_run
+  ran_none s n h = rw h refl
+
+  next_run : (s : W × (ℕ → Bool)) (n m : ℕ) → m ≡ suc n → after_run (collected_at weight) s home first e m ≡ collected_at weight (after_run (collected_at weight) s home first e n) home (first + n) e
+  unfolding after_run
+  next_run s n m h = rw h refl
+
+  pub ran_on : (d : Element) → IsRunData home first e d → (old s t : W × (ℕ → Bool)) (n m c : ℕ) → m ≡ suc n → c ≡ first + n → n < 64 → RanTo old s n → t ≡ collected weight s (offset_element d c) → RanTo old t m
+  ran_on d r old s t n m c next at h ran is =
+      let given : given_elements home c e ≡ offset_element d c ∷ [] = run_given home first e d r c (omega arith) (omega arith) in
+      is ∙ sym (ap (λ xs. fold (collected weight) s xs) given) ∙ ap (λ k. collected_at weight s home k e) at ∙ ap (λ s. collected_at weight s home (first + n) e) ran ∙ sym (next_run old n m next)

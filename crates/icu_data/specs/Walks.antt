@@ -1,5 +1,5 @@
 -- A walk over the entries that are live with characters.
-use Rattle.std.specs.Prelude.{ℕ, ◌≡◌, ◌⊎◌, Bool, false, List, fold}
+use Rattle.std.specs.Prelude.{ℕ, zero, suc, ◌+◌, ◌≡◌, ◌⊎◌, Bool, false, List, fold}
 use Rattle.std.specs.Char.{IsScalar}
 use Rattle.std.specs.List.{AllByRecursion, Contains}
 use Rattle.icu_entries.specs.declared.entry.EntryKind.TheVariants.{Implicit}
@@ -14,6 +14,11 @@ after_all after v home c es = fold (λ v e. after v home c e) v es
 -- what a visitor is after the entries that are live with each of these characters, in order
 abbrev pub after_chars : {V : Type 0} → (V → Data → ℕ → ℕ → V) → Bool → V → Data → List ℕ → V
 after_chars after falls_back v home cs = fold (λ v c. after_all after v home c (live_at falls_back home c)) v cs
+
+-- what a visitor is after visits of an entry with so many characters in a row, from one on
+unfoldable pub after_run : {V : Type 0} → (V → Data → ℕ → ℕ → V) → V → Data → ℕ → ℕ → ℕ → V
+after_run after v home first e zero = v
+after_run after v home first e (suc n) = after (after_run after v home first e n) home (first + n) e
 
 -- what two visitors are after one more entry, which both of them visit
 abbrev pub after_both : {V W : Type 0} → (V → Data → ℕ → ℕ → V) → (W → Data → ℕ → ℕ → W) → V × W → Data → ℕ → ℕ → V × W

@@ -1,13 +1,13 @@
 //! A walk over all characters, block by block: what is stored once is visited once, as far as it doesn't go by the
 //! character.
-ghost use Rattle.std.specs.Prelude.{◌≡◌, ℕ, ◌+◌, ◌*◌, ◌^◌, ◌<◌, ◌||◌, ◌⊎◌, Bool, true, false, OnOk, IsTrue};
+ghost use Rattle.std.specs.Prelude.{◌≡◌, ℕ, ◌+◌, ◌*◌, ◌^◌, ◌≤◌, ◌<◌, ◌||◌, ◌⊎◌, Bool, true, false, IfSome, OnOk, IsTrue};
 ghost use Rattle.std.specs.Char.{IsScalar};
 ghost use Rattle.icu_entries.specs.Entries.{kind_of};
 ghost use Rattle.icu_data.specs.Data.{Data};
 ghost use Rattle.icu_data.specs.Live.{goes_by_character, leads_to_character, live_at};
 ghost use Rattle.icu_data.specs.StoredData.{data_of, block_in};
 ghost use Rattle.icu_data.specs.Walks.{Walked, after_all};
-ghost use Rattle.icu_data.specs.inner.BlockWalks.{is_wanted, WalkedTo, Holds, AreShared, IsPassedRun, IsState, AreStates};
+ghost use Rattle.icu_data.specs.inner.BlockWalks.{is_wanted, WalkedTo, Holds, AreShared, IsRun, IsState, AreStates};
 ghost use Rattle.icu_data.specs.inner.VisitedEntries.{IsRemembered};
 
 use crate::data::CollationData;
@@ -149,23 +149,6 @@ fn visit_char<V: Visit>(
     visit_from(visitor, home, c, entry)
 }
 
-fn visit_wanted<V: Visit>(
-    visitor: &mut V,
-    home: CollationData<'_>,
-    c: char,
-    falls_back: bool,
-    part: Part,
-) -> Result<(), V::Refusal>
-    ensures { OnOk result (WalkedTo V.after falls_back part (data_of home.entry) (V.seen visitor.old) (V.seen visitor.new) c (c + 1)) }
-{
-    let entry = home.ce32_for_char(c);
-    if is_wanted(part, home, entry) {
-        visit_char(visitor, home, c, entry, falls_back)
-    } else {
-        Ok(())
-    }
-}
-
 fn visit_code<V: Visit>(
     visitor: &mut V,
     home: CollationData<'_>,
@@ -176,7 +159,14 @@ fn visit_code<V: Visit>(
     ensures { OnOk result (WalkedTo V.after falls_back part (data_of home.entry) (V.seen visitor.old) (V.seen visitor.new) code (code + 1)) }
 {
     match char::from_u32(code) {
-        Some(c) => visit_wanted(visitor, home, c, falls_back, part),
+        Some(c) => {
+            let entry = home.ce32_for_char(c);
+            if is_wanted(part, home, entry) {
+                visit_char(visitor, home, c, entry, falls_back)
+            } else {
+                Ok(())
+            }
+        }
         None => Ok(()),
     }
 }
@@ -215,30 +205,6 @@ fn remember(home: CollationData<'_>, bits: u32, seen: &mut VisitedEntries)
 }
 
 /// Visits a character for the first time, unless its entry is one for an implicit weight or is remembered.
-fn visit_new<V: Visit>(
-    visitor: &mut V,
-    home: CollationData<'_>,
-    c: char,
-    falls_back: bool,
-    seen: &mut VisitedEntries,
-) -> Result<(), V::Refusal>
-    requires { AreShared (data_of home) seen.old }
-    ensures shared { AreShared (data_of home.entry) seen.new }
-    ensures walks { OnOk result ((start : V.Seen) → Holds V.after falls_back (data_of home.entry) seen.old start (V.seen visitor.old) c → Holds V.after falls_back (data_of home.entry) seen.new start (V.seen visitor.new) (c + 1)) }
-{
-    let bits = home.bits_for_char(c);
-    let entry = CollationElement32::new(bits);
-    if entry.is_implicit() {
-        return Ok(());
-    }
-    if seen.has(bits) {
-        return Ok(());
-    }
-    visit_char(visitor, home, c, entry, falls_back)?;
-    remember(home, bits, seen);
-    Ok(())
-}
-
 fn visit_new_code<V: Visit>(
     visitor: &mut V,
     home: CollationData<'_>,
@@ -250,10 +216,20 @@ fn visit_new_code<V: Visit>(
     ensures shared { AreShared (data_of home.entry) seen.new }
     ensures walks { OnOk result ((start : V.Seen) → Holds V.after falls_back (data_of home.entry) seen.old start (V.seen visitor.old) code → Holds V.after falls_back (data_of home.entry) seen.new start (V.seen visitor.new) (code + 1)) }
 {
-    match char::from_u32(code) {
-        Some(c) => visit_new(visitor, home, c, falls_back, seen),
-        None => Ok(()),
+    let Some(c) = char::from_u32(code) else {
+        return Ok(());
+    };
+    let bits = home.bits_for_char(c);
+    let entry = CollationElement32::new(bits);
+    if entry.is_implicit() {
+        return Ok(());
     }
+    if seen.has(bits) {
+        return Ok(());
+    }
+    visit_char(visitor, home, c, entry, falls_back)?;
+    remember(home, bits, seen);
+    Ok(())
 }
 
 /// Visits the 64 characters from this one on for the first time.
@@ -301,25 +277,53 @@ fn state_of(home: CollationData<'_>, first: u32, seen: &VisitedEntries) -> Block
     BlockState::Shared
 }
 
-/// Whether the 64 characters from this one on have one offset entry, and visits of it with them change nothing.
-fn passes_block<V: Visit>(visitor: &V, home: CollationData<'_>, first: char) -> bool
-    requires { first < 0x110000 }
-    ensures { result ≡ true → IsPassedRun V.after (V.seen visitor.now) (data_of home.entry) first }
+/// The offset entry that the 64 characters from this one on have, if they all have one.
+fn run_entry(home: CollationData<'_>, first: char) -> Option<CollationElement32>
+    ensures { IfSome result (IsRun (data_of home.entry) first) }
 {
     let bits = home.bits_for_char(first);
     let entry = CollationElement32::new(bits);
     if !is_offset(entry) {
-        return false;
+        return None;
     }
     let start = first as u32;
     for code in start..start + 64 {
         if let Some(c) = char::from_u32(code) {
             if home.bits_for_char(c) != bits {
-                return false;
+                return None;
             }
         }
     }
-    visitor.passes_run(home, first, entry)
+    Some(entry)
+}
+
+/// Visits the 64 characters from this one on, whose values were visited with others, as far as they lead to entries
+/// that go by their character: at once, where they have one offset entry and the visitor can do so.
+fn visit_again<V: Visit>(
+    visitor: &mut V,
+    home: CollationData<'_>,
+    first: char,
+    falls_back: bool,
+) -> Result<(), V::Refusal>
+    requires { (c : ℕ) → first ≤ c → c < first + 64 → IsScalar c }
+    ensures { OnOk result (WalkedTo V.after falls_back Part.ByCharacter (data_of home.entry) (V.seen visitor.old) (V.seen visitor.new) first (first + 64)) }
+{
+    if let Some(entry) = run_entry(home, first) {
+        if visitor.passes_run(home, first, entry) {
+            return Ok(());
+        }
+        if visitor.visit_run(home, first, entry)? {
+            return Ok(());
+        }
+    }
+    visit_codes(
+        visitor,
+        home,
+        first as u32,
+        64,
+        falls_back,
+        Part::ByCharacter,
+    )
 }
 
 /// Visits what the block of 64 characters shows that wasn't visited in another block of the same number.
@@ -347,8 +351,8 @@ fn visit_block<V: Visit>(
             Ok(())
         }
         BlockState::Visited => match char::from_u32(64 * index) {
-            Some(first) if passes_block(visitor, home, first) => Ok(()),
-            _ => visit_codes(visitor, home, 64 * index, 64, falls_back, Part::ByCharacter),
+            Some(first) => visit_again(visitor, home, first, falls_back),
+            None => Ok(()),
         },
         BlockState::Shared => Ok(()),
     }

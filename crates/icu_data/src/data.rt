@@ -2,9 +2,10 @@
 ghost use Rattle.std.specs.Prelude.{◌≡◌, ◌+◌, ◌<◌, ◌≤◌, length, slice_index, slice_index_or, take, drop, map, IsTrue, All, IsOk, IfOk, IfErr, true, ◌↔◌, ◌∷◌, []};
 ghost use Rattle.icu_data.specs.Contexts.{has_ascending_rows};
 ghost use Rattle.icu_entries.specs.Elements.{element_of, end_element};
-ghost use Rattle.icu_entries.specs.Entries.{kind_of, has_index, entry_index};
+ghost use Rattle.std.specs.List.{list_all};
+ghost use Rattle.icu_entries.specs.Entries.{kind_of, is_self_contained, has_index, entry_index};
 ghost use Rattle.icu_entries.specs.Weights.{ordinal_of_weight, offset_compressible, offset_ordinal};
-ghost use Rattle.icu_data.specs.Final.{final_elements};
+ghost use Rattle.icu_data.specs.Final.{listed, final_elements};
 ghost use Rattle.icu_data.specs.DataConditions.{is_inside, fits_offset};
 ghost use Rattle.icu_data.specs.LiveConditions.{IsGoodData, FailsData};
 ghost use Rattle.icu_data.specs.Data.{homed, no_context, context_of, plain_of};
@@ -191,25 +192,30 @@ impl<'d> CollationData<'d> {
         self.offset_data(entry).offset_element(c)
     }
 
-    #[tactic(auto, unfolding(crate::specs::StoredData::data_of))]
-    pub(crate) fn context_count(self) -> usize
-        ensures { result ≡ length (data_of self.entry).contexts }
+    /// Whether what the entry refers to is there.
+    #[tactic(auto, unfolding(crate::specs::StoredData::data_of, crate::specs::DataConditions::is_inside))]
+    pub(crate) fn is_inside(self, entry: CollationElement32) -> bool
+        ensures { result ≡ is_inside (data_of self.entry) entry }
     {
-        self.contexts.len()
+        match entry.kind() {
+            EntryKind::Expansion32 => entry.is_listed(self.ce32s.len()),
+            EntryKind::Expansion => entry.is_listed(self.ces.len()),
+            EntryKind::Prefix | EntryKind::Contraction => entry.index() < self.contexts.len(),
+            EntryKind::Digit => entry.index() < self.ce32s.len(),
+            EntryKind::Offset => entry.index() < self.ces.len(),
+            _ => true,
+        }
     }
 
+    /// Whether the members of the list that an entry refers to, as far as the table goes, have one element each.
     #[tactic(auto, unfolding(crate::specs::StoredData::data_of))]
-    pub(crate) fn entries(self) -> &'d [u32]
-        ensures { result.now ≡ (data_of self.entry).entries }
+    pub(crate) fn members_are_self_contained(self, entry: CollationElement32) -> bool
+        requires { kind_of entry ≡ EntryKind.Expansion32 }
+        ensures { result ≡ list_all is_self_contained (listed entry (data_of self.entry).entries) }
     {
-        self.ce32s
-    }
-
-    #[tactic(auto, unfolding(crate::specs::StoredData::data_of))]
-    pub(crate) fn element_count(self) -> usize
-        ensures { result ≡ length (data_of self.entry).elements }
-    {
-        self.ces.len()
+        self.ce32s.iter().skip(entry.index()).take(entry.len()).all(
+            |member| CollationElement32::new(*member).is_self_contained(),
+        )
     }
 
     /// The plain entry of a digit entry, or 0 where the list of entries is too short.

@@ -1,9 +1,9 @@
 //! The conditions on one entry of a root or a tailoring.
 ghost use Rattle.std.specs.Prelude.{◌≡◌, Bool, IsTrue};
 ghost use Rattle.std.specs.List.{list_all};
-ghost use Rattle.icu_entries.specs.Entries.{is_self_contained, kind_of};
+ghost use Rattle.icu_entries.specs.Entries.{kind_of};
 ghost use Rattle.icu_data.specs.Data.{homed};
-ghost use Rattle.icu_data.specs.Final.{listed, final_elements};
+ghost use Rattle.icu_data.specs.Final.{final_elements};
 ghost use Rattle.icu_entries.specs.ElementConditions.{element_meets};
 ghost use Rattle.icu_data.specs.inner.Visitors.{all_meet};
 ghost use Rattle.icu_data.specs.LiveConditions.{first_failing};
@@ -18,21 +18,6 @@ use icu_entries::{CollationElement, CollationElement32, EntryKind};
 use std::convert::Infallible;
 
 impl<'d> CollationData<'d> {
-    /// Whether what the entry refers to is there.
-    #[tactic(auto, unfolding(crate::specs::DataConditions::is_inside))]
-    pub(crate) fn is_inside(self, entry: CollationElement32) -> bool
-        ensures { result ≡ is_inside (data_of self.entry) entry }
-    {
-        match entry.kind() {
-            EntryKind::Expansion32 => entry.is_listed(self.entries().len()),
-            EntryKind::Expansion => entry.is_listed(self.element_count()),
-            EntryKind::Prefix | EntryKind::Contraction => entry.index() < self.context_count(),
-            EntryKind::Digit => entry.index() < self.entries().len(),
-            EntryKind::Offset => entry.index() < self.element_count(),
-            _ => true,
-        }
-    }
-
     /// Whether the rows of a prefix have one character or two.
     #[tactic(auto, unfolding(crate::specs::DataConditions::has_short_rows))]
     pub(crate) fn has_short_rows(self, entry: CollationElement32) -> bool
@@ -66,17 +51,6 @@ impl<'d> CollationData<'d> {
             EntryKind::Expansion32 => self.members_are_self_contained(entry),
             _ => true,
         }
-    }
-
-    pub(crate) fn members_are_self_contained(self, entry: CollationElement32) -> bool
-        requires { kind_of entry ≡ EntryKind.Expansion32 }
-        ensures { result ≡ list_all is_self_contained (listed entry (data_of self.entry).entries) }
-    {
-        self.entries()
-            .iter()
-            .skip(entry.index())
-            .take(entry.len())
-            .all(|member| CollationElement32::new(*member).is_self_contained())
     }
 
     /// Whether a character has a weight by the data of an offset entry.

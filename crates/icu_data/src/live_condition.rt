@@ -1,11 +1,13 @@
 //! The conditions on the entries that are live in a root or a tailoring, as a list.
-ghost use Rattle.std.specs.Prelude.{◌≡◌, ◌<◌};
+ghost use Rattle.std.specs.Prelude.{◌≡◌, ◌<◌, IfSome};
+ghost use Rattle.icu_data.specs.StoredData.{data_of};
+ghost use Rattle.icu_data.specs.inner.Visitors.{IsRunData};
 ghost use Rattle.icu_data.specs.LiveConditions.{kind_for, first_failing};
 ghost use Rattle.icu_data.specs.Violations.{condition_rank};
 
 use crate::data::CollationData;
 use crate::violation::{Judge, Ranked};
-use icu_entries::{CollationElement32, DataErrorKind, EntryKind};
+use icu_entries::{CollationElement, CollationElement32, DataErrorKind, EntryKind};
 
 /// A condition on an entry that is live in a root or a tailoring, in the order in which they are reported.
 #[derive(Debug, Clone, Copy, PartialEq, Eq)]
@@ -61,6 +63,30 @@ impl Ranked for LiveCondition {
     }
 }
 
+/// The data of an offset entry by which each of the 64 characters from one on has a weight. The weights rise, so the
+/// first and the last character show what holds of each.
+pub(crate) fn run_data(
+    home: CollationData<'_>,
+    first: char,
+    entry: CollationElement32,
+) -> Option<CollationElement>
+    ensures { IfSome result (IsRunData (data_of home.entry) first entry) }
+{
+    match (entry.kind(), char::from_u32(first as u32 + 63)) {
+        (EntryKind::Offset, Some(last)) if home.is_inside(entry) => {
+            let data = home.offset_data(entry);
+            if !data.has_offset_weight(first) {
+                return None;
+            }
+            if !data.has_offset_weight(last) {
+                return None;
+            }
+            Some(data)
+        }
+        _ => None,
+    }
+}
+
 /// The judge of a root or a tailoring alone: the first condition that an entry fails.
 #[derive(Debug, Clone, Copy)]
 pub struct EntryJudge;
@@ -87,23 +113,11 @@ impl Judge for EntryJudge {
         true
     }
 
-    /// The weights of the characters rise, so the first and the last show what holds of each.
+    /// The weights of the characters rise, so the first one shows that none is too low.
     fn passes_run(&self, home: CollationData<'_>, first: char, entry: CollationElement32) -> bool {
-        match (entry.kind(), char::from_u32(first as u32 + 63)) {
-            (EntryKind::Offset, Some(last)) if home.is_inside(entry) => {
-                let data = home.offset_data(entry);
-                if !data.has_offset_weight(first) {
-                    return false;
-                }
-                if !data.has_offset_weight(last) {
-                    return false;
-                }
-                if data.offset_element(first).primary() < 0x0300_0000 {
-                    return false;
-                }
-                true
-            }
-            _ => false,
+        match run_data(home, first, entry) {
+            Some(data) => data.offset_element(first).primary() >= 0x0300_0000,
+            None => false,
         }
     }
 }

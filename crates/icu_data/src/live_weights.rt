@@ -7,11 +7,12 @@ ghost use Rattle.icu_data.specs.Live.{live_from};
 ghost use Rattle.icu_data.specs.StoredData.{data_of};
 ghost use Rattle.icu_data.specs.DataConditions.{is_readable};
 ghost use Rattle.icu_data.specs.CollectedWeights.{is_stated, IsWeightAmong, IsLiveWeight};
-ghost use Rattle.icu_data.specs.inner.Visitors.{is_last, holds, and_weight, collected, collected_at};
+ghost use Rattle.icu_data.specs.inner.Visitors.{holds, and_weight, collected, collected_at};
 
 use crate::block_walk::{goes_by_character, visit_chars};
 use crate::data::CollationData;
 use crate::element_walk::{VisitElement, visit_elements};
+use crate::live_condition::run_data;
 use crate::walk::{Visit, visit_from};
 use icu_entries::{CollationElement, CollationElement32, EntryKind};
 use std::alloc::AllocError;
@@ -32,16 +33,6 @@ pub trait Weigh {
         ensures { result ≡ false → (p : ℕ) → weight self.now (of_primary p) ≡ None }
     {
         true
-    }
-}
-
-#[tactic(auto, unfolding(crate::specs::inner::Visitors::is_last))]
-fn is_last(weights: &[u32], weight: u32) -> bool
-    ensures { result ≡ is_last weights.now weight }
-{
-    match weights.last() {
-        Some(last) => *last == weight,
-        None => false,
     }
 }
 
@@ -74,8 +65,10 @@ fn make_room(weights: &mut Vec<u32>) -> Result<(), AllocError>
 fn add_weight(weights: &mut Vec<u32>, weight: u32) -> Result<(), AllocError>
     ensures { OnOk result (holds weights.new.items ≡ and_weight (holds weights.old.items) weight) }
 {
-    if is_last(weights, weight) {
-        return Ok(());
+    if let Some(last) = weights.last() {
+        if *last == weight {
+            return Ok(());
+        }
     }
     make_room(weights)?;
     weights.push(weight)?;
@@ -174,6 +167,24 @@ impl<'w, W: Weigh> Visit for Collector<'w, W> {
             return false;
         }
         goes_by_character(entry)
+    }
+
+    fn visit_run(
+        &mut self,
+        home: CollationData<'_>,
+        first: char,
+        entry: CollationElement32,
+    ) -> Result<bool, AllocError> {
+        let Some(data) = run_data(home, first, entry) else {
+            return Ok(false);
+        };
+        let start = first as u32;
+        for code in start..start + 64 {
+            if let Some(c) = char::from_u32(code) {
+                VisitElement::visit(self, data.offset_element(c))?;
+            }
+        }
+        Ok(true)
     }
 }
 

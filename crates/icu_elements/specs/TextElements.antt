@@ -13,7 +13,7 @@ use Rattle.icu_data.specs.Final.{final_elements}
 use Rattle.icu_matches.specs.Matches.{Match, match_of}
 
 -- How a text is read: the tables, the lead byte of numbers where digits are read as numbers, and whether U+0307 before
--- an diacritic above is silent, as in Lithuanian.
+-- a diacritic above is silent, as in Lithuanian.
 pub record Reading : Type 0 where
   pub tables : Tables
   pub numeric : Option ℕ

@@ -60,8 +60,33 @@ fn short_weight(text: &str) -> Result<u16, Expected> {
     Ok((weight(text, 2)? >> 16) as u16)
 }
 
-/// The element with the primary weight of an ideograph, by the word behind `U+`.
-fn of_ideograph(word: &str, secondary: u16, tertiary: u16) -> Result<FractionalElement, Expected> {
+/// The element with a primary weight and the two weights behind it.
+fn of_weights(
+    primary: &str,
+    secondary: Option<&str>,
+    tertiary: Option<&str>,
+) -> Result<FractionalElement, Expected> {
+    match (secondary, tertiary) {
+        (Some(secondary), Some(tertiary)) => Ok(FractionalElement {
+            primary: Primary::Weight(weight(primary, 4)?),
+            secondary: short_weight(secondary)?,
+            tertiary: short_weight(tertiary)?,
+        }),
+        _ => Err(Expected::Element),
+    }
+}
+
+/// The element with the primary weight of an ideograph, by the word behind `U+` and the at most two weights behind it.
+fn of_ideograph(
+    word: &str,
+    second: Option<&str>,
+    third: Option<&str>,
+) -> Result<FractionalElement, Expected> {
+    let (secondary, tertiary) = match (second, third) {
+        (None, _) => (COMMON_WEIGHT, COMMON_WEIGHT),
+        (Some(tertiary), None) => (COMMON_WEIGHT, short_weight(tertiary)?),
+        (Some(secondary), Some(tertiary)) => (short_weight(secondary)?, short_weight(tertiary)?),
+    };
     match character(word) {
         Some(ideograph) => Ok(FractionalElement {
             primary: Primary::OfIdeograph(ideograph),
@@ -81,20 +106,9 @@ impl FractionalElement {
         if parts.next().is_some() {
             return Err(Expected::Element);
         }
-        match (first.strip_prefix("U+"), second, third) {
-            (None, Some(second), Some(third)) => Ok(FractionalElement {
-                primary: Primary::Weight(weight(first, 4)?),
-                secondary: short_weight(second)?,
-                tertiary: short_weight(third)?,
-            }),
-            (None, _, _) => Err(Expected::Element),
-            (Some(word), None, _) => of_ideograph(word, COMMON_WEIGHT, COMMON_WEIGHT),
-            (Some(word), Some(tertiary), None) => {
-                of_ideograph(word, COMMON_WEIGHT, short_weight(tertiary)?)
-            }
-            (Some(word), Some(secondary), Some(tertiary)) => {
-                of_ideograph(word, short_weight(secondary)?, short_weight(tertiary)?)
-            }
+        match first.strip_prefix("U+") {
+            Some(word) => of_ideograph(word, second, third),
+            None => of_weights(first, second, third),
         }
     }
 

@@ -76,7 +76,11 @@ fn printed(alloc: Global, elements: &[CollationElement]) -> Option<String> {
 }
 
 /// Appends an element and how often it stands there, where that is more than once.
-fn push_element(printed: &mut String, element: CollationElement, count: u64) -> Option<()> {
+pub(crate) fn push_element(
+    printed: &mut String,
+    element: CollationElement,
+    count: u64,
+) -> Option<()> {
     if !printed.is_empty() {
         printed.push(' ').ok()?;
     }

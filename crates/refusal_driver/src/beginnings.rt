@@ -1,7 +1,7 @@
 //! Texts that are the same, and texts with a common beginning, for which nothing is allocated.
-use crate::collators::stop_of;
+use crate::collators::fault_of;
 use crate::comparisons::{Texts, print_order};
-use crate::stop::{Stop, twice};
+use crate::fault::{Fault, twice};
 use icu_comparison::Collator;
 use icu_mini::mini::Mini;
 use icu_options::{CollationNumericOrdering, CollatorOptions, CollatorPreferences};
@@ -15,7 +15,7 @@ fn compare_by_each(
     collator: &Collator,
     bytes: [&[u8]; 2],
     units: [&[u16]; 2],
-) -> Result<(), Stop> {
+) -> Result<(), Fault> {
     if let (Ok(left), Ok(right)) = (str::from_utf8(bytes[0]), str::from_utf8(bytes[1])) {
         print_order(rt, collator, Texts::Characters(left, right))?;
     }
@@ -26,7 +26,7 @@ fn compare_by_each(
 }
 
 /// Compares texts whose common beginning ends after as many digits.
-fn compare_ends(rt: &HostRuntime, collator: &Collator, common: usize) -> Result<(), Stop> {
+fn compare_ends(rt: &HostRuntime, collator: &Collator, common: usize) -> Result<(), Fault> {
     let mut left = [0x31u8; LEN + 1];
     let mut right = [0x31u8; LEN + 1];
     let mut left_units = [0x31u16; LEN + 1];
@@ -45,25 +45,25 @@ fn compare_ends(rt: &HostRuntime, collator: &Collator, common: usize) -> Result<
 }
 
 /// Compares texts that are the same.
-fn compare_same(rt: &HostRuntime, collator: &Collator) -> Result<(), Stop> {
+fn compare_same(rt: &HostRuntime, collator: &Collator) -> Result<(), Fault> {
     let bytes = [0x31u8; LEN];
     let units = [0x31u16; LEN];
     compare_by_each(rt, collator, [&bytes, &bytes], [&units, &units])
 }
 
 /// A collator by which digits are read as numbers: to read a number something is allocated.
-fn number_collator(rt: &HostRuntime, mini: &Mini) -> Result<Collator, Stop> {
+fn number_collator(rt: &HostRuntime, mini: &Mini) -> Result<Collator, Fault> {
     let preferences = CollatorPreferences {
         numeric_ordering: Some(CollationNumericOrdering::True),
         ..CollatorPreferences::default()
     };
     let options = CollatorOptions::default();
-    Collator::try_new_unstable(rt.alloc(), &mini.provider(), preferences, options).map_err(stop_of)
+    Collator::try_new_unstable(rt.alloc(), &mini.provider(), preferences, options).map_err(fault_of)
 }
 
 /// Runs one of the parts whose numbers of allocations are compared: a collator alone, texts that are the same, short
 /// texts, and the same behind a long common beginning. None of them is run with the other parts.
-pub(crate) fn run(rt: &HostRuntime, part: Option<&str>) -> Result<(), Stop> {
+pub(crate) fn run(rt: &HostRuntime, part: Option<&str>) -> Result<(), Fault> {
     let Some(part) = part else {
         return Ok(());
     };

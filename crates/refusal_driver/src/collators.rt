@@ -1,5 +1,5 @@
 //! Tables and collators.
-use crate::stop::{Stop, twice};
+use crate::fault::{Fault, twice};
 use icu_checks::CheckedTables;
 use icu_comparison::Collator;
 use icu_entries::{DataError, DataErrorKind, DataTable};
@@ -27,10 +27,10 @@ fn may_ask_again(rt: &HostRuntime, refusal: DataError) -> bool {
 }
 
 /// What a refusal comes to.
-pub(crate) fn stop_of(refusal: DataError) -> Stop {
+pub(crate) fn fault_of(refusal: DataError) -> Fault {
     match refusal.kind {
-        DataErrorKind::NoMemory => Stop::NoMemory,
-        _ => Stop::Failed,
+        DataErrorKind::NoMemory => Fault::NoMemory,
+        _ => Fault::Failed,
     }
 }
 
@@ -52,13 +52,13 @@ pub(crate) fn collator(
     rt: &HostRuntime,
     mini: &Mini,
     strength: Strength,
-) -> Result<Collator, Stop> {
+) -> Result<Collator, Fault> {
     match try_collator(rt.alloc(), mini, strength) {
         Ok(collator) => Ok(collator),
         Err(refusal) if may_ask_again(rt, refusal) => {
-            try_collator(rt.alloc(), mini, strength).map_err(stop_of)
+            try_collator(rt.alloc(), mini, strength).map_err(fault_of)
         }
-        Err(refusal) => Err(stop_of(refusal)),
+        Err(refusal) => Err(fault_of(refusal)),
     }
 }
 
@@ -67,17 +67,17 @@ fn try_tables(alloc: Global, mini: &Mini) -> Result<CheckedTables, DataError> {
 }
 
 /// The tables of a collator, checked.
-fn tables(rt: &HostRuntime, mini: &Mini) -> Result<CheckedTables, Stop> {
+fn tables(rt: &HostRuntime, mini: &Mini) -> Result<CheckedTables, Fault> {
     match try_tables(rt.alloc(), mini) {
         Ok(tables) => Ok(tables),
         Err(refusal) if may_ask_again(rt, refusal) => {
-            try_tables(rt.alloc(), mini).map_err(stop_of)
+            try_tables(rt.alloc(), mini).map_err(fault_of)
         }
-        Err(refusal) => Err(stop_of(refusal)),
+        Err(refusal) => Err(fault_of(refusal)),
     }
 }
 
-fn print_parts(rt: &HostRuntime, name: &str, mini: &Mini) -> Result<(), Stop> {
+fn print_parts(rt: &HostRuntime, name: &str, mini: &Mini) -> Result<(), Fault> {
     let tables = tables(rt, mini)?;
     let collator = collator(rt, mini, Strength::Primary)?;
     let is_primary = collator.as_borrowed().resolved_options().strength == Strength::Primary;
@@ -92,7 +92,7 @@ fn print_parts(rt: &HostRuntime, name: &str, mini: &Mini) -> Result<(), Stop> {
 }
 
 /// Checks and copies tables, and makes collators of them.
-pub(crate) fn run(rt: &HostRuntime) -> Result<(), Stop> {
+pub(crate) fn run(rt: &HostRuntime) -> Result<(), Fault> {
     print_parts(rt, "Mini", &twice(|| Mini::new(rt.alloc()))?)?;
     print_parts(
         rt,

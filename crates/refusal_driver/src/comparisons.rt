@@ -1,6 +1,6 @@
 //! Comparisons, in each encoding.
 use crate::collators::collator;
-use crate::stop::{Stop, twice};
+use crate::fault::{Fault, twice};
 use crate::texts::{long_text, long_units};
 use icu_comparison::Collator;
 use icu_mini::mini::Mini;
@@ -43,13 +43,13 @@ pub(crate) fn print_order(
     rt: &HostRuntime,
     collator: &Collator,
     texts: Texts<'_>,
-) -> Result<(), Stop> {
+) -> Result<(), Fault> {
     let order = twice(|| texts.order(collator))?;
     println!(rt; "{}", sign(order))?;
     Ok(())
 }
 
-fn compare_short(rt: &HostRuntime, collator: &Collator) -> Result<(), Stop> {
+fn compare_short(rt: &HostRuntime, collator: &Collator) -> Result<(), Fault> {
     for texts in [
         Texts::Characters("ab", "aB"),
         Texts::Characters("á", "a\u{301}"),
@@ -65,7 +65,7 @@ fn compare_short(rt: &HostRuntime, collator: &Collator) -> Result<(), Stop> {
     Ok(())
 }
 
-fn compare_long(rt: &HostRuntime, collator: &Collator) -> Result<(), Stop> {
+fn compare_long(rt: &HostRuntime, collator: &Collator) -> Result<(), Fault> {
     let left = twice(|| long_text(rt.alloc(), "e\u{301}", "b"))?;
     let right = twice(|| long_text(rt.alloc(), "é", "a"))?;
     let (left, right) = (left.as_str(), right.as_str());
@@ -73,7 +73,7 @@ fn compare_long(rt: &HostRuntime, collator: &Collator) -> Result<(), Stop> {
     print_order(rt, collator, Texts::Utf8(left.as_bytes(), right.as_bytes()))
 }
 
-fn compare_long_units(rt: &HostRuntime, collator: &Collator) -> Result<(), Stop> {
+fn compare_long_units(rt: &HostRuntime, collator: &Collator) -> Result<(), Fault> {
     let bytes = twice(|| long_units(rt.alloc(), &[0xE9], 0x62))?;
     let other = twice(|| long_units(rt.alloc(), &[0xE9], 0x61))?;
     let units = twice(|| long_units(rt.alloc(), &[0x65, 0x301], 0x61))?;
@@ -86,7 +86,7 @@ fn compare_long_units(rt: &HostRuntime, collator: &Collator) -> Result<(), Stop>
 }
 
 /// Compares texts, short and long.
-pub(crate) fn run(rt: &HostRuntime) -> Result<(), Stop> {
+pub(crate) fn run(rt: &HostRuntime) -> Result<(), Fault> {
     let mini = twice(|| Mini::new(rt.alloc()))?;
     let collator = collator(rt, &mini, Strength::Tertiary)?;
     compare_short(rt, &collator)?;

@@ -1,6 +1,6 @@
 //! The collation elements of texts, and the weights of numbers.
 use crate::collators::collator;
-use crate::stop::{Stop, twice};
+use crate::fault::{Fault, twice};
 use icu_elements::{CollationElements, ElementTables, all_elements};
 use icu_mini::mini::Mini;
 use icu_numbers::digit_run_weights;
@@ -23,7 +23,7 @@ fn count(tables: ElementTables<'_>, text: &str) -> Result<usize, AllocError> {
 }
 
 /// Reads a text with a contraction and a mark that it passes over.
-fn run_contraction(rt: &HostRuntime) -> Result<(), Stop> {
+fn run_contraction(rt: &HostRuntime) -> Result<(), Fault> {
     let mini = twice(|| Mini::with_a_ring(rt.alloc()))?;
     let collator = collator(rt, &mini, Strength::Tertiary)?;
     let tables = collator.as_borrowed().tables();
@@ -34,7 +34,7 @@ fn run_contraction(rt: &HostRuntime) -> Result<(), Stop> {
 }
 
 /// Reads the elements of texts.
-pub(crate) fn run(rt: &HostRuntime) -> Result<(), Stop> {
+pub(crate) fn run(rt: &HostRuntime) -> Result<(), Fault> {
     let mini = twice(|| Mini::new(rt.alloc()))?;
     let collator = collator(rt, &mini, Strength::Tertiary)?;
     let tables = collator.as_borrowed().tables();

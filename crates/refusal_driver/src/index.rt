@@ -1,6 +1,6 @@
 //! An index of names.
 use crate::collators::collator;
-use crate::stop::{Stop, twice};
+use crate::fault::{Fault, twice};
 use icu_index::NameIndex;
 use icu_mini::mini::Mini;
 use icu_options::Strength;
@@ -20,14 +20,14 @@ fn listing(alloc: Global, index: &NameIndex<'_>) -> Result<String, AllocError> {
 }
 
 /// Puts a name in, once more where an allocation failed. A refused call leaves the index as it was.
-fn insert(rt: &HostRuntime, index: &mut NameIndex<'_>, name: &str) -> Result<(), Stop> {
+fn insert(rt: &HostRuntime, index: &mut NameIndex<'_>, name: &str) -> Result<(), Fault> {
     let before = twice(|| listing(rt.alloc(), index))?;
     if index.insert(name.as_bytes()).is_ok() {
         return Ok(());
     }
     let after = twice(|| listing(rt.alloc(), index))?;
     if after.as_str() != before.as_str() {
-        return Err(Stop::Failed);
+        return Err(Fault::Failed);
     }
     Ok(index.insert(name.as_bytes())?)
 }
@@ -37,7 +37,7 @@ fn equals(index: &NameIndex<'_>, name: &str) -> Result<usize, AllocError> {
 }
 
 /// Puts names into an index and lists them.
-pub(crate) fn run(rt: &HostRuntime) -> Result<(), Stop> {
+pub(crate) fn run(rt: &HostRuntime) -> Result<(), Fault> {
     let mini = twice(|| Mini::new(rt.alloc()))?;
     let collator = collator(rt, &mini, Strength::Tertiary)?;
     let mut index = NameIndex::new(rt.alloc(), &collator);

@@ -1,5 +1,5 @@
 //! Keys into lists that hold a byte.
-use crate::stop::{Stop, twice};
+use crate::fault::{Fault, twice};
 use icu_comparison::Collator;
 use icu_keys::CollationKeySink;
 use smallvec::SmallVec;
@@ -93,7 +93,7 @@ fn deque(alloc: Global, collator: &Collator, text: &str, key: &[u8]) -> Result<b
 }
 
 /// Writes the key of a text into each kind of list, behind a byte that the list holds.
-pub(crate) fn say_kept(rt: &HostRuntime, collator: &Collator, text: &str) -> Result<(), Stop> {
+pub(crate) fn say_kept(rt: &HostRuntime, collator: &Collator, text: &str) -> Result<(), Fault> {
     let alloc = rt.alloc();
     let key = twice(|| {
         let mut key = Vec::new(alloc);

@@ -1,7 +1,7 @@
 //! Sort keys of texts, in each encoding that keys are written of.
 use crate::collators::collator;
+use crate::fault::{Fault, twice};
 use crate::kept::say_kept;
-use crate::stop::{Stop, twice};
 use crate::texts::{long_text, long_units};
 use icu_comparison::Collator;
 use icu_mini::mini::Mini;
@@ -32,13 +32,13 @@ fn key_length(alloc: Global, collator: &Collator, text: Text<'_>) -> Result<usiz
 }
 
 /// Writes the key of a text to a vector, and says how long it is.
-fn say_length(rt: &HostRuntime, collator: &Collator, text: Text<'_>) -> Result<(), Stop> {
+fn say_length(rt: &HostRuntime, collator: &Collator, text: Text<'_>) -> Result<(), Fault> {
     let length = twice(|| key_length(rt.alloc(), collator, text))?;
     println!(rt; "{length} bytes")?;
     Ok(())
 }
 
-fn say_short_lengths(rt: &HostRuntime, collator: &Collator) -> Result<(), Stop> {
+fn say_short_lengths(rt: &HostRuntime, collator: &Collator) -> Result<(), Fault> {
     for text in [
         Text::Characters(""),
         Text::Characters("áAbc"),
@@ -51,7 +51,7 @@ fn say_short_lengths(rt: &HostRuntime, collator: &Collator) -> Result<(), Stop> 
 }
 
 /// Writes keys of all levels, short ones and long ones.
-pub(crate) fn run(rt: &HostRuntime) -> Result<(), Stop> {
+pub(crate) fn run(rt: &HostRuntime) -> Result<(), Fault> {
     let mini = twice(|| Mini::new(rt.alloc()))?;
     let collator = collator(rt, &mini, Strength::Identical)?;
     say_short_lengths(rt, &collator)?;

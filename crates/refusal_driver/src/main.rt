@@ -9,17 +9,17 @@ mod beginnings;
 mod collators;
 mod comparisons;
 mod elements;
+mod fault;
 mod index;
 mod kept;
 mod keys;
 mod names;
 mod sinks;
-mod stop;
 mod texts;
 
+use fault::Fault;
 use std::process::ExitCode;
 use std::{env, io};
-use stop::Stop;
 
 /// The word after the program's name.
 fn part(rt: &HostRuntime) -> io::Result<Option<String>> {
@@ -29,7 +29,7 @@ fn part(rt: &HostRuntime) -> io::Result<Option<String>> {
     Ok(words.skip(1).next())
 }
 
-fn run(rt: &HostRuntime) -> Result<(), Stop> {
+fn run(rt: &HostRuntime) -> Result<(), Fault> {
     let part = part(rt)?;
     let wants = |name: &str| match &part {
         Some(part) => part.as_str() == name,
@@ -61,8 +61,8 @@ fn run(rt: &HostRuntime) -> Result<(), Stop> {
 fn main(rt: HostRuntime) -> ExitCode {
     match run(&rt) {
         Ok(()) => ExitCode::SUCCESS,
-        Err(stop) => {
-            let _ = eprintln!(rt; "{}", stop.line());
+        Err(fault) => {
+            let _ = eprintln!(rt; "{}", fault.line());
             ExitCode::FAILURE
         }
     }

@@ -1,7 +1,7 @@
 //! Names with accents and in Hangul: nothing is allocated to compare them, nor for their sort keys.
 use crate::collators::collator;
 use crate::comparisons::{Texts, print_order};
-use crate::stop::{Stop, twice};
+use crate::fault::{Fault, twice};
 use icu_comparison::Collator;
 use icu_mini::mini::Mini;
 use icu_options::Strength;
@@ -25,7 +25,7 @@ const NAMES: [(&str, &str); 6] = [
     ("\u{D55C}\u{AD6D}", "\u{D55C}\u{AE00}"),
 ];
 
-fn compare_names(rt: &HostRuntime, collator: &Collator) -> Result<(), Stop> {
+fn compare_names(rt: &HostRuntime, collator: &Collator) -> Result<(), Fault> {
     let (left, right) = FIRST_LETTERS;
     print_order(rt, collator, Texts::Characters(left, right))?;
     for (left, right) in NAMES {
@@ -35,12 +35,12 @@ fn compare_names(rt: &HostRuntime, collator: &Collator) -> Result<(), Stop> {
 }
 
 /// Writes the keys of the names, each into the same room.
-fn write_keys(rt: &HostRuntime, collator: &Collator) -> Result<(), Stop> {
+fn write_keys(rt: &HostRuntime, collator: &Collator) -> Result<(), Fault> {
     let mut room = [0u8; 100];
     for (name, _) in NAMES {
         let mut sink = &mut room[..];
         let Ok(length) = collator.as_borrowed().write_sort_key_to(name, &mut sink) else {
-            return Err(Stop::Failed);
+            return Err(Fault::Failed);
         };
         println!(rt; "{length} bytes")?;
     }
@@ -48,7 +48,7 @@ fn write_keys(rt: &HostRuntime, collator: &Collator) -> Result<(), Stop> {
 }
 
 /// Compares texts that are read with what follows them: to hold that, something is allocated.
-fn compare_pieces(rt: &HostRuntime, collator: &Collator) -> Result<(), Stop> {
+fn compare_pieces(rt: &HostRuntime, collator: &Collator) -> Result<(), Fault> {
     print_order(
         rt,
         collator,
@@ -58,7 +58,7 @@ fn compare_pieces(rt: &HostRuntime, collator: &Collator) -> Result<(), Stop> {
 
 /// Runs one of the parts whose numbers of allocations are compared: a collator alone, names, their keys, and texts that
 /// are read with what follows them. None of them is run with the other parts.
-pub(crate) fn run(rt: &HostRuntime, part: Option<&str>) -> Result<(), Stop> {
+pub(crate) fn run(rt: &HostRuntime, part: Option<&str>) -> Result<(), Fault> {
     let Some(part) = part else {
         return Ok(());
     };

@@ -1,5 +1,5 @@
 //! Lists as sinks of sort keys.
-use crate::stop::Stop;
+use crate::fault::Fault;
 use icu_keys::CollationKeySink;
 use smallvec::SmallVec;
 use std::alloc::{AllocError, Global};
@@ -69,7 +69,7 @@ fn deque(alloc: Global) -> Result<bool, AllocError> {
 }
 
 /// Writes to each kind of list.
-pub(crate) fn run(rt: &HostRuntime) -> Result<(), Stop> {
+pub(crate) fn run(rt: &HostRuntime) -> Result<(), Fault> {
     println!(rt; "vector: {}", vector(rt.alloc())?)?;
     println!(rt; "inline list: {}", inline_list(rt.alloc())?)?;
     println!(rt; "deque: {}", deque(rt.alloc())?)?;

@@ -16,12 +16,9 @@ use std::io;
 use std::io::Write;
 use std::process::ExitCode;
 
-#[cfg(test)]
-mod public_names;
-
 /// Why the names aren't printed in order.
 #[derive(Debug, Drop)]
-enum Refusal {
+enum Fault {
     /// Memory ran out. Nothing was changed, so the same call may be made again once there is more.
     NoMemory,
     /// The tables don't meet a condition, which the error names: they have to be mended, and no further call helps.
@@ -30,29 +27,29 @@ enum Refusal {
     Output(io::Error),
 }
 
-impl From<AllocError> for Refusal {
-    fn from(_: AllocError) -> Refusal {
-        Refusal::NoMemory
+impl From<AllocError> for Fault {
+    fn from(_: AllocError) -> Fault {
+        Fault::NoMemory
     }
 }
 
-impl From<DataError> for Refusal {
-    fn from(error: DataError) -> Refusal {
+impl From<DataError> for Fault {
+    fn from(error: DataError) -> Fault {
         match error.kind {
-            DataErrorKind::NoMemory => Refusal::NoMemory,
-            _ => Refusal::Tables(error),
+            DataErrorKind::NoMemory => Fault::NoMemory,
+            _ => Fault::Tables(error),
         }
     }
 }
 
-impl From<io::Error> for Refusal {
-    fn from(error: io::Error) -> Refusal {
-        Refusal::Output(error)
+impl From<io::Error> for Fault {
+    fn from(error: io::Error) -> Fault {
+        Fault::Output(error)
     }
 }
 
 /// A collator by Mini's tables. The provider may be of the caller's own: its tables are checked, and copied.
-fn collator(alloc: Global) -> Result<Collator, Refusal> {
+fn collator(alloc: Global) -> Result<Collator, Fault> {
     let mini = Mini::new(alloc)?;
     let options = CollatorOptions {
         strength: Some(Strength::Tertiary),
@@ -82,7 +79,7 @@ fn index<'c>(
     Ok(index)
 }
 
-fn print_names(rt: &HostRuntime) -> Result<(), Refusal> {
+fn print_names(rt: &HostRuntime) -> Result<(), Fault> {
     let collator = collator(rt.alloc())?;
     let names = ["Zoë", "Émile", "emil", "Zoe", "Bo", "Emil"];
     let mut output = rt.stdout();

@@ -2,7 +2,7 @@
 use Rattle.std.specs.Prelude.{ℕ, ◌+◌, ◌*◌}
 use Rattle.icu_checks.specs.declared.violation.Violation.{Violation}
 use Rattle.icu_provider.specs.CollatorTables.{CollatorTables}
-use Rattle.icu_checks.specs.ConditionGroups.{group_of, group_index}
+use Rattle.icu_checks.specs.inner.ConditionGroups.{group_of, group_index}
 use Rattle.icu_checks.specs.GoodTables.{table_rank, MeetsBy}
 
 -- by the group of its condition, then by table

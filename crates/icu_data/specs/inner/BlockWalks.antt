@@ -50,13 +50,10 @@ pub record Holds {V : Type 0} (after : V → Data → ℕ → ℕ → V) (falls_
 abbrev pub IsShared : Data → ℕ → Type 0
 IsShared home first = (c : ℕ) → first ≤ c → c < first + 64 → IsScalar c → is_wanted ByCharacter home (home.value c) ≡ false
 
--- the 64 code points from this one on, as far as they are characters, have one offset entry, whose visits with them
--- change nothing
-pub record IsPassedRun {V : Type 0} (after : V → Data → ℕ → ℕ → V) (v : V) (home : Data) (first : ℕ) : Type 0 where
-  pub entry : ℕ
+-- the 64 code points from this one on, as far as they are characters, have this offset entry
+pub record IsRun (home : Data) (first entry : ℕ) : Type 0 where
   pub offset : kind_of entry ≡ Offset
   pub same : (c : ℕ) → first ≤ c → c < first + 64 → IsScalar c → home.value c ≡ entry
-  pub nothing : (c : ℕ) → first ≤ c → c < first + 64 → after v home c entry ≡ v
 
 -- what the state of a block says of its values, by the code points that read it
 abbrev pub IsState : Data → ℕ → BlockState → Type 0

@@ -1,8 +1,12 @@
 -- What the visitors of this crate add up to.
 use Rattle.std.specs.List.{list_any}
-use Rattle.std.specs.Prelude.{ℕ, Bool, ◌&&◌, ◌||◌, ◌==◌, List, [], Option, Some, None, if◌then◌else◌, fold, map, flat_map, ◌-◌, false, length, slice_get}
+use Rattle.std.specs.Prelude.{ℕ, ◌≡◌, ◌+◌, ◌≤◌, ◌<◌, ◌∷◌, IsTrue, take, drop, Bool, ◌&&◌, ◌||◌, ◌==◌, List, [], Option, Some, None, if◌then◌else◌, fold, map, flat_map}
 use Rattle.icu_entries.specs.declared.element_conditions.ElementCondition.TheVariants.{Shape, Leads, Primary}
+use Rattle.icu_entries.specs.declared.entry.EntryKind.TheVariants.{Offset}
 use Rattle.icu_entries.specs.Elements.{Element}
+use Rattle.icu_entries.specs.Entries.{kind_of, entry_index}
+use Rattle.icu_entries.specs.EntryConditions.{has_offset_weight}
+use Rattle.icu_data.specs.DataConditions.{is_inside}
 use Rattle.icu_data.specs.Data.{Data, Row, homed}
 use Rattle.icu_data.specs.Final.{final_elements}
 use Rattle.icu_data.specs.CollectedWeights.{is_stated}
@@ -22,10 +26,6 @@ judged rank violation s home c e = (s.0, earlier rank s.1 (violation s.0 home c 
 abbrev pub after_rows : {V : Type 0} → (V → Data → ℕ → ℕ → V) → (ℕ → List ℕ) → Data → ℕ → List Row → V → V
 after_rows after lead home c rows v = after_all after v home c (flat_map lead (map (λ (row : Row). row.entry) rows))
 
--- the weight is the last of these
-unfoldable pub is_last : List ℕ → ℕ → Bool
-is_last ws w = elim (slice_get ws (length ws - 1)) [ Some last ↦ last == w | None ↦ false ]
-
 -- which weights a list holds
 unfoldable pub holds : List ℕ → ℕ → Bool
 holds ws w = list_any (λ v. v == w) ws
@@ -37,6 +37,13 @@ and_weight has w v = has v || w == v
 abbrev pub and_found : (ℕ → Bool) → Option ℕ → ℕ → Bool
 and_found has None = has
 and_found has (Some w) = and_weight has w
+
+-- the data of an offset entry by which each of the 64 characters from one on has a weight
+pub record IsRunData (home : Data) (first e : ℕ) (d : Element) : Type 0 where
+  pub offset : kind_of e ≡ Offset
+  pub inside : IsTrue (is_inside home e)
+  pub taken : take 1 (drop (entry_index e) home.elements) ≡ d ∷ []
+  pub fits : (c : ℕ) → first ≤ c → c < first + 64 → IsTrue (has_offset_weight d c)
 
 -- what collects, and which weights are held so far, after one more element, and after one more entry
 abbrev pub collected : {W : Type 0} → (W → Element → Option ℕ) → W × (ℕ → Bool) → Element → W × (ℕ → Bool)

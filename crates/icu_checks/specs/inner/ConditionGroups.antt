@@ -1,0 +1,78 @@
+-- The order in which failing conditions are reported.
+use Rattle.std.specs.Prelude.{ℕ}
+use Rattle.icu_data.specs.declared.live_condition.LiveCondition.{LiveCondition}
+use Rattle.icu_data.specs.declared.live_condition.LiveCondition.TheVariants as of_entry
+use Rattle.icu_checks.specs.declared.condition.Condition.{Condition}
+use Rattle.icu_checks.specs.declared.condition.Condition.TheVariants as conditions
+use Rattle.icu_checks.specs.declared.condition.ConditionGroup.{ConditionGroup}
+use Rattle.icu_checks.specs.declared.condition.ConditionGroup.TheVariants.{Counts, Indices, PrefixRows, Chains, Digits, Bytes, Offsets, Shapes, Leads, TertiaryElements, Overlaps, Primaries, KeptLeads, OwnLeads, ReorderedLeads, Compression}
+use Rattle.icu_checks.specs.declared.condition.ElementCondition.{ElementCondition}
+use Rattle.icu_checks.specs.declared.condition.ElementCondition.TheVariants as of_element
+use Rattle.icu_checks.specs.declared.condition.PairCondition.{PairCondition}
+use Rattle.icu_checks.specs.declared.condition.PairCondition.TheVariants as of_pair
+use Rattle.icu_checks.specs.declared.condition.LeadCondition.{LeadCondition}
+use Rattle.icu_checks.specs.declared.condition.LeadCondition.TheVariants as of_lead
+
+-- the groups in their order
+abbrev pub group_index : ConditionGroup → ℕ
+group_index Counts = 0
+group_index Indices = 1
+group_index PrefixRows = 2
+group_index Chains = 3
+group_index Digits = 4
+group_index Bytes = 5
+group_index Offsets = 6
+group_index Shapes = 7
+group_index Leads = 8
+group_index TertiaryElements = 9
+group_index Overlaps = 10
+group_index Primaries = 11
+group_index KeptLeads = 12
+group_index OwnLeads = 13
+group_index ReorderedLeads = 14
+group_index Compression = 15
+
+-- the group of each condition
+abbrev pub group_of_entry : LiveCondition → ConditionGroup
+group_of_entry of_entry.Indices = Indices
+group_of_entry of_entry.PrefixRows = PrefixRows
+group_of_entry of_entry.Chains = Chains
+group_of_entry of_entry.Digits = Digits
+group_of_entry of_entry.Bytes = Bytes
+group_of_entry of_entry.Offsets = Offsets
+group_of_entry of_entry.Shapes = Shapes
+group_of_entry of_entry.Leads = Leads
+group_of_entry of_entry.Primaries = Primaries
+
+abbrev pub group_of_element : ElementCondition → ConditionGroup
+group_of_element of_element.Width = Shapes
+group_of_element of_element.BackwardLead = Leads
+group_of_element of_element.TertiaryElement = TertiaryElements
+group_of_element of_element.MiddleLead = KeptLeads
+group_of_element of_element.ImplicitLength = OwnLeads
+group_of_element of_element.NumericLead = OwnLeads
+group_of_element of_element.SharedLead = ReorderedLeads
+group_of_element of_element.SecondByte = Compression
+
+abbrev pub group_of_pair : PairCondition → ConditionGroup
+group_of_pair of_pair.TertiaryElementWeights = TertiaryElements
+group_of_pair of_pair.Primaries = Overlaps
+group_of_pair of_pair.Secondaries = Overlaps
+group_of_pair of_pair.Tertiaries = Overlaps
+group_of_pair of_pair.Compression = Compression
+
+abbrev pub group_of_lead : LeadCondition → ConditionGroup
+group_of_lead of_lead.Separator = KeptLeads
+group_of_lead of_lead.HighLead = KeptLeads
+group_of_lead of_lead.ImplicitLead = ReorderedLeads
+group_of_lead of_lead.NumericLead = ReorderedLeads
+group_of_lead of_lead.LeadsApart = ReorderedLeads
+group_of_lead of_lead.NumericWhole = Compression
+
+abbrev pub group_of : Condition → ConditionGroup
+group_of conditions.DiacriticCount = Counts
+group_of (conditions.Entry condition) = group_of_entry condition
+group_of conditions.PrefixRows = PrefixRows
+group_of (conditions.Element condition) = group_of_element condition
+group_of (conditions.Pair condition) = group_of_pair condition
+group_of (conditions.Lead condition) = group_of_lead condition
