@@ -1,6 +1,6 @@
 //! Checks of tables, as often as is asked for, so that they can be timed.
+use crate::damaged_tables::set;
 use crate::fault::Fault;
-use crate::tables::set;
 use crate::timed_root::{root_like_cldr, tailoring_like_cldr};
 use icu_checks::CheckedTables;
 use icu_data::{Context, ContextRow};

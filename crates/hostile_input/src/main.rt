@@ -11,15 +11,15 @@ mod base_tables;
 mod checks;
 mod cuts;
 mod damage;
+mod damaged_tables;
 mod dice;
 mod encoded;
 mod fault;
 mod long;
+mod random_texts;
 mod readers;
 mod settings;
-mod tables;
 mod tally;
-mod texts;
 mod timed_root;
 
 use checks::TimedTables;

@@ -4,11 +4,11 @@ ghost use Rattle.icu_elements.specs.CollationElements.{CanGive};
 
 use crate::base_tables::{BASES, base};
 use crate::cuts::{after_cut, before_cut};
+use crate::damaged_tables::set;
 use crate::dice::Dice;
 use crate::encoded::Encoded;
 use crate::fault::Fault;
-use crate::tables::set;
-use crate::texts::{any_text, spoil};
+use crate::random_texts::{any_text, spoil};
 use icu_checks::CheckedTables;
 use icu_cursor::{CursorTables, ElementCursor};
 use icu_elements::{CollationElement, CollationElements, ElementTables, all_elements};

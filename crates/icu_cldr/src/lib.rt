@@ -9,7 +9,7 @@ mod digits;
 mod entries;
 pub mod error;
 mod ideograph_weights;
-mod reader;
+mod line_reader;
 pub mod root;
 mod special;
 

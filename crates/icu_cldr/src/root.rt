@@ -4,7 +4,7 @@ ghost use Rattle.icu_cldr.specs.Errors.{IsNumbered};
 ghost use Rattle.icu_cldr.specs.Roots.{IsRoot, root_tables};
 
 use crate::error::ReadError;
-use crate::reader::read_tables;
+use crate::line_reader::read_tables;
 use icu_data::CollationData;
 use icu_entries::{DataError, DataErrorKind, DataTable};
 use icu_provider::{

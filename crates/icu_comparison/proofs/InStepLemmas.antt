@@ -22,9 +22,9 @@ use Rattle.icu_order.specs.Forms.{form_by}
 use Rattle.icu_order.specs.TextOrder.{handled_by, lists_by}
 use Rattle.icu_comparison.proofs.TieLemmas.{same_elements}
 use Rattle.icu_comparison.proofs.LevelLemmas.{primaries_read, secondaries_read, tertiaries_read}
-use Rattle.icu_comparison.specs.declared.levels.Level.TheVariants.{Primary, Secondary, Tertiary}
+use Rattle.icu_comparison.specs.declared.forward_levels.Level.TheVariants.{Primary, Secondary, Tertiary}
 use Rattle.icu_comparison.specs.inner.ElementOrders.{before_characters, elements_order, leading_order, lower_order}
-use Rattle.icu_comparison.specs.declared.levels.Level.{Level}
+use Rattle.icu_comparison.specs.declared.forward_levels.Level.{Level}
 use Rattle.icu_comparison.specs.inner.InStep.{from_first, order_on, order_from, three_order, three_levels, ThreeLevels, IsThreeLevel, StepsBy, StepBoth, DecidesOn, HasWeight}
 use Rattle.icu_comparison.specs.inner.LevelWeights.{weight_in, level_weights}
 

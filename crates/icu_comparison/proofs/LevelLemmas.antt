@@ -18,8 +18,8 @@ use Rattle.icu_order.specs.Handled.{HandledElement, stayed, shifted_primary, sta
 use Rattle.icu_order.specs.Levels.{weights, primary_of, primaries, secondary_of, secondaries, case_reads, case_rank, masked_tertiary, tertiary_in, tertiaries, quaternary_weight, quaternaries}
 use Rattle.icu_order.specs.Forms.{compression_of, form_by}
 use Rattle.icu_order.specs.TextOrder.{handled_by, lists_by}
-use Rattle.icu_comparison.specs.declared.levels.Level.{Level}
-use Rattle.icu_comparison.specs.declared.levels.Level.TheVariants.{Primary, Secondary, Case, Tertiary, Quaternary}
+use Rattle.icu_comparison.specs.declared.forward_levels.Level.{Level}
+use Rattle.icu_comparison.specs.declared.forward_levels.Level.TheVariants.{Primary, Secondary, Case, Tertiary, Quaternary}
 use Rattle.icu_comparison.specs.inner.LevelWeights.{read_as, weight_in, level_weights}
 
 kept : (b : Bool) (w : ℕ) (ws vs : List ℕ) → ws ≡ vs → option_to_list (if b then None else Some w) ++ ws ≡ (if b then vs else w ∷ vs)

@@ -8,8 +8,8 @@ ghost use Rattle.icu_order.specs.Forms.{form_by};
 ghost use Rattle.icu_order.specs.TextOrder.{lists_by, text_order, text_key};
 ghost use Rattle.unicode_normalization.specs.Forms.{nfd};
 
-use crate::characters::compare_characters;
 use crate::collator::CollatorBorrowed;
+use crate::identical_level::compare_characters;
 use crate::texts::str_text;
 use icu_encodings::{CommonUnits, EncodedText, Latin1Text, Utf8Text, Utf16Text};
 use icu_order::laws::keys_keep_text_order;

@@ -5,7 +5,7 @@ ghost use Rattle.std.specs.declared.cmp.Ordering.TheVariants.{Equal};
 ghost use Rattle.icu_order.specs.Handled.{HandledElement};
 ghost use Rattle.icu_comparison.specs.inner.InStep.{from_first, order_on, order_from, three_order, three_levels, StepsBy, StepBoth};
 
-use crate::levels::Level;
+use crate::forward_levels::Level;
 use icu_levels::forms::TertiaryForm;
 use icu_text_keys::{Handled, HandledSource};
 use std::alloc::AllocError;

@@ -1,13 +1,13 @@
 //! The order of texts.
 #![tactic(auto)]
 
-mod characters;
 pub mod collator;
 pub mod compare;
+mod element_order;
+mod forward_levels;
 pub mod handled;
+mod identical_level;
 mod in_step;
-mod levels;
-mod order;
 mod segments;
 pub mod sort_key;
 mod tails;

@@ -7,7 +7,7 @@ ghost use Rattle.icu_order.specs.TextOrder.{text_order};
 ghost use Rattle.icu_comparison.specs.inner.Tails.{unequal_order};
 
 use crate::collator::{CollatorBorrowed, Front};
-use crate::levels::reordered;
+use crate::forward_levels::reordered;
 use icu_cuts::laws::first_starters_lead;
 use icu_encodings::EncodedText;
 use icu_order::laws::common_beginnings_do_not_count;

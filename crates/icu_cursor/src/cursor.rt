@@ -5,8 +5,8 @@ ghost use Rattle.unicode_normalization.specs.Forms.{nfd};
 ghost use Rattle.icu_elements.specs.TextElements.{elements_of};
 
 use crate::cursor_tables::CursorTables;
+use crate::digit_run::read_number;
 use crate::letter_elements::LetterElements;
-use crate::number::read_number;
 use crate::piece::{Piece, next_of_piece, read_piece, split_piece};
 use crate::recent_letters::RecentLetters;
 use crate::stands::stands_before;

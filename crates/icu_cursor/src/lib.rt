@@ -4,8 +4,8 @@
 
 pub mod cursor;
 pub mod cursor_tables;
+mod digit_run;
 mod letter_elements;
-mod number;
 mod piece;
 mod recent_letters;
 mod stands;

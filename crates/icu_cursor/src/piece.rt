@@ -9,7 +9,7 @@ ghost use Rattle.icu_cursor.specs.inner.ReadCharacters.{context_of};
 ghost use Rattle.icu_cursor.specs.inner.Pieces.{IsPiece, begun_gives, piece_gives};
 
 use crate::cursor_tables::CursorTables;
-use crate::number::NumberElements;
+use crate::digit_run::NumberElements;
 use crate::recent_letters::RecentLetters;
 use icu_elements::ElementReader;
 use icu_encodings::EncodedText;

@@ -3,6 +3,6 @@
 #![tactic(auto)]
 
 pub mod laws;
-pub mod marks;
+pub mod marks_in_order;
 
-pub use marks::rises_from;
+pub use marks_in_order::rises_from;

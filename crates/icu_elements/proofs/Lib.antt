@@ -1,4 +1,4 @@
-pub mod IterLemmas
+pub mod CollationElementsLemmas
 pub mod DecomposedLemmas
 pub mod ElementPartLemmas
 pub mod ElementSourceLemmas

@@ -26,7 +26,7 @@ use Rattle.icu_data.proofs.ListLemmas.{all_members, of_member}
 use Rattle.icu_checks.specs.declared.condition.Condition.TheVariants as conditions
 use Rattle.icu_provider.specs.CollatorTables.{CollatorTables}
 use Rattle.icu_checks.specs.GoodTables.{IsGoodTables}
-use Rattle.icu_elements.specs.declared.tables.ElementTables.{ElementTables}
+use Rattle.icu_elements.specs.declared.element_tables.ElementTables.{ElementTables}
 use Rattle.icu_matches.specs.GoodEntries.{MeetAll, IsGoodFrom, IsGoodMatch}
 use Rattle.icu_elements.specs.inner.Readable.{AreReadable, tables_from}
 use Rattle.icu_elements.specs.Reading.{element_tables}

@@ -15,7 +15,7 @@ use Rattle.icu_elements.specs.inner.ReadsAhead.{ReadsTo, IsBegun}
 use Rattle.icu_elements.specs.inner.ReadyElements.{ready_elements}
 use Rattle.icu_elements.specs.inner.Streams.{elements_before, HasElements}
 use Rattle.icu_elements.proofs.EnoughLemmas.{IsEnough-ended, elements_after-ahead}
-use Rattle.icu_elements.proofs.IterLemmas.{first_given}
+use Rattle.icu_elements.proofs.CollationElementsLemmas.{first_given}
 use Rattle.icu_elements.proofs.StepLemmas.{elements_after_nil}
 
 -- nothing was read yet

@@ -3,9 +3,9 @@ use Rattle.std.specs.Prelude.{◌≡◌, ℕ, List, [], ◌∷◌, Option, ⊤}
 use Rattle.std.specs.Iterator.{Count}
 use Rattle.unicode_normalization.specs.Decompositions.{CanDecompose}
 use Rattle.icu_entries.specs.Elements.{Element, end_element}
-use Rattle.icu_elements.specs.declared.iter.Progress.{Progress}
-use Rattle.icu_elements.specs.declared.iter.Progress.TheVariants.{Reading, Refused}
-use Rattle.icu_elements.specs.declared.iter.CollationElements.{CollationElements}
+use Rattle.icu_elements.specs.declared.collation_elements.Progress.{Progress}
+use Rattle.icu_elements.specs.declared.collation_elements.Progress.TheVariants.{Reading, Refused}
+use Rattle.icu_elements.specs.declared.collation_elements.CollationElements.{CollationElements}
 use Rattle.icu_elements.specs.inner.ReadyElements.{ready_elements}
 use Rattle.icu_elements.specs.inner.Streams.{HasElements}
 

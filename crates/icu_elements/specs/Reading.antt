@@ -1,7 +1,7 @@
 -- What the tables say that elements are read from.
 use Rattle.std.specs.Prelude.{ℕ, Bool, Option}
 use Rattle.icu_provider.specs.Tables.{Tables}
-use Rattle.icu_elements.specs.declared.tables.ElementTables.{ElementTables}
+use Rattle.icu_elements.specs.declared.element_tables.ElementTables.{ElementTables}
 use Rattle.icu_elements.specs.inner.Readable.{tables_from}
 use Rattle.icu_elements.specs.TextElements.{Reading}
 

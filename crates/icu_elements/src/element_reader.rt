@@ -3,10 +3,10 @@
 ghost use Rattle.std.specs.Prelude.{◌≡◌, [], ◌++◌, None, option_to_list, IfOk, OnOk};
 
 use crate::element_list::ElementList;
+use crate::element_tables::ElementTables;
 use crate::reader::TextReading;
 use crate::reader::position::Position;
 use crate::reader::step::read_step;
-use crate::tables::ElementTables;
 use icu_entries::CollationElement;
 use std::alloc::AllocError;
 

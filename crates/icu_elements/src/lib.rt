@@ -2,19 +2,19 @@
 //! tailorings, numbers where digits are read as numbers, and the Lithuanian rule where it is asked for.
 #![tactic(auto)]
 
+pub mod collation_elements;
 mod element_list;
 pub mod element_reader;
-pub mod iter;
+pub mod element_tables;
 pub mod laws;
 pub mod look_up;
 pub mod read;
 mod reader;
-pub mod tables;
 pub mod whole;
 
+pub use collation_elements::CollationElements;
 pub use element_reader::ElementReader;
+pub use element_tables::ElementTables;
 pub use icu_entries::{CollationElement, CollationElement32, NonPrimary, Tag};
-pub use iter::CollationElements;
 pub use read::decomposed_text;
-pub use tables::ElementTables;
 pub use whole::all_elements;

@@ -7,7 +7,7 @@ ghost use Rattle.icu_matches.specs.GoodEntries.{IsGoodFrom};
 ghost use Rattle.icu_provider.specs.Tables.{entry_of, diacritic_of};
 ghost use Rattle.icu_elements.specs.Reading.{element_tables};
 
-use crate::tables::ElementTables;
+use crate::element_tables::ElementTables;
 use icu_data::CollationData;
 use icu_entries::CollationElement32;
 

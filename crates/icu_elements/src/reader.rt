@@ -15,9 +15,9 @@ pub(crate) mod step;
 pub(crate) mod stream;
 
 use crate::element_list::ElementList;
+use crate::element_tables::ElementTables;
 use crate::reader::position::Position;
 use crate::reader::step::read_step;
-use crate::tables::ElementTables;
 use icu_entries::CollationElement;
 use std::alloc::AllocError;
 

@@ -7,9 +7,9 @@ ghost use Rattle.unicode_normalization.specs.Iter.{Spells};
 ghost use Rattle.icu_elements.specs.TextElements.{elements_of};
 ghost use Rattle.icu_elements.specs.Reading.{reading_of};
 
+use crate::element_tables::ElementTables;
 use crate::read::decomposed_text;
 use crate::reader::{TextReading, read_text};
-use crate::tables::ElementTables;
 use icu_entries::CollationElement;
 use std::alloc::AllocError;
 

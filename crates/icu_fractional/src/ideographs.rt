@@ -3,8 +3,8 @@ ghost use Rattle.std.specs.Prelude.{◌≡◌, ◌≤◌, ◌↔◌, IsTrue, IfO
 ghost use Rattle.icu_fractional.specs.HexDigits.{character_written};
 ghost use Rattle.icu_fractional.specs.Ranges.{JoinsEnds, WritesRange};
 
-use crate::digits::character;
 use crate::expected::{Expected, LineError};
+use crate::hexadecimal::character;
 use std::alloc::Global;
 
 /// The characters from one to another.

@@ -3,9 +3,9 @@ ghost use Rattle.std.specs.Prelude.{◌≡◌, ◌≢◌, ◌==◌, ◌++◌, �
 ghost use Rattle.std.specs.List.{before_first};
 ghost use Rattle.icu_fractional.specs.LineParts.{text_of};
 
-use crate::digits::byte;
-use crate::element::{FractionalElement, Primary};
 use crate::expected::{Expected, LineError};
+use crate::fractional_element::{FractionalElement, Primary};
+use crate::hexadecimal::byte;
 use crate::ideographs::CharRange;
 use crate::mapping::Mapping;
 use std::alloc::Global;

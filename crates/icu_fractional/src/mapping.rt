@@ -2,9 +2,9 @@
 ghost use Rattle.std.specs.Prelude.{◌≡◌, Err};
 ghost use Rattle.icu_fractional.specs.LineParts.{Lacks};
 
-use crate::digits::character;
-use crate::element::FractionalElement;
 use crate::expected::{Expected, LineError};
+use crate::fractional_element::FractionalElement;
+use crate::hexadecimal::character;
 use std::alloc::Global;
 
 /// What a text comes to: `004C | 00B7; [, FB DB, 05]`. The characters behind the bar are mapped to the elements where

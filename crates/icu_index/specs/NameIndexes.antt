@@ -6,7 +6,7 @@ use Rattle.icu_options.specs.Settings.{Settings}
 use Rattle.icu_provider.specs.CollatorTables.{CollatorTables}
 use Rattle.icu_comparison.specs.Collators.{tables_borrowed, settings_borrowed}
 use Rattle.icu_index.specs.declared.index.NameIndex.{NameIndex}
-use Rattle.icu_index.specs.declared.iter.NameIter.{NameIter}
+use Rattle.icu_index.specs.declared.names.NameIter.{NameIter}
 use Rattle.icu_index.specs.Listings.{name_order}
 use Rattle.icu_index.specs.inner.NameGroups.{names_of, names_in, groups_of}
 

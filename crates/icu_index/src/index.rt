@@ -8,7 +8,7 @@ ghost use Rattle.icu_index.specs.Listings.{equal_names, inserted};
 ghost use Rattle.icu_index.specs.inner.NameGroups.{groups_of, key_of, key_order, names_in, IsKeyed};
 
 use crate::groups::{Groups, add_name};
-use crate::iter::NameIter;
+use crate::names::NameIter;
 use icu_comparison::{Collator, CollatorBorrowed};
 use std::alloc::{AllocError, Global};
 use std::collections::BTreeMap;

@@ -4,8 +4,8 @@
 
 mod groups;
 pub mod index;
-pub mod iter;
 pub mod laws;
+pub mod names;
 
 pub use index::NameIndex;
-pub use iter::NameIter;
+pub use names::NameIter;

@@ -1,9 +1,9 @@
 //! Mini: a small collation for tests, and its variants.
 #![tactic(auto)]
 
-mod characters;
+mod ingredients;
 pub mod mini;
-mod parts;
+mod mini_characters;
 pub mod provider;
 pub mod reordering_data;
 mod variants;

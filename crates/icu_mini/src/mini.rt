@@ -8,7 +8,7 @@ ghost use Rattle.icu_provider.specs.Jamo.{IsJamo, FailsJamo};
 ghost use Rattle.icu_provider.specs.SpecialPrimaries.{IsSpecialPrimaries, FailsSpecial};
 ghost use Rattle.icu_provider.specs.StoredTables.{diacritics_of, jamo_of, reordering_of, special_of};
 
-use crate::parts::{diacritics, jamo, root};
+use crate::ingredients::{diacritics, jamo, root};
 use crate::reordering_data::ReorderingData;
 use icu_data::CollationData;
 use icu_entries::DataErrorKind;

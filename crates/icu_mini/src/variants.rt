@@ -3,8 +3,8 @@ ghost use Rattle.std.specs.Prelude.{◌≡◌, ◌∷◌, [], IfOk, replicate, s
 ghost use Rattle.icu_owned_data.specs.AddedContexts.{given_context};
 ghost use Rattle.icu_mini.specs.Characters.{run};
 
+use crate::ingredients::{all_leads, in_context, tailoring};
 use crate::mini::Mini;
-use crate::parts::{all_leads, in_context, tailoring};
 use crate::reordering_data::ReorderingData;
 use std::alloc::{AllocError, Global};
 

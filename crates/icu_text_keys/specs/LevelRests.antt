@@ -15,8 +15,8 @@ use Rattle.icu_order.specs.Levels.{secondaries, parted, weights, case_reads, cas
 use Rattle.icu_text_keys.specs.declared.later_levels.LaterLevels.{LaterLevels}
 use Rattle.icu_text_keys.specs.declared.level.SecondaryLevel.{SecondaryLevel}
 use Rattle.icu_text_keys.specs.declared.level.SecondaryLevel.TheVariants.{Absent, Forward, Backward}
-use Rattle.icu_text_keys.specs.declared.parts.LevelBytes.{LevelBytes}
-use Rattle.icu_text_keys.specs.declared.parts.LevelBytes.TheVariants.{NoLevel, Opened, Closed}
+use Rattle.icu_text_keys.specs.declared.finished_levels.LevelBytes.{LevelBytes}
+use Rattle.icu_text_keys.specs.declared.finished_levels.LevelBytes.TheVariants.{NoLevel, Opened, Closed}
 
 -- further elements
 abbrev pub forward_left : HeldSecondaries → List Element → List ℕ

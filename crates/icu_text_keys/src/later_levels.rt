@@ -6,10 +6,10 @@ ghost use Rattle.icu_order.specs.Handled.{HandledElement, stayed, shifted_primar
 ghost use Rattle.icu_order.specs.Levels.{level_lists};
 ghost use Rattle.icu_text_keys.specs.LevelRests.{secondaries_left, cases_left, tertiaries_left, quaternaries_left, characters_left, part_of};
 
+use crate::finished_levels::{LevelBytes, write_later};
 use crate::level::{
     SecondaryLevel, push_case, push_quaternary, push_secondary, push_shifted, push_tertiary,
 };
-use crate::parts::{LevelBytes, write_later};
 use icu_entries::CollationElement;
 use icu_keys::held::backward::HeldSegments;
 use icu_keys::held::cases::HeldCases;

@@ -7,12 +7,12 @@
 
 pub mod compression;
 pub mod element_weights;
+pub mod finished_levels;
 pub mod form;
 pub mod handled;
 pub mod later_levels;
 pub mod laws;
 mod level;
-pub mod parts;
 mod three_level_key;
 pub mod whole_key;
 pub mod writer;

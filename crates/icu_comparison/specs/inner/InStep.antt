@@ -10,8 +10,8 @@ use Rattle.icu_levels.specs.declared.forms.TertiaryForm.{TertiaryForm}
 use Rattle.icu_order.specs.Handled.{HandledElement}
 use Rattle.icu_text_keys.specs.declared.handled.Handled.{Handled}
 use Rattle.icu_text_keys.specs.HandledSources.{handled_as}
-use Rattle.icu_comparison.specs.declared.levels.Level.{Level}
-use Rattle.icu_comparison.specs.declared.levels.Level.TheVariants.{Secondary, Tertiary}
+use Rattle.icu_comparison.specs.declared.forward_levels.Level.{Level}
+use Rattle.icu_comparison.specs.declared.forward_levels.Level.TheVariants.{Secondary, Tertiary}
 use Rattle.icu_comparison.specs.inner.LevelWeights.{weight_in, level_weights}
 
 -- an element that was read, and what is left after it: none was read of a list that has ended

@@ -6,8 +6,8 @@ use Rattle.icu_provider.specs.CollatorTables.{reorder_by}
 use Rattle.icu_provider.specs.StoredTables.{reordering_of}
 use Rattle.icu_order.specs.Handled.{HandledElement, stayed, shifted_primary}
 use Rattle.icu_order.specs.Levels.{primary_of, secondary_of, case_reads, case_rank, masked_tertiary, tertiary_in, quaternary_weight}
-use Rattle.icu_comparison.specs.declared.levels.Level.{Level}
-use Rattle.icu_comparison.specs.declared.levels.Level.TheVariants.{Primary, Secondary, Case, Tertiary, Quaternary}
+use Rattle.icu_comparison.specs.declared.forward_levels.Level.{Level}
+use Rattle.icu_comparison.specs.declared.forward_levels.Level.TheVariants.{Primary, Secondary, Case, Tertiary, Quaternary}
 
 -- a weight, where something is read
 abbrev pub read_as : ℕ → ℕ → Option ℕ

@@ -5,7 +5,7 @@ use Rattle.unicode_normalization.specs.Forms.{nfd}
 use Rattle.icu_entries.specs.Elements.{Element, of_primary}
 use Rattle.icu_elements.specs.TextElements.{Reading, continues_number, digit_of, elements_after}
 use Rattle.icu_shortcuts.specs.Letters.{IsNumberDigit}
-use Rattle.icu_cursor.specs.declared.number.NumberElements.{NumberElements}
+use Rattle.icu_cursor.specs.declared.digit_run.NumberElements.{NumberElements}
 use Rattle.icu_cursor.specs.inner.Places.{BeginsSafely}
 
 -- the elements of a number that were not given yet

@@ -16,9 +16,9 @@ ghost use Rattle.icu_matches.specs.Texts.{unread};
 ghost use Rattle.unicode_normalization.specs.Decompositions.{CanDecompose, decompositions_size};
 ghost use Rattle.unicode_normalization.specs.Order.{is_starter};
 
+use crate::element_tables::ElementTables;
 use crate::reader::TextReading;
 use crate::reader::recent::RecentChars;
-use crate::tables::ElementTables;
 use icu_data::FoundContext;
 use icu_entries::{CollationElement32, EntryKind};
 use icu_matches::{Text, after_prefix, find_longest, row_goes_on};

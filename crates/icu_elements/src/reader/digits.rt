@@ -9,8 +9,8 @@ ghost use Rattle.icu_elements.specs.TextElements.{begins_with_mark, digit_of};
 ghost use Rattle.icu_elements.specs.inner.Positions.{unread_at};
 ghost use Rattle.icu_elements.specs.inner.TakenDigits.{IsNoDigit, IsDigitTaken, IsRunTaken, IsNumberTaken, matched, stands_alone};
 
+use crate::element_tables::ElementTables;
 use crate::reader::position::Position;
-use crate::tables::ElementTables;
 use icu_matches::{Matched, Text};
 use std::alloc::AllocError;
 use unicode_normalization::char::canonical_combining_class;

@@ -12,10 +12,10 @@ ghost use Rattle.icu_elements.specs.inner.Positions.{IsStep, reading_by_tables, 
 ghost use Rattle.icu_elements.specs.inner.TakenDigits.{matched, digit_step};
 
 use crate::element_list::ElementList;
+use crate::element_tables::ElementTables;
 use crate::reader::TextReading;
 use crate::reader::digits::take_number;
 use crate::reader::position::Position;
-use crate::tables::ElementTables;
 use icu_data::CollationData;
 use icu_data::element_walk::visit_elements;
 use icu_entries::{CollationElement, CollationElement32, EntryKind};

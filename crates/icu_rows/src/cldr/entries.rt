@@ -1,7 +1,7 @@
 //! The entries of characters.
 use crate::cldr::files::read;
 use icu_data::{Context, ContextRow};
-use icu_fractional::digits::character;
+use icu_fractional::hexadecimal::character;
 use icu_provider::CollationProvider;
 use std::alloc::{AllocError, Global};
 

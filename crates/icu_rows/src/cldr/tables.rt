@@ -1,7 +1,7 @@
 //! The tables beside the root.
 use crate::cldr::files::read;
 use icu_cldr::CldrRoot;
-use icu_fractional::digits::byte;
+use icu_fractional::hexadecimal::byte;
 use icu_provider::{CollationProvider, DataRequest};
 use std::alloc::Global;
 

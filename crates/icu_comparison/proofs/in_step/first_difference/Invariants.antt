@@ -1,5 +1,5 @@
 use Rattle.std.proofs.Common.{◌≡◌, ◌≤◌, length}
-use Rattle.icu_comparison.specs.declared.levels.Level.{Level}
+use Rattle.icu_comparison.specs.declared.forward_levels.Level.{Level}
 use Rattle.icu_comparison.specs.inner.InStep.{order_on}
 use Rattle.icu_comparison.proofs.in_step.first_difference.Given as goal
 

@@ -1,7 +1,7 @@
 use Rattle.std.proofs.Common.{ap, ◌∙◌}
 use Rattle.icu_elements.specs.TextElements.{last_two}
 use Rattle.icu_elements.specs.inner.Positions.{reading_by_tables}
-use Rattle.icu_elements.proofs.IterLemmas.{none_read}
+use Rattle.icu_elements.proofs.CollationElementsLemmas.{none_read}
 use Rattle.icu_elements.proofs.element_reader.ElementReader.after.Goals as goal
 
 pub returns : goal.returns

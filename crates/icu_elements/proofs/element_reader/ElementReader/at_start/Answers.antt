@@ -2,7 +2,7 @@ use Rattle.std.proofs.Common.{ap₂, ◌∙◌}
 use Rattle.icu_elements.specs.ElementReaders.{elements_to_come}
 use Rattle.icu_elements.specs.TextElements.{elements_after}
 use Rattle.icu_elements.specs.inner.Positions.{reading_by_tables}
-use Rattle.icu_elements.proofs.IterLemmas.{none_ready}
+use Rattle.icu_elements.proofs.CollationElementsLemmas.{none_ready}
 use Rattle.icu_elements.proofs.element_reader.ElementReader.at_start.Goals as goal
 
 pub returns-clause-elements : goal.returns-clause-elements

@@ -1,6 +1,6 @@
 use Rattle.std.proofs.Common.{arith, ◌∙◌}
 use Rattle.icu_elements.specs.ElementReaders.{elements_to_come}
-use Rattle.icu_elements.proofs.IterLemmas.{filled_ready, one_step}
+use Rattle.icu_elements.proofs.CollationElementsLemmas.{filled_ready, one_step}
 use Rattle.icu_elements.proofs.element_reader.ElementReader.fill.Goals as goal
 
 pub returns-then-not-branch-clause-same : goal.returns-then-not-branch-clause-same

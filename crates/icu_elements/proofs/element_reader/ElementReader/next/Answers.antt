@@ -1,5 +1,5 @@
 use Rattle.std.proofs.Common.{sym, ◌∙◌}
-use Rattle.icu_elements.proofs.IterLemmas.{none_left, others_left}
+use Rattle.icu_elements.proofs.CollationElementsLemmas.{none_left, others_left}
 use Rattle.icu_elements.proofs.element_reader.ElementReader.next.Goals as goal
 
 pub returns-clause-next : goal.returns-clause-next

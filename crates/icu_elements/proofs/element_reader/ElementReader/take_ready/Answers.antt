@@ -1,6 +1,6 @@
 use Rattle.std.proofs.Common.{arith}
 use Rattle.std.proofs.Math.ListN.{drop_of_length-le}
-use Rattle.icu_elements.proofs.IterLemmas.{first_ready}
+use Rattle.icu_elements.proofs.CollationElementsLemmas.{first_ready}
 use Rattle.icu_elements.proofs.element_reader.ElementReader.take_ready.Goals as goal
 
 pub returns-then-self-len-clause-end : goal.returns-then-self-len-clause-end

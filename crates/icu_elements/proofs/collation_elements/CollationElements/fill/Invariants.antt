@@ -1,0 +1,17 @@
+use Rattle.std.proofs.Common.{◌≡◌, List}
+use Rattle.icu_entries.specs.Elements.{Element}
+use Rattle.unicode_normalization.specs.Decompositions.{CanDecompose}
+use Rattle.icu_elements.specs.CollationElements.{HasSource}
+use Rattle.icu_elements.specs.inner.Streams.{chars_ahead}
+use Rattle.icu_elements.proofs.collation_elements.CollationElements.fill.Given as goal
+
+-- nothing is lost
+abbrev pub invariant-steps : goal.invariant-steps
+invariant-steps g l = record {
+  can : CanDecompose g.I.Iterator.can_next g.I.Iterator.remaining l.self.source;
+  gives : (es : List Element) → HasSource g.I.Iterator.next_gives l.fn.self es → HasSource g.I.Iterator.next_gives l.self es;
+  progress : l.self.progress ≡ l.fn.self.progress;
+}
+
+abbrev pub decreases-steps : goal.decreases-steps
+decreases-steps g l = chars_ahead g.I.Iterator.remaining l.self.source l.self.reader.position
