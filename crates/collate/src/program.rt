@@ -56,6 +56,3 @@ pub fn run<R: Read, W: Write, E: Write>(
 {
     collate_commands::run(alloc, &MiniSource, wording(), words, input, output, faults)
 }
-
-#[cfg(test)]
-mod tests;
