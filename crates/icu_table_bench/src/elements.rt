@@ -1,5 +1,5 @@
 //! Entries and elements, and their parts.
-use icu_entries::{CollationElement, CollationElement32, NonPrimary, Tag};
+use icu_entries::{CollationElement, CollationElement32, Tag};
 use std::process::Abort;
 
 #[test]
@@ -37,31 +37,5 @@ fn entries_have_their_tags(rt: HostRuntime) {
     assert_eq!(rt;
         CollationElement32::new_from_ule([0xC5, 0x42, 1, 0]),
         CollationElement32::new(0x0001_42C5)
-    );
-}
-
-#[test]
-fn elements_have_their_fields(rt: HostRuntime) {
-    let element = CollationElement::new(0x6110_0000_4600_9C40);
-    assert_eq!(rt; element.primary(), 0x6110_0000);
-    assert_eq!(rt; element.secondary(), 0x4600);
-    let rest = element.non_primary();
-    assert_eq!(rt; rest, NonPrimary::new(0x4600_9C40));
-    assert_eq!(rt; rest.case(), 0x8000);
-    assert_eq!(rt; rest.tertiary(), 0x1C00);
-    assert_eq!(rt; rest.case_quaternary(), 0x8040);
-    assert_eq!(rt; rest.tertiary_case_quarternary(0xFF3F), 0x9C00);
-    assert_eq!(rt; rest.quaternary(), 0xFFFF_FF7F);
-    assert_eq!(rt;
-        CollationElement::new_implicit_from_char('\0').primary(),
-        0xFE04_0210
-    );
-    assert_eq!(rt;
-        CollationElement::new_implicit_from_char('一').primary(),
-        0xFE08_5F64
-    );
-    assert_eq!(rt;
-        CollationElement::default(),
-        CollationElement::new(0x0000_0001_0100_0100)
     );
 }

@@ -12,8 +12,6 @@ mod requests;
 #[cfg(test)]
 mod sinks;
 #[cfg(test)]
-mod tables;
-#[cfg(test)]
-mod three_levels;
+mod stored;
 #[cfg(test)]
 mod walks;

@@ -3,7 +3,7 @@ ghost use Rattle.std.specs.Prelude.{ℕ, ◌-◌, ◌<◌, Bool, ◌==◌, ◌/�
 ghost use Rattle.icu_entries.specs.declared.entry.EntryKind.TheVariants.{Contraction};
 ghost use Rattle.icu_entries.specs.Entries.{kind_of, entry_index};
 
-use crate::tables::Stored;
+use crate::stored::Stored;
 use icu_data::live_weights::{Weigh, collect_weights, collect_weights_from};
 use icu_data::violation::{Judge, Ranked, first_violation, first_violation_from};
 use icu_data::{CodePointTable, CollationData, Context, ContextRow, ContextTable};
@@ -172,26 +172,6 @@ fn the_violation_of_least_rank_is_named(rt: HostRuntime) -> Result<(), Fail> {
             found,
             "{c}"
         );
-    }
-    Ok(())
-}
-
-#[test]
-fn primary_weights_are_collected(rt: HostRuntime) -> Result<(), Fail> {
-    let expected = [
-        0x6110_0000u32,
-        0x6210_0000,
-        0x6230_0000,
-        0x6310_0000,
-        0x6410_0000,
-    ];
-    for (others, falls_back) in [(0xC0, true), (0xC0, false), (0xCF, true)] {
-        let stored = stored(rt.alloc(), others)?;
-        let mut weights = Vec::new(rt.alloc());
-        collect_weights(&mut weights, &Primaries, data(&stored)?, falls_back)?;
-        weights.sort()?;
-        weights.dedup();
-        assert!(rt; weights.as_slice() == expected.as_slice(), "{others:X}");
     }
     Ok(())
 }
