@@ -122,7 +122,7 @@ impl Call {
 }
 
 /// Writes the key of a row into slices of each length up to one more than its own.
-fn write_slices(rt: &impl Abort, alloc: Global, row: &Row, call: Call) -> Result<(), Fail> {
+fn expect_slices(rt: &impl Abort, alloc: Global, row: &Row, call: Call) -> Result<(), Fail> {
     let text = row.text;
     let collator = row.collator(alloc)?;
     let key = key_of(alloc, &collator, text)?;
@@ -131,29 +131,20 @@ fn write_slices(rt: &impl Abort, alloc: Global, row: &Row, call: Call) -> Result
         assert!(rt; length <= 64);
         let mut slice = &mut array[..length];
         let result = call.write(&collator, text, &mut slice);
-        if length < key.len() {
-            let error = SortKeyError::Sink(TooSmall::new(key.len()));
-            assert_eq!(rt; result, Err(error), "{text:?} by {call:?} into {length}");
-        } else {
-            assert_eq!(rt; result, Ok(key.len()), "{text:?} by {call:?} into {length}");
-        }
-        assert!(rt;
-            begins_with_key(slice, key.as_slice()),
-            "{text:?} by {call:?} into {length}"
-        );
+        let is_told = result == told(length, key.len());
+        let is_right = is_told && begins_with_key(slice, key.as_slice());
+        assert!(rt; is_right, "{text:?} by {call:?} into {length}");
     }
     Ok(())
 }
 
-#[test]
-fn slices_of_each_length(rt: HostRuntime) -> Result<(), Fail> {
-    for row in &rows() {
-        write_slices(&rt, rt.alloc(), row, Call::Characters)?;
+/// What a write of so many bytes into a slice of a length returns.
+fn told(length: usize, bytes: usize) -> Result<usize, SortKeyError<TooSmall>> {
+    if length < bytes {
+        Err(SortKeyError::Sink(TooSmall::new(bytes)))
+    } else {
+        Ok(bytes)
     }
-    let row = Row::new(Strength::Identical, "áAbc");
-    write_slices(&rt, rt.alloc(), &row, Call::Utf8)?;
-    let units = Call::Utf16(&[0xE1, 0x41, 0x62, 0x63]);
-    write_slices(&rt, rt.alloc(), &row, units)
 }
 
 /// Whether a slice holds a beginning of the key, all of it where it has room, and then bytes 7F.
@@ -171,104 +162,136 @@ fn begins_with_key(slice: &[u8], key: &[u8]) -> bool {
 }
 
 #[test]
-fn lists_keep_what_they_hold(rt: HostRuntime) -> Result<(), Fail> {
+fn slices_of_each_length(rt: HostRuntime) -> Result<(), Fail> {
     for row in &rows() {
-        let collator = row.collator(rt.alloc())?;
-        let borrowed = collator.as_borrowed();
-        let key = key_of(rt.alloc(), &collator, row.text)?;
+        expect_slices(&rt, rt.alloc(), row, Call::Characters)?;
+    }
+    let row = Row::new(Strength::Identical, "áAbc");
+    expect_slices(&rt, rt.alloc(), &row, Call::Utf8)?;
+    let units = Call::Utf16(&[0xE1, 0x41, 0x62, 0x63]);
+    expect_slices(&rt, rt.alloc(), &row, units)
+}
 
-        let mut vector = vec![in rt.alloc(); 0x7F]?;
-        assert!(rt; borrowed.write_sort_key_to(row.text, &mut vector).is_ok());
-        assert_eq!(rt;
-            vector.as_slice().split_first(),
-            Some((&0x7F, key.as_slice()))
-        );
+/// Whether a list holds 7F, which it held before, and then the key.
+fn holds_both(list: &[u8], key: &[u8]) -> bool {
+    list.split_first() == Some((&0x7F, key))
+}
 
-        let mut inline: SmallVec<u8, 4> = SmallVec::new(rt.alloc());
-        inline.push(0x7F)?;
-        assert!(rt; borrowed.write_sort_key_to(row.text, &mut inline).is_ok());
-        assert_eq!(rt;
-            inline.as_slice().split_first(),
-            Some((&0x7F, key.as_slice()))
-        );
+fn vector_keeps(
+    alloc: Global,
+    collator: &Collator,
+    text: &str,
+    key: &[u8],
+) -> Result<bool, AllocError> {
+    let mut vector = vec![in alloc; 0x7F]?;
+    let written = collator.as_borrowed().write_sort_key_to(text, &mut vector);
+    Ok(written.is_ok() && holds_both(vector.as_slice(), key))
+}
 
-        let mut deque = VecDeque::new(rt.alloc());
-        deque.push_back(0x7F)?;
-        assert!(rt; borrowed.write_sort_key_to(row.text, &mut deque).is_ok());
-        assert_eq!(rt; deque.pop_front(), Some(0x7F));
-        assert_eq!(rt; deque.len(), key.len());
-        for byte in key.as_slice() {
-            assert_eq!(rt; deque.pop_front(), Some(*byte));
-        }
+fn inline_list_keeps(
+    alloc: Global,
+    collator: &Collator,
+    text: &str,
+    key: &[u8],
+) -> Result<bool, AllocError> {
+    let mut inline: SmallVec<u8, 4> = SmallVec::new(alloc);
+    inline.push(0x7F)?;
+    let written = collator.as_borrowed().write_sort_key_to(text, &mut inline);
+    Ok(written.is_ok() && holds_both(inline.as_slice(), key))
+}
+
+fn deque_keeps(
+    alloc: Global,
+    collator: &Collator,
+    text: &str,
+    key: &[u8],
+) -> Result<bool, AllocError> {
+    let mut deque = VecDeque::new(alloc);
+    deque.push_back(0x7F)?;
+    let written = collator.as_borrowed().write_sort_key_to(text, &mut deque);
+    let mut list = Vec::new(alloc);
+    while let Some(byte) = deque.pop_front() {
+        list.push(byte)?;
+    }
+    Ok(written.is_ok() && holds_both(list.as_slice(), key))
+}
+
+#[test]
+fn lists_keep_what_they_hold(rt: HostRuntime) -> Result<(), Fail> {
+    let alloc = rt.alloc();
+    for row in &rows() {
+        let collator = row.collator(alloc)?;
+        let key = key_of(alloc, &collator, row.text)?;
+        let key = key.as_slice();
+        let are_kept = vector_keeps(alloc, &collator, row.text, key)?
+            && inline_list_keeps(alloc, &collator, row.text, key)?
+            && deque_keeps(alloc, &collator, row.text, key)?;
+        assert!(rt; are_kept, "{:?}", row.text);
     }
     Ok(())
+}
+
+/// Writes a key into a sink that refuses, and demands that it took these bytes and returned this.
+fn expect_taken(
+    rt: &impl Abort,
+    collator: &Collator,
+    text: &str,
+    mut sink: Limited,
+    taken: &[u8],
+    fault: Option<SinkFault>,
+) {
+    let result = collator.as_borrowed().write_sort_key_to(text, &mut sink);
+    let is_told = result.err() == fault.map(SortKeyError::Sink);
+    assert!(rt; is_told && sink.taken.as_slice() == taken, "{text:?}");
 }
 
 #[test]
 fn sinks_of_each_size_took_what_fits(rt: HostRuntime) -> Result<(), Fail> {
+    let alloc = rt.alloc();
     for row in &rows() {
-        let collator = row.collator(rt.alloc())?;
-        let key = key_of(rt.alloc(), &collator, row.text)?;
-        for limit in 0..key.len() + 2 {
-            let mut sink = Limited::new(rt.alloc(), limit);
-            let result = collator
-                .as_borrowed()
-                .write_sort_key_to(row.text, &mut sink);
-            let fits = limit.min(key.len());
-            if fits < key.len() {
-                assert_eq!(rt;
-                    result,
-                    Err(SortKeyError::Sink(SinkFault::Full)),
-                    "{:?} at {limit}",
-                    row.text
-                );
-            } else {
-                assert_eq!(rt; result, Ok(()), "{:?} at {limit}", row.text);
-            }
-            assert_eq!(rt;
-                Some(sink.taken.as_slice()),
-                key.get(..fits),
-                "{:?} at {limit}",
-                row.text
-            );
+        let collator = row.collator(alloc)?;
+        let key = key_of(alloc, &collator, row.text)?;
+        for limit in 0..key.len() {
+            let (fits, _) = key.as_slice().split_at(limit);
+            let sink = Limited::new(alloc, limit);
+            expect_taken(&rt, &collator, row.text, sink, fits, Some(SinkFault::Full));
         }
+        let sink = Limited::new(alloc, key.len());
+        expect_taken(&rt, &collator, row.text, sink, key.as_slice(), None);
     }
     Ok(())
 }
 
-/// Whether the bytes are a beginning of the key.
-fn is_beginning(bytes: &[u8], key: &[u8]) -> bool {
-    key.get(..bytes.len()) == Some(bytes)
+#[test]
+fn sinks_that_do_not_finish_took_all(rt: HostRuntime) -> Result<(), Fail> {
+    let alloc = rt.alloc();
+    for row in &rows() {
+        let collator = row.collator(alloc)?;
+        let key = key_of(alloc, &collator, row.text)?;
+        let sink = Limited::unfinished(alloc);
+        let fault = Some(SinkFault::Unfinished);
+        expect_taken(&rt, &collator, row.text, sink, key.as_slice(), fault);
+    }
+    Ok(())
+}
+
+/// Whether a sink that takes one byte of each write took a beginning of the key, and refused where that isn't all.
+fn takes_beginning(alloc: Global, collator: &Collator, text: &str, key: &[u8]) -> bool {
+    let mut sink = Limited::by_one(alloc);
+    let result = collator.as_borrowed().write_sort_key_to(text, &mut sink);
+    let taken = sink.taken.as_slice();
+    let is_refused = result == Err(SortKeyError::Sink(SinkFault::Full));
+    key.starts_with(taken) && is_refused == (taken.len() < key.len())
 }
 
 #[test]
-fn sinks_that_take_one_byte_of_a_write_or_do_not_finish(rt: HostRuntime) -> Result<(), Fail> {
+fn sinks_that_take_one_byte_of_a_write_took_a_beginning(rt: HostRuntime) -> Result<(), Fail> {
+    let alloc = rt.alloc();
     for row in &rows() {
-        let collator = row.collator(rt.alloc())?;
-        let borrowed = collator.as_borrowed();
-        let key = key_of(rt.alloc(), &collator, row.text)?;
-
-        let mut by_one = Limited::by_one(rt.alloc());
-        let result = borrowed.write_sort_key_to(row.text, &mut by_one);
-        let taken = by_one.taken.as_slice();
-        assert!(rt; is_beginning(taken, key.as_slice()), "{:?}", row.text);
-        let expected = if taken.len() == key.len() {
-            Ok(())
-        } else {
-            Err(SortKeyError::Sink(SinkFault::Full))
-        };
-        assert_eq!(rt; result, expected, "{:?}", row.text);
-
-        let mut unfinished = Limited::unfinished(rt.alloc());
-        let result = borrowed.write_sort_key_to(row.text, &mut unfinished);
-        let expected = Err(SortKeyError::Sink(SinkFault::Unfinished));
-        assert_eq!(rt; result, expected, "{:?}", row.text);
-        assert_eq!(rt;
-            unfinished.taken.as_slice(),
-            key.as_slice(),
-            "{:?}",
-            row.text
-        );
+        let collator = row.collator(alloc)?;
+        let key = key_of(alloc, &collator, row.text)?;
+        let is_right = takes_beginning(alloc, &collator, row.text, key.as_slice());
+        assert!(rt; is_right, "{:?}", row.text);
     }
     Ok(())
 }
