@@ -51,12 +51,12 @@ fn spoiled(words: &[&str]) -> Result<bool, Fault> {
 
 /// A little of each part.
 fn run_few(rt: &HostRuntime) -> Result<(), Fault> {
-    let tables = tables::run(rt.alloc(), 0, FEW, false)?;
+    let tables = damaged_tables::run(rt.alloc(), 0, FEW, false)?;
     println!(rt;
         "tables: {} apart, {} disordered",
         tables.apart, tables.disordered
     )?;
-    let texts = texts::run(rt.alloc(), 0, FEW, false)?;
+    let texts = random_texts::run(rt.alloc(), 0, FEW, false)?;
     println!(rt; "texts: {} apart", texts.apart)?;
     let read = readers::run(rt.alloc(), 0, FEW, false)?;
     println!(rt; "readers: {} apart", read.apart)?;
@@ -78,11 +78,11 @@ fn run_part(rt: &HostRuntime, words: &[&str]) -> Result<(), Fault> {
         [] => run_few(rt)?,
         ["tables", first, count, rest @ ..] => {
             let (first, count) = (number(first)?, number(count)?);
-            tables::run(rt.alloc(), first, count, spoiled(rest)?)?.print(rt)?;
+            damaged_tables::run(rt.alloc(), first, count, spoiled(rest)?)?.print(rt)?;
         }
         ["texts", first, count, rest @ ..] => {
             let (first, count) = (number(first)?, number(count)?);
-            texts::run(rt.alloc(), first, count, spoiled(rest)?)?.print(rt)?;
+            random_texts::run(rt.alloc(), first, count, spoiled(rest)?)?.print(rt)?;
         }
         ["readers", first, count, rest @ ..] => {
             let (first, count) = (number(first)?, number(count)?);

@@ -1,4 +1,5 @@
 //! An index of names over the tables of Mini.
+use crate::calls;
 use icu_comparison::Collator;
 use icu_index::NameIndex;
 use icu_mini::mini::Mini;
@@ -12,12 +13,8 @@ fn collator(alloc: Global, strength: Strength) -> Result<Collator, Fail> {
         strength: Some(strength),
         ..CollatorOptions::default()
     };
-    Ok(Collator::try_new_unstable(
-        alloc,
-        &mini.provider(),
-        CollatorPreferences::default(),
-        options,
-    )?)
+    let preferences = CollatorPreferences::default();
+    Ok(calls::collator(alloc, &mini.provider(), preferences, options)?)
 }
 
 /// Names with a line feed after each, in the order of an index.

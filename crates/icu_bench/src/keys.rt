@@ -1,4 +1,5 @@
 //! The sort keys of texts in each kind of sink. Rows of keys stand in `icu_rows`.
+use crate::calls;
 use crate::limited::{Limited, SinkFault};
 use icu_comparison::{Collator, SortKeyError, TooSmall};
 use icu_mini::mini::Mini;
@@ -46,7 +47,7 @@ impl Row {
             case_first: Some(self.case_first),
             ..CollatorPreferences::default()
         };
-        Ok(Collator::try_new_unstable(alloc, &mini.provider(), preferences, options)?)
+        Ok(calls::collator(alloc, &mini.provider(), preferences, options)?)
     }
 }
 
@@ -89,7 +90,7 @@ fn rows() -> [Row; 12] {
 /// The key of a row.
 fn key_of(alloc: Global, collator: &Collator, text: &str) -> Result<Vec<u8>, Fail> {
     let mut key = Vec::new(alloc);
-    match collator.as_borrowed().write_sort_key_to(text, &mut key) {
+    match calls::write(collator, text, &mut key) {
         Ok(()) => Ok(key),
         Err(SortKeyError::Sink(error)) => Err(error.into()),
         Err(SortKeyError::NoMemory) => Err(AllocError.into()),
@@ -112,11 +113,12 @@ impl Call {
         text: &str,
         slice: &mut &mut [u8],
     ) -> Result<usize, SortKeyError<TooSmall>> {
-        let borrowed = collator.as_borrowed();
         match self {
-            Call::Characters => borrowed.write_sort_key_to(text, slice),
-            Call::Utf8 => borrowed.write_sort_key_utf8_to(text.as_bytes(), slice),
-            Call::Utf16(units) => borrowed.write_sort_key_utf16_to(units, slice),
+            Call::Characters => calls::write(collator, text, slice),
+            Call::Utf8 => collator
+                .as_borrowed()
+                .write_sort_key_utf8_to(text.as_bytes(), slice),
+            Call::Utf16(units) => collator.as_borrowed().write_sort_key_utf16_to(units, slice),
         }
     }
 }
@@ -184,7 +186,7 @@ fn vector_keeps(
     key: &[u8],
 ) -> Result<bool, AllocError> {
     let mut vector = vec![in alloc; 0x7F]?;
-    let written = collator.as_borrowed().write_sort_key_to(text, &mut vector);
+    let written = calls::write(collator, text, &mut vector);
     Ok(written.is_ok() && holds_both(vector.as_slice(), key))
 }
 
@@ -196,7 +198,7 @@ fn inline_list_keeps(
 ) -> Result<bool, AllocError> {
     let mut inline: SmallVec<u8, 4> = SmallVec::new(alloc);
     inline.push(0x7F)?;
-    let written = collator.as_borrowed().write_sort_key_to(text, &mut inline);
+    let written = calls::write(collator, text, &mut inline);
     Ok(written.is_ok() && holds_both(inline.as_slice(), key))
 }
 
@@ -208,7 +210,7 @@ fn deque_keeps(
 ) -> Result<bool, AllocError> {
     let mut deque = VecDeque::new(alloc);
     deque.push_back(0x7F)?;
-    let written = collator.as_borrowed().write_sort_key_to(text, &mut deque);
+    let written = calls::write(collator, text, &mut deque);
     let mut list = Vec::new(alloc);
     while let Some(byte) = deque.pop_front() {
         list.push(byte)?;
@@ -240,7 +242,7 @@ fn expect_taken(
     taken: &[u8],
     fault: Option<SinkFault>,
 ) {
-    let result = collator.as_borrowed().write_sort_key_to(text, &mut sink);
+    let result = calls::write(collator, text, &mut sink);
     let is_told = result.err() == fault.map(SortKeyError::Sink);
     assert!(rt; is_told && sink.taken.as_slice() == taken, "{text:?}");
 }
@@ -278,7 +280,7 @@ fn sinks_that_do_not_finish_took_all(rt: HostRuntime) -> Result<(), Fail> {
 /// Whether a sink that takes one byte of each write took a beginning of the key, and refused where that isn't all.
 fn takes_beginning(alloc: Global, collator: &Collator, text: &str, key: &[u8]) -> bool {
     let mut sink = Limited::by_one(alloc);
-    let result = collator.as_borrowed().write_sort_key_to(text, &mut sink);
+    let result = calls::write(collator, text, &mut sink);
     let taken = sink.taken.as_slice();
     let is_refused = result == Err(SortKeyError::Sink(SinkFault::Full));
     key.starts_with(taken) && is_refused == (taken.len() < key.len())

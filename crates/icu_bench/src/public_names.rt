@@ -1,4 +1,5 @@
 //! Each public name of the library once, by the path that a caller writes: a name that is lost fails here.
+use crate::calls;
 use icu_collator::comparison::{AnyQuaternaryAccumulator, SortKeyError, TooSmall};
 use icu_collator::elements::{
     CollationElement, CollationElement32, CollationElements, ElementTables, NonPrimary, Tag,
@@ -153,16 +154,12 @@ fn loaded_tables_have_their_names(rt: HostRuntime) -> Result<(), Fail> {
 #[test]
 fn collators_have_their_names(rt: HostRuntime) -> Result<(), Fail> {
     let mini = Mini::new(rt.alloc())?;
-    let collator = Collator::try_new_unstable(
-        rt.alloc(),
-        &mini.provider(),
-        CollatorPreferences::default(),
-        CollatorOptions::default(),
-    )?;
+    let (preferences, options) = (CollatorPreferences::default(), CollatorOptions::default());
+    let collator: Collator = calls::collator(rt.alloc(), &mini.provider(), preferences, options)?;
     let borrowed: CollatorBorrowed<'_> = collator.as_borrowed();
     assert_eq!(rt; borrowed.compare("ab", "aB")?, Ordering::Less);
     let mut key = Vec::new(rt.alloc());
-    assert_eq!(rt; borrowed.write_sort_key_to("A", &mut key), Ok(()));
+    assert_eq!(rt; calls::write(&collator, "A", &mut key), Ok(()));
     assert_eq!(rt;
         key.as_slice(),
         [0x61, 0x10, 1, 5, 1, 1, 0xDC, 1].as_slice()

@@ -4,6 +4,7 @@ ghost use Rattle.icu_bench.specs.RequestedProvider.{by_request};
 ghost use Rattle.icu_mini.specs.Provider.{loads_of};
 ghost use Rattle.icu_provider.specs.Requests.{request_of};
 
+use crate::calls;
 use icu_comparison::Collator;
 use icu_data::CollationData;
 use icu_entries::{DataError, DataErrorKind, DataTable};
@@ -76,7 +77,7 @@ impl<'m> ByRequest<'m> {
             collation_type,
             ..CollatorPreferences::default()
         };
-        Collator::try_new_unstable(alloc, self, preferences, CollatorOptions::default())
+        calls::collator(alloc, self, preferences, CollatorOptions::default())
     }
 }
 

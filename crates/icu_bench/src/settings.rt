@@ -1,5 +1,5 @@
 //! The settings of a collator.
-use icu_comparison::Collator;
+use crate::calls;
 use icu_mini::mini::Mini;
 use icu_options::{
     AlternateHandling, CaseLevel, CollationCaseFirst, CollationNumericOrdering, CollatorOptions,
@@ -17,7 +17,7 @@ fn settings_come_from_their_sources(rt: HostRuntime) -> Result<(), Fail> {
         numeric_ordering: Some(CollationNumericOrdering::True),
         ..CollatorPreferences::default()
     };
-    let collator = Collator::try_new_unstable(
+    let collator = calls::collator(
         rt.alloc(),
         &mini.provider(),
         preferences,
