@@ -34,6 +34,9 @@ static bool measure(std::vector<Row> &rows, bool numeric, uint64_t rounds, const
             served.push_back(&row);
         }
     }
+    if (served.empty()) {
+        return true;
+    }
     Session passes(texts, served, numeric, rounds, !root.empty());
     session = &passes;
     const auto as_bytes = [](const std::string &it) { return reinterpret_cast<const uint8_t *>(it.data()); };
