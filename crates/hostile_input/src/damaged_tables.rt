@@ -5,6 +5,7 @@ use crate::base_tables::{BASES, base, copied};
 use crate::damage::damage;
 use crate::dice::Dice;
 use crate::random_texts::any_text;
+use crate::settings::collator_by;
 use crate::tally::Tally;
 use icu_checks::CheckedTables;
 use icu_comparison::Collator;
@@ -73,12 +74,7 @@ fn by_provider(alloc: Global, mini: &Mini) -> Result<Collator, DataError> {
         strength: Some(Strength::Identical),
         ..CollatorOptions::default()
     };
-    Collator::try_new_unstable(
-        alloc,
-        &mini.provider(),
-        CollatorPreferences::default(),
-        options,
-    )
+    collator_by(alloc, mini, CollatorPreferences::default(), options)
 }
 
 /// Whether all calls of a collator order some texts alike.

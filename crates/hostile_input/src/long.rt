@@ -1,6 +1,6 @@
 //! Long texts: how two of them are ordered, and how long the key of the first is.
 use crate::fault::Fault;
-use crate::settings::Setting;
+use crate::settings::{Setting, collator_by};
 use icu_comparison::{Collator, SortKeyError};
 use icu_mini::mini::Mini;
 use icu_options::{CollationNumericOrdering, CollatorOptions, CollatorPreferences, Strength};
@@ -131,7 +131,7 @@ fn with_beginnings(alloc: Global, strength: Strength) -> Result<Collator, Fault>
         ..CollatorOptions::default()
     };
     let preferences = CollatorPreferences::default();
-    Ok(Collator::try_new_unstable(alloc, &mini.provider(), preferences, options)?)
+    Ok(collator_by(alloc, &mini, preferences, options)?)
 }
 
 /// How many bytes the key of a text has.

@@ -2,6 +2,8 @@
 use crate::base_tables::base;
 use crate::fault::Fault;
 use icu_comparison::Collator;
+use icu_entries::DataError;
+use icu_mini::mini::Mini;
 use icu_options::{
     AlternateHandling, CaseLevel, CollationCaseFirst, CollationNumericOrdering, CollatorOptions,
     CollatorPreferences, MaxVariable, Strength,
@@ -46,8 +48,18 @@ impl Setting {
             numeric_ordering: Some(self.numeric),
             ..CollatorPreferences::default()
         };
-        Ok(Collator::try_new_unstable(alloc, &mini.provider(), preferences, options)?)
+        Ok(collator_by(alloc, &mini, preferences, options)?)
     }
+}
+
+/// The collator by tables and settings. All parts make theirs here: a function with this call is dear to prove.
+pub(crate) fn collator_by(
+    alloc: Global,
+    mini: &Mini,
+    preferences: CollatorPreferences<'_>,
+    options: CollatorOptions,
+) -> Result<Collator, DataError> {
+    Collator::try_new_unstable(alloc, &mini.provider(), preferences, options)
 }
 
 /// All strengths, and each other setting and each kind of table at some of them.

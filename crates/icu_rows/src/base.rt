@@ -3,6 +3,7 @@ use crate::changes::change;
 use crate::settings::named_sources;
 use icu_comparison::Collator;
 use icu_mini::mini::Mini;
+use icu_options::{CollatorOptions, CollatorPreferences};
 use std::alloc::{AllocError, Global};
 
 /// Mini, or the variant of it with this name.
@@ -46,6 +47,15 @@ pub(crate) fn tables(alloc: Global, written: &str) -> Option<Mini> {
 pub(crate) fn collator(alloc: Global, written: &str, named: &str) -> Option<Collator> {
     let named = named_sources(alloc, named)?;
     let mini = tables(alloc, written)?;
-    let (preferences, options) = (named.preferences, named.options);
+    collator_by(alloc, &mini, named.preferences, named.options)
+}
+
+/// The collator by tables and settings. All rows make theirs here: a function with this call is dear to prove.
+pub(crate) fn collator_by(
+    alloc: Global,
+    mini: &Mini,
+    preferences: CollatorPreferences<'_>,
+    options: CollatorOptions,
+) -> Option<Collator> {
     Collator::try_new_unstable(alloc, &mini.provider(), preferences, options).ok()
 }

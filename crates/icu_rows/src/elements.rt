@@ -1,9 +1,8 @@
 //! The elements of a text.
 ghost use Rattle.icu_elements.specs.CollationElements.{CanGive};
 
-use crate::base::tables;
+use crate::base::{collator_by, tables};
 use crate::notation::characters;
-use icu_comparison::Collator;
 use icu_elements::{CollationElements, all_elements};
 use icu_entries::CollationElement;
 use icu_options::{CollatorOptions, CollatorPreferences};
@@ -16,13 +15,8 @@ pub(crate) fn elements(alloc: Global, row: &str) -> Option<String> {
     let (written, row) = row.split_once('|')?;
     let (settings, row) = row.split_once('|')?;
     let mini = tables(alloc, written)?;
-    let collator = Collator::try_new_unstable(
-        alloc,
-        &mini.provider(),
-        CollatorPreferences::default(),
-        CollatorOptions::default(),
-    )
-    .ok()?;
+    let (preferences, options) = (CollatorPreferences::default(), CollatorOptions::default());
+    let collator = collator_by(alloc, &mini, preferences, options)?;
     let text = characters(alloc, row.trim())?;
     let tables = collator.as_borrowed().tables();
     let lead = match settings.trim() {

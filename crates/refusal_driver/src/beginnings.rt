@@ -1,5 +1,5 @@
 //! Texts that are the same, and texts with a common beginning, for which nothing is allocated.
-use crate::collators::fault_of;
+use crate::collators::{collator_by, fault_of};
 use crate::comparisons::{Texts, print_order};
 use crate::fault::{Fault, twice};
 use icu_comparison::Collator;
@@ -58,7 +58,7 @@ fn number_collator(rt: &HostRuntime, mini: &Mini) -> Result<Collator, Fault> {
         ..CollatorPreferences::default()
     };
     let options = CollatorOptions::default();
-    Collator::try_new_unstable(rt.alloc(), &mini.provider(), preferences, options).map_err(fault_of)
+    collator_by(rt.alloc(), mini, preferences, options).map_err(fault_of)
 }
 
 /// Runs one of the parts whose numbers of allocations are compared: a collator alone, texts that are the same, short

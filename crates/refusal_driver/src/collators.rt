@@ -34,17 +34,22 @@ pub(crate) fn fault_of(refusal: DataError) -> Fault {
     }
 }
 
+/// A collator by these tables and settings. All parts make theirs here: a function with this call is dear to prove.
+pub(crate) fn collator_by(
+    alloc: Global,
+    mini: &Mini,
+    preferences: CollatorPreferences<'_>,
+    options: CollatorOptions,
+) -> Result<Collator, DataError> {
+    Collator::try_new_unstable(alloc, &mini.provider(), preferences, options)
+}
+
 fn try_collator(alloc: Global, mini: &Mini, strength: Strength) -> Result<Collator, DataError> {
     let options = CollatorOptions {
         strength: Some(strength),
         ..CollatorOptions::default()
     };
-    Collator::try_new_unstable(
-        alloc,
-        &mini.provider(),
-        CollatorPreferences::default(),
-        options,
-    )
+    collator_by(alloc, mini, CollatorPreferences::default(), options)
 }
 
 /// A collator by these tables.
