@@ -136,11 +136,19 @@ fn loaded_tables_have_their_names(rt: HostRuntime) -> Result<(), Fail> {
     };
     let tailoring = provider.load_tailoring(DataRequest::default());
     assert_eq!(rt; tailoring.err(), Some(absent));
-    let set: TableSet<'_> = load_tables(&provider, "", None)?;
-    let are_special = set.special.numeric_primary() == 0x0F
-        && set.special.last_primary_for_group(MaxVariable::Space) == 0x03FF_FFFF
-        && set.special.is_compressible(0x61);
+    let special = provider.load_special_primaries()?;
+    let are_special = special.numeric_primary() == 0x0F
+        && special.last_primary_for_group(MaxVariable::Space) == 0x03FF_FFFF
+        && special.is_compressible(0x61);
     assert!(rt; are_special);
+    Ok(())
+}
+
+#[test]
+fn checked_tables_have_their_names(rt: HostRuntime) -> Result<(), Fail> {
+    let mini = Mini::new(rt.alloc())?;
+    let provider = mini.provider();
+    let set: TableSet<'_> = load_tables(&provider, "", None)?;
     let tables = CheckedTables::from_set(rt.alloc(), set)?;
     let tables: ElementTables<'_> = ElementTables::new(&tables);
     let mut first = CollationElements::new("a".chars(), tables, None, false);
@@ -159,12 +167,9 @@ fn collators_have_their_names(rt: HostRuntime) -> Result<(), Fail> {
     let borrowed: CollatorBorrowed<'_> = collator.as_borrowed();
     assert_eq!(rt; borrowed.compare("ab", "aB")?, Ordering::Less);
     let mut key = Vec::new(rt.alloc());
-    assert_eq!(rt; calls::write(&collator, "A", &mut key), Ok(()));
-    assert_eq!(rt;
-        key.as_slice(),
-        [0x61, 0x10, 1, 5, 1, 1, 0xDC, 1].as_slice()
-    );
-    assert_eq!(rt; borrowed.resolved_options().strength, Strength::Tertiary);
+    let is_written = calls::write(&collator, "A", &mut key).is_ok();
+    assert!(rt; is_written && key.as_slice() == [0x61, 0x10, 1, 5, 1, 1, 0xDC, 1].as_slice());
+    assert!(rt; borrowed.resolved_options().strength == Strength::Tertiary);
     let none = elements::all_elements(borrowed.tables(), "".chars(), None, false)?;
     assert!(rt; none.is_empty());
     comparison::laws::good_tables_serve_levels();
