@@ -4,11 +4,11 @@
 #[cfg(test)]
 mod elements;
 #[cfg(test)]
+mod errors;
+#[cfg(test)]
 mod matches;
 #[cfg(test)]
 mod options;
-#[cfg(test)]
-mod requests;
 #[cfg(test)]
 mod sinks;
 #[cfg(test)]
