@@ -1,9 +1,10 @@
 -- The weights that a list comes to hold, table by table.
-use Rattle.std.proofs.Common.{◌≡◌, ◌↔◌, ◌⊎◌, ℕ, ◌+◌, ◌-◌, ◌<◌, ◌++◌, false, true, Bool, Result, Ok, Err, OnOk, List, [], ◌∷◌, length, slice_index, Option, Some, None, IsTrue, refl, sym, ap, ◌∙◌, subst, inl, inr, arith, option_map}
+use Rattle.std.proofs.Common.{◌≡◌, ◌↔◌, ◌⊎◌, ℕ, ◌+◌, ◌-◌, ◌<◌, ◌++◌, false, true, Bool, Result, OnOk, List, [], ◌∷◌, length, slice_index, Option, Some, None, IsTrue, refl, sym, ap, ◌∙◌, subst, inl, inr, arith, option_map}
 use Rattle.std.proofs.lemmas.Bool.{cases_eq}
 use Rattle.std.proofs.lemmas.Bool.Decides.{nat_tests}
 use Rattle.std.proofs.lemmas.List.Elements.{Contains-append_left, Contains-append_right, Contains-append_cases}
 use Rattle.std.specs.List.{Contains}
+use Rattle.icu_data.proofs.WalkLemmas.{on_ok}
 use Rattle.icu_data.specs.declared.data.CollationData.{CollationData}
 use Rattle.icu_entries.specs.declared.error.DataTable.TheVariants.{Root, Jamo, SpecialPrimaries, Metadata, Tailoring, Reordering, Diacritics}
 use Rattle.icu_entries.specs.Elements.{of_secondary}
@@ -202,10 +203,6 @@ module _ (list : WeightList) (all : CollatorTables) where
   reordering_none w is = is.read.live
 
 -- ---- as tables are returned
-
-on_ok : {X E : Type 0} (A B : Type 0) → (A → B) → (r : Result X E) → OnOk r A → OnOk r B
-on_ok A B f (Ok x) h = f h
-on_ok A B f (Err e) h = tt
 
 abbrev Found : (ℕ → Type 0) → List ℕ → List ℕ → Type 0
 Found P old new = (w : ℕ) → Contains new w ↔ (Contains old w ⊎ P w)

@@ -26,7 +26,7 @@ use Rattle.icu_checks.specs.ElementConditions.{implicit_lead, is_tertiary_elemen
 use Rattle.icu_checks.specs.LiveElements.{IsElementBy}
 use Rattle.icu_checks.specs.inner.EntryViolations.{MeetsIn, LiveMeets}
 use Rattle.icu_checks.specs.inner.ComparedWeights.{left_aligned, nonzero, uncommon, weight_at, IsReadBy}
-use Rattle.icu_checks.proofs.EntryViolationLemmas.{readable}
+use Rattle.icu_data.proofs.ViolationLemmas.{meets_readable}
 use Rattle.icu_checks.proofs.ImplicitLemmas.{implicit_bytes, weighs_nothing}
 
 -- ---- elements
@@ -92,7 +92,7 @@ module _ (all : CollatorTables) where
     char = is.char;
     entry = is.entry;
     live = is.live;
-    stated = stated_from is.home is.char is.entry x (readable is.home is.char is.entry (λ condition. met.root.entries condition is.home is.char is.entry is.live)) is.member explicit;
+    stated = stated_from is.home is.char is.entry x (meets_readable is.home is.char is.entry (λ condition. met.root.entries condition is.home is.char is.entry is.live)) is.member explicit;
     member = is.member;
   }
   read_by met Jamo x is explicit = record {
@@ -100,7 +100,7 @@ module _ (all : CollatorTables) where
     char = is.char;
     entry = is.entry;
     live = is.live;
-    stated = stated_from is.home is.char is.entry x (readable is.home is.char is.entry (λ condition. met.jamo.entries condition is.home is.char is.entry is.live)) is.member explicit;
+    stated = stated_from is.home is.char is.entry x (meets_readable is.home is.char is.entry (λ condition. met.jamo.entries condition is.home is.char is.entry is.live)) is.member explicit;
     member = is.member;
   }
   read_by met Tailoring x is explicit = record {
@@ -108,7 +108,7 @@ module _ (all : CollatorTables) where
     char = is.char;
     entry = is.entry;
     live = is.live;
-    stated = stated_from is.home is.char is.entry x (readable is.home is.char is.entry (λ condition. met.tailoring.entries condition is.home is.char is.entry is.live)) is.member explicit;
+    stated = stated_from is.home is.char is.entry x (meets_readable is.home is.char is.entry (λ condition. met.tailoring.entries condition is.home is.char is.entry is.live)) is.member explicit;
     member = is.member;
   }
   read_by met SpecialPrimaries x is explicit = absurd is.live

@@ -1,20 +1,17 @@
 -- The violations of entries and elements are true, and where there is none every condition is met.
 use Rattle.std.proofs.Common.{◌≡◌, ℕ, Bool, true, false, not, ◌&&◌, List, [], ◌∷◌, Option, Some, None, IfSome, IsTrue, if◌then◌else◌, fold, option_map, length, refl, ap, ◌∙◌}
-use Rattle.std.proofs.lemmas.Bool.{and_parts}
 use Rattle.std.specs.List.{AllByRecursion, Contains}
 use Rattle.icu_entries.specs.declared.error.DataTable.{DataTable}
 use Rattle.icu_entries.specs.declared.error.DataTable.TheVariants.{Root, Jamo, SpecialPrimaries, Metadata, Tailoring, Reordering, Diacritics}
 use Rattle.icu_data.specs.declared.live_condition.LiveCondition.{LiveCondition}
-use Rattle.icu_data.specs.declared.live_condition.LiveCondition.TheVariants as live
 use Rattle.icu_entries.specs.Elements.{Element}
 use Rattle.icu_data.specs.Data.{Data, homed}
 use Rattle.icu_data.specs.Final.{final_elements}
-use Rattle.icu_data.specs.DataConditions.{is_inside, has_known_members, fits_offset, avoids_diacritics, is_readable}
-use Rattle.icu_entries.specs.EntryConditions.{has_known_byte}
+use Rattle.icu_data.specs.DataConditions.{avoids_diacritics, is_readable}
 use Rattle.icu_data.specs.Violations.{earlier}
 use Rattle.icu_data.specs.Live.{goes_by_character}
 use Rattle.icu_data.specs.LiveConditions.{meets, first_failing}
-use Rattle.icu_data.proofs.ViolationLemmas.{find_passes, find_none, not_false, not_true, weaker_some, passes_meets, failing_fails, earlier-none, earlier-keeps}
+use Rattle.icu_data.proofs.ViolationLemmas.{find_passes, find_none, not_false, not_true, weaker_some, passes_meets, meets_readable, failing_fails, earlier-none, earlier-keeps}
 use Rattle.icu_data.proofs.SameEntryLemmas.{failing_alike, readable_alike, elements_alike}
 use Rattle.icu_data.proofs.ListLemmas.{weaker, all_members}
 use Rattle.icu_checks.specs.declared.condition.Condition.TheVariants as conditions
@@ -45,19 +42,9 @@ map_some f P Q g (Some x) h = g x h
 
 -- ---- one element
 
-all_three : (a b d : Bool) → IsTrue a → IsTrue b → IsTrue d → IsTrue (a && b && d)
-all_three true true true p q r = refl
-all_three false b d p q r = cc
-all_three true false d p q r = cc
-all_three true true false p q r = cc
-
-pub readable : (home : Data) (c e : ℕ) → ((condition : LiveCondition) → IsTrue (meets condition home c e)) → IsTrue (is_readable home c e)
-unfolding is_readable
-readable home c e own = all_three (is_inside home e) (has_known_members home e) (fits_offset home c e) (own live.Indices) (and_parts (has_known_byte e) (has_known_members home e) (own live.Bytes)).1 (own live.Offsets)
-
 -- an entry that fails no condition can be read
 pub is_readable_where_none_fails : (home : Data) (c e : ℕ) → first_failing home c e ≡ None → IsTrue (is_readable home c e)
-is_readable_where_none_fails home c e none = readable home c e (passes_meets home c e none)
+is_readable_where_none_fails home c e none = meets_readable home c e (passes_meets home c e none)
 
 module _ (all : CollatorTables) where
   abbrev pub MeetsAll : Element → Type 0
@@ -125,7 +112,7 @@ module _ (all : CollatorTables) where
       record {
         own = own;
         rows = no_rows (avoids_diacritics (length all.tables.diacritics) home e) _ two.1;
-        elements = (elements_none table None (final_elements (homed home e) c) (read_none (is_readable home c e) (elements_violation all table home c e) (readable home c e own) both.1)).1;
+        elements = (elements_none table None (final_elements (homed home e) c) (read_none (is_readable home c e) (elements_violation all table home c e) (meets_readable home c e own) both.1)).1;
       }
 
   element_by : (table : DataTable) (home : Data) (c e : ℕ) (x : Element) → IsLiveBy table all.tables home c e → Contains (final_elements (homed home e) c) x → IsElementBy table all.tables x

@@ -16,6 +16,7 @@ use Rattle.icu_data.specs.LiveConditions.{first_failing}
 use Rattle.icu_data.specs.Violations.{earlier}
 use Rattle.icu_data.proofs.ViolationLemmas.{none_found, negated}
 use Rattle.icu_data.proofs.RunLemmas.{ordinal_rises}
+use Rattle.icu_weights.proofs.LeadLemmas.{replaced, stays}
 use Rattle.icu_provider.specs.Reorderings.{Reordering, lead_byte, with_lead, reordered}
 use Rattle.icu_provider.specs.SpecialPrimaries.{is_compressible}
 use Rattle.icu_provider.specs.CollatorTables.{CollatorTables, is_forward, reorder}
@@ -30,10 +31,6 @@ use Rattle.icu_checks.proofs.EntryViolationLemmas.{passes_element, without_own}
 pub kept_whole : (b : ℕ) → TakesWhole None b
 kept_whole b p q at_p at_q = at_p ∙ sym at_q
 
-replaced : (r : Reordering) (p : ℕ) → (slice_index r.leads (lead_byte p) == 0) ≡ false → reordered r p ≡ with_lead (slice_index r.leads (lead_byte p)) p
-unfolding reordered
-replaced r p h = rw h refl
-
 isnt_zero : (b : ℕ) → b ≢ 0 → nat_eq b 0 ≡ false
 isnt_zero b h = grind (arith, nat_tests, h)
 
@@ -47,10 +44,6 @@ lead_replaced r b p given at =
 
 pub replaced_whole : (r : Reordering) (b : ℕ) → slice_index r.leads b ≢ 0 → TakesWhole (Some r) b
 replaced_whole r b given p q at_p at_q = lead_replaced r b p given at_p ∙ sym (lead_replaced r b q given at_q)
-
-stays : (r : Reordering) (p : ℕ) → (slice_index r.leads (lead_byte p) == 0) ≡ true → (nat_le p 1 || nat_le r.limit p) ≡ true → reordered r p ≡ p
-unfolding reordered
-stays r p h s = rw (h, s) refl
 
 lead_stays : (r : Reordering) (b p : ℕ) → (slice_index r.leads b == 0) ≡ true → r.limit ≤ b * 0x1000000 → lead_byte p ≡ b → lead_byte (reordered r p) ≡ b
 lead_stays r b p zero_byte limit at =

@@ -112,6 +112,7 @@ impl<'c, 'd, T: EncodedText> HandledSource for HandledText<'c, 'd, T> {
 
     ghost handled_left = { handled_to_come T.text };
 
+    #[inline(always)]
     fn next_handled(&mut self) -> Result<Option<Handled>, AllocError> {
         'passing: while let Some(element) = self.elements.next()? {
             let next = self.weighting.handle(element);

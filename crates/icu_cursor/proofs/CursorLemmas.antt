@@ -1,5 +1,5 @@
 -- What a cursor still gives, as it goes on.
-use Rattle.std.proofs.Common.{◌≡◌, ℕ, ◌≤◌, false, List, [], ◌∷◌, ◌++◌, length, take, get_or, Option, Some, None, is_some, Result, Ok, Err, IfOk, refl, sym, ap, ap₂, ◌∙◌, append_assoc, arith}
+use Rattle.std.proofs.Common.{◌≡◌, ℕ, ◌≤◌, false, List, [], ◌∷◌, ◌++◌, length, take, get_or, Option, Some, None, is_some, Result, Ok, Err, IfOk, refl, sym, ap, ap₂, ◌∙◌, append_assoc}
 use Rattle.std.specs.Prelude.{option_to_list}
 use Rattle.ucd_normal.specs.declared.forms.Form.TheVariants.{Nfd}
 use Rattle.unicode_normalization.specs.Decompose.{decompose}
@@ -8,15 +8,12 @@ use Rattle.icu_entries.specs.Elements.{Element}
 use Rattle.icu_elements.specs.TextElements.{Reading, elements_after}
 use Rattle.icu_cuts.specs.Alone.{context_after}
 use Rattle.icu_shortcuts.specs.declared.letter_facts.Letter.{Letter}
+use Rattle.icu_shortcuts.proofs.SyllableLemmas.{first_of}
 use Rattle.icu_shortcuts.specs.Letters.{letter_elements}
 use Rattle.icu_cursor.specs.declared.piece.Piece.{Piece}
 use Rattle.icu_cursor.specs.inner.Pieces.{IsPiece, piece_gives}
 use Rattle.icu_cursor.specs.inner.Standing.{StandsBefore}
 use Rattle.icu_cursor.proofs.PieceLemmas.{nothing, pieces_part}
-
-first_of : (xs : List Element) (e d : Element) → 1 ≤ length xs → e ≡ get_or xs 0 d → take 1 xs ≡ e ∷ []
-first_of [] e d some is = absurd (omega arith)
-first_of (x ∷ xs) e d some is = ap (λ y. y ∷ []) (sym is)
 
 -- where neither a letter nor a piece has elements left
 pub nothing_ready : (ready piece rest : List Element) → ready ≡ [] → piece ≡ [] → ready ++ (piece ++ rest) ≡ rest

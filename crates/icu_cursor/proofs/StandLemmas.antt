@@ -1,5 +1,5 @@
 -- Letters that are read by themselves, and the runs of marks that they stand before.
-use Rattle.std.proofs.Common.{◌≡◌, ◌≢◌, ℕ, ◌<◌, ◌≤◌, Bool, true, false, not, ◌&&◌, ◌||◌, ◌==◌, nat_le, List, [], ◌∷◌, ◌++◌, length, get_or, flat_map, Option, Some, None, IfSome, refl, sym, ap, subst, ◌∙◌, arith}
+use Rattle.std.proofs.Common.{◌≡◌, ◌≢◌, ℕ, ◌<◌, ◌≤◌, Bool, true, false, not, ◌&&◌, ◌||◌, ◌==◌, nat_le, List, [], ◌∷◌, ◌++◌, length, get_or, flat_map, Option, Some, None, IfSome, refl, sym, ap, ◌∙◌, arith}
 use Rattle.std.proofs.lemmas.Bool.{and_parts, and_from, not-true, eqb-true, eq-eqb, ne_eqb, le-leb}
 use Rattle.ucd_normal.specs.CanonicalCombiningClass.{canonical_combining_class as class_of}
 use Rattle.ucd_normal.specs.declared.forms.Form.TheVariants.{Nfd}
@@ -16,6 +16,7 @@ use Rattle.icu_cuts.specs.Alone.{context_after, stays_first, all_stay, rises_fro
 use Rattle.icu_cuts.proofs.AloneLemmas.{letter_of_starters, letter_that_stays}
 use Rattle.icu_cuts.proofs.NfdLemmas.{stays_first-rises}
 use Rattle.icu_shortcuts.specs.declared.letter_facts.Letter.{Letter}
+use Rattle.icu_shortcuts.proofs.KeptLemmas.{some_is}
 use Rattle.icu_shortcuts.specs.Letters.{StandsAlone, HasStarters, IsMarkedStarter, IsLoneMark, IsBase, IsNumberDigit, IsLetter, letter_elements, rises_to}
 use Rattle.icu_cursor.specs.inner.Places.{BeginsSafely}
 use Rattle.icu_cursor.specs.inner.MarkRuns.{Rises, EndsRuns, IsInRun}
@@ -99,10 +100,6 @@ base_stands reading c l text h safe = λ before.
     let after = context_after before (decompose Nfd c) in
     parted reading before after (c ∷ []) text safe ∙ ap (λ (es : List Element). es ++ elements_after reading after (nfd text)) (h.at_end before)
 
-some_is : (o : Option ℕ) (P : ℕ → Type 0) → IfSome o P → (d : ℕ) → o ≡ Some d → P d
-some_is (Some e) P h d is = let same : e ≡ d = cc in subst P same h
-some_is None P h d is = absurd (cc)
-
 pub serves : (reading : Reading) (c : ℕ) (l : Letter) → IsLetter reading c l → Serves reading c l
 serves reading c l h = record {
   starters = λ kind text. starters_stand reading c l text (h.starters kind);
@@ -128,11 +125,6 @@ found kept None P Q prop turn h = tt
 found kept (Some x) P Q prop turn h = ∥∥₁_elim kept (prop x) (λ a. turn x (h a))
 
 -- ---- what a character decomposes to
-
-pub one_item : (xs : List ℕ) (x d : ℕ) → 1 ≤ length xs → length xs < 2 → x ≡ get_or xs 0 d → xs ≡ x ∷ []
-one_item [] x d some few is = absurd (omega arith)
-one_item (y ∷ []) x d some few is = ap (λ z. z ∷ []) (sym is)
-one_item (y ∷ (z ∷ zs)) x d some few is = absurd (omega arith)
 
 pub first_item : (xs : List ℕ) (x d : ℕ) → 1 ≤ length xs → x ≡ get_or xs 0 d → (more : List ℕ) × (xs ≡ x ∷ more)
 first_item [] x d some is = absurd (omega arith)

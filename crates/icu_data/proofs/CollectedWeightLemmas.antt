@@ -45,7 +45,7 @@ pub contained-held : (ws : List ℕ) (w : ℕ) → Contains ws w → holds ws w 
 unfolding holds
 contained-held ws w h = list_any-from_Any (λ v. v == w) ws (h.0, w, h.1, h.2, equal_number w w refl)
 
-same_bool : (a b : Bool) → (a ≡ true → b ≡ true) → (b ≡ true → a ≡ true) → a ≡ b
+pub same_bool : (a b : Bool) → (a ≡ true → b ≡ true) → (b ≡ true → a ≡ true) → a ≡ b
 same_bool true b f g = sym (f refl)
 same_bool false true f g = g refl
 same_bool false false f g = refl

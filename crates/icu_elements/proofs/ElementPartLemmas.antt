@@ -16,6 +16,7 @@ use Rattle.icu_provider.specs.Tables.{Tables, is_jamo, tailored_entry, entry_of,
 use Rattle.icu_data.specs.Final.{final_elements}
 use Rattle.icu_data.specs.Live.{live_digit, live_contraction, live_from, EachLive}
 use Rattle.icu_data.proofs.ListLemmas.{weaker}
+use Rattle.icu_data.proofs.ViolationLemmas.{weaker_some}
 use Rattle.icu_matches.specs.Matches.{Match, match_of}
 use Rattle.icu_elements.specs.TextElements.{Reading, Step, is_silent_dot, continues_number, begins_with_mark, digit_of, number_elements, number_step, entry_step, diacritic_step, matched_step, step, consumed, last_two, elements_along, elements_after, elements_of}
 use Rattle.icu_provider.specs.LiveTables.{jamo_entry, AllLive, HasDigits}
@@ -191,16 +192,12 @@ elements_of-pass test reading pass =
 
 -- ---- a weaker fact of live entries
 
-some_weaker : {X : Type 0} (P Q : X → Type 0) → ((x : X) → P x → Q x) → (o : Option X) → IfSome o P → IfSome o Q
-some_weaker P Q f (Some x) h = f x h
-some_weaker P Q f None h = tt
-
 pub AllLive-weaker : (P Q : Data → ℕ → ℕ → Type 0) (tables : Tables) → ((home : Data) (c e : ℕ) → P home c e → Q home c e) → AllLive P tables → AllLive Q tables
 AllLive-weaker P Q tables f live =
     record {
       root = λ c s. weaker (P tables.root c) (Q tables.root c) (f tables.root c) _ (live.root c s);
       jamo = λ c j. weaker (P tables.root c) (Q tables.root c) (f tables.root c) _ (live.jamo c j);
       tailoring =
-          some_weaker (λ (home : Data). EachLive (P home) true home) (λ (home : Data). EachLive (Q home) true home)
+          weaker_some (λ (home : Data). EachLive (P home) true home) (λ (home : Data). EachLive (Q home) true home)
           (λ home h c s. weaker (P home c) (Q home c) (f home c) _ (h c s)) tables.tailoring live.tailoring;
     }

@@ -10,7 +10,7 @@ use Rattle.std.specs.List.Sorted.{IsStrictlySortedBy}
 use Rattle.std.specs.Ordering.{match_ordering, is_eq, is_gt, ordering_reverse}
 use Rattle.std.specs.declared.cmp.Ordering.{Ordering}
 use Rattle.std.specs.declared.cmp.Ordering.TheVariants.{Less, Equal, Greater}
-use Rattle.icu_data.proofs.ListLemmas.{all_append}
+use Rattle.icu_data.proofs.ListLemmas.{all_append, weaker}
 use Rattle.icu_levels.specs.ListOrder.{list_order}
 use Rattle.icu_index.specs.Listings.{inserted, equal_names}
 use Rattle.icu_index.specs.inner.NameGroups.{Group, added, names_in, IsKeyed}
@@ -24,10 +24,6 @@ at_true false x y e = cc
 at_false : {X : Type 0} (b : Bool) (x y : X) → b ≡ false → (if b then x else y) ≡ y
 at_false false x y e = refl
 at_false true x y e = cc
-
-pub weaker : {X : Type 0} (P Q : X → Type 0) → ((x : X) → P x → Q x) → (xs : List X) → AllByRecursion P xs → AllByRecursion Q xs
-weaker P Q f [] h = tt
-weaker P Q f (x ∷ xs) h = (f x h.0, weaker P Q f xs h.1)
 
 of_map : {X Y : Type 0} (f : X → Y) (P : Y → Type 0) (xs : List X) → AllByRecursion P (map f xs) → AllByRecursion (λ x. P (f x)) xs
 of_map f P [] h = tt

@@ -1,10 +1,8 @@
 -- The bytes of one primary.
-use Rattle.std.proofs.Common.{◌≡◌, ◌≢◌, ℕ, List, ◌++◌, refl, sym, ap, ap₂, ◌∙◌, append_assoc, ne_eqb}
+use Rattle.std.proofs.Common.{◌≡◌, ◌≢◌, ℕ, List, ◌++◌, refl, sym, ap, ap₂, ◌∙◌, append_assoc}
+use Rattle.icu_levels.proofs.CompressionOrder.{other_lead}
 use Rattle.icu_levels.specs.WeightBytes.{weight_bytes}
 use Rattle.icu_levels.specs.Primaries.{lead, below_lead, lead_change, primary_bytes}
-
-other_lead : (d w : ℕ) → lead w ≢ d → primary_bytes d w ≡ lead_change d (lead w) ++ weight_bytes 4 w
-other_lead d w e = rw (ne_eqb (lead w) d e) refl
 
 -- what is written of a primary with another lead than the dropped one, before the bytes below its lead
 pub other_lead_written : (d w n : ℕ) (change first : List ℕ) → n ≡ lead w → n ≢ d → change ≡ lead_change d n

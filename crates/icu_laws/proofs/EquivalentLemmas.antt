@@ -10,6 +10,7 @@ use Rattle.icu_levels.specs.Keys.{LevelLists, in_turn, levels_order, primaries_o
 use Rattle.icu_levels.specs.declared.forms.KeyForm.{KeyForm}
 use Rattle.icu_levels.proofs.Order.{same_lists_order, tied_lists}
 use Rattle.icu_levels.proofs.KeepLemmas.{both_tie}
+use Rattle.icu_levels.proofs.SameKeys.{all_tie}
 use Rattle.icu_levels.proofs.OwnOrder.{own_secondaries, own_cases, own_tertiaries, own_quaternaries}
 use Rattle.icu_levels.proofs.IdenticalOrder.{same_from_ranks}
 use Rattle.icu_provider.specs.CollatorTables.{CollatorTables}
@@ -17,10 +18,6 @@ use Rattle.icu_order.specs.Forms.{compression_of, form_by, is_identical}
 use Rattle.icu_order.specs.TextOrder.{lists_by, text_order, text_key}
 
 -- ---- a text ties with itself, whatever its characters where they don't count
-
-all_tie : (a b c d e f : Ordering) → a ≡ Equal → b ≡ Equal → c ≡ Equal → d ≡ Equal → e ≡ Equal → f ≡ Equal
-    → in_turn (a ∷ b ∷ c ∷ d ∷ e ∷ f ∷ []) ≡ Equal
-all_tie a b c d e f g h i j k l = rw (g, h, i, j, k, l) refl
 
 tie_with : (c : Compression) (f : KeyForm) (t : LevelLists) (cs : List ℕ) → characters_order f.identical t (record t { characters = cs }) ≡ Equal
     → levels_order c f t (record t { characters = cs }) ≡ Equal

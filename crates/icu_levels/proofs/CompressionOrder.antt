@@ -20,7 +20,7 @@ pub record FitsAfter (dropped : ℕ) (IsNext : ℕ → Type 0) : Type 0 where
 pub same_lead : (d w : ℕ) → lead w ≡ d → primary_bytes d w ≡ weight_bytes 3 (below_lead w)
 same_lead d w e = rw (eq-eqb (lead w) d e) refl
 
-other_lead : (d w : ℕ) → lead w ≢ d → primary_bytes d w ≡ lead_change d (lead w) ++ weight_bytes 4 w
+pub other_lead : (d w : ℕ) → lead w ≢ d → primary_bytes d w ≡ lead_change d (lead w) ++ weight_bytes 4 w
 other_lead d w e = rw (ne_eqb (lead w) d e) refl
 
 -- what stands before a lead that isn't dropped

@@ -31,7 +31,7 @@ value_bound (d ∷ ds) v a =
     rw (pow-suc 10 (length ds)) (ten_times v d (10 ^ length ds) a.0) in
     omega (arith, value_bound ds (10 * v + d) a.1)
 
-no_zeros_digits : (ds : List ℕ) → AllByRecursion (λ d. d < 10) ds → AllByRecursion (λ d. d < 10) (without_first_zeros ds)
+pub no_zeros_digits : (ds : List ℕ) → AllByRecursion (λ d. d < 10) ds → AllByRecursion (λ d. d < 10) (without_first_zeros ds)
 no_zeros_digits [] a = tt
 no_zeros_digits (zero ∷ ds) a = no_zeros_digits ds a.1
 no_zeros_digits (suc d ∷ ds) a = a

@@ -62,7 +62,7 @@ module _ (t u : LevelLists) where
   characters_to false e = refl
   characters_to true e = same_lists_order (map identical_rank t.characters) (map identical_rank u.characters) (ap (map identical_rank) e)
 
-all_tie : (a b c d e f : Ordering) → a ≡ Equal → b ≡ Equal → c ≡ Equal → d ≡ Equal → e ≡ Equal → f ≡ Equal
+pub all_tie : (a b c d e f : Ordering) → a ≡ Equal → b ≡ Equal → c ≡ Equal → d ≡ Equal → e ≡ Equal → f ≡ Equal
     → in_turn (a ∷ b ∷ c ∷ d ∷ e ∷ f ∷ []) ≡ Equal
 all_tie a b c d e f g h i j k l = rw (g, h, i, j, k, l) refl
 

@@ -1,8 +1,9 @@
 -- Rows that ascend: which one a text begins with, and which one it is.
-use Rattle.std.proofs.Common.{◌≡◌, ℕ, zero, suc, ◌+◌, ◌<◌, Bool, true, false, ◌&&◌, List, [], ◌∷◌, length, Option, Some, None, refl, sym, ap, subst, ◌∙◌, arith, inl, inr, bytes_eq}
+use Rattle.std.proofs.Common.{◌≡◌, ℕ, zero, suc, ◌+◌, ◌<◌, true, false, ◌&&◌, List, [], ◌∷◌, length, Option, Some, None, refl, sym, ap, subst, ◌∙◌, arith, inl, inr, bytes_eq}
 use Rattle.std.specs.Prelude.{slice_get, nat_eq}
 use Rattle.std.specs.List.{starts_with}
 use Rattle.std.proofs.lemmas.Bool.{and_parts, and_from, cases_Bool, cases_eq, cases_lt, cases_order, lt-ltb, false≢true}
+use Rattle.icu_data.proofs.CollectedWeightLemmas.{same_bool}
 use Rattle.icu_data.specs.Contexts.{is_before, ascend_from}
 use Rattle.icu_data.specs.Data.{Row, row_entry, is_longer, better, longest_from}
 use Rattle.icu_matches.specs.inner.Beginnings.{common}
@@ -104,11 +105,6 @@ same_longest best [] text cut h = refl
 same_longest best (x ∷ xs) text cut h =
     rw (h zero x refl) (same_longest (better best x cut) xs text cut (λ k r is. h (suc k) r is))
 
-same_tests : (a b : Bool) → (a ≡ true → b ≡ true) → (b ≡ true → a ≡ true) → a ≡ b
-same_tests true b f g = sym (f refl)
-same_tests false true f g = g refl
-same_tests false false f g = refl
-
 -- where all rows come after the text, none begins it
 pub longest_none : (rows : List Row) (text : List ℕ) → IsSplit rows text 0 → longest_from None rows text ≡ None
 longest_none rows text split = none_better None rows text (λ k r is. begins_not text r.chars (split.above k r (omega arith) is))
@@ -140,7 +136,7 @@ module _ (rows : List Row) (text : List ℕ) (ascend : ascend_from [] rows ≡ t
   -- else the longest one begins what that row and the text have in common
   pub longest_cut : longest_from None rows text ≡ longest_from None rows (common row.chars text)
   longest_cut = same_longest None rows text (common row.chars text)
-      (λ k r is. same_tests _ _ (begins_cut k r is) (begins_whole row.chars text r.chars))
+      (λ k r is. same_bool _ _ (begins_cut k r is) (begins_whole row.chars text r.chars))
 
 -- ---- the row with given characters
 

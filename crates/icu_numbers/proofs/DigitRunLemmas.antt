@@ -1,10 +1,10 @@
 -- Runs of digits, number by number.
 use Rattle.std.proofs.Common.{◌≡◌, ℕ, zero, suc, ◌+◌, ◌-◌, ◌*◌, ◌%◌, ◌^◌, ◌<◌, ◌≤◌, List, [], ◌∷◌, ◌++◌, All, length, get_or, take, drop, refl, sym, ap, ap₂, ◌∙◌, subst, append_assoc, arith, lit<, length-take, length-drop}
-use Rattle.std.specs.List.{AllByRecursion}
 use Rattle.std.proofs.lemmas.List.{take_all}
 use Rattle.std.proofs.lemmas.List.Elements.{All-from_recursion, recursion_from_All, All-take, All-drop}
 use Rattle.icu_numbers.specs.inner.Pairs.{IsSplit}
 use Rattle.std.proofs.Math.Nat.{pow-suc, pow-zero, pow-le-pow_right, mul-le-mul_right}
+use Rattle.icu_levels.proofs.DigitRuns.{no_zeros_digits}
 use Rattle.icu_levels.specs.Numbers.{number_weights, value_after, value_of, without_first_zeros, longest_number, run_weights_by, run_weights}
 
 fewer_left : (ds : List ℕ) → length (without_first_zeros ds) ≤ length ds
@@ -123,16 +123,12 @@ even_split (suc d ∷ (e ∷ ds)) a first some even =
     })
 
 -- ---- a number and the rest of its run
-no_zeros_decimal : (ds : List ℕ) → AllByRecursion (λ d. d < 10) ds → AllByRecursion (λ d. d < 10) (without_first_zeros ds)
-no_zeros_decimal [] a = tt
-no_zeros_decimal (zero ∷ ds) a = no_zeros_decimal ds a.1
-no_zeros_decimal (suc d ∷ ds) a = a
 
 module _ (left kept : List ℕ) (k : kept ≡ without_first_zeros left) where
   pub kept_decimal : All (λ d. d < 10) left → All (λ d. d < 10) kept
   kept_decimal a =
       subst (All (λ d. d < 10)) (sym k)
-      (All-from_recursion (λ d. d < 10) (without_first_zeros left) (no_zeros_decimal left (recursion_from_All (λ d. d < 10) left a)))
+      (All-from_recursion (λ d. d < 10) (without_first_zeros left) (no_zeros_digits left (recursion_from_All (λ d. d < 10) left a)))
 
   pub number_decimal : (number : List ℕ) → number ≡ take longest_number kept → All (λ d. d < 10) left → All (λ d. d < 10) number
   number_decimal number n a = subst (All (λ d. d < 10)) (sym n) (All-take (λ d. d < 10) longest_number kept (kept_decimal a))

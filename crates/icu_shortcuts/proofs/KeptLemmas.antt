@@ -67,7 +67,7 @@ module _ (reading : Reading) (x : ℕ) where
 
 -- ---- digits
 
-some_is : (o : Option ℕ) (P : ℕ → Type 0) → IfSome o P → (d : ℕ) → o ≡ Some d → P d
+pub some_is : (o : Option ℕ) (P : ℕ → Type 0) → IfSome o P → (d : ℕ) → o ≡ Some d → P d
 some_is (Some e) P h d is = let same : e ≡ d = cc in subst P same h
 some_is None P h d is = absurd (cc)
 

@@ -2,6 +2,6 @@ mod NamedLemmas
 mod TableLemmas
 mod DigitEntryLemmas
 mod FewLemmas
-mod KeptLemmas
-mod SyllableLemmas
-mod BaseLemmas
+pub mod KeptLemmas
+pub mod SyllableLemmas
+pub mod BaseLemmas

@@ -27,7 +27,7 @@ former false b h = cc
 head_same : (a b : ℕ) (xs ys : List ℕ) → a ∷ xs ≡ b ∷ ys → a ≡ b
 head_same a b xs ys e = ap (λ (l : List ℕ). get_or l 0 0) e
 
-first_of : (xs : List Element) (e d : Element) → 1 ≤ length xs → e ≡ get_or xs 0 d → take 1 xs ≡ e ∷ []
+pub first_of : (xs : List Element) (e d : Element) → 1 ≤ length xs → e ≡ get_or xs 0 d → take 1 xs ≡ e ∷ []
 first_of [] e d some is = absurd (omega arith)
 first_of (x ∷ xs) e d some is = ap (λ y. y ∷ []) (sym is)
 

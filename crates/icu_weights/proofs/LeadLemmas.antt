@@ -60,11 +60,11 @@ moved-lead ranges p q e =
 
 -- ---- reordered weights, by the three ways of a lead
 
-replaced : (r : Reordering) (p : ℕ) → (slice_index r.leads (lead_byte p) == 0) ≡ false → reordered r p ≡ with_lead (slice_index r.leads (lead_byte p)) p
+pub replaced : (r : Reordering) (p : ℕ) → (slice_index r.leads (lead_byte p) == 0) ≡ false → reordered r p ≡ with_lead (slice_index r.leads (lead_byte p)) p
 unfolding reordered
 replaced r p h = rw h refl
 
-stays : (r : Reordering) (p : ℕ) → (slice_index r.leads (lead_byte p) == 0) ≡ true → (nat_le p 1 || nat_le r.limit p) ≡ true → reordered r p ≡ p
+pub stays : (r : Reordering) (p : ℕ) → (slice_index r.leads (lead_byte p) == 0) ≡ true → (nat_le p 1 || nat_le r.limit p) ≡ true → reordered r p ≡ p
 unfolding reordered
 stays r p h s = rw (h, s) refl
 
