@@ -22,6 +22,7 @@ use Rattle.icu_checks.specs.declared.check.weights.WeightList.{WeightList}
 use Rattle.icu_provider.specs.CollatorTables.{CollatorTables}
 use Rattle.icu_provider.specs.TableSets.{tables_in}
 use Rattle.icu_checks.specs.inner.ComparedWeights.{weight_at, IsWeightBy, Adds, IsBelow, IsJamoWeight, IsDiacriticWeight}
+use Rattle.icu_checks.proofs.LoadedViolationLemmas.{last_or_before}
 
 -- ---- what is added
 
@@ -53,9 +54,6 @@ adds_one P old new v is has only w = (
 
 pub below_none : (P : ℕ → ℕ → Type 0) (old : List ℕ) → Adds (IsBelow P 0) old old
 below_none P old = adds_none (IsBelow P 0) old old refl (λ w is. absurd (omega (arith, is.below)))
-
-last_or_before : (i n : ℕ) → i < n + 1 → (i < n) ⊎ (i ≡ n)
-last_or_before i n h = elim (cases_eq i n) [ inl same ↦ inr same | inr other ↦ inl (omega arith) ]
 
 more : (i n : ℕ) → i < n → i < n + 1
 more i n h = omega (arith, h)

@@ -115,7 +115,7 @@ module _ (s : TableSet) where
 
 -- ---- one more place
 
-last_or_before : (i n : ℕ) → i < n + 1 → (i < n) ⊎ (i ≡ n)
+pub last_or_before : (i n : ℕ) → i < n + 1 → (i < n) ⊎ (i ≡ n)
 last_or_before i n h = elim (cases_eq i n) [ inl same ↦ inr same | inr other ↦ inl (omega arith) ]
 
 pub none_step : (P : ℕ → Type 0) (a b found : Option Violation) (n : ℕ) → found ≡ earlier violation_rank a b → (a ≡ None → (i : ℕ) → i < n → P i) → (b ≡ None → P n) → found ≡ None → (i : ℕ) → i < n + 1 → P i

@@ -11,9 +11,6 @@ use Rattle.icu_weights.specs.Leads.{is_middle}
 use Rattle.icu_checks.specs.LeadConditions.{TakesTogether}
 use Rattle.icu_weights.proofs.WrittenWeightLemmas.{same_first, same_weight}
 
-middle_some : (b : ℕ) → IsTrue (is_middle b) → 1 ≤ b
-middle_some b h = grind (arith, nat_tests)
-
 -- the first byte of a reordered weight
 first_byte : (p b : ℕ) → lead_byte p ≡ b → p / 256 ^ 3 ≡ b
 first_byte p b h = h

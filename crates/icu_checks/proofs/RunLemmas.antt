@@ -16,7 +16,7 @@ use Rattle.icu_data.specs.LiveConditions.{first_failing}
 use Rattle.icu_data.specs.Violations.{earlier}
 use Rattle.icu_data.proofs.ViolationLemmas.{none_found, negated}
 use Rattle.icu_data.proofs.RunLemmas.{ordinal_rises}
-use Rattle.icu_weights.proofs.LeadLemmas.{replaced, stays}
+use Rattle.icu_weights.proofs.LeadLemmas.{replaced, stays, lead-with_lead}
 use Rattle.icu_provider.specs.Reorderings.{Reordering, lead_byte, with_lead, reordered}
 use Rattle.icu_provider.specs.SpecialPrimaries.{is_compressible}
 use Rattle.icu_provider.specs.CollatorTables.{CollatorTables, is_forward, reorder}
@@ -34,13 +34,10 @@ kept_whole b p q at_p at_q = at_p ∙ sym at_q
 isnt_zero : (b : ℕ) → b ≢ 0 → nat_eq b 0 ≡ false
 isnt_zero b h = grind (arith, nat_tests, h)
 
-with_lead-lead : (t p : ℕ) → lead_byte (with_lead t p) ≡ t
-with_lead-lead t p = omega arith
-
 lead_replaced : (r : Reordering) (b p : ℕ) → slice_index r.leads b ≢ 0 → lead_byte p ≡ b → lead_byte (reordered r p) ≡ slice_index r.leads b
 lead_replaced r b p given at =
     ap (λ w. lead_byte w) (replaced r p (ap (λ l. nat_eq (slice_index r.leads l) 0) at ∙ isnt_zero (slice_index r.leads b) given))
-    ∙ with_lead-lead (slice_index r.leads (lead_byte p)) p ∙ ap (λ l. slice_index r.leads l) at
+    ∙ lead-with_lead (slice_index r.leads (lead_byte p)) p ∙ ap (λ l. slice_index r.leads l) at
 
 pub replaced_whole : (r : Reordering) (b : ℕ) → slice_index r.leads b ≢ 0 → TakesWhole (Some r) b
 replaced_whole r b given p q at_p at_q = lead_replaced r b p given at_p ∙ sym (lead_replaced r b q given at_q)

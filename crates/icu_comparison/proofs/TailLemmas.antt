@@ -23,6 +23,7 @@ use Rattle.icu_order.specs.Handled.{HandledElement, stayed, handled, is_variable
 use Rattle.icu_order.specs.Levels.{weights, primary_of, primaries}
 use Rattle.icu_order.specs.TextCuts.{begins_with_primary, IsTail, CommonBeginningsDoNotCount}
 use Rattle.icu_order.specs.TextOrder.{reading_by, handled_by, lists_by, text_order}
+use Rattle.icu_order.proofs.TailOrders.{no_elements}
 use Rattle.icu_comparison.specs.inner.Tails.{IsFirst, LeadsWith, unequal_order}
 
 -- ---- the first element
@@ -77,10 +78,6 @@ opening_leads all settings law c cs q t leads e (Some p) h =
     let nonzero : q ≢ 0 = λ z. above_nothing (last_variable_by all settings) p h.1 (h.0 ∙ z) in
     subst (λ (l : List ℕ). LeadsWith all settings l p) (sym e)
     (first_leads all settings law c cs p (subst (λ (x : ℕ). LetterLeads (reading_by all settings) c x) (sym h.0) (leads nonzero)) h.1)
-
-no_elements : (reading : Reading) → elements_of reading (nfd []) ≡ []
-unfolding elements_after elements_along
-no_elements reading = ap (elements_of reading) nfd-nil
 
 pub nothing_leads : (all : CollatorTables) (settings : Settings) → LeadsWith all settings [] 0
 unfolding LeadsWith handled weights

@@ -11,7 +11,7 @@ at_offset : (k : EntryKind) (a b d f g h : Bool) → k ≡ Offset → IsTrue (el
 at_offset Offset a b d f g h is t = t
 at_offset _ a b d f g h is t = cc
 
-test_inside : (i n : ℕ) → IsTrue (nat_lt i n) → i < n
+pub test_inside : (i n : ℕ) → IsTrue (nat_lt i n) → i < n
 test_inside i n h = grind (arith, nat_tests)
 
 -- the data of an offset entry are there

@@ -23,10 +23,6 @@ or_true : (b : Bool) → (b || true) ≡ true
 or_true true = refl
 or_true false = refl
 
-true_or : (a b : Bool) → a ≡ true → (a || b) ≡ true
-true_or true b h = refl
-true_or false b h = cc
-
 or_right : (a b c : Bool) → b ≡ true → (a || b || c) ≡ true
 or_right true b c h = refl
 or_right false true c h = refl

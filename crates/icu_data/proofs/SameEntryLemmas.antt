@@ -74,7 +74,7 @@ module _ (home : Data) (c d e : ℕ) (same : goes_by_character e ≡ false) wher
 
 -- ---- what is live
 
-or_none : (a b : Bool) → (a || b) ≡ false → (a ≡ false) × (b ≡ false)
+pub or_none : (a b : Bool) → (a || b) ≡ false → (a ≡ false) × (b ≡ false)
 or_none false b h = (refl, h)
 or_none true b h = cc
 

@@ -23,6 +23,7 @@ use Rattle.icu_provider.specs.StoredTables.{jamo_of, diacritics_of}
 use Rattle.icu_data.specs.Data.{Data, HomedEntry, homed, plain_of}
 use Rattle.icu_provider.specs.Tables.{Tables, entry_of}
 use Rattle.icu_data.proofs.ListLemmas.{all_members, of_member}
+use Rattle.icu_data.proofs.EntryLemmas.{test_inside}
 use Rattle.icu_checks.specs.declared.condition.Condition.TheVariants as conditions
 use Rattle.icu_provider.specs.CollatorTables.{CollatorTables}
 use Rattle.icu_checks.specs.GoodTables.{IsGoodTables}
@@ -79,9 +80,6 @@ readable_among home c f es good among =
 at_digit : (k : EntryKind) (a b d f g h : Bool) → k ≡ Digit → IsTrue (elim k as (λ _. Bool) [ Expansion32 ↦ a | Expansion ↦ b | Prefix ↦ d | Contraction ↦ f | Digit ↦ g | Offset ↦ h | _ ↦ true ]) → IsTrue g
 at_digit Digit a b d f g h is t = t
 at_digit _ a b d f g h is t = cc
-
-test_inside : (i n : ℕ) → IsTrue (nat_lt i n) → i < n
-test_inside i n h = grind (arith, nat_tests)
 
 test_decimal : (d : ℕ) → IsTrue (nat_le d 9) → d < 10
 test_decimal d h = grind (arith, nat_tests)

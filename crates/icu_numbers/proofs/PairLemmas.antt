@@ -9,6 +9,7 @@ use Rattle.icu_levels.specs.WeightBytes.{digits, before_nonzero, without_last_ze
 use Rattle.icu_levels.specs.Numbers.{in_threes, pair_count, pair_bytes, great_bytes, number_weights, value_after, value_of, longest_number}
 use Rattle.icu_levels.proofs.DigitsFromTheEnd.{digits_last}
 use Rattle.icu_levels.proofs.TrimmedLemmas.{zero_dropped, kept_whole, at_end}
+use Rattle.icu_levels.proofs.PrecedesLemmas.{nonzero_first}
 use Rattle.icu_numbers.specs.inner.Pairs.{in_twos, IsSplit}
 
 -- two digits more at the end make one pair more
@@ -87,11 +88,6 @@ pairs_counted n p ds fits even small some under =
 
 -- ---- the bytes of a number of several weights
 
-kept_first : (x : ℕ) (xs : List ℕ) → 0 < x → before_nonzero x xs ≡ x ∷ xs
-kept_first zero xs some = absurd (omega arith)
-kept_first (suc x) [] some = refl
-kept_first (suc x) (y ∷ xs) some = refl
-
 great_bytes_alike : (n m v w : ℕ) (ps : List ℕ) → n ≡ suc m → v ≡ w → without_last_zeros (digits 100 (suc m) w) ≡ ps
     → great_bytes n v ≡ (129 + m) ∷ pair_bytes ps
 great_bytes_alike n m v w ps e f g =
@@ -110,7 +106,7 @@ great_bytes_spelled ds first others kept split fits e =
     (ap (pair_count 127) split.value ∙ pairs_counted n first others few even small split.some split.pair)
     split.value
     (ap without_last_zeros (pairs_digits n first others even small split.pair)
-    ∙ kept_first first (without_last_zeros (in_twos others)) split.some
+    ∙ nonzero_first first (without_last_zeros (in_twos others)) split.some
     ∙ ap (λ ps. first ∷ ps) (sym e))
 
 -- a number of several weights

@@ -10,6 +10,7 @@ use Rattle.icu_levels.specs.declared.forms.SecondaryForm.{SecondaryForm}
 use Rattle.icu_order.specs.Handled.{HandledElement, stayed, shifted_primary, handled, handled_variable, is_variable, stayed_elements}
 use Rattle.icu_order.specs.TextCuts.{begins_with_primary}
 use Rattle.icu_order.specs.Levels.{weights, primaries, secondaries, cases_in, case_reads, case_rank, tertiaries_in, masked_tertiary, tertiary_in, quaternaries, quaternary_weight}
+use Rattle.icu_data.proofs.ViolationLemmas.{not_true}
 
 -- a choice, and then more
 chosen : {A : Type 0} (b : Bool) (xs ys zs us vs : List A) → xs ≡ us ++ zs → ys ≡ vs ++ zs → (if b then xs else ys) ≡ (if b then us else vs) ++ zs
@@ -71,10 +72,6 @@ handled-append handling last after [] ys = refl
 handled-append handling last after (x ∷ xs) ys =
     one_more x (handled_variable handling x.primary) _ _ _ _ (λ b. handled handling last b ys) (ends_after last true xs) (ends_after last false xs)
     (is_variable last x) (after && x.primary == 0) (handled-append handling last true xs ys) (handled-append handling last false xs ys)
-
-not_true : (b : Bool) → not b ≡ true → b ≡ false
-not_true true h = absurd (true≢false (sym h))
-not_true false h = refl
 
 -- no element is variable where the last variable primary is 0
 no_primary : (p : ℕ) → (nat_lt separator_primary p && nat_le p 0) ≡ false

@@ -23,7 +23,7 @@ record StandsApart (all : CollatorTables) (settings : Settings) (head t : List �
       ≡ elements_of (reading_by all settings) (nfd head) ++ elements_of (reading_by all settings) (nfd t)
   anew : (last_variable_by all settings ≡ 0) ⊎ (begins_with_primary (elements_of (reading_by all settings) (nfd t)) ≡ true)
 
-no_elements : (reading : Reading) → elements_of reading (nfd []) ≡ []
+pub no_elements : (reading : Reading) → elements_of reading (nfd []) ≡ []
 unfolding elements_after elements_along
 no_elements reading = ap (elements_of reading) nfd-nil
 

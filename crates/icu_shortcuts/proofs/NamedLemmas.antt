@@ -9,12 +9,9 @@ use Rattle.std.specs.List.Sorted.{IsBinarySearchResult, IsSortedByKey}
 use Rattle.icu_data.specs.declared.context.Context.{Context as StoredContext}
 use Rattle.icu_data.specs.declared.context.ContextRow.{ContextRow}
 use Rattle.icu_data.specs.Contexts.{row_of, rows_of, stored_context, stored_contexts}
+use Rattle.icu_data.proofs.SameEntryLemmas.{or_none}
 use Rattle.icu_cuts.specs.Cuts.{names, is_named_in}
 use Rattle.icu_shortcuts.specs.RowCharacters.{has_character, Ascends}
-
-neither : (a b : Bool) → (a || b) ≡ false → (a ≡ false) × (b ≡ false)
-neither true b h = absurd (true≢false h)
-neither false b h = (refl, h)
 
 both_false : (a b : Bool) → a ≡ false → b ≡ false → (a || b) ≡ false
 both_false a b e f = ap (λ p. p || b) e ∙ f
@@ -24,13 +21,13 @@ both_false a b e f = ap (λ p. p || b) e ∙ f
 absent_later : (x n : ℕ) (cs : List ℕ) → has_character x cs ≡ false → has_character x (drop n cs) ≡ false
 absent_later x zero cs h = h
 absent_later x (suc n) [] h = h
-absent_later x (suc n) (c ∷ cs) h = absent_later x n cs (neither (c == x) (has_character x cs) h).1
+absent_later x (suc n) (c ∷ cs) h = absent_later x n cs (or_none (c == x) (has_character x cs) h).1
 
 absent_before : (x n : ℕ) (cs : List ℕ) → has_character x cs ≡ false → has_character x (take n cs) ≡ false
 absent_before x zero cs h = refl
 absent_before x (suc n) [] h = refl
 absent_before x (suc n) (c ∷ cs) h =
-    let parts = neither (c == x) (has_character x cs) h in
+    let parts = or_none (c == x) (has_character x cs) h in
     both_false (c == x) (has_character x (take n cs)) parts.0 (absent_before x n cs parts.1)
 
 -- ---- rows and contexts
@@ -53,7 +50,7 @@ contexts_absent x (context ∷ contexts) rows chars h =
 -- ---- lists put together, and in order
 
 pub absent_from_both : (x : ℕ) (cs ds : List ℕ) → has_character x (cs ++ ds) ≡ false → (has_character x cs ≡ false) × (has_character x ds ≡ false)
-absent_from_both x cs ds h = neither (has_character x cs) (has_character x ds) (sym (list_any-append (λ c. c == x) cs ds) ∙ h)
+absent_from_both x cs ds h = or_none (has_character x cs) (has_character x ds) (sym (list_any-append (λ c. c == x) cs ds) ∙ h)
 
 -- ---- a search
 

@@ -16,13 +16,7 @@ use Rattle.icu_shortcuts.specs.inner.ReadLetters.{IsOutline, LeadsBy}
 use Rattle.icu_shortcuts.specs.inner.Syllables.{IsOwnLetter, StandByThemselves}
 use Rattle.icu_shortcuts.specs.declared.letter_facts.Letter.{Letter}
 use Rattle.icu_shortcuts.specs.declared.letter_facts.LetterKind.TheVariants.{Starters}
-
-both : (a b : Bool) → a ≡ true → b ≡ true → (a && b) ≡ true
-both a b h k = rw (h, k) refl
-
-former : (a b : Bool) → (a && b) ≡ true → a ≡ true
-former true b h = refl
-former false b h = cc
+use Rattle.icu_shortcuts.proofs.KeptLemmas.{both, first as former}
 
 head_same : (a b : ℕ) (xs ys : List ℕ) → a ∷ xs ≡ b ∷ ys → a ≡ b
 head_same a b xs ys e = ap (λ (l : List ℕ). get_or l 0 0) e

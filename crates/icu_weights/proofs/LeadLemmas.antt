@@ -17,7 +17,7 @@ block_end p = omega (arith, or_add_and p 0xFFFF, and_mask p 16)
 block_end-same : (p q : ℕ) → p / 65536 ≡ q / 65536 → bit_or p 0xFFFF ≡ bit_or q 0xFFFF
 block_end-same p q e = block_end p ∙ ap (λ h. h * 65536 + 65535) e ∙ sym (block_end q)
 
-lead-with_lead : (t p : ℕ) → lead_byte (with_lead t p) ≡ t
+pub lead-with_lead : (t p : ℕ) → lead_byte (with_lead t p) ≡ t
 lead-with_lead t p = omega arith
 
 rest-with_lead : (t p : ℕ) → with_lead t p % 2 ^ 24 ≡ p % 2 ^ 24
