@@ -8,12 +8,10 @@ use Rattle.icu_levels.proofs.Order.{less_number, more_number, same_front, same_l
 use Rattle.icu_levels.proofs.Orderings.{then_assoc, then_equal}
 use Rattle.icu_order.specs.Handled.{HandledElement}
 use Rattle.icu_text_keys.specs.declared.handled.Handled.{Handled}
-use Rattle.icu_text_keys.specs.declared.handled.Handled.TheVariants.{Stayed, Shifted}
 use Rattle.icu_text_keys.specs.HandledSources.{handled_as, GivesNext}
 use Rattle.icu_options.specs.Settings.{Settings}
 use Rattle.icu_levels.specs.Keys.{LevelLists, secondaries_order, cases_order, tertiaries_order, quaternaries_order}
 use Rattle.icu_levels.specs.declared.forms.KeyForm.{KeyForm}
-use Rattle.icu_levels.specs.declared.forms.SecondaryForm.TheVariants.{Forward}
 use Rattle.icu_levels.specs.declared.forms.TertiaryForm.{TertiaryForm}
 use Rattle.icu_provider.specs.CollatorTables.{CollatorTables}
 use Rattle.icu_provider.specs.StoredTables.{reordering_of}

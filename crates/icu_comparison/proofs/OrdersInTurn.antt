@@ -1,15 +1,13 @@
 -- Orders one after another, as code tests them.
-use Rattle.std.proofs.Common.{◌≡◌, ℕ, Bool, true, false, not, ◌==◌, List, [], Option, Result, Ok, Err, IfOk, refl, sym, subst, ◌∙◌, ap}
+use Rattle.std.proofs.Common.{◌≡◌, ℕ, Bool, true, false, not, ◌==◌, List, [], Result, Ok, Err, IfOk, refl, sym, subst, ◌∙◌, ap}
 use Rattle.std.specs.Ordering.{ordering_then, ordering_index}
 use Rattle.unicode_normalization.specs.Forms.{nfd}
 use Rattle.icu_options.specs.Settings.{Settings}
 use Rattle.icu_levels.specs.Keys.{LevelLists, primaries_order, secondaries_order, cases_order, tertiaries_order, quaternaries_order, characters_order}
 use Rattle.icu_levels.specs.declared.forms.KeyForm.{KeyForm}
-use Rattle.icu_provider.specs.Reorderings.{Reordering}
-use Rattle.icu_provider.specs.CollatorTables.{CollatorTables, reorder_by}
+use Rattle.icu_provider.specs.CollatorTables.{CollatorTables}
 use Rattle.icu_entries.specs.Elements.{Element}
-use Rattle.icu_order.specs.Handled.{HandledElement, handled}
-use Rattle.icu_order.specs.Levels.{level_lists}
+use Rattle.icu_order.specs.Handled.{handled}
 use Rattle.icu_order.specs.Forms.{compression_of, form_by}
 use Rattle.icu_order.specs.TextOrder.{lists_by, text_order}
 use Rattle.icu_comparison.specs.HandledRests.{handled_after}

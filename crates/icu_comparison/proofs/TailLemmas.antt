@@ -1,42 +1,51 @@
 -- Texts that may follow others, what follows a common beginning of two texts, and what their first characters decide.
-use Rattle.std.proofs.Common.{◌≡◌, ◌≢◌, ◌<◌, ◌==◌, ◌⊎◌, ◌&&◌, ℕ, Bool, true, false, List, [], ◌∷◌, ◌++◌, map, Option, Some, None, IfSome, Ordering, Less, Equal, Greater, refl, sym, ap, subst, ◌∙◌, inl, inr, ⊎_elim, arith, nat_lt, nat_le, not, if◌then◌else◌}
+use Rattle.std.proofs.Common.{◌≡◌, ◌≢◌, ◌<◌, ◌≤◌, ◌==◌, ◌⊎◌, ◌&&◌, ℕ, Bool, true, false, List, [], ◌∷◌, ◌++◌, map, length, get_or, append-nil, Option, Some, None, IfSome, Ordering, Less, Equal, Greater, refl, sym, ap, subst, ◌∙◌, ⊎_elim, arith, not, if◌then◌else◌}
 use Rattle.std.specs.Ordering.{nat_cmp, ordering_then}
+use Rattle.std.specs.List.{list_all}
 use Rattle.std.proofs.lemmas.Bool.{cases_order, eqb-false}
 use Rattle.std.proofs.lemmas.Bool.Decides.{nat_tests}
+use Rattle.unicode_normalization.specs.Decompose.{decompose_canonical}
 use Rattle.unicode_normalization.specs.Forms.{nfd}
+use Rattle.unicode_normalization.proofs.DecomposeLemmas.{decompose-final}
+use Rattle.unicode_normalization.proofs.FormsLemmas.{is_final-Nfd, quick_check-below}
 use Rattle.icu_options.specs.Settings.{Settings}
 use Rattle.icu_options.specs.declared.settings.AlternateHandling.{AlternateHandling}
 use Rattle.icu_levels.specs.CommonBeginnings.{ReadsForward}
-use Rattle.icu_levels.specs.ListOrder.{list_order}
-use Rattle.icu_levels.proofs.Order.{less_number, more_number}
+use Rattle.icu_levels.proofs.Order.{less_number, more_number, same_front}
 use Rattle.icu_entries.specs.Elements.{Element}
-use Rattle.icu_entries.specs.ElementConditions.{separator_primary}
 use Rattle.icu_provider.specs.CollatorTables.{CollatorTables, reorder}
-use Rattle.icu_elements.specs.TextElements.{Reading, elements_of, elements_after, elements_along}
+use Rattle.icu_elements.specs.TextElements.{Reading, elements_of, elements_after, elements_along, last_two}
 use Rattle.icu_cuts.proofs.NfdLemmas.{nfd-nil}
-use Rattle.icu_cuts.specs.Alone.{elements_of_char}
-use Rattle.icu_cuts.specs.ReadingLaws.{FirstStartersLead}
-use Rattle.icu_shortcuts.specs.Letters.{LeadsWith as LetterLeads}
+use Rattle.icu_cuts.specs.Alone.{elements_by_char, elements_of_char, is_alone}
+use Rattle.icu_cuts.specs.ReadingLaws.{FirstStartersLead, LowLettersStand}
+use Rattle.icu_shortcuts.specs.Letters.{IsLetter, LeadsWith as LetterLeads}
+use Rattle.icu_shortcuts.specs.declared.letter_facts.Letter.{Letter}
+use Rattle.icu_shortcuts.specs.declared.letter_facts.LetterKind.TheVariants.{Starters}
+use Rattle.icu_shortcuts.proofs.KeptLemmas.{first as former}
+use Rattle.icu_cursor.proofs.CursorLemmas.{one_taken}
 use Rattle.icu_shortcuts.specs.SafeTables.{IsSafeBefore}
-use Rattle.icu_order.specs.Forms.{form_by, last_variable_by, compression_of}
-use Rattle.icu_order.specs.Handled.{HandledElement, stayed, handled, is_variable, stayed_elements}
-use Rattle.icu_order.specs.Levels.{weights, primary_of, primaries}
+use Rattle.icu_order.specs.Forms.{form_by, last_variable_by}
+use Rattle.icu_order.specs.Handled.{stayed, handled, is_variable, stayed_elements}
+use Rattle.icu_order.specs.Levels.{weights, primaries}
 use Rattle.icu_order.specs.TextCuts.{begins_with_primary, IsTail, CommonBeginningsDoNotCount}
-use Rattle.icu_order.specs.TextOrder.{reading_by, handled_by, lists_by, text_order}
-use Rattle.icu_order.proofs.TailOrders.{no_elements}
-use Rattle.icu_comparison.specs.inner.Tails.{IsFirst, LeadsWith, unequal_order}
+use Rattle.icu_order.specs.TextOrder.{reading_by, lists_by, text_order}
+use Rattle.icu_comparison.specs.inner.Tails.{IsFirst, LeadsWith, LeadsAlone, Decides, DecidesAfter, primaries_after, unequal_order}
 
 -- ---- the first element
 
 pub above_nothing : (last p : ℕ) → last < p → p ≢ 0
 above_nothing last p above = λ e. grind (arith)
 
-first_stays : (handling : AlternateHandling) (last : ℕ) (x : Element) (xs : List Element) → last < x.primary
-    → handled handling last false (x ∷ xs) ≡ stayed x ∷ handled handling last false xs
+has_primary : (last : ℕ) (x : Element) (after : Bool) → last < x.primary → (after && x.primary == 0) ≡ false
+has_primary last x true above = grind (arith, nat_tests)
+has_primary last x false above = refl
+
+first_stays : (handling : AlternateHandling) (last : ℕ) (after : Bool) (x : Element) (xs : List Element) → last < x.primary
+    → handled handling last after (x ∷ xs) ≡ stayed x ∷ handled handling last false xs
 unfolding handled
-first_stays handling last x xs above =
+first_stays handling last after x xs above =
     let stays : is_variable last x ≡ false = grind (arith, nat_tests) in
-    rw stays refl
+    rw stays (rw (has_primary last x after above) refl)
 
 first_counts : (x : Element) (xs : List Element) → x.primary ≢ 0 → primaries (x ∷ xs) ≡ x.primary ∷ primaries xs
 unfolding weights
@@ -44,30 +53,33 @@ first_counts x xs nonzero =
     let counts : (x.primary == 0) ≡ false = grind (arith, nat_tests) in
     rw counts refl
 
-module _ (all : CollatorTables) (settings : Settings) (law : FirstStartersLead) (c : ℕ) (cs : List ℕ) (p : ℕ) (h : LetterLeads (reading_by all settings) c p) where
-  abbrev elements : List Element
-  elements = elements_of (reading_by all settings) (nfd (c ∷ cs))
+-- a text whose first element isn't variable
+leading_primary : (all : CollatorTables) (settings : Settings) (before : List ℕ) (after : Bool) (t : List ℕ) (x : Element) (xs : List Element)
+    → elements_after (reading_by all settings) before (nfd t) ≡ x ∷ xs → last_variable_by all settings < x.primary
+    → primaries_after all settings before after t ≡ x.primary ∷ primaries (stayed_elements (handled settings.alternate_handling (last_variable_by all settings) false xs))
+leading_primary all settings before after t x xs is above =
+    let last : ℕ = last_variable_by all settings in
+    ap (λ es. primaries (stayed_elements (handled settings.alternate_handling last after es))) is
+    ∙ ap (λ hs. primaries (stayed_elements hs)) (first_stays settings.alternate_handling last after x xs above)
+    ∙ first_counts x _ (above_nothing last x.primary above)
 
-  first_element : (rest : List Element) × (elements ≡ h.element ∷ rest)
-  first_element =
-      let led = law (reading_by all settings) [] c h.first h.more cs h.decomposes h.starter h.alone in
+module _ (all : CollatorTables) (settings : Settings) (law : FirstStartersLead) (c : ℕ) (cs : List ℕ) (p : ℕ) (h : LetterLeads (reading_by all settings) c p) where
+  first_element : (before : List ℕ) → (rest : List Element) × (elements_after (reading_by all settings) before (nfd (c ∷ cs)) ≡ h.element ∷ rest)
+  first_element before =
+      let led = law (reading_by all settings) before c h.first h.more cs h.decomposes h.starter h.alone in
       (h.rest ++ led.0, led.1 ∙ ap (λ es. es ++ led.0) h.elements)
 
-  pub first_has_primary : p ≢ 0 → begins_with_primary elements ≡ true
+  pub first_has_primary : p ≢ 0 → begins_with_primary (elements_of (reading_by all settings) (nfd (c ∷ cs))) ≡ true
   first_has_primary nonzero =
       let has : not (h.element.primary == 0) ≡ true = rw h.leading (grind (arith, nat_tests)) in
-      ap begins_with_primary first_element.1 ∙ has
+      ap begins_with_primary (first_element []).1 ∙ has
 
   pub first_leads : last_variable_by all settings < p → LeadsWith all settings (c ∷ cs) p
   unfolding LeadsWith
-  first_leads above =
-      let last : ℕ = last_variable_by all settings in
-      let nonzero : h.element.primary ≢ 0 = λ e. grind (arith) in
-      let list : primaries (stayed_elements (handled_by all settings (nfd (c ∷ cs)))) ≡ h.element.primary ∷ primaries (stayed_elements (handled settings.alternate_handling last false first_element.0)) =
-      ap (λ es. primaries (stayed_elements (handled settings.alternate_handling last false es))) first_element.1
-      ∙ ap (λ hs. primaries (stayed_elements hs)) (first_stays settings.alternate_handling last h.element first_element.0 (subst (λ x. last < x) (sym h.leading) above))
-      ∙ first_counts h.element _ nonzero in
-      subst (IsFirst p) (sym list) (h.leading, λ e. nonzero (h.leading ∙ e))
+  first_leads above = λ before after.
+      let rest = (first_element before).0 in
+      let list = leading_primary all settings before after (c ∷ cs) h.element rest (first_element before).1 (subst (λ x. last_variable_by all settings < x) (sym h.leading) above) in
+      subst (IsFirst p) (sym list) (h.leading, λ e. above_nothing (last_variable_by all settings) p above e)
 
 -- where what is known of the first character is a primary above the variable ones, a text leads with it
 pub opening_leads : (all : CollatorTables) (settings : Settings) (law : FirstStartersLead) (c : ℕ) (cs : List ℕ) (q : ℕ) (t : List ℕ)
@@ -79,10 +91,14 @@ opening_leads all settings law c cs q t leads e (Some p) h =
     subst (λ (l : List ℕ). LeadsWith all settings l p) (sym e)
     (first_leads all settings law c cs p (subst (λ (x : ℕ). LetterLeads (reading_by all settings) c x) (sym h.0) (leads nonzero)) h.1)
 
+nothing_after : (reading : Reading) (before : List ℕ) → elements_after reading before (nfd []) ≡ []
+unfolding elements_after elements_along
+nothing_after reading before = ap (elements_after reading before) nfd-nil
+
 pub nothing_leads : (all : CollatorTables) (settings : Settings) → LeadsWith all settings [] 0
 unfolding LeadsWith handled weights
-nothing_leads all settings =
-    subst (λ es. IsFirst 0 (primaries (stayed_elements (handled settings.alternate_handling (last_variable_by all settings) false es)))) (sym (no_elements (reading_by all settings))) refl
+nothing_leads all settings = λ before after.
+    subst (λ es. IsFirst 0 (primaries (stayed_elements (handled settings.alternate_handling (last_variable_by all settings) after es)))) (sym (nothing_after (reading_by all settings) before)) refl
 
 -- ---- texts that may follow others
 
@@ -101,11 +117,24 @@ tails_order all settings law forward left right head other_head t u e f g ht hu 
     ∙ ap (λ v. text_order all settings v (head ++ u)) (sym e)
     ∙ ap (λ v. text_order all settings left v) (ap (λ h. h ++ u) g ∙ sym f)
 
--- ---- what the first primaries decide
+-- ---- characters that lead alone
 
--- this order is that of two lists, and isn't Equal
-abbrev Decides : List ℕ → List ℕ → Ordering → Type 0
-Decides ps qs o = (o ≡ list_order ps qs) × (o ≢ Equal)
+low_itself : (c : ℕ) → c < 0xC0 → decompose_canonical c ≡ c ∷ []
+low_itself c low = decompose-final _ c (is_final-Nfd c (quick_check-below _ c low))
+
+pub only_of : (reading : Reading) (c : ℕ) (l : Letter) (e d : Element) → c < 0xC0 → l.kind ≡ Starters → l.count ≡ 1 → IsLetter reading c l
+    → 1 ≤ length l.elements → e ≡ get_or l.elements 0 d → (is_alone reading c ≡ true) × (elements_of_char reading.tables c ≡ e ∷ [])
+only_of reading c l e d low kind count is some first =
+    let known = (is.starters kind).stands in
+    let itself = low_itself c low in (
+      former (is_alone reading c) true (ap (list_all (is_alone reading)) (sym itself) ∙ known.alone),
+      sym (append-nil (elements_of_char reading.tables c))
+          ∙ ap (elements_by_char reading.tables) (sym itself)
+          ∙ sym known.elements
+          ∙ one_taken l e d count some first,
+    )
+
+-- ---- what the first primaries decide
 
 chosen : (ps qs : List ℕ) (b : Bool) (o : Ordering) → (b ≡ false → Decides ps qs o) → IfSome (if b then None else Some o) (Decides ps qs)
 chosen ps qs true o h = tt
@@ -138,25 +167,42 @@ first_of_all Less p rest e n = rw (sym e) refl
 first_of_all Equal p rest e n = absurd (n refl)
 first_of_all Greater p rest e n = rw (sym e) refl
 
-module _ (all : CollatorTables) (settings : Settings) (t u : List ℕ) where
-  abbrev left : List ℕ
-  left = primaries (stayed_elements (handled_by all settings (nfd t)))
+-- a front that both have doesn't count
+front_decides : (x : ℕ) (ps qs : List ℕ) (found : Option Ordering) → IfSome found (Decides ps qs) → IfSome found (Decides (x ∷ ps) (x ∷ qs))
+front_decides x ps qs None h = tt
+front_decides x ps qs (Some o) h = (h.0 ∙ sym (same_front (x ∷ []) ps qs), h.1)
 
-  abbrev right : List ℕ
-  right = primaries (stayed_elements (handled_by all settings (nfd u)))
-
-  primaries_decide : (found : Option Ordering) → IfSome found (Decides (map (reorder all) left) (map (reorder all) right))
+module _ (all : CollatorTables) (settings : Settings) where
+  primaries_decide : (t u : List ℕ) (found : Option Ordering)
+      → IfSome found (Decides (map (reorder all) (primaries_after all settings [] false t)) (map (reorder all) (primaries_after all settings [] false u)))
       → IfSome found (λ o. o ≡ text_order all settings t u)
   unfolding text_order lists_by
-  primaries_decide None h = tt
-  primaries_decide (Some o) h = first_of_all o _ _ h.0 h.1
+  primaries_decide t u None h = tt
+  primaries_decide t u (Some o) h = first_of_all o _ _ h.0 h.1
 
-  pub ends_order : (p q : ℕ) → LeadsWith all settings t p → LeadsWith all settings u q → (p ≡ 0) ⊎ (q ≡ 0)
-      → IfSome (unequal_order p q) (λ o. o ≡ text_order all settings t u)
+  pub ends_after : (t u : List ℕ) (p q : ℕ) → LeadsWith all settings t p → LeadsWith all settings u q → (p ≡ 0) ⊎ (q ≡ 0) → DecidesAfter all settings t u (unequal_order p q)
   unfolding LeadsWith
-  ends_order p q h k e = primaries_decide _ (ends_decide (reorder all) p q left right h k e)
+  ends_after t u p q h k e = λ before after. ends_decide (reorder all) p q _ _ (h before after) (k before after) e
 
-  pub leads_order : (p q : ℕ) → LeadsWith all settings t p → LeadsWith all settings u q → p ≢ 0 → q ≢ 0
-      → IfSome (unequal_order (reorder all p) (reorder all q)) (λ o. o ≡ text_order all settings t u)
+  pub leads_after : (t u : List ℕ) (p q : ℕ) → LeadsWith all settings t p → LeadsWith all settings u q → p ≢ 0 → q ≢ 0
+      → DecidesAfter all settings t u (unequal_order (reorder all p) (reorder all q))
   unfolding LeadsWith
-  leads_order p q h k m n = primaries_decide _ (leads_decide (reorder all) p q left right h k m n)
+  leads_after t u p q h k m n = λ before after. leads_decide (reorder all) p q _ _ (h before after) (k before after) m n
+
+  pub order_found : (t u : List ℕ) (found : Option Ordering) → DecidesAfter all settings t u found → IfSome found (λ o. o ≡ text_order all settings t u)
+  order_found t u found h = primaries_decide t u found (h [] false)
+
+  -- the same of texts that follow one character that leads alone
+  pub order_after : (law : LowLettersStand) (c : ℕ) (alone : LeadsAlone all settings c) (t u : List ℕ) (found : Option Ordering) → DecidesAfter all settings t u found
+      → IfSome found (λ o. o ≡ text_order all settings (c ∷ t) (c ∷ u))
+  order_after law c alone t u found h =
+      let reading = reading_by all settings in
+      let context = last_two [] (c ∷ []) in
+      let front : (v : List ℕ) → elements_after reading [] (nfd (c ∷ v)) ≡ alone.element ∷ elements_after reading context (nfd v) =
+      λ v. law reading [] c v alone.low alone.alone ∙ ap (λ es. es ++ elements_after reading context (nfd v)) alone.elements in
+      let list : (v : List ℕ) → primaries_after all settings [] false (c ∷ v) ≡ alone.element.primary ∷ primaries_after all settings context false v =
+      λ v. leading_primary all settings [] false (c ∷ v) alone.element _ (front v) alone.above in
+      primaries_decide (c ∷ t) (c ∷ u) found
+      (subst (λ ps. IfSome found (Decides (map (reorder all) ps) (map (reorder all) (primaries_after all settings [] false (c ∷ u))))) (sym (list t))
+      (subst (λ qs. IfSome found (Decides (map (reorder all) (alone.element.primary ∷ primaries_after all settings context false t)) (map (reorder all) qs))) (sym (list u))
+      (front_decides (reorder all alone.element.primary) (map (reorder all) (primaries_after all settings context false t)) (map (reorder all) (primaries_after all settings context false u)) found (h context false))))

@@ -1,6 +1,6 @@
 //! Collators: tables and settings.
 
-ghost use Rattle.std.specs.Prelude.{◌≡◌, ℕ, false, Err, Ok, IfErr, IfOk, IfSome, IsSome};
+ghost use Rattle.std.specs.Prelude.{◌≡◌, ◌<◌, ◌∷◌, [], ℕ, true, false, Err, Ok, IfErr, IfOk, IfSome, IsSome};
 ghost use Rattle.icu_options.specs.Conversions.{resolved_of};
 ghost use Rattle.icu_options.specs.Merge.{merge};
 ghost use Rattle.icu_options.specs.FlaggedSettings.{values_of};
@@ -11,6 +11,7 @@ ghost use Rattle.icu_checks.specs.GoodTables.{IsGoodTables, IsTrueRefusal};
 ghost use Rattle.icu_cursor.specs.Cursors.{cursor_reading};
 ghost use Rattle.icu_elements.specs.Reading.{element_tables};
 ghost use Rattle.icu_elements.specs.TextElements.{Reading, elements_of};
+ghost use Rattle.icu_cuts.specs.Alone.{elements_of_char, is_alone};
 ghost use Rattle.icu_order.specs.Forms.{form_by, last_variable_by};
 ghost use Rattle.icu_order.specs.TextOrder.{reading_by, handled_elements, handled_by};
 ghost use Rattle.icu_levels.specs.CommonBeginnings.{ReadsForward};
@@ -33,7 +34,7 @@ use icu_options::{
     ResolvedCollatorOptions, merged_options,
 };
 use icu_provider::{CollationProvider, load_tables};
-use icu_shortcuts::{Letter, Letters, NamedCharacters, SafePlaces, outline_of};
+use icu_shortcuts::{Letter, LetterKind, Letters, NamedCharacters, SafePlaces, outline_of};
 use icu_text_keys::key_form;
 use std::alloc::{AllocError, Global};
 
@@ -276,19 +277,44 @@ impl<'a> CollatorBorrowed<'a> {
     {
         match self.letters.get(c) {
             Some(letter) => front_of(letter),
+            None => self.other_front(c),
+        }
+    }
+
+    /// The element of an ASCII character that gives one element wherever it stands. `None` says nothing.
+    #[inline]
+    pub(crate) fn only_element(&self, c: char) -> Option<CollationElement>
+        requires { c < 0x80 }
+        ensures { let reading = reading_by (tables_borrowed self.now) (settings_borrowed self.now) in
+            IfSome result (λ e. (is_alone reading c ≡ true) × (elements_of_char reading.tables c ≡ e ∷ [])) }
+    {
+        let letter = self.letters.get(c)?;
+        match letter.kind {
+            LetterKind::Starters if letter.count == 1 => {
+                let elements = &letter.elements[..];
+                Some(elements[0])
+            }
+            _ => None,
+        }
+    }
+
+    /// The same of a character that isn't among those that are read most.
+    #[inline]
+    fn other_front(&self, c: char) -> Front
+        ensures { IsFront (reading_by (tables_borrowed self.now) (settings_borrowed self.now)) c result }
+    {
+        match self.letters.syllable(c) {
+            Some(letter) => front_of(&letter),
             None => front_of(&self.outline(c)),
         }
     }
 
-    /// What is known of the front of a character that isn't among those that are read most.
+    /// What is known of a character by the first one of its decomposition.
     #[inline(never)]
     fn outline(&self, c: char) -> Letter
         ensures { IsLetter (reading_by (tables_borrowed self.now) (settings_borrowed self.now)) c result }
     {
-        match self.letters.syllable(c) {
-            Some(letter) => letter,
-            None => outline_of(&safe_places(self.tables, self.named, self.settings), c),
-        }
+        outline_of(&safe_places(self.tables, self.named, self.settings), c)
     }
 
     /// The elements of a text.
@@ -308,6 +334,7 @@ impl<'a> CollatorBorrowed<'a> {
     }
 
     /// What texts are read by.
+    #[inline(always)]
     pub(crate) fn cursor_tables(&self) -> CursorTables<'a>
         ensures { cursor_reading result ≡ reading_by (tables_borrowed self.now) (settings_borrowed self.now) }
     {
@@ -321,6 +348,7 @@ impl<'a> CollatorBorrowed<'a> {
     }
 
     /// Reads the elements of a text, as the settings handle variable ones.
+    #[inline(always)]
     pub(crate) fn handled_text<'c, T: EncodedText>(
         &self,
         tables: &'c CursorTables<'a>,

@@ -43,6 +43,7 @@ pub(crate) enum Level<'d> {
 }
 
 /// The primary weight as it is compared: reordered, where there is a reordering.
+#[inline(always)]
 pub(crate) fn reordered(reordering: Option<CollationReordering<'_>>, primary: u32) -> u32
     ensures { result ≡ reorder_by (option_map reordering_of reordering.entry) primary }
 {
@@ -65,6 +66,7 @@ fn case_rank(form: CaseForm, element: CollationElement) -> u64
 
 /// What a form of the tertiary level has for an element. Upper case first inverts the case bits; an
 /// element with a tertiary weight alone comes after all others.
+#[inline(always)]
 fn tertiary_weight(form: TertiaryForm, element: CollationElement) -> u64
     ensures { result ≡ tertiary_in form element }
 {
@@ -92,6 +94,7 @@ fn quaternary_weight(element: CollationElement) -> u64
 }
 
 /// A weight, where the level reads something of the element.
+#[inline(always)]
 fn read_as(read: u32, weight: u64) -> Option<u64>
     ensures { result ≡ read_as read weight }
 {
@@ -100,6 +103,7 @@ fn read_as(read: u32, weight: u64) -> Option<u64>
 
 impl<'d> Level<'d> {
     /// What the level has for an element, if it reads something of it.
+    #[inline(always)]
     fn weight_of(self, element: CollationElement) -> Option<u64>
         ensures { result ≡ weight_of self.entry element }
     {
@@ -128,6 +132,7 @@ impl<'d> Level<'d> {
 
     /// The same of an element that is handled: the quaternary level alone has something for a
     /// shifted one.
+    #[inline(always)]
     fn weight(self, handled: Handled) -> Option<u64>
         ensures { result ≡ weight_in self.entry (handled_as handled) }
     {
@@ -208,6 +213,7 @@ impl<'d> Level<'d> {
     }
 
     /// Whether the level has the same weight for two elements, or none for either.
+    #[inline(always)]
     pub(crate) fn ties(self, one: &Handled, other: &Handled) -> bool
         ensures { IsTrue result → weight_in self.entry (handled_as one.now) ≡ weight_in self.entry (handled_as other.now) }
     {
@@ -219,6 +225,7 @@ impl<'d> Level<'d> {
     }
 
     /// The order of two elements on this level, where it has a weight for both or for neither.
+    #[inline(always)]
     pub(crate) fn order_of_weights(self, one: &Handled, other: &Handled) -> Option<Ordering>
         ensures { IfSome result (λ o. (hs ks : List HandledElement) →
             order_on self.entry (handled_as one.now ∷ hs) (handled_as other.now ∷ ks) ≡ ordering_then o (order_on self.entry hs ks)) }

@@ -26,6 +26,7 @@ impl<'a> HandledElements<'a> {
 
     /// All elements of a text. Variable are those with a primary weight above the merge separator's
     /// and up to `last_variable`: none, where that is 0.
+    #[inline(always)]
     pub fn new(
         elements: &'a [CollationElement],
         handling: AlternateHandling,
@@ -92,6 +93,7 @@ impl<'c, 'd, T: EncodedText> HandledText<'c, 'd, T> {
 
     /// All elements that a cursor still gives. Variable are those with a primary weight above the
     /// merge separator's and up to `last_variable`: none, where that is 0.
+    #[inline(always)]
     pub(crate) fn new(
         elements: ElementCursor<'c, 'd, T>,
         handling: AlternateHandling,

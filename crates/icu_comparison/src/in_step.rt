@@ -71,6 +71,7 @@ pub(crate) fn compare_from_difference<L: HandledSource, R: HandledSource>(
 
 /// The order of two elements on the tertiary level, where they tie on the first and the secondary one, and both have a
 /// tertiary weight, or neither has.
+#[inline(always)]
 fn order_of_pair(
     first: Level<'_>,
     form: TertiaryForm,
@@ -86,6 +87,7 @@ fn order_of_pair(
 }
 
 /// The same of elements that two sources gave, if both gave one.
+#[inline(always)]
 fn order_of_both(
     first: Level<'_>,
     form: TertiaryForm,

@@ -8,7 +8,7 @@ ghost use Rattle.icu_comparison.specs.inner.Tails.{unequal_order};
 
 use crate::collator::{CollatorBorrowed, Front};
 use crate::forward_levels::reordered;
-use icu_cuts::laws::first_starters_lead;
+use icu_cuts::laws::{first_starters_lead, lone_starters_stand};
 use icu_encodings::EncodedText;
 use icu_order::laws::common_beginnings_do_not_count;
 use std::cmp::Ordering;
@@ -24,7 +24,7 @@ struct Opening {
 
 impl<'a> CollatorBorrowed<'a> {
     ghost use Rattle.icu_comparison.specs.Collators.{tables_borrowed, settings_borrowed};
-    ghost use Rattle.icu_comparison.specs.inner.Tails.{LeadsWith};
+    ghost use Rattle.icu_comparison.specs.inner.Tails.{DecidesAfter, LeadsAlone, LeadsWith};
     ghost use Rattle.icu_order.specs.TextCuts.{IsTail};
 
     /// What two texts have from the last safe place on within their common beginning, which is `common` units long, and
@@ -73,8 +73,60 @@ impl<'a> CollatorBorrowed<'a> {
             return None;
         }
         common_beginnings_do_not_count();
-        let order = self.order_of(opening, other_opening);
+        let order = self.order_of_openings(one, other, opening, other_opening);
         Some((one, other, order))
+    }
+
+    /// The order of two texts that open so, where the first primary weights that they begin with are known and differ,
+    /// or else those that follow a character that both begin with.
+    #[inline]
+    fn order_of_openings<L: EncodedText, R: EncodedText>(
+        &self,
+        left: L,
+        right: R,
+        one: Opening,
+        other: Opening,
+    ) -> Option<Ordering>
+        requires one { IfSome one.primary (λ p. LeadsWith (tables_borrowed self.now) (settings_borrowed self.now) (L.text left) p) }
+        requires other { IfSome other.primary (λ p. LeadsWith (tables_borrowed self.now) (settings_borrowed self.now) (R.text right) p) }
+        ensures { let all = tables_borrowed self.now in let settings = settings_borrowed self.now in
+            IfSome result (λ o. o ≡ text_order all settings (L.text left) (R.text right)) }
+    {
+        match self.order_of(one, other) {
+            Some(order) => Some(order),
+            None => self.order_after_same(left, right),
+        }
+    }
+
+    /// The order of two texts by what follows a character that both begin with, where that gives one element wherever
+    /// it stands, and the first primary weights that follow are known and differ.
+    fn order_after_same<L: EncodedText, R: EncodedText>(
+        &self,
+        left: L,
+        right: R,
+    ) -> Option<Ordering>
+        ensures { let all = tables_borrowed self.now in let settings = settings_borrowed self.now in
+            IfSome result (λ o. o ≡ text_order all settings (L.text left) (R.text right)) }
+    {
+        let (byte, one) = left.split_first_ascii()?;
+        let (other_byte, other) = right.split_first_ascii()?;
+        if byte != other_byte || !self.leads_alone(byte) {
+            return None;
+        }
+        lone_starters_stand();
+        self.order_of(self.opening(one), self.opening(other))
+    }
+
+    /// Whether an ASCII character gives one element wherever it stands, which isn't variable. False says nothing.
+    #[inline]
+    fn leads_alone(&self, byte: u8) -> bool
+        requires { byte < 0x80 }
+        ensures { IsTrue result → LeadsAlone (tables_borrowed self.now) (settings_borrowed self.now) byte }
+    {
+        match self.only_element(char::from(byte)) {
+            Some(element) => element.primary() > self.last_variable(),
+            None => false,
+        }
     }
 
     /// What the first character of a text says, which is looked up once.
@@ -131,15 +183,15 @@ impl<'a> CollatorBorrowed<'a> {
         ensures { let all = tables_borrowed self.now in let settings = settings_borrowed self.now in
             IfSome result (λ o. o ≡ text_order all settings (L.text left) (R.text right)) }
     {
-        self.order_of(self.opening(left), self.opening(right))
+        self.order_of_openings(left, right, self.opening(left), self.opening(right))
     }
 
     /// The same of texts that open so.
-    #[inline]
+    #[inline(always)]
     fn order_of(&self, one: Opening, other: Opening) -> Option<Ordering>
         ensures { let all = tables_borrowed self.now in let settings = settings_borrowed self.now in
             (t u : List ℕ) → IfSome one.primary (λ p. LeadsWith all settings t p) → IfSome other.primary (λ p. LeadsWith all settings u p)
-            → IfSome result (λ o. o ≡ text_order all settings t u) }
+            → DecidesAfter all settings t u result }
     {
         match (one.primary, other.primary) {
             (Some(primary), Some(other_primary)) => {
@@ -150,10 +202,10 @@ impl<'a> CollatorBorrowed<'a> {
     }
 
     /// The order of texts that begin with these primary weights, 0 of an empty one, where they differ.
-    #[inline]
+    #[inline(always)]
     fn order_of_primaries(&self, one: u32, other: u32) -> Option<Ordering>
         ensures { let all = tables_borrowed self.now in let settings = settings_borrowed self.now in
-            (t u : List ℕ) → LeadsWith all settings t one → LeadsWith all settings u other → IfSome result (λ o. o ≡ text_order all settings t u) }
+            (t u : List ℕ) → LeadsWith all settings t one → LeadsWith all settings u other → DecidesAfter all settings t u result }
     {
         if one == 0 || other == 0 {
             return unequal(one, other);

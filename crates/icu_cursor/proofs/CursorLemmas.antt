@@ -1,5 +1,5 @@
 -- What a cursor still gives, as it goes on.
-use Rattle.std.proofs.Common.{◌≡◌, ℕ, ◌≤◌, false, List, [], ◌∷◌, ◌++◌, length, take, get_or, Option, Some, None, is_some, Result, Ok, Err, IfOk, refl, sym, ap, ap₂, ◌∙◌, append_assoc}
+use Rattle.std.proofs.Common.{◌≡◌, ℕ, ◌≤◌, arith, false, List, [], ◌∷◌, ◌++◌, length, take, get_or, Option, Some, None, is_some, Result, Ok, Err, IfOk, refl, sym, ap, ap₂, ◌∙◌, append_assoc}
 use Rattle.std.specs.Prelude.{option_to_list}
 use Rattle.ucd_normal.specs.declared.forms.Form.TheVariants.{Nfd}
 use Rattle.unicode_normalization.specs.Decompose.{decompose}
@@ -8,7 +8,6 @@ use Rattle.icu_entries.specs.Elements.{Element}
 use Rattle.icu_elements.specs.TextElements.{Reading, elements_after}
 use Rattle.icu_cuts.specs.Alone.{context_after}
 use Rattle.icu_shortcuts.specs.declared.letter_facts.Letter.{Letter}
-use Rattle.icu_shortcuts.proofs.SyllableLemmas.{first_of}
 use Rattle.icu_shortcuts.specs.Letters.{letter_elements}
 use Rattle.icu_cursor.specs.declared.piece.Piece.{Piece}
 use Rattle.icu_cursor.specs.inner.Pieces.{IsPiece, piece_gives}
@@ -39,9 +38,13 @@ pub piece_read : {E : Type 0} (r : Result (Option Element) E) (all ready before 
 piece_read (Ok next) all ready before after rest is none h = is ∙ piece_taken ready (option_to_list next) before after rest none h
 piece_read (Err e) all ready before after rest is none h = tt
 
+front : (xs : List Element) (e d : Element) → 1 ≤ length xs → e ≡ get_or xs 0 d → take 1 xs ≡ e ∷ []
+front [] e d some is = absurd (omega arith)
+front (x ∷ xs) e d some is = ap (λ y. y ∷ []) (sym is)
+
 -- the first of a letter's
 pub one_taken : (l : Letter) (e d : Element) → l.count ≡ 1 → 1 ≤ length l.elements → e ≡ get_or l.elements 0 d → letter_elements l ≡ e ∷ []
-one_taken l e d one some is = ap (λ n. take n l.elements) one ∙ first_of l.elements e d some is
+one_taken l e d one some is = ap (λ n. take n l.elements) one ∙ front l.elements e d some is
 
 module _ (reading : Reading) (ready piece : List Element) (before : List ℕ) (none : ready ≡ []) (piece_ended : piece ≡ []) where
   -- a text that ended gives nothing

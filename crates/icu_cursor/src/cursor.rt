@@ -34,6 +34,7 @@ impl<'c, 'd, T: EncodedText> ElementCursor<'c, 'd, T> {
     ghost use Rattle.icu_cursor.specs.inner.Standing.{Serves};
 
     /// Reads a text, by these tables. Does not allocate.
+    #[inline(always)]
     pub fn new(tables: &'c CursorTables<'d>, text: T) -> ElementCursor<'c, 'd, T>
         ensures { cursor_gives T.text result
             ≡ elements_of (cursor_reading tables.entry.now) (nfd (T.text text)) }
@@ -65,7 +66,7 @@ impl<'c, 'd, T: EncodedText> ElementCursor<'c, 'd, T> {
     }
 
     /// The next of the elements that stand ready.
-    #[inline]
+    #[inline(always)]
     fn take_ready(&mut self) -> Option<CollationElement>
         ensures next { cursor_gives T.text self.old ≡ option_to_list result ++ cursor_gives T.text self.new }
         ensures text { self.new.text ≡ self.old.text }
@@ -119,6 +120,7 @@ impl<'c, 'd, T: EncodedText> ElementCursor<'c, 'd, T> {
     }
 
     /// The next element of what was read: of a letter's that stand ready, or of a piece's.
+    #[inline(always)]
     fn take_read(&mut self) -> Result<Option<CollationElement>, AllocError>
         ensures next { IfOk result (λ next. cursor_gives T.text self.old
             ≡ option_to_list next ++ cursor_gives T.text self.new) }
@@ -133,7 +135,7 @@ impl<'c, 'd, T: EncodedText> ElementCursor<'c, 'd, T> {
 
     /// Reads a letter by itself and gives its first element, or else begins the piece that it begins. `rest` is what
     /// follows the letter.
-    #[inline]
+    #[inline(always)]
     fn read_from(&mut self, c: char, rest: T) -> Result<Option<CollationElement>, AllocError>
         requires nothing { HasNothingReady self.old }
         requires text { T.text self.old.text ≡ c ∷ T.text rest }
@@ -163,7 +165,7 @@ impl<'c, 'd, T: EncodedText> ElementCursor<'c, 'd, T> {
     }
 
     /// The same of a letter of which this is known.
-    #[inline]
+    #[inline(always)]
     fn read_letter(
         &mut self,
         c: char,

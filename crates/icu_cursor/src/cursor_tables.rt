@@ -33,6 +33,7 @@ impl<'d> CursorTables<'d> {
     /// By these tables, whose rows name no other characters than `named` has, and with these letters, which were worked
     /// out for them. `numeric_primary` is the lead byte of numbers, where digits are read as numbers. With
     /// `lithuanian_dot_above`, U+0307 before a diacritic above is silent. Does not allocate.
+    #[inline(always)]
     #[tactic(auto, unfolding(crate::specs::Cursors::cursor_reading))]
     pub fn new(
         tables: ElementTables<'d>,

@@ -31,6 +31,7 @@ impl LetterElements {
     }
 
     /// Those of a letter after its first.
+    #[inline(always)]
     #[tactic(auto, unfolding(crate::specs::inner::Ready::elements_ready))]
     fn after_first(letter: &Letter) -> LetterElements
         ensures { elements_ready result ≡ drop 1 (letter_elements letter.now) }
@@ -43,7 +44,7 @@ impl LetterElements {
     }
 
     /// The first element of a letter, where none of another is left. The others are kept.
-    #[inline]
+    #[inline(always)]
     pub(crate) fn begin(&mut self, letter: &Letter) -> Option<CollationElement>
         requires { elements_ready self.old ≡ [] }
         ensures { letter_elements letter.now ≡ option_to_list result ++ elements_ready self.new }
@@ -61,7 +62,7 @@ impl LetterElements {
     }
 
     /// The first of them, which is given.
-    #[inline]
+    #[inline(always)]
     pub(crate) fn take_first(&mut self) -> Option<CollationElement>
         ensures next { elements_ready self.old ≡ option_to_list result ++ elements_ready self.new }
         ensures end { result ≡ None → elements_ready self.old ≡ [] }

@@ -33,7 +33,7 @@ impl RecentLetters {
     }
 
     /// One more character was read.
-    #[inline]
+    #[inline(always)]
     #[tactic(auto, using(crate::proofs::ReadCharacterLemmas::context_more))]
     pub(crate) fn push(&mut self, c: char)
         ensures { context_of self.new ≡ context_after (context_of self.old) (decompose Nfd c) }

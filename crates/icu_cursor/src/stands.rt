@@ -16,6 +16,7 @@ const MARKS_AHEAD: u32 = 6;
 
 /// Whether the classes of the marks that a text begins with rise from this one, and are few. False says
 /// nothing.
+#[inline(never)]
 fn rises<T: EncodedText>(tables: &CursorTables<'_>, class: u8, text: T) -> bool
     ensures { IsTrue result → Rises class (T.text text) }
 {
@@ -41,6 +42,7 @@ fn rises<T: EncodedText>(tables: &CursorTables<'_>, class: u8, text: T) -> bool
 }
 
 /// Whether a text ends, or may be cut before its first character. False says nothing.
+#[inline(never)]
 pub(crate) fn begins_safely<T: EncodedText>(tables: &CursorTables<'_>, text: T) -> bool
     ensures { IsTrue result → BeginsSafely (cursor_reading tables.now) (T.text text) }
 {
@@ -52,6 +54,7 @@ pub(crate) fn begins_safely<T: EncodedText>(tables: &CursorTables<'_>, text: T) 
 
 /// Whether a letter gives its own elements before a text, and changes nothing of the text's. False says
 /// nothing.
+#[inline(always)]
 pub(crate) fn stands_before<T: EncodedText>(
     tables: &CursorTables<'_>,
     letter: &Letter,

@@ -109,36 +109,7 @@ fn after_common_blocks<'a, 'b>(left: &'a [u8], right: &'b [u8]) -> (&'a [u8], &'
     (one, other)
 }
 
-/// Whether two words have the same eight bytes.
-#[inline(always)]
-fn are_same_words(one: &[u8; 8], other: &[u8; 8]) -> bool
-    ensures { IsTrue result → one.now ≡ other.now }
-{
-    u64::from_le_bytes(*one) == u64::from_le_bytes(*other)
-}
-
-/// What follows the words of eight bytes that two lists both begin with.
-#[inline]
-fn after_common_words<'a, 'b>(left: &'a [u8], right: &'b [u8]) -> (&'a [u8], &'b [u8])
-    ensures { HaveHead left.entry.now right.entry.now result.0.now result.1.now }
-{
-    let mut one = left;
-    let mut other = right;
-    'words: while let Some((word, rest)) = one.split_first_chunk::<8>() {
-        let Some((other_word, other_rest)) = other.split_first_chunk::<8>() else {
-            break 'words;
-        };
-        if are_same_words(word, other_word) {
-            one = rest;
-            other = other_rest;
-        } else {
-            break 'words;
-        }
-    }
-    (one, other)
-}
-
-/// How many first bytes two words that differ have in common, found at once: 0 of the same words.
+/// How many first bytes two words have in common, found at once.
 #[inline(always)]
 fn common_in_word(one: &[u8; 8], other: &[u8; 8]) -> usize
     ensures bound { result ≤ 8 }
@@ -147,26 +118,32 @@ fn common_in_word(one: &[u8; 8], other: &[u8; 8]) -> usize
     let differing = u8x8::from_array(*one).simd_ne(u8x8::from_array(*other));
     let mask = differing.to_bitmask();
     if mask == 0 {
-        return 0;
+        return 8;
     }
     mask.trailing_zeros() as usize
 }
 
-/// What follows the bytes that the first words of two lists have in common, where both have one.
+/// What follows the bytes that two lists both begin with, as far as both have whole words of eight bytes.
 #[inline]
-fn after_common_in_word<'a, 'b>(left: &'a [u8], right: &'b [u8]) -> (&'a [u8], &'b [u8])
+fn after_common_words<'a, 'b>(left: &'a [u8], right: &'b [u8]) -> (&'a [u8], &'b [u8])
     ensures { HaveHead left.entry.now right.entry.now result.0.now result.1.now }
 {
-    let Some((word, _)) = left.split_first_chunk::<8>() else {
-        return (left, right);
-    };
-    let Some((other_word, _)) = right.split_first_chunk::<8>() else {
-        return (left, right);
-    };
-    let count = common_in_word(word, other_word);
-    let (_, rest) = left.split_at(count);
-    let (_, other_rest) = right.split_at(count);
-    (rest, other_rest)
+    let mut one = left;
+    let mut other = right;
+    'words: while let Some((word, _)) = one.split_first_chunk::<8>() {
+        let Some((other_word, _)) = other.split_first_chunk::<8>() else {
+            break 'words;
+        };
+        let count = common_in_word(word, other_word);
+        let (_, rest) = one.split_at(count);
+        let (_, other_rest) = other.split_at(count);
+        if count < 8 {
+            return (rest, other_rest);
+        }
+        one = rest;
+        other = other_rest;
+    }
+    (one, other)
 }
 
 /// How many first bytes two lists have in common.
@@ -176,8 +153,7 @@ fn common_bytes(left: &[u8], right: &[u8]) -> usize
     ensures fronts { take result left.now ≡ take result right.now }
 {
     let (one, other) = after_common_blocks(left, right);
-    let (one, other) = after_common_words(one, other);
-    let (mut one, mut other) = after_common_in_word(one, other);
+    let (mut one, mut other) = after_common_words(one, other);
     'bytes: while let Some((rest, other_rest)) = after_common_byte(one, other) {
         one = rest;
         other = other_rest;

@@ -60,7 +60,7 @@ impl<'a> EncodedText for Utf8Text<'a> {
 
     ghost head = { λ t n. utf8_text (take n t.0.now) };
 
-    #[inline]
+    #[inline(always)]
     fn split_first_char(self) -> Option<(char, Self)> {
         if let Some((byte, rest)) = self.split_first_ascii() {
             return Some((char::from(byte), rest));
@@ -98,7 +98,7 @@ impl<'a> EncodedText for Utf8Text<'a> {
 }
 
 /// The first character of UTF-8, which is decoded, and the bytes after it.
-#[inline]
+#[inline(always)]
 fn split_first_decoded(bytes: &[u8]) -> Option<(char, &[u8])>
     ensures { MatchOption result (utf8_text bytes.now ≡ []) (λ p. utf8_text bytes.now ≡ p.0 ∷ utf8_text p.1.now) }
 {
@@ -132,7 +132,7 @@ impl<'a> EncodedText for Utf16Text<'a> {
 
     ghost head = { λ t n. utf16_text (take n t.0.now) };
 
-    #[inline]
+    #[inline(always)]
     fn split_first_char(self) -> Option<(char, Self)> {
         let (c, rest) = split_first_char(self.0)?;
         Some((c, Utf16Text(rest)))
@@ -188,7 +188,7 @@ impl<'a> EncodedText for Latin1Text<'a> {
 
     ghost head = { λ t n. latin1_text (take n t.0.now) };
 
-    #[inline]
+    #[inline(always)]
     fn split_first_char(self) -> Option<(char, Self)> {
         let (first, rest) = self.0.split_first()?;
         Some((char::from(*first), Latin1Text(rest)))

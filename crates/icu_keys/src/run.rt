@@ -145,7 +145,7 @@ impl Run {
     }
 
     /// Ends the run, and writes it and a weight that isn't common, spelled as a weight of two bytes.
-    #[inline]
+    #[inline(always)]
     pub fn write_short<S: CollationKeySink>(
         &mut self,
         runs: &RunBytes,

@@ -31,6 +31,7 @@ impl SecondaryWriter {
     }
 
     /// Writes what the next weight decides. An error is the sink's own.
+    #[inline(always)]
     pub fn push<S: CollationKeySink>(
         &mut self,
         sink: &mut S,

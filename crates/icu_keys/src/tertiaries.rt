@@ -87,6 +87,7 @@ impl TertiaryWriter {
     /// Writes what the next weight decides. An error is the sink's own.
     ///
     /// Weights of a form fit its moved leads: without case bits they are below 4000, with lower case first below C000.
+    #[inline(always)]
     pub fn push<S: CollationKeySink>(
         &mut self,
         sink: &mut S,

@@ -28,7 +28,7 @@ pub(crate) fn write_optional<S: CollationKeySink>(
 }
 
 /// Writes a byte, where there is one, and then another, where there is one.
-#[inline]
+#[inline(always)]
 pub(crate) fn write_both<S: CollationKeySink>(
     sink: &mut S,
     state: &mut S::State,

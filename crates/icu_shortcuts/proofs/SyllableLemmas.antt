@@ -1,12 +1,14 @@
 -- Letters whose characters decompose to themselves.
-use Rattle.std.proofs.Common.{◌≡◌, ◌≤◌, ◌<◌, ◌&&◌, ℕ, Bool, true, false, List, [], ◌∷◌, ◌++◌, take, length, get_or, Option, None, IfSome, refl, sym, ap, ap₂, subst, ◌∙◌, arith}
+use Rattle.std.proofs.Common.{◌≡◌, ◌≢◌, ◌≤◌, ◌<◌, ◌+◌, ◌-◌, ◌/◌, ◌%◌, ℕ, true, List, [], ◌∷◌, ◌++◌, take, get_or, Option, None, IfSome, refl, sym, ap, ap₂, subst, ◌∙◌, arith}
 use Rattle.std.specs.List.{list_all}
 use Rattle.std.proofs.lemmas.List.Folds.{list_all-append}
 use Rattle.std.proofs.lemmas.List.Concat.{flat_map-append}
 use Rattle.ucd_normal.specs.declared.forms.Form.TheVariants.{Nfd}
 use Rattle.unicode_normalization.specs.Decompose.{decompose}
+use Rattle.unicode_normalization.specs.Hangul.{decompose_hangul}
 use Rattle.unicode_normalization.specs.Order.{is_starter}
-use Rattle.unicode_normalization.proofs.DecomposeLemmas.{decompose-final, is_final-jamo}
+use Rattle.unicode_normalization.proofs.DecomposeLemmas.{decompose-final, decompose-syllable, is_final-jamo}
+use Rattle.unicode_normalization.proofs.HangulLemmas.{is_among_from, decompose_hangul-two, decompose_hangul-three}
 use Rattle.icu_entries.specs.Elements.{Element}
 use Rattle.icu_elements.specs.TextElements.{Reading}
 use Rattle.icu_cuts.specs.Alone.{elements_by_char, elements_of_char, is_alone}
@@ -21,10 +23,6 @@ use Rattle.icu_shortcuts.proofs.KeptLemmas.{both, first as former}
 head_same : (a b : ℕ) (xs ys : List ℕ) → a ∷ xs ≡ b ∷ ys → a ≡ b
 head_same a b xs ys e = ap (λ (l : List ℕ). get_or l 0 0) e
 
-pub first_of : (xs : List Element) (e d : Element) → 1 ≤ length xs → e ≡ get_or xs 0 d → take 1 xs ≡ e ∷ []
-first_of [] e d some is = absurd (omega arith)
-first_of (x ∷ xs) e d some is = ap (λ y. y ∷ []) (sym is)
-
 pub own_none : (reading : Reading) (es : List Element) → es ≡ [] → StandByThemselves reading [] es
 own_none reading es e = record { alone = refl; starters = refl; elements = e }
 
@@ -38,11 +36,11 @@ own_jamo reading c l low high kind count is = record {
 }
 
 -- one more
-module _ (reading : Reading) (cs : List ℕ) (c : ℕ) (l : Letter) (es : List Element) (e d : Element)
-    (s : StandByThemselves reading cs es) (o : IsOwnLetter reading c l) (some : 1 ≤ length l.elements) (is : e ≡ get_or l.elements 0 d) where
+module _ (reading : Reading) (cs : List ℕ) (c : ℕ) (l : Letter) (es : List Element) (e : Element)
+    (s : StandByThemselves reading cs es) (o : IsOwnLetter reading c l) (is : take 1 l.elements ≡ e ∷ []) where
   one : e ∷ [] ≡ elements_by_char reading.tables (c ∷ [])
   one =
-      sym (ap (λ n. take n l.elements) o.count ∙ first_of l.elements e d some is)
+      sym (ap (λ n. take n l.elements) o.count ∙ is)
       ∙ (o.is.starters o.kind).stands.elements
       ∙ ap (elements_by_char reading.tables) o.itself
 
@@ -52,6 +50,32 @@ module _ (reading : Reading) (cs : List ℕ) (c : ℕ) (l : Letter) (es : List E
     starters = list_all-append is_starter cs (c ∷ []) ∙ both _ _ s.starters (ap (list_all is_starter) (sym o.itself) ∙ (o.is.starters o.kind).starters);
     elements = ap₂ (λ (xs ys : List Element). xs ++ ys) s.elements one ∙ sym (flat_map-append (elements_of_char reading.tables) cs (c ∷ []));
   }
+
+-- its jamo (Unicode Standard, "Conjoining Jamo Behavior")
+module _ (c n : ℕ) (low : n < 11172) (is : c ≡ 0xAC00 + n) where
+  by_jamo : decompose Nfd c ≡ decompose_hangul c
+  by_jamo = decompose-syllable Nfd c (is_among_from 0xAC00 11172 c (omega (arith, is)) (omega (arith, is, low)))
+
+  number : c - 0xAC00 ≡ n
+  number = omega (arith, is)
+
+  vowel : 0x1161 + (c - 0xAC00) % 588 / 28 ≡ 0x1100 + (0x61 + n % 588 / 28)
+  vowel = ap (λ k. 0x1161 + k % 588 / 28) number ∙ omega arith
+
+  trailing : 0x11A7 + (c - 0xAC00) % 28 ≡ 0x1100 + (0xA7 + n % 28)
+  trailing = ap (λ k. 0x11A7 + k % 28) number ∙ omega arith
+
+  leading : 0x1100 + (c - 0xAC00) / 588 ≡ 0x1100 + n / 588
+  leading = ap (λ k. 0x1100 + k / 588) number
+
+  pub two_jamo : n % 28 ≡ 0 → decompose Nfd c ≡ (0x1100 + n / 588) ∷ (0x1100 + (0x61 + n % 588 / 28)) ∷ []
+  two_jamo none = by_jamo ∙ decompose_hangul-two c (ap (λ k. k % 28) number ∙ none) ∙ ap₂ (λ l v. l ∷ v ∷ []) leading vowel
+
+  pub three_jamo : n % 28 ≢ 0 → decompose Nfd c ≡ (0x1100 + n / 588) ∷ (0x1100 + (0x61 + n % 588 / 28)) ∷ (0x1100 + (0xA7 + n % 28)) ∷ []
+  three_jamo some =
+      by_jamo ∙ decompose_hangul-three c (λ e. some (sym (ap (λ k. k % 28) number) ∙ e))
+      ∙ ap₂ (λ l v. l ∷ v ∷ (0x11A7 + (c - 0xAC00) % 28) ∷ []) leading vowel
+      ∙ ap (λ t. (0x1100 + n / 588) ∷ (0x1100 + (0x61 + n % 588 / 28)) ∷ t ∷ []) trailing
 
 -- what is known of it is known of its only character
 pub own_outline : (reading : Reading) (c : ℕ) (l : Letter) → IsOwnLetter reading c l → IsOutline reading c l

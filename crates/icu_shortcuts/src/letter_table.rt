@@ -15,7 +15,7 @@ use std::alloc::{AllocError, Global};
 #[derive(Debug, Drop)]
 pub struct Letters {
     latin: Vec<Letter>,
-    jamo: Vec<Letter>,
+    pub(crate) jamo: Vec<Letter>,
     additional: Vec<Letter>,
     ghost latin_count: { length latin.items ≡ 0x380 },
     ghost jamo_count: { length jamo.items ≡ 0x100 },
@@ -40,7 +40,7 @@ impl Letters {
     }
 
     /// What is known of a character, or none outside of U+0000 to U+037F, U+1100 to U+11FF and U+1E00 to U+1EFF.
-    #[inline]
+    #[inline(always)]
     pub fn get(&self, c: char) -> Option<&Letter>
         ensures known { (reading : Reading) → AreLetters reading self.now → IfSome result (λ l. IsLetter reading c l.now) }
         ensures kept { is_some result ≡ is_kept c }

@@ -53,6 +53,7 @@ fn outline(places: &SafePlaces<'_>, first: char, leading_primary: u32) -> Letter
 }
 
 /// The same of a character that stands alone, with its elements, its kind and its class.
+#[inline(always)]
 #[tactic(auto, unfolding(crate::specs::inner::FewElements::few_elements))]
 pub(crate) fn with_elements(known: Letter, all: FewElements, shape: (LetterKind, u8)) -> Letter
     ensures elements { letter_elements result ≡ few_elements all }

@@ -1,74 +1,119 @@
 //! What is known of Hangul syllables, from what is kept of their jamo.
 
-ghost use Rattle.std.specs.Prelude.{◌≡◌, ◌∷◌, List, ℕ, IfSome};
+ghost use Rattle.std.specs.Prelude.{◌≡◌, ◌<◌, ◌+◌, ◌∷◌, [], List, ℕ, take, IfSome};
 ghost use Rattle.ucd_normal.specs.declared.forms.Form.TheVariants.{Nfd};
 ghost use Rattle.unicode_normalization.specs.Decompose.{decompose};
 ghost use Rattle.icu_elements.specs.TextElements.{Reading};
-ghost use Rattle.icu_shortcuts.specs.inner.FewElements.{few_elements};
 ghost use Rattle.icu_shortcuts.specs.Letters.{IsLetter};
 ghost use Rattle.icu_shortcuts.specs.LetterTables.{AreLetters};
-ghost use Rattle.icu_shortcuts.specs.inner.Syllables.{IsOwnLetter, StandByThemselves};
+ghost use Rattle.icu_shortcuts.specs.inner.Syllables.{IsOwnLetter};
 
 use crate::few_elements::FewElements;
 use crate::letter_facts::{Letter, LetterKind};
 use crate::letter_table::Letters;
 use crate::read_letter::with_elements;
-use unicode_normalization::Form;
-use unicode_normalization::char::decomposition;
+use icu_entries::CollationElement;
+
+/// The first Hangul syllable (Unicode Standard, "Conjoining Jamo Behavior").
+const S_BASE: u32 = 0xAC00;
+
+/// How many syllables there are.
+const S_COUNT: u32 = 11172;
+
+/// How many syllables begin with one leading consonant.
+const N_COUNT: u32 = 588;
+
+/// How many of these have one vowel: one without a trailing consonant, and one with each.
+const T_COUNT: u32 = 28;
+
+/// The first vowel, and what stands for no trailing consonant, counted from the first jamo, U+1100, on.
+const VOWELS: u32 = 0x61;
+
+const TRAILING: u32 = 0xA7;
+
+/// Which syllable a character is, counted from the first one on.
+#[inline]
+fn syllable_number(c: char) -> Option<u32>
+    ensures { IfSome result (λ number. (number < 11172) × (c ≡ 0xAC00 + number)) }
+{
+    let code = c as u32;
+    if code < S_BASE || code >= S_BASE + S_COUNT {
+        None
+    } else {
+        Some(code - S_BASE)
+    }
+}
+
+/// The element of a letter that has one.
+#[inline(always)]
+fn only_element(letter: &Letter) -> CollationElement
+    ensures { take 1 letter.now.elements ≡ result ∷ [] }
+{
+    let elements = &letter.elements[..];
+    elements[0]
+}
+
+/// What is known of a syllable that decomposes to two jamo.
+#[inline(always)]
+fn of_two(leading: &Letter, vowel: &Letter) -> Letter
+    ensures { (reading : Reading) (c l v : ℕ) → IsOwnLetter reading l leading.now → IsOwnLetter reading v vowel.now
+        → decompose Nfd c ≡ l ∷ v ∷ [] → IsLetter reading c result }
+{
+    let few = FewElements {
+        elements: [
+            only_element(leading),
+            only_element(vowel),
+            CollationElement::default(),
+        ],
+        count: 2,
+    };
+    with_elements(*leading, few, (LetterKind::Starters, 0))
+}
+
+/// The same of one that decomposes to three.
+#[inline(always)]
+fn of_three(leading: &Letter, vowel: &Letter, trailing: &Letter) -> Letter
+    ensures { (reading : Reading) (c l v t : ℕ) → IsOwnLetter reading l leading.now → IsOwnLetter reading v vowel.now
+        → IsOwnLetter reading t trailing.now → decompose Nfd c ≡ l ∷ v ∷ t ∷ [] → IsLetter reading c result }
+{
+    let few = FewElements {
+        elements: [
+            only_element(leading),
+            only_element(vowel),
+            only_element(trailing),
+        ],
+        count: 3,
+    };
+    with_elements(*leading, few, (LetterKind::Starters, 0))
+}
 
 impl Letters {
-    /// What is kept of a conjoining jamo that has one element: each decomposes to itself (UAX #15).
+    /// What is kept of a conjoining jamo that has one element, counted from U+1100 on: each decomposes to itself
+    /// (UAX #15).
     #[inline]
-    fn own_letter(&self, c: char) -> Option<&Letter>
-        ensures { IfSome result (λ l. (reading : Reading) → AreLetters reading self.now → IsOwnLetter reading c l.now) }
+    fn jamo(&self, number: u32) -> Option<&Letter>
+        requires { number < 0x100 }
+        ensures { IfSome result (λ l. (reading : Reading) → AreLetters reading self.now → IsOwnLetter reading (0x1100 + number) l.now) }
     {
-        if c < '\u{1100}' || c >= '\u{1200}' {
-            return None;
-        }
-        let letter = self.get(c)?;
+        let letter = &self.jamo[number as usize];
         match letter.kind {
             LetterKind::Starters if letter.count == 1 => Some(letter),
             _ => None,
         }
     }
 
-    /// The elements of characters that each decompose to themselves, and are starters with one element.
-    fn own_elements(&self, chars: &[char]) -> Option<FewElements>
-        ensures { IfSome result (λ few. (reading : Reading) → AreLetters reading self.now → StandByThemselves reading chars.now (few_elements few)) }
-    {
-        let mut found = FewElements::new();
-        for c in chars {
-            let letter = self.own_letter(*c)?;
-            let elements = &letter.elements[..];
-            found = found.with_element(elements[0])?;
-        }
-        Some(found)
-    }
-
-    /// What is known of a character that decomposes to these, the first and the others, all of which decompose to
-    /// themselves.
-    fn letter_of_parts(&self, c: char, first: char, parts: &[char]) -> Option<Letter>
-        requires decomposes { decompose Nfd c ≡ parts.now }
-        requires first { (more : List ℕ) × (parts.now ≡ first ∷ more) }
-        ensures { IfSome result (λ l. (reading : Reading) → AreLetters reading self.now → IsLetter reading c l) }
-    {
-        let leader = self.own_letter(first)?;
-        let all = self.own_elements(parts)?;
-        Some(with_elements(*leader, all, (LetterKind::Starters, 0)))
-    }
-
     /// What is known of a Hangul syllable, where each of its jamo has one element wherever it stands.
+    #[inline]
     pub fn syllable(&self, c: char) -> Option<Letter>
         ensures { IfSome result (λ l. (reading : Reading) → AreLetters reading self.now → IsLetter reading c l) }
     {
-        if c < '\u{AC00}' || c > '\u{D7A3}' {
-            return None;
+        let number = syllable_number(c)?;
+        let leading = self.jamo(number / N_COUNT)?;
+        let vowel = self.jamo(VOWELS + number % N_COUNT / T_COUNT)?;
+        if number % T_COUNT == 0 {
+            return Some(of_two(leading, vowel));
         }
-        let mut room = [c; 3];
-        let parts = decomposition(c, Form::Nfd, &mut room);
-        match parts {
-            [first, ..] => self.letter_of_parts(c, *first, parts),
-            [] => None,
-        }
+        let trailing = self.jamo(TRAILING + number % T_COUNT)?;
+        Some(of_three(leading, vowel, trailing))
     }
 }

@@ -45,6 +45,7 @@ pub(crate) fn case_of(element: CollationElement) -> LetterCase
 }
 
 /// What a form of the tertiary level reads of an element.
+#[inline(always)]
 pub fn masked_tertiary(form: TertiaryForm, element: CollationElement) -> u16
     ensures { result ≡ masked_tertiary form element }
 {

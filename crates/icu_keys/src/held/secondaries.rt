@@ -49,6 +49,7 @@ impl HeldSecondaries {
     }
 
     /// Feeds the counted weights to the writer, and then the next one.
+    #[inline(always)]
     fn push_next(&mut self, weight: u16) -> Result<(), AllocError>
         ensures { OnOk result ((ws : List ℕ) →
             held_secondaries self.old (weight ∷ ws) ≡ held_secondaries self.new ws) }

@@ -59,6 +59,7 @@ impl HeldTertiaries {
     }
 
     /// Feeds the counted weights to the writer, and then the next one.
+    #[inline(always)]
     fn push_next(&mut self, weight: u16) -> Result<(), AllocError>
         requires { moved_tertiary (held_tertiary_form self.old) weight < 2 ^ 16 }
         ensures form { held_tertiary_form self.new ≡ held_tertiary_form self.old }

@@ -1,6 +1,5 @@
 -- The same element on both sides is passed.
 use Rattle.std.proofs.Common.{◌≡◌, ◌∷◌, ◌∙◌, sym, ap, length, arith, rules}
-use Rattle.icu_text_keys.specs.declared.handled.Handled.{Handled}
 use Rattle.icu_text_keys.specs.HandledSources.{handled_as}
 use Rattle.icu_order.specs.Handled.{HandledElement}
 use Rattle.std.proofs.Common.{List}

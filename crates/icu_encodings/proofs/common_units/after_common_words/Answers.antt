@@ -1,17 +1,18 @@
--- A word more that both have goes to the common beginning.
-use Rattle.std.proofs.Common.{◌≡◌, ap, ◌∙◌, ◌++◌, sym, drop, take-append-drop}
-use Rattle.icu_encodings.proofs.UnitCutLemmas.{longer_head}
+-- The bytes that the words have in common go to the common beginning.
+use Rattle.icu_encodings.proofs.UnitCutLemmas.{head_on}
+use Rattle.icu_encodings.proofs.WordLemmas.{word_head}
 use Rattle.icu_encodings.proofs.common_units.after_common_words.Goals as goal
 
 pub words-preserved : goal.words-preserved
 words-preserved c =
-    let one = c.words.one.now in
-    let other = c.words.other.now in
-    let first = c.in-Some.ensures.cases in
-    let second = c.in-Some-split_first_chunk.ensures.cases in
-    let word = c.in-Some.word.now in
-    let whole : one ≡ word ++ c.in-Some.rest.now = sym (take-append-drop 8 one) ∙ ap (λ w. w ++ drop 8 one) (sym first.0) ∙ ap (λ l. word ++ l) (sym first.1) in
-    let same : word ≡ c.in-Some-split_first_chunk.other_word.now = c.are_same_words.ensures (c.if-are_same_words.true) in
-    let other_whole : other ≡ word ++ c.in-Some-split_first_chunk.other_rest.now =
-    sym (take-append-drop 8 other) ∙ ap (λ w. w ++ drop 8 other) (sym second.0 ∙ sym same) ∙ ap (λ l. word ++ l) (sym second.1) in
-    longer_head _ _ one other word _ _ c.words.invariant whole other_whole
+    let count = c.common_in_word-count in
+    head_on _ _ _ _ _ _ c.words.invariant
+    (word_head count.result c.words.one.now c.words.other.now _ _ _ _ c.in-Some.ensures.cases.0 c.in-Some-split_first_chunk.ensures.cases.0
+    count.ensures.bound count.ensures.front c.split_at.ensures.back c.split_at-in-Some.ensures.back)
+
+pub returns-then-count-lt8 : goal.returns-then-count-lt8
+returns-then-count-lt8 c =
+    let count = c.common_in_word-count in
+    head_on _ _ _ _ _ _ c.words.invariant
+    (word_head count.result c.words.one.now c.words.other.now _ _ _ _ c.in-Some.ensures.cases.0 c.in-Some-split_first_chunk.ensures.cases.0
+    count.ensures.bound count.ensures.front c.split_at.ensures.back c.split_at-in-Some.ensures.back)

@@ -15,4 +15,4 @@ returns-clause-same c = λ e.
 
 pub bytes-init : goal.bytes-init
 bytes-init c =
-    head_on _ _ _ _ _ _ (head_on _ _ _ _ _ _ c.after_common_blocks.ensures c.after_common_words.ensures) c.after_common_in_word.ensures
+    head_on _ _ _ _ _ _ c.after_common_blocks.ensures c.after_common_words.ensures

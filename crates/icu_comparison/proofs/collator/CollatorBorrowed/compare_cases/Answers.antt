@@ -1,9 +1,8 @@
 -- The weights of the level are the cases.
-use Rattle.std.proofs.Common.{◌≡◌, ◌∙◌, Ordering, Option, Some, IfOk, subst, sym, ap}
+use Rattle.std.proofs.Common.{◌≡◌, ◌∙◌, Ordering, Some, IfOk, subst, sym, ap}
 use Rattle.unicode_normalization.specs.Forms.{nfd}
 use Rattle.icu_order.specs.Forms.{form_by}
 use Rattle.icu_comparison.specs.Collators.{tables_borrowed, settings_borrowed}
-use Rattle.icu_levels.specs.declared.forms.CaseForm.{CaseForm}
 use Rattle.icu_levels.specs.declared.forms.KeyForm.{KeyForm}
 use Rattle.icu_comparison.proofs.LevelLemmas.{cases_read}
 use Rattle.icu_comparison.proofs.collator.CollatorBorrowed.compare_cases.Goals as goal

@@ -1,5 +1,5 @@
 -- The weights of the level are the tertiaries.
-use Rattle.std.proofs.Common.{◌≡◌, ◌∙◌, Ordering, Option, Some, IfOk, subst, sym, ap}
+use Rattle.std.proofs.Common.{◌≡◌, ◌∙◌, Ordering, Some, IfOk, subst, sym, ap}
 use Rattle.unicode_normalization.specs.Forms.{nfd}
 use Rattle.icu_order.specs.Forms.{form_by}
 use Rattle.icu_comparison.specs.Collators.{tables_borrowed, settings_borrowed}

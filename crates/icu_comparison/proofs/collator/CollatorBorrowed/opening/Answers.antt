@@ -1,5 +1,5 @@
 -- What is kept of the first character says it of the text.
-use Rattle.std.proofs.Common.{◌≡◌, ◌≢◌, ◌⊎◌, ℕ, List, ◌∷◌, sym, subst, inl, inr, ⊎_elim, true}
+use Rattle.std.proofs.Common.{◌≡◌, ◌⊎◌, ℕ, List, ◌∷◌, sym, subst, inl, inr, ⊎_elim, true}
 use Rattle.unicode_normalization.specs.Forms.{nfd}
 use Rattle.icu_elements.specs.TextElements.{elements_of}
 use Rattle.icu_order.specs.Forms.{last_variable_by}

@@ -1,10 +1,9 @@
 -- The first primaries decide.
-use Rattle.std.proofs.Common.{◌≡◌, ◌⊎◌, ◌∙◌, ℕ, List, Option, Ordering, IfSome, sym, ap, subst, inl, inr}
+use Rattle.std.proofs.Common.{◌≡◌, ◌⊎◌, ◌∙◌, sym, ap, subst, inl, inr}
 use Rattle.icu_provider.specs.CollatorTables.{reorder, reorder_by}
-use Rattle.icu_order.specs.TextOrder.{text_order}
 use Rattle.icu_comparison.specs.Collators.{tables_borrowed, settings_borrowed}
-use Rattle.icu_comparison.specs.inner.Tails.{unequal_order}
-use Rattle.icu_comparison.proofs.TailLemmas.{ends_order, leads_order}
+use Rattle.icu_comparison.specs.inner.Tails.{DecidesAfter, unequal_order}
+use Rattle.icu_comparison.proofs.TailLemmas.{ends_after, leads_after}
 use Rattle.icu_comparison.proofs.collator.CollatorBorrowed.order_of_primaries.Goals.{then-one-eq0-via-then-one-eq0, then-one-eq0-via-else-one-eq0+then-other-eq0}
 use Rattle.icu_comparison.proofs.collator.CollatorBorrowed.order_of_primaries.Goals as goal
 
@@ -18,8 +17,7 @@ returns-then-one-eq0 c = λ t u h k.
       | then-one-eq0-via-then-one-eq0 w ↦ inl w.if-one-eq0.true
       | then-one-eq0-via-else-one-eq0+then-other-eq0 w ↦ inr w.if-other-eq0.true
     ] in
-    subst (λ (r : Option Ordering). IfSome r (λ o. o ≡ text_order all settings t u)) (sym c.unequal.ensures)
-    (ends_order all settings t u one other h k empty)
+    subst (DecidesAfter all settings t u) (sym c.unequal.ensures) (ends_after all settings t u one other h k empty)
 
 pub returns : goal.returns
 returns c = λ t u h k.
@@ -30,5 +28,4 @@ returns c = λ t u h k.
     let left : c.reordered.result ≡ reorder all one = c.reordered.ensures ∙ ap (λ r. reorder_by r one) c.reordering-reordering.ensures in
     let right : c.reordered-2.result ≡ reorder all other = c.reordered-2.ensures ∙ ap (λ r. reorder_by r other) c.reordering-reordering.ensures in
     let found = c.unequal-2.ensures ∙ ap (λ x. unequal_order x c.reordered-2.result) left ∙ ap (unequal_order (reorder all one)) right in
-    subst (λ (r : Option Ordering). IfSome r (λ o. o ≡ text_order all settings t u)) (sym found)
-    (leads_order all settings t u one other h k c.if-one-eq0.false c.if-other-eq0.false)
+    subst (DecidesAfter all settings t u) (sym found) (leads_after all settings t u one other h k c.if-one-eq0.false c.if-other-eq0.false)

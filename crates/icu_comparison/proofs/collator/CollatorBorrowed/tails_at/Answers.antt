@@ -1,5 +1,5 @@
 -- The common beginning doesn't count.
-use Rattle.std.proofs.Common.{◌≡◌, ◌∙◌, IfSome, Ordering, subst, sym, refl, rules}
+use Rattle.std.proofs.Common.{◌≡◌, IfSome, Ordering, subst, rules}
 use Rattle.icu_order.specs.TextOrder.{text_order}
 use Rattle.icu_comparison.specs.Collators.{tables_borrowed, settings_borrowed}
 use Rattle.icu_comparison.proofs.TailLemmas.{tails_order}
@@ -18,6 +18,5 @@ returns g c =
     t u c.in_ok-one.ensures c.in_ok-other.ensures c.requires.head
     (c.opening-opening.ensures.tail (search rules)) (c.opening-other_opening.ensures.tail (search rules)) in (
       same,
-      subst (λ (w : Ordering). IfSome c.order_of-order.result (λ o. o ≡ w)) same
-          (c.order_of-order.ensures t u c.opening-opening.ensures.leads c.opening-other_opening.ensures.leads),
+      subst (λ (w : Ordering). IfSome c.order_of_openings-order.result (λ o. o ≡ w)) same c.order_of_openings-order.ensures,
     )

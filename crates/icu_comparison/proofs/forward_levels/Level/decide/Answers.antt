@@ -1,5 +1,4 @@
 -- A list that has ended comes before one that has a weight.
-use Rattle.std.proofs.Common.{rules}
 use Rattle.icu_comparison.proofs.InStepLemmas.{left_ends, right_ends}
 use Rattle.icu_comparison.proofs.forward_levels.Level.decide.Goals as goal
 

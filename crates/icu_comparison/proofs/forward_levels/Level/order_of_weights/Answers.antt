@@ -1,5 +1,5 @@
 -- Weights are compared, or there are none.
-use Rattle.std.proofs.Common.{◌≡◌, Ordering, sym, ap, ◌∙◌}
+use Rattle.std.proofs.Common.{Ordering, sym, ap, ◌∙◌}
 use Rattle.std.specs.Ordering.{ordering_then}
 use Rattle.icu_text_keys.specs.HandledSources.{handled_as}
 use Rattle.icu_comparison.specs.inner.InStep.{order_on}
