@@ -1,35 +1,30 @@
 -- Texts that may follow others, what follows a common beginning of two texts, and what their first characters decide.
-use Rattle.std.proofs.Common.{◌≡◌, ◌≢◌, ◌<◌, ◌≤◌, ◌==◌, ◌⊎◌, ◌&&◌, ℕ, Bool, true, false, List, [], ◌∷◌, ◌++◌, map, length, get_or, append-nil, Option, Some, None, IfSome, Ordering, Less, Equal, Greater, refl, sym, ap, subst, ◌∙◌, ⊎_elim, arith, not, if◌then◌else◌}
+use Rattle.std.proofs.Common.{◌≡◌, ◌≢◌, ◌<◌, ◌==◌, ◌⊎◌, ◌&&◌, ℕ, Bool, true, false, List, [], ◌∷◌, ◌++◌, map, Option, Some, None, IfSome, Ordering, Less, Equal, Greater, refl, sym, ap, ap₂, subst, ◌∙◌, append_assoc, ⊎_elim, arith, not, if◌then◌else◌}
 use Rattle.std.specs.Ordering.{nat_cmp, ordering_then}
-use Rattle.std.specs.List.{list_all}
+use Rattle.std.proofs.lemmas.List.{map-append}
 use Rattle.std.proofs.lemmas.Bool.{cases_order, eqb-false}
 use Rattle.std.proofs.lemmas.Bool.Decides.{nat_tests}
-use Rattle.unicode_normalization.specs.Decompose.{decompose_canonical}
 use Rattle.unicode_normalization.specs.Forms.{nfd}
-use Rattle.unicode_normalization.proofs.DecomposeLemmas.{decompose-final}
-use Rattle.unicode_normalization.proofs.FormsLemmas.{is_final-Nfd, quick_check-below}
 use Rattle.icu_options.specs.Settings.{Settings}
 use Rattle.icu_options.specs.declared.settings.AlternateHandling.{AlternateHandling}
 use Rattle.icu_levels.specs.CommonBeginnings.{ReadsForward}
+use Rattle.icu_levels.specs.ListOrder.{list_order}
 use Rattle.icu_levels.proofs.Order.{less_number, more_number, same_front}
 use Rattle.icu_entries.specs.Elements.{Element}
 use Rattle.icu_provider.specs.CollatorTables.{CollatorTables, reorder}
-use Rattle.icu_elements.specs.TextElements.{Reading, elements_of, elements_after, elements_along, last_two}
+use Rattle.icu_elements.specs.TextElements.{Reading, elements_of, elements_after, elements_along}
 use Rattle.icu_cuts.proofs.NfdLemmas.{nfd-nil}
-use Rattle.icu_cuts.specs.Alone.{elements_by_char, elements_of_char, is_alone}
-use Rattle.icu_cuts.specs.ReadingLaws.{FirstStartersLead, LowLettersStand}
-use Rattle.icu_shortcuts.specs.Letters.{IsLetter, LeadsWith as LetterLeads}
-use Rattle.icu_shortcuts.specs.declared.letter_facts.Letter.{Letter}
-use Rattle.icu_shortcuts.specs.declared.letter_facts.LetterKind.TheVariants.{Starters}
-use Rattle.icu_shortcuts.proofs.KeptLemmas.{first as former}
-use Rattle.icu_cursor.proofs.CursorLemmas.{one_taken}
+use Rattle.icu_cuts.specs.ReadingLaws.{FirstStartersLead}
+use Rattle.icu_shortcuts.specs.Letters.{LeadsWith as LetterLeads}
+use Rattle.icu_cursor.specs.declared.letter_cursor.LetterCursor.{LetterCursor}
+use Rattle.icu_cursor.specs.LetterCursors.{GoesOn, letters_give}
 use Rattle.icu_shortcuts.specs.SafeTables.{IsSafeBefore}
 use Rattle.icu_order.specs.Forms.{form_by, last_variable_by}
 use Rattle.icu_order.specs.Handled.{stayed, handled, is_variable, stayed_elements}
 use Rattle.icu_order.specs.Levels.{weights, primaries}
 use Rattle.icu_order.specs.TextCuts.{begins_with_primary, IsTail, CommonBeginningsDoNotCount}
 use Rattle.icu_order.specs.TextOrder.{reading_by, lists_by, text_order}
-use Rattle.icu_comparison.specs.inner.Tails.{IsFirst, LeadsWith, LeadsAlone, Decides, DecidesAfter, primaries_after, unequal_order}
+use Rattle.icu_comparison.specs.inner.Tails.{IsFirst, LeadsWith, Decides, GivesPrimaries, GivesPrimary, ReadsOn, primaries_given, primaries_of, unequal_order}
 
 -- ---- the first element
 
@@ -53,15 +48,20 @@ first_counts x xs nonzero =
     let counts : (x.primary == 0) ≡ false = grind (arith, nat_tests) in
     rw counts refl
 
--- a text whose first element isn't variable
-leading_primary : (all : CollatorTables) (settings : Settings) (before : List ℕ) (after : Bool) (t : List ℕ) (x : Element) (xs : List Element)
-    → elements_after (reading_by all settings) before (nfd t) ≡ x ∷ xs → last_variable_by all settings < x.primary
-    → primaries_after all settings before after t ≡ x.primary ∷ primaries (stayed_elements (handled settings.alternate_handling (last_variable_by all settings) false xs))
-leading_primary all settings before after t x xs is above =
+-- elements the first of which isn't variable
+leading_primary : (all : CollatorTables) (settings : Settings) (after : Bool) (x : Element) (xs : List Element) → last_variable_by all settings < x.primary
+    → primaries_given all settings after (x ∷ xs) ≡ x.primary ∷ primaries_given all settings false xs
+leading_primary all settings after x xs above =
     let last : ℕ = last_variable_by all settings in
-    ap (λ es. primaries (stayed_elements (handled settings.alternate_handling last after es))) is
-    ∙ ap (λ hs. primaries (stayed_elements hs)) (first_stays settings.alternate_handling last after x xs above)
+    ap (λ hs. primaries (stayed_elements hs)) (first_stays settings.alternate_handling last after x xs above)
     ∙ first_counts x _ (above_nothing last x.primary above)
+
+-- elements the first of which has no primary
+no_primary : (all : CollatorTables) (settings : Settings) (after : Bool) (x : Element) (xs : List Element) → x.primary ≡ 0
+    → (a : Bool) × (primaries_given all settings after (x ∷ xs) ≡ primaries_given all settings a xs)
+unfolding handled weights
+no_primary all settings true x xs zero = (true, rw zero refl)
+no_primary all settings false x xs zero = (false, rw zero refl)
 
 module _ (all : CollatorTables) (settings : Settings) (law : FirstStartersLead) (c : ℕ) (cs : List ℕ) (p : ℕ) (h : LetterLeads (reading_by all settings) c p) where
   first_element : (before : List ℕ) → (rest : List Element) × (elements_after (reading_by all settings) before (nfd (c ∷ cs)) ≡ h.element ∷ rest)
@@ -76,20 +76,19 @@ module _ (all : CollatorTables) (settings : Settings) (law : FirstStartersLead) 
 
   pub first_leads : last_variable_by all settings < p → LeadsWith all settings (c ∷ cs) p
   unfolding LeadsWith
-  first_leads above = λ before after.
-      let rest = (first_element before).0 in
-      let list = leading_primary all settings before after (c ∷ cs) h.element rest (first_element before).1 (subst (λ x. last_variable_by all settings < x) (sym h.leading) above) in
+  first_leads above =
+      let list = ap (primaries_given all settings false) (first_element []).1
+      ∙ leading_primary all settings false h.element (first_element []).0 (subst (λ x. last_variable_by all settings < x) (sym h.leading) above) in
       subst (IsFirst p) (sym list) (h.leading, λ e. above_nothing (last_variable_by all settings) p above e)
 
 -- where what is known of the first character is a primary above the variable ones, a text leads with it
-pub opening_leads : (all : CollatorTables) (settings : Settings) (law : FirstStartersLead) (c : ℕ) (cs : List ℕ) (q : ℕ) (t : List ℕ)
-    → (q ≢ 0 → LetterLeads (reading_by all settings) c q) → t ≡ c ∷ cs → (r : Option ℕ)
-    → IfSome r (λ p. (p ≡ q) × (last_variable_by all settings < p)) → IfSome r (λ p. LeadsWith all settings t p)
-opening_leads all settings law c cs q t leads e None h = tt
-opening_leads all settings law c cs q t leads e (Some p) h =
+pub opening_leads : (all : CollatorTables) (settings : Settings) (law : FirstStartersLead) (c : ℕ) (cs : List ℕ) (q : ℕ)
+    → (q ≢ 0 → LetterLeads (reading_by all settings) c q) → (r : Option ℕ)
+    → IfSome r (λ p. (p ≡ q) × (last_variable_by all settings < p)) → IfSome r (λ p. LeadsWith all settings (c ∷ cs) p)
+opening_leads all settings law c cs q leads None h = tt
+opening_leads all settings law c cs q leads (Some p) h =
     let nonzero : q ≢ 0 = λ z. above_nothing (last_variable_by all settings) p h.1 (h.0 ∙ z) in
-    subst (λ (l : List ℕ). LeadsWith all settings l p) (sym e)
-    (first_leads all settings law c cs p (subst (λ (x : ℕ). LetterLeads (reading_by all settings) c x) (sym h.0) (leads nonzero)) h.1)
+    first_leads all settings law c cs p (subst (λ (x : ℕ). LetterLeads (reading_by all settings) c x) (sym h.0) (leads nonzero)) h.1
 
 nothing_after : (reading : Reading) (before : List ℕ) → elements_after reading before (nfd []) ≡ []
 unfolding elements_after elements_along
@@ -97,8 +96,7 @@ nothing_after reading before = ap (elements_after reading before) nfd-nil
 
 pub nothing_leads : (all : CollatorTables) (settings : Settings) → LeadsWith all settings [] 0
 unfolding LeadsWith handled weights
-nothing_leads all settings = λ before after.
-    subst (λ es. IsFirst 0 (primaries (stayed_elements (handled settings.alternate_handling (last_variable_by all settings) after es)))) (sym (nothing_after (reading_by all settings) before)) refl
+nothing_leads all settings = subst (λ es. IsFirst 0 (primaries_given all settings false es)) (sym (nothing_after (reading_by all settings) [])) refl
 
 -- ---- texts that may follow others
 
@@ -117,23 +115,6 @@ tails_order all settings law forward left right head other_head t u e f g ht hu 
     ∙ ap (λ v. text_order all settings v (head ++ u)) (sym e)
     ∙ ap (λ v. text_order all settings left v) (ap (λ h. h ++ u) g ∙ sym f)
 
--- ---- characters that lead alone
-
-low_itself : (c : ℕ) → c < 0xC0 → decompose_canonical c ≡ c ∷ []
-low_itself c low = decompose-final _ c (is_final-Nfd c (quick_check-below _ c low))
-
-pub only_of : (reading : Reading) (c : ℕ) (l : Letter) (e d : Element) → c < 0xC0 → l.kind ≡ Starters → l.count ≡ 1 → IsLetter reading c l
-    → 1 ≤ length l.elements → e ≡ get_or l.elements 0 d → (is_alone reading c ≡ true) × (elements_of_char reading.tables c ≡ e ∷ [])
-only_of reading c l e d low kind count is some first =
-    let known = (is.starters kind).stands in
-    let itself = low_itself c low in (
-      former (is_alone reading c) true (ap (list_all (is_alone reading)) (sym itself) ∙ known.alone),
-      sym (append-nil (elements_of_char reading.tables c))
-          ∙ ap (elements_by_char reading.tables) (sym itself)
-          ∙ sym known.elements
-          ∙ one_taken l e d count some first,
-    )
-
 -- ---- what the first primaries decide
 
 chosen : (ps qs : List ℕ) (b : Bool) (o : Ordering) → (b ≡ false → Decides ps qs o) → IfSome (if b then None else Some o) (Decides ps qs)
@@ -145,7 +126,7 @@ heads_decide x y xs ys = chosen (x ∷ xs) (y ∷ ys) (x == y) (nat_cmp x y) (λ
     (⊎_elim (λ l. rw (less_number x y l) (refl, λ e. cc)) (λ l. rw (more_number x y l) (refl, λ e. cc))) (cases_order x y))
 
 -- one of the two is empty
-ends_decide : (r : ℕ → ℕ) (p q : ℕ) (ps qs : List ℕ) → IsFirst p ps → IsFirst q qs → (p ≡ 0) ⊎ (q ≡ 0)
+pub ends_decide : (r : ℕ → ℕ) (p q : ℕ) (ps qs : List ℕ) → IsFirst p ps → IsFirst q qs → (p ≡ 0) ⊎ (q ≡ 0)
     → IfSome (unequal_order p q) (Decides (map r ps) (map r qs))
 ends_decide r p q [] [] h k e = rw (h, k) tt
 ends_decide r p q [] (y ∷ ys) h k e = chosen [] (map r (y ∷ ys)) (p == q) (nat_cmp p q) (λ n. rw (less_number p q (grind (arith))) (refl, λ e. cc))
@@ -153,7 +134,7 @@ ends_decide r p q (x ∷ xs) [] h k e = chosen (map r (x ∷ xs)) [] (p == q) (n
 ends_decide r p q (x ∷ xs) (y ∷ ys) h k e = absurd (⊎_elim (λ z. h.1 z) (λ z. k.1 z) e)
 
 -- none is
-leads_decide : (r : ℕ → ℕ) (p q : ℕ) (ps qs : List ℕ) → IsFirst p ps → IsFirst q qs → p ≢ 0 → q ≢ 0
+pub leads_decide : (r : ℕ → ℕ) (p q : ℕ) (ps qs : List ℕ) → IsFirst p ps → IsFirst q qs → p ≢ 0 → q ≢ 0
     → IfSome (unequal_order (r p) (r q)) (Decides (map r ps) (map r qs))
 leads_decide r p q [] qs h k m n = absurd (m h)
 leads_decide r p q (x ∷ xs) [] h k m n = absurd (n k)
@@ -168,41 +149,76 @@ first_of_all Equal p rest e n = absurd (n refl)
 first_of_all Greater p rest e n = rw (sym e) refl
 
 -- a front that both have doesn't count
-front_decides : (x : ℕ) (ps qs : List ℕ) (found : Option Ordering) → IfSome found (Decides ps qs) → IfSome found (Decides (x ∷ ps) (x ∷ qs))
-front_decides x ps qs None h = tt
-front_decides x ps qs (Some o) h = (h.0 ∙ sym (same_front (x ∷ []) ps qs), h.1)
+front_decides : (r : ℕ → ℕ) (xs ps qs : List ℕ) (found : Option Ordering) → IfSome found (Decides (map r ps) (map r qs)) → IfSome found (Decides (map r (xs ++ ps)) (map r (xs ++ qs)))
+front_decides r xs ps qs None h = tt
+front_decides r xs ps qs (Some o) h =
+    (h.0 ∙ sym (ap₂ list_order (map-append r xs ps) (map-append r xs qs) ∙ same_front (map r xs) (map r ps) (map r qs)), h.1)
 
 module _ (all : CollatorTables) (settings : Settings) where
-  primaries_decide : (t u : List ℕ) (found : Option Ordering)
-      → IfSome found (Decides (map (reorder all) (primaries_after all settings [] false t)) (map (reorder all) (primaries_after all settings [] false u)))
+  -- this order, if there is one, is that of the primaries of two texts, reordered
+  pub primaries_decide : (t u : List ℕ) (found : Option Ordering)
+      → IfSome found (Decides (map (reorder all) (primaries_of all settings t)) (map (reorder all) (primaries_of all settings u)))
       → IfSome found (λ o. o ≡ text_order all settings t u)
   unfolding text_order lists_by
   primaries_decide t u None h = tt
   primaries_decide t u (Some o) h = first_of_all o _ _ h.0 h.1
 
-  pub ends_after : (t u : List ℕ) (p q : ℕ) → LeadsWith all settings t p → LeadsWith all settings u q → (p ≡ 0) ⊎ (q ≡ 0) → DecidesAfter all settings t u (unequal_order p q)
+  pub openings_decide : (t u : List ℕ) (p q : ℕ) (found : Option Ordering) → LeadsWith all settings t p → LeadsWith all settings u q
+      → ((ps qs : List ℕ) → IsFirst p ps → IsFirst q qs → IfSome found (Decides (map (reorder all) ps) (map (reorder all) qs)))
+      → IfSome found (λ o. o ≡ text_order all settings t u)
   unfolding LeadsWith
-  ends_after t u p q h k e = λ before after. ends_decide (reorder all) p q _ _ (h before after) (k before after) e
+  openings_decide t u p q found h k decide = primaries_decide t u found (decide (primaries_of all settings t) (primaries_of all settings u) h k)
 
-  pub leads_after : (t u : List ℕ) (p q : ℕ) → LeadsWith all settings t p → LeadsWith all settings u q → p ≢ 0 → q ≢ 0
-      → DecidesAfter all settings t u (unequal_order (reorder all p) (reorder all q))
-  unfolding LeadsWith
-  leads_after t u p q h k m n = λ before after. leads_decide (reorder all) p q _ _ (h before after) (k before after) m n
+  -- ---- what letters give
 
-  pub order_found : (t u : List ℕ) (found : Option Ordering) → DecidesAfter all settings t u found → IfSome found (λ o. o ≡ text_order all settings t u)
-  order_found t u found h = primaries_decide t u found (h [] false)
+  module _ {T : Type 0} (text : T → List ℕ) where
+    pub primary_next : (old new : LetterCursor T) (e : Element) → GoesOn text old e new → last_variable_by all settings < e.primary → GivesPrimary all settings text old e.primary new
+    primary_next old new e goes above = λ before after.
+        let next = goes before in
+        (next.0, false, ap (primaries_given all settings after) next.1 ∙ leading_primary all settings after e (letters_give text new next.0) above)
 
-  -- the same of texts that follow one character that leads alone
-  pub order_after : (law : LowLettersStand) (c : ℕ) (alone : LeadsAlone all settings c) (t u : List ℕ) (found : Option Ordering) → DecidesAfter all settings t u found
-      → IfSome found (λ o. o ≡ text_order all settings (c ∷ t) (c ∷ u))
-  order_after law c alone t u found h =
-      let reading = reading_by all settings in
-      let context = last_two [] (c ∷ []) in
-      let front : (v : List ℕ) → elements_after reading [] (nfd (c ∷ v)) ≡ alone.element ∷ elements_after reading context (nfd v) =
-      λ v. law reading [] c v alone.low alone.alone ∙ ap (λ es. es ++ elements_after reading context (nfd v)) alone.elements in
-      let list : (v : List ℕ) → primaries_after all settings [] false (c ∷ v) ≡ alone.element.primary ∷ primaries_after all settings context false v =
-      λ v. leading_primary all settings [] false (c ∷ v) alone.element _ (front v) alone.above in
-      primaries_decide (c ∷ t) (c ∷ u) found
-      (subst (λ ps. IfSome found (Decides (map (reorder all) ps) (map (reorder all) (primaries_after all settings [] false (c ∷ u))))) (sym (list t))
-      (subst (λ qs. IfSome found (Decides (map (reorder all) (alone.element.primary ∷ primaries_after all settings context false t)) (map (reorder all) qs))) (sym (list u))
-      (front_decides (reorder all alone.element.primary) (map (reorder all) (primaries_after all settings context false t)) (map (reorder all) (primaries_after all settings context false u)) found (h context false))))
+    pub none_next : (old new : LetterCursor T) (e : Element) → GoesOn text old e new → e.primary ≡ 0 → GivesPrimaries all settings text old [] new
+    none_next old new e goes zero = λ before after.
+        let next = goes before in
+        let none = no_primary all settings after e (letters_give text new next.0) zero in
+        (next.0, none.0, ap (primaries_given all settings after) next.1 ∙ none.1)
+
+    pub after_none : (old mid new : LetterCursor T) (ps : List ℕ) → GivesPrimaries all settings text old [] mid → GivesPrimaries all settings text mid ps new → GivesPrimaries all settings text old ps new
+    after_none old mid new ps h k = λ before after.
+        let one = h before after in
+        let other = k one.0 one.1 in
+        (other.0, other.1, one.2 ∙ other.2)
+
+    pub primary_found : (old mid new : LetterCursor T) (e : Element) → GivesPrimaries all settings text old [] mid → GoesOn text mid e new → (found : Option ℕ) (p : ℕ) → e.primary ≡ p
+        → IfSome found (λ q. (q ≡ p) × (last_variable_by all settings < q)) → IfSome found (λ q. GivesPrimary all settings text old q new)
+    primary_found old mid new e h goes None p is known = tt
+    primary_found old mid new e h goes (Some q) p is known =
+        let same : e.primary ≡ q = is ∙ sym known.0 in
+        let above : last_variable_by all settings < e.primary = subst (λ x. last_variable_by all settings < x) (sym same) known.1 in
+        subst (λ (x : ℕ). GivesPrimary all settings text old x new) same (after_none old mid new (e.primary ∷ []) h (primary_next mid new e goes above))
+
+    pub nothing_given : (c : LetterCursor T) → GivesPrimaries all settings text c [] c
+    nothing_given c = λ before after. (before, after, refl)
+
+    pub reads_on : (t ps : List ℕ) (p : ℕ) (old new : LetterCursor T) → ReadsOn all settings t ps text old → GivesPrimary all settings text old p new → ReadsOn all settings t (ps ++ p ∷ []) text new
+    reads_on t ps p old new h k =
+        let next = k h.0 h.1 in
+        (next.0, next.1, h.2 ∙ ap (λ (qs : List ℕ). ps ++ qs) next.2 ∙ sym (append_assoc ps (p ∷ []) _))
+
+    pub reads_from_start : (t : List ℕ) (c : LetterCursor T) → ((before : List ℕ) → letters_give text c before ≡ elements_after (reading_by all settings) before (nfd t)) → ReadsOn all settings t [] text c
+    reads_from_start t c begins = ([], false, ap (primaries_given all settings false) (sym (begins [])))
+
+  -- two texts of which letters are read, up to primaries that decide
+  pub letters_decide : {T U : Type 0} (text : T → List ℕ) (other : U → List ℕ) (t u xs : List ℕ) (p q : ℕ) (one : LetterCursor T) (two : LetterCursor U) (found : Option Ordering)
+      → ReadsOn all settings t (xs ++ p ∷ []) text one → ReadsOn all settings u (xs ++ q ∷ []) other two → p ≢ 0 → q ≢ 0
+      → ((ps qs : List ℕ) → IsFirst p ps → IsFirst q qs → IfSome found (Decides (map (reorder all) ps) (map (reorder all) qs)))
+      → IfSome found (λ o. o ≡ text_order all settings t u)
+  letters_decide text other t u xs p q one two found h k m n decide =
+      let ps = primaries_given all settings h.1 (letters_give text one h.0) in
+      let qs = primaries_given all settings k.1 (letters_give other two k.0) in
+      let left : primaries_of all settings t ≡ xs ++ p ∷ ps = h.2 ∙ append_assoc xs (p ∷ []) ps in
+      let right : primaries_of all settings u ≡ xs ++ q ∷ qs = k.2 ∙ append_assoc xs (q ∷ []) qs in
+      primaries_decide t u found
+      (subst (λ (l : List ℕ). IfSome found (Decides (map (reorder all) l) (map (reorder all) (primaries_of all settings u)))) (sym left)
+      (subst (λ (l : List ℕ). IfSome found (Decides (map (reorder all) (xs ++ p ∷ ps)) (map (reorder all) l))) (sym right)
+      (front_decides (reorder all) xs (p ∷ ps) (q ∷ qs) found (decide (p ∷ ps) (q ∷ qs) (refl, m) (refl, n)))))

@@ -1,6 +1,6 @@
 //! Collators: tables and settings.
 
-ghost use Rattle.std.specs.Prelude.{◌≡◌, ◌<◌, ◌∷◌, [], ℕ, true, false, Err, Ok, IfErr, IfOk, IfSome, IsSome};
+ghost use Rattle.std.specs.Prelude.{◌≡◌, ◌<◌, ◌∷◌, [], ℕ, true, false, Err, Ok, IfErr, IfOk, IsSome};
 ghost use Rattle.icu_options.specs.Conversions.{resolved_of};
 ghost use Rattle.icu_options.specs.Merge.{merge};
 ghost use Rattle.icu_options.specs.FlaggedSettings.{values_of};
@@ -11,7 +11,6 @@ ghost use Rattle.icu_checks.specs.GoodTables.{IsGoodTables, IsTrueRefusal};
 ghost use Rattle.icu_cursor.specs.Cursors.{cursor_reading};
 ghost use Rattle.icu_elements.specs.Reading.{element_tables};
 ghost use Rattle.icu_elements.specs.TextElements.{Reading, elements_of};
-ghost use Rattle.icu_cuts.specs.Alone.{elements_of_char, is_alone};
 ghost use Rattle.icu_order.specs.Forms.{form_by, last_variable_by};
 ghost use Rattle.icu_order.specs.TextOrder.{reading_by, handled_elements, handled_by};
 ghost use Rattle.icu_levels.specs.CommonBeginnings.{ReadsForward};
@@ -34,7 +33,7 @@ use icu_options::{
     ResolvedCollatorOptions, merged_options,
 };
 use icu_provider::{CollationProvider, load_tables};
-use icu_shortcuts::{Letter, LetterKind, Letters, NamedCharacters, SafePlaces, outline_of};
+use icu_shortcuts::{Letter, Letters, NamedCharacters, SafePlaces, outline_of};
 use icu_text_keys::key_form;
 use std::alloc::{AllocError, Global};
 
@@ -161,7 +160,7 @@ pub(crate) struct Front {
 }
 
 /// What is known of a letter says what its front is.
-#[inline]
+#[inline(always)]
 fn front_of(letter: &Letter) -> Front
     ensures { (reading : Reading) (c : ℕ) → IsLetter reading c letter.now → IsFront reading c result }
 {
@@ -271,30 +270,13 @@ impl<'a> CollatorBorrowed<'a> {
     }
 
     /// What a character says of the front of a text that begins with it.
-    #[inline]
+    #[inline(always)]
     pub(crate) fn front(&self, c: char) -> Front
         ensures { IsFront (reading_by (tables_borrowed self.now) (settings_borrowed self.now)) c result }
     {
         match self.letters.get(c) {
             Some(letter) => front_of(letter),
             None => self.other_front(c),
-        }
-    }
-
-    /// The element of an ASCII character that gives one element wherever it stands. `None` says nothing.
-    #[inline]
-    pub(crate) fn only_element(&self, c: char) -> Option<CollationElement>
-        requires { c < 0x80 }
-        ensures { let reading = reading_by (tables_borrowed self.now) (settings_borrowed self.now) in
-            IfSome result (λ e. (is_alone reading c ≡ true) × (elements_of_char reading.tables c ≡ e ∷ [])) }
-    {
-        let letter = self.letters.get(c)?;
-        match letter.kind {
-            LetterKind::Starters if letter.count == 1 => {
-                let elements = &letter.elements[..];
-                Some(elements[0])
-            }
-            _ => None,
         }
     }
 

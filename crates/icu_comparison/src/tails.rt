@@ -1,17 +1,25 @@
 //! What the first characters of two texts decide, and what follows the common beginning of two texts.
 
-ghost use Rattle.std.specs.Prelude.{◌≡◌, ◌≢◌, ◌<◌, ◌≤◌, ◌⊎◌, ℕ, List, IfSome, IsTrue};
+ghost use Rattle.std.specs.Prelude.{◌≡◌, ◌≢◌, ◌<◌, ◌≤◌, ◌⊎◌, ◌∷◌, ℕ, List, map, IfSome, IsTrue};
 ghost use Rattle.icu_levels.specs.CommonBeginnings.{ReadsForward};
 ghost use Rattle.icu_order.specs.Forms.{form_by, last_variable_by};
 ghost use Rattle.icu_order.specs.TextOrder.{text_order};
+ghost use Rattle.icu_provider.specs.CollatorTables.{reorder};
 ghost use Rattle.icu_comparison.specs.inner.Tails.{unequal_order};
 
 use crate::collator::{CollatorBorrowed, Front};
 use crate::forward_levels::reordered;
-use icu_cuts::laws::{first_starters_lead, lone_starters_stand};
+use icu_cursor::LetterCursor;
+use icu_cuts::laws::first_starters_lead;
 use icu_encodings::EncodedText;
 use icu_order::laws::common_beginnings_do_not_count;
 use std::cmp::Ordering;
+
+/// How many primary weights of two texts are compared by their letters, at most.
+const WEIGHTS_AHEAD: u32 = 6;
+
+/// How many elements are passed over to the next primary weight of a text, at most.
+const ELEMENTS_AHEAD: u32 = 3;
 
 /// What the first character of a text says: whether the text may follow others without a change of what it gives, and
 /// the first primary weight of the text, 0 of an empty one, where that is known and elements that begin with it aren't
@@ -24,7 +32,7 @@ struct Opening {
 
 impl<'a> CollatorBorrowed<'a> {
     ghost use Rattle.icu_comparison.specs.Collators.{tables_borrowed, settings_borrowed};
-    ghost use Rattle.icu_comparison.specs.inner.Tails.{DecidesAfter, LeadsAlone, LeadsWith};
+    ghost use Rattle.icu_comparison.specs.inner.Tails.{Decides, GivesPrimary, IsFirst, LeadsWith};
     ghost use Rattle.icu_order.specs.TextCuts.{IsTail};
 
     /// What two texts have from the last safe place on within their common beginning, which is `common` units long, and
@@ -52,7 +60,7 @@ impl<'a> CollatorBorrowed<'a> {
     }
 
     /// The same, where both texts may be cut at this place.
-    #[inline]
+    #[inline(always)]
     fn tails_at<L: EncodedText, R: EncodedText>(
         &self,
         left: L,
@@ -78,8 +86,8 @@ impl<'a> CollatorBorrowed<'a> {
     }
 
     /// The order of two texts that open so, where the first primary weights that they begin with are known and differ,
-    /// or else those that follow a character that both begin with.
-    #[inline]
+    /// or else those of the letters that they begin with.
+    #[inline(always)]
     fn order_of_openings<L: EncodedText, R: EncodedText>(
         &self,
         left: L,
@@ -94,13 +102,14 @@ impl<'a> CollatorBorrowed<'a> {
     {
         match self.order_of(one, other) {
             Some(order) => Some(order),
-            None => self.order_after_same(left, right),
+            None => self.order_of_letters(left, right),
         }
     }
 
-    /// The order of two texts by what follows a character that both begin with, where that gives one element wherever
-    /// it stands, and the first primary weights that follow are known and differ.
-    fn order_after_same<L: EncodedText, R: EncodedText>(
+    /// The order of two texts by the primary weights of the letters that they begin with, as far as these may be read by
+    /// themselves: the first that differ decide.
+    #[inline(never)]
+    fn order_of_letters<L: EncodedText, R: EncodedText>(
         &self,
         left: L,
         right: R,
@@ -108,41 +117,54 @@ impl<'a> CollatorBorrowed<'a> {
         ensures { let all = tables_borrowed self.now in let settings = settings_borrowed self.now in
             IfSome result (λ o. o ≡ text_order all settings (L.text left) (R.text right)) }
     {
-        let (byte, one) = left.split_first_ascii()?;
-        let (other_byte, other) = right.split_first_ascii()?;
-        if byte != other_byte || !self.leads_alone(byte) {
-            return None;
+        let tables = self.cursor_tables();
+        let mut one = LetterCursor::new(&tables, left);
+        let mut other = LetterCursor::new(&tables, right);
+        'weights: for _ in 0..WEIGHTS_AHEAD {
+            let weight = self.next_primary(&mut one)?;
+            let other_weight = self.next_primary(&mut other)?;
+            if weight != other_weight {
+                return self.order_of_primaries(weight, other_weight);
+            }
         }
-        lone_starters_stand();
-        self.order_of(self.opening(one), self.opening(other))
+        None
     }
 
-    /// Whether an ASCII character gives one element wherever it stands, which isn't variable. False says nothing.
-    #[inline]
-    fn leads_alone(&self, byte: u8) -> bool
-        requires { byte < 0x80 }
-        ensures { IsTrue result → LeadsAlone (tables_borrowed self.now) (settings_borrowed self.now) byte }
+    /// The next primary weight of the letters of a text, where elements that have it aren't variable.
+    #[inline(always)]
+    fn next_primary<T: EncodedText>(&self, letters: &mut LetterCursor<'_, '_, T>) -> Option<u32>
+        ensures given { IfSome result (λ p. GivesPrimary (tables_borrowed self.now) (settings_borrowed self.now) T.text letters.old p letters.new) }
+        ensures some { IfSome result (λ p. p ≢ 0) }
     {
-        match self.only_element(char::from(byte)) {
-            Some(element) => element.primary() > self.last_variable(),
-            None => false,
+        'elements: for _ in 0..ELEMENTS_AHEAD {
+            let element = letters.next()?;
+            if element.primary() != 0 {
+                return self.known_primary(element.primary());
+            }
         }
+        None
     }
 
     /// What the first character of a text says, which is looked up once.
-    #[inline]
+    #[inline(always)]
     fn opening<T: EncodedText>(&self, text: T) -> Opening
         ensures tail { IsTrue result.is_tail → IsTail (tables_borrowed self.now) (settings_borrowed self.now) (T.text text) }
         ensures leads { IfSome result.primary (λ p. LeadsWith (tables_borrowed self.now) (settings_borrowed self.now) (T.text text) p) }
     {
+        match text.split_first_ascii() {
+            Some((byte, _)) => self.opening_by(char::from(byte)),
+            None => self.other_opening(text),
+        }
+    }
+
+    /// The same of a text whose first character isn't ASCII, as most are that come here.
+    #[inline(never)]
+    fn other_opening<T: EncodedText>(&self, text: T) -> Opening
+        ensures tail { IsTrue result.is_tail → IsTail (tables_borrowed self.now) (settings_borrowed self.now) (T.text text) }
+        ensures leads { IfSome result.primary (λ p. LeadsWith (tables_borrowed self.now) (settings_borrowed self.now) (T.text text) p) }
+    {
         match text.split_first_char() {
-            Some((first, _)) => {
-                let front = self.front(first);
-                first_starters_lead();
-                let is_tail = self.begins_tail(front);
-                let primary = self.known_primary(front);
-                Opening { is_tail, primary }
-            }
+            Some((first, _)) => self.opening_by(first),
             None => Opening {
                 is_tail: true,
                 primary: Some(0),
@@ -150,9 +172,22 @@ impl<'a> CollatorBorrowed<'a> {
         }
     }
 
+    /// What a character says of each text that begins with it.
+    #[inline(always)]
+    fn opening_by(&self, c: char) -> Opening
+        ensures tail { (rest : List ℕ) → IsTrue result.is_tail → IsTail (tables_borrowed self.now) (settings_borrowed self.now) (c ∷ rest) }
+        ensures leads { (rest : List ℕ) → IfSome result.primary (λ p. LeadsWith (tables_borrowed self.now) (settings_borrowed self.now) (c ∷ rest) p) }
+    {
+        let front = self.front(c);
+        first_starters_lead();
+        let is_tail = self.begins_tail(front);
+        let primary = self.known_primary(front.leading_primary);
+        Opening { is_tail, primary }
+    }
+
     /// Whether a text may follow others that has this front: it may be cut off before its first character, and where
     /// elements may be variable its first one has a primary weight. False says nothing.
-    #[inline]
+    #[inline(always)]
     fn begins_tail(&self, front: Front) -> bool
         ensures { IsTrue result → IsTrue front.is_safe
             × ((front.leading_primary ≢ 0) ⊎ (last_variable_by (tables_borrowed self.now) (settings_borrowed self.now) ≡ 0)) }
@@ -160,13 +195,12 @@ impl<'a> CollatorBorrowed<'a> {
         front.is_safe && (front.leading_primary != 0 || self.last_variable() == 0)
     }
 
-    /// The first primary weight of this front, where it is known and elements that begin with it aren't variable.
-    #[inline]
-    fn known_primary(&self, front: Front) -> Option<u32>
-        ensures { IfSome result (λ p. (p ≡ front.leading_primary)
+    /// A primary weight, where it is known, which isn't 0, and elements that have it aren't variable.
+    #[inline(always)]
+    fn known_primary(&self, primary: u32) -> Option<u32>
+        ensures { IfSome result (λ p. (p ≡ primary)
             × (last_variable_by (tables_borrowed self.now) (settings_borrowed self.now) < p)) }
     {
-        let primary = front.leading_primary;
         if primary > self.last_variable() {
             Some(primary)
         } else {
@@ -191,7 +225,7 @@ impl<'a> CollatorBorrowed<'a> {
     fn order_of(&self, one: Opening, other: Opening) -> Option<Ordering>
         ensures { let all = tables_borrowed self.now in let settings = settings_borrowed self.now in
             (t u : List ℕ) → IfSome one.primary (λ p. LeadsWith all settings t p) → IfSome other.primary (λ p. LeadsWith all settings u p)
-            → DecidesAfter all settings t u result }
+            → IfSome result (λ o. o ≡ text_order all settings t u) }
     {
         match (one.primary, other.primary) {
             (Some(primary), Some(other_primary)) => {
@@ -201,11 +235,11 @@ impl<'a> CollatorBorrowed<'a> {
         }
     }
 
-    /// The order of texts that begin with these primary weights, 0 of an empty one, where they differ.
+    /// The order of lists that begin with these primary weights, 0 of an empty one, where they differ.
     #[inline(always)]
     fn order_of_primaries(&self, one: u32, other: u32) -> Option<Ordering>
-        ensures { let all = tables_borrowed self.now in let settings = settings_borrowed self.now in
-            (t u : List ℕ) → LeadsWith all settings t one → LeadsWith all settings u other → DecidesAfter all settings t u result }
+        ensures { let reorder = reorder (tables_borrowed self.now) in
+            (ps qs : List ℕ) → IsFirst one ps → IsFirst other qs → IfSome result (λ o. Decides (map reorder ps) (map reorder qs) o) }
     {
         if one == 0 || other == 0 {
             return unequal(one, other);

@@ -1,5 +1,5 @@
 -- What a cursor still gives, as it goes on.
-use Rattle.std.proofs.Common.{◌≡◌, ℕ, ◌≤◌, arith, false, List, [], ◌∷◌, ◌++◌, length, take, get_or, Option, Some, None, is_some, Result, Ok, Err, IfOk, refl, sym, ap, ap₂, ◌∙◌, append_assoc}
+use Rattle.std.proofs.Common.{◌≡◌, ℕ, ◌≤◌, arith, false, List, [], ◌∷◌, ◌++◌, length, take, get_or, Option, Some, None, is_some, Result, Ok, Err, IfOk, IfSome, refl, sym, ap, ap₂, ◌∙◌, append_assoc}
 use Rattle.std.specs.Prelude.{option_to_list}
 use Rattle.ucd_normal.specs.declared.forms.Form.TheVariants.{Nfd}
 use Rattle.unicode_normalization.specs.Decompose.{decompose}
@@ -86,3 +86,25 @@ module _ (reading : Reading) (ready piece : List Element) (before : List ℕ) (n
       ∙ sym (pieces_part reading before before whole part rest h)
       ∙ ap (λ t. elements_after reading before (nfd t)) (sym is)
       ∙ sym (nothing_ready ready piece _ none piece_ended)
+
+-- ---- letters alone
+
+-- an element that stands ready comes first
+pub ready_goes_on : (reading : Reading) (text : List ℕ) (ready others : List Element) (e : Element) → ready ≡ e ∷ others
+    → (before : List ℕ) → (after : List ℕ) × (ready ++ elements_after reading before (nfd text) ≡ e ∷ (others ++ elements_after reading after (nfd text)))
+ready_goes_on reading text ready others e is = λ before.
+    (before, ap (λ (es : List Element). es ++ elements_after reading before (nfd text)) is)
+
+-- where none does, the first of the next letter
+pub letter_goes_on : (reading : Reading) (ready others : List Element) (c : ℕ) (l : Letter) (all text : List ℕ) (found : Option Element) → ready ≡ [] → all ≡ c ∷ text
+    → StandsBefore reading c l text → letter_elements l ≡ option_to_list found ++ others
+    → IfSome found (λ e. (before : List ℕ) → (after : List ℕ) × (ready ++ elements_after reading before (nfd all) ≡ e ∷ (others ++ elements_after reading after (nfd text))))
+letter_goes_on reading ready others c l all text None none is stands given = tt
+letter_goes_on reading ready others c l all text (Some e) none is stands given = λ before.
+    let after = context_after before (decompose Nfd c) in (
+      after,
+      ap (λ (es : List Element). es ++ elements_after reading before (nfd all)) none
+          ∙ ap (λ t. elements_after reading before (nfd t)) is
+          ∙ stands before
+          ∙ ap (λ (es : List Element). es ++ elements_after reading after (nfd text)) given,
+    )

@@ -1,12 +1,11 @@
 -- Runs of digits that are read as numbers.
-use Rattle.std.proofs.Common.{nat_lt, ◌≡◌, ℕ, ◌<◌, ◌≤◌, ◌+◌, Bool, true, false, not, ◌&&◌, List, [], ◌∷◌, ◌++◌, length, drop, get_or, map, Option, Some, refl, sym, ap, ap₂, ◌∙◌, append-nil, append_assoc, arith, zero-le}
+use Rattle.std.proofs.Common.{nat_lt, ◌≡◌, ℕ, ◌<◌, ◌≤◌, ◌+◌, true, false, not, List, [], ◌∷◌, ◌++◌, length, drop, get_or, map, Some, refl, sym, ap, ap₂, ◌∙◌, append-nil, append_assoc, arith, zero-le}
 use Rattle.std.specs.List.{list_all}
 use Rattle.std.proofs.lemmas.Bool.{and_parts, and_from, ltb-true, lt-ltb}
 use Rattle.std.proofs.lemmas.List.{drop_more, map-append}
 use Rattle.std.proofs.Math.ListN.{drop_of_length-le}
 use Rattle.std.proofs.lemmas.List.Folds.{list_all-append}
 use Rattle.unicode_normalization.specs.Forms.{nfd}
-use Rattle.unicode_normalization.specs.Order.{is_starter}
 use Rattle.unicode_normalization.proofs.TableFacts.{class_of_latin}
 use Rattle.icu_entries.specs.Elements.{Element, of_primary}
 use Rattle.icu_elements.specs.TextElements.{Reading, continues_number, digit_of, begins_with_mark, number_elements, last_two, elements_after}

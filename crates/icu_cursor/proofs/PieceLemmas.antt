@@ -1,8 +1,8 @@
 -- Texts that are read piece by piece.
-use Rattle.std.proofs.Common.{◌≡◌, ℕ, List, [], ◌∷◌, ◌++◌, refl, sym, ap, ◌∙◌, append-nil}
+use Rattle.std.proofs.Common.{◌≡◌, ℕ, List, [], ◌∷◌, ◌++◌, sym, ap, ◌∙◌, append-nil}
 use Rattle.unicode_normalization.specs.Forms.{nfd}
 use Rattle.icu_entries.specs.Elements.{Element}
-use Rattle.icu_elements.specs.TextElements.{Reading, elements_after, elements_of}
+use Rattle.icu_elements.specs.TextElements.{Reading, elements_after}
 use Rattle.icu_elements.proofs.StepLemmas.{elements_after_nil}
 use Rattle.icu_cuts.proofs.CutLemmas.{safe_cut, safe_start}
 use Rattle.icu_cuts.proofs.NfdLemmas.{nfd-nil}

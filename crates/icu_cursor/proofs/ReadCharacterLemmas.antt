@@ -1,5 +1,5 @@
 -- The characters that stand before the text that isn't read.
-use Rattle.std.proofs.Common.{◌≡◌, ℕ, ◌+◌, ◌≤◌, List, [], ◌∷◌, ◌++◌, length, take, reverse, flat_map, Option, Some, None, refl, sym, ap, ◌∙◌, append-nil, append_assoc, length-append, length-take, take_all, arith}
+use Rattle.std.proofs.Common.{◌≡◌, ℕ, ◌≤◌, List, [], ◌∷◌, ◌++◌, length, take, reverse, flat_map, Option, Some, None, refl, sym, ap, ◌∙◌, append-nil, append_assoc, length-append, length-take, take_all, arith}
 use Rattle.std.proofs.lemmas.List.{reverse-append, take-append-le, length-reverse}
 use Rattle.ucd_normal.specs.declared.forms.Form.TheVariants.{Nfd}
 use Rattle.unicode_normalization.specs.Decompose.{decompose}

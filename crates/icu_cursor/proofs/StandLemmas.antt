@@ -1,6 +1,6 @@
 -- Letters that are read by themselves, and the runs of marks that they stand before.
-use Rattle.std.proofs.Common.{◌≡◌, ◌≢◌, ℕ, ◌<◌, ◌≤◌, Bool, true, false, not, ◌&&◌, ◌||◌, ◌==◌, nat_le, List, [], ◌∷◌, ◌++◌, length, get_or, flat_map, Option, Some, None, IfSome, refl, sym, ap, ◌∙◌, arith}
-use Rattle.std.proofs.lemmas.Bool.{and_parts, and_from, not-true, eqb-true, eq-eqb, ne_eqb, le-leb}
+use Rattle.std.proofs.Common.{◌≡◌, ◌≢◌, ℕ, ◌≤◌, Bool, true, false, ◌&&◌, ◌||◌, nat_le, List, [], ◌∷◌, ◌++◌, length, get_or, flat_map, Option, Some, None, IfSome, refl, sym, ap, ◌∙◌, arith}
+use Rattle.std.proofs.lemmas.Bool.{and_parts, not-true, eqb-true, eq-eqb, ne_eqb, le-leb}
 use Rattle.ucd_normal.specs.CanonicalCombiningClass.{canonical_combining_class as class_of}
 use Rattle.ucd_normal.specs.declared.forms.Form.TheVariants.{Nfd}
 use Rattle.unicode_normalization.specs.Decompose.{decompose}
@@ -12,12 +12,12 @@ use Rattle.icu_entries.specs.Elements.{Element}
 use Rattle.std.proofs.Props.{props}
 use Rattle.std.proofs.Math.Logic.{∥∥₁_elim}
 use mathlib.Core.List.{is_set}
-use Rattle.icu_cuts.specs.Alone.{context_after, stays_first, all_stay, rises_from, elements_by_char}
+use Rattle.icu_cuts.specs.Alone.{context_after, stays_first, all_stay, rises_from}
 use Rattle.icu_cuts.proofs.AloneLemmas.{letter_of_starters, letter_that_stays}
 use Rattle.icu_cuts.proofs.NfdLemmas.{stays_first-rises}
 use Rattle.icu_shortcuts.specs.declared.letter_facts.Letter.{Letter}
 use Rattle.icu_shortcuts.proofs.KeptLemmas.{some_is}
-use Rattle.icu_shortcuts.specs.Letters.{StandsAlone, HasStarters, IsMarkedStarter, IsLoneMark, IsBase, IsNumberDigit, IsLetter, letter_elements, rises_to}
+use Rattle.icu_shortcuts.specs.Letters.{StandsAlone, HasStarters, IsMarkedStarter, IsLoneMark, IsBase, IsNumberDigit, IsLetter, rises_to}
 use Rattle.icu_cursor.specs.inner.Places.{BeginsSafely}
 use Rattle.icu_cursor.specs.inner.MarkRuns.{Rises, EndsRuns, IsInRun}
 use Rattle.icu_cursor.specs.inner.Standing.{StandsBefore, Serves}

@@ -1,2 +1,3 @@
 pub mod Cursors
+pub mod LetterCursors
 pub mod inner

@@ -88,10 +88,19 @@ impl<'d> CursorTables<'d> {
     pub(crate) fn other_letter(&self, c: char) -> Letter
         ensures { Serves (cursor_reading self.now) c result }
     {
-        match self.letters.syllable(c) {
+        match self.syllable(c) {
             Some(letter) => letter,
             None => letter_of(&self.places, c),
         }
+    }
+
+    /// What is known of a Hangul syllable, where each of its jamo has one element wherever it stands.
+    #[inline(always)]
+    #[tactic(auto, unfolding(crate::specs::Cursors::cursor_reading))]
+    pub(crate) fn syllable(&self, c: char) -> Option<Letter>
+        ensures { IfSome result (λ l. Serves (cursor_reading self.now) c l) }
+    {
+        self.letters.syllable(c)
     }
 
     /// Whether a text may be cut before this character. False says nothing.

@@ -5,6 +5,7 @@
 pub mod cursor;
 pub mod cursor_tables;
 mod digit_run;
+pub mod letter_cursor;
 mod letter_elements;
 mod piece;
 mod recent_letters;
@@ -12,3 +13,4 @@ mod stands;
 
 pub use cursor::ElementCursor;
 pub use cursor_tables::CursorTables;
+pub use letter_cursor::LetterCursor;

@@ -1,13 +1,10 @@
 -- What tables give to those who read texts by them.
-use Rattle.std.proofs.Common.{◌≡◌, ℕ, ◌<◌, Bool, true, List, [], ◌∷◌, length, nat_le, nat_lt, Option, option_map, subst, arith, inl, inr, IsTrue}
+use Rattle.std.proofs.Common.{◌≡◌, ℕ, ◌<◌, Bool, true, List, [], ◌∷◌, length, nat_le, subst, arith, inl, inr, IsTrue}
 use Rattle.std.proofs.lemmas.Bool.{and_parts, and_from}
 use Rattle.std.proofs.lemmas.Bool.Decides.{nat_tests}
 use Rattle.std.specs.Char.{IsScalar}
 use Rattle.std.specs.List.{AllByRecursion, Contains}
-use Rattle.icu_data.specs.declared.data.CollationData.{CollationData}
-use Rattle.icu_provider.specs.declared.diacritics.CollationDiacritics.{CollationDiacritics}
 use Rattle.icu_entries.specs.declared.error.DataTable.TheVariants.{Root, Jamo, Tailoring}
-use Rattle.icu_provider.specs.declared.jamo.CollationJamo.{CollationJamo}
 use Rattle.icu_data.specs.declared.live_condition.LiveCondition.{LiveCondition}
 use Rattle.icu_data.specs.declared.live_condition.LiveCondition.TheVariants.{Indices, Digits, Bytes, Offsets}
 use Rattle.icu_entries.specs.declared.entry.EntryKind.{EntryKind}
@@ -18,8 +15,6 @@ use Rattle.icu_entries.specs.EntryConditions.{has_digit}
 use Rattle.icu_data.specs.Live.{live_digit, live_from}
 use Rattle.icu_data.specs.LiveConditions.{meets}
 use Rattle.icu_provider.specs.LiveTables.{HasDigits, IsLive}
-use Rattle.icu_data.specs.StoredData.{data_of}
-use Rattle.icu_provider.specs.StoredTables.{jamo_of, diacritics_of}
 use Rattle.icu_data.specs.Data.{Data, HomedEntry, homed, plain_of}
 use Rattle.icu_provider.specs.Tables.{Tables, entry_of}
 use Rattle.icu_data.proofs.ListLemmas.{all_members, of_member}
@@ -27,9 +22,10 @@ use Rattle.icu_data.proofs.EntryLemmas.{test_inside}
 use Rattle.icu_checks.specs.declared.condition.Condition.TheVariants as conditions
 use Rattle.icu_provider.specs.CollatorTables.{CollatorTables}
 use Rattle.icu_checks.specs.GoodTables.{IsGoodTables}
+use Rattle.icu_checks.specs.Checked.{checked_tables}
 use Rattle.icu_elements.specs.declared.element_tables.ElementTables.{ElementTables}
 use Rattle.icu_matches.specs.GoodEntries.{MeetAll, IsGoodFrom, IsGoodMatch}
-use Rattle.icu_elements.specs.inner.Readable.{AreReadable, tables_from}
+use Rattle.icu_elements.specs.inner.Readable.{AreReadable}
 use Rattle.icu_elements.specs.Reading.{element_tables}
 use Rattle.icu_elements.proofs.ElementPartLemmas.{live_digit-head, live_from-head, entry_of-live, AllLive-weaker}
 use Rattle.icu_elements.proofs.ElementSourceLemmas.{all_live}
@@ -43,11 +39,6 @@ live_meets all good condition home c e (inr (inr live)) = good.each (conditions.
 
 pub good_readable : (all : CollatorTables) → IsGoodTables all → AreReadable all.tables
 good_readable all good = record { jamo_count = good.tables.jamo.count; each = live_meets all good }
-
--- so may the same tables be read part by part
-pub readable_from_parts : (all : CollatorTables) → IsGoodTables all → (root : CollationData) (tailoring : Option CollationData) (jamo : CollationJamo) (diacritics : CollationDiacritics) → data_of root ≡ all.tables.root → option_map data_of tailoring ≡ all.tables.tailoring → jamo_of jamo ≡ all.tables.jamo → diacritics_of diacritics ≡ all.tables.diacritics → AreReadable (tables_from root tailoring jamo diacritics)
-unfolding tables_from
-readable_from_parts all good root tailoring jamo diacritics r t j d = rw (r, t, j, d) (good_readable all good)
 
 pub readable_digits : (tables : Tables) → AreReadable tables → HasDigits tables
 readable_digits tables readable =
@@ -66,9 +57,8 @@ good_entry tables readable c scalar = λ condition f among.
 
 -- it meets the conditions, and so does what it leads to
 pub good_found : (t : ElementTables) (c : ℕ) → IsScalar c → (home : Data) (e : ℕ) → entry_of (element_tables t) c ≡ homed home e → IsGoodFrom home c e
-unfolding element_tables
 good_found t c scalar home e is =
-    subst (λ (h : HomedEntry). IsGoodFrom h.home c h.entry) is (good_entry (element_tables t) t.readable c scalar)
+    subst (λ (h : HomedEntry). IsGoodFrom h.home c h.entry) is (good_entry (element_tables t) (good_readable (checked_tables t.tables.now) t.tables.now.good) c scalar)
 
 -- ---- an entry that meets the conditions can be read, and so can a digit's other entry
 

@@ -7,23 +7,16 @@ ghost use Rattle.icu_entries.specs.Entries.{kind_of};
 ghost use Rattle.icu_data.specs.StoredData.{data_of};
 ghost use Rattle.icu_checks.specs.Checked.{checked_tables};
 ghost use Rattle.icu_matches.specs.GoodEntries.{IsGoodFrom};
-ghost use Rattle.icu_elements.specs.inner.Readable.{AreReadable, tables_from};
 
 use icu_checks::CheckedTables;
 use icu_data::CollationData;
 use icu_entries::{CollationElement32, EntryKind};
-use icu_provider::{CollationDiacritics, CollationJamo};
 use std::alloc::Global;
 
 /// The tables that elements are read from: root, tailoring, jamo and diacritics, checked together.
 #[derive(Debug, Clone, Copy)]
 pub struct ElementTables<'d> {
-    alloc: Global,
-    root: CollationData<'d>,
-    tailoring: Option<CollationData<'d>>,
-    jamo: CollationJamo<'d>,
-    diacritics: CollationDiacritics<'d>,
-    ghost readable: { AreReadable (tables_from root tailoring jamo diacritics) },
+    tables: &'d CheckedTables,
 }
 
 /// An entry with its home, the table whose lists and contexts it refers to.
@@ -38,31 +31,25 @@ impl<'d> ElementTables<'d> {
     ghost use Rattle.icu_elements.specs.TextElements.{continues_number, digit_of};
 
     /// The tables of a collator, borrowed without a second check. Does not allocate.
-    #[tactic(auto, unfolding(crate::specs::Reading::element_tables, crate::specs::inner::Readable::tables_from))]
+    #[inline(always)]
     pub fn new(tables: &'d CheckedTables) -> ElementTables<'d>
         ensures { element_tables result ≡ (checked_tables tables.entry.now).tables }
     {
-        tables.are_good();
-        ElementTables {
-            alloc: tables.allocator(),
-            root: tables.root(),
-            tailoring: tables.tailoring(),
-            jamo: tables.jamo(),
-            diacritics: tables.diacritics(),
-        }
+        ElementTables { tables }
     }
 
     /// The allocator that the tables were made with.
     pub fn allocator(self) -> Global {
-        self.alloc
+        self.tables.allocator()
     }
 
     /// The secondary weight of a combining diacritic.
-    #[tactic(auto, unfolding(icu_provider::specs::Tables::diacritic_of, crate::specs::Reading::element_tables, crate::specs::inner::Readable::tables_from))]
+    #[tactic(auto, unfolding(icu_provider::specs::Tables::diacritic_of))]
     pub(crate) fn diacritic(self, c: char) -> Option<u16>
         ensures { result ≡ diacritic_of (element_tables self.entry) c }
     {
-        let secondaries = self.diacritics.secondaries();
+        let diacritics = self.tables.diacritics();
+        let secondaries = diacritics.secondaries();
         let code = c as usize;
         if code >= 0x300 && code - 0x300 < secondaries.len() {
             Some(secondaries[code - 0x300])
@@ -104,19 +91,19 @@ impl<'d> ElementTables<'d> {
         }
     }
 
-    #[tactic(auto, unfolding(icu_provider::specs::Tables::entry_of, crate::specs::Reading::element_tables, crate::specs::inner::Readable::tables_from))]
+    #[tactic(auto, unfolding(icu_provider::specs::Tables::entry_of))]
     fn found(self, c: char) -> HomedEntry<'d>
         ensures { entry_of (element_tables self.entry) c ≡ homed (data_of result.home) result.ce32 }
     {
         let code = c as usize;
         if code >= 0x1100 && code < 0x1200 {
-            let jamo = CollationElement32::new(self.jamo.ce32s()[code - 0x1100]);
+            let jamo = self.tables.jamo();
             return HomedEntry {
-                home: self.root,
-                ce32: jamo,
+                home: self.tables.root(),
+                ce32: CollationElement32::new(jamo.ce32s()[code - 0x1100]),
             };
         }
-        if let Some(tailoring) = self.tailoring {
+        if let Some(tailoring) = self.tables.tailoring() {
             let tailored = tailoring.ce32_for_char(c);
             if tailored != CollationElement32::new(0xC0) {
                 return HomedEntry {
@@ -125,9 +112,10 @@ impl<'d> ElementTables<'d> {
                 };
             }
         }
+        let root = self.tables.root();
         HomedEntry {
-            home: self.root,
-            ce32: self.root.ce32_for_char(c),
+            home: root,
+            ce32: root.ce32_for_char(c),
         }
     }
 }

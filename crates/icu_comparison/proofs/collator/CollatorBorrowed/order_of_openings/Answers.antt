@@ -2,7 +2,6 @@
 use Rattle.std.proofs.Common.{◌≡◌, Option, Ordering, IfSome, subst}
 use Rattle.icu_order.specs.TextOrder.{text_order}
 use Rattle.icu_comparison.specs.Collators.{tables_borrowed, settings_borrowed}
-use Rattle.icu_comparison.proofs.TailLemmas.{order_found}
 use Rattle.icu_comparison.proofs.collator.CollatorBorrowed.order_of_openings.Goals as goal
 
 pub returns-in-Some : goal.returns-in-Some
@@ -12,4 +11,4 @@ returns-in-Some g c =
     let all = tables_borrowed c.args.self.now in
     let settings = settings_borrowed c.args.self.now in
     subst (λ (r : Option Ordering). IfSome r (λ o. o ≡ text_order all settings t u)) c.in-Some.is
-    (order_found all settings t u c.order_of.result (c.order_of.ensures t u c.requires.one c.requires.other))
+    (c.order_of.ensures t u c.requires.one c.requires.other)
