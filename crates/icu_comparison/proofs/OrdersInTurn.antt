@@ -1,13 +1,15 @@
 -- Orders one after another, as code tests them.
-use Rattle.std.proofs.Common.{◌≡◌, ℕ, Bool, true, false, not, ◌==◌, List, [], Result, Ok, Err, IfOk, refl, sym, subst, ◌∙◌, ap}
+use Rattle.std.proofs.Common.{arith, ◌≡◌, ℕ, Bool, true, false, not, ◌==◌, List, [], ◌∷◌, map, Result, Ok, Err, IfOk, refl, sym, subst, ◌∙◌, ap}
 use Rattle.std.specs.Ordering.{ordering_then, ordering_index}
+use Rattle.std.proofs.lemmas.Bool.Decides.{nat_tests}
 use Rattle.unicode_normalization.specs.Forms.{nfd}
 use Rattle.icu_options.specs.Settings.{Settings}
 use Rattle.icu_levels.specs.Keys.{LevelLists, primaries_order, secondaries_order, cases_order, tertiaries_order, quaternaries_order, characters_order}
 use Rattle.icu_levels.specs.declared.forms.KeyForm.{KeyForm}
 use Rattle.icu_provider.specs.CollatorTables.{CollatorTables}
 use Rattle.icu_entries.specs.Elements.{Element}
-use Rattle.icu_order.specs.Handled.{handled}
+use Rattle.icu_options.specs.declared.settings.AlternateHandling.{AlternateHandling}
+use Rattle.icu_order.specs.Handled.{handled, stayed, is_variable}
 use Rattle.icu_order.specs.Forms.{compression_of, form_by}
 use Rattle.icu_order.specs.TextOrder.{lists_by, text_order}
 use Rattle.icu_comparison.specs.HandledRests.{handled_after}
@@ -71,3 +73,14 @@ order_in_two all settings t u =
 pub none_handled : (w : VariableWeighting) (es : List Element) → es ≡ [] → handled_after w es ≡ []
 unfolding handled
 none_handled w es none = rw none refl
+
+-- where nothing is variable, each element stays
+pub all_stay : (handling : AlternateHandling) (top : ℕ) (es : List Element) → top ≡ 0 → handled handling top false es ≡ map stayed es
+unfolding handled
+all_stay handling top [] zero = refl
+all_stay handling top (x ∷ xs) zero =
+    let stays : is_variable top x ≡ false = rw zero (none_variable x) in
+    rw stays (ap (λ hs. stayed x ∷ hs) (all_stay handling top xs zero))
+  where
+    none_variable : (x : Element) → is_variable 0 x ≡ false
+    none_variable x = grind (arith, nat_tests)

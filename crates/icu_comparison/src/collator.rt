@@ -21,7 +21,7 @@ ghost use Rattle.icu_shortcuts.specs.LetterTables.{AreLetters};
 ghost use Rattle.icu_shortcuts.specs.SafeTables.{safe_reading};
 ghost use Rattle.unicode_normalization.specs.Forms.{nfd};
 
-use crate::handled::{HandledElements, HandledText};
+use crate::handled::{HandledElements, HandledText, PlainText};
 use icu_checks::CheckedTables;
 use icu_cursor::{CursorTables, ElementCursor};
 use icu_elements::{ElementTables, all_elements};
@@ -214,7 +214,7 @@ pub struct CollatorBorrowed<'a> {
 
 impl<'a> CollatorBorrowed<'a> {
     ghost use Rattle.icu_comparison.specs.Collators.{tables_borrowed, settings_borrowed};
-    ghost use Rattle.icu_comparison.specs.HandledRests.{handled_rest, handled_to_come};
+    ghost use Rattle.icu_comparison.specs.HandledRests.{handled_rest, handled_to_come, plain_to_come};
 
     /// The settings that the collator works by.
     pub fn resolved_options(&self) -> ResolvedCollatorOptions
@@ -346,6 +346,21 @@ impl<'a> CollatorBorrowed<'a> {
             handling,
             self.last_variable(),
         )
+    }
+
+    /// The same where no element is variable.
+    #[inline(always)]
+    pub(crate) fn plain_text<'c, T: EncodedText>(
+        &self,
+        tables: &'c CursorTables<'a>,
+        text: T,
+    ) -> PlainText<'c, 'a, T>
+        requires reading { cursor_reading tables.now ≡ reading_by (tables_borrowed self.now) (settings_borrowed self.now) }
+        requires plain { last_variable_by (tables_borrowed self.now) (settings_borrowed self.now) ≡ 0 }
+        ensures { plain_to_come T.text result
+            ≡ handled_by (tables_borrowed self.now) (settings_borrowed self.now) (nfd (T.text text)) }
+    {
+        PlainText::new(ElementCursor::new(tables, text))
     }
 
     /// The lead byte of numbers, where digits are read as numbers.

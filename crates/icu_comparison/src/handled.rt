@@ -1,6 +1,6 @@
 //! The elements of a text as variable weighting leaves them (UTS #10, "Variable Weighting").
 
-ghost use Rattle.std.specs.Prelude.{◌≡◌, false, ◌≤◌, ◌++◌, ◌+◌, [], length, option_map, option_to_list, IfSome, IfOk, None};
+ghost use Rattle.std.specs.Prelude.{◌≡◌, false, ◌≤◌, ◌++◌, ◌+◌, [], length, map, option_map, option_to_list, IfSome, IfOk, None};
 
 use crate::weighting::VariableWeighting;
 use icu_cursor::ElementCursor;
@@ -123,5 +123,39 @@ impl<'c, 'd, T: EncodedText> HandledSource for HandledText<'c, 'd, T> {
             }
         }
         Ok(None)
+    }
+}
+
+/// The elements of an encoded text of which none is variable: each stays.
+#[derive(Drop)]
+pub(crate) struct PlainText<'c, 'd, T> {
+    elements: ElementCursor<'c, 'd, T>,
+}
+
+impl<'c, 'd, T: EncodedText> PlainText<'c, 'd, T> {
+    ghost use Rattle.icu_comparison.specs.HandledRests.{plain_to_come};
+    ghost use Rattle.icu_cursor.specs.Cursors.{cursor_gives};
+    ghost use Rattle.icu_order.specs.Handled.{stayed};
+
+    /// All elements that a cursor still gives.
+    #[inline(always)]
+    pub(crate) fn new(elements: ElementCursor<'c, 'd, T>) -> PlainText<'c, 'd, T>
+        ensures { plain_to_come T.text result ≡ map stayed (cursor_gives T.text elements.entry) }
+    {
+        PlainText { elements }
+    }
+}
+
+impl<'c, 'd, T: EncodedText> HandledSource for PlainText<'c, 'd, T> {
+    ghost use Rattle.icu_comparison.specs.HandledRests.{plain_to_come};
+
+    ghost handled_left = { plain_to_come T.text };
+
+    #[inline(always)]
+    fn next_handled(&mut self) -> Result<Option<Handled>, AllocError> {
+        match self.elements.next()? {
+            Some(element) => Ok(Some(Handled::Stayed(element))),
+            None => Ok(None),
+        }
     }
 }

@@ -105,7 +105,7 @@ impl<'a> CollatorBorrowed<'a> {
     }
 
     /// Writes the key of a text, with these characters at the identical level. Its elements are written as they are
-    /// read: no list of them is made.
+    /// read: no list of them is made. Where none is variable, none is asked for that.
     fn write_with_characters<T: EncodedText, S: CollationKeySink>(
         &self,
         text: T,
@@ -122,15 +122,14 @@ impl<'a> CollatorBorrowed<'a> {
     {
         let compression = TableCompression::new(self.tables);
         let tables = self.cursor_tables();
+        let alloc = self.tables.allocator();
+        let form = self.key_form();
+        if self.last_variable() == 0 {
+            let mut plain = self.plain_text(&tables, text);
+            return write_key(alloc, sink, &compression, form, &mut plain, characters);
+        }
         let mut handled = self.handled_text(&tables, text);
-        write_key(
-            self.tables.allocator(),
-            sink,
-            &compression,
-            self.key_form(),
-            &mut handled,
-            characters,
-        )
+        write_key(alloc, sink, &compression, form, &mut handled, characters)
     }
 
     /// The characters of a text, decomposed, where they count.

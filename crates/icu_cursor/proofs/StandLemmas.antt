@@ -1,11 +1,14 @@
 -- Letters that are read by themselves, and the runs of marks that they stand before.
-use Rattle.std.proofs.Common.{◌≡◌, ◌≢◌, ℕ, ◌≤◌, Bool, true, false, ◌&&◌, ◌||◌, nat_le, List, [], ◌∷◌, ◌++◌, length, get_or, flat_map, Option, Some, None, IfSome, refl, sym, ap, ◌∙◌, arith}
+use Rattle.std.proofs.Common.{◌≡◌, ◌≢◌, ℕ, ◌<◌, ◌≤◌, Bool, true, false, ◌&&◌, ◌||◌, nat_le, List, [], ◌∷◌, ◌++◌, length, get_or, flat_map, Option, Some, None, IfSome, refl, sym, ap, ◌∙◌, arith, zero-le}
 use Rattle.std.proofs.lemmas.Bool.{and_parts, not-true, eqb-true, eq-eqb, ne_eqb, le-leb}
 use Rattle.ucd_normal.specs.CanonicalCombiningClass.{canonical_combining_class as class_of}
 use Rattle.ucd_normal.specs.declared.forms.Form.TheVariants.{Nfd}
 use Rattle.unicode_normalization.specs.Decompose.{decompose}
 use Rattle.unicode_normalization.specs.Order.{is_starter, is_nonstarter}
 use Rattle.unicode_normalization.specs.Forms.{nfd}
+use Rattle.unicode_normalization.proofs.DecomposeLemmas.{decompose-final}
+use Rattle.unicode_normalization.proofs.FormsLemmas.{is_final-Nfd, quick_check-below}
+use Rattle.unicode_normalization.proofs.TableFacts.{class_of_latin}
 use Rattle.icu_elements.specs.TextElements.{Reading, elements_after}
 use Rattle.icu_cursor.proofs.PieceLemmas.{may_be_cut, parted}
 use Rattle.icu_entries.specs.Elements.{Element}
@@ -28,6 +31,11 @@ use Rattle.icu_cursor.specs.inner.Standing.{StandsBefore, Serves}
 pub ends_runs : (c first : ℕ) (more : List ℕ) → decompose Nfd c ≡ first ∷ more → is_starter first ≡ true → EndsRuns c
 unfolding rises_from
 ends_runs c first more split starter = λ least text. ap (λ l. rises_from least (l ++ flat_map (decompose Nfd) text)) split ∙ rw starter refl
+
+-- as an ASCII character is, which stands for itself
+pub low_ends_runs : (c : ℕ) → c < 0x80 → EndsRuns c
+low_ends_runs c low =
+    ends_runs c c [] (decompose-final Nfd c (is_final-Nfd c (quick_check-below Nfd c (omega (arith, low))))) (class_of_latin c zero-le (omega (arith, low)))
 
 -- it goes on with a mark whose class isn't below
 goes_on : (c first : ℕ) → decompose Nfd c ≡ first ∷ [] → class_of first ≢ 0 → (least : ℕ) (text : List ℕ) → least ≤ class_of first → Rises (class_of first) text → Rises least (c ∷ text)

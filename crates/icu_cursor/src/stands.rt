@@ -17,7 +17,7 @@ const MARKS_AHEAD: u32 = 6;
 /// Whether the classes of the marks that a text begins with rise from this one, and are few. False says
 /// nothing.
 #[inline(never)]
-fn rises<T: EncodedText>(tables: &CursorTables<'_>, class: u8, text: T) -> bool
+fn marks_rise<T: EncodedText>(tables: &CursorTables<'_>, class: u8, text: T) -> bool
     ensures { IsTrue result → Rises class (T.text text) }
 {
     let mut last = class;
@@ -39,6 +39,17 @@ fn rises<T: EncodedText>(tables: &CursorTables<'_>, class: u8, text: T) -> bool
         rest = after;
     }
     false
+}
+
+/// The same, at once of a text that begins with an ASCII character, which is no mark.
+#[inline(always)]
+fn rises<T: EncodedText>(tables: &CursorTables<'_>, class: u8, text: T) -> bool
+    ensures { IsTrue result → Rises class (T.text text) }
+{
+    match text.split_first_ascii() {
+        Some(_) => true,
+        None => marks_rise(tables, class, text),
+    }
 }
 
 /// Whether a text ends, or may be cut before its first character. False says nothing.

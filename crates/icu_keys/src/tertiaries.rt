@@ -22,6 +22,17 @@ fn runs_of(form: TertiaryForm) -> RunBytes
     }
 }
 
+/// The common weight of a form.
+#[inline(always)]
+pub(crate) fn common_of(form: TertiaryForm) -> u16
+    ensures { result ≡ (tertiary_runs form).common }
+{
+    match form {
+        TertiaryForm::UpperFirst => 0xC500,
+        _ => 0x0500,
+    }
+}
+
 /// The weight whose bytes are written for one that isn't common, so that none begins as a run does.
 fn moved(form: TertiaryForm, weight: u16) -> u16
     requires { moved_tertiary form weight < 2 ^ 16 }
@@ -71,17 +82,6 @@ impl TertiaryWriter {
         ensures { result ≡ tertiary_form_of self.now }
     {
         self.form
-    }
-
-    /// The common weight of the form.
-    #[inline(always)]
-    pub(crate) fn common(&self) -> u16
-        ensures { result ≡ (tertiary_runs (tertiary_form_of self.now)).common }
-    {
-        match self.form {
-            TertiaryForm::UpperFirst => 0xC500,
-            _ => 0x0500,
-        }
     }
 
     /// Writes what the next weight decides. An error is the sink's own.

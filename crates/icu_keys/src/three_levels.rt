@@ -55,8 +55,13 @@ fn push_secondary(level: &mut HeldSecondaries, weight: u16) -> Result<(), AllocE
 
 /// Adds a tertiary weight as the form has it, unless it is 0.
 #[inline(always)]
-fn push_tertiary(level: &mut HeldTertiaries, weight: u16) -> Result<(), AllocError>
-    requires { moved_tertiary (held_tertiary_form level.old) weight < 2 ^ 16 }
+fn push_tertiary(
+    level: &mut HeldTertiaries,
+    form: TertiaryForm,
+    weight: u16,
+) -> Result<(), AllocError>
+    requires form { held_tertiary_form level.old ≡ form }
+    requires fits { moved_tertiary form weight < 2 ^ 16 }
     ensures form { held_tertiary_form level.new ≡ held_tertiary_form level.old }
     ensures bytes { OnOk result ((ws : List ℕ) →
         held_tertiaries level.old (weight_before weight ws) ≡ held_tertiaries level.new ws) }
@@ -64,7 +69,7 @@ fn push_tertiary(level: &mut HeldTertiaries, weight: u16) -> Result<(), AllocErr
     if weight == 0 {
         return Ok(());
     }
-    level.push(weight)
+    level.push_in_form(form, weight)
 }
 
 /// Writes the primary, secondary and tertiary level of a text, secondaries from the front and tertiaries in one of
@@ -132,22 +137,26 @@ impl ThreeLevelWriter {
             (element_before primary secondary tertiary lists))
             (three_levels_rest (C.compression compression.now) self.new) result sink.new state.new }
     {
-        self.push_in_form(sink, state, compression, primary, secondary, tertiary)
+        let form = self.tertiaries.form();
+        self.push_in_form(sink, state, compression, form, primary, secondary, tertiary)
     }
 
-    /// The same with a tertiary as the form has it, which may have case bits. Weights of a form fit its moved leads.
+    /// The same with a tertiary as the writer's form has it, which may have case bits. Weights of a form fit its moved
+    /// leads. The form is given by the caller, so that it need not be asked for at each element.
     #[inline(always)]
     pub fn push_in_form<S: CollationKeySink, C: PrimaryCompression>(
         &mut self,
         sink: &mut S,
         state: &mut S::State,
         compression: &C,
+        form: TertiaryForm,
         primary: u32,
         secondary: u16,
         tertiary: u16,
     ) -> Result<(), SortKeyError<S::Error>>
         requires sound { S.is_sound sink.old state.old }
-        requires fits { moved_tertiary (three_levels_form self.old) tertiary < 2 ^ 16 }
+        requires form { three_levels_form self.old ≡ form }
+        requires fits { moved_tertiary form tertiary < 2 ^ 16 }
         ensures sound { S.is_sound sink.new state.new }
         ensures form { three_levels_form self.new ≡ three_levels_form self.old }
         ensures bytes { KeyFeeds S.took S.refused sink.old state.old
@@ -161,7 +170,7 @@ impl ThreeLevelWriter {
         if push_secondary(&mut self.secondaries, secondary).is_err() {
             return Err(SortKeyError::NoMemory);
         }
-        match push_tertiary(&mut self.tertiaries, tertiary) {
+        match push_tertiary(&mut self.tertiaries, form, tertiary) {
             Ok(()) => Ok(()),
             Err(_) => Err(SortKeyError::NoMemory),
         }

@@ -60,6 +60,7 @@ fn push_stayed<S: CollationKeySink, C: PrimaryCompression>(
         sink,
         state,
         compression,
+        form,
         element.primary(),
         element.secondary(),
         tertiary_or_none(form, element),

@@ -41,9 +41,11 @@ impl HeldSecondaries {
         ensures { OnOk result ((ws : List ℕ) →
             held_secondaries self.old (weight ∷ ws) ≡ held_secondaries self.new ws) }
     {
-        if u64::from(weight) == SECONDARY_RUNS.common && self.commons < u32::MAX {
-            self.commons += 1;
-            return Ok(());
+        if u64::from(weight) == SECONDARY_RUNS.common {
+            if let Some(more) = self.commons.checked_add(1) {
+                self.commons = more;
+                return Ok(());
+            }
         }
         self.push_next(weight)
     }

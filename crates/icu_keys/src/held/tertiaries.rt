@@ -8,7 +8,7 @@ ghost use Rattle.icu_keys.specs.Writes.{Writes};
 use crate::held::{INLINE, write_held};
 use crate::parts::LEVEL;
 use crate::sink::CollationKeySink;
-use crate::tertiaries::TertiaryWriter;
+use crate::tertiaries::{TertiaryWriter, common_of};
 use icu_levels::forms::TertiaryForm;
 use smallvec::SmallVec;
 use std::alloc::{AllocError, Global};
@@ -44,16 +44,30 @@ impl HeldTertiaries {
     }
 
     /// Adds the next weight, as the form has it. After an error, discard the level.
-    #[inline(always)]
     pub fn push(&mut self, weight: u16) -> Result<(), AllocError>
         requires { moved_tertiary (held_tertiary_form self.old) weight < 2 ^ 16 }
         ensures form { held_tertiary_form self.new ≡ held_tertiary_form self.old }
         ensures bytes { OnOk result ((ws : List ℕ) →
             held_tertiaries self.old (weight ∷ ws) ≡ held_tertiaries self.new ws) }
     {
-        if weight == self.writer.common() && self.commons < u32::MAX {
-            self.commons += 1;
-            return Ok(());
+        let form = self.form();
+        self.push_in_form(form, weight)
+    }
+
+    /// The same by a caller that knows the form, so that it need not be asked for at each weight.
+    #[inline(always)]
+    pub(crate) fn push_in_form(&mut self, form: TertiaryForm, weight: u16) -> Result<(), AllocError>
+        requires form { held_tertiary_form self.old ≡ form }
+        requires fits { moved_tertiary form weight < 2 ^ 16 }
+        ensures form { held_tertiary_form self.new ≡ held_tertiary_form self.old }
+        ensures bytes { OnOk result ((ws : List ℕ) →
+            held_tertiaries self.old (weight ∷ ws) ≡ held_tertiaries self.new ws) }
+    {
+        if weight == common_of(form) {
+            if let Some(more) = self.commons.checked_add(1) {
+                self.commons = more;
+                return Ok(());
+            }
         }
         self.push_next(weight)
     }
