@@ -106,8 +106,8 @@ impl<'a> CollatorBorrowed<'a> {
         }
     }
 
-    /// The order of two texts by the primary weights of the letters that they begin with, as far as these may be read by
-    /// themselves: the first that differ decide.
+    /// The order of two texts by the primary weights of the letters that they begin with, as far as these may be read
+    /// by themselves: the first that differ decide.
     #[inline(never)]
     fn order_of_letters<L: EncodedText, R: EncodedText>(
         &self,
@@ -157,7 +157,7 @@ impl<'a> CollatorBorrowed<'a> {
         }
     }
 
-    /// The same of a text whose first character isn't ASCII, as most are that come here.
+    /// The same of a text that doesn't begin with ASCII.
     #[inline(never)]
     fn other_opening<T: EncodedText>(&self, text: T) -> Opening
         ensures tail { IsTrue result.is_tail → IsTail (tables_borrowed self.now) (settings_borrowed self.now) (T.text text) }
