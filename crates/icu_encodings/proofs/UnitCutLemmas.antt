@@ -1,12 +1,12 @@
 -- Where a text of an encoding may be cut.
-use Rattle.std.proofs.Common.{◌≡◌, ℕ, zero, suc, ◌^◌, get_or, ◌<◌, ◌≤◌, Bool, true, false, ◌&&◌, not, eqb, true≢false, List, [], ◌∷◌, ◌++◌, length, take, drop, map, slice_index, slice_index_or, refl, ap, sym, ◌∙◌, arith, take-append-drop, ◌-◌, length-append, append_assoc, take_all}
+use Rattle.std.proofs.Common.{◌≡◌, ℕ, zero, suc, ◌^◌, get_or, ◌<◌, ◌≤◌, Bool, true, false, ◌==◌, ◌&&◌, not, eqb, true≢false, List, [], ◌∷◌, ◌++◌, length, take, drop, map, slice_index, slice_index_or, refl, ap, sym, ◌∙◌, arith, take-append-drop, ◌-◌, length-append, append_assoc, take_all}
 use Rattle.std.proofs.lemmas.List.{map-append, take-take, take-append-le, drop_at}
 use Rattle.std.specs.Char.Utf16.{is_high_surrogate}
 use Rattle.std.proofs.lemmas.Bool.Decides.{nat_tests}
 use Rattle.std.proofs.lemmas.Slice.Eq.{bytes_eq-Decides}
 use Rattle.std.specs.Cmp.Lexicographic.{pointwise}
-use Rattle.bstr.specs.Utf8.{decoded, good, or_replacement}
-use Rattle.bstr.proofs.lemmas.PieceLemmas.{StartsClean as StartsPiece, pieces-append, lossy_chars-step, lossy_chars-nil, piece-bounds, value-1}
+use Rattle.bstr.specs.Utf8.{decoded, good, or_replacement, continues, second, code_of_2, code_of_3}
+use Rattle.bstr.proofs.lemmas.PieceLemmas.{StartsClean as StartsPiece, pieces-append, lossy_chars-step, lossy_chars-nil, piece-bounds, value-1, value-6, value-9}
 use Rattle.icu_encodings.specs.inner.Utf16Units.{is_pair, lone_char}
 use Rattle.icu_encodings.specs.inner.UnitCuts.{StartsClean, StartsNoTrail}
 use Rattle.icu_encodings.specs.inner.ListFronts.{HaveHead}
@@ -113,6 +113,69 @@ utf8_first_byte b bs h =
     value-1 (length all) b (slice_index all 1) (slice_index all 2) (slice_index all 3) (omega arith, h) in
     lossy_chars-step (b ∷ bs) (omega arith)
     ∙ ap (λ d. or_replacement d.char ∷ utf8_text (drop d.size (b ∷ bs))) value
+
+-- a well-formed character of two bytes
+pub utf8_first_two : (b c : ℕ) (bs : List ℕ) → 0xC2 ≤ b → b ≤ 0xDF → 0x80 ≤ c → c ≤ 0xBF → utf8_text (b ∷ c ∷ bs) ≡ code_of_2 b c ∷ utf8_text bs
+utf8_first_two b c bs low high at_least at_most =
+    let all = b ∷ c ∷ bs in
+    let e0 : (b == 0xE0) ≡ false = grind (arith, nat_tests) in
+    let ed : (b == 0xED) ≡ false = grind (arith, nat_tests) in
+    let f0 : (b == 0xF0) ≡ false = grind (arith, nat_tests) in
+    let f4 : (b == 0xF4) ≡ false = grind (arith, nat_tests) in
+    let goes_on : continues c ≡ true = grind (arith, nat_tests) in
+    let second_fits : second b c ≡ true = rw (e0, ed, f0, f4) goes_on in
+    let value : decoded all ≡ good (code_of_2 b c) 2 =
+    value-6 (length all) b c (slice_index all 2) (slice_index all 3) (omega arith, low, omega (arith, high), second_fits) in
+    lossy_chars-step all (omega arith)
+    ∙ ap (λ d. or_replacement d.char ∷ utf8_text (drop d.size all)) value
+
+-- one of three, whose second byte may stand after the first
+pub utf8_first_three : (b c d : ℕ) (bs : List ℕ) → 0xE0 ≤ b → b ≤ 0xEF → second b c ≡ true → 0x80 ≤ d → d ≤ 0xBF → utf8_text (b ∷ c ∷ d ∷ bs) ≡ code_of_3 b c d ∷ utf8_text bs
+utf8_first_three b c d bs low high second_fits at_least at_most =
+    let all = b ∷ c ∷ d ∷ bs in
+    let goes_on : continues d ≡ true = grind (arith, nat_tests) in
+    let value : decoded all ≡ good (code_of_3 b c d) 3 =
+    value-9 (length all) b c d (slice_index all 3) (omega arith, low, omega (arith, high), second_fits, goes_on) in
+    lossy_chars-step all (omega arith)
+    ∙ ap (λ x. or_replacement x.char ∷ utf8_text (drop x.size all)) value
+
+-- as any that continues does after most
+pub second_of_most : (b c : ℕ) → 0xE1 ≤ b → b ≤ 0xEC → 0x80 ≤ c → c ≤ 0xBF → second b c ≡ true
+second_of_most b c low high at_least at_most =
+    let e0 : (b == 0xE0) ≡ false = grind (arith, nat_tests) in
+    let ed : (b == 0xED) ≡ false = grind (arith, nat_tests) in
+    let f0 : (b == 0xF0) ≡ false = grind (arith, nat_tests) in
+    let f4 : (b == 0xF4) ≡ false = grind (arith, nat_tests) in
+    let goes_on : continues c ≡ true = grind (arith, nat_tests) in rw (e0, ed, f0, f4) goes_on
+
+-- and a lesser one after ED
+pub second_after_ed : (c : ℕ) → 0x80 ≤ c → c ≤ 0x9F → second 0xED c ≡ true
+second_after_ed c at_least at_most = grind (arith, nat_tests)
+
+whole_left : (n : ℕ) (bs : List ℕ) → n ≡ length bs → take n bs ≡ bs
+whole_left n bs is = ap (λ k. take k bs) is ∙ take_all (length bs) bs (omega arith)
+
+-- so where a list begins
+pub first_two : (bs : List ℕ) (b c d e x : ℕ) → 2 ≤ length bs → b ≡ get_or bs 0 d → c ≡ get_or bs 1 e → 0xC2 ≤ b → b ≤ 0xDF → 0x80 ≤ c → c ≤ 0xBF → x ≡ code_of_2 b c
+    → utf8_text bs ≡ x ∷ utf8_text (take (length bs - 2) (drop 2 bs))
+first_two [] b c d e x long f s low high at_least at_most is = absurd (omega arith)
+first_two (y ∷ []) b c d e x long f s low high at_least at_most is = absurd (omega arith)
+first_two (y ∷ z ∷ bs) b c d e x long f s low high at_least at_most is =
+    ap (λ l. utf8_text l) (ap (λ k. k ∷ z ∷ bs) (sym f) ∙ ap (λ k. b ∷ k ∷ bs) (sym s))
+    ∙ utf8_first_two b c bs low high at_least at_most
+    ∙ ap (λ k. k ∷ utf8_text bs) (sym is)
+    ∙ ap (λ l. x ∷ utf8_text l) (sym (whole_left (length (y ∷ z ∷ bs) - 2) bs (omega arith)))
+
+pub first_three : (bs : List ℕ) (b c g d e h x : ℕ) → 3 ≤ length bs → b ≡ get_or bs 0 d → c ≡ get_or bs 1 e → g ≡ get_or bs 2 h → 0xE0 ≤ b → b ≤ 0xEF → second b c ≡ true → 0x80 ≤ g → g ≤ 0xBF
+    → x ≡ code_of_3 b c g → utf8_text bs ≡ x ∷ utf8_text (take (length bs - 3) (drop 3 bs))
+first_three [] b c g d e h x long f s t low high fits at_least at_most is = absurd (omega arith)
+first_three (y ∷ []) b c g d e h x long f s t low high fits at_least at_most is = absurd (omega arith)
+first_three (y ∷ z ∷ []) b c g d e h x long f s t low high fits at_least at_most is = absurd (omega arith)
+first_three (y ∷ z ∷ u ∷ bs) b c g d e h x long f s t low high fits at_least at_most is =
+    ap (λ l. utf8_text l) (ap (λ k. k ∷ z ∷ u ∷ bs) (sym f) ∙ ap (λ k. b ∷ k ∷ u ∷ bs) (sym s) ∙ ap (λ k. b ∷ c ∷ k ∷ bs) (sym t))
+    ∙ utf8_first_three b c g bs low high fits at_least at_most
+    ∙ ap (λ k. k ∷ utf8_text bs) (sym is)
+    ∙ ap (λ l. x ∷ utf8_text l) (sym (whole_left (length (y ∷ z ∷ u ∷ bs) - 3) bs (omega arith)))
 
 -- ---- Latin-1 and UTF-16
 

@@ -1,9 +1,10 @@
 //! Texts, each in its encoding, that are read character by character as often as need be.
 
-ghost use Rattle.std.specs.Prelude.{◌≡◌, false, ◌<◌, ◌∷◌, ◌++◌, [], ℕ, List, take, length, MatchOption, IfSome};
+ghost use Rattle.std.specs.Prelude.{◌≡◌, false, ◌<◌, ◌≤◌, ◌∷◌, ◌++◌, [], ℕ, List, take, length, true, IsTrue, MatchOption, IfSome};
 ghost use Rattle.icu_encodings.specs.inner.UnitCuts.{StartsClean, StartsNoTrail};
 ghost use Rattle.std.specs.List.{AllByRecursion};
 ghost use Rattle.std.specs.Char.{IsScalar};
+ghost use Rattle.bstr.specs.Utf8.{code_of_2, code_of_3, second};
 ghost use Rattle.std.specs.Iterator.{YieldsFirst, item_count};
 ghost use Rattle.icu_encodings.specs.DecodedTexts.{latin1_text, utf16_text, utf8_text, SpellsText};
 
@@ -97,9 +98,92 @@ impl<'a> EncodedText for Utf8Text<'a> {
     }
 }
 
-/// The first character of UTF-8, which is decoded, and the bytes after it.
+/// The code of a character of two bytes.
+#[inline(always)]
+fn code_of_two(first: u8, second: u8) -> u32
+    requires first { 0xC0 ≤ first }
+    requires second { 0x80 ≤ second }
+    ensures { result ≡ code_of_2 first second }
+{
+    (u32::from(first) - 0xC0) * 64 + (u32::from(second) - 0x80)
+}
+
+/// The code of a character of three bytes.
+#[inline(always)]
+fn code_of_three(first: u8, second: u8, third: u8) -> u32
+    requires first { 0xE0 ≤ first }
+    requires second { 0x80 ≤ second }
+    requires third { 0x80 ≤ third }
+    ensures { result ≡ code_of_3 first second third }
+{
+    ((u32::from(first) - 0xE0) * 64 + (u32::from(second) - 0x80)) * 64 + (u32::from(third) - 0x80)
+}
+
+/// Whether bytes are a well-formed character of two bytes.
+#[inline(always)]
+fn are_two(first: u8, second: u8) -> bool
+    ensures { IsTrue result → (0xC2 ≤ first) × (first ≤ 0xDF) × (0x80 ≤ second) × (second ≤ 0xBF) }
+{
+    first >= 0xC2 && first <= 0xDF && second >= 0x80 && second <= 0xBF
+}
+
+/// Whether a byte may stand after one from E1 to ED in a well-formed character. False says nothing.
+#[inline(always)]
+fn is_second(first: u8, byte: u8) -> bool
+    ensures lead { IsTrue result → (0xE0 ≤ first) × (first ≤ 0xEF) × (0x80 ≤ byte) }
+    ensures second { IsTrue result → second first byte ≡ true }
+{
+    let most = first >= 0xE1 && first <= 0xEC && byte <= 0xBF;
+    byte >= 0x80 && (most || (first == 0xED && byte <= 0x9F))
+}
+
+/// The first character of UTF-8 that begins with a well-formed one of two bytes.
+#[inline(always)]
+fn split_first_two(bytes: &[u8]) -> Option<(char, &[u8])>
+    ensures { IfSome result (λ p. utf8_text bytes.now ≡ p.0 ∷ utf8_text p.1.now) }
+{
+    let [first, second, rest @ ..] = bytes else {
+        return None;
+    };
+    if !are_two(*first, *second) {
+        return None;
+    }
+    let c = char::from_u32(code_of_two(*first, *second))?;
+    Some((c, rest))
+}
+
+/// The same of one of three bytes, of which the first is one from E1 to ED, as it is in most letters.
+#[inline(always)]
+fn split_first_three(bytes: &[u8]) -> Option<(char, &[u8])>
+    ensures { IfSome result (λ p. utf8_text bytes.now ≡ p.0 ∷ utf8_text p.1.now) }
+{
+    let [first, second, third, rest @ ..] = bytes else {
+        return None;
+    };
+    if !is_second(*first, *second) || *third < 0x80 || *third > 0xBF {
+        return None;
+    }
+    let c = char::from_u32(code_of_three(*first, *second, *third))?;
+    Some((c, rest))
+}
+
+/// The first character of UTF-8 and the bytes after it.
 #[inline(always)]
 fn split_first_decoded(bytes: &[u8]) -> Option<(char, &[u8])>
+    ensures { MatchOption result (utf8_text bytes.now ≡ []) (λ p. utf8_text bytes.now ≡ p.0 ∷ utf8_text p.1.now) }
+{
+    if let Some(found) = split_first_two(bytes) {
+        return Some(found);
+    }
+    if let Some(found) = split_first_three(bytes) {
+        return Some(found);
+    }
+    split_first_piece(bytes)
+}
+
+/// The same of any bytes, which are decoded.
+#[inline(never)]
+fn split_first_piece(bytes: &[u8]) -> Option<(char, &[u8])>
     ensures { MatchOption result (utf8_text bytes.now ≡ []) (λ p. utf8_text bytes.now ≡ p.0 ∷ utf8_text p.1.now) }
 {
     if bytes.is_empty() {

@@ -4,7 +4,7 @@ use Rattle.std.proofs.lemmas.List.{nil_from_length}
 use Rattle.bstr.specs.Utf8.{decoded}
 use Rattle.icu_encodings.specs.DecodedTexts.{utf8_text}
 use Rattle.icu_encodings.proofs.UnitCutLemmas.{utf8_first, utf8_empty, piece_fits}
-use Rattle.icu_encodings.proofs.encoded_text.split_first_decoded.Goals as goal
+use Rattle.icu_encodings.proofs.encoded_text.split_first_piece.Goals as goal
 
 pub returns-then-is_empty : goal.returns-then-is_empty
 returns-then-is_empty c = ap utf8_text (nil_from_length c.args.bytes.now (search rules)) ∙ utf8_empty
