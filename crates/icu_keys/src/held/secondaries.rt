@@ -5,7 +5,7 @@ ghost use Rattle.icu_levels.specs.Secondaries.{secondary_level};
 ghost use Rattle.icu_levels.specs.Keys.{part_bytes, opened, closed};
 ghost use Rattle.icu_keys.specs.Writes.{Writes};
 
-use crate::held::{INLINE, write_held};
+use crate::held::{INLINE, one_more, write_held};
 use crate::parts::LEVEL;
 use crate::secondaries::SecondaryWriter;
 use crate::sink::CollationKeySink;
@@ -42,7 +42,7 @@ impl HeldSecondaries {
             held_secondaries self.old (weight ∷ ws) ≡ held_secondaries self.new ws) }
     {
         if u64::from(weight) == SECONDARY_RUNS.common {
-            if let Some(more) = self.commons.checked_add(1) {
+            if let Some(more) = one_more(self.commons) {
                 self.commons = more;
                 return Ok(());
             }

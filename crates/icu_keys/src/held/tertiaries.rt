@@ -5,7 +5,7 @@ ghost use Rattle.icu_levels.specs.Tertiaries.{moved_tertiary, tertiary_level};
 ghost use Rattle.icu_levels.specs.Keys.{part_bytes, opened, closed};
 ghost use Rattle.icu_keys.specs.Writes.{Writes};
 
-use crate::held::{INLINE, write_held};
+use crate::held::{INLINE, one_more, write_held};
 use crate::parts::LEVEL;
 use crate::sink::CollationKeySink;
 use crate::tertiaries::{TertiaryWriter, common_of};
@@ -64,7 +64,7 @@ impl HeldTertiaries {
             held_tertiaries self.old (weight ∷ ws) ≡ held_tertiaries self.new ws) }
     {
         if weight == common_of(form) {
-            if let Some(more) = self.commons.checked_add(1) {
+            if let Some(more) = one_more(self.commons) {
                 self.commons = more;
                 return Ok(());
             }
