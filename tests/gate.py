@@ -65,6 +65,9 @@ class Progress:
             print(line, flush=True)
 
     def take_verdict(self, text):
+        kept = re.match(r"^(\S+) is kept: ", text)
+        if kept and kept[1] in self.unproved:
+            self.unproved.remove(kept[1])
         trying = re.match(r"^(\S+): trying its must-fail edits", text)
         if trying:
             self.trying.add(trying[1])
