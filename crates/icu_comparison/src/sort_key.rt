@@ -5,7 +5,7 @@ ghost use Rattle.std.specs.List.{AllByRecursion};
 ghost use Rattle.icu_encodings.specs.DecodedTexts.{utf16_text, utf8_text};
 ghost use Rattle.icu_keys.specs.KeyWrites.{WritesKey};
 ghost use Rattle.icu_levels.specs.Keys.{key_bytes};
-ghost use Rattle.icu_order.specs.Forms.{compression_of, form_by};
+ghost use Rattle.icu_order.specs.Forms.{compression_of, form_by, last_variable_by};
 ghost use Rattle.icu_order.specs.Levels.{level_lists};
 ghost use Rattle.icu_order.specs.TextOrder.{handled_by, text_key};
 ghost use Rattle.icu_provider.specs.CollatorTables.{reorder};
@@ -105,8 +105,63 @@ impl<'a> CollatorBorrowed<'a> {
     }
 
     /// Writes the key of a text, with these characters at the identical level. Its elements are written as they are
-    /// read: no list of them is made. Where none is variable, none is asked for that.
+    /// read: no list of them is made.
     fn write_with_characters<T: EncodedText, S: CollationKeySink>(
+        &self,
+        text: T,
+        characters: &[char],
+        sink: &mut S,
+    ) -> Result<S::Output, SortKeyError<S::Error>>
+        requires cases { AllByRecursion HasCase
+            (handled_by (tables_borrowed self.now) (settings_borrowed self.now) (nfd (T.text text))) }
+        ensures key { let all = tables_borrowed self.now in let settings = settings_borrowed self.now in
+            WritesKey S.took S.refused S.finished S.State.is_default sink.old
+            (key_bytes (compression_of all) (form_by all settings) (level_lists (reorder all) (form_by all settings)
+            (handled_by all settings (nfd (T.text text))) characters.now))
+            result sink.new }
+    {
+        if self.last_variable() == 0 {
+            self.write_plain(text, characters, sink)
+        } else {
+            self.write_variable(text, characters, sink)
+        }
+    }
+
+    /// The same where no element is variable, so that none is asked for that. Out of line, as the next one is: a
+    /// function clears the locals of all that it does each time that it is called.
+    #[inline(never)]
+    fn write_plain<T: EncodedText, S: CollationKeySink>(
+        &self,
+        text: T,
+        characters: &[char],
+        sink: &mut S,
+    ) -> Result<S::Output, SortKeyError<S::Error>>
+        requires plain { last_variable_by (tables_borrowed self.now) (settings_borrowed self.now) ≡ 0 }
+        requires cases { AllByRecursion HasCase
+            (handled_by (tables_borrowed self.now) (settings_borrowed self.now) (nfd (T.text text))) }
+        ensures key { let all = tables_borrowed self.now in let settings = settings_borrowed self.now in
+            WritesKey S.took S.refused S.finished S.State.is_default sink.old
+            (key_bytes (compression_of all) (form_by all settings) (level_lists (reorder all) (form_by all settings)
+            (handled_by all settings (nfd (T.text text))) characters.now))
+            result sink.new }
+    {
+        let compression = TableCompression::new(self.tables);
+        let tables = self.cursor_tables();
+        let mut plain = self.plain_text(&tables, text);
+        let alloc = self.tables.allocator();
+        write_key(
+            alloc,
+            sink,
+            &compression,
+            self.key_form(),
+            &mut plain,
+            characters,
+        )
+    }
+
+    /// The same where elements may be variable.
+    #[inline(never)]
+    fn write_variable<T: EncodedText, S: CollationKeySink>(
         &self,
         text: T,
         characters: &[char],
@@ -122,14 +177,16 @@ impl<'a> CollatorBorrowed<'a> {
     {
         let compression = TableCompression::new(self.tables);
         let tables = self.cursor_tables();
-        let alloc = self.tables.allocator();
-        let form = self.key_form();
-        if self.last_variable() == 0 {
-            let mut plain = self.plain_text(&tables, text);
-            return write_key(alloc, sink, &compression, form, &mut plain, characters);
-        }
         let mut handled = self.handled_text(&tables, text);
-        write_key(alloc, sink, &compression, form, &mut handled, characters)
+        let alloc = self.tables.allocator();
+        write_key(
+            alloc,
+            sink,
+            &compression,
+            self.key_form(),
+            &mut handled,
+            characters,
+        )
     }
 
     /// The characters of a text, decomposed, where they count.

@@ -1,5 +1,5 @@
 -- What a cursor still gives, as it goes on.
-use Rattle.std.proofs.Common.{◌≡◌, ℕ, ◌≤◌, arith, false, List, [], ◌∷◌, ◌++◌, length, take, get_or, Option, Some, None, is_some, Result, Ok, Err, IfOk, IfSome, refl, sym, ap, ap₂, ◌∙◌, append_assoc}
+use Rattle.std.proofs.Common.{◌≡◌, ℕ, ◌≤◌, arith, List, [], ◌∷◌, ◌++◌, length, take, get_or, Option, Some, None, IfSome, refl, sym, ap, ap₂, ◌∙◌, append_assoc}
 use Rattle.std.specs.Prelude.{option_to_list}
 use Rattle.ucd_normal.specs.declared.forms.Form.TheVariants.{Nfd}
 use Rattle.unicode_normalization.specs.Decompose.{decompose}
@@ -9,8 +9,7 @@ use Rattle.icu_elements.specs.TextElements.{Reading, elements_after}
 use Rattle.icu_cuts.specs.Alone.{context_after}
 use Rattle.icu_shortcuts.specs.declared.letter_facts.Letter.{Letter}
 use Rattle.icu_shortcuts.specs.Letters.{letter_elements}
-use Rattle.icu_cursor.specs.declared.piece.Piece.{Piece}
-use Rattle.icu_cursor.specs.inner.Pieces.{IsPiece, piece_gives}
+use Rattle.icu_cursor.specs.inner.Pieces.{IsPiece}
 use Rattle.icu_cursor.specs.inner.Standing.{StandsBefore}
 use Rattle.icu_cursor.proofs.PieceLemmas.{nothing, pieces_part}
 
@@ -18,25 +17,16 @@ use Rattle.icu_cursor.proofs.PieceLemmas.{nothing, pieces_part}
 pub nothing_ready : (ready piece rest : List Element) → ready ≡ [] → piece ≡ [] → ready ++ (piece ++ rest) ≡ rest
 nothing_ready ready piece rest none no_piece = ap₂ (λ (es fs : List Element). es ++ (fs ++ rest)) none no_piece
 
-pub no_piece : (p : Option Piece) → is_some p ≡ false → piece_gives p ≡ []
-no_piece None none = refl
-no_piece (Some p) none = cc
-
 -- the first of those that stand ready
 pub ready_taken : (first before after rest : List Element) → before ≡ first ++ after → before ++ rest ≡ first ++ (after ++ rest)
 ready_taken first before after rest is = ap (λ (es : List Element). es ++ rest) is ∙ append_assoc first after rest
 
 -- the first of a piece, where none stands ready
-piece_taken : (ready first before after rest : List Element) → ready ≡ [] → before ≡ first ++ after → ready ++ (before ++ rest) ≡ first ++ (ready ++ (after ++ rest))
+pub piece_taken : (ready first before after rest : List Element) → ready ≡ [] → before ≡ first ++ after → ready ++ (before ++ rest) ≡ first ++ (ready ++ (after ++ rest))
 piece_taken ready first before after rest none is =
     ap (λ (es : List Element). es ++ (before ++ rest)) none
     ∙ ready_taken first before after rest is
     ∙ ap (λ (es : List Element). first ++ (es ++ (after ++ rest))) (sym none)
-
-pub piece_read : {E : Type 0} (r : Result (Option Element) E) (all ready before after rest : List Element) → all ≡ ready ++ (before ++ rest) → ready ≡ []
-    → IfOk r (λ next. before ≡ option_to_list next ++ after) → IfOk r (λ next. all ≡ option_to_list next ++ (ready ++ (after ++ rest)))
-piece_read (Ok next) all ready before after rest is none h = is ∙ piece_taken ready (option_to_list next) before after rest none h
-piece_read (Err e) all ready before after rest is none h = tt
 
 front : (xs : List Element) (e d : Element) → 1 ≤ length xs → e ≡ get_or xs 0 d → take 1 xs ≡ e ∷ []
 front [] e d some is = absurd (omega arith)

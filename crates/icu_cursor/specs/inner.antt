@@ -6,3 +6,4 @@ pub mod NumberElements
 pub mod Pieces
 pub mod MarkRuns
 pub mod Standing
+pub mod Unread

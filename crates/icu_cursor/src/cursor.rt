@@ -1,8 +1,9 @@
 //! The elements of an encoded text, one by one.
 
-ghost use Rattle.std.specs.Prelude.{◌≡◌, ◌≤◌, [], ◌∷◌, ◌++◌, None, length, option_to_list, IfOk, OnOk};
+ghost use Rattle.std.specs.Prelude.{◌≡◌, ◌≤◌, [], ◌∷◌, ◌++◌, None, IsTrue, length, option_to_list, IfOk, OnOk};
 ghost use Rattle.unicode_normalization.specs.Forms.{nfd};
 ghost use Rattle.icu_elements.specs.TextElements.{elements_of};
+ghost use Rattle.icu_cursor.specs.inner.Ready.{elements_ready, HasNothingLeft};
 
 use crate::cursor_tables::CursorTables;
 use crate::digit_run::read_number;
@@ -25,12 +26,15 @@ pub struct ElementCursor<'c, 'd, T> {
     recent: RecentLetters,
     ready: LetterElements,
     piece: Option<Piece<'d>>,
+    /// Whether all that was read was given. One flag, since it is asked before each element.
+    at_text: bool,
+    ghost all_given: { IsTrue at_text → HasNothingLeft ready piece },
 }
 
 impl<'c, 'd, T: EncodedText> ElementCursor<'c, 'd, T> {
     ghost use Rattle.icu_cursor.specs.Cursors.{cursor_reading, cursor_gives};
     ghost use Rattle.icu_shortcuts.specs.Letters.{IsNumberDigit};
-    ghost use Rattle.icu_cursor.specs.inner.Ready.{elements_ready, HasNothingReady};
+    ghost use Rattle.icu_cursor.specs.inner.Unread.{HasNothingReady};
     ghost use Rattle.icu_cursor.specs.inner.Standing.{Serves};
 
     /// Reads a text, by these tables. Does not allocate.
@@ -45,6 +49,7 @@ impl<'c, 'd, T: EncodedText> ElementCursor<'c, 'd, T> {
             recent: RecentLetters::new(),
             ready: LetterElements::none(),
             piece: None,
+            at_text: true,
         }
     }
 
@@ -56,34 +61,35 @@ impl<'c, 'd, T: EncodedText> ElementCursor<'c, 'd, T> {
             ≡ option_to_list next ++ cursor_gives T.text self.new) }
         ensures end { IfOk result (λ next. next ≡ None → cursor_gives T.text self.old ≡ []) }
     {
-        if let Some(element) = self.take_ready() {
-            return Ok(Some(element));
+        let first = if self.at_text {
+            self.take_ascii()
+        } else {
+            self.take_ready()
+        };
+        match first {
+            Some(element) => Ok(Some(element)),
+            None => self.read_next(),
         }
-        if let Some(element) = self.take_ascii() {
-            return Ok(Some(element));
-        }
-        self.read_next()
     }
 
-    /// The next of the elements that stand ready.
+    /// The next of the elements of a letter.
     #[inline(always)]
     fn take_ready(&mut self) -> Option<CollationElement>
         ensures next { cursor_gives T.text self.old ≡ option_to_list result ++ cursor_gives T.text self.new }
         ensures text { self.new.text ≡ self.old.text }
         ensures end { result ≡ None → elements_ready self.new.ready ≡ [] }
     {
-        self.ready.take_first()
+        let element = self.ready.take_first();
+        self.at_text = self.ready.is_empty() && self.piece.is_none();
+        element
     }
 
-    /// The element of the next character, where it is ASCII and has one element, and nothing stands ready.
+    /// The element of the next character, where it is ASCII and has one element, and all that was read was given.
     #[inline]
     fn take_ascii(&mut self) -> Option<CollationElement>
-        requires { elements_ready self.old.ready ≡ [] }
+        requires { HasNothingReady self.old }
         ensures next { cursor_gives T.text self.old ≡ option_to_list result ++ cursor_gives T.text self.new }
     {
-        if self.piece.is_some() {
-            return None;
-        }
         let tables = self.tables;
         let (byte, rest) = self.text.split_first_ascii()?;
         let c = char::from(byte);
@@ -127,10 +133,28 @@ impl<'c, 'd, T: EncodedText> ElementCursor<'c, 'd, T> {
         ensures text { OnOk result (self.new.text ≡ self.old.text) }
         ensures end { IfOk result (λ next. next ≡ None → HasNothingReady self.new) }
     {
+        if self.at_text {
+            return Ok(None);
+        }
         if let Some(element) = self.take_ready() {
             return Ok(Some(element));
         }
-        next_of_piece(&mut self.piece)
+        self.take_of_piece()
+    }
+
+    /// The next of the elements of a piece, where a letter has none left.
+    #[inline(always)]
+    fn take_of_piece(&mut self) -> Result<Option<CollationElement>, AllocError>
+        requires { elements_ready self.old.ready ≡ [] }
+        ensures next { IfOk result (λ next. cursor_gives T.text self.old
+            ≡ option_to_list next ++ cursor_gives T.text self.new) }
+        ensures text { OnOk result (self.new.text ≡ self.old.text) }
+        ensures end { IfOk result (λ next. next ≡ None → HasNothingReady self.new) }
+    {
+        self.at_text = false;
+        let next = next_of_piece(&mut self.piece)?;
+        self.at_text = next.is_none();
+        Ok(next)
     }
 
     /// Reads a letter by itself and gives its first element, or else begins the piece that it begins. `rest` is what
@@ -151,7 +175,7 @@ impl<'c, 'd, T: EncodedText> ElementCursor<'c, 'd, T> {
     }
 
     /// The same of a letter that isn't among those that are read most. Out of line: a function clears its locals each
-    /// time that it is called.
+    /// time that it is called. A syllable is read here by itself, since all that is known of it is of one kind.
     #[inline(never)]
     fn read_other(&mut self, c: char, rest: T) -> Result<Option<CollationElement>, AllocError>
         requires nothing { HasNothingReady self.old }
@@ -160,7 +184,22 @@ impl<'c, 'd, T: EncodedText> ElementCursor<'c, 'd, T> {
             ≡ option_to_list first ++ cursor_gives T.text self.new) }
         ensures shorter { OnOk result (length (T.text self.new.text) ≤ length (T.text rest)) }
     {
-        let letter = self.tables.other_letter(c);
+        match self.tables.syllable(c) {
+            Some(letter) => self.read_letter(c, &letter, rest),
+            None => self.read_rare(c, rest),
+        }
+    }
+
+    /// The same of a letter that is no syllable either.
+    #[inline(never)]
+    fn read_rare(&mut self, c: char, rest: T) -> Result<Option<CollationElement>, AllocError>
+        requires nothing { HasNothingReady self.old }
+        requires text { T.text self.old.text ≡ c ∷ T.text rest }
+        ensures next { IfOk result (λ first. cursor_gives T.text self.old
+            ≡ option_to_list first ++ cursor_gives T.text self.new) }
+        ensures shorter { OnOk result (length (T.text self.new.text) ≤ length (T.text rest)) }
+    {
+        let letter = self.tables.rare_letter(c);
         self.read_letter(c, &letter, rest)
     }
 
@@ -182,7 +221,9 @@ impl<'c, 'd, T: EncodedText> ElementCursor<'c, 'd, T> {
         if stands_before(self.tables, letter, rest) {
             self.text = rest;
             self.recent.push(c);
-            return Ok(self.ready.begin(letter));
+            let first = self.ready.begin(letter);
+            self.at_text = self.ready.is_empty();
+            return Ok(first);
         }
         match letter.digit {
             Some(digit) => self.begin_number(c, digit, rest)?,
@@ -206,6 +247,7 @@ impl<'c, 'd, T: EncodedText> ElementCursor<'c, 'd, T> {
         };
         match read_number(self.tables, lead, c, digit, rest)? {
             Some((number, left)) => {
+                self.at_text = false;
                 self.piece = Some(Piece::Number(number));
                 self.text = left;
                 Ok(())
@@ -225,6 +267,7 @@ impl<'c, 'd, T: EncodedText> ElementCursor<'c, 'd, T> {
     {
         let (piece, left) = split_piece(self.tables, c, rest)?;
         let begun = read_piece(self.tables, self.recent, piece.as_slice())?;
+        self.at_text = false;
         self.piece = Some(begun);
         self.text = left;
         Ok(())

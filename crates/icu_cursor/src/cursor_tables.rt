@@ -83,15 +83,12 @@ impl<'d> CursorTables<'d> {
         letter.digit
     }
 
-    /// What is known of a character that isn't among those that are read most.
+    /// What is known of a character that is neither among those that are read most nor a Hangul syllable.
     #[tactic(auto, unfolding(crate::specs::Cursors::cursor_reading))]
-    pub(crate) fn other_letter(&self, c: char) -> Letter
+    pub(crate) fn rare_letter(&self, c: char) -> Letter
         ensures { Serves (cursor_reading self.now) c result }
     {
-        match self.syllable(c) {
-            Some(letter) => letter,
-            None => letter_of(&self.places, c),
-        }
+        letter_of(&self.places, c)
     }
 
     /// What is known of a Hangul syllable, where each of its jamo has one element wherever it stands.

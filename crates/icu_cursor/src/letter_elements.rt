@@ -1,6 +1,6 @@
 //! The elements of a letter, one by one.
 
-ghost use Rattle.std.specs.Prelude.{◌≡◌, ◌≤◌, [], ◌++◌, None, drop, option_to_list};
+ghost use Rattle.std.specs.Prelude.{◌≡◌, ◌≤◌, [], ◌++◌, None, IsTrue, drop, option_to_list};
 ghost use Rattle.icu_shortcuts.specs.Letters.{letter_elements};
 
 use icu_entries::CollationElement;
@@ -59,6 +59,14 @@ impl LetterElements {
         }
         *self = LetterElements::after_first(letter);
         Some(first)
+    }
+
+    /// Whether none is left.
+    #[inline(always)]
+    pub(crate) fn is_empty(&self) -> bool
+        ensures { IsTrue result → elements_ready self.now ≡ [] }
+    {
+        self.next >= self.count
     }
 
     /// The first of them, which is given.

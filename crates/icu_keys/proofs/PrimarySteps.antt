@@ -1,5 +1,5 @@
 -- The bytes of one primary.
-use Rattle.std.proofs.Common.{◌≡◌, ◌≢◌, ℕ, List, ◌++◌, refl, sym, ap, ap₂, ◌∙◌, append_assoc}
+use Rattle.std.proofs.Common.{◌≡◌, ◌≢◌, ℕ, List, ◌++◌, sym, ap, ap₂, ◌∙◌, append_assoc}
 use Rattle.icu_levels.proofs.CompressionOrder.{other_lead}
 use Rattle.icu_levels.specs.WeightBytes.{weight_bytes}
 use Rattle.icu_levels.specs.Primaries.{lead, below_lead, lead_change, primary_bytes}

@@ -36,7 +36,7 @@ impl CollationKeySink for Vec<u8> {
         self.extend_from_slice(buf)
     }
 
-    #[inline]
+    #[inline(always)]
     fn write_byte(&mut self, _state: &mut (), byte: u8) -> Result<(), AllocError> {
         self.push(byte)?;
         Ok(())
@@ -75,7 +75,7 @@ impl<const N: usize> CollationKeySink for SmallVec<u8, N> {
         self.extend_from_slice(bytes)
     }
 
-    #[inline]
+    #[inline(always)]
     fn write_byte(&mut self, _state: &mut (), byte: u8) -> Result<(), AllocError> {
         self.push(byte)?;
         Ok(())
@@ -118,7 +118,7 @@ impl CollationKeySink for VecDeque<u8> {
         Ok(())
     }
 
-    #[inline]
+    #[inline(always)]
     fn write_byte(&mut self, _state: &mut (), byte: u8) -> Result<(), AllocError> {
         self.push_back(byte)?;
         Ok(())

@@ -17,7 +17,9 @@ use crate::held::secondaries::HeldSecondaries;
 use crate::held::tertiaries::HeldTertiaries;
 use crate::primaries::{PrimaryCompression, PrimaryWriter};
 use crate::sink::CollationKeySink;
+use crate::tertiaries::common_of;
 use icu_levels::forms::TertiaryForm;
+use icu_levels::run_bytes::SECONDARY_RUNS;
 use std::alloc::{AllocError, Global};
 
 /// Writes a primary weight, unless it is 0.
@@ -70,6 +72,39 @@ fn push_tertiary(
         return Ok(());
     }
     level.push_in_form(form, weight)
+}
+
+/// Adds the secondary and the tertiary weight of an element, each unless it is 0. Where both are common, both are
+/// counted after one test.
+#[inline(always)]
+fn push_held(
+    secondaries: &mut HeldSecondaries,
+    tertiaries: &mut HeldTertiaries,
+    form: TertiaryForm,
+    secondary: u16,
+    tertiary: u16,
+) -> Result<(), AllocError>
+    requires form { held_tertiary_form tertiaries.old ≡ form }
+    requires fits { moved_tertiary form tertiary < 2 ^ 16 }
+    ensures form { held_tertiary_form tertiaries.new ≡ held_tertiary_form tertiaries.old }
+    ensures secondaries { OnOk result ((ws : List ℕ) →
+        held_secondaries secondaries.old (weight_before secondary ws) ≡ held_secondaries secondaries.new ws) }
+    ensures tertiaries { OnOk result ((ws : List ℕ) →
+        held_tertiaries tertiaries.old (weight_before tertiary ws) ≡ held_tertiaries tertiaries.new ws) }
+{
+    if u64::from(secondary) == SECONDARY_RUNS.common && tertiary == common_of(form) {
+        let counts = (
+            secondaries.count_with_one_more(),
+            tertiaries.count_with_one_more(),
+        );
+        if let (Some(one), Some(other)) = counts {
+            secondaries.push_common(one);
+            tertiaries.push_common(other);
+            return Ok(());
+        }
+    }
+    push_secondary(secondaries, secondary)?;
+    push_tertiary(tertiaries, form, tertiary)
 }
 
 /// Writes the primary, secondary and tertiary level of a text, secondaries from the front and tertiaries in one of
@@ -167,10 +202,8 @@ impl ThreeLevelWriter {
         if let Err(error) = push_primary(&mut self.primaries, sink, state, compression, primary) {
             return Err(SortKeyError::Sink(error));
         }
-        if push_secondary(&mut self.secondaries, secondary).is_err() {
-            return Err(SortKeyError::NoMemory);
-        }
-        match push_tertiary(&mut self.tertiaries, form, tertiary) {
+        let (later, last) = (&mut self.secondaries, &mut self.tertiaries);
+        match push_held(later, last, form, secondary, tertiary) {
             Ok(()) => Ok(()),
             Err(_) => Err(SortKeyError::NoMemory),
         }

@@ -1,6 +1,6 @@
 //! The secondary level, held until its end.
 
-ghost use Rattle.std.specs.Prelude.{◌≡◌, ℕ, List, [], ◌∷◌, OnOk, IfOk};
+ghost use Rattle.std.specs.Prelude.{◌≡◌, ℕ, ◌+◌, List, [], ◌∷◌, OnOk, IfOk, IfSome};
 ghost use Rattle.icu_levels.specs.Secondaries.{secondary_level};
 ghost use Rattle.icu_levels.specs.Keys.{part_bytes, opened, closed};
 ghost use Rattle.icu_keys.specs.Writes.{Writes};
@@ -42,12 +42,30 @@ impl HeldSecondaries {
             held_secondaries self.old (weight ∷ ws) ≡ held_secondaries self.new ws) }
     {
         if u64::from(weight) == SECONDARY_RUNS.common {
-            if let Some(more) = one_more(self.commons) {
-                self.commons = more;
+            if let Some(count) = self.count_with_one_more() {
+                self.push_common(count);
                 return Ok(());
             }
         }
         self.push_next(weight)
+    }
+
+    /// How many common weights are counted, with one more, unless 32 bits don't hold that.
+    #[inline(always)]
+    pub(crate) fn count_with_one_more(&self) -> Option<u32>
+        ensures { IfSome result (λ n. n ≡ self.now.commons + 1) }
+    {
+        one_more(self.commons)
+    }
+
+    /// Adds a common weight, with which so many are counted.
+    #[inline(always)]
+    pub(crate) fn push_common(&mut self, count: u32)
+        requires { count ≡ self.old.commons + 1 }
+        ensures { (ws : List ℕ) →
+            held_secondaries self.old (SECONDARY_RUNS.common ∷ ws) ≡ held_secondaries self.new ws }
+    {
+        self.commons = count;
     }
 
     /// Feeds the counted weights to the writer, and then the next one.

@@ -7,4 +7,4 @@ pub returns-then-stands_before-clause-next : goal.returns-then-stands_before-cla
 unfolding cursor_gives
 returns-then-stands_before-clause-next g c =
     letter_begun (cursor_reading c.args.self.now.tables.now) _ _ _ c.requires.nothing.letter c.requires.nothing.piece c.args.c c.args.letter.now _ (g.T.EncodedText.text c.args.rest) _
-    (option_to_list c.begin.result) _ c.requires.text (c.stands_before.ensures c.args.c c.requires.letter c.if-stands_before.true) c.begin.ensures c.push.ensures
+    (option_to_list c.begin-first.result) _ c.requires.text (c.stands_before.ensures c.args.c c.requires.letter c.if-stands_before.true) c.begin-first.ensures c.push.ensures

@@ -1,6 +1,6 @@
 use Rattle.std.proofs.Common.{◌∷◌, ap, sym, ◌∙◌, rules}
 use Rattle.icu_cursor.specs.Cursors.{cursor_reading, cursor_gives}
-use Rattle.icu_cursor.proofs.CursorLemmas.{no_piece, lone_read}
+use Rattle.icu_cursor.proofs.CursorLemmas.{lone_read}
 use Rattle.icu_cursor.proofs.cursor.ElementCursor.take_ascii.Goals as goal
 
 pub returns-in-Starters : goal.returns-in-Starters
@@ -10,6 +10,6 @@ returns-in-Starters g c =
     let l = c.in_ok-letter.letter.now in
     let first = c.in_ok-byte.ensures.first ∙ ap (λ b. b ∷ rest) (sym c.from-c.ensures) in
     let stands = c.in_ok-letter.ensures.starters c.in-Starters.is rest in record {
-      next = lone_read (cursor_reading c.args.self.now.tables.now) _ _ _ c.requires (no_piece _ (sym c.is_some.ensures ∙ c.if-is_some.false))
+      next = lone_read (cursor_reading c.args.self.now.tables.now) _ _ _ c.requires.letter c.requires.piece
           c.from-c.result l _ rest _ _ _ first stands c.push.ensures c.if-letter-eq1.true (search rules) c.index-elements-0.is;
     }
