@@ -3,7 +3,6 @@
 //! A key's primaries go straight to the caller's sink, since their level comes first. Each later level is fed beside
 //! them and held until all before it are written.
 
-ghost use Rattle.std.specs.Prelude.{◌≡◌, ◌+◌, IfSome};
 ghost use Rattle.icu_keys.specs.Writes.{Writes};
 
 use crate::sink::CollationKeySink;
@@ -34,13 +33,4 @@ pub(crate) fn write_held<S: CollationKeySink>(
         return Ok(());
     }
     sink.write(state, bytes.as_slice())
-}
-
-/// One more than a count, unless 32 bits don't hold that.
-#[inline(always)]
-pub(crate) fn one_more(count: u32) -> Option<u32>
-    ensures { IfSome result (λ n. n ≡ count + 1) }
-{
-    let more = count.wrapping_add(1);
-    if more == 0 { None } else { Some(more) }
 }

@@ -22,6 +22,9 @@ use icu_levels::forms::TertiaryForm;
 use icu_levels::run_bytes::SECONDARY_RUNS;
 use std::alloc::{AllocError, Global};
 
+/// Up to so many weights both levels count at once, together: 32 bits hold what each counts.
+const COUNTED_AT_ONCE: u64 = 0x7FFF_FFFF;
+
 /// Writes a primary weight, unless it is 0.
 #[inline(always)]
 fn push_primary<S: CollationKeySink, C: PrimaryCompression>(
@@ -74,8 +77,8 @@ fn push_tertiary(
     level.push_in_form(form, weight)
 }
 
-/// Adds the secondary and the tertiary weight of an element, each unless it is 0. Where both are common, both are
-/// counted after one test.
+/// Adds the secondary and the tertiary weight of an element, each unless it is 0. Where both are common, as most are,
+/// both are counted after one test: `&` stands in place of `&&`, which would jump after each.
 #[inline(always)]
 fn push_held(
     secondaries: &mut HeldSecondaries,
@@ -92,16 +95,13 @@ fn push_held(
     ensures tertiaries { OnOk result ((ws : List ℕ) →
         held_tertiaries tertiaries.old (weight_before tertiary ws) ≡ held_tertiaries tertiaries.new ws) }
 {
-    if u64::from(secondary) == SECONDARY_RUNS.common && tertiary == common_of(form) {
-        let counts = (
-            secondaries.count_with_one_more(),
-            tertiaries.count_with_one_more(),
-        );
-        if let (Some(one), Some(other)) = counts {
-            secondaries.push_common(one);
-            tertiaries.push_common(other);
-            return Ok(());
-        }
+    let are_common = (u64::from(secondary) == SECONDARY_RUNS.common)
+        & (tertiary == common_of(form));
+    let counted = u64::from(secondaries.commons()) + u64::from(tertiaries.commons());
+    if are_common & (counted < COUNTED_AT_ONCE) {
+        secondaries.count_common();
+        tertiaries.count_common();
+        return Ok(());
     }
     push_secondary(secondaries, secondary)?;
     push_tertiary(tertiaries, form, tertiary)

@@ -1,11 +1,11 @@
 //! The secondary level, held until its end.
 
-ghost use Rattle.std.specs.Prelude.{◌≡◌, ℕ, ◌+◌, List, [], ◌∷◌, OnOk, IfOk, IfSome};
+ghost use Rattle.std.specs.Prelude.{◌≡◌, ◌<◌, ℕ, List, [], ◌∷◌, OnOk, IfOk};
 ghost use Rattle.icu_levels.specs.Secondaries.{secondary_level};
 ghost use Rattle.icu_levels.specs.Keys.{part_bytes, opened, closed};
 ghost use Rattle.icu_keys.specs.Writes.{Writes};
 
-use crate::held::{INLINE, one_more, write_held};
+use crate::held::{INLINE, write_held};
 use crate::parts::LEVEL;
 use crate::secondaries::SecondaryWriter;
 use crate::sink::CollationKeySink;
@@ -41,31 +41,29 @@ impl HeldSecondaries {
         ensures { OnOk result ((ws : List ℕ) →
             held_secondaries self.old (weight ∷ ws) ≡ held_secondaries self.new ws) }
     {
-        if u64::from(weight) == SECONDARY_RUNS.common {
-            if let Some(count) = self.count_with_one_more() {
-                self.push_common(count);
-                return Ok(());
-            }
+        if u64::from(weight) == SECONDARY_RUNS.common && self.commons < u32::MAX {
+            self.count_common();
+            return Ok(());
         }
         self.push_next(weight)
     }
 
-    /// How many common weights are counted, with one more, unless 32 bits don't hold that.
+    /// How many common weights are counted, and not written yet.
     #[inline(always)]
-    pub(crate) fn count_with_one_more(&self) -> Option<u32>
-        ensures { IfSome result (λ n. n ≡ self.now.commons + 1) }
+    pub(crate) fn commons(&self) -> u32
+        ensures { result ≡ self.now.commons }
     {
-        one_more(self.commons)
+        self.commons
     }
 
-    /// Adds a common weight, with which so many are counted.
+    /// Adds a common weight.
     #[inline(always)]
-    pub(crate) fn push_common(&mut self, count: u32)
-        requires { count ≡ self.old.commons + 1 }
+    pub(crate) fn count_common(&mut self)
+        requires { self.old.commons < u32.MAX }
         ensures { (ws : List ℕ) →
             held_secondaries self.old (SECONDARY_RUNS.common ∷ ws) ≡ held_secondaries self.new ws }
     {
-        self.commons = count;
+        self.commons += 1;
     }
 
     /// Feeds the counted weights to the writer, and then the next one.

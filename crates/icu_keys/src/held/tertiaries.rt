@@ -1,11 +1,11 @@
 //! The tertiary level, held until its end.
 
-ghost use Rattle.std.specs.Prelude.{◌≡◌, ℕ, ◌+◌, ◌<◌, ◌^◌, List, [], ◌∷◌, OnOk, IfOk, IfSome};
+ghost use Rattle.std.specs.Prelude.{◌≡◌, ℕ, ◌<◌, ◌^◌, List, [], ◌∷◌, OnOk, IfOk};
 ghost use Rattle.icu_levels.specs.Tertiaries.{moved_tertiary, tertiary_level, tertiary_runs};
 ghost use Rattle.icu_levels.specs.Keys.{part_bytes, opened, closed};
 ghost use Rattle.icu_keys.specs.Writes.{Writes};
 
-use crate::held::{INLINE, one_more, write_held};
+use crate::held::{INLINE, write_held};
 use crate::parts::LEVEL;
 use crate::sink::CollationKeySink;
 use crate::tertiaries::{TertiaryWriter, common_of};
@@ -63,33 +63,31 @@ impl HeldTertiaries {
         ensures bytes { OnOk result ((ws : List ℕ) →
             held_tertiaries self.old (weight ∷ ws) ≡ held_tertiaries self.new ws) }
     {
-        if weight == common_of(form) {
-            if let Some(count) = self.count_with_one_more() {
-                self.push_common(count);
-                return Ok(());
-            }
+        if weight == common_of(form) && self.commons < u32::MAX {
+            self.count_common();
+            return Ok(());
         }
         self.push_next(weight)
     }
 
-    /// How many common weights are counted, with one more, unless 32 bits don't hold that.
+    /// How many common weights are counted, and not written yet.
     #[inline(always)]
-    pub(crate) fn count_with_one_more(&self) -> Option<u32>
-        ensures { IfSome result (λ n. n ≡ self.now.commons + 1) }
+    pub(crate) fn commons(&self) -> u32
+        ensures { result ≡ self.now.commons }
     {
-        one_more(self.commons)
+        self.commons
     }
 
-    /// Adds a common weight, with which so many are counted.
+    /// Adds a common weight.
     #[inline(always)]
-    pub(crate) fn push_common(&mut self, count: u32)
-        requires { count ≡ self.old.commons + 1 }
+    pub(crate) fn count_common(&mut self)
+        requires { self.old.commons < u32.MAX }
         ensures form { held_tertiary_form self.new ≡ held_tertiary_form self.old }
         ensures bytes { (ws : List ℕ) →
             held_tertiaries self.old ((tertiary_runs (held_tertiary_form self.old)).common ∷ ws)
             ≡ held_tertiaries self.new ws }
     {
-        self.commons = count;
+        self.commons += 1;
     }
 
     /// Feeds the counted weights to the writer, and then the next one.
