@@ -8,7 +8,7 @@ use Rattle.icu_data.specs.LiveConditions.{IsGoodData, meets}
 use Rattle.icu_data.specs.StoredData.{data_of}
 use Rattle.icu_data.proofs.ListLemmas.{of_member}
 use Rattle.icu_matches.specs.GoodEntries.{IsGoodFrom}
-use Rattle.icu_table_bench.proofs.matches.match_in.Goals as goal
+use Rattle.icu_bench.proofs.matches.match_in.Goals as goal
 
 not_empty : (P : ℕ → Type 0) (b : Bool) (es : List ℕ) → b ≡ false → AllByRecursion P (if b then [] else es) → AllByRecursion P es
 not_empty P true es is all = cc
