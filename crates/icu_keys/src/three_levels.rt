@@ -1,6 +1,6 @@
 //! The primary, secondary and tertiary level of a key, written in one pass over the weights of elements.
 
-ghost use Rattle.std.specs.Prelude.{◌≡◌, ℕ, ◌<◌, ◌^◌, List, [], ◌++◌, OnOk};
+ghost use Rattle.std.specs.Prelude.{◌≡◌, ℕ, ◌+◌, ◌*◌, ◌<◌, ◌^◌, List, [], ◌++◌, OnOk};
 ghost use Rattle.icu_levels.specs.Keys.{part_bytes, closed};
 ghost use Rattle.icu_levels.specs.Primaries.{Compression, primary_level};
 ghost use Rattle.icu_levels.specs.Secondaries.{secondary_level};
@@ -77,8 +77,16 @@ fn push_tertiary(
     level.push_in_form(form, weight)
 }
 
+/// Two weights as one number, which says both.
+#[inline(always)]
+fn both(secondary: u16, tertiary: u16) -> u32
+    ensures { result ≡ tertiary * 0x10000 + secondary }
+{
+    u32::from(tertiary) * 0x1_0000 + u32::from(secondary)
+}
+
 /// Adds the secondary and the tertiary weight of an element, each unless it is 0. Where both are common, as most are,
-/// both are counted after one test: `&` stands in place of `&&`, which would jump after each.
+/// both are counted. One comparison says so: a jump less at each element.
 #[inline(always)]
 fn push_held(
     secondaries: &mut HeldSecondaries,
@@ -95,10 +103,10 @@ fn push_held(
     ensures tertiaries { OnOk result ((ws : List ℕ) →
         held_tertiaries tertiaries.old (weight_before tertiary ws) ≡ held_tertiaries tertiaries.new ws) }
 {
-    let are_common = (u64::from(secondary) == SECONDARY_RUNS.common)
-        & (tertiary == common_of(form));
     let counted = u64::from(secondaries.commons()) + u64::from(tertiaries.commons());
-    if are_common & (counted < COUNTED_AT_ONCE) {
+    let are_common = both(secondary, tertiary)
+        == both(SECONDARY_RUNS.common as u16, common_of(form));
+    if are_common && counted < COUNTED_AT_ONCE {
         secondaries.count_common();
         tertiaries.count_common();
         return Ok(());
