@@ -1,12 +1,13 @@
 #!/usr/bin/env python3
 """Builds the bench, runs it, and prints the table of docs/PERFORMANCE.md.
 
-usage: bench/run.py [--rounds N] [--root FILE] [--folder FOLDER] [--jobs N] [--built]
+usage: bench/run.py [--rounds N] [--root FILE] [--folder FOLDER] [--jobs N] [--shift N] [--built]
 
 --rounds N        how often each row is measured; the least time counts (100)
 --root FILE       FractionalUCA.txt of CLDR (where Debian's package unicode-cldr-core installs it; without the file only Mini is measured)
 --folder FOLDER   where proofs, programs and texts are kept, outside of the repository (collation-bench in the user's cache)
 --jobs N          passed on to `rt`
+--shift N         link the library so many bytes further (0)
 --built           measure with the program that the last run built, and build nothing
 
 The table goes to standard output, all else to standard error. Status 1: a text was not ordered as it should be.
@@ -91,14 +92,17 @@ def copy_library(crate):
     os.makedirs(os.path.join(crate, "c"), exist_ok=True)
 
 
-def build(program, folder, jobs):
-    """Builds the library and the program over it."""
+def build(program, folder, jobs, shift):
+    """Builds the library and the program over it, with so many bytes of nothing before the library's code."""
     copy = os.path.join(folder, "repository")
     copy_repository(copy)
     crate = os.path.join(copy, "crates", NAME)
     run(["rt", "lib", *(["--jobs", jobs] if jobs else [])], crate, RT_ALLOW_C=NAME)
+    before = os.path.join(folder, "shift.s")
+    with open(before, "w", encoding="utf-8") as it:
+        it.write(f".text\n.p2align 6\n.skip {shift}, 0x90\n.section .note.GNU-stack,\"\",@progbits\n")
     kit = os.path.dirname(os.path.dirname(os.path.realpath(shutil.which("rt"))))
-    words = [os.environ.get("CXX", "g++"), "-std=c++20", "-O2", "-Wall", "-o", program, os.path.join(HERE, "main.cpp")]
+    words = [os.environ.get("CXX", "g++"), "-std=c++20", "-O2", "-Wall", "-o", program, os.path.join(HERE, "main.cpp"), before]
     words += [os.path.join(crate, "out", f"lib{NAME}.a")]
     words += [os.path.join(kit, "c", it) for it in ("liblibc_c.a", "libos_c.a")]
     words += shlex.split(output(["pkg-config", "--cflags", "--libs", "icu-i18n", "icu-uc"]))
@@ -150,6 +154,7 @@ def asked():
     parser.add_argument("--root", default=ROOT)
     parser.add_argument("--folder", default=os.path.join(CACHE, "collation-bench"))
     parser.add_argument("--jobs")
+    parser.add_argument("--shift", type=int, default=0)
     parser.add_argument("--built", action="store_true")
     return parser.parse_args()
 
@@ -163,7 +168,7 @@ def main():
     os.makedirs(folder, exist_ok=True)
     program = os.path.join(folder, NAME)
     if not words.built:
-        build(program, folder, words.jobs)
+        build(program, folder, words.jobs, words.shift)
     elif not os.path.exists(program):
         sys.exit(f"bench: there is no program {program}: run without --built first")
     texts = os.path.join(folder, "texts")
