@@ -13,20 +13,26 @@ fn written(written: Result<(), SortKeyError<AllocError>>) -> Result<(), AllocErr
 
 /// The key of a text, or nothing where its encodings give different ones.
 fn key(alloc: Global, collator: &Collator, text: &Encoded) -> Result<Option<Vec<u8>>, AllocError> {
-    let borrowed = collator.as_borrowed();
     let mut key = Vec::new(alloc);
+    let borrowed = collator.as_borrowed();
     written(borrowed.write_sort_key_to(text.text.as_str(), &mut key))?;
-    let mut other = Vec::new(alloc);
-    written(borrowed.write_sort_key_utf8_to(text.utf8.as_slice(), &mut other))?;
-    if other.as_slice() != key.as_slice() {
-        return Ok(None);
-    }
-    let mut other = Vec::new(alloc);
-    written(borrowed.write_sort_key_utf16_to(text.utf16.as_slice(), &mut other))?;
-    if other.as_slice() != key.as_slice() {
-        return Ok(None);
-    }
-    Ok(Some(key))
+    let are_same = utf8_key(alloc, collator, text)?.as_slice() == key.as_slice()
+        && utf16_key(alloc, collator, text)?.as_slice() == key.as_slice();
+    Ok(if are_same { Some(key) } else { None })
+}
+
+fn utf8_key(alloc: Global, collator: &Collator, text: &Encoded) -> Result<Vec<u8>, AllocError> {
+    let mut key = Vec::new(alloc);
+    let borrowed = collator.as_borrowed();
+    written(borrowed.write_sort_key_utf8_to(text.utf8.as_slice(), &mut key))?;
+    Ok(key)
+}
+
+fn utf16_key(alloc: Global, collator: &Collator, text: &Encoded) -> Result<Vec<u8>, AllocError> {
+    let mut key = Vec::new(alloc);
+    let borrowed = collator.as_borrowed();
+    written(borrowed.write_sort_key_utf16_to(text.utf16.as_slice(), &mut key))?;
+    Ok(key)
 }
 
 /// Whether each call that compares the two texts, in the encodings that hold them, gives this order.
@@ -43,14 +49,25 @@ fn is_order(
     {
         return Ok(false);
     }
-    let Some(latin1) = &left.latin1 else {
-        return Ok(true);
-    };
-    if borrowed.compare_latin1_utf16(latin1.as_slice(), right.utf16.as_slice())? != order {
+    match &left.latin1 {
+        Some(latin1) => is_latin1_order(collator, latin1.as_slice(), right, order),
+        None => Ok(true),
+    }
+}
+
+/// Whether each call that compares a text in Latin-1 with another one gives this order.
+fn is_latin1_order(
+    collator: &Collator,
+    left: &[u8],
+    right: &Encoded,
+    order: Ordering,
+) -> Result<bool, AllocError> {
+    let borrowed = collator.as_borrowed();
+    if borrowed.compare_latin1_utf16(left, right.utf16.as_slice())? != order {
         return Ok(false);
     }
     match &right.latin1 {
-        Some(other) => Ok(borrowed.compare_latin1(latin1.as_slice(), other.as_slice())? == order),
+        Some(right) => Ok(borrowed.compare_latin1(left, right.as_slice())? == order),
         None => Ok(true),
     }
 }

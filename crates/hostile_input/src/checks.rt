@@ -1,8 +1,7 @@
 //! Checks of tables, as often as is asked for, so that they can be timed.
-use crate::damaged_tables::set;
+use crate::damaged_tables::by_constructors;
 use crate::fault::Fault;
 use crate::timed_root::{root_like_cldr, tailoring_like_cldr};
-use icu_checks::CheckedTables;
 use icu_data::{Context, ContextRow};
 use icu_mini::mini::Mini;
 use icu_owned_data::DataVectors;
@@ -13,7 +12,7 @@ use std::io;
 const CONTRACTION_CE32: u32 = 0xC9;
 
 /// Tables whose check is timed.
-#[derive(Debug, Clone, Copy, PartialEq, Eq)]
+#[derive(Clone, Copy)]
 pub(crate) enum TimedTables {
     /// Mini.
     Mini,
@@ -46,25 +45,40 @@ impl TimedTables {
         }
     }
 
-    fn tables(self, alloc: Global) -> Result<Mini, AllocError> {
-        let mut mini = match self {
-            TimedTables::Tailored => Mini::with_swapped_leads(alloc)?,
-            _ => Mini::new(alloc)?,
-        };
+    /// The root that stands in the place of Mini's, if there is one.
+    fn root(self, alloc: Global) -> Option<Result<DataVectors, AllocError>> {
         match self {
-            TimedTables::Mini => {}
-            TimedTables::Lists => mini.root = of_lists(alloc)?,
-            TimedTables::Rows => mini.root = of_rows(alloc, 100)?,
-            TimedTables::ListedRows => mini.root = of_listed_rows(alloc)?,
-            TimedTables::ManyRows => mini.root = of_rows(alloc, 0x10000)?,
-            TimedTables::Root => mini.root = root_like_cldr(alloc)?,
-            TimedTables::Tailored => {
-                mini.root = root_like_cldr(alloc)?;
-                mini.tailoring = Some(tailoring_like_cldr(alloc)?);
-            }
+            TimedTables::Mini => None,
+            TimedTables::Lists => Some(of_lists(alloc)),
+            TimedTables::Rows => Some(of_rows(alloc, 100)),
+            TimedTables::ListedRows => Some(of_listed_rows(alloc)),
+            TimedTables::ManyRows => Some(of_rows(alloc, 0x10000)),
+            TimedTables::Root | TimedTables::Tailored => Some(root_like_cldr(alloc)),
+        }
+    }
+
+    /// The tables that the root stands in.
+    fn others(self, alloc: Global) -> Result<Mini, AllocError> {
+        match self {
+            TimedTables::Tailored => tailored(alloc),
+            _ => Mini::new(alloc),
+        }
+    }
+
+    fn tables(self, alloc: Global) -> Result<Mini, AllocError> {
+        let mut mini = self.others(alloc)?;
+        if let Some(root) = self.root(alloc) {
+            mini.root = root?;
         }
         Ok(mini)
     }
+}
+
+/// Mini with a reordering and with a tailoring of the size of one of CLDR's.
+fn tailored(alloc: Global) -> Result<Mini, AllocError> {
+    let mut mini = Mini::with_swapped_leads(alloc)?;
+    mini.tailoring = Some(tailoring_like_cldr(alloc)?);
+    Ok(mini)
 }
 
 /// The entry of a list of 31 elements, by the list's number.
@@ -177,11 +191,7 @@ fn stored(mini: &Mini) -> usize {
 
 /// Prints what a check of the tables comes to.
 fn check(rt: &HostRuntime, mini: &Mini) -> io::Result<()> {
-    let checked = match set(mini) {
-        Ok(tables) => CheckedTables::from_set(rt.alloc(), tables),
-        Err(refusal) => Err(refusal),
-    };
-    match checked {
+    match by_constructors(rt.alloc(), mini) {
         Ok(_) => println!(rt; "accepted"),
         Err(refusal) => println!(rt; "refused {refusal:?}"),
     }
@@ -189,10 +199,13 @@ fn check(rt: &HostRuntime, mini: &Mini) -> io::Result<()> {
 
 /// Prints how many numbers tables store, and checks them as often as is asked for: each single table, and all together.
 pub(crate) fn run(rt: &HostRuntime, tables: TimedTables, times: u64) -> Result<(), Fault> {
-    let mini = tables.tables(rt.alloc())?;
-    println!(rt; "numbers {}", stored(&mini))?;
+    Ok(check_times(rt, &tables.tables(rt.alloc())?, times)?)
+}
+
+fn check_times(rt: &HostRuntime, mini: &Mini, times: u64) -> io::Result<()> {
+    println!(rt; "numbers {}", stored(mini))?;
     for _ in 0..times {
-        check(rt, &mini)?;
+        check(rt, mini)?;
     }
     Ok(())
 }

@@ -9,10 +9,11 @@ use crate::settings::collator_by;
 use crate::tally::Tally;
 use icu_checks::CheckedTables;
 use icu_comparison::Collator;
+use icu_data::CollationData;
 use icu_entries::{DataError, DataErrorKind, DataTable};
 use icu_mini::mini::Mini;
 use icu_options::{CollatorOptions, CollatorPreferences, Strength};
-use icu_provider::TableSet;
+use icu_provider::{CollationReordering, TableSet};
 use std::alloc::{AllocError, Global};
 
 /// How many pairs of texts an accepted set orders.
@@ -37,35 +38,39 @@ fn there<T>(table: DataTable, loaded: Option<T>) -> Result<T, DataError> {
     }
 }
 
+/// The tailoring, if the metadata names one.
+fn tailoring(mini: &Mini) -> Result<Option<CollationData<'_>>, DataError> {
+    if !mini.metadata.tailored() {
+        return Ok(None);
+    }
+    let loaded = named(DataTable::Tailoring, mini.load_tailoring())?;
+    Ok(Some(there(DataTable::Tailoring, loaded)?))
+}
+
+/// The reordering, if the metadata names one.
+fn reordering(mini: &Mini) -> Result<Option<CollationReordering<'_>>, DataError> {
+    if !mini.metadata.reordering() {
+        return Ok(None);
+    }
+    let loaded = named(DataTable::Reordering, mini.load_reordering())?;
+    Ok(Some(there(DataTable::Reordering, loaded)?))
+}
+
 /// The tables by their constructors, in the order in which a collator loads them.
-pub(crate) fn set(mini: &Mini) -> Result<TableSet<'_>, DataError> {
-    let root = named(DataTable::Root, mini.load_root())?;
-    let jamo = named(DataTable::Jamo, mini.load_jamo())?;
-    let special = named(DataTable::SpecialPrimaries, mini.load_special_primaries())?;
-    let metadata = mini.metadata;
-    let mut tailoring = None;
-    if metadata.tailored() {
-        let loaded = named(DataTable::Tailoring, mini.load_tailoring())?;
-        tailoring = Some(there(DataTable::Tailoring, loaded)?);
-    }
-    let mut reordering = None;
-    if metadata.reordering() {
-        let loaded = named(DataTable::Reordering, mini.load_reordering())?;
-        reordering = Some(there(DataTable::Reordering, loaded)?);
-    }
-    let diacritics = named(DataTable::Diacritics, mini.load_diacritics())?;
+fn set(mini: &Mini) -> Result<TableSet<'_>, DataError> {
     Ok(TableSet {
-        root,
-        jamo,
-        special,
-        metadata,
-        tailoring,
-        reordering,
-        diacritics,
+        root: named(DataTable::Root, mini.load_root())?,
+        jamo: named(DataTable::Jamo, mini.load_jamo())?,
+        special: named(DataTable::SpecialPrimaries, mini.load_special_primaries())?,
+        metadata: mini.metadata,
+        tailoring: tailoring(mini)?,
+        reordering: reordering(mini)?,
+        diacritics: named(DataTable::Diacritics, mini.load_diacritics())?,
     })
 }
 
-fn by_constructors(alloc: Global, mini: &Mini) -> Result<CheckedTables, DataError> {
+/// These tables, checked together.
+pub(crate) fn by_constructors(alloc: Global, mini: &Mini) -> Result<CheckedTables, DataError> {
     CheckedTables::from_set(alloc, set(mini)?)
 }
 
@@ -89,6 +94,21 @@ fn orders(alloc: Global, dice: &mut Dice, collator: &Collator) -> Result<bool, A
     Ok(true)
 }
 
+/// Counts what the provider's way made of tables, beside the refusal of the other way.
+fn count(
+    alloc: Global,
+    dice: &mut Dice,
+    checked: Option<DataError>,
+    made: Result<Collator, DataError>,
+    tally: &mut Tally,
+) -> Result<(), AllocError> {
+    match made {
+        Ok(collator) => tally.accept(checked.is_none(), orders(alloc, dice, &collator)?),
+        Err(refusal) => tally.refuse(checked == Some(refusal), refusal.kind),
+    }
+    Ok(())
+}
+
 /// Counts what both ways make of tables. Those of the provider are another copy, which is damaged in one more place
 /// where the check is to fail.
 fn judge(
@@ -103,16 +123,7 @@ fn judge(
         damage(dice, &mut loaded)?;
     }
     let checked = by_constructors(alloc, mini).err();
-    let made = by_provider(alloc, &loaded);
-    let agreed = match &made {
-        Ok(_) => checked.is_none(),
-        Err(refusal) => checked == Some(*refusal),
-    };
-    match made {
-        Ok(collator) => tally.accept(agreed, orders(alloc, dice, &collator)?),
-        Err(refusal) => tally.refuse(agreed, refusal.kind),
-    }
-    Ok(())
+    count(alloc, dice, checked, by_provider(alloc, &loaded), tally)
 }
 
 /// Damages tables of each base, and judges them: so many sets from one number on.
@@ -150,11 +161,22 @@ fn judge_base(
     for place in 0..count {
         let number = first.saturating_add(place);
         if number % u64::from(BASES) == base {
-            let mut dice = Dice::new(number);
-            let mut damaged = copied(alloc, mini)?;
-            damage(&mut dice, &mut damaged)?;
-            judge(alloc, &mut dice, &damaged, spoiled, tally)?;
+            judge_damaged(alloc, mini, number, spoiled, tally)?;
         }
     }
     Ok(())
+}
+
+/// Damages tables by the choices of a number, and judges them.
+fn judge_damaged(
+    alloc: Global,
+    mini: &Mini,
+    number: u64,
+    spoiled: bool,
+    tally: &mut Tally,
+) -> Result<(), AllocError> {
+    let mut dice = Dice::new(number);
+    let mut damaged = copied(alloc, mini)?;
+    damage(&mut dice, &mut damaged)?;
+    judge(alloc, &mut dice, &damaged, spoiled, tally)
 }

@@ -2,7 +2,7 @@
 use std::alloc::{AllocError, Global};
 
 /// A text in each encoding that can hold it, well formed or not: damage is U+FFFD in the characters.
-#[derive(Debug, Drop)]
+#[derive(Drop)]
 pub(crate) struct Encoded {
     pub(crate) text: String,
     pub(crate) utf8: Vec<u8>,

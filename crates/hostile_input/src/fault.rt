@@ -4,7 +4,7 @@ use std::alloc::AllocError;
 use std::io;
 
 /// Why a run ends before its end.
-#[derive(Debug, Clone, Copy, PartialEq, Eq)]
+#[derive(Debug, Clone, Copy)]
 pub(crate) enum Fault {
     /// An allocation failed.
     NoMemory,

@@ -4,7 +4,7 @@ use crate::settings::{Setting, collator_by};
 use icu_comparison::{Collator, SortKeyError};
 use icu_mini::mini::Mini;
 use icu_options::{CollationNumericOrdering, CollatorOptions, CollatorPreferences, Strength};
-use icu_owned_data::DataBuilder;
+use icu_owned_data::{DataBuilder, DataVectors};
 use std::alloc::{AllocError, Global};
 
 /// The entry of a character that begins contractions, by context 0.
@@ -14,7 +14,7 @@ const CONTRACTION_CE32: u32 = 0xC9;
 const FALLBACK_CE32: u32 = 0xC0;
 
 /// What a long text is made of.
-#[derive(Debug, Clone, Copy, PartialEq, Eq)]
+#[derive(Clone, Copy)]
 pub(crate) enum Kind {
     /// Letters, of which the first differs in case.
     Letters,
@@ -58,37 +58,51 @@ impl Kind {
         }
     }
 
-    /// Two texts of some `count` characters.
-    fn texts(self, alloc: Global, count: u64) -> Result<(String, String), AllocError> {
-        let half = count / 2;
+    /// The parts of two texts of some `count` characters.
+    fn parts(self, count: u64) -> [Parts; 2] {
+        let (half, less) = (count / 2, count.saturating_sub(1));
         match self {
-            Kind::Letters => Ok((
-                text(alloc, &[("a", count)])?,
-                text(alloc, &[("A", 1), ("a", count.saturating_sub(1))])?,
-            )),
-            Kind::Marks => Ok((
-                text(alloc, &[("a", 1), ("\u{301}\u{323}", half)])?,
-                text(alloc, &[("a", 1), ("\u{323}", half), ("\u{301}", half)])?,
-            )),
-            Kind::Digits => Ok((
-                text(alloc, &[("1", 1), ("0", count)])?,
-                text(alloc, &[("1", 1), ("0", count.saturating_sub(1)), ("1", 1)])?,
-            )),
-            Kind::Beginnings => Ok((
-                text(alloc, &[("a", count), ("b", 1)])?,
-                text(alloc, &[("a", count), ("c", 1)])?,
-            )),
-            Kind::Passed => Ok((
-                text(alloc, &[("a", 1), ("\u{323}", count), ("\u{30A}", 1)])?,
-                text(alloc, &[("å", 1), ("\u{323}", count)])?,
-            )),
-            Kind::Unended => Ok((
-                text(alloc, &[("a\u{323}", half)])?,
-                text(alloc, &[("a\u{323}", half), ("\u{30A}", 1)])?,
-            )),
+            Kind::Letters => [
+                [("a", count), NOTHING, NOTHING],
+                [("A", 1), ("a", less), NOTHING],
+            ],
+            Kind::Marks => [
+                [("a", 1), ("\u{301}\u{323}", half), NOTHING],
+                [("a", 1), ("\u{323}", half), ("\u{301}", half)],
+            ],
+            Kind::Digits => [
+                [("1", 1), ("0", count), NOTHING],
+                [("1", 1), ("0", less), ("1", 1)],
+            ],
+            Kind::Beginnings => [
+                [("a", count), ("b", 1), NOTHING],
+                [("a", count), ("c", 1), NOTHING],
+            ],
+            Kind::Passed => [
+                [("a", 1), ("\u{323}", count), ("\u{30A}", 1)],
+                [("å", 1), ("\u{323}", count), NOTHING],
+            ],
+            Kind::Unended => [
+                [("a\u{323}", half), NOTHING, NOTHING],
+                [("a\u{323}", half), ("\u{30A}", 1), NOTHING],
+            ],
         }
     }
 }
+
+impl Kind {
+    /// Two texts of some `count` characters.
+    fn texts(self, alloc: Global, count: u64) -> Result<(String, String), AllocError> {
+        let [left, right] = self.parts(count);
+        Ok((text(alloc, &left)?, text(alloc, &right)?))
+    }
+}
+
+/// The parts of a text, each as often as its number says.
+type Parts = [(&'static str, u64); 3];
+
+/// A part of no text.
+const NOTHING: (&str, u64) = ("", 0);
 
 /// A text of parts, each as often as its number says.
 fn text(alloc: Global, parts: &[(&str, u64)]) -> Result<String, AllocError> {
@@ -106,9 +120,8 @@ fn push_repeated(text: &mut String, part: &str, count: u64) -> Result<(), AllocE
     Ok(())
 }
 
-/// Mini where "a" begins the contractions "ab", "aab" and so on, up to seven times "a".
-fn with_beginnings(alloc: Global, strength: Strength) -> Result<Collator, Fault> {
-    let mut mini = Mini::new(alloc)?;
+/// A tailoring in which "a" begins the contractions "ab", "aab" and so on, up to six times "a".
+fn beginnings(alloc: Global) -> Result<DataVectors, Fault> {
     let mut builder = DataBuilder::new(alloc, FALLBACK_CE32)?;
     builder.set_entry('a', CONTRACTION_CE32);
     let letter = 0x6210_0505;
@@ -124,7 +137,13 @@ fn with_beginnings(alloc: Global, strength: Strength) -> Result<Collator, Fault>
             (&['b'], letter),
         ],
     )?;
-    mini.tailoring = Some(builder.build()?);
+    Ok(builder.build()?)
+}
+
+/// A collator by Mini with that tailoring.
+fn with_beginnings(alloc: Global, strength: Strength) -> Result<Collator, Fault> {
+    let mut mini = Mini::new(alloc)?;
+    mini.tailoring = Some(beginnings(alloc)?);
     mini.metadata.bits = 0x09;
     let options = CollatorOptions {
         strength: Some(strength),
@@ -144,18 +163,28 @@ fn key_length(alloc: Global, collator: &Collator, text: &str) -> Result<usize, A
     }
 }
 
-/// Prints the order of two long texts at the strength Identical, and how many bytes the first one's key has at Primary,
-/// as often as is asked for.
-pub(crate) fn run(rt: &HostRuntime, kind: Kind, count: u64, times: u64) -> Result<(), Fault> {
-    let identical = kind.collator(rt.alloc(), Strength::Identical)?;
-    let primary = kind.collator(rt.alloc(), Strength::Primary)?;
-    let (left, right) = kind.texts(rt.alloc(), count)?;
+fn print_times(
+    rt: &HostRuntime,
+    collators: (&Collator, &Collator),
+    texts: (&str, &str),
+    times: u64,
+) -> Result<(), Fault> {
+    let (identical, primary) = collators;
+    let (left, right) = texts;
     for _ in 0..times {
-        let order = identical
-            .as_borrowed()
-            .compare(left.as_str(), right.as_str())?;
-        let length = key_length(rt.alloc(), &primary, left.as_str())?;
+        let order = identical.as_borrowed().compare(left, right)?;
+        let length = key_length(rt.alloc(), primary, left)?;
         println!(rt; "{order:?}, {length} bytes")?;
     }
     Ok(())
+}
+
+/// Prints the order of two long texts at the strength Identical, and how many bytes the first one's key has at Primary,
+/// as often as is asked for.
+pub(crate) fn run(rt: &HostRuntime, kind: Kind, count: u64, times: u64) -> Result<(), Fault> {
+    let (left, right) = kind.texts(rt.alloc(), count)?;
+    let identical = kind.collator(rt.alloc(), Strength::Identical)?;
+    let primary = kind.collator(rt.alloc(), Strength::Primary)?;
+    let collators = (&identical, &primary);
+    print_times(rt, collators, (left.as_str(), right.as_str()), times)
 }

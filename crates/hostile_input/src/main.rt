@@ -72,33 +72,61 @@ fn run_few(rt: &HostRuntime) -> Result<(), Fault> {
     checks::run(rt, TimedTables::ListedRows, 1)
 }
 
+/// So many sets of tables or texts from one number on; whether the check is to fail.
+#[derive(Clone, Copy)]
+struct Numbers {
+    first: u64,
+    count: u64,
+    spoiled: bool,
+}
+
+fn numbers_in(words: &[&str]) -> Result<Numbers, Fault> {
+    let [first, count, rest @ ..] = words else {
+        return Err(Fault::WrongWords);
+    };
+    Ok(Numbers {
+        first: number(first)?,
+        count: number(count)?,
+        spoiled: spoiled(rest)?,
+    })
+}
+
+fn run_tables(rt: &HostRuntime, numbers: Numbers) -> Result<(), Fault> {
+    let (first, count) = (numbers.first, numbers.count);
+    Ok(damaged_tables::run(rt.alloc(), first, count, numbers.spoiled)?.print(rt)?)
+}
+
+fn run_texts(rt: &HostRuntime, numbers: Numbers) -> Result<(), Fault> {
+    let (first, count) = (numbers.first, numbers.count);
+    Ok(random_texts::run(rt.alloc(), first, count, numbers.spoiled)?.print(rt)?)
+}
+
+fn run_readers(rt: &HostRuntime, numbers: Numbers) -> Result<(), Fault> {
+    let (first, count) = (numbers.first, numbers.count);
+    Ok(readers::run(rt.alloc(), first, count, numbers.spoiled)?.print(rt)?)
+}
+
+fn run_long(rt: &HostRuntime, kind: &str, count: &str, times: &str) -> Result<(), Fault> {
+    let kind = Kind::named(kind).ok_or(Fault::WrongWords)?;
+    long::run(rt, kind, number(count)?, number(times)?)
+}
+
+fn run_checks(rt: &HostRuntime, tables: &str, times: &str) -> Result<(), Fault> {
+    let tables = TimedTables::named(tables).ok_or(Fault::WrongWords)?;
+    checks::run(rt, tables, number(times)?)
+}
+
 /// Runs one part.
 fn run_part(rt: &HostRuntime, words: &[&str]) -> Result<(), Fault> {
     match words {
-        [] => run_few(rt)?,
-        ["tables", first, count, rest @ ..] => {
-            let (first, count) = (number(first)?, number(count)?);
-            damaged_tables::run(rt.alloc(), first, count, spoiled(rest)?)?.print(rt)?;
-        }
-        ["texts", first, count, rest @ ..] => {
-            let (first, count) = (number(first)?, number(count)?);
-            random_texts::run(rt.alloc(), first, count, spoiled(rest)?)?.print(rt)?;
-        }
-        ["readers", first, count, rest @ ..] => {
-            let (first, count) = (number(first)?, number(count)?);
-            readers::run(rt.alloc(), first, count, spoiled(rest)?)?.print(rt)?;
-        }
-        ["long", kind, count, times] => {
-            let kind = Kind::named(kind).ok_or(Fault::WrongWords)?;
-            long::run(rt, kind, number(count)?, number(times)?)?;
-        }
-        ["checks", tables, times] => {
-            let tables = TimedTables::named(tables).ok_or(Fault::WrongWords)?;
-            checks::run(rt, tables, number(times)?)?;
-        }
-        _ => return Err(Fault::WrongWords),
+        [] => run_few(rt),
+        ["tables", words @ ..] => run_tables(rt, numbers_in(words)?),
+        ["texts", words @ ..] => run_texts(rt, numbers_in(words)?),
+        ["readers", words @ ..] => run_readers(rt, numbers_in(words)?),
+        ["long", kind, count, times] => run_long(rt, kind, count, times),
+        ["checks", tables, times] => run_checks(rt, tables, times),
+        _ => Err(Fault::WrongWords),
     }
-    Ok(())
 }
 
 /// The words after the program's name.

@@ -61,7 +61,7 @@ fn two_texts(alloc: Global, dice: &mut Dice) -> Result<(Encoded, Encoded), Alloc
 }
 
 /// What was found of so many texts.
-#[derive(Debug, Default, Drop)]
+#[derive(Default, Drop)]
 pub(crate) struct Found {
     /// How many pairs of texts were compared, those of parts of a text too.
     compared: u64,
@@ -87,6 +87,22 @@ impl Found {
     }
 }
 
+/// Compares the two parts into which a text falls at a byte of its form in UTF-8.
+fn compare_cut(
+    alloc: Global,
+    collator: &Collator,
+    text: &str,
+    cut: usize,
+    found: &mut Found,
+) -> Result<(), AllocError> {
+    let bytes = text.as_bytes();
+    let (before, after) = bytes.split_at(cut.min(bytes.len()));
+    let before = Encoded::of_bytes(alloc, before_cut(alloc, text, cut)?, before)?;
+    let after = Encoded::of_bytes(alloc, after_cut(alloc, text, cut)?, after)?;
+    found.count(agree(alloc, collator, &before, &after)?, &before);
+    Ok(())
+}
+
 /// Compares the two parts into which a text falls at each byte of its form in UTF-8.
 fn compare_parts(
     alloc: Global,
@@ -94,12 +110,8 @@ fn compare_parts(
     text: &str,
     found: &mut Found,
 ) -> Result<(), AllocError> {
-    let bytes = text.as_bytes();
-    for cut in 0..bytes.len() {
-        let (before, after) = bytes.split_at(cut);
-        let before = Encoded::of_bytes(alloc, before_cut(alloc, text, cut)?, before)?;
-        let after = Encoded::of_bytes(alloc, after_cut(alloc, text, cut)?, after)?;
-        found.count(agree(alloc, collator, &before, &after)?, &before);
+    for cut in 0..text.len() {
+        compare_cut(alloc, collator, text, cut, found)?;
     }
     Ok(())
 }
@@ -109,24 +121,32 @@ pub(crate) fn spoil(text: &mut Encoded) -> Result<(), AllocError> {
     Ok(text.utf16.push(0x62)?)
 }
 
-/// Compares texts, and the parts of each: so many from one number on. The UTF-16 of a text has another unit at its end
-/// where the check is to fail.
+/// Compares the two texts of a number, and the parts of one. The UTF-16 of that has another unit at its end where the
+/// check is to fail.
+fn compare_texts(
+    alloc: Global,
+    collator: &Collator,
+    dice: &mut Dice,
+    spoiled: bool,
+    found: &mut Found,
+) -> Result<(), AllocError> {
+    let (mut left, right) = two_texts(alloc, dice)?;
+    if spoiled {
+        spoil(&mut left)?;
+    }
+    found.count(agree(alloc, collator, &left, &right)?, &left);
+    compare_parts(alloc, collator, left.text.as_str(), found)
+}
+
+/// Compares texts, and the parts of each: so many from one number on.
 pub(crate) fn run(alloc: Global, first: u64, count: u64, spoiled: bool) -> Result<Found, Fault> {
     let collators = collators(alloc)?;
     let mut found = Found::default();
     for place in 0..count {
-        let number = first.saturating_add(place);
-        let mut dice = Dice::new(number);
+        let mut dice = Dice::new(first.saturating_add(place));
         let index = dice.index(collators.len());
-        let Some(collator) = collators.get(index) else {
-            return Err(Fault::Failed);
-        };
-        let (mut left, right) = two_texts(alloc, &mut dice)?;
-        if spoiled {
-            spoil(&mut left)?;
-        }
-        found.count(agree(alloc, collator, &left, &right)?, &left);
-        compare_parts(alloc, collator, left.text.as_str(), &mut found)?;
+        let collator = collators.get(index).ok_or(Fault::Failed)?;
+        compare_texts(alloc, collator, &mut dice, spoiled, &mut found)?;
     }
     Ok(found)
 }

@@ -4,7 +4,7 @@ ghost use Rattle.icu_elements.specs.CollationElements.{CanGive};
 
 use crate::base_tables::{BASES, base};
 use crate::cuts::{after_cut, before_cut};
-use crate::damaged_tables::set;
+use crate::damaged_tables::by_constructors;
 use crate::dice::Dice;
 use crate::encoded::Encoded;
 use crate::fault::Fault;
@@ -122,7 +122,7 @@ impl Readers<'_> {
 }
 
 /// What was found of so many texts.
-#[derive(Debug, Default, Drop)]
+#[derive(Default, Drop)]
 pub(crate) struct Found {
     /// How many texts were read.
     read: u64,
@@ -162,6 +162,28 @@ fn text_of(alloc: Global, number: u64, spoiled: bool) -> Result<Encoded, AllocEr
     Ok(text)
 }
 
+/// Reads a text in each way.
+fn read(readers: &Readers<'_>, text: &Encoded, found: &mut Found) -> Result<(), AllocError> {
+    found.count(readers.agree(text)?, text);
+    Ok(())
+}
+
+/// Reads the two parts into which a text falls at a byte of its form in UTF-8.
+fn read_parts(
+    alloc: Global,
+    readers: &Readers<'_>,
+    text: &str,
+    cut: usize,
+    found: &mut Found,
+) -> Result<(), AllocError> {
+    let bytes = text.as_bytes();
+    let (before, after) = bytes.split_at(cut.min(bytes.len()));
+    let before = Encoded::of_bytes(alloc, before_cut(alloc, text, cut)?, before)?;
+    read(readers, &before, found)?;
+    let after = Encoded::of_bytes(alloc, after_cut(alloc, text, cut)?, after)?;
+    read(readers, &after, found)
+}
+
 /// Reads a text, and the two parts into which it falls at a byte of its form in UTF-8.
 fn read_text(
     alloc: Global,
@@ -171,36 +193,54 @@ fn read_text(
     found: &mut Found,
 ) -> Result<(), AllocError> {
     let whole = text_of(alloc, number, spoiled)?;
-    found.count(readers.agree(&whole)?, &whole);
+    read(readers, &whole, found)?;
     let text = whole.text.as_str();
-    let bytes = text.as_bytes();
-    let cut = Dice::new(number).index(bytes.len()).min(bytes.len());
-    let (before, after) = bytes.split_at(cut);
-    let before = Encoded::of_bytes(alloc, before_cut(alloc, text, cut)?, before)?;
-    found.count(readers.agree(&before)?, &before);
-    let after = Encoded::of_bytes(alloc, after_cut(alloc, text, cut)?, after)?;
-    found.count(readers.agree(&after)?, &after);
-    Ok(())
+    let cut = Dice::new(number).index(text.len()).min(text.len());
+    read_parts(alloc, readers, text, cut, found)
 }
 
-/// Reads those of the texts that are read in this way: so many from one number on.
-fn read_by(
-    alloc: Global,
+/// So many texts from one number on, of which those are read that are read in this way. The UTF-16 of each has another
+/// unit at its end where the check is to fail.
+#[derive(Clone, Copy)]
+struct Part {
     reading: u32,
     first: u64,
     count: u64,
     spoiled: bool,
-    found: &mut Found,
-) -> Result<(), Fault> {
-    let number = reading / 2;
+}
+
+/// The tables of this number, checked.
+fn checked_tables(alloc: Global, number: u32) -> Result<CheckedTables, Fault> {
     let mini = base(alloc, number)?;
-    let numeric_primary = if reading % 2 == 0 {
+    Ok(by_constructors(alloc, &mini)?)
+}
+
+/// Reads the texts of a part.
+fn read_part(
+    alloc: Global,
+    readers: &Readers<'_>,
+    part: Part,
+    found: &mut Found,
+) -> Result<(), AllocError> {
+    for place in 0..part.count {
+        let number = part.first.saturating_add(place);
+        if number % u64::from(READINGS) == u64::from(part.reading) {
+            read_text(alloc, readers, number, part.spoiled, found)?;
+        }
+    }
+    Ok(())
+}
+
+/// Reads the texts of a part by its tables.
+fn read_by(alloc: Global, part: Part, found: &mut Found) -> Result<(), Fault> {
+    let number = part.reading / 2;
+    let checked = checked_tables(alloc, number)?;
+    let numeric_primary = if part.reading % 2 == 0 {
         None
     } else {
-        Some(mini.numeric_primary)
+        Some(checked.special_primaries().numeric_primary())
     };
     let lithuanian_dot_above = number == LITHUANIAN;
-    let checked = CheckedTables::from_set(alloc, set(&mini)?)?;
     let tables = ElementTables::new(&checked);
     let named = NamedCharacters::new(alloc, &checked)?;
     let places = SafePlaces::new(tables, numeric_primary, lithuanian_dot_above, &named);
@@ -217,13 +257,7 @@ fn read_by(
             &letters,
         ),
     };
-    for place in 0..count {
-        let number = first.saturating_add(place);
-        if number % u64::from(READINGS) == u64::from(reading) {
-            read_text(alloc, &readers, number, spoiled, found)?;
-        }
-    }
-    Ok(())
+    Ok(read_part(alloc, &readers, part, found)?)
 }
 
 /// Reads texts: so many from one number on. The UTF-16 of a text has another unit at its end where the check is to
@@ -231,7 +265,13 @@ fn read_by(
 pub(crate) fn run(alloc: Global, first: u64, count: u64, spoiled: bool) -> Result<Found, Fault> {
     let mut found = Found::default();
     for reading in 0..READINGS {
-        read_by(alloc, reading, first, count, spoiled, &mut found)?;
+        let part = Part {
+            reading,
+            first,
+            count,
+            spoiled,
+        };
+        read_by(alloc, part, &mut found)?;
     }
     Ok(found)
 }

@@ -21,7 +21,7 @@ const KINDS: [DataErrorKind; 13] = [
 
 /// How many sets were accepted, how many refused for each kind, on how many the two ways to a collator did not agree,
 /// and how many collators of accepted ones did not order texts by their keys.
-#[derive(Debug, Default, Drop)]
+#[derive(Default, Drop)]
 pub(crate) struct Tally {
     accepted: u64,
     refused: [u64; 13],

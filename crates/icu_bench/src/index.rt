@@ -4,7 +4,8 @@ use icu_comparison::Collator;
 use icu_index::NameIndex;
 use icu_mini::mini::Mini;
 use icu_options::{CollatorOptions, CollatorPreferences, Strength};
-use std::alloc::Global;
+use std::alloc::{AllocError, Global};
+use std::process::Abort;
 use std::test::Fail;
 
 fn collator(alloc: Global, strength: Strength) -> Result<Collator, Fail> {
@@ -18,7 +19,7 @@ fn collator(alloc: Global, strength: Strength) -> Result<Collator, Fail> {
 }
 
 /// Names with a line feed after each, in the order of an index.
-fn joined(alloc: Global, index: &NameIndex<'_>) -> Result<Vec<u8>, Fail> {
+fn joined(alloc: Global, index: &NameIndex<'_>) -> Result<Vec<u8>, AllocError> {
     let mut text = Vec::new(alloc);
     for name in index.iter() {
         text.extend_from_slice(name)?;
@@ -28,7 +29,7 @@ fn joined(alloc: Global, index: &NameIndex<'_>) -> Result<Vec<u8>, Fail> {
 }
 
 /// The same of the names that compare equal to one.
-fn joined_equals(alloc: Global, index: &NameIndex<'_>, name: &str) -> Result<Vec<u8>, Fail> {
+fn joined_equals(alloc: Global, index: &NameIndex<'_>, name: &str) -> Result<Vec<u8>, AllocError> {
     let mut text = Vec::new(alloc);
     for name in index.equal_to(name.as_bytes())? {
         text.extend_from_slice(name.as_slice())?;
@@ -37,29 +38,70 @@ fn joined_equals(alloc: Global, index: &NameIndex<'_>, name: &str) -> Result<Vec
     Ok(text)
 }
 
+/// An index of five names, two of which are the same.
+fn five_names<'c>(alloc: Global, collator: &'c Collator) -> Result<NameIndex<'c>, AllocError> {
+    let mut index = NameIndex::new(alloc, collator);
+    for name in &["b", "A", "a", "á", "a"] {
+        index.insert(name.as_bytes())?;
+    }
+    Ok(index)
+}
+
+fn expect_listing(
+    rt: &impl Abort,
+    alloc: Global,
+    index: &NameIndex<'_>,
+    listing: &str,
+) -> Result<(), AllocError> {
+    let text = joined(alloc, index)?;
+    assert!(rt; text.as_slice() == listing.as_bytes(), "{listing}");
+    Ok(())
+}
+
+fn expect_equals(
+    rt: &impl Abort,
+    alloc: Global,
+    index: &NameIndex<'_>,
+    name: &str,
+    equals: &str,
+) -> Result<(), AllocError> {
+    let text = joined_equals(alloc, index, name)?;
+    assert!(rt; text.as_slice() == equals.as_bytes(), "{name} and {equals}");
+    Ok(())
+}
+
+#[test]
+fn an_index_counts_its_names(rt: HostRuntime) -> Result<(), Fail> {
+    let collator = collator(rt.alloc(), Strength::Tertiary)?;
+    assert!(rt; NameIndex::new(rt.alloc(), &collator).is_empty());
+    let index = five_names(rt.alloc(), &collator)?;
+    assert!(rt; !index.is_empty() && index.len() == 5);
+    Ok(())
+}
+
+fn expect_names(
+    rt: &impl Abort,
+    alloc: Global,
+    index: &NameIndex<'_>,
+    listing: &str,
+    accented: &str,
+) -> Result<(), AllocError> {
+    expect_listing(rt, alloc, index, listing)?;
+    expect_equals(rt, alloc, index, "á", accented)?;
+    expect_equals(rt, alloc, index, "b", "b\n")?;
+    expect_equals(rt, alloc, index, "c", "")
+}
+
 #[test]
 fn names_are_listed_in_order(rt: HostRuntime) -> Result<(), Fail> {
-    let rows = [
-        (Strength::Tertiary, "a\na\nA\ná\nb\n", "á\n", "b\n"),
-        (Strength::Primary, "A\na\ná\na\nb\n", "A\na\ná\na\n", "b\n"),
-        (Strength::Identical, "a\na\nA\ná\nb\n", "á\n", "b\n"),
-    ];
-    for (strength, listing, accented, last) in &rows {
-        let collator = collator(rt.alloc(), *strength)?;
-        let mut index = NameIndex::new(rt.alloc(), &collator);
-        assert!(rt; index.is_empty(), "{strength:?}");
-        for name in &["b", "A", "a", "á", "a"] {
-            index.insert(name.as_bytes())?;
-        }
-        assert_eq!(rt; index.len(), 5, "{strength:?}");
-        assert!(rt; !index.is_empty(), "{strength:?}");
-        let text = joined(rt.alloc(), &index)?;
-        assert_eq!(rt; text.as_slice(), listing.as_bytes(), "{strength:?}");
-        let text = joined_equals(rt.alloc(), &index, "á")?;
-        assert_eq!(rt; text.as_slice(), accented.as_bytes(), "{strength:?}");
-        let text = joined_equals(rt.alloc(), &index, "b")?;
-        assert_eq!(rt; text.as_slice(), last.as_bytes(), "{strength:?}");
-        assert!(rt; index.equal_to(b"c")?.is_empty(), "{strength:?}");
+    for (strength, listing, accented) in [
+        (Strength::Tertiary, "a\na\nA\ná\nb\n", "á\n"),
+        (Strength::Primary, "A\na\ná\na\nb\n", "A\na\ná\na\n"),
+        (Strength::Identical, "a\na\nA\ná\nb\n", "á\n"),
+    ] {
+        let collator = collator(rt.alloc(), strength)?;
+        let index = five_names(rt.alloc(), &collator)?;
+        expect_names(&rt, rt.alloc(), &index, listing, accented)?;
     }
     Ok(())
 }
@@ -67,26 +109,26 @@ fn names_are_listed_in_order(rt: HostRuntime) -> Result<(), Fail> {
 #[test]
 fn names_need_not_be_among_those_that_they_equal(rt: HostRuntime) -> Result<(), Fail> {
     let collator = collator(rt.alloc(), Strength::Primary)?;
-    let mut index = NameIndex::new(rt.alloc(), &collator);
-    for name in &["b", "A", "a", "á", "a"] {
-        index.insert(name.as_bytes())?;
+    let index = five_names(rt.alloc(), &collator)?;
+    Ok(expect_equals(&rt, rt.alloc(), &index, "Á", "A\na\ná\na\n")?)
+}
+
+fn many_names<'c>(alloc: Global, collator: &'c Collator) -> Result<NameIndex<'c>, AllocError> {
+    let mut index = NameIndex::new(alloc, collator);
+    for number in 0..10_000u32 {
+        let letters = [b'a' + (number % 3) as u8, b'a' + (number / 3 % 3) as u8];
+        index.insert(&letters)?;
     }
-    let text = joined_equals(rt.alloc(), &index, "Á")?;
-    assert_eq!(rt; text.as_slice(), "A\na\ná\na\n".as_bytes());
-    Ok(())
+    Ok(index)
 }
 
 #[test]
 fn ten_thousand_names(rt: HostRuntime) -> Result<(), Fail> {
     let collator = collator(rt.alloc(), Strength::Tertiary)?;
-    let mut index = NameIndex::new(rt.alloc(), &collator);
-    for number in 0..10_000u32 {
-        let letters = [b'a' + (number % 3) as u8, b'a' + (number / 3 % 3) as u8];
-        index.insert(&letters)?;
-    }
-    assert_eq!(rt; index.len(), 10_000);
-    assert_eq!(rt; rising(&index), Some(10_000));
-    assert_eq!(rt; index.equal_to(b"ab")?.len(), 1_111);
+    let index = many_names(rt.alloc(), &collator)?;
+    let equals = index.equal_to(b"ab")?.len();
+    assert!(rt; index.len() == 10_000 && equals == 1_111);
+    assert!(rt; rising(&index) == Some(10_000));
     Ok(())
 }
 

@@ -123,21 +123,60 @@ impl Call {
     }
 }
 
-/// Writes the key of a row into slices of each length up to one more than its own.
-fn expect_slices(rt: &impl Abort, alloc: Global, row: &Row, call: Call) -> Result<(), Fail> {
-    let text = row.text;
+/// The sinks that a key is written into.
+#[derive(Clone, Copy)]
+enum Sinks {
+    /// Slices of each length up to one more than the key's.
+    Slices(Call),
+    /// Lists that hold something.
+    Lists,
+    /// Sinks of each size up to the key's.
+    OfEachSize,
+    /// One that takes all, and refuses to finish.
+    Unfinished,
+    /// One that takes one byte of each write.
+    OfOneByte,
+}
+
+/// Writes the key of a row into sinks.
+fn expect_row(rt: &impl Abort, alloc: Global, row: &Row, sinks: Sinks) -> Result<(), Fail> {
     let collator = row.collator(alloc)?;
-    let key = key_of(alloc, &collator, text)?;
+    let key = key_of(alloc, &collator, row.text)?;
+    let key = key.as_slice();
+    match sinks {
+        Sinks::Slices(call) => expect_slices(rt, &collator, row.text, key, call),
+        Sinks::Lists => expect_lists(rt, alloc, &collator, row.text, key)?,
+        Sinks::OfEachSize => expect_each_size(rt, alloc, &collator, row.text, key),
+        Sinks::Unfinished => {
+            let sink = Limited::unfinished(alloc);
+            let fault = Some(SinkFault::Unfinished);
+            expect_taken(rt, &collator, row.text, sink, key, fault);
+        }
+        Sinks::OfOneByte => {
+            let is_right = takes_beginning(alloc, &collator, row.text, key);
+            assert!(rt; is_right, "{:?}", row.text);
+        }
+    }
+    Ok(())
+}
+
+/// Writes the keys of all rows into sinks.
+fn expect_rows(rt: &impl Abort, alloc: Global, sinks: Sinks) -> Result<(), Fail> {
+    for row in &rows() {
+        expect_row(rt, alloc, row, sinks)?;
+    }
+    Ok(())
+}
+
+fn expect_slices(rt: &impl Abort, collator: &Collator, text: &str, key: &[u8], call: Call) {
     for length in 0..key.len() + 2 {
         let mut array = [0x7F; 64];
         assert!(rt; length <= 64);
         let mut slice = &mut array[..length];
-        let result = call.write(&collator, text, &mut slice);
-        let is_told = result == told(length, key.len());
-        let is_right = is_told && begins_with_key(slice, key.as_slice());
+        let result = call.write(collator, text, &mut slice);
+        let is_right = result == told(length, key.len()) && begins_with_key(slice, key);
         assert!(rt; is_right, "{text:?} by {call:?} into {length}");
     }
-    Ok(())
 }
 
 /// What a write of so many bytes into a slice of a length returns.
@@ -165,13 +204,11 @@ fn begins_with_key(slice: &[u8], key: &[u8]) -> bool {
 
 #[test]
 fn slices_of_each_length(rt: HostRuntime) -> Result<(), Fail> {
-    for row in &rows() {
-        expect_slices(&rt, rt.alloc(), row, Call::Characters)?;
-    }
+    expect_rows(&rt, rt.alloc(), Sinks::Slices(Call::Characters))?;
     let row = Row::new(Strength::Identical, "áAbc");
-    expect_slices(&rt, rt.alloc(), &row, Call::Utf8)?;
+    expect_row(&rt, rt.alloc(), &row, Sinks::Slices(Call::Utf8))?;
     let units = Call::Utf16(&[0xE1, 0x41, 0x62, 0x63]);
-    expect_slices(&rt, rt.alloc(), &row, units)
+    expect_row(&rt, rt.alloc(), &row, Sinks::Slices(units))
 }
 
 /// Whether a list holds 7F, which it held before, and then the key.
@@ -219,19 +256,23 @@ fn deque_keeps(
     Ok(is_kept)
 }
 
+fn expect_lists(
+    rt: &impl Abort,
+    alloc: Global,
+    collator: &Collator,
+    text: &str,
+    key: &[u8],
+) -> Result<(), AllocError> {
+    let are_kept = vector_keeps(alloc, collator, text, key)?
+        && inline_list_keeps(alloc, collator, text, key)?
+        && deque_keeps(alloc, collator, text, key)?;
+    assert!(rt; are_kept, "{text:?}");
+    Ok(())
+}
+
 #[test]
 fn lists_keep_what_they_hold(rt: HostRuntime) -> Result<(), Fail> {
-    let alloc = rt.alloc();
-    for row in &rows() {
-        let collator = row.collator(alloc)?;
-        let key = key_of(alloc, &collator, row.text)?;
-        let key = key.as_slice();
-        let are_kept = vector_keeps(alloc, &collator, row.text, key)?
-            && inline_list_keeps(alloc, &collator, row.text, key)?
-            && deque_keeps(alloc, &collator, row.text, key)?;
-        assert!(rt; are_kept, "{:?}", row.text);
-    }
-    Ok(())
+    expect_rows(&rt, rt.alloc(), Sinks::Lists)
 }
 
 /// Writes a key into a sink that refuses, and demands that it took these bytes and returned this.
@@ -248,34 +289,24 @@ fn expect_taken(
     assert!(rt; is_told && sink.taken.as_slice() == taken, "{text:?}");
 }
 
+fn expect_each_size(rt: &impl Abort, alloc: Global, collator: &Collator, text: &str, key: &[u8]) {
+    for limit in 0..key.len() {
+        let (fits, _) = key.split_at(limit);
+        let sink = Limited::new(alloc, limit);
+        expect_taken(rt, collator, text, sink, fits, Some(SinkFault::Full));
+    }
+    let sink = Limited::new(alloc, key.len());
+    expect_taken(rt, collator, text, sink, key, None);
+}
+
 #[test]
 fn sinks_of_each_size_took_what_fits(rt: HostRuntime) -> Result<(), Fail> {
-    let alloc = rt.alloc();
-    for row in &rows() {
-        let collator = row.collator(alloc)?;
-        let key = key_of(alloc, &collator, row.text)?;
-        for limit in 0..key.len() {
-            let (fits, _) = key.as_slice().split_at(limit);
-            let sink = Limited::new(alloc, limit);
-            expect_taken(&rt, &collator, row.text, sink, fits, Some(SinkFault::Full));
-        }
-        let sink = Limited::new(alloc, key.len());
-        expect_taken(&rt, &collator, row.text, sink, key.as_slice(), None);
-    }
-    Ok(())
+    expect_rows(&rt, rt.alloc(), Sinks::OfEachSize)
 }
 
 #[test]
 fn sinks_that_do_not_finish_took_all(rt: HostRuntime) -> Result<(), Fail> {
-    let alloc = rt.alloc();
-    for row in &rows() {
-        let collator = row.collator(alloc)?;
-        let key = key_of(alloc, &collator, row.text)?;
-        let sink = Limited::unfinished(alloc);
-        let fault = Some(SinkFault::Unfinished);
-        expect_taken(&rt, &collator, row.text, sink, key.as_slice(), fault);
-    }
-    Ok(())
+    expect_rows(&rt, rt.alloc(), Sinks::Unfinished)
 }
 
 /// Whether a sink that takes one byte of each write took a beginning of the key, and refused where that isn't all.
@@ -289,12 +320,5 @@ fn takes_beginning(alloc: Global, collator: &Collator, text: &str, key: &[u8]) -
 
 #[test]
 fn sinks_that_take_one_byte_of_a_write_took_a_beginning(rt: HostRuntime) -> Result<(), Fail> {
-    let alloc = rt.alloc();
-    for row in &rows() {
-        let collator = row.collator(alloc)?;
-        let key = key_of(alloc, &collator, row.text)?;
-        let is_right = takes_beginning(alloc, &collator, row.text, key.as_slice());
-        assert!(rt; is_right, "{:?}", row.text);
-    }
-    Ok(())
+    expect_rows(&rt, rt.alloc(), Sinks::OfOneByte)
 }

@@ -20,6 +20,7 @@ use icu_collator::{
     options,
 };
 use icu_mini::mini::Mini;
+use std::alloc::{AllocError, Global};
 use std::cmp::Ordering;
 use std::process::Abort;
 use std::test::Fail;
@@ -144,18 +145,31 @@ fn loaded_tables_have_their_names(rt: HostRuntime) -> Result<(), Fail> {
     Ok(())
 }
 
+fn expect_elements(rt: &impl Abort, tables: ElementTables<'_>) -> Result<(), AllocError> {
+    let mut first = CollationElements::new("a".chars(), tables, None, false);
+    let (element, end) = (first.next()?, first.next()?);
+    assert!(rt; element.primary() == 0x6110_0000 && end == CollationElement::default());
+    let count = elements::all_elements(tables, "áb".chars(), None, false)?.len();
+    assert!(rt; count == 3);
+    Ok(())
+}
+
 #[test]
 fn checked_tables_have_their_names(rt: HostRuntime) -> Result<(), Fail> {
     let mini = Mini::new(rt.alloc())?;
     let provider = mini.provider();
     let set: TableSet<'_> = load_tables(&provider, "", None)?;
-    let tables = CheckedTables::from_set(rt.alloc(), set)?;
-    let tables: ElementTables<'_> = ElementTables::new(&tables);
-    let mut first = CollationElements::new("a".chars(), tables, None, false);
-    let (element, end) = (first.next()?, first.next()?);
-    assert!(rt; element.primary() == 0x6110_0000 && end == CollationElement::default());
-    let all = elements::all_elements(tables, "áb".chars(), None, false)?;
-    assert_eq!(rt; all.len(), 3);
+    let tables: CheckedTables = CheckedTables::from_set(rt.alloc(), set)?;
+    Ok(expect_elements(&rt, ElementTables::new(&tables))?)
+}
+
+fn expect_calls(rt: &impl Abort, alloc: Global, collator: &Collator) -> Result<(), AllocError> {
+    let borrowed: CollatorBorrowed<'_> = collator.as_borrowed();
+    assert!(rt; borrowed.compare("ab", "aB")? == Ordering::Less);
+    let mut key = Vec::new(alloc);
+    let is_written = calls::write(collator, "A", &mut key).is_ok();
+    assert!(rt; is_written && key.as_slice() == [0x61, 0x10, 1, 5, 1, 1, 0xDC, 1].as_slice());
+    assert!(rt; borrowed.resolved_options().strength == Strength::Tertiary);
     Ok(())
 }
 
@@ -164,14 +178,8 @@ fn collators_have_their_names(rt: HostRuntime) -> Result<(), Fail> {
     let mini = Mini::new(rt.alloc())?;
     let (preferences, options) = (CollatorPreferences::default(), CollatorOptions::default());
     let collator: Collator = calls::collator(rt.alloc(), &mini.provider(), preferences, options)?;
-    let borrowed: CollatorBorrowed<'_> = collator.as_borrowed();
-    assert_eq!(rt; borrowed.compare("ab", "aB")?, Ordering::Less);
-    let mut key = Vec::new(rt.alloc());
-    let is_written = calls::write(&collator, "A", &mut key).is_ok();
-    assert!(rt; is_written && key.as_slice() == [0x61, 0x10, 1, 5, 1, 1, 0xDC, 1].as_slice());
-    assert!(rt; borrowed.resolved_options().strength == Strength::Tertiary);
-    let none = elements::all_elements(borrowed.tables(), "".chars(), None, false)?;
-    assert!(rt; none.is_empty());
+    expect_elements(&rt, collator.as_borrowed().tables())?;
+    expect_calls(&rt, rt.alloc(), &collator)?;
     comparison::laws::good_tables_serve_levels();
     Ok(())
 }

@@ -374,16 +374,25 @@ fn tables_of_the_locale_serve_where_its_type_has_none(rt: HostRuntime) -> Result
     Ok(())
 }
 
+/// The orders by a provider that has tables of its own for a type: with the type, and without.
+fn orders<'m>(
+    alloc: Global,
+    root: &'m Mini,
+    typed: &'m Mini,
+) -> Result<(Ordering, Ordering), Fail> {
+    let mut provider = ByRequest::same(alloc, root.provider());
+    provider.typed = typed.provider();
+    Ok((
+        provider.order(alloc, Some("trad"))?,
+        provider.order(alloc, None)?,
+    ))
+}
+
 #[test]
 fn the_type_comes_before_the_locale_alone(rt: HostRuntime) -> Result<(), Fail> {
     let root = Mini::new(rt.alloc())?;
     let tailored = Mini::with_offsets(rt.alloc())?;
-    let mut provider = ByRequest::same(rt.alloc(), root.provider());
-    provider.typed = tailored.provider();
-    let (typed, local) = (
-        provider.order(rt.alloc(), Some("trad"))?,
-        provider.order(rt.alloc(), None)?,
-    );
+    let (typed, local) = orders(rt.alloc(), &root, &tailored)?;
     assert!(rt; typed == Ordering::Less && local == Ordering::Greater);
     Ok(())
 }

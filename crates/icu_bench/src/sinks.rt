@@ -7,43 +7,53 @@ use std::collections::VecDeque;
 use std::process::Abort;
 use std::test::Fail;
 
+/// What long writes are of.
+const LONG: [u8; 2000] = [0x25; 2000];
+
 #[test]
 fn greatest_offset_stays(rt: HostRuntime) -> Result<(), Fail> {
     let mut array = [0x7F; 4];
     let mut slice = &mut array[..];
     let mut offset = usize::MAX;
     slice.write(&mut offset, &[1])?;
-    assert_eq!(rt; offset, usize::MAX);
-    assert_eq!(rt; &slice[..], [0x7F, 0x7F, 0x7F, 0x7F].as_slice());
-    assert_eq!(rt; slice.finish(offset), Err(TooSmall::new(usize::MAX)));
+    let is_full = slice.finish(offset) == Err(TooSmall::new(usize::MAX));
+    assert!(rt; is_full && offset == usize::MAX && array == [0x7F; 4]);
     Ok(())
 }
 
-/// A write of 2,000 bytes to each sink.
 #[test]
-fn long_writes(rt: HostRuntime) -> Result<(), Fail> {
-    let bytes = [0x25; 2000];
+fn long_write_to_a_vector(rt: HostRuntime) -> Result<(), Fail> {
     let mut vector = Vec::new(rt.alloc());
-    vector.write(&mut (), &bytes)?;
-    assert_eq!(rt; vector.as_slice(), bytes.as_slice());
+    vector.write(&mut (), &LONG)?;
+    assert!(rt; vector.as_slice() == LONG.as_slice());
+    Ok(())
+}
 
+#[test]
+fn long_write_to_an_inline_list(rt: HostRuntime) -> Result<(), Fail> {
     let mut inline: SmallVec<u8, 4> = SmallVec::new(rt.alloc());
-    inline.write(&mut (), &bytes)?;
-    assert_eq!(rt; inline.as_slice(), bytes.as_slice());
+    inline.write(&mut (), &LONG)?;
+    assert!(rt; inline.as_slice() == LONG.as_slice());
+    Ok(())
+}
 
+#[test]
+fn long_write_to_a_deque(rt: HostRuntime) -> Result<(), Fail> {
     let mut deque = VecDeque::new(rt.alloc());
-    deque.write(&mut (), &bytes)?;
-    assert_eq!(rt; deque.len(), 2000);
-    assert!(rt; deque.iter().all(|byte| *byte == 0x25));
+    deque.write(&mut (), &LONG)?;
+    assert!(rt; deque.len() == 2000 && deque.iter().all(|byte| *byte == 0x25));
+    Ok(())
+}
 
+#[test]
+fn long_write_to_a_slice(rt: HostRuntime) -> Result<(), Fail> {
     let mut array = [0x7F; 2001];
     let mut slice = &mut array[..];
     let mut offset = 0;
-    slice.write(&mut offset, &bytes)?;
-    assert_eq!(rt; slice.finish(offset)?, 2000);
-    assert!(rt; slice.len() == 2001);
-    assert!(rt; slice[..2000].iter().all(|byte| *byte == 0x25));
-    assert_eq!(rt; slice[2000], 0x7F);
+    slice.write(&mut offset, &LONG)?;
+    assert!(rt; slice.finish(offset)? == 2000);
+    let (taken, left) = array.split_at(2000);
+    assert!(rt; taken == LONG.as_slice() && left == [0x7F].as_slice());
     Ok(())
 }
 

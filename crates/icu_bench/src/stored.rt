@@ -3,7 +3,7 @@ use std::alloc::Global;
 use std::test::Fail;
 
 // A code point table: its blocks and values.
-#[derive(Debug, Drop)]
+#[derive(Drop)]
 pub(crate) struct Stored {
     pub(crate) blocks: Vec<u16>,
     pub(crate) values: Vec<u32>,

@@ -43,6 +43,15 @@ pub(crate) fn tables(alloc: Global, written: &str) -> Option<Mini> {
     Some(mini)
 }
 
+/// The lead byte of numbers, where a row says that digits are read as such.
+pub(crate) fn numeric_primary(mini: &Mini, written: &str) -> Option<Option<u8>> {
+    match written.trim() {
+        "" => Some(None),
+        "numbers" => Some(Some(mini.numeric_primary)),
+        _ => None,
+    }
+}
+
 /// The collator by the tables and the settings that a row begins with.
 pub(crate) fn collator(alloc: Global, written: &str, named: &str) -> Option<Collator> {
     let named = named_sources(alloc, named)?;

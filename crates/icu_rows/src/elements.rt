@@ -1,9 +1,9 @@
 //! The elements of a text.
 ghost use Rattle.icu_elements.specs.CollationElements.{CanGive};
 
-use crate::base::{collator_by, tables};
+use crate::base::{collator_by, numeric_primary, tables};
 use crate::notation::characters;
-use icu_elements::{CollationElements, all_elements};
+use icu_elements::{CollationElements, ElementTables, all_elements};
 use icu_entries::CollationElement;
 use icu_options::{CollatorOptions, CollatorPreferences};
 use std::alloc::Global;
@@ -13,20 +13,31 @@ use std::alloc::Global;
 /// come twice.
 pub(crate) fn elements(alloc: Global, row: &str) -> Option<String> {
     let (written, row) = row.split_once('|')?;
-    let (settings, row) = row.split_once('|')?;
+    let (settings, text) = row.split_once('|')?;
     let mini = tables(alloc, written)?;
+    let lead = numeric_primary(&mini, settings)?;
+    let dot = mini.metadata.lithuanian_dot_above();
+    let text = characters(alloc, text.trim())?;
     let (preferences, options) = (CollatorPreferences::default(), CollatorOptions::default());
     let collator = collator_by(alloc, &mini, preferences, options)?;
-    let text = characters(alloc, row.trim())?;
-    let tables = collator.as_borrowed().tables();
-    let lead = match settings.trim() {
-        "" => None,
-        "numbers" => Some(mini.numeric_primary),
-        _ => return None,
-    };
-    let dot = mini.metadata.lithuanian_dot_above();
-    let all = all_elements(tables, text.as_str().chars(), lead, dot).ok()?;
-    let elements = CollationElements::new(text.as_str().chars(), tables, lead, dot);
+    elements_of(
+        alloc,
+        collator.as_borrowed().tables(),
+        lead,
+        dot,
+        text.as_str(),
+    )
+}
+
+fn elements_of(
+    alloc: Global,
+    tables: ElementTables<'_>,
+    numeric_primary: Option<u8>,
+    dot: bool,
+    text: &str,
+) -> Option<String> {
+    let all = all_elements(tables, text.chars(), numeric_primary, dot).ok()?;
+    let elements = CollationElements::new(text.chars(), tables, numeric_primary, dot);
     if !gives(elements, all.as_slice())? {
         return String::from_str(alloc, "another list one by one").ok();
     }

@@ -63,15 +63,42 @@ fn read_in_each_way<I: DoubleEndedIterator<Item = char> + Clone + Drop, T: Encod
     let copy = decoder.clone().ok()?;
     let from_back = decoder.clone().ok()?;
     let read: Vec<char> = decoder.collect(alloc).ok()?;
-    let again: Vec<char> = copy.collect(alloc).ok()?;
-    let mut reversed: Vec<char> = from_back.rev().collect(alloc).ok()?;
-    reversed.as_mut_slice().reverse();
-    let taken_off: Vec<char> = Characters::new(text).collect(alloc).ok()?;
     let read = read.as_slice();
-    if again.as_slice() != read || reversed.as_slice() != read || taken_off.as_slice() != read {
-        return String::from_str(alloc, "the ways differ").ok();
+    let same = reads_as(alloc, copy, read)?
+        && reads_back_as(alloc, from_back, read)?
+        && reads_as(alloc, Characters::new(text), read)?;
+    if same {
+        written(alloc, read)
+    } else {
+        String::from_str(alloc, "the ways differ").ok()
     }
-    written(alloc, read)
+}
+
+/// Whether these characters are read from the front.
+fn reads_as<I: Iterator<Item = char> + Drop>(
+    alloc: Global,
+    decoder: I,
+    expected: &[char],
+) -> Option<bool>
+    requires front { I.can_next decoder }
+    requires ends { IsFinite (I.remaining decoder) }
+{
+    let read: Vec<char> = decoder.collect(alloc).ok()?;
+    Some(read.as_slice() == expected)
+}
+
+/// Whether these characters are read from the back.
+fn reads_back_as<I: DoubleEndedIterator<Item = char> + Drop>(
+    alloc: Global,
+    decoder: I,
+    expected: &[char],
+) -> Option<bool>
+    requires back { I.can_next_back decoder }
+    requires ends { IsFinite (I.remaining decoder) }
+{
+    let mut read: Vec<char> = decoder.rev().collect(alloc).ok()?;
+    read.as_mut_slice().reverse();
+    Some(read.as_slice() == expected)
 }
 
 /// The first character of a text and what follows it, or what follows a number of units.

@@ -10,7 +10,11 @@ pub(crate) fn key(alloc: Global, row: &str) -> Option<String> {
     let (tables, row) = row.split_once('|')?;
     let (named, row) = row.split_once('|')?;
     let collator = collator(alloc, tables, named)?;
-    let key = key_of(alloc, &collator, &Text::read(alloc, row)?)?;
+    key_as_written(alloc, &collator, row)
+}
+
+fn key_as_written(alloc: Global, collator: &Collator, text: &str) -> Option<String> {
+    let key = key_of(alloc, collator, &Text::read(alloc, text)?)?;
     written(alloc, key.as_slice())
 }
 

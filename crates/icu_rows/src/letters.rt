@@ -1,7 +1,8 @@
 //! What is known of characters before they are read.
-use crate::base::tables;
+use crate::base::{numeric_primary, tables};
 use crate::elements::push_element;
 use crate::notation::character;
+use crate::refusals::load_all;
 use icu_checks::CheckedTables;
 use icu_elements::ElementTables;
 use icu_mini::mini::Mini;
@@ -14,34 +15,35 @@ pub(crate) fn letter(alloc: Global, row: &str) -> Option<String> {
     let (written, row) = row.split_once('|')?;
     let (settings, c) = row.split_once('|')?;
     let mini = tables(alloc, written)?;
-    let c = character(alloc, c.trim())?;
-    let numeric_primary = match settings.trim() {
-        "" => None,
-        "numbers" => Some(mini.numeric_primary),
-        _ => return None,
-    };
+    let lead = numeric_primary(&mini, settings)?;
     let dot = mini.metadata.lithuanian_dot_above();
-    let checked = checked(alloc, &mini)?;
-    let named = NamedCharacters::new(alloc, &checked).ok()?;
-    let places = SafePlaces::new(ElementTables::new(&checked), numeric_primary, dot, &named);
+    known(
+        alloc,
+        &checked(alloc, &mini)?,
+        lead,
+        dot,
+        character(alloc, c.trim())?,
+    )
+}
+
+fn checked(alloc: Global, mini: &Mini) -> Option<CheckedTables> {
+    CheckedTables::from_set(alloc, load_all(mini).ok()?).ok()
+}
+
+/// What is known of a character.
+fn known(
+    alloc: Global,
+    checked: &CheckedTables,
+    numeric_primary: Option<u8>,
+    dot: bool,
+    c: char,
+) -> Option<String> {
+    let named = NamedCharacters::new(alloc, checked).ok()?;
+    let places = SafePlaces::new(ElementTables::new(checked), numeric_primary, dot, &named);
     let letters = Letters::new(alloc, places).ok()?;
     let mut printed = printed(alloc, &letter_of(&places, c))?;
     push_kept(alloc, &mut printed, letters.get(c))?;
     Some(printed)
-}
-
-fn checked(alloc: Global, mini: &Mini) -> Option<CheckedTables> {
-    CheckedTables::new(
-        alloc,
-        mini.load_root().ok()?,
-        mini.load_jamo().ok()?,
-        mini.load_special_primaries().ok()?,
-        mini.metadata,
-        mini.load_tailoring().ok()?,
-        mini.load_reordering().ok()?,
-        mini.load_diacritics().ok()?,
-    )
-    .ok()
 }
 
 /// Appends what is kept of a character, where the text does not say it already.

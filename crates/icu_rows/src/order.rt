@@ -12,10 +12,13 @@ pub(crate) fn order(alloc: Global, row: &str) -> Option<String> {
     let (named, row) = row.split_once('|')?;
     let (left, right) = row.split_once('|')?;
     let collator = collator(alloc, written, named)?;
-    let left = Text::read(alloc, left)?;
-    let right = Text::read(alloc, right)?;
-    let order = compared(alloc, &collator, &left, &right)?;
+    let order = order_of(alloc, &collator, left, right)?;
     format!(in alloc; "{order:?}").ok()
+}
+
+fn order_of(alloc: Global, collator: &Collator, left: &str, right: &str) -> Option<Ordering> {
+    let left = Text::read(alloc, left)?;
+    compared(alloc, collator, &left, &Text::read(alloc, right)?)
 }
 
 /// The order of two texts, by the call for their encodings; where there is none, that of their sort keys.
@@ -37,11 +40,18 @@ fn compared(alloc: Global, collator: &Collator, left: &Text, right: &Text) -> Op
         (Text::Latin1(left), Text::Utf16(right)) => {
             borrowed.compare_latin1_utf16(left.as_slice(), right.as_slice())
         }
-        _ => {
-            let left = key_of(alloc, collator, left)?;
-            let right = key_of(alloc, collator, right)?;
-            return Some(left.as_slice().cmp(right.as_slice()));
-        }
+        _ => return order_of_keys(alloc, collator, left, right),
     };
     order.ok()
+}
+
+fn order_of_keys(
+    alloc: Global,
+    collator: &Collator,
+    left: &Text,
+    right: &Text,
+) -> Option<Ordering> {
+    let left = key_of(alloc, collator, left)?;
+    let right = key_of(alloc, collator, right)?;
+    Some(left.as_slice().cmp(right.as_slice()))
 }

@@ -70,7 +70,7 @@ fn set<'m>(
 }
 
 /// The tables, each checked by itself.
-fn load_all(mini: &Mini) -> Result<TableSet<'_>, DataError> {
+pub(crate) fn load_all(mini: &Mini) -> Result<TableSet<'_>, DataError> {
     set(mini, mini.load_root(), mini.load_tailoring())
 }
 
@@ -81,14 +81,5 @@ fn checked(alloc: Global, mini: &Mini) -> Result<CheckedTables, DataError> {
         load_unchecked(&mini.root),
         load_tailoring_unchecked(mini),
     )?;
-    CheckedTables::new(
-        alloc,
-        set.root,
-        set.jamo,
-        set.special,
-        set.metadata,
-        set.tailoring,
-        set.reordering,
-        set.diacritics,
-    )
+    CheckedTables::from_set(alloc, set)
 }

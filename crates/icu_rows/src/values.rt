@@ -1,11 +1,13 @@
 //! Single values of tables.
 use crate::base::tables;
+use crate::lists::part;
 use crate::notation::{character, index, number8, number32};
 use crate::settings::variable_group;
-use icu_data::CodePointTable;
+use icu_data::{CodePointTable, ContextRow};
 use icu_mini::mini::Mini;
+use icu_options::MaxVariable;
 use icu_owned_data::DataVectors;
-use icu_provider::CollationMetadata;
+use icu_provider::{CollationMetadata, CollationSpecialPrimaries};
 use std::alloc::Global;
 
 /// A row is tables and what is asked of them.
@@ -13,34 +15,55 @@ pub(crate) fn value(alloc: Global, row: &str) -> Option<String> {
     let (written, question) = row.split_once('|')?;
     let mini = tables(alloc, written)?;
     let words: Vec<&str> = question.split_whitespace().collect(alloc).ok()?;
-    match words.as_slice() {
+    value_of(alloc, &mini, words.as_slice())
+}
+
+fn value_of(alloc: Global, mini: &Mini, words: &[&str]) -> Option<String> {
+    match words {
         ["tailoring", words @ ..] => value_of_data(alloc, mini.tailoring.as_ref()?, words),
-        ["jamo", at] => format!(in alloc; "{:08X}", mini.jamo.get(index(at)?)?).ok(),
-        ["diacritic", at] => format!(in alloc; "{:04X}", mini.diacritics.get(index(at)?)?).ok(),
+        ["jamo", at] => entry_at(alloc, mini.jamo.as_slice(), at),
+        ["diacritic", at] => weight_at(alloc, mini.diacritics.as_slice(), at),
         ["metadata"] => settings(alloc, mini.metadata),
-        ["reordered", primary] => reordered(alloc, &mini, number32(primary)?),
-        ["compressible", ..] | ["last", ..] => special_value(alloc, &mini, words.as_slice()),
+        ["reordered", primary] => reordered(alloc, mini, number32(primary)?),
+        ["compressible", ..] | ["last", ..] => special_value(alloc, mini, words),
         words => value_of_data(alloc, &mini.root, words),
     }
 }
 
 fn value_of_data(alloc: Global, data: &DataVectors, words: &[&str]) -> Option<String> {
     match words {
-        ["entry", c] => {
-            let table = CodePointTable::new(data.blocks.as_slice(), data.values.as_slice()).ok()?;
-            format!(in alloc; "{:08X}", table.get(character(alloc, c)?)).ok()
-        }
-        ["ce", at] => format!(in alloc; "{:016X}", data.ces.get(index(at)?)?).ok(),
-        ["ce32", at] => format!(in alloc; "{:08X}", data.ce32s.get(index(at)?)?).ok(),
+        ["entry", c] => entry(alloc, data, character(alloc, c)?),
+        ["ce", at] => element_at(alloc, data.ces.as_slice(), at),
+        ["ce32", at] => entry_at(alloc, data.ce32s.as_slice(), at),
         ["context", at] => context(alloc, data, index(at)?),
-        ["lengths"] => {
-            let (blocks, values) = (data.blocks.len(), data.values.len());
-            let (ces, ce32s) = (data.ces.len(), data.ce32s.len());
-            let contexts = data.contexts.len();
-            format!(in alloc; "{blocks} {values} {ces} {ce32s} {contexts}").ok()
-        }
+        ["lengths"] => lengths(alloc, data),
         _ => None,
     }
+}
+
+fn entry(alloc: Global, data: &DataVectors, c: char) -> Option<String> {
+    let table = CodePointTable::new(data.blocks.as_slice(), data.values.as_slice()).ok()?;
+    format!(in alloc; "{:08X}", table.get(c)).ok()
+}
+
+fn entry_at(alloc: Global, entries: &[u32], at: &str) -> Option<String> {
+    format!(in alloc; "{:08X}", entries.get(index(at)?)?).ok()
+}
+
+fn element_at(alloc: Global, elements: &[u64], at: &str) -> Option<String> {
+    format!(in alloc; "{:016X}", elements.get(index(at)?)?).ok()
+}
+
+fn weight_at(alloc: Global, weights: &[u16], at: &str) -> Option<String> {
+    format!(in alloc; "{:04X}", weights.get(index(at)?)?).ok()
+}
+
+/// The lengths of the lists: blocks, entries of blocks, elements, entries and contexts.
+fn lengths(alloc: Global, data: &DataVectors) -> Option<String> {
+    let (blocks, values) = (data.blocks.len(), data.values.len());
+    let (ces, ce32s) = (data.ces.len(), data.ce32s.len());
+    let contexts = data.contexts.len();
+    format!(in alloc; "{blocks} {values} {ces} {ce32s} {contexts}").ok()
 }
 
 /// A context: its default, and its rows.
@@ -49,20 +72,18 @@ fn context(alloc: Global, data: &DataVectors, at: usize) -> Option<String> {
     let rows = part(data.rows.as_slice(), context.rows_start, context.rows_len)?;
     let mut printed = format!(in alloc; "{:08X}", context.default).ok()?;
     for row in rows {
-        write!(printed, " ").ok()?;
-        for c in part(data.chars.as_slice(), row.chars_start, row.chars_len)? {
-            write!(printed, "{{{:X}}}", *c as u32).ok()?;
-        }
-        write!(printed, ":{:08X}", row.entry).ok()?;
+        push_row(&mut printed, row, data.chars.as_slice())?;
     }
     Some(printed)
 }
 
-/// So many items from an index on.
-fn part<T>(items: &[T], start: u32, len: u32) -> Option<&[T]> {
-    let start = usize::try_from(start).ok()?;
-    let len = usize::try_from(len).ok()?;
-    items.get(start..)?.get(..len)
+/// Appends a row: its characters and its entry.
+fn push_row(printed: &mut String, row: &ContextRow, chars: &[char]) -> Option<()> {
+    printed.push(' ').ok()?;
+    for c in part(chars, row.chars_start, row.chars_len)? {
+        write!(printed, "{{{:X}}}", *c as u32).ok()?;
+    }
+    write!(printed, ":{:08X}", row.entry).ok()
 }
 
 fn reordered(alloc: Global, mini: &Mini, primary: u32) -> Option<String> {
@@ -73,15 +94,23 @@ fn reordered(alloc: Global, mini: &Mini, primary: u32) -> Option<String> {
 fn special_value(alloc: Global, mini: &Mini, words: &[&str]) -> Option<String> {
     let special = mini.load_special_primaries().ok()?;
     match words {
-        ["compressible", lead] => {
-            format!(in alloc; "{}", special.is_compressible(number8(lead)?)).ok()
-        }
-        ["last", group] => {
-            let last = special.last_primary_for_group(variable_group(group)?);
-            format!(in alloc; "{last:08X}").ok()
-        }
+        ["compressible", lead] => compressible(alloc, special, number8(lead)?),
+        ["last", group] => last_primary(alloc, special, variable_group(group)?),
         _ => None,
     }
+}
+
+fn compressible(alloc: Global, special: CollationSpecialPrimaries<'_>, lead: u8) -> Option<String> {
+    format!(in alloc; "{}", special.is_compressible(lead)).ok()
+}
+
+/// The last primary weight of a variable group.
+fn last_primary(
+    alloc: Global,
+    special: CollationSpecialPrimaries<'_>,
+    group: MaxVariable,
+) -> Option<String> {
+    format!(in alloc; "{:08X}", special.last_primary_for_group(group)).ok()
 }
 
 /// The settings of metadata: the last variable group, the case that comes first, and the flags that are set.

@@ -52,30 +52,32 @@ fn compare_same(rt: &HostRuntime, collator: &Collator) -> Result<(), Fault> {
 }
 
 /// A collator by which digits are read as numbers: to read a number something is allocated.
-fn number_collator(rt: &HostRuntime, mini: &Mini) -> Result<Collator, Fault> {
+fn number_collator(rt: &HostRuntime) -> Result<Collator, Fault> {
+    let mini = twice(|| Mini::new(rt.alloc()))?;
     let preferences = CollatorPreferences {
         numeric_ordering: Some(CollationNumericOrdering::True),
         ..CollatorPreferences::default()
     };
     let options = CollatorOptions::default();
-    collator_by(rt.alloc(), mini, preferences, options).map_err(fault_of)
+    collator_by(rt.alloc(), &mini, preferences, options).map_err(fault_of)
+}
+
+fn run_by(rt: &HostRuntime, collator: &Collator, part: &str) -> Result<(), Fault> {
+    match part {
+        "same" => compare_same(rt, collator),
+        "ends" => compare_ends(rt, collator, 0),
+        "beginnings" => compare_ends(rt, collator, LEN),
+        _ => Ok(()),
+    }
 }
 
 /// Runs one of the parts whose numbers of allocations are compared: a collator alone, texts that are the same, short
 /// texts, and the same behind a long common beginning. None of them is run with the other parts.
 pub(crate) fn run(rt: &HostRuntime, part: Option<&str>) -> Result<(), Fault> {
-    let Some(part) = part else {
-        return Ok(());
-    };
-    if !matches!(part, "collator" | "same" | "ends" | "beginnings") {
-        return Ok(());
-    }
-    let mini = twice(|| Mini::new(rt.alloc()))?;
-    let collator = number_collator(rt, &mini)?;
     match part {
-        "same" => compare_same(rt, &collator),
-        "ends" => compare_ends(rt, &collator, 0),
-        "beginnings" => compare_ends(rt, &collator, LEN),
+        Some(part @ ("collator" | "same" | "ends" | "beginnings")) => {
+            run_by(rt, &number_collator(rt)?, part)
+        }
         _ => Ok(()),
     }
 }

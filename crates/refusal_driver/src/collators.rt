@@ -67,6 +67,12 @@ pub(crate) fn collator(
     }
 }
 
+/// A collator by Mini's tables. A function that holds both is dear to prove.
+pub(crate) fn mini_collator(rt: &HostRuntime, strength: Strength) -> Result<Collator, Fault> {
+    let mini = twice(|| Mini::new(rt.alloc()))?;
+    collator(rt, &mini, strength)
+}
+
 fn try_tables(alloc: Global, mini: &Mini) -> Result<CheckedTables, DataError> {
     CheckedTables::from_set(alloc, load_tables(&mini.provider(), "", None)?)
 }
@@ -82,17 +88,27 @@ fn tables(rt: &HostRuntime, mini: &Mini) -> Result<CheckedTables, Fault> {
     }
 }
 
-fn print_parts(rt: &HostRuntime, name: &str, mini: &Mini) -> Result<(), Fault> {
-    let tables = tables(rt, mini)?;
+/// Whether a collator that is asked for the primary strength has it.
+fn is_primary(rt: &HostRuntime, mini: &Mini) -> Result<bool, Fault> {
     let collator = collator(rt, mini, Strength::Primary)?;
-    let is_primary = collator.as_borrowed().resolved_options().strength == Strength::Primary;
-    println!(rt;
-        "{name}: {} jamo, {} diacritics, tailoring: {}, reordering: {}, primary strength: {is_primary}",
+    Ok(collator.as_borrowed().resolved_options().strength == Strength::Primary)
+}
+
+fn print_tables(rt: &HostRuntime, tables: &CheckedTables) -> Result<(), Fault> {
+    print!(rt;
+        "{} jamo, {} diacritics, tailoring: {}, reordering: {}, ",
         tables.jamo().ce32s().len(),
         tables.diacritics().secondaries().len(),
         tables.tailoring().is_some(),
         tables.reordering().is_some()
     )?;
+    Ok(())
+}
+
+fn print_parts(rt: &HostRuntime, name: &str, mini: &Mini) -> Result<(), Fault> {
+    print!(rt; "{name}: ")?;
+    print_tables(rt, &tables(rt, mini)?)?;
+    println!(rt; "primary strength: {}", is_primary(rt, mini)?)?;
     Ok(())
 }
 

@@ -1,9 +1,8 @@
 //! Comparisons, in each encoding.
-use crate::collators::collator;
+use crate::collators::mini_collator;
 use crate::fault::{Fault, twice};
 use crate::texts::{long_text, long_units};
 use icu_comparison::Collator;
-use icu_mini::mini::Mini;
 use icu_options::Strength;
 use std::alloc::AllocError;
 use std::cmp::Ordering;
@@ -85,11 +84,13 @@ fn compare_long_units(rt: &HostRuntime, collator: &Collator) -> Result<(), Fault
     print_order(rt, collator, Texts::Utf16(units.as_slice(), &short))
 }
 
+fn run_by(rt: &HostRuntime, collator: &Collator) -> Result<(), Fault> {
+    compare_short(rt, collator)?;
+    compare_long(rt, collator)?;
+    compare_long_units(rt, collator)
+}
+
 /// Compares texts, short and long.
 pub(crate) fn run(rt: &HostRuntime) -> Result<(), Fault> {
-    let mini = twice(|| Mini::new(rt.alloc()))?;
-    let collator = collator(rt, &mini, Strength::Tertiary)?;
-    compare_short(rt, &collator)?;
-    compare_long(rt, &collator)?;
-    compare_long_units(rt, &collator)
+    run_by(rt, &mini_collator(rt, Strength::Tertiary)?)
 }

@@ -1,6 +1,7 @@
 //! The collation elements of texts, and the weights of numbers.
-use crate::collators::collator;
+use crate::collators::{collator, mini_collator};
 use crate::fault::{Fault, twice};
+use icu_comparison::Collator;
 use icu_elements::{CollationElements, ElementTables, all_elements};
 use icu_mini::mini::Mini;
 use icu_numbers::digit_run_weights;
@@ -22,24 +23,31 @@ fn count(tables: ElementTables<'_>, text: &str) -> Result<usize, AllocError> {
     Ok(all_elements(tables, text.chars(), Some(0x0F), false)?.len())
 }
 
-/// Reads a text with a contraction and a mark that it passes over.
-fn run_contraction(rt: &HostRuntime) -> Result<(), Fault> {
-    let mini = twice(|| Mini::with_a_ring(rt.alloc()))?;
-    let collator = collator(rt, &mini, Strength::Tertiary)?;
-    let tables = collator.as_borrowed().tables();
-    let (first, second) = twice(|| first_two(tables, "a\u{323}\u{30A}b"))?;
+fn print_first_two(rt: &HostRuntime, tables: ElementTables<'_>, text: &str) -> Result<(), Fault> {
+    let (first, second) = twice(|| first_two(tables, text))?;
     println!(rt; "{first:08X} {second:08X}")?;
-    println!(rt; "{} elements", twice(|| count(tables, "a\u{323}\u{30A}b"))?)?;
     Ok(())
 }
 
-/// Reads the elements of texts.
-pub(crate) fn run(rt: &HostRuntime) -> Result<(), Fault> {
-    let mini = twice(|| Mini::new(rt.alloc()))?;
-    let collator = collator(rt, &mini, Strength::Tertiary)?;
-    let tables = collator.as_borrowed().tables();
-    let (first, second) = twice(|| first_two(tables, "ab"))?;
-    println!(rt; "{first:08X} {second:08X}")?;
+fn print_count(rt: &HostRuntime, tables: ElementTables<'_>, text: &str) -> Result<(), Fault> {
+    println!(rt; "{} elements", twice(|| count(tables, text))?)?;
+    Ok(())
+}
+
+/// A collator by tables that have contractions.
+fn collator_of_contractions(rt: &HostRuntime) -> Result<Collator, Fault> {
+    let mini = twice(|| Mini::with_a_ring(rt.alloc()))?;
+    collator(rt, &mini, Strength::Tertiary)
+}
+
+/// Reads a text with a contraction and a mark that it passes over.
+fn read_contraction(rt: &HostRuntime, tables: ElementTables<'_>) -> Result<(), Fault> {
+    print_first_two(rt, tables, "a\u{323}\u{30A}b")?;
+    print_count(rt, tables, "a\u{323}\u{30A}b")
+}
+
+fn read_others(rt: &HostRuntime, tables: ElementTables<'_>) -> Result<(), Fault> {
+    print_first_two(rt, tables, "ab")?;
     for text in [
         "",
         "áb",
@@ -47,9 +55,22 @@ pub(crate) fn run(rt: &HostRuntime) -> Result<(), Fault> {
         "di Silva, Di Silva, diSilva, and so on to thirty-two and more",
         "a1b22c333",
     ] {
-        println!(rt; "{} elements", twice(|| count(tables, text))?)?;
+        print_count(rt, tables, text)?;
     }
+    Ok(())
+}
+
+fn print_weights(rt: &HostRuntime) -> Result<(), Fault> {
     let weights = twice(|| digit_run_weights(rt.alloc(), 0x0F, &[1, 2, 3, 4, 5, 6, 7, 8, 9]))?;
     println!(rt; "{} weights", weights.len())?;
-    run_contraction(rt)
+    Ok(())
+}
+
+/// Reads the elements of texts.
+pub(crate) fn run(rt: &HostRuntime) -> Result<(), Fault> {
+    let collator = mini_collator(rt, Strength::Tertiary)?;
+    read_others(rt, collator.as_borrowed().tables())?;
+    print_weights(rt)?;
+    let collator = collator_of_contractions(rt)?;
+    read_contraction(rt, collator.as_borrowed().tables())
 }

@@ -1,8 +1,8 @@
 //! An index of names.
-use crate::collators::collator;
+use crate::collators::mini_collator;
 use crate::fault::{Fault, twice};
+use icu_comparison::Collator;
 use icu_index::NameIndex;
-use icu_mini::mini::Mini;
 use icu_options::Strength;
 use std::alloc::{AllocError, Global};
 
@@ -36,16 +36,29 @@ fn equals(index: &NameIndex<'_>, name: &str) -> Result<usize, AllocError> {
     Ok(index.equal_to(name.as_bytes())?.len())
 }
 
-/// Puts names into an index and lists them.
-pub(crate) fn run(rt: &HostRuntime) -> Result<(), Fault> {
-    let mini = twice(|| Mini::new(rt.alloc()))?;
-    let collator = collator(rt, &mini, Strength::Tertiary)?;
-    let mut index = NameIndex::new(rt.alloc(), &collator);
+fn print_listing(rt: &HostRuntime, index: &NameIndex<'_>) -> Result<(), Fault> {
+    let text = twice(|| listing(rt.alloc(), index))?;
+    println!(rt; "{} names: {text}", index.len())?;
+    Ok(())
+}
+
+fn print_equals(rt: &HostRuntime, index: &NameIndex<'_>) -> Result<(), Fault> {
+    println!(rt; "{} like a", twice(|| equals(index, "a"))?)?;
+    Ok(())
+}
+
+/// An index of the names, which is listed after each of them.
+fn listed<'c>(rt: &HostRuntime, collator: &'c Collator) -> Result<NameIndex<'c>, Fault> {
+    let mut index = NameIndex::new(rt.alloc(), collator);
     for name in &NAMES {
         insert(rt, &mut index, name)?;
-        let text = twice(|| listing(rt.alloc(), &index))?;
-        println!(rt; "{} names: {text}", index.len())?;
+        print_listing(rt, &index)?;
     }
-    println!(rt; "{} like a", twice(|| equals(&index, "a"))?)?;
-    Ok(())
+    Ok(index)
+}
+
+/// Puts names into an index and lists them.
+pub(crate) fn run(rt: &HostRuntime) -> Result<(), Fault> {
+    let collator = mini_collator(rt, Strength::Tertiary)?;
+    print_equals(rt, &listed(rt, &collator)?)
 }

@@ -1,10 +1,9 @@
 //! Sort keys of texts, in each encoding that keys are written of.
-use crate::collators::collator;
+use crate::collators::mini_collator;
 use crate::fault::{Fault, twice};
 use crate::kept::say_kept;
 use crate::texts::{long_text, long_units};
 use icu_comparison::Collator;
-use icu_mini::mini::Mini;
 use icu_options::Strength;
 use std::alloc::{AllocError, Global};
 
@@ -50,16 +49,22 @@ fn say_short_lengths(rt: &HostRuntime, collator: &Collator) -> Result<(), Fault>
     Ok(())
 }
 
-/// Writes keys of all levels, short ones and long ones.
-pub(crate) fn run(rt: &HostRuntime) -> Result<(), Fault> {
-    let mini = twice(|| Mini::new(rt.alloc()))?;
-    let collator = collator(rt, &mini, Strength::Identical)?;
-    say_short_lengths(rt, &collator)?;
-    say_kept(rt, &collator, "áAbc")?;
+fn say_long_lengths(rt: &HostRuntime, collator: &Collator) -> Result<(), Fault> {
     let long = twice(|| long_text(rt.alloc(), "e\u{301}", "A"))?;
     let long = long.as_str();
-    say_length(rt, &collator, Text::Characters(long))?;
-    say_length(rt, &collator, Text::Utf8(long.as_bytes()))?;
+    say_length(rt, collator, Text::Characters(long))?;
+    say_length(rt, collator, Text::Utf8(long.as_bytes()))?;
     let units = twice(|| long_units(rt.alloc(), &[0x65, 0x301], 0x41))?;
-    say_length(rt, &collator, Text::Utf16(units.as_slice()))
+    say_length(rt, collator, Text::Utf16(units.as_slice()))
+}
+
+fn run_by(rt: &HostRuntime, collator: &Collator) -> Result<(), Fault> {
+    say_short_lengths(rt, collator)?;
+    say_kept(rt, collator, "áAbc")?;
+    say_long_lengths(rt, collator)
+}
+
+/// Writes keys of all levels, short ones and long ones.
+pub(crate) fn run(rt: &HostRuntime) -> Result<(), Fault> {
+    run_by(rt, &mini_collator(rt, Strength::Identical)?)
 }

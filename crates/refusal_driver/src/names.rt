@@ -1,9 +1,8 @@
 //! Names with accents and in Hangul: nothing is allocated to compare them, nor for their sort keys.
-use crate::collators::collator;
+use crate::collators::mini_collator;
 use crate::comparisons::{Texts, print_order};
-use crate::fault::{Fault, twice};
+use crate::fault::Fault;
 use icu_comparison::Collator;
-use icu_mini::mini::Mini;
 use icu_options::Strength;
 
 /// Names whose first letters decide, though a mark that comes before theirs follows them.
@@ -56,21 +55,22 @@ fn compare_pieces(rt: &HostRuntime, collator: &Collator) -> Result<(), Fault> {
     )
 }
 
+fn run_by(rt: &HostRuntime, collator: &Collator, part: &str) -> Result<(), Fault> {
+    match part {
+        "names" => compare_names(rt, collator),
+        "name-keys" => write_keys(rt, collator),
+        "pieces" => compare_pieces(rt, collator),
+        _ => Ok(()),
+    }
+}
+
 /// Runs one of the parts whose numbers of allocations are compared: a collator alone, names, their keys, and texts that
 /// are read with what follows them. None of them is run with the other parts.
 pub(crate) fn run(rt: &HostRuntime, part: Option<&str>) -> Result<(), Fault> {
-    let Some(part) = part else {
-        return Ok(());
-    };
-    if !matches!(part, "plain" | "names" | "name-keys" | "pieces") {
-        return Ok(());
-    }
-    let mini = twice(|| Mini::new(rt.alloc()))?;
-    let collator = collator(rt, &mini, Strength::Tertiary)?;
     match part {
-        "names" => compare_names(rt, &collator),
-        "name-keys" => write_keys(rt, &collator),
-        "pieces" => compare_pieces(rt, &collator),
+        Some(part @ ("plain" | "names" | "name-keys" | "pieces")) => {
+            run_by(rt, &mini_collator(rt, Strength::Tertiary)?, part)
+        }
         _ => Ok(()),
     }
 }

@@ -1,14 +1,19 @@
 //! The entries of characters.
 use crate::cldr::files::read;
+use crate::lists::part;
+use icu_cldr::CldrRoot;
 use icu_data::{Context, ContextRow};
 use icu_fractional::hexadecimal::character;
 use icu_provider::CollationProvider;
-use std::alloc::{AllocError, Global};
+use std::alloc::Global;
 
 /// A row is lines and the number of a character. Its entry in the root is printed with what it refers to.
 pub(crate) fn entry(alloc: Global, row: &str) -> Option<String> {
     let (lines, number) = row.rsplit_once(" => ")?;
-    let root = read(alloc, lines).ok()?;
+    entry_of(alloc, &read(alloc, lines).ok()?, character(number)?)
+}
+
+fn entry_of(alloc: Global, root: &CldrRoot, c: char) -> Option<String> {
     let (table, ces, ce32s, contexts) = root.load_root().ok()?.parts();
     let (contexts, rows, chars) = contexts.parts();
     let lists = Lists {
@@ -19,7 +24,7 @@ pub(crate) fn entry(alloc: Global, row: &str) -> Option<String> {
         chars,
     };
     let mut text = String::new(alloc);
-    lists.push(&mut text, table.get(character(number)?)).ok()?;
+    lists.push(&mut text, table.get(c))?;
     Some(text)
 }
 
@@ -35,66 +40,67 @@ struct Lists<'d> {
 
 impl<'d> Lists<'d> {
     /// Appends an entry; of a prefix or a contraction also its context.
-    fn push(self, text: &mut String, entry: u32) -> Result<(), AllocError> {
+    fn push(self, text: &mut String, entry: u32) -> Option<()> {
         match entry & 0xFF {
-            0xC8 => text.push_str("prefix")?,
-            0xC9 => text.push_str("contraction")?,
+            0xC8 => text.push_str("prefix").ok()?,
+            0xC9 => text.push_str("contraction").ok()?,
             _ => return self.push_final(text, entry),
         }
-        for context in self.contexts.iter().skip((entry >> 13) as usize).take(1) {
-            self.push_context(text, context)?;
-        }
-        Ok(())
+        self.push_context(text, self.contexts.get((entry >> 13) as usize)?)
     }
 
     /// Appends a context: its default, and its rows.
-    fn push_context(self, text: &mut String, context: &Context) -> Result<(), AllocError> {
-        text.push(' ')?;
+    fn push_context(self, text: &mut String, context: &Context) -> Option<()> {
+        text.push(' ').ok()?;
         self.push_final(text, context.default)?;
-        let rows = self.rows.iter().skip(context.rows_start as usize);
-        for row in rows.take(context.rows_len as usize) {
+        for row in part(self.rows, context.rows_start, context.rows_len)? {
             self.push_row(text, row)?;
         }
-        Ok(())
+        Some(())
     }
 
     /// Appends a row: its characters and its entry.
-    fn push_row(self, text: &mut String, row: &ContextRow) -> Result<(), AllocError> {
-        let chars = self.chars.iter().skip(row.chars_start as usize);
-        for c in chars.take(row.chars_len as usize) {
-            write!(text, " {:04X}", *c as u32)?;
+    fn push_row(self, text: &mut String, row: &ContextRow) -> Option<()> {
+        for c in part(self.chars, row.chars_start, row.chars_len)? {
+            write!(text, " {:04X}", *c as u32).ok()?;
         }
-        text.push('=')?;
+        text.push('=').ok()?;
         self.push_final(text, row.entry)
     }
 
     /// Appends an entry that has no context, with the members of its list.
-    fn push_final(self, text: &mut String, entry: u32) -> Result<(), AllocError> {
-        let index = (entry >> 13) as usize;
-        let len = (entry >> 8 & 0x1F) as usize;
+    fn push_final(self, text: &mut String, entry: u32) -> Option<()> {
+        let (index, len) = (entry >> 13, entry >> 8 & 0x1F);
         match entry & 0xFF {
-            0xC5 => {
-                for member in self.ce32s.iter().skip(index).take(len) {
-                    write!(text, "({member:08X})")?;
-                }
-            }
-            0xC6 => {
-                for member in self.ces.iter().skip(index).take(len) {
-                    write!(text, "({member:016X})")?;
-                }
-            }
-            0xCA => {
-                for plain in self.ce32s.iter().skip(index).take(1) {
-                    write!(text, "digit {} {plain:08X}", entry >> 8 & 0xF)?;
-                }
-            }
-            0xCE => {
-                for bits in self.ces.iter().skip(index).take(1) {
-                    write!(text, "offset {bits:016X}")?;
-                }
-            }
-            _ => write!(text, "{entry:08X}")?,
+            0xC5 => self.push_entries(text, index, len),
+            0xC6 => self.push_elements(text, index, len),
+            0xCA => self.push_digit(text, index, len & 0xF),
+            0xCE => self.push_offset(text, index),
+            _ => write!(text, "{entry:08X}").ok(),
         }
-        Ok(())
+    }
+
+    fn push_entries(self, text: &mut String, index: u32, len: u32) -> Option<()> {
+        for entry in part(self.ce32s, index, len)? {
+            write!(text, "({entry:08X})").ok()?;
+        }
+        Some(())
+    }
+
+    fn push_elements(self, text: &mut String, index: u32, len: u32) -> Option<()> {
+        for element in part(self.ces, index, len)? {
+            write!(text, "({element:016X})").ok()?;
+        }
+        Some(())
+    }
+
+    fn push_digit(self, text: &mut String, index: u32, digit: u32) -> Option<()> {
+        let plain = self.ce32s.get(index as usize)?;
+        write!(text, "digit {digit} {plain:08X}").ok()
+    }
+
+    fn push_offset(self, text: &mut String, index: u32) -> Option<()> {
+        let bits = self.ces.get(index as usize)?;
+        write!(text, "offset {bits:016X}").ok()
     }
 }

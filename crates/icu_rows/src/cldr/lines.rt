@@ -1,5 +1,5 @@
 //! Single lines.
-use icu_fractional::{FractionalElement, Line, LineError, Mapping, Primary};
+use icu_fractional::{CharRange, FractionalElement, Line, LineError, Mapping, Primary};
 use std::alloc::{AllocError, Global};
 
 /// What a line says, or what was expected of it. Where it is read, each beginning of it is refused or says a beginning
@@ -42,15 +42,19 @@ fn said(alloc: Global, line: &str) -> Result<String, LineError> {
         Line::Mapping(mapping) => push_mapping(&mut text, &mapping)?,
         Line::NumericLead(lead) => write!(text, "numbers {lead:02X}")?,
         Line::LeadByte(byte) => write!(text, "lead {:02X} {}", byte.lead, byte.is_compressible)?,
-        Line::Ideographs(ranges) => {
-            text.push_str("ideographs")?;
-            for range in ranges.iter() {
-                let (first, last) = (range.first as u32, range.last as u32);
-                write!(text, " {first:04X}-{last:04X}")?;
-            }
-        }
+        Line::Ideographs(ranges) => push_ranges(&mut text, ranges.as_slice())?,
     }
     Ok(text)
+}
+
+/// Appends the ranges of the unified ideographs.
+fn push_ranges(text: &mut String, ranges: &[CharRange]) -> Result<(), AllocError> {
+    text.push_str("ideographs")?;
+    for range in ranges {
+        let (first, last) = (range.first as u32, range.last as u32);
+        write!(text, " {first:04X}-{last:04X}")?;
+    }
+    Ok(())
 }
 
 /// Appends a mapping: the characters before a bar, those that are mapped, the elements.

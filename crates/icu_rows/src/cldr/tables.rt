@@ -8,25 +8,40 @@ use std::alloc::Global;
 /// A row is lines and what is asked of the tables that they come to.
 pub(crate) fn value(alloc: Global, row: &str) -> Option<String> {
     let (lines, question) = row.rsplit_once(" => ")?;
-    let root = read(alloc, lines).ok()?;
-    let request = DataRequest::default();
+    value_of(alloc, &read(alloc, lines).ok()?, question)
+}
+
+fn value_of(alloc: Global, root: &CldrRoot, question: &str) -> Option<String> {
     match question {
-        "metadata" => format!(in alloc; "{}", root.load_metadata(request).ok()?.bits).ok(),
-        "tailoring" => match root.load_tailoring(request) {
-            Ok(_) => None,
-            Err(error) => error.to_string(alloc).ok(),
-        },
-        "reordering" => match root.load_reordering(request) {
-            Ok(_) => None,
-            Err(error) => error.to_string(alloc).ok(),
-        },
-        "numeric lead" => {
-            let lead = root.load_special_primaries().ok()?.numeric_primary();
-            format!(in alloc; "{lead:02X}").ok()
-        }
-        "last primaries" => last_primaries(alloc, &root),
-        question => member(alloc, &root, question),
+        "metadata" => metadata(alloc, root),
+        "tailoring" => no_tailoring(alloc, root),
+        "reordering" => no_reordering(alloc, root),
+        "numeric lead" => numeric_lead(alloc, root),
+        "last primaries" => last_primaries(alloc, root),
+        question => member(alloc, root, question),
     }
+}
+
+fn metadata(alloc: Global, root: &CldrRoot) -> Option<String> {
+    let metadata = root.load_metadata(DataRequest::default()).ok()?;
+    format!(in alloc; "{}", metadata.bits).ok()
+}
+
+/// Why there is no tailoring.
+fn no_tailoring(alloc: Global, root: &CldrRoot) -> Option<String> {
+    let refused = root.load_tailoring(DataRequest::default()).err()?;
+    refused.to_string(alloc).ok()
+}
+
+/// Why there is no reordering.
+fn no_reordering(alloc: Global, root: &CldrRoot) -> Option<String> {
+    let refused = root.load_reordering(DataRequest::default()).err()?;
+    refused.to_string(alloc).ok()
+}
+
+fn numeric_lead(alloc: Global, root: &CldrRoot) -> Option<String> {
+    let special = root.load_special_primaries().ok()?;
+    format!(in alloc; "{:02X}", special.numeric_primary()).ok()
 }
 
 /// The numbers of the four variable groups.
@@ -43,23 +58,27 @@ fn last_primaries(alloc: Global, root: &CldrRoot) -> Option<String> {
 fn member(alloc: Global, root: &CldrRoot, question: &str) -> Option<String> {
     let (table, index) = question.split_once(' ')?;
     match table {
-        "jamo" => {
-            let entry = *root
-                .load_jamo()
-                .ok()?
-                .ce32s()
-                .get(index.parse::<usize>().ok()?)?;
-            format!(in alloc; "{entry:08X}").ok()
-        }
-        "diacritic" => {
-            let marks = root.load_diacritics(DataRequest::default()).ok()?;
-            let weight = *marks.secondaries().get(index.parse::<usize>().ok()?)?;
-            format!(in alloc; "{weight:04X}").ok()
-        }
-        "compressible" => {
-            let special = root.load_special_primaries().ok()?;
-            format!(in alloc; "{}", special.is_compressible(byte(index)?)).ok()
-        }
+        "jamo" => jamo_entry(alloc, root, index),
+        "diacritic" => diacritic_weight(alloc, root, index),
+        "compressible" => compressible(alloc, root, index),
         _ => None,
     }
+}
+
+fn jamo_entry(alloc: Global, root: &CldrRoot, index: &str) -> Option<String> {
+    let jamo = root.load_jamo().ok()?;
+    let entry = jamo.ce32s().get(index.parse::<usize>().ok()?)?;
+    format!(in alloc; "{entry:08X}").ok()
+}
+
+fn diacritic_weight(alloc: Global, root: &CldrRoot, index: &str) -> Option<String> {
+    let marks = root.load_diacritics(DataRequest::default()).ok()?;
+    let weight = marks.secondaries().get(index.parse::<usize>().ok()?)?;
+    format!(in alloc; "{weight:04X}").ok()
+}
+
+/// Whether sort keys compress primary weights with a lead byte.
+fn compressible(alloc: Global, root: &CldrRoot, lead: &str) -> Option<String> {
+    let special = root.load_special_primaries().ok()?;
+    format!(in alloc; "{}", special.is_compressible(byte(lead)?)).ok()
 }
