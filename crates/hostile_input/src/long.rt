@@ -88,9 +88,7 @@ impl Kind {
             ],
         }
     }
-}
 
-impl Kind {
     /// Two texts of some `count` characters.
     fn texts(self, alloc: Global, count: u64) -> Result<(String, String), AllocError> {
         let [left, right] = self.parts(count);
@@ -120,7 +118,7 @@ fn push_repeated(text: &mut String, part: &str, count: u64) -> Result<(), AllocE
     Ok(())
 }
 
-/// A tailoring in which "a" begins the contractions "ab", "aab" and so on, up to six times "a".
+/// A tailoring in which "a" begins the contractions "ab", "aab" and so on, up to seven times "a".
 fn beginnings(alloc: Global) -> Result<DataVectors, Fault> {
     let mut builder = DataBuilder::new(alloc, FALLBACK_CE32)?;
     builder.set_entry('a', CONTRACTION_CE32);

@@ -71,19 +71,19 @@ fn change_reordering(alloc: Global, reordering: &mut ReorderingData, words: &[&s
 
 fn change_data(alloc: Global, data: &mut DataVectors, words: &[&str]) -> Option<()> {
     match words {
-        ["all", entry] => set_all(alloc, data, number32(entry)?),
+        ["all", entry] => {
+            *data = DataBuilder::new(alloc, number32(entry)?)
+                .ok()?
+                .build()
+                .ok()?;
+            Some(())
+        }
         ["entry", c, entry] => set_entry(data, character(alloc, c)?, number32(entry)?),
         ["blocks", len] => resize(&mut data.blocks, len, 0),
         ["block", at, block] => put(data.blocks.as_mut_slice(), at, number16(block)),
         ["values", len] => resize(&mut data.values, len, 0xCF),
         _ => change_lists(alloc, data, words),
     }
-}
-
-/// Gives all characters one entry.
-fn set_all(alloc: Global, data: &mut DataVectors, entry: u32) -> Option<()> {
-    *data = DataBuilder::new(alloc, entry).ok()?.build().ok()?;
-    Some(())
 }
 
 /// Gives a character another entry: its block is copied, in case others share it.

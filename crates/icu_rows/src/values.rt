@@ -5,9 +5,8 @@ use crate::notation::{character, index, number8, number32};
 use crate::settings::variable_group;
 use icu_data::{CodePointTable, ContextRow};
 use icu_mini::mini::Mini;
-use icu_options::MaxVariable;
 use icu_owned_data::DataVectors;
-use icu_provider::{CollationMetadata, CollationSpecialPrimaries};
+use icu_provider::CollationMetadata;
 use std::alloc::Global;
 
 /// A row is tables and what is asked of them.
@@ -36,7 +35,12 @@ fn value_of_data(alloc: Global, data: &DataVectors, words: &[&str]) -> Option<St
         ["ce", at] => element_at(alloc, data.ces.as_slice(), at),
         ["ce32", at] => entry_at(alloc, data.ce32s.as_slice(), at),
         ["context", at] => context(alloc, data, index(at)?),
-        ["lengths"] => lengths(alloc, data),
+        ["lengths"] => {
+            let (blocks, values) = (data.blocks.len(), data.values.len());
+            let (ces, ce32s) = (data.ces.len(), data.ce32s.len());
+            let contexts = data.contexts.len();
+            format!(in alloc; "{blocks} {values} {ces} {ce32s} {contexts}").ok()
+        }
         _ => None,
     }
 }
@@ -56,14 +60,6 @@ fn element_at(alloc: Global, elements: &[u64], at: &str) -> Option<String> {
 
 fn weight_at(alloc: Global, weights: &[u16], at: &str) -> Option<String> {
     format!(in alloc; "{:04X}", weights.get(index(at)?)?).ok()
-}
-
-/// The lengths of the lists: blocks, entries of blocks, elements, entries and contexts.
-fn lengths(alloc: Global, data: &DataVectors) -> Option<String> {
-    let (blocks, values) = (data.blocks.len(), data.values.len());
-    let (ces, ce32s) = (data.ces.len(), data.ce32s.len());
-    let contexts = data.contexts.len();
-    format!(in alloc; "{blocks} {values} {ces} {ce32s} {contexts}").ok()
 }
 
 /// A context: its default, and its rows.
@@ -94,23 +90,15 @@ fn reordered(alloc: Global, mini: &Mini, primary: u32) -> Option<String> {
 fn special_value(alloc: Global, mini: &Mini, words: &[&str]) -> Option<String> {
     let special = mini.load_special_primaries().ok()?;
     match words {
-        ["compressible", lead] => compressible(alloc, special, number8(lead)?),
-        ["last", group] => last_primary(alloc, special, variable_group(group)?),
+        ["compressible", lead] => {
+            format!(in alloc; "{}", special.is_compressible(number8(lead)?)).ok()
+        }
+        ["last", group] => {
+            let last = special.last_primary_for_group(variable_group(group)?);
+            format!(in alloc; "{last:08X}").ok()
+        }
         _ => None,
     }
-}
-
-fn compressible(alloc: Global, special: CollationSpecialPrimaries<'_>, lead: u8) -> Option<String> {
-    format!(in alloc; "{}", special.is_compressible(lead)).ok()
-}
-
-/// The last primary weight of a variable group.
-fn last_primary(
-    alloc: Global,
-    special: CollationSpecialPrimaries<'_>,
-    group: MaxVariable,
-) -> Option<String> {
-    format!(in alloc; "{:08X}", special.last_primary_for_group(group)).ok()
 }
 
 /// The settings of metadata: the last variable group, the case that comes first, and the flags that are set.

@@ -74,8 +74,14 @@ impl<'d> Lists<'d> {
         match entry & 0xFF {
             0xC5 => self.push_entries(text, index, len),
             0xC6 => self.push_elements(text, index, len),
-            0xCA => self.push_digit(text, index, len & 0xF),
-            0xCE => self.push_offset(text, index),
+            0xCA => {
+                let plain = self.ce32s.get(index as usize)?;
+                write!(text, "digit {} {plain:08X}", len & 0xF).ok()
+            }
+            0xCE => {
+                let bits = self.ces.get(index as usize)?;
+                write!(text, "offset {bits:016X}").ok()
+            }
             _ => write!(text, "{entry:08X}").ok(),
         }
     }
@@ -92,15 +98,5 @@ impl<'d> Lists<'d> {
             write!(text, "({element:016X})").ok()?;
         }
         Some(())
-    }
-
-    fn push_digit(self, text: &mut String, index: u32, digit: u32) -> Option<()> {
-        let plain = self.ce32s.get(index as usize)?;
-        write!(text, "digit {digit} {plain:08X}").ok()
-    }
-
-    fn push_offset(self, text: &mut String, index: u32) -> Option<()> {
-        let bits = self.ces.get(index as usize)?;
-        write!(text, "offset {bits:016X}").ok()
     }
 }

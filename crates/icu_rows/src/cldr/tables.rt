@@ -1,6 +1,7 @@
 //! The tables beside the root.
 use crate::cldr::files::read;
 use icu_cldr::CldrRoot;
+use icu_entries::DataError;
 use icu_fractional::hexadecimal::byte;
 use icu_provider::{CollationProvider, DataRequest};
 use std::alloc::Global;
@@ -13,35 +14,24 @@ pub(crate) fn value(alloc: Global, row: &str) -> Option<String> {
 
 fn value_of(alloc: Global, root: &CldrRoot, question: &str) -> Option<String> {
     match question {
-        "metadata" => metadata(alloc, root),
-        "tailoring" => no_tailoring(alloc, root),
-        "reordering" => no_reordering(alloc, root),
-        "numeric lead" => numeric_lead(alloc, root),
+        "metadata" => {
+            let metadata = root.load_metadata(DataRequest::default()).ok()?;
+            format!(in alloc; "{}", metadata.bits).ok()
+        }
+        "tailoring" => refusal(alloc, root.load_tailoring(DataRequest::default()).err()),
+        "reordering" => refusal(alloc, root.load_reordering(DataRequest::default()).err()),
+        "numeric lead" => {
+            let special = root.load_special_primaries().ok()?;
+            format!(in alloc; "{:02X}", special.numeric_primary()).ok()
+        }
         "last primaries" => last_primaries(alloc, root),
         question => member(alloc, root, question),
     }
 }
 
-fn metadata(alloc: Global, root: &CldrRoot) -> Option<String> {
-    let metadata = root.load_metadata(DataRequest::default()).ok()?;
-    format!(in alloc; "{}", metadata.bits).ok()
-}
-
-/// Why there is no tailoring.
-fn no_tailoring(alloc: Global, root: &CldrRoot) -> Option<String> {
-    let refused = root.load_tailoring(DataRequest::default()).err()?;
-    refused.to_string(alloc).ok()
-}
-
-/// Why there is no reordering.
-fn no_reordering(alloc: Global, root: &CldrRoot) -> Option<String> {
-    let refused = root.load_reordering(DataRequest::default()).err()?;
-    refused.to_string(alloc).ok()
-}
-
-fn numeric_lead(alloc: Global, root: &CldrRoot) -> Option<String> {
-    let special = root.load_special_primaries().ok()?;
-    format!(in alloc; "{:02X}", special.numeric_primary()).ok()
+/// Why a table isn't there.
+fn refusal(alloc: Global, refused: Option<DataError>) -> Option<String> {
+    refused?.to_string(alloc).ok()
 }
 
 /// The numbers of the four variable groups.
