@@ -1,6 +1,5 @@
 //! The error that refuses a table, and the request for one.
-use icu_entries::{DataError, DataErrorKind, DataTable};
-use icu_provider::DataRequest;
+use icu_collator::provider::{DataError, DataErrorKind, DataRequest, DataTable};
 use std::process::Abort;
 use std::test::Fail;
 

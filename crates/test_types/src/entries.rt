@@ -1,5 +1,5 @@
-//! Entries and elements, and their parts.
-use icu_entries::{CollationElement, CollationElement32, Tag};
+//! Entries of code point tables: their elements, and their tags.
+use icu_collator::elements::{CollationElement, CollationElement32, Tag};
 use std::process::Abort;
 
 #[test]
@@ -34,6 +34,7 @@ fn entries_have_their_tags(rt: HostRuntime) {
     ] {
         assert_eq!(rt; CollationElement32::new(low).tag_checked(), tag, "{low}");
     }
+    assert_eq!(rt; CollationElement32::new(0xCF).tag(), Tag::Implicit);
     assert_eq!(rt;
         CollationElement32::new_from_ule([0xC5, 0x42, 1, 0]),
         CollationElement32::new(0x0001_42C5)

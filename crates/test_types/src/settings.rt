@@ -1,6 +1,5 @@
-//! The settings: what setters put, the numbers and the order of strengths. Worked rows of the merge stand in
-//! `icu_rows`.
-use icu_options::{
+//! The settings: what setters put, their defaults, the numbers and the order of strengths.
+use icu_collator::options::{
     AlternateHandling, CaseLevel, CollationCaseFirst, CollationNumericOrdering, CollatorOptions,
     CollatorOptionsBitField, MaxVariable, Strength,
 };
