@@ -1,5 +1,5 @@
-//! Tests of what no program can be asked: the public names of the library, its setters, parts of entries and elements,
-//! and the tables that single constructors refuse, each at the types that a caller writes; a reader that fails.
+//! Tests of what only a program in Rattle can write: public names by their paths, setters and parts of elements, and a
+//! reader that fails. All else is asked of the program `test_driver`.
 #![tactic(auto)]
 
 #[cfg(test)]
@@ -16,5 +16,3 @@ mod names;
 mod settings;
 #[cfg(test)]
 mod sinks;
-#[cfg(test)]
-mod walks;
