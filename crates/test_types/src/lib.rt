@@ -16,3 +16,5 @@ mod names;
 mod settings;
 #[cfg(test)]
 mod sinks;
+#[cfg(test)]
+mod tables;
