@@ -3,8 +3,6 @@
 #![tactic(auto)]
 
 #[cfg(test)]
-mod cldr;
-#[cfg(test)]
 mod elements;
 #[cfg(test)]
 mod entries;
