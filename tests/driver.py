@@ -58,7 +58,7 @@ def numbers(text):
 
 def written(some):
     """Numbers as an answer has them: a run of two or more equal ones is written with its length."""
-    runs = ((number, sum(1 for _ in equal)) for number, equal in itertools.groupby(some))
+    runs = ((number, len(list(equal))) for number, equal in itertools.groupby(some))
     return " ".join(f"{number:X}" if count == 1 else f"{number:X}*{count:X}" for number, count in runs)
 
 

@@ -1,0 +1,365 @@
+#!/usr/bin/env python3
+"""Checks worked rows by the program `test_driver`. The rows stand in tests/rows, a line each, with what is expected at its end:
+values from outside, none from the program.
+
+usage: tests/rows.py [PROGRAM ..]    prints the rows that don't hold, how many do, and what comes to light that no row can write;
+                                     without a program the builds of both compilers are asked
+       tests/rows.py --stdin         prints questions that stand for many of the rows, as crates/test_driver/stdin has them
+       tests/rows.py --stdout        prints the answers that they want, as crates/test_driver/stdout has them
+"""
+import os
+import sys
+import tempfile
+
+import row_questions as questions_of
+from driver import Driver, DriverFault, numbers, text, written
+from row_questions import Case
+from tables import bases
+
+TOP = os.path.dirname(os.path.dirname(os.path.realpath(__file__)))
+ROWS = os.path.join(TOP, "tests", "rows")
+FOLDER = os.path.join(TOP, "crates", "test_driver")
+PROGRAMS = [os.path.join(FOLDER, "out", it) for it in ("test_driver", "test_driver.by-rattle")]
+# Each file of rows: how many it has, so that none is lost, and what makes a case of a row.
+FILES = {
+    "refusals.txt": (305, questions_of.refusals),
+    "order.txt": (232, questions_of.order),
+    "keys.txt": (118, questions_of.keys),
+    "elements.txt": (69, questions_of.elements),
+    "values.txt": (166, questions_of.values),
+    "settings.txt": (37, questions_of.settings),
+    "encodings.txt": (478, questions_of.encodings),
+    "letters.txt": (34, questions_of.letters),
+    "cldr/lines.txt": (38, questions_of.line),
+    "cldr/entries.txt": (16, questions_of.entries),
+    "cldr/tables.txt": (11, questions_of.companions),
+    "cldr/refused.txt": (9, questions_of.refused),
+    "matches.txt": (15, questions_of.elements),
+    "taken.txt": (9, questions_of.taken),
+    "sinks.txt": (14, questions_of.sinks),
+    "names.txt": (16, questions_of.names),
+    "requests.txt": (17, questions_of.requests),
+    "resolved.txt": (5, questions_of.resolved),
+    "kept.txt": (17, questions_of.kept),
+}
+# What --stdin has at most, in bytes: of a row, and of all questions or answers.
+GREATEST_ROW, GREATEST = 4_000, 1_000_000
+# How a long text is shown.
+SHOWN = 300
+
+
+# ---- rows and their cases
+
+
+class Row:
+    """A row, and the case that it makes; none where it can't be read."""
+
+    def __init__(self, line, case):
+        self.line, self.case = line, case
+
+    def fault(self, answers):
+        """What is wrong with the answers to the questions of the row, if anything is."""
+        if self.case is None:
+            return f"{self.line}, but can't be read"
+        return None if self.case.holds(answers) else f"{self.line}, but found {brief(answers)}"
+
+
+def brief(answers):
+    """Answers as they are printed: those that only say `ok` are left out."""
+    said = [it for it in answers if it != "ok"]
+    said = "; ".join(it if len(it) < SHOWN else f"{it[:SHOWN]} .." for it in said[:8])
+    return said if len(said) < 3 * SHOWN else f"{said[:3 * SHOWN]} .."
+
+
+def lines_of(name):
+    """The rows of a file as it has them, with tables that a line `let NAME = TABLES` names in the place of the name."""
+    with open(os.path.join(ROWS, name), encoding="utf-8", newline="\n") as it:
+        lines = it.read().split("\n")
+    comment, named = "//" if name.startswith("cldr/") else "#", {}
+    for line in lines:
+        if line.startswith("let "):
+            what, _, tables = line[len("let ") :].partition(" = ")
+            named[what] = tables
+        elif line and not line.startswith(comment):
+            first, bar, rest = line.partition(" |")
+            yield f"{named[first]}{bar}{rest}" if first in named else line
+
+
+def rows_of(name, every):
+    """The rows of a file. `every` has the tables of each base."""
+    found = []
+    for line in lines_of(name):
+        try:
+            found.append(Row(line, FILES[name][1](every, line)))
+        except (ValueError, KeyError, IndexError, TypeError):
+            found.append(Row(line, None))
+    return found
+
+
+def asked(driver, rows):
+    """The answers to the questions of rows, a list for each of them."""
+    lists = [row.case.questions() if row.case else [] for row in rows]
+    answers = iter(driver.ask(question for some in lists for question in some))
+    return [[next(answers) for _ in some] for some in lists]
+
+
+def faults_of(name, rows, answers):
+    """The rows of a file that don't hold, and a wrong number of rows."""
+    found = [row.fault(some) for row, some in zip(rows, answers)]
+    wanted = FILES[name][0]
+    lost = [f"{name} has {len(rows)} rows in place of {wanted}"] if len(rows) != wanted else []
+    return [it for it in found if it] + lost
+
+
+# ---- what no row can write
+
+
+def unwritten():
+    """Cases that no row can write, by what they are about."""
+    long_line = "0041" + 9_999 * " 0042" + ";" + 10_000 * " [2A, 05, 05]"
+    letters = os.path.join(TOP, "crates", "collate_cldr", "data", "letters.txt")
+    with open(letters, "rb") as it:
+        content = it.read()
+    shown = [f"show {it}" for it in ("blocks", "values", "ces", "ce32s", "chars", "contexts", "rows", "jamo", "diacritics", "last")]
+    by_path = [f"file {letters}", *shown]
+    return {
+        "a long line": Case([], [f"line {text('c', long_line)}"], [is_long_line]),
+        "an empty file": Case([], [f"root {text('8', [])}"], ["collation table Diacritics: Element"]),
+        "bytes that are no UTF-8": Case([], [f"root {text('8', list(b'# a' + bytes([10, 0x23, 0x20, 0xFF, 10])))}"], ["line 2: expected UTF-8"]),
+        "a file that isn't there": Case([], ["file none"], [lambda found: found not in ("ok", "")]),
+        "a file by its name": Case([], [*by_path, f"root {text('8', list(content))}", *shown], is_said_twice),
+        "10,000 names": many_names(),
+        "bytes written one by one": Case([], [f"bytes {it}" for it in questions_of.LISTS], 3 * [written([0x7F, 0x61, 0x10] + 40 * [5])]),
+        "what can't be read": Case([], ["base Maxi", "compare c 61", "key 32 61", "make 2 FF FF", "set values G"], lambda found: False),
+    }
+
+
+def is_long_line(said):
+    """Whether a line says that a character, 9,999 others and 10,000 elements are mapped."""
+    before, _, elements = said.partition(":")
+    return before == "map | 0041" + 9_999 * " 0042" and elements == 10_000 * " 2A000000.0500.0500"
+
+
+def is_said_twice(found):
+    half = len(found) // 2
+    return found[0] == "ok" and found[:half] == found[half:]
+
+
+def many_names():
+    """An index of 10,000 names of two letters, each of nine names often."""
+    names = ["abc"[number % 3] + "abc"[number // 3 % 3] for number in range(10_000)]
+    texts = [text("8", it) for it in names]
+    in_order = [list(it.encode()) for it in sorted(names)]
+    equal = [it for it in in_order if bytes(it) == b"ab"]
+    asked = [f"names {' , '.join(texts)}", f"equals {' , '.join([text('8', 'ab'), *texts])}"]
+    setup = ["base Mini", f"make 2 {questions_of.six(questions_of.UNNAMED[1:])}"]
+    return Case(setup, asked, [questions_of.listing(in_order), questions_of.listing(equal)] if len(equal) == 1_111 else [])
+
+
+def unwritten_faults(driver):
+    """What of it isn't as it is wanted."""
+    cases = unwritten()
+    unread = cases.pop("what can't be read")
+    rows = [Row(name, case) for name, case in cases.items()]
+    found = [row.fault(some) for row, some in zip(rows, asked(driver, rows))]
+    answers = driver.ask(unread.asked)
+    return [it for it in found if it] + [f"{question}: {it}" for question, it in zip(unread.asked, answers) if it != "?"]
+
+
+# ---- planted faults
+
+
+def planted():
+    """Faults in the answers of a driver, each with the file of rows that has to find it: a function of a question and its answer."""
+    def at(begins, spoil):
+        return lambda question, answer: spoil(answer) if question.startswith(begins) and answer != "?" else answer
+
+    turned = {"Less": "Greater", "Greater": "Less"}
+    return [
+        ("another order by the call for Latin-1 and UTF-16", "order.txt",
+         lambda question, answer: turned.get(answer, answer) if question.startswith("compare 1 ") and ", 16" in question else answer),
+        ("a key with a byte lost", "keys.txt", at("key 16", lambda answer: answer.rpartition(" ")[0])),
+        ("a key that is empty", "keys.txt", at("key", lambda answer: "")),
+        ("a refusal with another kind", "refusals.txt", at("together", lambda answer: answer.replace("Overlap", "Compression"))),
+        ("a condition that isn't checked", "refusals.txt", at("alone", lambda answer: "ok" if answer.endswith("Chain") else answer)),
+        ("an element more", "elements.txt", at("readings", lambda answer: f"{answer} 00000000.0000.0000".strip())),
+        ("an entry of another character", "values.txt", at("tailoring entry", lambda answer: "C0")),
+        ("metadata that is left out", "settings.txt", at("merge", lambda answer: answer.replace(" backward", ""))),
+        ("two replacement characters for one", "encodings.txt", at("characters 16", lambda answer: answer.replace("FFFD", "FFFD*2", 1))),
+        ("a letter that is always safe", "letters.txt",
+         at("letter", lambda answer: answer if " safe" in answer else answer.replace(" 00000000", " safe 00000000"))),
+        ("a cut line that says more", "cldr/lines.txt", at("line", lambda answer: f"{answer} 0001" if answer.startswith("map |") else answer)),
+        ("a row of a context that is lost", "cldr/entries.txt", at("show rows", lambda answer: " ".join(answer.split()[:-3]))),
+        ("a lead byte that compresses", "cldr/tables.txt", at("compressible", lambda answer: "true")),
+        ("a line that counts for none", "cldr/refused.txt", at("root", lambda answer: answer.replace("line 90", "line 89"))),
+        ("hints that are trusted", "matches.txt", at("readings", lambda answer: answer.replace("61150000", "61100000 61140000"))),
+        ("characters read ahead", "taken.txt", at("taken", lambda answer: f"{int(answer, 16) + 3:X}")),
+        ("a slice that is too short and said to do", "sinks.txt", at("slice", lambda answer: answer.replace("too small", "ok"))),
+        ("a list that loses what it held", "sinks.txt", at("list deque", lambda answer: answer.replace("7F", "", 1).strip())),
+        ("a name that is listed twice", "names.txt", at("names", listed_twice)),
+        ("a request that isn't made", "requests.txt", at("request", lambda answer: answer.replace("Metadata+type Metadata", "Metadata+type"))),
+        ("the settings of the metadata left out", "resolved.txt", at("resolved", lambda answer: answer.replace("2 1 ", "2 0 ", 1))),
+        ("a table that isn't kept", "kept.txt", lambda question, answer: "reordering" if question == "kept" else answer),
+    ]
+
+
+def listed_twice(answer):
+    count, _, names = answer.partition(" : ")
+    first, comma, _ = names.partition(" , ")
+    return f"{count} : {first} , {names}" if comma else answer
+
+
+def missed(recorded):
+    """The planted faults that the rows let through, of the answers of a driver that was asked, by file of rows."""
+    found = []
+    for what, name, spoil in planted():
+        rows, answers = recorded[name]
+        spoilt = [
+            [spoil(question, answer) for question, answer in zip(row.case.questions(), some)] if row.case else []
+            for row, some in zip(rows, answers)
+        ]
+        if len(faults_of(name, rows, spoilt)) <= len(faults_of(name, rows, answers)):
+            found.append(f"not found: {what}")
+    return found
+
+
+# Programs around the true driver that don't answer each question, or not in time.
+CARELESS = [
+    ("an answer too few", '"$DRIVER" | sed 1d'),
+    ("an answer too many", '"$DRIVER"; echo'),
+    ("a status that isn't 0", '"$DRIVER"; exit 1'),
+    ("a message on standard error", '"$DRIVER"; echo no memory >&2'),
+    ("an end that doesn't come", '"$DRIVER"; sleep 9'),
+]
+
+
+def careless_missed(path):
+    """The programs around a driver that are not found."""
+    found = []
+    with tempfile.TemporaryDirectory(prefix="rows-") as room:
+        for what, script in CARELESS:
+            wrapper = os.path.join(room, "driver")
+            with open(wrapper, "w", encoding="utf-8") as it:
+                it.write(f"#!/bin/sh\nDRIVER='{path}'\n{script}\n")
+            os.chmod(wrapper, 0o700)
+            try:
+                Driver(wrapper, seconds=1).ask(["base Mini", "show numeric"])
+            except DriverFault:
+                continue
+            found.append(f"not found: {what}")
+    return found
+
+
+# ---- the questions and answers that the gate asks of each build as a program of its own
+
+
+def chosen(rows):
+    """Questions that stand for rows which say all answers, and are short; a comment says from which file they come."""
+    found = []
+    for name in FILES:
+        found.append((f"# {name}", ""))
+        for row in rows[name]:
+            answers = row.case.answers() if row.case else None
+            if answers is not None:
+                pairs = list(zip(row.case.questions(), answers))
+                if sum(len(question) + len(answer) + 2 for question, answer in pairs) <= GREATEST_ROW:
+                    found += pairs
+    return without_repeats(found)
+
+
+def without_repeats(pairs):
+    """Questions and answers without those that make the tables or the collator which there are."""
+    found, tables, collator, waiting = [], None, None, []
+    for question, answer in pairs:
+        word = question.partition(" ")[0]
+        if word == "base":
+            waiting = [(question, answer)]
+        elif word in ("set", "drop") and waiting:
+            waiting.append((question, answer))
+        else:
+            if waiting and waiting != tables:
+                found += waiting
+                tables, collator = waiting, None
+            waiting = []
+            if word == "root":
+                tables = collator = None
+            if word != "make" or question != collator:
+                found.append((question, answer))
+            collator = question if word == "make" else collator
+    return found
+
+
+def files_of(rows):
+    """What crates/test_driver has for the gate, by the files' names."""
+    pairs = chosen(rows)
+    return {"stdin": "".join(f"{it}\n" for it, _ in pairs), "stdout": "".join(f"{it}\n" for _, it in pairs)}
+
+
+def stale_files(rows):
+    """The files of crates/test_driver that are not what the rows come to."""
+    found = []
+    for name, wanted in files_of(rows).items():
+        found += [f"{name} would have {len(wanted)} bytes"] * (len(wanted) > GREATEST)
+        path = os.path.join(FOLDER, name)
+        with open(path, encoding="utf-8", newline="\n") as it:
+            if it.read() != wanted:
+                found.append(f"crates/test_driver/{name} is not what `tests/rows.py --{name}` prints")
+    return found
+
+
+# ---- the run of all
+
+
+def check_rows(report, programs):
+    """Checks all rows by each of these programs, and by the first one that faults are found."""
+    recorded = None
+    for path in programs:
+        driver, name_of = Driver(path), os.path.basename(path)
+        try:
+            every = bases(driver)
+            found = {name: rows_and_answers(driver, every, name) for name in FILES}
+            for name, (rows, answers) in found.items():
+                report.say(f"{name_of}: rows of {name}", faults_of(name, rows, answers), len(rows))
+            report.say(f"{name_of}: what no row can write", unwritten_faults(driver), len(unwritten()))
+        except (DriverFault, OSError, ValueError) as fault:
+            report.say(f"{name_of}: rows", [str(fault)], 1)
+            continue
+        if recorded is None:
+            recorded = found
+            report.say("rows: planted faults are found", missed(recorded), len(planted()))
+            report.say("rows: a driver that doesn't answer is found", careless_missed(path), len(CARELESS))
+            report.say("rows: the gate's questions are those of the rows", stale_files({name: rows for name, (rows, _) in found.items()}), 2)
+
+
+def rows_and_answers(driver, every, name):
+    rows = rows_of(name, every)
+    return rows, asked(driver, rows)
+
+
+class Printed:
+    """Prints the rows that don't hold, and how many do, a line for each file."""
+
+    def __init__(self):
+        self.failed = False
+
+    def say(self, what, faults, runs):
+        self.failed = self.failed or bool(faults)
+        for it in faults:
+            print(it)
+        held = runs - min(runs, len(faults))
+        _, _, name = what.rpartition("rows of ")
+        print(f"{name}: {held} rows hold" if name in FILES else f"{'ok    ' if not faults else 'FAILED'} {what} ({runs} runs)", flush=True)
+
+
+def main(words):
+    if words in (["--stdin"], ["--stdout"]):
+        every = bases(Driver(PROGRAMS[0]))
+        sys.stdout.write(files_of({name: rows_of(name, every) for name in FILES})[words[0][2:]])
+        return 0
+    report = Printed()
+    check_rows(report, words or PROGRAMS)
+    return int(report.failed)
+
+
+if __name__ == "__main__":
+    sys.exit(main(sys.argv[1:]))
