@@ -301,10 +301,17 @@ def stale_files(rows):
     for name, wanted in files_of(rows).items():
         found += [f"{name} would have {len(wanted)} bytes"] * (len(wanted) > GREATEST)
         path = os.path.join(FOLDER, name)
-        with open(path, encoding="utf-8", newline="\n") as it:
-            if it.read() != wanted:
-                found.append(f"crates/test_driver/{name} is not what `tests/rows.py --{name}` prints")
+        if content_of(path) != wanted:
+            found.append(f"crates/test_driver/{name} is not what `tests/rows.py --{name}` prints")
     return found
+
+
+def content_of(path):
+    """What a file has; nothing where there is none."""
+    if not os.path.exists(path):
+        return None
+    with open(path, encoding="utf-8", newline="\n") as it:
+        return it.read()
 
 
 # ---- the run of all
