@@ -281,8 +281,8 @@ def rest_as_answered(wanted):
 
 
 def sinks(every, row):
-    """A key in sinks: slices of each length up to one more than the key's by the call for each encoding, lists, sinks of each size,
-    one that refuses to finish, and one that takes one byte of each write."""
+    """A key in sinks: slices of each length up to one more than the key's by the call for each encoding, lists, sinks of each
+    size, one that refuses to finish, and one that takes one byte of each write."""
     tables, named, of, wanted = bars(row, 4)
     key, of = run_numbers(wanted), characters(of)
     asked = [("list", kind, written([HELD, *key])) for kind in LISTS]

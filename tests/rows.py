@@ -4,17 +4,17 @@ values from outside, none from the program.
 
 usage: tests/rows.py [PROGRAM ..]    prints the rows that don't hold, how many do, and what comes to light that no row can write;
                                      without a program the builds of both compilers are asked
-       tests/rows.py --stdin         prints questions that stand for many of the rows, as crates/test_driver/stdin has them
-       tests/rows.py --stdout        prints the answers that they want, as crates/test_driver/stdout has them
+       tests/rows.py --stdin [PROGRAM]    prints questions that stand for many of the rows, as crates/test_driver/stdin has them
+       tests/rows.py --stdout [PROGRAM]   prints the answers that they want, as crates/test_driver/stdout has them
 """
 import os
 import sys
-import tempfile
 
 import row_questions as questions_of
 from driver import Driver, DriverFault, numbers, text, written
+from row_faults import CARELESS, PLANTED, careless_missed, spoilt
 from row_questions import Case
-from tables import bases
+from tables import FIELDS, bases
 
 TOP = os.path.dirname(os.path.dirname(os.path.realpath(__file__)))
 ROWS = os.path.join(TOP, "tests", "rows")
@@ -57,6 +57,9 @@ class Row:
     def __init__(self, line, case):
         self.line, self.case = line, case
 
+    def questions(self):
+        return self.case.questions() if self.case else []
+
     def fault(self, answers):
         """What is wrong with the answers to the questions of the row, if anything is."""
         if self.case is None:
@@ -98,7 +101,7 @@ def rows_of(name, every):
 
 def asked(driver, rows):
     """The answers to the questions of rows, a list for each of them."""
-    lists = [row.case.questions() if row.case else [] for row in rows]
+    lists = [row.questions() for row in rows]
     answers = iter(driver.ask(question for some in lists for question in some))
     return [[next(answers) for _ in some] for some in lists]
 
@@ -114,30 +117,46 @@ def faults_of(name, rows, answers):
 # ---- what no row can write
 
 
+# A line of 10,000 mapped characters and as many elements, and what it says; a file whose second line is no UTF-8.
+LONG_LINE = "0041" + 9_999 * " 0042" + ";" + 10_000 * " [2A, 05, 05]"
+SAID_BY_IT = "map | 0041" + 9_999 * " 0042" + ":" + 10_000 * " 2A000000.0500.0500"
+DAMAGED = b"# a\n# \xFF\n"
+# Questions that can't be read: names that there aren't, too few words, and what is no number.
+UNREADABLE = ["base Maxi", "compare c 61", "key 32 61", "make 2 FF FF", "set values G", "show weights", "ask"]
+
+
 def unwritten():
     """Cases that no row can write, by what they are about."""
-    long_line = "0041" + 9_999 * " 0042" + ";" + 10_000 * " [2A, 05, 05]"
-    letters = os.path.join(TOP, "crates", "collate_cldr", "data", "letters.txt")
-    with open(letters, "rb") as it:
-        content = it.read()
-    shown = [f"show {it}" for it in ("blocks", "values", "ces", "ce32s", "chars", "contexts", "rows", "jamo", "diacritics", "last")]
-    by_path = [f"file {letters}", *shown]
+    lists = [f"bytes {it}" for it in questions_of.LISTS]
     return {
-        "a long line": Case([], [f"line {text('c', long_line)}"], [is_long_line]),
+        "a long line": Case([], [f"line {text('c', LONG_LINE)}"], [SAID_BY_IT]),
         "an empty file": Case([], [f"root {text('8', [])}"], ["collation table Diacritics: Element"]),
-        "bytes that are no UTF-8": Case([], [f"root {text('8', list(b'# a' + bytes([10, 0x23, 0x20, 0xFF, 10])))}"], ["line 2: expected UTF-8"]),
+        "bytes that are no UTF-8": Case([], [f"root {text('8', list(DAMAGED))}"], ["line 2: expected UTF-8"]),
         "a file that isn't there": Case([], ["file none"], [lambda found: found not in ("ok", "")]),
-        "a file by its name": Case([], [*by_path, f"root {text('8', list(content))}", *shown], is_said_twice),
+        "a file by its name": named_file(),
         "10,000 names": many_names(),
-        "bytes written one by one": Case([], [f"bytes {it}" for it in questions_of.LISTS], 3 * [written([0x7F, 0x61, 0x10] + 40 * [5])]),
-        "what can't be read": Case([], ["base Maxi", "compare c 61", "key 32 61", "make 2 FF FF", "set values G"], lambda found: False),
+        "bytes written one by one": Case([], lists, len(lists) * [written([questions_of.HELD, 0x61, 0x10, *40 * [5]])]),
+        "questions that can't be read": Unread(UNREADABLE),
     }
 
 
-def is_long_line(said):
-    """Whether a line says that a character, 9,999 others and 10,000 elements are mapped."""
-    before, _, elements = said.partition(":")
-    return before == "map | 0041" + 9_999 * " 0042" and elements == 10_000 * " 2A000000.0500.0500"
+def named_file():
+    """A file that is read by its name, and its content, which come to the same tables."""
+    letters = os.path.join(TOP, "crates", "collate_cldr", "data", "letters.txt")
+    with open(letters, "rb") as it:
+        content = list(it.read())
+    shown = [f"show {it}" for it in FIELDS if "." not in it]
+    return Case([], [f"file {letters}", *shown, f"root {text('8', content)}", *shown], is_said_twice)
+
+
+class Unread(Case):
+    """Questions that the driver has to call unreadable."""
+
+    def __init__(self, asked):
+        super().__init__([], asked, [])
+
+    def holds(self, answers):
+        return all(it == "?" for it in answers)
 
 
 def is_said_twice(found):
@@ -158,94 +177,21 @@ def many_names():
 
 def unwritten_faults(driver):
     """What of it isn't as it is wanted."""
-    cases = unwritten()
-    unread = cases.pop("what can't be read")
-    rows = [Row(name, case) for name, case in cases.items()]
+    rows = [Row(name, case) for name, case in unwritten().items()]
     found = [row.fault(some) for row, some in zip(rows, asked(driver, rows))]
-    answers = driver.ask(unread.asked)
-    return [it for it in found if it] + [f"{question}: {it}" for question, it in zip(unread.asked, answers) if it != "?"]
+    return [it for it in found if it]
 
 
 # ---- planted faults
 
 
-def planted():
-    """Faults in the answers of a driver, each with the file of rows that has to find it: a function of a question and its answer."""
-    def at(begins, spoil):
-        return lambda question, answer: spoil(answer) if question.startswith(begins) and answer != "?" else answer
-
-    turned = {"Less": "Greater", "Greater": "Less"}
-    return [
-        ("another order by the call for Latin-1 and UTF-16", "order.txt",
-         lambda question, answer: turned.get(answer, answer) if question.startswith("compare 1 ") and ", 16" in question else answer),
-        ("a key with a byte lost", "keys.txt", at("key 16", lambda answer: answer.rpartition(" ")[0])),
-        ("a key that is empty", "keys.txt", at("key", lambda answer: "")),
-        ("a refusal with another kind", "refusals.txt", at("together", lambda answer: answer.replace("Overlap", "Compression"))),
-        ("a condition that isn't checked", "refusals.txt", at("alone", lambda answer: "ok" if answer.endswith("Chain") else answer)),
-        ("an element more", "elements.txt", at("readings", lambda answer: f"{answer} 00000000.0000.0000".strip())),
-        ("an entry of another character", "values.txt", at("tailoring entry", lambda answer: "C0")),
-        ("metadata that is left out", "settings.txt", at("merge", lambda answer: answer.replace(" backward", ""))),
-        ("two replacement characters for one", "encodings.txt", at("characters 16", lambda answer: answer.replace("FFFD", "FFFD*2", 1))),
-        ("a letter that is always safe", "letters.txt",
-         at("letter", lambda answer: answer if " safe" in answer else answer.replace(" 00000000", " safe 00000000"))),
-        ("a cut line that says more", "cldr/lines.txt", at("line", lambda answer: f"{answer} 0001" if answer.startswith("map |") else answer)),
-        ("a row of a context that is lost", "cldr/entries.txt", at("show rows", lambda answer: " ".join(answer.split()[:-3]))),
-        ("a lead byte that compresses", "cldr/tables.txt", at("compressible", lambda answer: "true")),
-        ("a line that counts for none", "cldr/refused.txt", at("root", lambda answer: answer.replace("line 90", "line 89"))),
-        ("hints that are trusted", "matches.txt", at("readings", lambda answer: answer.replace("61150000", "61100000 61140000"))),
-        ("characters read ahead", "taken.txt", at("taken", lambda answer: f"{int(answer, 16) + 3:X}")),
-        ("a slice that is too short and said to do", "sinks.txt", at("slice", lambda answer: answer.replace("too small", "ok"))),
-        ("a list that loses what it held", "sinks.txt", at("list deque", lambda answer: answer.replace("7F", "", 1).strip())),
-        ("a name that is listed twice", "names.txt", at("names", listed_twice)),
-        ("a request that isn't made", "requests.txt", at("request", lambda answer: answer.replace("Metadata+type Metadata", "Metadata+type"))),
-        ("the settings of the metadata left out", "resolved.txt", at("resolved", lambda answer: answer.replace("2 1 ", "2 0 ", 1))),
-        ("a table that isn't kept", "kept.txt", lambda question, answer: "reordering" if question == "kept" else answer),
-    ]
-
-
-def listed_twice(answer):
-    count, _, names = answer.partition(" : ")
-    first, comma, _ = names.partition(" , ")
-    return f"{count} : {first} , {names}" if comma else answer
-
-
 def missed(recorded):
-    """The planted faults that the rows let through, of the answers of a driver that was asked, by file of rows."""
+    """The planted faults that the rows let through. `recorded` has the rows of each file, and the answers of a driver."""
     found = []
-    for what, name, spoil in planted():
+    for what, name, pattern, spoil in PLANTED:
         rows, answers = recorded[name]
-        spoilt = [
-            [spoil(question, answer) for question, answer in zip(row.case.questions(), some)] if row.case else []
-            for row, some in zip(rows, answers)
-        ]
-        if len(faults_of(name, rows, spoilt)) <= len(faults_of(name, rows, answers)):
-            found.append(f"not found: {what}")
-    return found
-
-
-# Programs around the true driver that don't answer each question, or not in time.
-CARELESS = [
-    ("an answer too few", '"$DRIVER" | sed 1d'),
-    ("an answer too many", '"$DRIVER"; echo'),
-    ("a status that isn't 0", '"$DRIVER"; exit 1'),
-    ("a message on standard error", '"$DRIVER"; echo no memory >&2'),
-    ("an end that doesn't come", '"$DRIVER"; sleep 9'),
-]
-
-
-def careless_missed(path):
-    """The programs around a driver that are not found."""
-    found = []
-    with tempfile.TemporaryDirectory(prefix="rows-") as room:
-        for what, script in CARELESS:
-            wrapper = os.path.join(room, "driver")
-            with open(wrapper, "w", encoding="utf-8") as it:
-                it.write(f"#!/bin/sh\nDRIVER='{path}'\n{script}\n")
-            os.chmod(wrapper, 0o700)
-            try:
-                Driver(wrapper, seconds=1).ask(["base Mini", "show numeric"])
-            except DriverFault:
-                continue
+        wrong = [spoilt(pattern, spoil, row.questions(), some) for row, some in zip(rows, answers)]
+        if len(faults_of(name, rows, wrong)) <= len(faults_of(name, rows, answers)):
             found.append(f"not found: {what}")
     return found
 
@@ -261,7 +207,7 @@ def chosen(rows):
         for row in rows[name]:
             answers = row.case.answers() if row.case else None
             if answers is not None:
-                pairs = list(zip(row.case.questions(), answers))
+                pairs = list(zip(row.questions(), answers))
                 if sum(len(question) + len(answer) + 2 for question, answer in pairs) <= GREATEST_ROW:
                     found += pairs
     return without_repeats(found)
@@ -333,9 +279,10 @@ def check_rows(report, programs):
             continue
         if recorded is None:
             recorded = found
-            report.say("rows: planted faults are found", missed(recorded), len(planted()))
+            report.say("rows: planted faults are found", missed(recorded), len(PLANTED))
             report.say("rows: a driver that doesn't answer is found", careless_missed(path), len(CARELESS))
-            report.say("rows: the gate's questions are those of the rows", stale_files({name: rows for name, (rows, _) in found.items()}), 2)
+            rows = {name: rows for name, (rows, _) in found.items()}
+            report.say("rows: the gate's questions are those of the rows", stale_files(rows), 2)
 
 
 def rows_and_answers(driver, every, name):
@@ -355,12 +302,13 @@ class Printed:
             print(it)
         held = runs - min(runs, len(faults))
         _, _, name = what.rpartition("rows of ")
-        print(f"{name}: {held} rows hold" if name in FILES else f"{'ok    ' if not faults else 'FAILED'} {what} ({runs} runs)", flush=True)
+        verdict = "ok    " if not faults else "FAILED"
+        print(f"{name}: {held} rows hold" if name in FILES else f"{verdict} {what} ({runs} runs)", flush=True)
 
 
 def main(words):
-    if words in (["--stdin"], ["--stdout"]):
-        every = bases(Driver(PROGRAMS[0]))
+    if words[:1] in (["--stdin"], ["--stdout"]):
+        every = bases(Driver(words[1] if words[1:] else PROGRAMS[0]))
         sys.stdout.write(files_of({name: rows_of(name, every) for name in FILES})[words[0][2:]])
         return 0
     report = Printed()
