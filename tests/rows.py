@@ -121,8 +121,8 @@ def faults_of(name, rows, answers):
 LONG_LINE = "0041" + 9_999 * " 0042" + ";" + 10_000 * " [2A, 05, 05]"
 SAID_BY_IT = "map | 0041" + 9_999 * " 0042" + ":" + 10_000 * " 2A000000.0500.0500"
 DAMAGED = b"# a\n# \xFF\n"
-# Questions that can't be read: names that there aren't, too few words, and what is no number.
-UNREADABLE = ["base Maxi", "compare c 61", "key 32 61", "make 2 FF FF", "set values G", "show weights", "ask"]
+# Questions that can't be read: names and a file that there aren't, too few words, and what is no number.
+UNREADABLE = ["base Maxi", "file none", "compare c 61", "key 32 61", "make 2 FF FF", "set values G", "show weights", "ask"]
 
 
 def unwritten():
@@ -132,7 +132,6 @@ def unwritten():
         "a long line": Case([], [f"line {text('c', LONG_LINE)}"], [SAID_BY_IT]),
         "an empty file": Case([], [f"root {text('8', [])}"], ["collation table Diacritics: Element"]),
         "bytes that are no UTF-8": Case([], [f"root {text('8', list(DAMAGED))}"], ["line 2: expected UTF-8"]),
-        "a file that isn't there": Case([], ["file none"], [lambda found: found not in ("ok", "")]),
         "a file by its name": named_file(),
         "10,000 names": many_names(),
         "bytes written one by one": Case([], lists, len(lists) * [written([questions_of.HELD, 0x61, 0x10, *40 * [5]])]),
