@@ -45,11 +45,11 @@ class Case:
         """The answers that are wanted, where the row says them all; else nothing."""
         if callable(self.wanted) or any(callable(it) for it in self.wanted):
             return None
-        return ["ok"] * len(self.setup) + [it.rstrip() for it in self.wanted]
+        return ["ok"] * len(self.setup) + self.wanted
 
 
 def is_wanted(wanted, found):
-    return wanted(found) if callable(wanted) else found.rstrip() == wanted.rstrip()
+    return wanted(found) if callable(wanted) else found == wanted
 
 
 def bars(row, count):
@@ -272,7 +272,7 @@ def first_as_answered(wanted):
 def rest_as_answered(wanted):
     """What is left of a text, `units 2: 0042 0043` or `nothing`, as the driver answers it."""
     if wanted == "nothing":
-        return "0 :"
+        return "0 : "
     units, _, rest = wanted[len("units ") :].partition(": ")
     return f"{int(units):X} : {written(run_numbers(rest))}"
 
