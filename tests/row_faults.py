@@ -35,6 +35,7 @@ def without_chains(answer):
 # What is wrong, the file of rows that has to find it, of which questions, and what becomes of their answers.
 PLANTED = [
     ("another order by the call for Latin-1 and UTF-16", "order.txt", "compare 1 .*, 16", lambda it: TURNED.get(it, it)),
+    ("another key of a text in UTF-16", "order.txt", "key 16", lambda it: f"{it} 1"),
     ("a key with a byte lost", "keys.txt", "key 16", lambda it: it.rpartition(" ")[0]),
     ("a key that is empty", "keys.txt", "key", lambda it: ""),
     ("a refusal with another kind", "refusals.txt", "together", lambda it: it.replace("Overlap", "Compression")),
@@ -43,6 +44,7 @@ PLANTED = [
     ("hints that are trusted", "matches.txt", "readings", lambda it: it.replace("61150000", "61100000.0500.0500 61140000")),
     ("characters that are read ahead", "taken.txt", "taken", read_ahead),
     ("an entry of another character", "values.txt", "tailoring.entry", lambda it: "C0"),
+    ("a list with a number less", "values.txt", "show", lambda it: it.rpartition(" ")[0]),
     ("metadata that is left out", "settings.txt", "merge", lambda it: it.replace(" backward", "")),
     ("settings of the metadata that are left out", "resolved.txt", "resolved", lambda it: it.replace("2 1*2", "2 0 1")),
     ("a table that isn't kept", "kept.txt", "kept", lambda it: "reordering"),
@@ -51,11 +53,13 @@ PLANTED = [
     ("a slice that is too short and said to do", "sinks.txt", "slice", lambda it: it.replace("too small", "ok")),
     ("a list that loses what it held", "sinks.txt", "list deque", lambda it: it.replace("7F", "", 1).strip()),
     ("a sink that takes more than it has room for", "sinks.txt", "limited", lambda it: it.replace("Full : 61", "Full : 61 10")),
+    ("a sink of one byte that is said to take all", "sinks.txt", "limited .* 1 1 ", lambda it: it.replace("Full", "ok")),
     ("a name that is listed twice", "names.txt", "names", listed_twice),
     ("a request that isn't made", "requests.txt", "request", lambda it: it.replace("Metadata+type Metadata", "Metadata+type")),
     ("a cut line that says more", "cldr/lines.txt", "line", says_more),
     ("a context that loses a row", "cldr/entries.txt", "show rows", lambda it: " ".join(it.split()[3:])),
     ("a lead byte that compresses", "cldr/tables.txt", "compressible", lambda it: "true"),
+    ("a table that is there", "cldr/tables.txt", "absent", lambda it: it.partition(", ")[0] + ", ok"),
     ("a line that isn't counted", "cldr/refused.txt", "root", lambda it: it.replace("line 90", "line 89")),
 ]
 # Scripts around the true driver that don't answer each question, or not in the time that they have, in seconds.
