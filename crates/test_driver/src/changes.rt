@@ -1,5 +1,5 @@
 //! Questions that change what the program holds. Nothing is allocated once it begins to change.
-use crate::cldr::{Read, read};
+use crate::cldr::{CldrFile, read_cldr};
 use crate::collators::{collator, printed};
 use crate::fault::Fault;
 use crate::numbers::single;
@@ -73,28 +73,32 @@ fn make(alloc: Global, state: &mut State, settings: &str) -> Result<String, Faul
 }
 
 /// Takes the tables of a file that was read.
-fn take_root(alloc: Global, state: &mut State, read: Read) -> Result<String, Fault> {
+fn take_root(alloc: Global, state: &mut State, file: CldrFile) -> Result<String, Fault> {
     let done = String::from_str(alloc, "ok")?;
-    match read {
-        Read::Root(mini, absent) => {
+    match file {
+        CldrFile::Root(mini, absent) => {
             state.mini = mini;
             state.reader = None;
             state.absent = Some(absent);
             Ok(done)
         }
-        Read::Refused(why) => Ok(why),
+        CldrFile::Refused(why) => Ok(why),
     }
 }
 
 /// Reads a file whose bytes are a text.
 fn read_text(alloc: Global, state: &mut State, text: &str) -> Result<String, Fault> {
     let text = Text::read(alloc, text)?;
-    take_root(alloc, state, read(alloc, bytes_of(&text)?)?)
+    take_root(alloc, state, read_cldr(alloc, bytes_of(&text)?)?)
 }
 
 /// Reads the file of a name.
 fn read_file(rt: &HostRuntime, state: &mut State, name: &str) -> Result<String, Fault> {
     let alloc = rt.alloc();
     let file = fs::open(rt, name)?;
-    take_root(alloc, state, read(alloc, BufReader::new(alloc, file)?)?)
+    take_root(
+        alloc,
+        state,
+        read_cldr(alloc, BufReader::new(alloc, file)?)?,
+    )
 }

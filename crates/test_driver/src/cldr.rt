@@ -11,17 +11,17 @@ use std::io::BufRead;
 
 /// The tables of a file, with what its provider refuses, or why it isn't read.
 #[derive(Drop)]
-pub(crate) enum Read {
+pub(crate) enum CldrFile {
     Root(Mini, String),
     Refused(String),
 }
 
 /// Reads a file.
-pub(crate) fn read<R: BufRead + Drop>(alloc: Global, reader: R) -> Result<Read, Fault> {
+pub(crate) fn read_cldr<R: BufRead + Drop>(alloc: Global, reader: R) -> Result<CldrFile, Fault> {
     match read_root(alloc, reader) {
-        Ok(root) => Ok(Read::Root(tables(alloc, &root)?, absent(alloc, &root)?)),
+        Ok(root) => Ok(CldrFile::Root(tables(alloc, &root)?, absent(alloc, &root)?)),
         Err(ReadError::NoMemory) => Err(Fault::NoMemory),
-        Err(error) => Ok(Read::Refused(error.to_string(alloc)?)),
+        Err(error) => Ok(CldrFile::Refused(error.to_string(alloc)?)),
     }
 }
 

@@ -173,7 +173,7 @@ impl Readings {
 }
 
 /// The elements of texts that spell the same, each read in its ways: once, or all that differ.
-pub(crate) fn readings(alloc: Global, reader: &Reader, texts: &str) -> Result<String, Fault> {
+pub(crate) fn all_readings(alloc: Global, reader: &Reader, texts: &str) -> Result<String, Fault> {
     let mut readings = Readings {
         alloc,
         lists: Vec::new(alloc),

@@ -95,7 +95,7 @@ pub(crate) enum Front {
 }
 
 /// What stands at the front of a text, and what follows it.
-pub(crate) fn front(alloc: Global, front: Front, text: &str) -> Result<String, Fault> {
+pub(crate) fn at_front(alloc: Global, front: Front, text: &str) -> Result<String, Fault> {
     match &Text::read(alloc, text)? {
         Text::Utf8(bytes) => Ok(taken_apart(alloc, front, Utf8Text(bytes.as_slice()))?),
         Text::Utf16(units) => Ok(taken_apart(alloc, front, Utf16Text(units.as_slice()))?),
@@ -107,7 +107,7 @@ pub(crate) fn front(alloc: Global, front: Front, text: &str) -> Result<String, F
 /// What follows so many units of a text, by the number and the text.
 pub(crate) fn after(alloc: Global, question: &str) -> Result<String, Fault> {
     let (at, text) = question.split_once(' ').ok_or(Fault::Unread)?;
-    front(alloc, Front::After(size(at)?), text)
+    at_front(alloc, Front::After(size(at)?), text)
 }
 
 /// The first character of a text and what follows it, or what follows a number of units.

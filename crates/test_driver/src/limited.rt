@@ -89,7 +89,11 @@ fn sink<'q>(alloc: Global, question: &'q str) -> Result<(Limited, &'q str), Faul
 }
 
 /// What such a sink returns that is handed the key of a text, and what it took.
-pub(crate) fn limited(alloc: Global, collator: &Collator, question: &str) -> Result<String, Fault> {
+pub(crate) fn into_limited(
+    alloc: Global,
+    collator: &Collator,
+    question: &str,
+) -> Result<String, Fault> {
     let (mut sink, text) = sink(alloc, question)?;
     let text = Text::read(alloc, text)?;
     let returned = match write(collator, &text, &mut sink) {

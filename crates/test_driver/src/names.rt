@@ -32,7 +32,13 @@ fn index<'c>(
     let mut index = NameIndex::new(alloc, collator);
     let mut first = 0usize;
     for name in names {
-        if !insert(alloc, collator, &mut index, names.get(..first).unwrap_or(&[]), bytes_of(name)?)? {
+        if !insert(
+            alloc,
+            collator,
+            &mut index,
+            names.get(..first).unwrap_or(&[]),
+            bytes_of(name)?,
+        )? {
             return Ok(None);
         }
         first = first.saturating_add(1);

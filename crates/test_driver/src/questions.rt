@@ -2,12 +2,12 @@
 use crate::changes::{change, changes};
 use crate::collators::{alone, check, checked, kept, printed, together};
 use crate::comparisons::compare;
-use crate::elements::{cursor, next, readings, taken, whole};
-use crate::encodings::{Front, after, characters, common, front};
+use crate::elements::{all_readings, cursor, next, taken, whole};
+use crate::encodings::{Front, after, at_front, characters, common};
 use crate::fault::Fault;
 use crate::keys::{key, slice};
 use crate::letters::letter;
-use crate::limited::limited;
+use crate::limited::into_limited;
 use crate::lines::line as line_of;
 use crate::names::{equals, names};
 use crate::numbers::{list, number, numbers, written};
@@ -68,7 +68,7 @@ fn by_collator(
         "key" => key(alloc, collator, rest),
         "slice" => slice(alloc, collator, rest, times),
         "list" => list_of_key(alloc, collator, rest),
-        "limited" => limited(alloc, collator, rest),
+        "limited" => into_limited(alloc, collator, rest),
         "names" => names(alloc, collator, rest),
         "equals" => equals(alloc, collator, rest),
         "resolved" => Ok(indexes(alloc, collator.as_borrowed().resolved_options())?),
@@ -124,7 +124,7 @@ fn read_by(alloc: Global, reader: &Reader, question: &str, rest: &str) -> Result
         "whole" => whole(alloc, reader, rest),
         "next" => next(alloc, reader, rest),
         "cursor" => cursor(alloc, reader, rest),
-        "readings" => readings(alloc, reader, rest),
+        "readings" => all_readings(alloc, reader, rest),
         "taken" => taken(alloc, reader, rest),
         "letter" => letter(alloc, reader, rest),
         _ => Err(Fault::Unread),
@@ -134,8 +134,8 @@ fn read_by(alloc: Global, reader: &Reader, question: &str, rest: &str) -> Result
 fn encoded(alloc: Global, question: &str, rest: &str) -> Result<String, Fault> {
     match question {
         "characters" => characters(alloc, rest),
-        "first" => front(alloc, Front::First, rest),
-        "ascii" => front(alloc, Front::Ascii, rest),
+        "first" => at_front(alloc, Front::First, rest),
+        "ascii" => at_front(alloc, Front::Ascii, rest),
         "after" => after(alloc, rest),
         "common" => common(alloc, rest),
         _ => Err(Fault::Unread),

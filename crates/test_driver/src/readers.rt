@@ -70,7 +70,13 @@ impl Reader {
         };
         let lithuanian_dot_above = tables.metadata().lithuanian_dot_above();
         let named = NamedCharacters::new(alloc, &tables)?;
-        let letters = letters(alloc, &tables, &named, numeric_primary, lithuanian_dot_above)?;
+        let letters = letters(
+            alloc,
+            &tables,
+            &named,
+            numeric_primary,
+            lithuanian_dot_above,
+        )?;
         Ok(Reader {
             tables,
             named,

@@ -220,7 +220,12 @@ pub(crate) fn request(
     for refusing in refused {
         provider.refuse(*refusing);
     }
-    let outcome = outcome(alloc, &provider, word(locale).unwrap_or(""), word(collation_type))?;
+    let outcome = outcome(
+        alloc,
+        &provider,
+        word(locale).unwrap_or(""),
+        word(collation_type),
+    )?;
     let requests = provider.requests(alloc)?;
     Ok(format!(in alloc; "{requests} : {outcome}")?)
 }
@@ -233,7 +238,7 @@ fn word(written: &str) -> Option<&str> {
     }
 }
 
-fn which(name: &str) -> Result<Which, Fault> {
+fn sort_of_request(name: &str) -> Result<Which, Fault> {
     match name {
         "typed" => Ok(Which::Typed),
         "local" => Ok(Which::Local),
@@ -286,7 +291,7 @@ pub(crate) fn set_refused(refused: &mut Vec<Refusing>, question: &str) -> Result
         kind: kind(kind_name.trim())?,
     };
     refused.push(Refusing {
-        which: which(name)?,
+        which: sort_of_request(name)?,
         error,
     })?;
     Ok(())

@@ -2,8 +2,8 @@
 use crate::fault::Fault;
 use crate::numbers::{numbers, single, written};
 use icu_options::{
-    AlternateHandling, CaseLevel, CollationCaseFirst, CollationNumericOrdering,
-    CollatorOptions, CollatorOptionsBitField, CollatorPreferences, MaxVariable, MetadataSettings,
+    AlternateHandling, CaseLevel, CollationCaseFirst, CollationNumericOrdering, CollatorOptions,
+    CollatorOptionsBitField, CollatorPreferences, MaxVariable, MetadataSettings,
     ResolvedCollatorOptions, Strength, merged_options,
 };
 use std::alloc::{AllocError, Global};
@@ -56,7 +56,10 @@ fn preferences(numbers: &[u64]) -> CollatorPreferences<'static> {
         numeric_ordering: nth(
             numbers,
             5,
-            &[CollationNumericOrdering::False, CollationNumericOrdering::True],
+            &[
+                CollationNumericOrdering::False,
+                CollationNumericOrdering::True,
+            ],
         ),
         ..CollatorPreferences::default()
     }
@@ -94,7 +97,10 @@ fn named_over(first: Named, later: Named) -> Named {
             case_level: later.options.case_level.or(first.options.case_level),
         },
         preferences: CollatorPreferences {
-            case_first: later.preferences.case_first.or(first.preferences.case_first),
+            case_first: later
+                .preferences
+                .case_first
+                .or(first.preferences.case_first),
             numeric_ordering: later
                 .preferences
                 .numeric_ordering
@@ -126,7 +132,10 @@ fn merge_again(
     first: &str,
     later: &str,
 ) -> Result<CollatorOptionsBitField, Fault> {
-    let resolved: ResolvedCollatorOptions = merge_named(metadata, named_settings(alloc, first)?).into();
+    let resolved: ResolvedCollatorOptions = merge_named(
+        metadata,
+        named_settings(alloc, first)?,
+    ).into();
     let first = Named {
         options: CollatorOptions::from(resolved),
         preferences: CollatorPreferences::from(resolved),
