@@ -1,8 +1,6 @@
 //! What texts are read by.
 ghost use Rattle.std.specs.Prelude.{◌≡◌, IfOk};
 ghost use Rattle.icu_checks.specs.Checked.{checked_tables};
-ghost use Rattle.icu_cursor.specs.Cursors.{cursor_reading};
-ghost use Rattle.icu_elements.specs.Reading.{element_tables};
 ghost use Rattle.icu_shortcuts.specs.LetterTables.{AreLetters};
 ghost use Rattle.icu_shortcuts.specs.Named.{NamesAll};
 ghost use Rattle.icu_shortcuts.specs.SafeTables.{safe_reading};
