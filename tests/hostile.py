@@ -224,8 +224,8 @@ def judge_readers(driver, first, count):
     """What becomes of so many texts and their parts: each of the tables, with digits as digits and as numbers, reads some."""
     found = Found()
     for place, base in enumerate(BASES):
-        numbers = [it for it in range(first, first + count) if it // 2 % len(BASES) == place]
-        texts = [(text, number % 2) for number in numbers for text in texts_of(number)]
+        mine = [it for it in range(first, first + count) if it // 2 % len(BASES) == place]
+        texts = [(text, numeric) for numeric in (0, 1) for it in mine if it % 2 == numeric for text in texts_of(it)]
         questions = [reading(*it) for it in texts]
         made, *answers = driver.ask([f"base {base}", *questions])
         found.sums["read"] += len(texts)
