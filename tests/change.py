@@ -1,0 +1,185 @@
+#!/usr/bin/env python3
+"""What a change of some crates needs, as `bin/test NAME ..` runs it, over the work that earlier checks kept: the comparisons of
+documents and comments with the sources; the proofs of these crates and of all that stand on them, lowest first, with their programs
+built and run and their tests; the edits of these crates that must be refused; and the rows, by the driver that was built. It is less than
+the gate: what wasn't changed isn't proved anew. The last line is `N passed, M failed`."""
+import importlib
+import os
+import re
+import shutil
+import subprocess
+import sys
+import tempfile
+import time
+
+sys.path.insert(0, os.path.dirname(os.path.realpath(__file__)))
+import crates  # noqa: E402
+import gate  # noqa: E402
+
+LOG = os.path.join(crates.TOP, "out", "change.log")
+DRIVER = "test_driver"
+# What runs the rows, hostile input and refused memory: the module, its function, and what the function is given.
+BY_DRIVER = [("rows", "check_rows"), ("hostile", "check_hostile"), ("refusals", "check_refusals")]
+BEGAN = time.monotonic()
+
+
+class Steps:
+    """Says of each step how it went, and counts them."""
+
+    def __init__(self):
+        self.passed, self.failed = 0, 0
+
+    def take(self, counts):
+        self.passed, self.failed = self.passed + counts[0], self.failed + counts[1]
+
+    def say(self, what, faults, runs=1):
+        self.take([int(not faults), int(bool(faults))])
+        minutes, seconds = divmod(int(time.monotonic() - BEGAN), 60)
+        print(f"[{minutes:3}:{seconds:02}] {'ok    ' if not faults else 'FAILED'} {what}{f' ({runs} runs)' if runs > 1 else ''}", flush=True)
+        for it in faults[:40]:
+            print(f"       {it}", flush=True)
+
+    def end(self):
+        print(f"{self.passed} passed, {self.failed} failed")
+        return 1 if self.failed else 0
+
+
+def ran(words, folder, given=b""):
+    """Runs a command of the toolchain, and returns its status and what it said, which also goes to the log."""
+    how = {"cwd": folder, "input": given, "stdout": subprocess.PIPE, "stderr": subprocess.STDOUT}
+    it = subprocess.run(words, **how)
+    said = it.stdout.decode(errors="replace")
+    with open(LOG, "a", encoding="utf-8") as log:
+        log.write(f"== {os.path.basename(folder)}: {' '.join(words)}\n{said}")
+    return it.returncode, said
+
+
+def errors(said):
+    """The lines that say why something is not proved, or the last ones."""
+    lines = said.splitlines()
+    wanted = r".*:\d+:\d+: error|error|fn .*: (not proved|no proof|could not tell)|rt: |rattle: no verdict|.*not in the layout"
+    return [it for it in lines if re.match(wanted, it) and not it.startswith("rt: chose")] or lines[-12:]
+
+
+def beside(crate, name):
+    path = os.path.join(crate.folder, name)
+    if not os.path.isfile(path):
+        return None
+    with open(path, "rb") as it:
+        return it.read()
+
+
+def is_tested(crate):
+    return "#[test]" in crate.text("src", ".rt")
+
+
+def prove_library(steps, crate, is_used):
+    status, said = ran(["rt", "lib" if is_used else "check"], crate.folder)
+    steps.say(f"{crate.name} is proved", errors(said) if status else [])
+    return not status
+
+
+def prove_program(steps, crate):
+    """Proves and builds a program, which `rt run` also runs, so that its own status says nothing; and then runs it as the gate does."""
+    _, said = ran(["rt", "run"], crate.folder)
+    is_built = "rt: running " in said
+    steps.say(f"{crate.name} is proved and built", [] if is_built else errors(said))
+    if is_built:
+        steps.say(f"{crate.name} writes what its file stdout has", wrong_run(crate))
+    return is_built
+
+
+def wrong_run(crate):
+    words = (beside(crate, "args") or b"").decode().splitlines()
+    status = int((beside(crate, "status") or b"0").strip() or 0)
+    with tempfile.TemporaryDirectory(prefix="program-") as room:
+        data = os.path.join(crate.folder, "data")
+        if os.path.isdir(data):
+            shutil.copytree(data, room, dirs_exist_ok=True)
+        how = {"cwd": room, "input": beside(crate, "stdin") or b"", "capture_output": True, "timeout": 120}
+        try:
+            it = subprocess.run([os.path.join(crate.folder, "out", crate.name), *words], **how)
+        except subprocess.TimeoutExpired:
+            return ["it had not ended after 120 seconds"]
+    if it.returncode != status:
+        return [f"it ended with status {it.returncode}, and not {status}: {it.stderr[-300:]!r}"]
+    return [] if it.stdout == (beside(crate, "stdout") or b"") else ["it wrote something else"]
+
+
+def prove(steps, listed, names):
+    """Proves these crates and those above them, lowest first, each where all below it are proved. Returns those that are not."""
+    unproved = []
+    for name in crates.above(listed, names):
+        crate = listed[name]
+        lacking = [it for it in crates.below(listed, name) if it in unproved]
+        if lacking:
+            steps.say(f"{name} is proved", [f"not tried, since {lacking[0]} is not proved"])
+            unproved.append(name)
+            continue
+        is_used = any(name in it.deps for it in listed.values())
+        if not (prove_program(steps, crate) if crate.is_program else prove_library(steps, crate, is_used)):
+            unproved.append(name)
+            continue
+        if is_tested(crate):
+            status, said = ran(["rt", "test"], crate.folder)
+            steps.say(f"the tests of {name}", errors(said) if status else [])
+    return unproved
+
+
+def check_layout(steps, listed, names):
+    """Looks whether the files of these crates are as `rt fmt` lays them out."""
+    for name in names:
+        files = [it for part in crates.PARTS for it in listed[name].files(part, (".rt", ".antt"))]
+        status, said = ran([os.path.join(crates.kit(), "bin", "rattle"), "fmt", "--check", *files], crates.TOP)
+        steps.say(f"{name} is laid out by rt fmt", said.splitlines() if status else [])
+
+
+def try_edits(steps, listed, names, unproved):
+    for name in names:
+        edits = listed[name].edits()
+        if not edits or name in unproved:
+            continue
+        _, said = ran(["rt", "must-fail", name], crates.TOP)
+        lines = [it[4:] for it in said.splitlines() if it.startswith("rt: must-fail ")]
+        faults = [it for it in lines if ": refused, as it must be" not in it]
+        faults += [f"{edits} edits, and {len(lines)} tried"] * (len(lines) != edits)
+        steps.say(f"the {edits} edits of {name} are refused", faults)
+
+
+def run_by_driver(steps, listed, names, unproved):
+    """Runs the rows and what else is asked of the driver, where it stands on one of the crates."""
+    if DRIVER not in crates.above(listed, names) or DRIVER in unproved:
+        return
+    program = os.path.join(listed[DRIVER].folder, "out", DRIVER)
+    for module, function in BY_DRIVER:
+        if not os.path.isfile(os.path.join(crates.TOP, "tests", f"{module}.py")):
+            continue
+        try:
+            check = getattr(importlib.import_module(module), function)
+            check(steps, [program] if module == "rows" else program)
+        except (OSError, ValueError, LookupError, AttributeError, TypeError, subprocess.SubprocessError) as error:
+            steps.say(f"{module} by {DRIVER}", [f"{type(error).__name__}: {error}"])
+
+
+def main(names):
+    listed = crates.listed()
+    unknown = [it for it in names if it not in listed]
+    if unknown:
+        print(f"bin/test: crates.txt lists no crate {', '.join(unknown)}; bin/test alone is the whole gate", file=sys.stderr)
+        print("0 passed, 1 failed")
+        return 2
+    with open(LOG, "w", encoding="utf-8"):
+        pass
+    steps, names = Steps(), [it for it in crates.above(listed, names) if it in names]
+    print(f"crates: {' '.join(crates.above(listed, names))}; all that is said: {os.path.relpath(LOG)}", flush=True)
+    for what in gate.COMPARISONS:
+        steps.take(gate.compare(what))
+    check_layout(steps, listed, names)
+    unproved = prove(steps, listed, names)
+    try_edits(steps, listed, names, unproved)
+    run_by_driver(steps, listed, names, unproved)
+    return steps.end()
+
+
+if __name__ == "__main__":
+    sys.exit(main(sys.argv[1:]))
