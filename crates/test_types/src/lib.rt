@@ -1,5 +1,5 @@
-//! Tests of what only a program in Rattle can write: public names by their paths, setters and parts of elements, and a
-//! reader that fails. All else is asked of the program `test_driver`.
+//! Tests of what only a program in Rattle can write: public names by their paths, setters, parts of entries and of
+//! elements. All else is asked of the program `test_driver`.
 #![tactic(auto)]
 
 #[cfg(test)]
