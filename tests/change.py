@@ -1,8 +1,8 @@
 #!/usr/bin/env python3
 """What a change of some crates needs, as `bin/test NAME ..` runs it, over the work that earlier checks kept: the comparisons of
-documents and comments with the sources; the proofs of these crates and of all that stand on them, lowest first, with their programs
-built and run and their tests; the edits of these crates that must be refused; and the rows, by the driver that was built. It is less than
-the gate: what wasn't changed isn't proved anew. The last line is `N passed, M failed`."""
+documents and comments with the sources; the proofs of these crates and of all that stand on them, with their programs built and run
+and their tests; the edits of these crates that must be refused; and the rows, by the driver that was built. It is less than the gate:
+what wasn't changed isn't proved anew. The last line is `N passed, M failed`."""
 import importlib
 import os
 import re
@@ -15,6 +15,7 @@ import time
 sys.path.insert(0, os.path.dirname(os.path.realpath(__file__)))
 import crates  # noqa: E402
 import gate  # noqa: E402
+import proving  # noqa: E402
 
 LOG = os.path.join(crates.TOP, "out", "change.log")
 DRIVER = "test_driver"
@@ -29,13 +30,16 @@ class Steps:
     def __init__(self):
         self.passed, self.failed = 0, 0
 
+    def tell(self, text):
+        minutes, seconds = divmod(int(time.monotonic() - BEGAN), 60)
+        print(f"[{minutes:3}:{seconds:02}] {text}", flush=True)
+
     def take(self, counts):
         self.passed, self.failed = self.passed + counts[0], self.failed + counts[1]
 
     def say(self, what, faults, runs=1):
         self.take([int(not faults), int(bool(faults))])
-        minutes, seconds = divmod(int(time.monotonic() - BEGAN), 60)
-        print(f"[{minutes:3}:{seconds:02}] {'ok    ' if not faults else 'FAILED'} {what}{f' ({runs} runs)' if runs > 1 else ''}", flush=True)
+        self.tell(f"{'ok    ' if not faults else 'FAILED'} {what}{f' ({runs} runs)' if runs > 1 else ''}")
         for it in faults[:40]:
             print(f"       {it}", flush=True)
 
@@ -73,22 +77,6 @@ def is_tested(crate):
     return "#[test]" in crate.text("src", ".rt")
 
 
-def prove_library(steps, crate, is_used):
-    status, said = ran(["rt", "lib" if is_used else "check"], crate.folder)
-    steps.say(f"{crate.name} is proved", errors(said) if status else [])
-    return not status
-
-
-def prove_program(steps, crate):
-    """Proves and builds a program, which `rt run` also runs, so that its own status says nothing; and then runs it as the gate does."""
-    _, said = ran(["rt", "run"], crate.folder)
-    is_built = "rt: running " in said
-    steps.say(f"{crate.name} is proved and built", [] if is_built else errors(said))
-    if is_built:
-        steps.say(f"{crate.name} writes what its file stdout has", wrong_run(crate))
-    return is_built
-
-
 def wrong_run(crate):
     words = (beside(crate, "args") or b"").decode().splitlines()
     status = int((beside(crate, "status") or b"0").strip() or 0)
@@ -107,23 +95,23 @@ def wrong_run(crate):
 
 
 def prove(steps, listed, names):
-    """Proves these crates and those above them, lowest first, each where all below it are proved. Returns those that are not."""
-    unproved = []
-    for name in crates.above(listed, names):
-        crate = listed[name]
-        lacking = [it for it in crates.below(listed, name) if it in unproved]
-        if lacking:
-            steps.say(f"{name} is proved", [f"not tried, since {lacking[0]} is not proved"])
-            unproved.append(name)
-            continue
-        is_used = any(name in it.deps for it in listed.values())
-        if not (prove_program(steps, crate) if crate.is_program else prove_library(steps, crate, is_used)):
-            unproved.append(name)
-            continue
-        if is_tested(crate):
-            status, said = ran(["rt", "test"], crate.folder)
+    """Proves these crates and those above them, and runs their programs and tests. Returns those that are not proved."""
+    affected = crates.above(listed, names)
+    with open(LOG, "a", encoding="utf-8", buffering=1) as log:
+        run = proving.Run(affected, log, steps.tell)
+        steps.tell(run.announcement())
+        failed = run.prove()
+    for name in affected:
+        steps.say(f"{name} is proved", failed.get(name, []))
+        if listed[name].is_program and name not in failed:
+            steps.say(f"{name} writes what its file stdout has", wrong_run(listed[name]))
+        if is_tested(listed[name]) and name not in failed:
+            status, said = ran(["rt", "test"], listed[name].folder)
             steps.say(f"the tests of {name}", errors(said) if status else [])
-    return unproved
+    for name in failed:
+        if name not in affected:
+            steps.say(f"{name} is proved", failed[name])
+    return [*failed]
 
 
 def check_layout(steps, listed, names):
