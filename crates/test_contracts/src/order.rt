@@ -1,0 +1,44 @@
+//! The order of texts, their keys, and an index of names.
+
+ghost use Rattle.std.specs.Prelude.{◌≡◌, IfOk, OnOk, OnErr, Ok, chars};
+ghost use Rattle.icu_keys.specs.KeyWrites.{WritesKey};
+ghost use Rattle.icu_order.specs.TextOrder.{text_order, text_key};
+ghost use Rattle.icu_comparison.specs.Collators.{tables_kept, settings_kept};
+ghost use Rattle.icu_index.specs.Listings.{inserted};
+ghost use Rattle.icu_index.specs.NameIndexes.{index_order, listing};
+
+use icu_comparison::Collator;
+use icu_index::NameIndex;
+use icu_keys::{CollationKeySink, SortKeyError};
+use std::alloc::AllocError;
+use std::cmp::Ordering;
+
+/// As `compare`.
+pub fn order(collator: &Collator, left: &str, right: &str) -> Result<Ordering, AllocError>
+    ensures order { IfOk result (λ o. o ≡ text_order (tables_kept collator.now)
+        (settings_kept collator.now) (chars left.now) (chars right.now)) }
+    ensures same { left.now ≡ right.now → result ≡ Ok Ordering.Equal }
+{
+    let order = collator.as_borrowed().compare(left, right)?;
+    Ok(order)
+}
+
+/// As `write_sort_key_to`.
+pub fn key<S: CollationKeySink>(
+    collator: &Collator,
+    text: &str,
+    sink: &mut S,
+) -> Result<S::Output, SortKeyError<S::Error>>
+    ensures { WritesKey S.took S.refused S.finished S.State.is_default sink.old
+        (text_key (tables_kept collator.now) (settings_kept collator.now) (chars text.now)) result sink.new }
+{
+    collator.as_borrowed().write_sort_key_to(text, sink)
+}
+
+/// As `NameIndex::insert`.
+pub fn insert(index: &mut NameIndex<'_>, name: &[u8]) -> Result<(), AllocError>
+    ensures ok { OnOk result (listing index.new ≡ inserted (index_order index.old) name.now (listing index.old)) }
+    ensures err { OnErr result (listing index.new ≡ listing index.old) }
+{
+    index.insert(name)
+}

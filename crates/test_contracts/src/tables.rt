@@ -1,0 +1,36 @@
+//! Which tables a collator takes, and which levels its keys have by them.
+
+ghost use Rattle.std.specs.Prelude.{◌≡◌, IsOk, IfOk, IfErr};
+ghost use Rattle.icu_options.specs.FlaggedSettings.{values_of};
+ghost use Rattle.icu_provider.specs.TableSets.{tables_in};
+ghost use Rattle.icu_checks.specs.Checked.{checked_tables};
+ghost use Rattle.icu_checks.specs.GoodTables.{IsGoodTables, IsTrueRefusal};
+ghost use Rattle.icu_order.specs.Forms.{form_by};
+
+use icu_checks::CheckedTables;
+use icu_entries::{DataError, DataErrorKind};
+use icu_levels::forms::KeyForm;
+use icu_options::CollatorOptionsBitField;
+use icu_provider::TableSet;
+use icu_text_keys::key_form;
+use std::alloc::Global;
+
+/// As `CheckedTables::from_set`.
+pub fn checked(alloc: Global, tables: TableSet<'_>) -> Result<CheckedTables, DataError>
+    ensures good { IsOk result → IsGoodTables (tables_in tables.entry) }
+    ensures refusal { IfErr result (IsTrueRefusal (tables_in tables.entry)) }
+    ensures exact { IfErr result (λ e. (e.kind ≡ DataErrorKind.NoMemory → ⊥) → IsGoodTables (tables_in tables.entry) → ⊥) }
+    ensures keeps { IfOk result (λ t. checked_tables t ≡ tables_in tables.entry) }
+{
+    match CheckedTables::from_set(alloc, tables) {
+        Ok(tables) => Ok(tables),
+        Err(refusal) => Err(refusal),
+    }
+}
+
+/// As `key_form`.
+pub fn form(tables: &CheckedTables, settings: CollatorOptionsBitField) -> KeyForm
+    ensures { result ≡ form_by (checked_tables tables.now) (values_of settings) }
+{
+    key_form(tables, settings)
+}

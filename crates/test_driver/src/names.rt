@@ -1,0 +1,110 @@
+//! An index of names.
+use crate::fault::Fault;
+use crate::numbers::written;
+use crate::texts::{Text, bytes_of, several};
+use icu_comparison::Collator;
+use icu_index::NameIndex;
+use std::alloc::{AllocError, Global};
+
+/// Appends a name to a listing.
+fn push_name(alloc: Global, text: &mut String, name: &[u8]) -> Result<(), AllocError> {
+    if !text.is_empty() {
+        text.push_str(" , ")?;
+    }
+    text.push_str(written(alloc, name)?.as_str())
+}
+
+/// The names of an index, in its order.
+fn listing(alloc: Global, index: &NameIndex<'_>) -> Result<String, AllocError> {
+    let mut text = String::new(alloc);
+    for name in index.iter() {
+        push_name(alloc, &mut text, name)?;
+    }
+    Ok(text)
+}
+
+/// An index of names, or nothing where a call that failed changed it.
+fn index<'c>(
+    alloc: Global,
+    collator: &'c Collator,
+    names: &[Text],
+) -> Result<Option<NameIndex<'c>>, Fault> {
+    let mut index = NameIndex::new(alloc, collator);
+    let mut first = 0usize;
+    for name in names {
+        if !insert(
+            alloc,
+            collator,
+            &mut index,
+            names.get(..first).unwrap_or(&[]),
+            bytes_of(name)?,
+        )? {
+            return Ok(None);
+        }
+        first = first.saturating_add(1);
+    }
+    Ok(Some(index))
+}
+
+/// Puts a name into an index of these names, once more where an allocation failed. False says that the index was
+/// changed by the call that failed.
+fn insert(
+    alloc: Global,
+    collator: &Collator,
+    index: &mut NameIndex<'_>,
+    before: &[Text],
+    name: &[u8],
+) -> Result<bool, Fault> {
+    if index.insert(name).is_ok() {
+        return Ok(true);
+    }
+    let listed = listing(alloc, index)?;
+    if listed.as_str() != listing_of(alloc, collator, before)?.as_str() {
+        return Ok(false);
+    }
+    index.insert(name)?;
+    Ok(true)
+}
+
+/// The names of an index of these names.
+fn listing_of(alloc: Global, collator: &Collator, names: &[Text]) -> Result<String, Fault> {
+    let mut index = NameIndex::new(alloc, collator);
+    for name in names {
+        index.insert(bytes_of(name)?)?;
+    }
+    Ok(listing(alloc, &index)?)
+}
+
+fn lost(alloc: Global) -> Result<String, Fault> {
+    Ok(String::from_str(alloc, "lost")?)
+}
+
+/// How many names an index of these has, and its listing.
+pub(crate) fn names(alloc: Global, collator: &Collator, names: &str) -> Result<String, Fault> {
+    let names = several(alloc, names)?;
+    let Some(index) = index(alloc, collator, names.as_slice())? else {
+        return lost(alloc);
+    };
+    let listing = listing(alloc, &index)?;
+    Ok(format!(in alloc; "{:X} : {listing}", index.len())?)
+}
+
+/// The names of an index that are equal to a name.
+fn equal_names(alloc: Global, index: &NameIndex<'_>, name: &[u8]) -> Result<String, AllocError> {
+    let mut text = String::new(alloc);
+    let names = index.equal_to(name)?;
+    for name in names {
+        push_name(alloc, &mut text, name.as_slice())?;
+    }
+    format!(in alloc; "{:X} : {text}", names.len())
+}
+
+/// Those that are equal to the first name, of an index of the others.
+pub(crate) fn equals(alloc: Global, collator: &Collator, names: &str) -> Result<String, Fault> {
+    let names = several(alloc, names)?;
+    let (name, names) = names.as_slice().split_first().ok_or(Fault::Unread)?;
+    match index(alloc, collator, names)? {
+        Some(index) => Ok(equal_names(alloc, &index, bytes_of(name)?)?),
+        None => lost(alloc),
+    }
+}
