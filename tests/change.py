@@ -1,9 +1,8 @@
 #!/usr/bin/env python3
 """What a change of some crates needs, as `bin/test NAME ..` runs it, over the work that earlier checks kept: the comparisons of
 documents and comments with the sources; the proofs of these crates and of all that stand on them, with their programs built and run
-and their tests; the edits of these crates that must be refused; and the rows, by the driver that was built. It is less than the gate:
-what wasn't changed isn't proved anew. The last line is `N passed, M failed`."""
-import importlib
+and their tests; the edits of these crates that must be refused; and rows and refused memory, by the programs that were built. It is
+less than the gate: what wasn't changed isn't proved anew, and hostile input isn't tried. The last line is `N passed, M failed`."""
 import os
 import re
 import shutil
@@ -15,37 +14,26 @@ import time
 sys.path.insert(0, os.path.dirname(os.path.realpath(__file__)))
 import crates  # noqa: E402
 import gate  # noqa: E402
+import programs  # noqa: E402
 import proving  # noqa: E402
 
 LOG = os.path.join(crates.TOP, "out", "change.log")
 DRIVER = "test_driver"
-# What runs the rows, hostile input and refused memory: the module, its function, and what the function is given.
-BY_DRIVER = [("rows", "check_rows"), ("hostile", "check_hostile"), ("refusals", "check_refusals")]
 BEGAN = time.monotonic()
 
 
-class Steps:
-    """Says of each step how it went, and counts them."""
-
-    def __init__(self):
-        self.passed, self.failed = 0, 0
+class Steps(programs.Report):
+    """Says of each step how it went and when, and counts them."""
 
     def tell(self, text):
         minutes, seconds = divmod(int(time.monotonic() - BEGAN), 60)
         print(f"[{minutes:3}:{seconds:02}] {text}", flush=True)
 
-    def take(self, counts):
-        self.passed, self.failed = self.passed + counts[0], self.failed + counts[1]
-
     def say(self, what, faults, runs=1):
-        self.take([int(not faults), int(bool(faults))])
+        self.passed, self.failed = self.passed + (not faults), self.failed + bool(faults)
         self.tell(f"{'ok    ' if not faults else 'FAILED'} {what}{f' ({runs} runs)' if runs > 1 else ''}")
         for it in faults[:40]:
             print(f"       {it}", flush=True)
-
-    def end(self):
-        print(f"{self.passed} passed, {self.failed} failed")
-        return 1 if self.failed else 0
 
 
 def ran(words, folder, given=b""):
@@ -134,19 +122,19 @@ def try_edits(steps, listed, names, unproved):
         steps.say(f"the {edits} edits of {name} are refused", faults)
 
 
-def run_by_driver(steps, listed, names, unproved):
-    """Runs the rows and what else is asked of the driver, where it stands on one of the crates."""
-    if DRIVER not in crates.above(listed, names) or DRIVER in unproved:
-        return
-    program = os.path.join(listed[DRIVER].folder, "out", DRIVER)
-    for module, function in BY_DRIVER:
-        if not os.path.isfile(os.path.join(crates.TOP, "tests", f"{module}.py")):
-            continue
-        try:
-            check = getattr(importlib.import_module(module), function)
-            check(steps, [program] if module == "rows" else program)
-        except (OSError, ValueError, LookupError, AttributeError, TypeError, subprocess.SubprocessError) as error:
-            steps.say(f"{module} by {DRIVER}", [f"{type(error).__name__}: {error}"])
+def run_programs(steps, affected, unproved):
+    """Runs the rows and refused memory by the driver, where it stands on one of the crates, and what is looked at of `collate` and
+    `collate-cldr`, where they do. Hostile input is left to the gate, which takes minutes for it."""
+    built = [it for it in affected if it not in unproved]
+    with tempfile.TemporaryDirectory(prefix="collate-tests-") as room:
+        shim = programs.compiled(room, "refuse", "-shared", "-fPIC")
+        if DRIVER in built:
+            steps.also("rows", programs.check_rows, [programs.built(DRIVER)])
+            steps.also("refused memory", programs.check_refusals, shim, programs.built(DRIVER))
+        if "collate" in built:
+            steps.also("collate", programs.check_collate, room, shim)
+        if "collate_cldr" in built:
+            steps.also("collate-cldr", programs.check_collate_cldr, room)
 
 
 def main(names):
@@ -161,11 +149,12 @@ def main(names):
     steps, names = Steps(), [it for it in crates.above(listed, names) if it in names]
     print(f"crates: {' '.join(crates.above(listed, names))}; all that is said: {os.path.relpath(LOG)}", flush=True)
     for what in gate.COMPARISONS:
-        steps.take(gate.compare(what))
+        passed, failed = gate.compare(what)
+        steps.passed, steps.failed = steps.passed + passed, steps.failed + failed
     check_layout(steps, listed, names)
     unproved = prove(steps, listed, names)
     try_edits(steps, listed, names, unproved)
-    run_by_driver(steps, listed, names, unproved)
+    run_programs(steps, crates.above(listed, names), unproved)
     return steps.end()
 
 

@@ -128,8 +128,10 @@ class Run:
 
     def announcement(self):
         functions = sum(self.listed[it].functions() for it in self.left)
+        if not self.left:
+            return f"nothing changed since all {len(self.crates)} crates were proved"
         minutes = self.work.expected(self.left, self.processors) / 60
-        how_long = f"about {minutes:.0f} minutes" if minutes > 1.5 else "about a minute" if self.left else "nothing to do"
+        how_long = f"about {minutes:.0f} minutes" if minutes > 1.5 else "about a minute"
         what = f"{len(self.left)} of {len(self.crates)} crates are to be proved, with {functions} functions"
         return f"{what}: {how_long} on {self.processors} processors, where nothing else works"
 
