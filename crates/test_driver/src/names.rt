@@ -66,12 +66,23 @@ fn insert(
     Ok(true)
 }
 
-/// The names of an index of these names.
-fn listing_of(alloc: Global, collator: &Collator, names: &[Text]) -> Result<String, Fault> {
+/// An index of names, each put in once.
+fn index_at_once<'c>(
+    alloc: Global,
+    collator: &'c Collator,
+    names: &[Text],
+) -> Result<NameIndex<'c>, Fault> {
     let mut index = NameIndex::new(alloc, collator);
     for name in names {
-        index.insert(bytes_of(name)?)?;
+        let name = bytes_of(name)?;
+        index.insert(name)?;
     }
+    Ok(index)
+}
+
+/// The names of an index of these names.
+fn listing_of(alloc: Global, collator: &Collator, names: &[Text]) -> Result<String, Fault> {
+    let index = index_at_once(alloc, collator, names)?;
     Ok(listing(alloc, &index)?)
 }
 
