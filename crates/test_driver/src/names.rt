@@ -23,49 +23,6 @@ fn listing(alloc: Global, index: &NameIndex<'_>) -> Result<String, AllocError> {
     Ok(text)
 }
 
-/// An index of names, or nothing where a call that failed changed it.
-fn index<'c>(
-    alloc: Global,
-    collator: &'c Collator,
-    names: &[Text],
-) -> Result<Option<NameIndex<'c>>, Fault> {
-    let mut index = NameIndex::new(alloc, collator);
-    let mut first = 0usize;
-    for name in names {
-        if !insert(
-            alloc,
-            collator,
-            &mut index,
-            names.get(..first).unwrap_or(&[]),
-            bytes_of(name)?,
-        )? {
-            return Ok(None);
-        }
-        first = first.saturating_add(1);
-    }
-    Ok(Some(index))
-}
-
-/// Puts a name into an index of these names, once more where an allocation failed. False says that the index was
-/// changed by the call that failed.
-fn insert(
-    alloc: Global,
-    collator: &Collator,
-    index: &mut NameIndex<'_>,
-    before: &[Text],
-    name: &[u8],
-) -> Result<bool, Fault> {
-    if index.insert(name).is_ok() {
-        return Ok(true);
-    }
-    let listed = listing(alloc, index)?;
-    if listed.as_str() != listing_of(alloc, collator, before)?.as_str() {
-        return Ok(false);
-    }
-    index.insert(name)?;
-    Ok(true)
-}
-
 /// An index of names, each put in once.
 fn index_at_once<'c>(
     alloc: Global,
@@ -80,10 +37,40 @@ fn index_at_once<'c>(
     Ok(index)
 }
 
-/// The names of an index of these names.
-fn listing_of(alloc: Global, collator: &Collator, names: &[Text]) -> Result<String, Fault> {
+/// Whether an index of these names has this listing.
+fn is_listing_of(
+    alloc: Global,
+    collator: &Collator,
+    names: &[Text],
+    listed: &str,
+) -> Result<bool, Fault> {
     let index = index_at_once(alloc, collator, names)?;
-    Ok(listing(alloc, &index)?)
+    let listing = listing(alloc, &index)?;
+    Ok(listing.as_str() == listed)
+}
+
+/// An index of names, each put in once more where an allocation failed; or nothing where a call that failed changed the
+/// index.
+fn index<'c>(
+    alloc: Global,
+    collator: &'c Collator,
+    names: &[Text],
+) -> Result<Option<NameIndex<'c>>, Fault> {
+    let mut index = NameIndex::new(alloc, collator);
+    let mut count = 0usize;
+    for name in names {
+        let name = bytes_of(name)?;
+        if index.insert(name).is_err() {
+            let left = listing(alloc, &index)?;
+            let before = names.get(..count).unwrap_or(&[]);
+            if !is_listing_of(alloc, collator, before, left.as_str())? {
+                return Ok(None);
+            }
+            index.insert(name)?;
+        }
+        count = count.saturating_add(1);
+    }
+    Ok(Some(index))
 }
 
 fn lost(alloc: Global) -> Result<String, Fault> {
