@@ -6,9 +6,14 @@ use icu_comparison::Collator;
 use icu_index::NameIndex;
 use std::alloc::{AllocError, Global};
 
-/// Appends a name to a listing.
-fn push_name(alloc: Global, text: &mut String, name: &[u8]) -> Result<(), AllocError> {
-    if !text.is_empty() {
+/// Appends a name to a listing, whose first one has no comma before it.
+fn push_name(
+    alloc: Global,
+    text: &mut String,
+    is_first: bool,
+    name: &[u8],
+) -> Result<(), AllocError> {
+    if !is_first {
         text.push_str(" , ")?;
     }
     text.push_str(written(alloc, name)?.as_str())
@@ -17,8 +22,10 @@ fn push_name(alloc: Global, text: &mut String, name: &[u8]) -> Result<(), AllocE
 /// The names of an index, in its order.
 fn listing(alloc: Global, index: &NameIndex<'_>) -> Result<String, AllocError> {
     let mut text = String::new(alloc);
+    let mut is_first = true;
     for name in index.iter() {
-        push_name(alloc, &mut text, name)?;
+        push_name(alloc, &mut text, is_first, name)?;
+        is_first = false;
     }
     Ok(text)
 }
@@ -91,8 +98,10 @@ pub(crate) fn names(alloc: Global, collator: &Collator, names: &str) -> Result<S
 fn equal_names(alloc: Global, index: &NameIndex<'_>, name: &[u8]) -> Result<String, AllocError> {
     let mut text = String::new(alloc);
     let names = index.equal_to(name)?;
+    let mut is_first = true;
     for name in names {
-        push_name(alloc, &mut text, name.as_slice())?;
+        push_name(alloc, &mut text, is_first, name.as_slice())?;
+        is_first = false;
     }
     format!(in alloc; "{:X} : {text}", names.len())
 }
