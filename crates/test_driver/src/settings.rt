@@ -128,11 +128,7 @@ pub(crate) fn merge(alloc: Global, written: &str) -> Result<String, Fault> {
 }
 
 /// What metadata and six numbers come to, where the numbers are named over other settings.
-fn merged(
-    alloc: Global,
-    before: Named,
-    written: &str,
-) -> Result<CollatorOptionsBitField, Fault> {
+fn merged(alloc: Global, before: Named, written: &str) -> Result<CollatorOptionsBitField, Fault> {
     let (bits, six) = written.trim().split_once(' ').ok_or(Fault::Unread)?;
     let metadata = MetadataSettings::from_bits(single(bits)?);
     let named = named_over(before, named_settings(alloc, six)?);
