@@ -1,4 +1,5 @@
-"""Long texts, whose comparisons and keys are timed: of a text that is four times as long both may take at most eight times as long.
+"""Long texts, whose comparisons and keys are timed: of a text that is four times as long both may take at most eight times as
+long.
 
 The time is that of some calls more, so that reading the questions and making a collator are no part of it.
 """
@@ -8,8 +9,8 @@ from driver import DriverFault
 from timed_tables import Builder
 from timing import RUNS, Slowed, least_times
 
-# How often a long text is compared beyond the first time, how many times as long the second size is, how many times as long it may
-# take, and how often that is measured at most.
+# How often a long text is compared beyond the first time, how many times as long the second size is, how many times as long it
+# may take, and how often that is measured at most.
 TIMES, LONGER, SLOWER, ATTEMPTS = 2, 4, 8, 5
 IDENTICAL, PRIMARY = "4 0 3 0 0 0", "0 0 3 0 0 0"
 NUMERIC = "4 0 3 0 0 1", "0 0 3 0 0 1"
@@ -17,8 +18,8 @@ A, B, C, CAPITAL, ZERO, ONE, ACUTE, RING, DOT = 0x61, 0x62, 0x63, 0x41, 0x30, 0x
 
 
 class LongTexts:
-    """Two texts of a kind, by their size: each is a list of parts, and a part some characters and how often they come. Beside them
-    how they are ordered at the strength Identical, and how many bytes the first one's key has at Primary."""
+    """Two texts of a kind, by their size: each is a list of parts, and a part some characters and how often they come. Beside
+    them how they are ordered at the strength Identical, and how many bytes the first one's key has at Primary."""
 
     def __init__(self, kind, size, made, settings, texts, wanted):
         self.kind, self.size, self.made, self.settings = kind, size, made, settings
@@ -90,9 +91,9 @@ def seconds_of(driver, texts, size):
 
 
 def wrong_long_texts(driver, texts):
-    """What is wrong with texts of a size and of a greater one: another answer, or a time that grows beyond proportion; and how many
-    runs there were. A machine that other work slows down for a while lets a time grow as well, so both are measured again before
-    one is called wrong."""
+    """What is wrong with texts of a size and of a greater one: another answer, or a time that grows beyond proportion; and how
+    many runs there were. A machine that other work slows down for a while lets a time grow as well, so both are measured again
+    before one is called wrong."""
     short, long, runs = math.inf, math.inf, 0
     for _ in range(ATTEMPTS):
         seconds, faults = seconds_of(driver, texts, texts.size)
