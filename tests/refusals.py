@@ -26,8 +26,8 @@ def questions_of(part):
 
 
 def given_by(questions):
-    """Questions as a run is given them: (65 301)*2710 in one is 65 301 so many times, by a hexadecimal number, and `TOP/` is where
-    the repository stands."""
+    """Questions as a run is given them: (65 301)*2710 in one is 65 301 so many times, by a hexadecimal number, and `TOP/` is
+    where the repository stands."""
     repeat = lambda found: " ".join([found[1]] * int(found[2], 16))
     full = [re.sub(r"\(([^)]*)\)\*([0-9A-F]+)", repeat, it.replace("TOP/", f"{TOP}/")) for it in questions]
     return "".join(f"{it}\n" for it in full).encode()
