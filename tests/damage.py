@@ -10,7 +10,8 @@ ELEMENTS = [0x46000500, 0x46100500, 0x0500, 0x1C06, 0x7010FE000003B184, 0x621000
 
 
 def damage(dice, fields):
-    """Changes tables in one to three places, some of which no text and no check may ever come to. A list that changes is replaced."""
+    """Changes tables in one to three places, some of which no text and no check may ever come to. A list that changes is
+    replaced."""
     for _ in range(1 + dice.randrange(3)):
         damage_once(dice, fields)
 

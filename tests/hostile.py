@@ -1,7 +1,7 @@
 """Hostile input, by questions to the driver (driver.py): damaged tables, and random texts that are compared and read.
 
-All random choices come from generators whose seeds are the numbers of the sets and the texts, so each run makes the same ones. The
-parts run side by side, as many as there are processors.
+All random choices come from generators whose seeds are the numbers of the sets and the texts, so each run makes the same ones.
+The parts run side by side, as many as there are processors.
 """
 import collections
 import concurrent.futures
@@ -29,8 +29,8 @@ REFUSED = ["Absent", "Length", "Index", "Digit", "Chain", "Tag", "Element", "Con
            "SpecialPrimary"]
 # The strength Identical, and all other settings unnamed.
 IDENTICAL = "4 FF FF FF FF FF"
-# The collators of random texts, by their tables and their settings: all strengths, and each other setting and each kind of table at
-# some of them.
+# The collators of random texts, by their tables and their settings: all strengths, and each other setting and each kind of
+# table at some of them.
 COLLATORS = [
     ("Mini", "0 0 3 0 0 0"),
     ("Mini", "4 0 3 0 0 0"),

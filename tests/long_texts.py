@@ -1,4 +1,5 @@
-"""Long texts, whose comparisons and keys are timed: of a text that is four times as long both may take at most eight times as long.
+"""Long texts, whose comparisons and keys are timed: of a text that is four times as long both may take at most eight times as
+long.
 
 The time is that of some calls more, so that reading the questions and making a collator are no part of it.
 """
@@ -8,8 +9,8 @@ from driver import DriverFault
 from timed_tables import Builder
 from timing import RUNS, Slowed, least_times
 
-# How often a long text is compared beyond the first time, how many times as long the second size is, how many times as long it may
-# take, and how often that is measured at most.
+# How often a long text is compared beyond the first time, how many times as long the second size is, how many times as long it
+# may take, and how often that is measured at most.
 TIMES, LONGER, SLOWER, ATTEMPTS = 2, 4, 8, 5
 IDENTICAL, PRIMARY = "4 0 3 0 0 0", "0 0 3 0 0 0"
 NUMERIC = "4 0 3 0 0 1", "0 0 3 0 0 1"
@@ -17,8 +18,8 @@ A, B, C, CAPITAL, ZERO, ONE, ACUTE, RING, DOT = 0x61, 0x62, 0x63, 0x41, 0x30, 0x
 
 
 class LongTexts:
-    """Two texts of a kind, by their size: each is a list of parts, and a part some characters and how often they come. Beside them
-    how they are ordered at the strength Identical, and how many bytes the first one's key has at Primary."""
+    """Two texts of a kind, by their size: each is a list of parts, and a part some characters and how often they come. Beside
+    them how they are ordered at the strength Identical, and how many bytes the first one's key has at Primary."""
 
     def __init__(self, kind, size, made, settings, texts, wanted):
         self.kind, self.size, self.made, self.settings = kind, size, made, settings
@@ -82,25 +83,36 @@ LONG_TEXTS = [
 ]
 
 
-def seconds_of(driver, texts, size):
-    """The processor time of `TIMES` calls on long texts of a size, and what is wrong with the answers."""
-    (once, more), answers = least_times(driver, texts.questions(size, 1), texts.questions(size, 1 + TIMES))
-    wrong = [[answer[:60] for answer in it] for it in answers if not texts.is_right(size, it)]
-    return more - once, [f"{texts.kind}, {size}: {it}; wanted: {texts.wanted(size)}" for it in wrong]
+class Size:
+    """How long calls on the texts of one size take, measured as often as is asked for."""
+
+    def __init__(self, driver, texts, size):
+        self.driver, self.texts, self.size = driver, texts, size
+        self.once, self.more = math.inf, math.inf
+
+    def measure(self):
+        """Measures once more, and returns what is wrong with the answers."""
+        texts, size = self.texts, self.size
+        (once, more), answers = least_times(self.driver, texts.questions(size, 1), texts.questions(size, 1 + TIMES))
+        self.once, self.more = min(self.once, once), min(self.more, more)
+        wrong = [[answer[:60] for answer in it] for it in answers if not texts.is_right(size, it)]
+        return [f"{texts.kind}, {size}: {it}; wanted: {texts.wanted(size)}" for it in wrong]
+
+    def seconds(self):
+        """The processor time of `TIMES` calls."""
+        return self.more - self.once
 
 
-def wrong_long_texts(driver, texts):
-    """What is wrong with texts of a size and of a greater one: another answer, or a time that grows beyond proportion; and how many
-    runs there were. A machine that other work slows down for a while lets a time grow as well, so both are measured again before
-    one is called wrong."""
-    short, long, runs = math.inf, math.inf, 0
-    for _ in range(ATTEMPTS):
-        seconds, faults = seconds_of(driver, texts, texts.size)
-        more, wrong = seconds_of(driver, texts, texts.size * LONGER)
-        short, long, faults, runs = min(short, seconds), min(long, more), faults + wrong, runs + 4 * RUNS
-        if faults or long <= SLOWER * max(short, 0.005):
+def wrong_long_texts(driver, texts, attempts=ATTEMPTS):
+    """What is wrong with texts of a size and of a greater one: another answer, or a time that grows beyond proportion; and how
+    many runs there were. A machine that other work slows down for a while lets a time grow as well, so both are measured again
+    before one is called wrong."""
+    short, long, runs = Size(driver, texts, texts.size), Size(driver, texts, texts.size * LONGER), 0
+    for _ in range(attempts):
+        faults, runs = short.measure() + long.measure(), runs + 4 * RUNS
+        if faults or long.seconds() <= SLOWER * max(short.seconds(), 0.005):
             return faults, runs
-    return [f"{texts.kind}: {short:.3f} seconds for {texts.size}, {long:.3f} for {texts.size * LONGER}"], runs
+    return [f"{texts.kind}: {short.seconds():.3f} seconds for {short.size}, {long.seconds():.3f} for {long.size}"], runs
 
 
 def check_long_texts(report, driver):
@@ -110,7 +122,7 @@ def check_long_texts(report, driver):
 
 
 def slow_texts_missed(driver):
-    """Whether a time beyond proportion is let through: of digits, which are quick."""
-    (texts,) = [it for it in LONG_TEXTS if it.kind == "digits"]
-    found, _ = wrong_long_texts(Slowed(driver, [f"{ZERO:X}*{texts.size * LONGER:X}"], 5), texts)
+    """Whether a time beyond proportion is let through."""
+    texts = LONG_TEXTS[0]
+    found, _ = wrong_long_texts(Slowed(driver, [f"{A:X}*{texts.size * LONGER:X}"], 5), texts, 1)
     return [] if any(" seconds for " in it for it in found) else ["not found: a time beyond proportion"]

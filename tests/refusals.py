@@ -7,9 +7,9 @@ again. One in which each fails from some place on gives a beginning of the answe
 import os
 import re
 
-from sweeps import TESTS, Refused, faults_of, is_beginning, run, sweep, tried
+from sweeps import TESTS, TOP, Refused, faults_of, is_beginning, run, sweep, tried
 
-PARTS = ["collators", "comparisons", "keys", "elements", "sinks", "names"]
+PARTS = ["collators", "comparisons", "keys", "elements", "sinks", "names", "files"]
 NO_MEMORY = b"no memory\n"
 # The tables that a refused collator names as one allocation after another fails: tables are copied in the order in which they are
 # loaded, the check before that is named by the root, and so are the characters that rows name, which come last.
@@ -26,9 +26,11 @@ def questions_of(part):
 
 
 def given_by(questions):
-    """Questions as a run is given them. `(65 301)*2710` in one is 65 301 so many times, by a hexadecimal number."""
+    """Questions as a run is given them: (65 301)*2710 in one is 65 301 so many times, by a hexadecimal number, and `TOP/` is
+    where the repository stands."""
     repeat = lambda found: " ".join([found[1]] * int(found[2], 16))
-    return "".join(re.sub(r"\(([^)]*)\)\*([0-9A-F]+)", repeat, it) + "\n" for it in questions).encode()
+    full = [re.sub(r"\(([^)]*)\)\*([0-9A-F]+)", repeat, it.replace("TOP/", f"{TOP}/")) for it in questions]
+    return "".join(f"{it}\n" for it in full).encode()
 
 
 def holds(answer, wanted):
@@ -82,8 +84,8 @@ def by_five_calls(left, right, order):
     return [(f"compare {mine} {left} , {other} {right}", order) for mine, other in FIVE_CALLS]
 
 
-# Names with accents and in Hangul, and how they are ordered: by their first letters, though a mark that comes before theirs follows
-# them; by a primary weight, a secondary one, a tertiary one; not at all; by a primary weight of the last syllable.
+# Names with accents and in Hangul, and how they are ordered: by their first letters, though a mark that comes before theirs
+# follows them; by a primary weight, a secondary one, a tertiary one; not at all; by a primary weight of the last syllable.
 NAMES = [
     ("E1 323", "E9 323", "Less"),
     ("72 E9 73 75 6D E9 73", "72 E9 73 75 6D E9", "Greater"),

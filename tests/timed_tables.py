@@ -5,16 +5,16 @@ The time is that of some checks more, so that reading the questions is no part o
 from driver import numbers, written
 from timing import RUNS, Slowed, least_times
 
-# How often a check is made beyond the first time, and how many times as long as Mini's it may take for each number that its tables
-# store.
-CHECKS, DEARER = 60, 10
+# How often a check is made beyond the first time, how many times as long as Mini's it may take for each number that its tables
+# store, and how often all are measured at most, since other work slows a machine down for a while.
+CHECKS, DEARER, ATTEMPTS = 60, 10, 3
 BLOCK, CODES = 64, 0x110000
 DATA = ["blocks", "values", "ces", "ce32s", "chars", "contexts", "rows"]
 
 
 class Builder:
-    """A root or a tailoring, as a list of numbers for each field: all characters have one entry, but those that are given another.
-    Blocks of 64 equal entries are stored once."""
+    """A root or a tailoring, as a list of numbers for each field: all characters have one entry, but those that are given
+    another. Blocks of 64 equal entries are stored once."""
 
     def __init__(self, others):
         self.entries, self.ces, self.ce32s, self.contexts, self.rows, self.chars = [others] * CODES, [], [], [], [], []
@@ -26,8 +26,8 @@ class Builder:
         self.entries[first : last + 1] = [entry] * (last + 1 - first)
 
     def add_context(self, default, rows):
-        """Adds a context, and returns its index: an entry for all texts but those of its rows, and the rows, each a list of characters
-        and its entry."""
+        """Adds a context, and returns its index: an entry for all texts but those of its rows, and the rows, each a list of
+        characters and its entry."""
         self.contexts += [default, len(self.rows) // 3, len(rows)]
         for characters, entry in rows:
             self.rows += [len(self.chars), len(characters), entry]
@@ -122,8 +122,8 @@ def root_like_cldr():
 
 
 def set_char(builder, c):
-    """Gives a character what its code says: an entry of its own, a list of three elements, contractions with each of 17 others, or
-    nothing."""
+    """Gives a character what its code says: an entry of its own, a list of three elements, contractions with each of 17 others,
+    or nothing."""
     number, sort = divmod(c, 6)
     if sort == 0:
         builder.set_entry(c, unlike_entry(0x20, number))
@@ -153,13 +153,14 @@ class TimedTables:
 
     def __init__(self, name, base, root=None, tailoring=None):
         self.name = name
-        self.made = [f"base {base}", *(root.questions() if root else []), *(tailoring.questions("tailoring.") if tailoring else [])]
+        self.made = [f"base {base}", *(root.questions() if root else [])]
+        self.made += tailoring.questions("tailoring.") if tailoring else []
         self.shown = [f"show {table}{name}" for table in ("", "tailoring.") for name in DATA]
 
 
 class Check:
-    """How long a check of some tables takes, how many numbers their root and tailoring store, and what is wrong with what it comes
-    to."""
+    """How long a check of some tables takes, how many numbers their root and tailoring store, and what is wrong with what it
+    comes to."""
 
     def __init__(self, driver, tables, times=CHECKS):
         self.tables = tables.name
@@ -193,9 +194,14 @@ def check_times(report, driver):
     ]
     root = root_like_cldr()
     large = [TimedTables("root", "Mini", root), TimedTables("tailored", "swapped leads", root, tailoring_like_cldr())]
-    mini = Check(driver, TimedTables("mini", "Mini"))
-    checks, others = [Check(driver, it) for it in hostile], [Check(driver, it, CHECKS // 6) for it in large]
-    faults = [it for check in [mini, *others] for it in check.faults] + [it for check in checks for it in dear_tables(mini, check)]
+    others = [Check(driver, it, CHECKS // 6) for it in large]
+    for _ in range(ATTEMPTS):
+        mini = Check(driver, TimedTables("mini", "Mini"), 4 * CHECKS)
+        checks = [Check(driver, it) for it in hostile]
+        faults = [it for check in [mini, *others] for it in check.faults]
+        faults += [it for check in checks for it in dear_tables(mini, check)]
+        if not faults:
+            break
     report.say("hostile input: checks of hostile tables take little", faults, 2 * RUNS * (1 + len(checks) + len(others)))
     for check in [mini, *checks, *others]:
         print(f"       {check}", flush=True)

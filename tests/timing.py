@@ -6,8 +6,8 @@ RUNS = 3
 
 
 def least_times(driver, *asked):
-    """The least processor time of three runs for each list of questions, and the answers of each run. The lists take turns, so that
-    other work of the machine slows all of them down alike. No other program that this one started may end meanwhile."""
+    """The least processor time of three runs for each list of questions, and the answers of each run. The lists take turns, so
+    that other work of the machine slows all of them down alike. No other program that this one started may end meanwhile."""
     least, answers = [math.inf] * len(asked), []
     for _ in range(RUNS):
         for place, questions in enumerate(asked):
