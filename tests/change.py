@@ -1,9 +1,8 @@
 #!/usr/bin/env python3
 """What a change of some crates needs, as `bin/test NAME ..` runs it, over the work that earlier checks kept: the comparisons of
-documents and comments with the sources; the proofs of these crates and of all that stand on them, lowest first, with their programs
-built and run and their tests; the edits of these crates that must be refused; and the rows, by the driver that was built. It is less than
-the gate: what wasn't changed isn't proved anew. The last line is `N passed, M failed`."""
-import importlib
+documents and comments with the sources; the proofs of these crates and of all that stand on them, with their programs built and run
+and their tests; the edits of these crates that must be refused; and rows and refused memory, by the programs that were built. It is
+less than the gate: what wasn't changed isn't proved anew, and hostile input isn't tried. The last line is `N passed, M failed`."""
 import os
 import re
 import shutil
@@ -15,33 +14,26 @@ import time
 sys.path.insert(0, os.path.dirname(os.path.realpath(__file__)))
 import crates  # noqa: E402
 import gate  # noqa: E402
+import programs  # noqa: E402
+import proving  # noqa: E402
 
 LOG = os.path.join(crates.TOP, "out", "change.log")
 DRIVER = "test_driver"
-# What runs the rows, hostile input and refused memory: the module, its function, and what the function is given.
-BY_DRIVER = [("rows", "check_rows"), ("hostile", "check_hostile"), ("refusals", "check_refusals")]
 BEGAN = time.monotonic()
 
 
-class Steps:
-    """Says of each step how it went, and counts them."""
+class Steps(programs.Report):
+    """Says of each step how it went and when, and counts them."""
 
-    def __init__(self):
-        self.passed, self.failed = 0, 0
-
-    def take(self, counts):
-        self.passed, self.failed = self.passed + counts[0], self.failed + counts[1]
+    def tell(self, text):
+        minutes, seconds = divmod(int(time.monotonic() - BEGAN), 60)
+        print(f"[{minutes:3}:{seconds:02}] {text}", flush=True)
 
     def say(self, what, faults, runs=1):
-        self.take([int(not faults), int(bool(faults))])
-        minutes, seconds = divmod(int(time.monotonic() - BEGAN), 60)
-        print(f"[{minutes:3}:{seconds:02}] {'ok    ' if not faults else 'FAILED'} {what}{f' ({runs} runs)' if runs > 1 else ''}", flush=True)
+        self.passed, self.failed = self.passed + (not faults), self.failed + bool(faults)
+        self.tell(f"{'ok    ' if not faults else 'FAILED'} {what}{f' ({runs} runs)' if runs > 1 else ''}")
         for it in faults[:40]:
             print(f"       {it}", flush=True)
-
-    def end(self):
-        print(f"{self.passed} passed, {self.failed} failed")
-        return 1 if self.failed else 0
 
 
 def ran(words, folder, given=b""):
@@ -73,22 +65,6 @@ def is_tested(crate):
     return "#[test]" in crate.text("src", ".rt")
 
 
-def prove_library(steps, crate, is_used):
-    status, said = ran(["rt", "lib" if is_used else "check"], crate.folder)
-    steps.say(f"{crate.name} is proved", errors(said) if status else [])
-    return not status
-
-
-def prove_program(steps, crate):
-    """Proves and builds a program, which `rt run` also runs, so that its own status says nothing; and then runs it as the gate does."""
-    _, said = ran(["rt", "run"], crate.folder)
-    is_built = "rt: running " in said
-    steps.say(f"{crate.name} is proved and built", [] if is_built else errors(said))
-    if is_built:
-        steps.say(f"{crate.name} writes what its file stdout has", wrong_run(crate))
-    return is_built
-
-
 def wrong_run(crate):
     words = (beside(crate, "args") or b"").decode().splitlines()
     status = int((beside(crate, "status") or b"0").strip() or 0)
@@ -107,23 +83,23 @@ def wrong_run(crate):
 
 
 def prove(steps, listed, names):
-    """Proves these crates and those above them, lowest first, each where all below it are proved. Returns those that are not."""
-    unproved = []
-    for name in crates.above(listed, names):
-        crate = listed[name]
-        lacking = [it for it in crates.below(listed, name) if it in unproved]
-        if lacking:
-            steps.say(f"{name} is proved", [f"not tried, since {lacking[0]} is not proved"])
-            unproved.append(name)
-            continue
-        is_used = any(name in it.deps for it in listed.values())
-        if not (prove_program(steps, crate) if crate.is_program else prove_library(steps, crate, is_used)):
-            unproved.append(name)
-            continue
-        if is_tested(crate):
-            status, said = ran(["rt", "test"], crate.folder)
+    """Proves these crates and those above them, and runs their programs and tests. Returns those that are not proved."""
+    affected = crates.above(listed, names)
+    with open(LOG, "a", encoding="utf-8", buffering=1) as log:
+        run = proving.Run(affected, log, steps.tell)
+        steps.tell(run.announcement())
+        failed = run.prove()
+    for name in affected:
+        steps.say(f"{name} is proved", failed.get(name, []))
+        if listed[name].is_program and name not in failed:
+            steps.say(f"{name} writes what its file stdout has", wrong_run(listed[name]))
+        if is_tested(listed[name]) and name not in failed:
+            status, said = ran(["rt", "test"], listed[name].folder)
             steps.say(f"the tests of {name}", errors(said) if status else [])
-    return unproved
+    for name in failed:
+        if name not in affected:
+            steps.say(f"{name} is proved", failed[name])
+    return [*failed]
 
 
 def check_layout(steps, listed, names):
@@ -146,19 +122,19 @@ def try_edits(steps, listed, names, unproved):
         steps.say(f"the {edits} edits of {name} are refused", faults)
 
 
-def run_by_driver(steps, listed, names, unproved):
-    """Runs the rows and what else is asked of the driver, where it stands on one of the crates."""
-    if DRIVER not in crates.above(listed, names) or DRIVER in unproved:
-        return
-    program = os.path.join(listed[DRIVER].folder, "out", DRIVER)
-    for module, function in BY_DRIVER:
-        if not os.path.isfile(os.path.join(crates.TOP, "tests", f"{module}.py")):
-            continue
-        try:
-            check = getattr(importlib.import_module(module), function)
-            check(steps, [program] if module == "rows" else program)
-        except (OSError, ValueError, LookupError, AttributeError, TypeError, subprocess.SubprocessError) as error:
-            steps.say(f"{module} by {DRIVER}", [f"{type(error).__name__}: {error}"])
+def run_programs(steps, affected, unproved):
+    """Runs the rows and refused memory by the driver, where it stands on one of the crates, and what is looked at of `collate` and
+    `collate-cldr`, where they do. Hostile input is left to the gate, which takes minutes for it."""
+    built = [it for it in affected if it not in unproved]
+    with tempfile.TemporaryDirectory(prefix="collate-tests-") as room:
+        shim = programs.compiled(room, "refuse", "-shared", "-fPIC")
+        if DRIVER in built:
+            steps.also("rows", programs.check_rows, [programs.built(DRIVER)])
+            steps.also("refused memory", programs.check_refusals, shim, programs.built(DRIVER))
+        if "collate" in built:
+            steps.also("collate", programs.check_collate, room, shim)
+        if "collate_cldr" in built:
+            steps.also("collate-cldr", programs.check_collate_cldr, room)
 
 
 def main(names):
@@ -173,11 +149,12 @@ def main(names):
     steps, names = Steps(), [it for it in crates.above(listed, names) if it in names]
     print(f"crates: {' '.join(crates.above(listed, names))}; all that is said: {os.path.relpath(LOG)}", flush=True)
     for what in gate.COMPARISONS:
-        steps.take(gate.compare(what))
+        passed, failed = gate.compare(what)
+        steps.passed, steps.failed = steps.passed + passed, steps.failed + failed
     check_layout(steps, listed, names)
     unproved = prove(steps, listed, names)
     try_edits(steps, listed, names, unproved)
-    run_by_driver(steps, listed, names, unproved)
+    run_programs(steps, crates.above(listed, names), unproved)
     return steps.end()
 
 

@@ -200,7 +200,7 @@ def of_children():
 def dearest(costs, most=8):
     """A line for each of the dearest crates of a run, and for each that costs much more than it did."""
     kept = read(KEPT)
-    names = sorted((it for it in costs.by if it != OTHER), key=costs.of, reverse=True)
+    names = sorted((it for it in costs.by if it != OTHER and costs.of(it) >= 0.5), key=costs.of, reverse=True)
     for at, name in enumerate(names):
         was = kept.of(name) * ratio(costs, kept) if kept else 0
         has_risen = was and costs.of(name) > max(BY * was, was + RISEN)

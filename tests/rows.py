@@ -23,7 +23,7 @@ FOLDER = os.path.join(TOP, "crates", "test_driver")
 PROGRAMS = [os.path.join(FOLDER, "out", it) for it in ("test_driver", "test_driver.by-rattle")]
 # Each file of rows: how many it has, so that none is lost, and what makes a case of a row.
 FILES = {
-    "refusals.txt": (305, row_questions.refusals),
+    "refusals.txt": (310, row_questions.refusals),
     "order.txt": (232, row_questions.order),
     "keys.txt": (118, row_questions.keys),
     "elements.txt": (69, row_questions.elements),
@@ -38,7 +38,7 @@ FILES = {
     "matches.txt": (15, row_questions.elements),
     "taken.txt": (9, row_questions.taken),
     "sinks.txt": (14, row_questions.sinks),
-    "names.txt": (16, row_questions.names),
+    "names.txt": (17, row_questions.names),
     "requests.txt": (17, row_questions.requests),
     "resolved.txt": (5, row_questions.resolved),
     "kept.txt": (17, row_questions.kept),

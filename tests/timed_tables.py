@@ -203,6 +203,6 @@ def check_times(report, driver):
 
 def dear_checks_missed(driver):
     """Whether a check that takes long is let through."""
-    slowed = Slowed(driver, [f"times {1 + CHECKS:X}"], 4 * DEARER)
+    slowed = Slowed(driver, [f"times {1 + CHECKS:X}"], 3 * DEARER)
     dear = dear_tables(Check(driver, TimedTables("mini", "Mini")), Check(slowed, TimedTables("lists", "Mini", of_lists())))
     return [] if any("ns for each" in it for it in dear) else ["not found: a check that takes long"]

@@ -6,9 +6,14 @@ use icu_comparison::Collator;
 use icu_index::NameIndex;
 use std::alloc::{AllocError, Global};
 
-/// Appends a name to a listing.
-fn push_name(alloc: Global, text: &mut String, name: &[u8]) -> Result<(), AllocError> {
-    if !text.is_empty() {
+/// Appends a name to a listing, whose first one has no comma before it.
+fn push_name(
+    alloc: Global,
+    text: &mut String,
+    is_first: bool,
+    name: &[u8],
+) -> Result<(), AllocError> {
+    if !is_first {
         text.push_str(" , ")?;
     }
     text.push_str(written(alloc, name)?.as_str())
@@ -17,62 +22,62 @@ fn push_name(alloc: Global, text: &mut String, name: &[u8]) -> Result<(), AllocE
 /// The names of an index, in its order.
 fn listing(alloc: Global, index: &NameIndex<'_>) -> Result<String, AllocError> {
     let mut text = String::new(alloc);
+    let mut is_first = true;
     for name in index.iter() {
-        push_name(alloc, &mut text, name)?;
+        push_name(alloc, &mut text, is_first, name)?;
+        is_first = false;
     }
     Ok(text)
 }
 
-/// An index of names, or nothing where a call that failed changed it.
+/// An index of names, each put in once.
+fn index_at_once<'c>(
+    alloc: Global,
+    collator: &'c Collator,
+    names: &[Text],
+) -> Result<NameIndex<'c>, Fault> {
+    let mut index = NameIndex::new(alloc, collator);
+    for name in names {
+        let name = bytes_of(name)?;
+        index.insert(name)?;
+    }
+    Ok(index)
+}
+
+/// Whether an index of these names has this listing.
+fn is_listing_of(
+    alloc: Global,
+    collator: &Collator,
+    names: &[Text],
+    listed: &str,
+) -> Result<bool, Fault> {
+    let index = index_at_once(alloc, collator, names)?;
+    let listing = listing(alloc, &index)?;
+    Ok(listing.as_str() == listed)
+}
+
+/// An index of names, each put in once more where an allocation failed; or nothing where a call that failed changed the
+/// index.
 fn index<'c>(
     alloc: Global,
     collator: &'c Collator,
     names: &[Text],
 ) -> Result<Option<NameIndex<'c>>, Fault> {
     let mut index = NameIndex::new(alloc, collator);
-    let mut first = 0usize;
+    let mut count = 0usize;
     for name in names {
-        if !insert(
-            alloc,
-            collator,
-            &mut index,
-            names.get(..first).unwrap_or(&[]),
-            bytes_of(name)?,
-        )? {
-            return Ok(None);
+        let name = bytes_of(name)?;
+        if index.insert(name).is_err() {
+            let left = listing(alloc, &index)?;
+            let before = names.get(..count).unwrap_or(&[]);
+            if !is_listing_of(alloc, collator, before, left.as_str())? {
+                return Ok(None);
+            }
+            index.insert(name)?;
         }
-        first = first.saturating_add(1);
+        count = count.saturating_add(1);
     }
     Ok(Some(index))
-}
-
-/// Puts a name into an index of these names, once more where an allocation failed. False says that the index was
-/// changed by the call that failed.
-fn insert(
-    alloc: Global,
-    collator: &Collator,
-    index: &mut NameIndex<'_>,
-    before: &[Text],
-    name: &[u8],
-) -> Result<bool, Fault> {
-    if index.insert(name).is_ok() {
-        return Ok(true);
-    }
-    let listed = listing(alloc, index)?;
-    if listed.as_str() != listing_of(alloc, collator, before)?.as_str() {
-        return Ok(false);
-    }
-    index.insert(name)?;
-    Ok(true)
-}
-
-/// The names of an index of these names.
-fn listing_of(alloc: Global, collator: &Collator, names: &[Text]) -> Result<String, Fault> {
-    let mut index = NameIndex::new(alloc, collator);
-    for name in names {
-        index.insert(bytes_of(name)?)?;
-    }
-    Ok(listing(alloc, &index)?)
 }
 
 fn lost(alloc: Global) -> Result<String, Fault> {
@@ -93,8 +98,10 @@ pub(crate) fn names(alloc: Global, collator: &Collator, names: &str) -> Result<S
 fn equal_names(alloc: Global, index: &NameIndex<'_>, name: &[u8]) -> Result<String, AllocError> {
     let mut text = String::new(alloc);
     let names = index.equal_to(name)?;
+    let mut is_first = true;
     for name in names {
-        push_name(alloc, &mut text, name.as_slice())?;
+        push_name(alloc, &mut text, is_first, name.as_slice())?;
+        is_first = false;
     }
     format!(in alloc; "{:X} : {text}", names.len())
 }
