@@ -1,8 +1,8 @@
 """Each read refused in turn while the driver reads a file of the form of FractionalUCA.txt.
 
-A read that fails is no end of the file, even where all its lines came before: the file is answered by `read failed`, the tables stay
-as they were, and the same file is read when it is asked for again. A read that a signal interrupts, or that gives one byte, changes
-nothing.
+A read that fails is no end of the file, even where all its lines came before: the file is answered by `read failed`, the tables
+stay as they were, and the same file is read when it is asked for again. A read that a signal interrupts, or that gives one byte,
+changes nothing.
 """
 import os
 import tempfile
@@ -51,11 +51,12 @@ def unnoticed(outcomes):
 def spoilt(outcomes, old, new):
     """The outcomes whose answers have one text, with another in its place."""
     some = [it for it in outcomes if it.refused and old in it.ran.output]
-    return [Outcome(it.refused, Run(it.ran.status, it.ran.output.replace(old, new), it.ran.faults, it.ran.counts), None) for it in some]
+    runs = [Run(it.ran.status, it.ran.output.replace(old, new), it.ran.faults, it.ran.counts) for it in some]
+    return [Outcome(it.refused, ran, None) for it, ran in zip(some, runs)]
 
 
 def missed(plain, outcomes):
-    """Faults in the answers that are not found: a failure taken for the end of the file, and tables of a file that wasn't read."""
+    """Faults in the answers that are not found: a failure taken for the file's end, and tables of a file that wasn't read."""
     before, _, tables = plain.output.splitlines(keepends=True)[:3]
     found = [] if unnoticed(spoilt(outcomes, FAILED, b"ok\n")) else ["not found: a failure taken for the end of the file"]
     changed = spoilt(outcomes, FAILED + before, FAILED + tables)
