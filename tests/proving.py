@@ -7,6 +7,7 @@ import concurrent.futures
 import importlib.util
 import os
 import re
+import signal
 import sys
 import threading
 import time
@@ -108,6 +109,8 @@ class Run:
     def __init__(self, names, log, say):
         self.rtlib, self.log, self.say = toolchain(), log, say
         self.rtlib.guarded()
+        # Else Python would wait at Ctrl-C for what its threads have started; so all of it ends with this process.
+        signal.signal(signal.SIGINT, signal.SIG_DFL)
         self.listed, self.printing, self.said = crates.listed(), threading.Lock(), time.monotonic()
         self.processors, self.work, known = crates.processors(), Work(self.listed), {}
         self.crates = {}
