@@ -61,10 +61,6 @@ def beside(crate, name):
         return it.read()
 
 
-def is_tested(crate):
-    return "#[test]" in crate.text("src", ".rt")
-
-
 def wrong_run(crate):
     words = (beside(crate, "args") or b"").decode().splitlines()
     status = int((beside(crate, "status") or b"0").strip() or 0)
@@ -93,7 +89,7 @@ def prove(steps, listed, names):
         steps.say(f"{name} is proved", failed.get(name, []))
         if listed[name].is_program and name not in failed:
             steps.say(f"{name} writes what its file stdout has", wrong_run(listed[name]))
-        if is_tested(listed[name]) and name not in failed:
+        if listed[name].has_tests() and name not in failed:
             status, said = ran(["rt", "test"], listed[name].folder)
             steps.say(f"the tests of {name}", errors(said) if status else [])
     for name in failed:

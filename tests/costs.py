@@ -20,6 +20,8 @@ KINDS = ["proof", "tests", "edits", "compilers", "runs"]
 # What no crate is charged with: `rt` and the gate's own programs, tests/programs.py, the comparisons of documents.
 OTHER = "others"
 TICKS = os.sysconf("SC_CLK_TCK")
+# Whether /proc lists the processes that one has started; some systems don't.
+LISTS_CHILDREN = os.path.exists(f"/proc/self/task/{os.getpid()}/children")
 LAST = os.path.join(crates.TOP, "out", "costs.txt")
 # The costs of a run on a quiet machine, which bin/costs --keep writes, and the dearest functions (bin/costs --functions --keep).
 KEPT = os.path.join(crates.TOP, "tests", "costs.txt")
@@ -43,6 +45,8 @@ def times_of(pid):
 
 
 def children_of(pid):
+    if not LISTS_CHILDREN:
+        return [it for it in os.listdir("/proc") if it.isdigit() and parent_of(it) == str(pid)]
     found = []
     for thread in os.listdir(f"/proc/{pid}/task"):
         try:
@@ -51,6 +55,15 @@ def children_of(pid):
         except OSError:
             pass
     return found
+
+
+def parent_of(pid):
+    try:
+        with open(f"/proc/{pid}/stat", encoding="utf-8", errors="replace") as it:
+            said = it.read()
+        return said[said.rindex(")") + 2 :].split()[1]
+    except OSError:
+        return None
 
 
 def whole_time(pid):

@@ -28,7 +28,16 @@ class Crate:
         return self.text(part, ".rt" if part == "src" else ".antt").count("\n")
 
     def functions(self):
-        return len(FUNCTION.findall(self.text("src", ".rt")))
+        return 0 if self.is_tests_alone() else len(FUNCTION.findall(self.text("src", ".rt")))
+
+    def has_tests(self):
+        return "#[test]" in self.text("src", ".rt")
+
+    def is_tests_alone(self):
+        """Whether each module that the crate's root names is one of tests."""
+        root = "" if self.is_program else read(os.path.join(self.folder, "src", "lib.rt"))
+        modules, tests = (len(re.findall(it, root, re.M)) for it in (r"^(?:pub )?mod \w+;", r"^#\[cfg\(test\)\]\nmod \w+;"))
+        return 0 < modules == tests and not FUNCTION.search(root)
 
     def edits(self, folder="must-fail"):
         return len([*self.files(folder, ".edit")])

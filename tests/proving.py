@@ -7,6 +7,7 @@ import concurrent.futures
 import importlib.util
 import os
 import re
+import signal
 import sys
 import threading
 import time
@@ -19,7 +20,7 @@ import crates  # noqa: E402
 FIRST, EACH = 1_800_000_000, 900_000_000
 # What a process that shares a crate with others does of what it would do alone, and what a second of the gate's log is here: the
 # gate also looks for contracts that no call can meet, and writes statements.
-SHARED, SHARE = 0.6, 0.85
+SHARED, SHARE = 0.6, 0.8
 # So often a line says what is under way, and so long what was read of the sources is taken to be as it was, in seconds.
 BEAT, FRESH = 30, 3
 FAULT = re.compile(r"\S+:\d+:\d+: error|error|fn .*: (not proved|no proof|could not tell)|rattle: |logic=not-proved|rt: .*(refused|killed)")
@@ -62,15 +63,17 @@ def free_memory():
 
 
 class Work:
-    """The seconds that each crate takes with one process, by the costs that are kept or, without those, by its lines."""
+    """The seconds that each crate takes with one process: by the costs that are kept or, without those, by its lines."""
 
     def __init__(self, listed):
         self.listed, self.kept = listed, costs.read(costs.KEPT)
 
     def of(self, name):
         known = self.kept.of(name, "proof") + self.kept.of(name, "compilers") / 2 if self.kept else 0
-        crate = self.listed[name]
-        return SHARE * (known or 10 + 0.05 * sum(crate.lines(it) for it in crates.PARTS))
+        if known:
+            return SHARE * known
+        code, specs, proofs = (self.listed[name].lines(it) for it in crates.PARTS)
+        return 8 + 0.045 * code + 0.005 * (specs + proofs)
 
     def chain(self, name, left):
         """The longest chain of crates that wait for each other, from this one up."""
@@ -106,6 +109,8 @@ class Run:
     def __init__(self, names, log, say):
         self.rtlib, self.log, self.say = toolchain(), log, say
         self.rtlib.guarded()
+        # Else Python would wait at Ctrl-C for what its threads have started; so all of it ends with this process.
+        signal.signal(signal.SIGINT, signal.SIG_DFL)
         self.listed, self.printing, self.said = crates.listed(), threading.Lock(), time.monotonic()
         self.processors, self.work, known = crates.processors(), Work(self.listed), {}
         self.crates = {}
