@@ -82,7 +82,11 @@ def prove(steps, listed, names):
     """Proves these crates and those above them, and runs their programs and tests. Returns those that are not proved."""
     affected = crates.above(listed, names)
     with open(LOG, "a", encoding="utf-8", buffering=1) as log:
-        run = proving.Run(affected, log, steps.tell)
+        try:
+            run = proving.Run(affected, log, steps.tell)
+        except ImportError as error:
+            steps.say("the crates are proved", [f"{error}: `rt check` in each crate's folder, and bin/test alone, still work"])
+            return affected
         steps.tell(run.announcement())
         failed = run.prove()
     for name in affected:
