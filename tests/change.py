@@ -1,8 +1,9 @@
 #!/usr/bin/env python3
 """What a change of some crates needs, as `bin/test NAME ..` runs it, over the work that earlier checks kept: the comparisons of
-documents and comments with the sources; the proofs of these crates and of all that stand on them, with their programs built and run
-and their tests; the edits of these crates that must be refused; and rows and refused memory, by the programs that were built. It is
-less than the gate: what wasn't changed isn't proved anew, and hostile input isn't tried. The last line is `N passed, M failed`."""
+documents and comments with the sources; the proofs of these crates and of all that stand on them, with their programs built and
+run and their tests; the edits of these crates that must be refused; and rows and refused memory, by the programs that were built.
+It is less than the gate: what wasn't changed isn't proved anew, and hostile input isn't tried. The last line is
+`N passed, M failed`."""
 import os
 import re
 import shutil
@@ -123,8 +124,8 @@ def try_edits(steps, listed, names, unproved):
 
 
 def run_programs(steps, affected, unproved):
-    """Runs the rows and refused memory by the driver, where it stands on one of the crates, and what is looked at of `collate` and
-    `collate-cldr`, where they do. Hostile input is left to the gate, which takes minutes for it."""
+    """Runs the rows and refused memory by the driver, where it stands on one of the crates, and what is looked at of `collate`
+    and `collate-cldr`, where they do. Hostile input is left to the gate, which takes minutes for it."""
     built = [it for it in affected if it not in unproved]
     with tempfile.TemporaryDirectory(prefix="collate-tests-") as room:
         shim = programs.compiled(room, "refuse", "-shared", "-fPIC")

@@ -1,9 +1,9 @@
 """What a run of the gate costs: the processor time of each crate by the kind of work, as /proc shows it while `rt ci` runs.
 
 `rt ci` starts a process for each check, compiler and run. A process says in its words which crate it is for, and by its folder
-whether it tries an edit, which is done on a copy. A process is looked at once a second, and the time that passed since then until it
-ended is told from what its parent has waited for. A look that fails is left out: the figures are then too small, and nothing
-else comes of it."""
+whether it tries an edit, which is done on a copy. A process is looked at once a second, and what it took since then until it ended
+is told from what its parent has waited for. A look that fails is left out: the figures are then too small, and nothing else comes
+of it."""
 import os
 import re
 import resource
@@ -180,7 +180,8 @@ class Costs:
         return sum(it.get(kind, 0.0) for it in self.by.values())
 
     def write(self, file):
-        lines = ["# Seconds of processor time that a run of the gate took, by crate and kind of work.", " ".join(["crate", *KINDS])]
+        lines = ["# Seconds of processor time that a run of the gate took, by crate and kind of work."]
+        lines.append(" ".join(["crate", *KINDS]))
         for name in sorted(self.by):
             lines.append(" ".join([name, *(f"{self.of(name, kind):.1f}" for kind in KINDS)]))
         lines.append(f"whole {self.whole:.1f} passed {self.passed:.1f} processors {self.processors}")
@@ -224,7 +225,7 @@ def dearest(costs, most=8):
 
 
 def ratio(costs, kept):
-    """How much longer this machine takes than that of the costs that are kept, by the crates that both have: the one in the middle."""
+    """How much longer this machine takes than that of the kept costs, by the crates that both have: the one in the middle."""
     each = sorted(costs.of(it) / kept.of(it) for it in costs.by if kept.of(it) > 1 and costs.of(it) > 1 and it != OTHER)
     return each[len(each) // 2] if each else 1.0
 
@@ -242,6 +243,7 @@ def total(costs):
     """What a whole run took, beside what it may take."""
     minutes, on_two = costs.whole / 60, costs.whole / 120
     kinds = ", ".join(f"{kind} {costs.of_kind(kind) / 60:.1f}" for kind in KINDS)
-    said = f"{minutes:.0f} minutes of processor time ({kinds}) in {costs.passed / 60:.0f} minutes on {costs.processors} processors"
+    passed = f"{costs.passed / 60:.0f} minutes on {costs.processors} processors"
+    said = f"{minutes:.0f} minutes of processor time ({kinds}) in {passed}"
     room = f"it may take {STANDING} minutes on two processors for what stood in November 2026, and {GREATEST} in all"
     return f"cost: {said}; {on_two:.0f} minutes on two processors where none is idle: {room}"

@@ -79,7 +79,8 @@ def processors():
     found = len(os.sched_getaffinity(0))
     for path, period_path in (("cpu.max", None), ("cpu/cpu.cfs_quota_us", "cpu/cpu.cfs_period_us")):
         try:
-            words = read(f"/sys/fs/cgroup/{path}").split() + (read(f"/sys/fs/cgroup/{period_path}").split() if period_path else [])
+            words = read(f"/sys/fs/cgroup/{path}").split()
+            words += read(f"/sys/fs/cgroup/{period_path}").split() if period_path else []
         except OSError:
             continue
         if len(words) > 1 and words[0].isdigit() and words[1].isdigit() and int(words[1]):
