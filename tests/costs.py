@@ -1,9 +1,9 @@
 """What a run of the gate costs: the processor time of each crate by the kind of work, as /proc shows it while `rt ci` runs.
 
 `rt ci` starts a process for each check, compiler and run. A process says in its words which crate it is for, and by its folder
-whether it tries an edit, which is done on a copy. A process is looked at once a second, and what it took since then until it ended
-is told from what its parent has waited for. A look that fails is left out: the figures are then too small, and nothing else comes
-of it."""
+whether it tries an edit, which is done on a copy. A process is looked at once a second, and what it took since then until it
+ended is told from what its parent has waited for. A look that fails is left out: the figures are then too small, and nothing else
+comes of it."""
 import os
 import re
 import resource

@@ -1,8 +1,9 @@
 """Proves and builds crates of the repository, and those below them, over the work that earlier checks kept.
 
-Each is proved once, as `rt lib` and `rt run` do it, and not at all where nothing changed since. Crates of which none stands on the
-other are proved side by side, and the one with the longest chain of crates above it has a process for each processor. It takes the
-toolchain's own module, rtlib.py, by which `rt` knows a crate, since each call of `rt` waits for those that work on a crate below."""
+Each is proved once, as `rt lib` and `rt run` do it, and not at all where nothing changed since. Crates of which none stands on
+the other are proved side by side, and the one with the longest chain of crates above it has a process for each processor. It takes
+the toolchain's own module, rtlib.py, by which `rt` knows a crate, since each call of `rt` waits for those that work on a crate
+below."""
 import concurrent.futures
 import importlib.util
 import os
@@ -23,7 +24,10 @@ FIRST, EACH = 1_800_000_000, 900_000_000
 SHARED, SHARE = 0.6, 0.8
 # So often a line says what is under way, and so long what was read of the sources is taken to be as it was, in seconds.
 BEAT, FRESH = 30, 3
-FAULT = re.compile(r"\S+:\d+:\d+: error|error|fn .*: (not proved|no proof|could not tell)|rattle: |logic=not-proved|rt: .*(refused|killed)")
+# A line that says why a crate isn't proved.
+FAULT = re.compile(
+    r"\S+:\d+:\d+: error|error|fn .*: (not proved|no proof|could not tell)|rattle: |logic=not-proved|rt: .*(refused|killed)"
+)
 
 
 def toolchain():
@@ -191,7 +195,8 @@ class Run:
         for it in held:
             os.close(it)
         for name in self.left:
-            failed[name] = [f"not tried, since {', '.join(it for it in crates.below(self.listed, name) if it in failed)} is not proved"]
+            lacking = [it for it in crates.below(self.listed, name) if it in failed]
+            failed[name] = [f"not tried, since {', '.join(lacking)} is not proved"]
         return failed
 
     def end(self, name, faults, failed):
