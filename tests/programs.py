@@ -20,6 +20,7 @@ import tempfile
 
 from driver import DriverFault
 from hostile import check_hostile
+from reads import check_reads
 from refusals import check_refusals, driver_is_right
 from rows import check_rows
 from sweeps import TESTS, TOP, Run, faults_of, is_beginning, run, run_on_streams, sweep
@@ -425,6 +426,7 @@ def check_all(report, room):
     report.also("rows", check_rows, drivers())
     report.also("hostile input", check_hostile, drivers()[0])
     report.also("refused memory", check_refusals, shim, drivers()[0])
+    report.also("a file of CLDR", check_reads, shim, drivers()[0])
 
 
 def main():
