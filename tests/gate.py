@@ -17,8 +17,8 @@ import crates  # noqa: E402
 
 TOP = crates.TOP
 LOG = os.path.join(TOP, "out", "test.log")
-# The programs of bin/ that compare documents and comments with the sources.
-COMPARISONS = ["definitions", "documents", "citations", "comments", "undocumented"]
+# The programs of bin/ that compare documents and comments with the sources, and that count what makes sources hard to read.
+COMPARISONS = ["definitions", "documents", "citations", "comments", "undocumented", "house"]
 # So often at least a line says what is under way, in seconds.
 BEAT = 120
 COUNTS = re.compile(r"^(\d+) passed, (\d+) failed$")
@@ -130,7 +130,7 @@ def run_programs():
 
 
 def compare(what):
-    """Runs one of the programs that compare documents and comments with the sources; returns what passed and what failed."""
+    """Runs one of COMPARISONS; returns what passed and what failed."""
     program = [sys.executable, os.path.join(TOP, "bin", what)]
     ran = subprocess.run(program, stdin=subprocess.DEVNULL, stdout=subprocess.PIPE, stderr=subprocess.STDOUT, text=True)
     if ran.returncode:
