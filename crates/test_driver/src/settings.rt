@@ -110,37 +110,38 @@ fn named_over(first: Named, later: Named) -> Named {
     }
 }
 
-/// The settings that metadata and named settings come to. With two sixes of numbers the first are merged and resolved,
-/// and taken as options and preferences again, over which the others are named.
+/// The settings that metadata and named settings come to. With two sixes of numbers, each with metadata of its own, the
+/// first are merged and resolved, and taken as options and preferences again, over which the others are named.
 pub(crate) fn merge(alloc: Global, written: &str) -> Result<String, Fault> {
-    let (bits, settings) = written.split_once(' ').ok_or(Fault::Unread)?;
-    let metadata = MetadataSettings::from_bits(single(bits)?);
-    let merged = match settings.split_once('/') {
-        Some((first, later)) => merge_again(alloc, metadata, first, later)?,
-        None => merge_named(metadata, named_settings(alloc, settings)?),
+    let none = Named {
+        options: CollatorOptions::default(),
+        preferences: CollatorPreferences::default(),
+    };
+    let merged = match written.split_once('/') {
+        Some((first, later)) => {
+            let first = merged(alloc, none, first)?;
+            merged(alloc, named_again(first), later)?
+        }
+        None => merged(alloc, none, written)?,
     };
     Ok(print(alloc, merged)?)
 }
 
-fn merge_named(metadata: MetadataSettings, named: Named) -> CollatorOptionsBitField {
-    merged_options(named.options, named.preferences, metadata)
+/// What metadata and six numbers come to, where the numbers are named over other settings.
+fn merged(alloc: Global, before: Named, written: &str) -> Result<CollatorOptionsBitField, Fault> {
+    let (bits, six) = written.trim().split_once(' ').ok_or(Fault::Unread)?;
+    let metadata = MetadataSettings::from_bits(single(bits)?);
+    let named = named_over(before, named_settings(alloc, six)?);
+    Ok(merged_options(named.options, named.preferences, metadata))
 }
 
-fn merge_again(
-    alloc: Global,
-    metadata: MetadataSettings,
-    first: &str,
-    later: &str,
-) -> Result<CollatorOptionsBitField, Fault> {
-    let resolved: ResolvedCollatorOptions = merge_named(
-        metadata,
-        named_settings(alloc, first)?,
-    ).into();
-    let first = Named {
+/// Settings that are resolved, as options and preferences.
+fn named_again(settings: CollatorOptionsBitField) -> Named {
+    let resolved: ResolvedCollatorOptions = settings.into();
+    Named {
         options: CollatorOptions::from(resolved),
         preferences: CollatorPreferences::from(resolved),
-    };
-    Ok(merge_named(metadata, named_over(first, named_settings(alloc, later)?)))
+    }
 }
 
 /// The settings as they are printed: each by its name, and what else follows from them.
