@@ -13,13 +13,10 @@ use std::alloc::Global;
 use std::fs;
 use std::io::BufReader;
 
-/// Whether a question changes what the program holds.
-pub(crate) fn changes(question: &str) -> bool {
-    match question {
-        "base" | "set" | "drop" | "root" | "file" | "make" | "times" | "typed" | "refuse" => true,
-        _ => false,
-    }
-}
+/// The questions that change what the program holds.
+pub(crate) const CHANGES: [&str; 9] = [
+    "base", "set", "drop", "root", "file", "make", "times", "typed", "refuse",
+];
 
 /// Makes a change.
 pub(crate) fn change(
@@ -50,11 +47,20 @@ pub(crate) fn change(
 
 /// Changes the tables.
 fn change_tables(alloc: Global, mini: &mut Mini, question: &str, rest: &str) -> Result<(), Fault> {
-    match (question, rest) {
-        ("base", name) => *mini = base(alloc, name)?,
-        ("set", written) => set(alloc, mini, written)?,
-        ("drop", "tailoring") => mini.tailoring = None,
-        ("drop", "reordering") => mini.reordering = None,
+    match question {
+        "base" => *mini = base(alloc, rest)?,
+        "set" => set(alloc, mini, rest)?,
+        "drop" => drop_table(mini, rest)?,
+        _ => return Err(Fault::Unread),
+    }
+    Ok(())
+}
+
+/// Takes a table away.
+fn drop_table(mini: &mut Mini, name: &str) -> Result<(), Fault> {
+    match name {
+        "tailoring" => mini.tailoring = None,
+        "reordering" => mini.reordering = None,
         _ => return Err(Fault::Unread),
     }
     Ok(())

@@ -1,5 +1,6 @@
 //! The root of CLDR, from the lines of FractionalUCA.txt.
 use crate::fault::Fault;
+use crate::tables::vectors;
 use icu_cldr::{CldrRoot, ReadError, read_root};
 use icu_data::CollationData;
 use icu_entries::DataError;
@@ -33,19 +34,10 @@ fn loaded<T>(loaded: Result<T, DataError>) -> Result<T, Fault> {
 }
 
 /// The lists of a root.
-fn vectors(alloc: Global, data: CollationData<'_>) -> Result<DataVectors, AllocError> {
+fn vectors_of(alloc: Global, data: CollationData<'_>) -> Result<DataVectors, AllocError> {
     let (trie, ces, ce32s, contexts) = data.parts();
-    let (blocks, values) = trie.parts();
     let (contexts, rows, chars) = contexts.parts();
-    Ok(DataVectors {
-        blocks: Vec::from_slice(alloc, blocks)?,
-        values: Vec::from_slice(alloc, values)?,
-        ces: Vec::from_slice(alloc, ces)?,
-        ce32s: Vec::from_slice(alloc, ce32s)?,
-        contexts: Vec::from_slice(alloc, contexts)?,
-        rows: Vec::from_slice(alloc, rows)?,
-        chars: Vec::from_slice(alloc, chars)?,
-    })
+    vectors(alloc, trie.parts(), (ces, ce32s), (contexts, rows, chars))
 }
 
 /// The tables of a root: no tailoring, and no reordering.
@@ -55,7 +47,7 @@ fn tables(alloc: Global, root: &CldrRoot) -> Result<Mini, Fault> {
     let jamo = loaded(root.load_jamo())?;
     let diacritics = loaded(root.load_diacritics(request))?;
     Ok(Mini {
-        root: vectors(alloc, loaded(root.load_root())?)?,
+        root: vectors_of(alloc, loaded(root.load_root())?)?,
         tailoring: None,
         jamo: Vec::from_slice(alloc, jamo.ce32s())?,
         diacritics: Vec::from_slice(alloc, diacritics.secondaries())?,

@@ -110,33 +110,43 @@ fn load_tailoring_unchecked(mini: &Mini) -> Result<Option<CollationData<'_>>, Da
     }
 }
 
-/// All tables that there are, the root and the tailoring by these.
-fn all<'m>(
-    mini: &'m Mini,
-    root: Result<CollationData<'m>, DataErrorKind>,
-    tailoring: Result<Option<CollationData<'m>>, DataErrorKind>,
-) -> Result<TableSet<'m>, DataError> {
+/// What the first constructor of a single table refuses that does.
+pub(crate) fn alone(alloc: Global, mini: &Mini) -> Result<String, Fault> {
+    let loaded = mini.provider();
+    for refusal in [
+        loaded.root.err(),
+        loaded.jamo.err(),
+        loaded.special.err(),
+        loaded.tailoring.err(),
+        loaded.reordering.err(),
+        loaded.diacritics.err(),
+    ] {
+        match refusal {
+            Some(error) if error.kind != DataErrorKind::Absent => {
+                return printed(alloc, Some(error));
+            }
+            _ => {}
+        }
+    }
+    printed(alloc, None)
+}
+
+/// All tables that there are, the entries of the root and the tailoring unchecked.
+fn all_unchecked(mini: &Mini) -> Result<TableSet<'_>, DataError> {
     Ok(TableSet {
-        root: named(DataTable::Root, root)?,
+        root: named(DataTable::Root, load_unchecked(&mini.root))?,
         jamo: named(DataTable::Jamo, mini.load_jamo())?,
         special: named(DataTable::SpecialPrimaries, mini.load_special_primaries())?,
         metadata: mini.metadata,
-        tailoring: named(DataTable::Tailoring, tailoring)?,
+        tailoring: named(DataTable::Tailoring, load_tailoring_unchecked(mini))?,
         reordering: named(DataTable::Reordering, mini.load_reordering())?,
         diacritics: named(DataTable::Diacritics, mini.load_diacritics())?,
     })
 }
 
-/// What the first constructor of a single table refuses that does.
-pub(crate) fn alone(alloc: Global, mini: &Mini) -> Result<String, Fault> {
-    let refusal = all(mini, mini.load_root(), mini.load_tailoring()).err();
-    printed(alloc, refusal)
-}
-
 /// The tables checked together, the entries of the root and the tailoring not by themselves before.
 fn checked_together(alloc: Global, mini: &Mini) -> Result<CheckedTables, DataError> {
-    let tailoring = load_tailoring_unchecked(mini);
-    CheckedTables::from_set(alloc, all(mini, load_unchecked(&mini.root), tailoring)?)
+    CheckedTables::from_set(alloc, all_unchecked(mini)?)
 }
 
 /// What the check of all tables together refuses.

@@ -1,5 +1,5 @@
 //! Questions and their answers.
-use crate::changes::{change, changes};
+use crate::changes::{CHANGES, change};
 use crate::collators::{alone, check, checked, kept, printed, together};
 use crate::comparisons::compare;
 use crate::elements::{all_readings, cursor, next, taken, whole};
@@ -23,6 +23,14 @@ use icu_mini::mini::Mini;
 use icu_numbers::digit_run_weights;
 use std::alloc::Global;
 
+/// The questions on texts by a collator.
+const BY_COLLATOR: [&str; 8] = [
+    "compare", "key", "slice", "list", "limited", "names", "equals", "resolved",
+];
+
+/// The questions on the elements of texts.
+const BY_READER: [&str; 6] = ["whole", "next", "cursor", "readings", "taken", "letter"];
+
 /// What a line asks. Where an allocation fails, the state stays as it was.
 pub(crate) fn answer(rt: &HostRuntime, state: &mut State, line: &str) -> Result<String, Fault> {
     let alloc = rt.alloc();
@@ -31,23 +39,32 @@ pub(crate) fn answer(rt: &HostRuntime, state: &mut State, line: &str) -> Result<
     }
     let (question, rest) = line.split_once(' ').unwrap_or((line, ""));
     let rest = rest.trim();
-    if changes(question) {
+    if CHANGES.contains(&question) {
         return change(rt, state, question, rest);
     }
+    if BY_COLLATOR.contains(&question) {
+        let collator = state.collator.as_ref().ok_or(Fault::Unread)?;
+        return by_collator(alloc, collator, question, rest, state.times);
+    }
+    if BY_READER.contains(&question) {
+        return read(alloc, state, question, rest);
+    }
+    other_answer(alloc, state, question, rest)
+}
+
+/// What is asked of the state beside a collator and the elements of texts, or of nothing that it holds.
+fn other_answer(alloc: Global, state: &State, question: &str, rest: &str) -> Result<String, Fault> {
     match question {
-        "compare" | "key" | "slice" | "list" | "limited" | "names" | "equals" | "resolved" => {
-            let collator = state.collator.as_ref().ok_or(Fault::Unread)?;
-            by_collator(alloc, collator, question, rest, state.times)
-        }
-        "whole" | "next" | "cursor" | "readings" | "taken" | "letter" => {
-            read(alloc, state, question, rest)
-        }
         "request" => {
             let typed = state.typed.as_ref();
             request(alloc, &state.mini, typed, state.refused.as_slice(), rest)
         }
         "absent" => Ok(state.absent.as_ref().ok_or(Fault::Unread)?.clone()?),
-        "characters" | "first" | "ascii" | "after" | "common" => encoded(alloc, question, rest),
+        "characters" => characters(alloc, rest),
+        "first" => at_front(alloc, Front::First, rest),
+        "ascii" => at_front(alloc, Front::Ascii, rest),
+        "after" => after(alloc, rest),
+        "common" => common(alloc, rest),
         "line" => line_of(alloc, rest),
         "bytes" => bytes(alloc, rest),
         "weights" => weights(alloc, rest),
@@ -127,17 +144,6 @@ fn read_by(alloc: Global, reader: &Reader, question: &str, rest: &str) -> Result
         "readings" => all_readings(alloc, reader, rest),
         "taken" => taken(alloc, reader, rest),
         "letter" => letter(alloc, reader, rest),
-        _ => Err(Fault::Unread),
-    }
-}
-
-fn encoded(alloc: Global, question: &str, rest: &str) -> Result<String, Fault> {
-    match question {
-        "characters" => characters(alloc, rest),
-        "first" => at_front(alloc, Front::First, rest),
-        "ascii" => at_front(alloc, Front::Ascii, rest),
-        "after" => after(alloc, rest),
-        "common" => common(alloc, rest),
         _ => Err(Fault::Unread),
     }
 }

@@ -55,7 +55,7 @@ fn fill<S: CollationKeySink<Error = AllocError, State = (), Output = ()>>(
 }
 
 /// What a filled list holds. Where it wasn't filled, it has to hold 7F and a beginning of the key.
-fn told(
+fn filled(
     alloc: Global,
     filling: Filling<'_>,
     is_filled: bool,
@@ -76,14 +76,14 @@ fn told(
 fn in_vector(alloc: Global, filling: Filling<'_>) -> Result<String, Fault> {
     let mut list = Vec::from_array(alloc, [HELD])?;
     let is_filled = fill(filling, &mut list);
-    told(alloc, filling, is_filled, list.as_slice())
+    filled(alloc, filling, is_filled, list.as_slice())
 }
 
 fn in_inline_list(alloc: Global, filling: Filling<'_>) -> Result<String, Fault> {
     let mut list: SmallVec<u8, 4> = SmallVec::new(alloc);
     list.push(HELD)?;
     let is_filled = fill(filling, &mut list);
-    told(alloc, filling, is_filled, list.as_slice())
+    filled(alloc, filling, is_filled, list.as_slice())
 }
 
 fn in_deque(alloc: Global, filling: Filling<'_>) -> Result<String, Fault> {
@@ -91,7 +91,7 @@ fn in_deque(alloc: Global, filling: Filling<'_>) -> Result<String, Fault> {
     list.push_back(HELD)?;
     let is_filled = fill(filling, &mut list);
     let bytes: Vec<u8> = list.iter().copied().collect(alloc)?;
-    told(alloc, filling, is_filled, bytes.as_slice())
+    filled(alloc, filling, is_filled, bytes.as_slice())
 }
 
 fn in_list(alloc: Global, kind: &str, filling: Filling<'_>) -> Result<String, Fault> {

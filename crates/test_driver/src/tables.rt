@@ -248,17 +248,35 @@ fn show_rows(alloc: Global, rows: &[ContextRow]) -> Result<String, AllocError> {
     written(alloc, numbers.as_slice())
 }
 
-/// A copy of lists.
-fn copied_data(alloc: Global, data: &DataVectors) -> Result<DataVectors, AllocError> {
+/// Copies of the lists of a root or a tailoring.
+pub(crate) fn vectors(
+    alloc: Global,
+    (blocks, values): (&[u16], &[u32]),
+    (ces, ce32s): (&[u64], &[u32]),
+    (contexts, rows, chars): (&[Context], &[ContextRow], &[char]),
+) -> Result<DataVectors, AllocError> {
     Ok(DataVectors {
-        blocks: Vec::from_slice(alloc, data.blocks.as_slice())?,
-        values: Vec::from_slice(alloc, data.values.as_slice())?,
-        ces: Vec::from_slice(alloc, data.ces.as_slice())?,
-        ce32s: Vec::from_slice(alloc, data.ce32s.as_slice())?,
-        contexts: Vec::from_slice(alloc, data.contexts.as_slice())?,
-        rows: Vec::from_slice(alloc, data.rows.as_slice())?,
-        chars: Vec::from_slice(alloc, data.chars.as_slice())?,
+        blocks: Vec::from_slice(alloc, blocks)?,
+        values: Vec::from_slice(alloc, values)?,
+        ces: Vec::from_slice(alloc, ces)?,
+        ce32s: Vec::from_slice(alloc, ce32s)?,
+        contexts: Vec::from_slice(alloc, contexts)?,
+        rows: Vec::from_slice(alloc, rows)?,
+        chars: Vec::from_slice(alloc, chars)?,
     })
+}
+
+fn copied_data(alloc: Global, data: &DataVectors) -> Result<DataVectors, AllocError> {
+    vectors(
+        alloc,
+        (data.blocks.as_slice(), data.values.as_slice()),
+        (data.ces.as_slice(), data.ce32s.as_slice()),
+        (
+            data.contexts.as_slice(),
+            data.rows.as_slice(),
+            data.chars.as_slice(),
+        ),
+    )
 }
 
 fn copied_tailoring(alloc: Global, mini: &Mini) -> Result<Option<DataVectors>, AllocError> {
