@@ -1,7 +1,6 @@
 -- Canonically equivalent texts have the same lists, and at the identical level they alone.
 use Rattle.std.proofs.Common.{◌≡◌, ℕ, Bool, true, false, List, [], ◌∷◌, map, Ordering, Equal, refl, ap, ◌∙◌, subst}
 use Rattle.unicode_normalization.specs.Forms.{nfd}
-use Rattle.icu_options.specs.Settings.{Settings}
 use Rattle.icu_options.specs.declared.settings.Strength.{Strength}
 use Rattle.icu_options.specs.declared.settings.Strength.TheVariants.{Identical}
 use Rattle.icu_levels.specs.Identical.{identical_rank}
@@ -13,7 +12,7 @@ use Rattle.icu_levels.proofs.KeepLemmas.{both_tie}
 use Rattle.icu_levels.proofs.SameKeys.{all_tie}
 use Rattle.icu_levels.proofs.OwnOrder.{own_secondaries, own_cases, own_tertiaries, own_quaternaries}
 use Rattle.icu_levels.proofs.IdenticalOrder.{same_from_ranks}
-use Rattle.icu_provider.specs.CollatorTables.{CollatorTables}
+use Rattle.icu_order.specs.Collations.{Collation}
 use Rattle.icu_order.specs.Forms.{compression_of, form_by, is_identical}
 use Rattle.icu_order.specs.TextOrder.{lists_by, text_order, text_key}
 
@@ -60,28 +59,30 @@ same_characters : (t u : LevelLists) → characters_order true t u ≡ Equal →
 same_characters t u e =
     same_from_ranks t.characters u.characters (tied_lists (map identical_rank t.characters) (map identical_rank u.characters) e)
 
-module _ (all : CollatorTables) (settings : Settings) (t u : List ℕ) where
+module _ (collation : Collation) (t u : List ℕ) where
+  open collation use {tables as all, settings}
+
   abbrev order_of_decomposed : List ℕ → List ℕ → Ordering
   order_of_decomposed text other =
-      levels_order (compression_of all) (form_by all settings) (lists_by all settings text) (lists_by all settings other)
+      levels_order (compression_of all) (form_by collation) (lists_by collation text) (lists_by collation other)
 
-  pub equivalent_tie : nfd t ≡ nfd u → text_order all settings t u ≡ Equal
+  pub equivalent_tie : nfd t ≡ nfd u → text_order collation t u ≡ Equal
   unfolding text_order
   equivalent_tie e =
-      ap (λ text. order_of_decomposed text (nfd u)) e ∙ own_levels (compression_of all) (form_by all settings) (lists_by all settings (nfd u))
+      ap (λ text. order_of_decomposed text (nfd u)) e ∙ own_levels (compression_of all) (form_by collation) (lists_by collation (nfd u))
 
-  pub equivalent_key : nfd t ≡ nfd u → text_key all settings t ≡ text_key all settings u
+  pub equivalent_key : nfd t ≡ nfd u → text_key collation t ≡ text_key collation u
   unfolding text_key
   equivalent_key e = rw e refl
 
-  characters_tie : (s : Strength) → s ≡ Identical → characters_order (is_identical s) (lists_by all settings (nfd t)) (lists_by all settings (nfd u)) ≡ Equal → nfd t ≡ nfd u
+  characters_tie : (s : Strength) → s ≡ Identical → characters_order (is_identical s) (lists_by collation (nfd t)) (lists_by collation (nfd u)) ≡ Equal → nfd t ≡ nfd u
   unfolding lists_by
   characters_tie s is e =
-      same_characters (lists_by all settings (nfd t)) (lists_by all settings (nfd u))
-      (subst (λ s. characters_order (is_identical s) (lists_by all settings (nfd t)) (lists_by all settings (nfd u)) ≡ Equal) is e)
+      same_characters (lists_by collation (nfd t)) (lists_by collation (nfd u))
+      (subst (λ s. characters_order (is_identical s) (lists_by collation (nfd t)) (lists_by collation (nfd u)) ≡ Equal) is e)
 
-  pub identical_equivalent : settings.strength ≡ Identical → text_order all settings t u ≡ Equal → nfd t ≡ nfd u
+  pub identical_equivalent : settings.strength ≡ Identical → text_order collation t u ≡ Equal → nfd t ≡ nfd u
   unfolding text_order
   identical_equivalent is e =
       characters_tie settings.strength is
-      (last_level (compression_of all) (form_by all settings) (lists_by all settings (nfd t)) (lists_by all settings (nfd u)) e)
+      (last_level (compression_of all) (form_by collation) (lists_by collation (nfd t)) (lists_by collation (nfd u)) e)

@@ -2,7 +2,6 @@
 use Rattle.std.proofs.Common.{◌≡◌, ◌<◌, ◌↔◌, ℕ, List, map, Equal, ap}
 use Rattle.std.specs.List.{AllByRecursion}
 use Rattle.unicode_normalization.specs.Forms.{nfd}
-use Rattle.icu_options.specs.Settings.{Settings}
 use Rattle.icu_options.specs.declared.settings.Strength.TheVariants.{Identical}
 use Rattle.icu_levels.specs.Identical.{identical_level, identical_rank}
 use Rattle.icu_levels.specs.Keys.{Determines}
@@ -11,11 +10,11 @@ use Rattle.icu_levels.proofs.KeepLemmas.{tie}
 use Rattle.icu_levels.proofs.Order.{tied_lists}
 use Rattle.icu_data.proofs.CharLemmas.{scalar_below}
 use Rattle.icu_data.proofs.ListLemmas.{weaker}
-use Rattle.icu_provider.specs.CollatorTables.{CollatorTables}
 use Rattle.icu_checks.specs.GoodTables.{IsGoodTables}
 use Rattle.icu_elements.specs.TextElementLaws.{IsText}
 use Rattle.icu_elements.specs.TextParts.{IsDecomposed}
 use Rattle.icu_elements.proofs.DecomposedLemmas.{IsDecomposedText-nfd}
+use Rattle.icu_order.specs.Collations.{Collation}
 use Rattle.icu_order.specs.TextOrder.{text_order, text_key}
 use Rattle.icu_order.proofs.TextOrders.{equal_keys}
 use Rattle.icu_laws.specs.IdenticalLaws.{decomposed_order}
@@ -37,10 +36,10 @@ module _ (t u : List ℕ) (p : IsText t) (q : IsText u) where
     λ same. ap identical_level same,
   )
 
-module _ (all : CollatorTables) (settings : Settings) (is : settings.strength ≡ Identical) (t u : List ℕ) where
-  pub identical_texts : (text_order all settings t u ≡ Equal) ↔ AreEquivalent t u
-  identical_texts = (λ e. identical_equivalent all settings t u is e, λ e. equivalent_tie all settings t u e)
+module _ (collation : Collation) (is : collation.settings.strength ≡ Identical) (t u : List ℕ) where
+  pub identical_texts : (text_order collation t u ≡ Equal) ↔ AreEquivalent t u
+  identical_texts = (λ e. identical_equivalent collation t u is e, λ e. equivalent_tie collation t u e)
 
-  pub identical_keys : IsGoodTables all → IsText t → IsText u → (text_key all settings t ≡ text_key all settings u) ↔ AreEquivalent t u
+  pub identical_keys : IsGoodTables collation.tables → IsText t → IsText u → (text_key collation t ≡ text_key collation u) ↔ AreEquivalent t u
   identical_keys good p q =
-      let keys = equal_keys all good settings t u p q in (λ e. identical_texts.0 (keys.1 e), λ e. keys.0 (identical_texts.1 e))
+      let keys = equal_keys collation good t u p q in (λ e. identical_texts.0 (keys.1 e), λ e. keys.0 (identical_texts.1 e))

@@ -6,7 +6,6 @@ use Rattle.std.proofs.lemmas.Map.Lookups.{exact_unsigned}
 use Rattle.std.specs.Ordering.{nat_cmp}
 use Rattle.icu_levels.specs.ListOrder.{list_order}
 use Rattle.unicode_normalization.specs.Forms.{nfd}
-use Rattle.icu_options.specs.Settings.{Settings}
 use Rattle.icu_options.specs.declared.settings.Strength.{Strength}
 use Rattle.icu_options.specs.declared.settings.Strength.TheVariants.{Identical}
 use Rattle.icu_levels.specs.Keys.{LevelLists, levels_order, primaries_order}
@@ -16,12 +15,13 @@ use Rattle.icu_levels.proofs.DigitRuns.{one_number}
 use Rattle.icu_levels.proofs.Order.{same_number}
 use Rattle.icu_levels.proofs.ReorderedNumbers.{moved_runs_by_value}
 use Rattle.icu_entries.specs.Elements.{Element, of_primary}
-use Rattle.icu_provider.specs.CollatorTables.{CollatorTables, reorder}
+use Rattle.icu_provider.specs.CollatorTables.{reorder}
 use Rattle.icu_checks.specs.GoodTables.{IsGoodTables}
 use Rattle.icu_elements.specs.TextElements.{digit_of, elements_of, number_elements}
 use Rattle.icu_elements.specs.TextElementLaws.{IsText}
 use Rattle.icu_elements.proofs.DecomposedLemmas.{IsDecomposedText-nfd}
 use Rattle.icu_elements.proofs.ReadableLemmas.{good_readable}
+use Rattle.icu_order.specs.Collations.{Collation}
 use Rattle.icu_order.specs.Forms.{compression_of, form_by, is_identical}
 use Rattle.icu_order.specs.Handled.{handled, stayed_elements}
 use Rattle.icu_order.specs.Levels.{weights, primaries, level_lists}
@@ -46,14 +46,16 @@ numbers_on : (b : Bool) (lead : ℕ) → b ≡ true → (if b then Some lead els
 numbers_on true lead on = refl
 numbers_on false lead on = cc
 
-module _ (all : CollatorTables) (good : IsGoodTables all) (settings : Settings) where
+module _ (collation : Collation) (good : IsGoodTables collation.tables) where
+  open collation use {tables as all, settings}
+
   abbrev numeric : ℕ
   numeric = all.special.numeric
 
   -- ---- the primaries of a number
 
   abbrev primaries_of : List Element → List ℕ
-  primaries_of es = primaries (stayed_elements (handled_elements all settings false es))
+  primaries_of es = primaries (stayed_elements (handled_elements collation false es))
 
   nothing : primaries_of [] ≡ []
   unfolding handled weights
@@ -63,7 +65,7 @@ module _ (all : CollatorTables) (good : IsGoodTables all) (settings : Settings) 
   number_primaries ds short =
       let ws = run_weights numeric ds in
       ap primaries_of (sym (append-nil (map of_primary ws)))
-      ∙ (number_all all good settings ws (run_leads numeric (numeric_low all good) ds short.digits) []
+      ∙ (number_all collation good ws (run_leads numeric (numeric_low all good) ds short.digits) []
       ∙ (ap (λ (l : List ℕ). ws ++ l) nothing ∙ append-nil ws))
 
   -- numbers of one value have the same elements
@@ -75,18 +77,18 @@ module _ (all : CollatorTables) (good : IsGoodTables all) (settings : Settings) 
   -- ---- the order of two texts by their elements
 
   abbrev lists : List Element → List ℕ → LevelLists
-  lists es text = level_lists (reorder all) (form_by all settings) (handled_elements all settings false es) text
+  lists es text = level_lists (reorder all) (form_by collation) (handled_elements collation false es) text
 
   abbrev order_of : List Element → List Element → List ℕ → List ℕ → Ordering
-  order_of es fs t u = levels_order (compression_of all) (form_by all settings) (lists es t) (lists fs u)
+  order_of es fs t u = levels_order (compression_of all) (form_by collation) (lists es t) (lists fs u)
 
-  by_elements : (t u : List ℕ) → text_order all settings t u
-      ≡ order_of (elements_of (reading_by all settings) (nfd t)) (elements_of (reading_by all settings) (nfd u)) (nfd t) (nfd u)
+  by_elements : (t u : List ℕ) → text_order collation t u
+      ≡ order_of (elements_of (reading_by collation) (nfd t)) (elements_of (reading_by collation) (nfd u)) (nfd t) (nfd u)
   unfolding text_order lists_by
   by_elements t u = refl
 
-  module _ (t u ds es : List ℕ) (p : IsNumberText all settings t ds) (q : IsNumberText all settings u es) where
-    as_numbers : text_order all settings t u ≡ order_of (number_elements numeric ds) (number_elements numeric es) (nfd t) (nfd u)
+  module _ (t u ds es : List ℕ) (p : IsNumberText collation t ds) (q : IsNumberText collation u es) where
+    as_numbers : text_order collation t u ≡ order_of (number_elements numeric ds) (number_elements numeric es) (nfd t) (nfd u)
     as_numbers = by_elements t u ∙ ap₂ (λ (a b : List Element). order_of a b (nfd t) (nfd u)) p.elements q.elements
 
     first_level : primaries_order (compression_of all) (lists (number_elements numeric ds) (nfd t)) (lists (number_elements numeric es) (nfd u))
@@ -95,33 +97,33 @@ module _ (all : CollatorTables) (good : IsGoodTables all) (settings : Settings) 
         ap₂ (λ (a b : List ℕ). list_order (map (reorder all) a) (map (reorder all) b)) (number_primaries ds p.short) (number_primaries es q.short)
         ∙ moved_runs_by_value (compression_of all) numeric (IsLivePrimary all) (live_primaries all good) (numeric_low all good) ds es p.short q.short
 
-    pub different_values : value_of ds ≢ value_of es → text_order all settings t u ≡ nat_cmp (value_of ds) (value_of es)
+    pub different_values : value_of ds ≢ value_of es → text_order collation t u ≡ nat_cmp (value_of ds) (value_of es)
     different_values n =
         as_numbers
         ∙ (stays (primaries_order (compression_of all) (lists (number_elements numeric ds) (nfd t)) (lists (number_elements numeric es) (nfd u))) _
         (λ e. different_order (value_of ds) (value_of es) n (sym first_level ∙ e))
         ∙ first_level)
 
-    same_values : settings.strength ≢ Identical → value_of ds ≡ value_of es → text_order all settings t u ≡ nat_cmp (value_of ds) (value_of es)
+    same_values : settings.strength ≢ Identical → value_of ds ≡ value_of es → text_order collation t u ≡ nat_cmp (value_of ds) (value_of es)
     same_values below e =
         as_numbers
         ∙ (ap (λ (a : List Element). order_of a (number_elements numeric es) (nfd t) (nfd u)) (same_elements ds es p.short q.short e)
-        ∙ (uncounted_tie (compression_of all) (form_by all settings) (lists (number_elements numeric es) (nfd t)) (nfd u)
+        ∙ (uncounted_tie (compression_of all) (form_by collation) (lists (number_elements numeric es) (nfd t)) (nfd u)
         (not_identical settings.strength below)
         ∙ (sym (same_number (value_of es)) ∙ ap (λ v. nat_cmp v (value_of es)) (sym e))))
 
-    pub order_by_value : settings.strength ≢ Identical → text_order all settings t u ≡ nat_cmp (value_of ds) (value_of es)
+    pub order_by_value : settings.strength ≢ Identical → text_order collation t u ≡ nat_cmp (value_of ds) (value_of es)
     order_by_value below = by (cases_eq (value_of ds) (value_of es))
       where
-        by : (value_of ds ≡ value_of es) ⊎ (value_of ds ≢ value_of es) → text_order all settings t u ≡ nat_cmp (value_of ds) (value_of es)
+        by : (value_of ds ≡ value_of es) ⊎ (value_of ds ≢ value_of es) → text_order collation t u ≡ nat_cmp (value_of ds) (value_of es)
         by (inl e) = same_values below e
         by (inr n) = different_values n
 
   -- ---- texts of digits
 
-  pub digits_are_number : settings.numeric ≡ true → (t : List ℕ) → IsText t → IsDigitText all t → IsNumberText all settings t (digits_in all t)
+  pub digits_are_number : settings.numeric ≡ true → (t : List ℕ) → IsText t → IsDigitText all t → IsNumberText collation t (digits_in all t)
   digits_are_number on t text is = record {
-    elements = digits_give (reading_by all settings) numeric (numbers_on settings.numeric numeric on) (nfd t) is.some is.characters;
+    elements = digits_give (reading_by collation) numeric (numbers_on settings.numeric numeric on) (nfd t) is.some is.characters;
     short = record {
       digits = digits_decimal all.tables (good_readable all good) (nfd t) (IsDecomposedText-nfd t text) is.characters;
       some = subst (λ n. 0 < n) (sym (length-map (nfd t) (digit_of all.tables))) is.some;

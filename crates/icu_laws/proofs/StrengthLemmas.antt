@@ -2,7 +2,6 @@
 use Rattle.std.proofs.Common.{◌≡◌, ◌≢◌, ◌≤◌, ℕ, Bool, true, false, List, Some, None, Ordering, Less, Equal, Greater, refl, sym, ap, ap₂, ◌∙◌, arith}
 use Rattle.std.specs.Ordering.{ordering_then}
 use Rattle.unicode_normalization.specs.Forms.{nfd}
-use Rattle.icu_options.specs.Settings.{Settings}
 use Rattle.icu_options.specs.Metadata.{is_backward}
 use Rattle.icu_options.specs.declared.settings.Strength.{Strength}
 use Rattle.icu_options.specs.declared.settings.Strength.TheVariants.{Primary, Secondary, Tertiary, Quaternary, Identical}
@@ -15,7 +14,8 @@ use Rattle.icu_levels.specs.declared.forms.SecondaryForm.{SecondaryForm}
 use Rattle.icu_levels.specs.declared.forms.SecondaryForm.TheVariants.{Forward, Backward}
 use Rattle.icu_levels.specs.declared.forms.TertiaryForm.{TertiaryForm}
 use Rattle.icu_levels.proofs.Orderings.{then_equal}
-use Rattle.icu_provider.specs.CollatorTables.{CollatorTables, reorder}
+use Rattle.icu_provider.specs.CollatorTables.{reorder}
+use Rattle.icu_order.specs.Collations.{Collation}
 use Rattle.icu_order.specs.Handled.{HandledElement}
 use Rattle.icu_order.specs.Levels.{level_lists}
 use Rattle.icu_order.specs.Forms.{compression_of, direction, secondary_form, case_form, cased_form, tertiary_form, quaternary_form, handling_form, is_identical}
@@ -141,7 +141,9 @@ module _ (c : Compression) (reordered : ℕ → ℕ) (secondary : SecondaryForm)
 
 -- ---- texts
 
-module _ (all : CollatorTables) (settings : Settings) (t u : List ℕ) where
+module _ (collation : Collation) (t u : List ℕ) where
+  open collation use {tables as all, settings}
+
   -- the order at a strength, with a case level or without
   abbrev at_form : Strength → Bool → Ordering
   at_form s level =
@@ -152,19 +154,19 @@ module _ (all : CollatorTables) (settings : Settings) (t u : List ℕ) where
         quaternary = quaternary_form s (handling_form settings.alternate_handling);
         identical = is_identical s;
       } in
-      levels_order (compression_of all) f (level_lists (reorder all) f (handled_by all settings (nfd t)) (nfd t))
-      (level_lists (reorder all) f (handled_by all settings (nfd u)) (nfd u))
+      levels_order (compression_of all) f (level_lists (reorder all) f (handled_by collation (nfd t)) (nfd t))
+      (level_lists (reorder all) f (handled_by collation (nfd u)) (nfd u))
 
-  at_strength : (s : Strength) → settings.case_level ≡ false → text_order all (with_strength settings s) t u ≡ at_form s false
+  at_strength : (s : Strength) → settings.case_level ≡ false → text_order (with_strength collation s) t u ≡ at_form s false
   unfolding text_order lists_by
   at_strength s off = ap (at_form s) off
 
   pub strength_keeps : (s r : Strength) → settings.case_level ≡ false → strength_rank s ≤ strength_rank r
-      → text_order all (with_strength settings s) t u ≢ Equal
-      → text_order all (with_strength settings r) t u ≡ text_order all (with_strength settings s) t u
+      → text_order (with_strength collation s) t u ≢ Equal
+      → text_order (with_strength collation r) t u ≡ text_order (with_strength collation s) t u
   strength_keeps s r off l n =
       at_strength r off
       ∙ (stays_raised (compression_of all) (reorder all) (direction (is_backward all.bits)) (cased_form false settings.case_first)
-      (handling_form settings.alternate_handling) (handled_by all settings (nfd t)) (handled_by all settings (nfd u)) (nfd t) (nfd u) s r l
+      (handling_form settings.alternate_handling) (handled_by collation (nfd t)) (handled_by collation (nfd u)) (nfd t) (nfd u) s r l
       (λ e. n (at_strength s off ∙ e))
       ∙ sym (at_strength s off))

@@ -2,24 +2,23 @@
 use Rattle.std.proofs.Common.{◌≡◌, ℕ, List, refl, sym, ap, ◌∙◌}
 use Rattle.std.proofs.lemmas.Cmp.{nat_list_cmp_total}
 use Rattle.std.specs.Ordering.{ordering_reverse}
-use Rattle.icu_options.specs.Settings.{Settings}
 use Rattle.icu_levels.specs.ListOrder.{list_order}
 use Rattle.icu_levels.proofs.Order.{same_lists_order}
-use Rattle.icu_provider.specs.CollatorTables.{CollatorTables}
 use Rattle.icu_checks.specs.GoodTables.{IsGoodTables}
 use Rattle.icu_elements.specs.TextElementLaws.{IsText}
+use Rattle.icu_order.specs.Collations.{Collation}
 use Rattle.icu_order.specs.TextOrder.{text_order, text_key}
 use Rattle.icu_order.proofs.TextOrders.{keys_keep}
 use Rattle.icu_laws.specs.OrderLaws.{IsOrderOfTexts}
 
-module _ (all : CollatorTables) (good : IsGoodTables all) (settings : Settings) where
+module _ (collation : Collation) (good : IsGoodTables collation.tables) where
   abbrev key : List ℕ → List ℕ
-  key t = text_key all settings t
+  key t = text_key collation t
 
-  by_keys : (t u : List ℕ) → IsText t → IsText u → text_order all settings t u ≡ list_order (key t) (key u)
-  by_keys t u p q = sym (keys_keep all good settings t u p q)
+  by_keys : (t u : List ℕ) → IsText t → IsText u → text_order collation t u ≡ list_order (key t) (key u)
+  by_keys t u p q = sym (keys_keep collation good t u p q)
 
-  pub texts_ordered : IsOrderOfTexts all settings
+  pub texts_ordered : IsOrderOfTexts collation
   texts_ordered = record {
     reflexive = λ t p. by_keys t t p p ∙ same_lists_order (key t) (key t) refl;
     swapped = λ t u p q. by_keys t u p q ∙ (nat_list_cmp_total.antisymm (key t) (key u) ∙ ap ordering_reverse (sym (by_keys u t q p)));

@@ -9,6 +9,7 @@ use Rattle.icu_levels.specs.Tertiaries.{tertiary_level}
 use Rattle.icu_levels.specs.declared.forms.QuaternaryForm.TheVariants.{MayShift, Unshifted}
 use Rattle.icu_levels.specs.declared.forms.TertiaryForm.TheVariants.{WithoutCase}
 use Rattle.icu_elements.specs.TextElements.{elements_of, number_elements}
+use Rattle.icu_order.specs.Collations.{Collation}
 use Rattle.icu_order.specs.TextOrder.{reading_by, text_order}
 use Rattle.icu_order.proofs.Computing.{icu_order}
 use Rattle.icu_order.proofs.WorkedSettings.{numeric_at, case_level_at, plain_at, mini}
@@ -33,32 +34,35 @@ its_value : value_of (digits_in mini (48 ∷ 49 ∷ 50 ∷ [])) ≡ 12
 unfolding icu_order
 its_value = refl
 
-its_elements : elements_of (reading_by mini (numeric_at Primary)) (48 ∷ 49 ∷ 50 ∷ []) ≡ number_elements 0x0F (0 ∷ 1 ∷ 2 ∷ [])
+its_elements : elements_of (reading_by (numeric_at Primary mini)) (48 ∷ 49 ∷ 50 ∷ []) ≡ number_elements 0x0F (0 ∷ 1 ∷ 2 ∷ [])
 unfolding icu_order
 its_elements = refl
 
 -- "9" and "012"
-nine_and_twelve : text_order mini (numeric_at Primary) (57 ∷ []) (48 ∷ 49 ∷ 50 ∷ []) ≡ Less
+nine_and_twelve : text_order (numeric_at Primary mini) (57 ∷ []) (48 ∷ 49 ∷ 50 ∷ []) ≡ Less
 unfolding icu_order
 nine_and_twelve = refl
 
 -- "12" and "012"
-one_value : text_order mini (numeric_at Quaternary) (49 ∷ 50 ∷ []) (48 ∷ 49 ∷ 50 ∷ []) ≡ Equal
+one_value : text_order (numeric_at Quaternary mini) (49 ∷ 50 ∷ []) (48 ∷ 49 ∷ 50 ∷ []) ≡ Equal
 unfolding icu_order
 one_value = refl
 
 -- and where cases count as well
-one_value_with_cases : text_order mini (record (case_level_at Primary) { numeric = true }) (49 ∷ 50 ∷ []) (48 ∷ 49 ∷ 50 ∷ []) ≡ Equal
+abbrev with_cases : Collation
+with_cases = let c = case_level_at Primary mini in record c { settings = record c.settings { numeric = true } }
+
+one_value_with_cases : text_order with_cases (49 ∷ 50 ∷ []) (48 ∷ 49 ∷ 50 ∷ []) ≡ Equal
 unfolding icu_order
 one_value_with_cases = refl
 
 -- at the identical level first zeros count
-one_value_at_identical : text_order mini (numeric_at Identical) (49 ∷ 50 ∷ []) (48 ∷ 49 ∷ 50 ∷ []) ≡ Greater
+one_value_at_identical : text_order (numeric_at Identical mini) (49 ∷ 50 ∷ []) (48 ∷ 49 ∷ 50 ∷ []) ≡ Greater
 unfolding icu_order
 one_value_at_identical = refl
 
 -- as letters first zeros count too
-as_letters : text_order mini (plain_at Primary) (57 ∷ []) (48 ∷ 49 ∷ 50 ∷ []) ≡ Greater
+as_letters : text_order (plain_at Primary mini) (57 ∷ []) (48 ∷ 49 ∷ 50 ∷ []) ≡ Greater
 unfolding icu_order
 as_letters = refl
 

@@ -3,14 +3,13 @@ use Rattle.std.specs.Prelude.{ℕ, ◌≡◌, ◌↔◌, List, map}
 use Rattle.std.specs.declared.cmp.Ordering.{Ordering}
 use Rattle.std.specs.declared.cmp.Ordering.TheVariants.{Equal}
 use Rattle.unicode_normalization.specs.Forms.{nfd}
-use Rattle.icu_options.specs.Settings.{Settings}
 use Rattle.icu_options.specs.declared.settings.Strength.TheVariants.{Identical}
 use Rattle.icu_levels.specs.Identical.{identical_level, identical_rank}
 use Rattle.icu_levels.specs.Keys.{Determines}
 use Rattle.icu_levels.specs.ListOrder.{list_order}
-use Rattle.icu_provider.specs.CollatorTables.{CollatorTables}
 use Rattle.icu_checks.specs.GoodTables.{IsGoodTables}
 use Rattle.icu_elements.specs.TextElementLaws.{IsText}
+use Rattle.icu_order.specs.Collations.{Collation}
 use Rattle.icu_order.specs.TextOrder.{text_order, text_key}
 use Rattle.icu_laws.specs.OrderLaws.{AreEquivalent}
 
@@ -31,11 +30,11 @@ IdenticalLevelsDetermineTexts =
 -- at the strength Identical those texts alone are equal
 abbrev pub IdenticalOrderDeterminesTexts : Type 0
 IdenticalOrderDeterminesTexts =
-    (all : CollatorTables) (settings : Settings) → settings.strength ≡ Identical
-    → (t u : List ℕ) → (text_order all settings t u ≡ Equal) ↔ AreEquivalent t u
+    (c : Collation) → c.settings.strength ≡ Identical
+    → (t u : List ℕ) → (text_order c t u ≡ Equal) ↔ AreEquivalent t u
 
 -- and they alone have one key
 abbrev pub IdenticalKeysDetermineTexts : Type 0
 IdenticalKeysDetermineTexts =
-    (all : CollatorTables) (settings : Settings) → IsGoodTables all → settings.strength ≡ Identical
-    → (t u : List ℕ) → IsText t → IsText u → (text_key all settings t ≡ text_key all settings u) ↔ AreEquivalent t u
+    (c : Collation) → IsGoodTables c.tables → c.settings.strength ≡ Identical
+    → (t u : List ℕ) → IsText t → IsText u → (text_key c t ≡ text_key c u) ↔ AreEquivalent t u

@@ -3,17 +3,17 @@ use Rattle.std.specs.Prelude.{ℕ, ◌≡◌, ◌<◌, ◌≤◌, List, length, 
 use Rattle.std.specs.List.{AllByRecursion}
 use Rattle.unicode_normalization.specs.Forms.{nfd}
 use Rattle.unicode_normalization.specs.Order.{is_starter}
-use Rattle.icu_options.specs.Settings.{Settings}
 use Rattle.icu_levels.specs.Numbers.{without_first_zeros, longest_number}
 use Rattle.icu_levels.specs.NumberLaws.{IsShortRun}
 use Rattle.icu_provider.specs.Tables.{Tables}
 use Rattle.icu_provider.specs.CollatorTables.{CollatorTables}
 use Rattle.icu_elements.specs.TextElements.{continues_number, digit_of, number_elements, elements_of}
+use Rattle.icu_order.specs.Collations.{Collation}
 use Rattle.icu_order.specs.TextOrder.{reading_by}
 
 -- The text has the elements of one number and no others: of that with these digits, at most 254 after their first zeros
-pub record IsNumberText (all : CollatorTables) (settings : Settings) (text digits : List ℕ) : Type 0 where
-  pub elements : elements_of (reading_by all settings) (nfd text) ≡ number_elements all.special.numeric digits
+pub record IsNumberText (c : Collation) (text digits : List ℕ) : Type 0 where
+  pub elements : elements_of (reading_by c) (nfd text) ≡ number_elements c.tables.special.numeric digits
   pub short : IsShortRun digits
 
 -- a digit by the tables: a character that goes on a number, and is no mark

@@ -12,14 +12,14 @@ use icu_keys::CollationKeySink;
 use smallvec::SmallVec;
 use std::collections::VecDeque;
 
-/// The order of texts is a total order with ties, for all tables that meet the conditions and all settings: each text
-/// is equal to itself, swapped texts turn the order round, and what comes before one text comes before all texts after
-/// it.
+/// The order of texts is a total order with ties, for every collation (tables and settings together) whose tables meet
+/// the conditions: each text is equal to itself, swapped texts turn the order round, and what comes before one text
+/// comes before all texts after it.
 pub fn texts_are_ordered()
     ensures { TextsAreOrdered }
 {}
 
-/// Canonically equivalent texts (UAX #15) are one to the order and to the key, whatever the tables and the settings.
+/// Canonically equivalent texts (UAX #15) are one to the order and to the key, whatever the collation.
 pub fn equivalent_texts_are_equal()
     ensures order { EquivalentTextsAreEqual }
     ensures key { EquivalentTextsHaveOneKey }

@@ -1,5 +1,5 @@
 -- The levels of elements one after another.
-use Rattle.std.proofs.Common.{◌≡◌, ◌≢◌, ◌⊎◌, ℕ, ◌<◌, ◌≤◌, Bool, true, false, not, ◌&&◌, ◌||◌, ◌==◌, nat_lt, nat_le, List, [], ◌∷◌, ◌++◌, Option, Some, None, if◌then◌else◌, refl, ap, sym, ◌∙◌, arith, append_assoc, true≢false, ⊎_elim}
+use Rattle.std.proofs.Common.{◌≡◌, ◌⊎◌, ℕ, Bool, true, false, ◌&&◌, ◌||◌, ◌==◌, nat_lt, nat_le, List, [], ◌∷◌, ◌++◌, Option, Some, None, if◌then◌else◌, refl, ap, sym, ◌∙◌, arith, append_assoc, ⊎_elim}
 use Rattle.std.proofs.lemmas.Bool.Decides.{nat_tests}
 use Rattle.icu_options.specs.declared.settings.AlternateHandling.{AlternateHandling}
 use Rattle.icu_entries.specs.Elements.{Element}
@@ -9,7 +9,7 @@ use Rattle.icu_levels.specs.declared.forms.TertiaryForm.{TertiaryForm}
 use Rattle.icu_levels.specs.declared.forms.SecondaryForm.{SecondaryForm}
 use Rattle.icu_order.specs.Handled.{HandledElement, stayed, shifted_primary, handled, handled_variable, is_variable, stayed_elements}
 use Rattle.icu_order.specs.TextCuts.{begins_with_primary}
-use Rattle.icu_order.specs.Levels.{weights, primaries, secondaries, cases_in, case_reads, case_rank, tertiaries_in, masked_tertiary, tertiary_in, quaternaries, quaternary_weight}
+use Rattle.icu_order.specs.Levels.{weights, cases_in, case_reads, case_rank, tertiaries_in, masked_tertiary, tertiary_in, quaternaries, quaternary_weight}
 use Rattle.icu_data.proofs.ViolationLemmas.{not_true}
 
 -- a choice, and then more

@@ -3,16 +3,15 @@ use Rattle.std.proofs.Common.{◌≡◌, ◌≢◌, ℕ, ◌*◌, ◌^◌, ◌<�
 use Rattle.std.proofs.lemmas.Bool.{eqb-false}
 use Rattle.std.proofs.lemmas.Bool.Decides.{nat_tests}
 use Rattle.std.specs.List.{AllByRecursion}
-use Rattle.icu_options.specs.Settings.{Settings}
 use Rattle.icu_levels.specs.Primaries.{lead}
 use Rattle.icu_levels.specs.Premises.{MayStand, IsPrimaryList, goes_on}
 use Rattle.icu_levels.specs.Numbers.{run_weights}
 use Rattle.icu_levels.proofs.DigitRuns.{run_stands}
 use Rattle.icu_levels.proofs.ReorderedNumbers.{live_stands}
 use Rattle.icu_entries.specs.Elements.{Element, of_primary}
-use Rattle.icu_provider.specs.CollatorTables.{CollatorTables}
 use Rattle.icu_checks.specs.GoodTables.{IsGoodTables}
 use Rattle.icu_elements.specs.TextParts.{AreDigits}
+use Rattle.icu_order.specs.Collations.{Collation}
 use Rattle.icu_order.specs.Handled.{HandledElement, is_variable, handled, stayed_elements}
 use Rattle.icu_order.specs.Levels.{weights, primaries}
 use Rattle.icu_order.specs.Forms.{compression_of, last_variable_by}
@@ -47,9 +46,11 @@ not_variable numeric last w under e =
     let high : last < w = omega (arith, under, e) in
     grind (arith, nat_tests)
 
-module _ (all : CollatorTables) (good : IsGoodTables all) (settings : Settings) where
+module _ (collation : Collation) (good : IsGoodTables collation.tables) where
+  open collation use {tables as all, settings}
+
   abbrev primaries_after : Bool → List Element → List ℕ
-  primaries_after after es = primaries (stayed_elements (handled_elements all settings after es))
+  primaries_after after es = primaries (stayed_elements (handled_elements collation after es))
 
   abbrev MayFollow : List ℕ → Type 0
   MayFollow = IsPrimaryList all.special.numeric (IsLivePrimary all) false
@@ -68,8 +69,8 @@ module _ (all : CollatorTables) (good : IsGoodTables all) (settings : Settings) 
   unfolding handled weights
   live_stand x live es h after =
       let C : List HandledElement → Type 0 = λ hs. MayFollow (primaries (stayed_elements hs)) in
-      by_test C (is_variable (last_variable_by all settings) x) _ _
-      (λ _. subst (λ xs. MayFollow (primaries xs)) (sym (none_stayed settings.alternate_handling x.primary (handled_elements all settings true es))) (h true))
+      by_test C (is_variable (last_variable_by collation) x) _ _
+      (λ _. subst (λ xs. MayFollow (primaries xs)) (sym (none_stayed settings.alternate_handling x.primary (handled_elements collation true es))) (h true))
       (λ _. by_test C (after && x.primary == 0) _ _ (λ _. h true)
       (λ _. by_test MayFollow (x.primary == 0) _ _ (λ _. h false)
       (λ n. live_stands (compression_of all) all.special.numeric (IsLivePrimary all) (live_primaries all good) x.primary _
@@ -90,10 +91,10 @@ module _ (all : CollatorTables) (good : IsGoodTables all) (settings : Settings) 
   unfolding handled weights
   number_head w e es true =
       let some : (w == 0) ≡ false = ne_eqb w 0 (some_from_lead all.special.numeric w (numeric_high all good) e) in
-      rw (not_variable all.special.numeric (last_variable_by all settings) w (under all good settings) e) (rw some (rw some refl))
+      rw (not_variable all.special.numeric (last_variable_by collation) w (under collation good) e) (rw some (rw some refl))
   number_head w e es false =
       let some : (w == 0) ≡ false = ne_eqb w 0 (some_from_lead all.special.numeric w (numeric_high all good) e) in
-      rw (not_variable all.special.numeric (last_variable_by all settings) w (under all good settings) e) (rw some refl)
+      rw (not_variable all.special.numeric (last_variable_by collation) w (under collation good) e) (rw some refl)
 
   pub number_all : (ws : List ℕ) → AreNumeric ws → (es : List Element)
       → primaries_after false (map of_primary ws ++ es) ≡ ws ++ primaries_after false es

@@ -3,7 +3,6 @@ use Rattle.std.proofs.Common.{ℕ, ◌*◌, ◌-◌, ◌^◌, ◌<◌, ◌≤◌
 use Rattle.std.proofs.lemmas.Bool.{and_parts}
 use Rattle.std.proofs.lemmas.Bool.Decides.{nat_tests}
 use Rattle.std.proofs.lemmas.List.{get_or-take, length-take-le}
-use Rattle.icu_options.specs.Settings.{Settings}
 use Rattle.icu_options.specs.declared.settings.AlternateHandling.{AlternateHandling}
 use Rattle.icu_options.specs.declared.settings.AlternateHandling.TheVariants.{NonIgnorable, Shifted, Blanked}
 use Rattle.icu_options.specs.declared.settings.MaxVariable.{MaxVariable}
@@ -11,6 +10,7 @@ use Rattle.icu_options.specs.declared.settings.MaxVariable.TheVariants.{Space, P
 use Rattle.icu_provider.specs.SpecialPrimaries.{IsSpecialPrimaries, ends_below, group_index, last_primary}
 use Rattle.icu_provider.specs.CollatorTables.{CollatorTables}
 use Rattle.icu_checks.specs.GoodTables.{IsGoodTables}
+use Rattle.icu_order.specs.Collations.{Collation}
 use Rattle.icu_order.specs.Forms.{last_variable, last_variable_by}
 
 numeric_bounds : (last : List ℕ) (n : ℕ) → IsSpecialPrimaries last n → (3 ≤ n) × (n < 256)
@@ -52,5 +52,6 @@ module _ (all : CollatorTables) (good : IsGoodTables all) where
   last_under Shifted group = group_under group
   last_under Blanked group = group_under group
 
-  pub under : (settings : Settings) → last_variable_by all settings < all.special.numeric * 256 ^ 3
-  under settings = last_under settings.alternate_handling settings.max_variable
+module _ (collation : Collation) (good : IsGoodTables collation.tables) where
+  pub under : last_variable_by collation < collation.tables.special.numeric * 256 ^ 3
+  under = last_under collation.tables good collation.settings.alternate_handling collation.settings.max_variable

@@ -4,7 +4,6 @@ use Rattle.std.proofs.lemmas.Bool.Decides.{nat_tests}
 use Rattle.std.specs.Char.{IsScalar}
 use Rattle.std.specs.List.{AllByRecursion}
 use Rattle.unicode_normalization.specs.Forms.{nfd}
-use Rattle.icu_options.specs.Settings.{Settings}
 use Rattle.icu_options.specs.Metadata.{is_backward}
 use Rattle.icu_options.specs.declared.settings.Strength.{Strength}
 use Rattle.icu_options.specs.declared.settings.Strength.TheVariants.{Primary, Secondary, Tertiary, Quaternary, Identical}
@@ -24,11 +23,11 @@ use Rattle.icu_levels.proofs.SameKeys.{same_levels, same_keys}
 use Rattle.icu_entries.specs.Elements.{Element}
 use Rattle.icu_data.proofs.CharLemmas.{scalar_below}
 use Rattle.icu_data.proofs.ListLemmas.{weaker}
-use Rattle.icu_provider.specs.CollatorTables.{CollatorTables}
 use Rattle.icu_checks.specs.GoodTables.{IsGoodTables}
 use Rattle.icu_elements.specs.TextElements.{elements_of}
 use Rattle.icu_elements.specs.TextParts.{IsDecomposed}
 use Rattle.icu_elements.proofs.DecomposedLemmas.{IsDecomposedText-nfd}
+use Rattle.icu_order.specs.Collations.{Collation}
 use Rattle.icu_order.specs.Handled.{is_variable, handled}
 use Rattle.icu_order.specs.Forms.{compression_of, direction, secondary_form, tertiary_form, quaternary_form, handling_form, form_by, last_variable, last_variable_by}
 use Rattle.icu_order.specs.TextOrder.{reading_by, handled_by, lists_by, text_order, text_key}
@@ -71,7 +70,9 @@ tertiaries_before Identical form q e i = cc
 none_variable : (x : Element) → is_variable 0 x ≡ true → ⊥
 none_variable x v = grind (arith, nat_tests)
 
-module _ (all : CollatorTables) (good : IsGoodTables all) (settings : Settings) where
+module _ (collation : Collation) (good : IsGoodTables collation.tables) where
+  open collation use {tables as all, settings}
+
   -- ---- what the theorem on keys asks of texts
 
   none_shifted : (handling : AlternateHandling) (s : Strength) (group : MaxVariable) (es : List Element) → AllByRecursion (IsSource all) es
@@ -81,62 +82,62 @@ module _ (all : CollatorTables) (good : IsGoodTables all) (settings : Settings) 
   none_shifted Shifted s group es h e = absurd (never_unshifted s e)
   none_shifted Blanked s group es h e = absurd (never_unshifted s e)
 
-  text_handled : (cs : List ℕ) → AllByRecursion IsScalar cs → AreHandled all good (form_by all settings).quaternary (handled_by all settings (nfd cs))
+  text_handled : (cs : List ℕ) → AllByRecursion IsScalar cs → AreHandled all good (form_by collation).quaternary (handled_by collation (nfd cs))
   text_handled cs scalars =
-      let es = elements_of (reading_by all settings) (nfd cs) in
-      let sources = text_sources all good settings cs scalars in
+      let es = elements_of (reading_by collation) (nfd cs) in
+      let sources = text_sources collation good cs scalars in
       record {
-        primaries = text_stands all good settings cs scalars false;
-        members = handled_hold (IsSource all) (IsLivePrimary all) settings.alternate_handling (last_variable_by all settings)
-            (variable_live all good (last_variable_by all settings) (under all good settings)) false es sources;
+        primaries = text_stands collation good cs scalars false;
+        members = handled_hold (IsSource all) (IsLivePrimary all) settings.alternate_handling (last_variable_by collation)
+            (variable_live all good (last_variable_by collation) (under collation good)) false es sources;
         none_shifted = none_shifted settings.alternate_handling settings.strength settings.max_variable es sources;
       }
 
   characters : (cs : List ℕ) → AllByRecursion IsScalar cs → AllByRecursion (λ c. c < 0x110000) (nfd cs)
   characters cs scalars = weaker IsDecomposed (λ c. c < 0x110000) (λ c d. scalar_below c d.scalar) (nfd cs) (IsDecomposedText-nfd cs scalars)
 
-  pub weights_good : AreWeights (compression_of all) (form_by all settings) (live_weights all (form_by all settings))
-  weights_good = weights_live all good (form_by all settings) (backward_named settings.strength (is_backward all.bits))
+  pub weights_good : AreWeights (compression_of all) (form_by collation) (live_weights all (form_by collation))
+  weights_good = weights_live all good (form_by collation) (backward_named settings.strength (is_backward all.bits))
 
   pub lists_good : (cs : List ℕ) → AllByRecursion IsScalar cs
-      → AreLists (form_by all settings) (live_weights all (form_by all settings)) (lists_by all settings (nfd cs))
+      → AreLists (form_by collation) (live_weights all (form_by collation)) (lists_by collation (nfd cs))
   unfolding lists_by
   lists_good cs scalars =
-      lists_live all good (form_by all settings) (handled_by all settings (nfd cs)) (nfd cs) (text_handled cs scalars) (characters cs scalars)
+      lists_live all good (form_by collation) (handled_by collation (nfd cs)) (nfd cs) (text_handled cs scalars) (characters cs scalars)
 
   pub lists_parallel : (t u : List ℕ) → AllByRecursion IsScalar t → AllByRecursion IsScalar u
-      → AreParallel (compression_of all) (form_by all settings) (lists_by all settings (nfd t)) (lists_by all settings (nfd u))
+      → AreParallel (compression_of all) (form_by collation) (lists_by collation (nfd t)) (lists_by collation (nfd u))
   unfolding lists_by
   lists_parallel t u p q =
-      texts_parallel all good (form_by all settings) (handled_by all settings (nfd t)) (handled_by all settings (nfd u)) (nfd t) (nfd u)
+      texts_parallel all good (form_by collation) (handled_by collation (nfd t)) (handled_by collation (nfd u)) (nfd t) (nfd u)
       (text_handled t p) (text_handled u q) (tertiaries_before settings.strength _ _)
 
   -- ---- the theorem
 
   module _ (t u : List ℕ) (p : AllByRecursion IsScalar t) (q : AllByRecursion IsScalar u) where
-    pub keys_keep : list_order (text_key all settings t) (text_key all settings u) ≡ text_order all settings t u
+    pub keys_keep : list_order (text_key collation t) (text_key collation u) ≡ text_order collation t u
     unfolding text_order text_key
     keys_keep =
-        keys_order (compression_of all) (form_by all settings) (live_weights all (form_by all settings)) (lists_by all settings (nfd t))
-        (lists_by all settings (nfd u)) weights_good (lists_good t p) (lists_good u q) (lists_parallel t u p q)
+        keys_order (compression_of all) (form_by collation) (live_weights all (form_by collation)) (lists_by collation (nfd t))
+        (lists_by collation (nfd u)) weights_good (lists_good t p) (lists_good u q) (lists_parallel t u p q)
 
-    pub equal_keys : (text_order all settings t u ≡ Equal) ↔ (text_key all settings t ≡ text_key all settings u)
+    pub equal_keys : (text_order collation t u ≡ Equal) ↔ (text_key collation t ≡ text_key collation u)
     equal_keys = (
-      λ e. tied_lists (text_key all settings t) (text_key all settings u) (keys_keep ∙ e),
-      λ e. sym keys_keep ∙ same_lists_order (text_key all settings t) (text_key all settings u) e,
+      λ e. tied_lists (text_key collation t) (text_key collation u) (keys_keep ∙ e),
+      λ e. sym keys_keep ∙ same_lists_order (text_key collation t) (text_key collation u) e,
     )
 
-    pub each_level : LevelsKeep (compression_of all) (form_by all settings) (lists_by all settings (nfd t)) (lists_by all settings (nfd u))
+    pub each_level : LevelsKeep (compression_of all) (form_by collation) (lists_by collation (nfd t)) (lists_by collation (nfd u))
     each_level =
-        levels_keep (compression_of all) (form_by all settings) (live_weights all (form_by all settings)) (lists_by all settings (nfd t))
-        (lists_by all settings (nfd u)) weights_good (lists_good t p) (lists_good u q) (lists_parallel t u p q)
+        levels_keep (compression_of all) (form_by collation) (live_weights all (form_by collation)) (lists_by collation (nfd t))
+        (lists_by collation (nfd u)) weights_good (lists_good t p) (lists_good u q) (lists_parallel t u p q)
 
-    pub keys_determine : (text_key all settings t ≡ text_key all settings u)
-        ↔ HaveSameLists (compression_of all) (form_by all settings) (lists_by all settings (nfd t)) (lists_by all settings (nfd u))
+    pub keys_determine : (text_key collation t ≡ text_key collation u)
+        ↔ HaveSameLists (compression_of all) (form_by collation) (lists_by collation (nfd t)) (lists_by collation (nfd u))
     unfolding text_key
     keys_determine = (
-      same_levels (compression_of all) (form_by all settings) (live_weights all (form_by all settings)) (lists_by all settings (nfd t))
-          (lists_by all settings (nfd u)) weights_good (lists_good t p) (lists_good u q) (lists_parallel t u p q),
-      same_keys (compression_of all) (form_by all settings) (live_weights all (form_by all settings)) (lists_by all settings (nfd t))
-          (lists_by all settings (nfd u)) weights_good (lists_good t p) (lists_good u q) (lists_parallel t u p q),
+      same_levels (compression_of all) (form_by collation) (live_weights all (form_by collation)) (lists_by collation (nfd t))
+          (lists_by collation (nfd u)) weights_good (lists_good t p) (lists_good u q) (lists_parallel t u p q),
+      same_keys (compression_of all) (form_by collation) (live_weights all (form_by collation)) (lists_by collation (nfd t))
+          (lists_by collation (nfd u)) weights_good (lists_good t p) (lists_good u q) (lists_parallel t u p q),
     )

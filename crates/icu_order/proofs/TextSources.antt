@@ -1,9 +1,8 @@
--- Where the elements of a text come from, by tables that meet the conditions and by all settings.
+-- Where the elements of a text come from, by a collation whose tables meet the conditions.
 use Rattle.std.proofs.Common.{◌≡◌, ◌≢◌, ◌⊎◌, ℕ, ◌<◌, Bool, true, false, List, [], ◌∷◌, ◌++◌, Option, Some, None, IfSome, if◌then◌else◌, refl, sym, ◌∙◌, subst, inl, inr, append_assoc, append-nil}
 use Rattle.std.specs.Char.{IsScalar}
 use Rattle.std.specs.List.{AllByRecursion}
 use Rattle.unicode_normalization.specs.Forms.{nfd}
-use Rattle.icu_options.specs.Settings.{Settings}
 use Rattle.icu_levels.specs.Primaries.{lead}
 use Rattle.icu_levels.specs.Numbers.{run_weights}
 use Rattle.icu_entries.specs.Elements.{Element, of_primary, of_secondary}
@@ -22,6 +21,7 @@ use Rattle.icu_elements.proofs.ReadableLemmas.{good_readable, readable_digits}
 use Rattle.icu_elements.proofs.ElementSourceLemmas.{all_contained, all_live}
 use Rattle.icu_elements.proofs.LiveTextLemmas.{live_entry, good_tables_live}
 use Rattle.icu_elements.proofs.DecomposedLemmas.{IsDecomposedText-nfd}
+use Rattle.icu_order.specs.Collations.{Collation}
 use Rattle.icu_order.specs.TextOrder.{reading_by}
 use Rattle.icu_order.specs.LiveWeights.{IsLivePrimary}
 use Rattle.icu_order.proofs.SpecialBounds.{numeric_low}
@@ -44,9 +44,11 @@ IsSource all x = IsLiveElement all.tables x ⊎ IsOfNumericLead all x
 pub live_primary : (all : CollatorTables) (x : Element) → IsLiveElement all.tables x → x.primary ≢ 0 → IsLivePrimary all x.primary
 live_primary all x live some = record { table = live.table; element = x; live = live.live; some = some; is = refl }
 
-module _ (all : CollatorTables) (good : IsGoodTables all) (settings : Settings) where
+module _ (collation : Collation) (good : IsGoodTables collation.tables) where
+  open collation use {tables as all, settings}
+
   abbrev reading : Reading
-  reading = reading_by all settings
+  reading = reading_by collation
 
   -- ---- each element of a text
 
@@ -68,7 +70,7 @@ module _ (all : CollatorTables) (good : IsGoodTables all) (settings : Settings) 
   -- ---- the primaries of a text may stand
 
   abbrev MayStandHere : List Element → Type 0
-  MayStandHere = Stands all good settings
+  MayStandHere = Stands collation good
 
   -- whatever may stand after
   abbrev GoesBefore : List Element → Type 0
@@ -78,14 +80,14 @@ module _ (all : CollatorTables) (good : IsGoodTables all) (settings : Settings) 
   HasLivePrimary x = x.primary ≢ 0 → IsLivePrimary all x.primary
 
   live_go : (xs : List Element) → AllByRecursion HasLivePrimary xs → GoesBefore xs
-  live_go xs live fs h = all_stand all good settings xs live fs h
+  live_go xs live fs h = all_stand collation good xs live fs h
 
   diacritic_goes : (o : Option ℕ) → IfSome o (λ s. GoesBefore (of_secondary s ∷ []))
   diacritic_goes None = tt
   diacritic_goes (Some s) = live_go (of_secondary s ∷ []) (λ n. absurd (n refl), tt)
 
   numbers_go : (b : Bool) → GoodNumbers GoesBefore (if b then Some all.special.numeric else None)
-  numbers_go true = λ ds digits fs h. run_stand all good settings ds digits fs h
+  numbers_go true = λ ds digits fs h. run_stand collation good ds digits fs h
   numbers_go false = tt
 
   parts : HasGoodParts GoesBefore reading
@@ -106,4 +108,4 @@ module _ (all : CollatorTables) (good : IsGoodTables all) (settings : Settings) 
   text_stands cs scalars =
       subst MayStandHere (append-nil (elements_of reading (nfd cs)))
       (elements_of-good GoesBefore reading parts (nfd cs) (IsDecomposedText-nfd cs scalars) []
-      (nothing_stands all good settings))
+      (nothing_stands collation good))

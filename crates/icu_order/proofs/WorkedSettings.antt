@@ -1,4 +1,5 @@
--- Tables and settings that worked texts are compared by: the test table Mini and its variants, with all other tables.
+-- Collations that worked texts are compared by: settings, with the test table Mini or one of its variants, and all
+-- other tables.
 use Rattle.std.proofs.Common.{ℕ, true, false, ◌==◌, List, [], ◌∷◌, map, Some, None, if◌then◌else◌}
 use Rattle.std.specs.List.{range_with_len}
 use Rattle.icu_options.specs.Settings.{Settings}
@@ -11,12 +12,13 @@ use Rattle.icu_data.specs.Data.{Context}
 use Rattle.icu_provider.specs.Tables.{Tables}
 use Rattle.icu_provider.specs.CollatorTables.{CollatorTables}
 use Rattle.icu_elements.proofs.WorkedTables.{mini as mini_tables, ring, offsets}
+use Rattle.icu_order.specs.Collations.{Collation}
 
--- ---- settings
+-- ---- settings, with tables
 
 -- the defaults, at a strength
-abbrev pub plain_at : Strength → Settings
-plain_at s = record {
+abbrev defaults : Strength → Settings
+defaults s = record {
   strength = s;
   max_variable = Punctuation;
   alternate_handling = NonIgnorable;
@@ -26,26 +28,30 @@ plain_at s = record {
   numeric = false;
 }
 
-abbrev pub shifted_at : Strength → Settings
-shifted_at s = record (plain_at s) { alternate_handling = Shifted }
+module _ (s : Strength) (all : CollatorTables) where
+  abbrev pub plain_at : Collation
+  plain_at = record { tables = all; settings = defaults s }
 
-abbrev pub blanked_at : Strength → Settings
-blanked_at s = record (plain_at s) { alternate_handling = Blanked }
+  abbrev pub shifted_at : Collation
+  shifted_at = record { tables = all; settings = record (defaults s) { alternate_handling = Shifted } }
 
-abbrev pub numeric_at : Strength → Settings
-numeric_at s = record (plain_at s) { numeric = true }
+  abbrev pub blanked_at : Collation
+  blanked_at = record { tables = all; settings = record (defaults s) { alternate_handling = Blanked } }
 
-abbrev pub upper_first_at : Strength → Settings
-upper_first_at s = record (plain_at s) { case_first = Upper }
+  abbrev pub numeric_at : Collation
+  numeric_at = record { tables = all; settings = record (defaults s) { numeric = true } }
 
-abbrev pub case_level_at : Strength → Settings
-case_level_at s = record (plain_at s) { case_level = true }
+  abbrev pub upper_first_at : Collation
+  upper_first_at = record { tables = all; settings = record (defaults s) { case_first = Upper } }
 
-abbrev pub upper_case_level_at : Strength → Settings
-upper_case_level_at s = record (plain_at s) { case_level = true; case_first = Upper }
+  abbrev pub case_level_at : Collation
+  case_level_at = record { tables = all; settings = record (defaults s) { case_level = true } }
 
-abbrev pub currency_shifted_at : Strength → Settings
-currency_shifted_at s = record (plain_at s) { alternate_handling = Shifted; max_variable = Currency }
+  abbrev pub upper_case_level_at : Collation
+  upper_case_level_at = record { tables = all; settings = record (defaults s) { case_level = true; case_first = Upper } }
+
+  abbrev pub currency_shifted_at : Collation
+  currency_shifted_at = record { tables = all; settings = record (defaults s) { alternate_handling = Shifted; max_variable = Currency } }
 
 -- ---- tables
 

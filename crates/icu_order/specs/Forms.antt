@@ -1,7 +1,5 @@
--- Which levels tables and settings name, in which form, and which elements are variable (UTS #35 part 5, "Setting
--- Options").
+-- Which levels a collation names, in which form, and which elements are variable (UTS #35 part 5, "Setting Options").
 use Rattle.std.specs.Prelude.{ℕ, Bool, true, false, Option, Some, None}
-use Rattle.icu_options.specs.Settings.{Settings}
 use Rattle.icu_options.specs.Metadata.{is_backward}
 use Rattle.icu_options.specs.declared.settings.Strength.{Strength}
 use Rattle.icu_options.specs.declared.settings.Strength.TheVariants.{Primary, Secondary, Quaternary, Identical}
@@ -22,6 +20,7 @@ use Rattle.icu_levels.specs.declared.forms.TertiaryForm.{TertiaryForm}
 use Rattle.icu_levels.specs.declared.forms.TertiaryForm.TheVariants.{WithoutCase, LowerFirst, UpperFirst}
 use Rattle.icu_provider.specs.SpecialPrimaries.{SpecialPrimaries, is_compressible, last_primary}
 use Rattle.icu_provider.specs.CollatorTables.{CollatorTables, reorder}
+use Rattle.icu_order.specs.Collations.{Collation}
 
 -- how the primaries of a collator are written
 abbrev pub compression_of : CollatorTables → Compression
@@ -74,13 +73,13 @@ abbrev pub is_identical : Strength → Bool
 is_identical Identical = true
 is_identical _ = false
 
-abbrev pub form_by : CollatorTables → Settings → KeyForm
-form_by all settings = record {
-  secondary = secondary_form settings.strength (direction (is_backward all.bits));
-  cases = case_form settings.case_level settings.case_first;
-  tertiary = tertiary_form settings.strength (cased_form settings.case_level settings.case_first);
-  quaternary = quaternary_form settings.strength (handling_form settings.alternate_handling);
-  identical = is_identical settings.strength;
+abbrev pub form_by : Collation → KeyForm
+form_by c = record {
+  secondary = secondary_form c.settings.strength (direction (is_backward c.tables.bits));
+  cases = case_form c.settings.case_level c.settings.case_first;
+  tertiary = tertiary_form c.settings.strength (cased_form c.settings.case_level c.settings.case_first);
+  quaternary = quaternary_form c.settings.strength (handling_form c.settings.alternate_handling);
+  identical = is_identical c.settings.strength;
 }
 
 -- ---- variable elements
@@ -90,5 +89,5 @@ abbrev pub last_variable : SpecialPrimaries → AlternateHandling → MaxVariabl
 last_variable special NonIgnorable group = 0
 last_variable special _ group = last_primary special group
 
-abbrev pub last_variable_by : CollatorTables → Settings → ℕ
-last_variable_by all settings = last_variable all.special settings.alternate_handling settings.max_variable
+abbrev pub last_variable_by : Collation → ℕ
+last_variable_by c = last_variable c.tables.special c.settings.alternate_handling c.settings.max_variable

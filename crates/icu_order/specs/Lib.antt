@@ -1,5 +1,6 @@
 pub mod Handled
 pub mod Levels
+pub mod Collations
 pub mod Forms
 pub mod TextOrder
 pub mod LiveWeights

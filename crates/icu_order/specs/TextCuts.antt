@@ -3,12 +3,11 @@ use Rattle.std.specs.Prelude.{◌≡◌, ◌⊎◌, ℕ, Bool, true, not, ◌==�
 use Rattle.ucd_normal.specs.declared.forms.Form.TheVariants.{Nfd}
 use Rattle.unicode_normalization.specs.Decompose.{decompose}
 use Rattle.unicode_normalization.specs.Forms.{nfd}
-use Rattle.icu_options.specs.Settings.{Settings}
 use Rattle.icu_levels.specs.CommonBeginnings.{ReadsForward}
 use Rattle.icu_entries.specs.Elements.{Element}
-use Rattle.icu_provider.specs.CollatorTables.{CollatorTables}
 use Rattle.icu_elements.specs.TextElements.{elements_of}
 use Rattle.icu_cuts.specs.Cuts.{IsSafe}
+use Rattle.icu_order.specs.Collations.{Collation}
 use Rattle.icu_order.specs.Forms.{form_by, last_variable_by}
 use Rattle.icu_order.specs.TextOrder.{reading_by, text_order}
 
@@ -19,21 +18,21 @@ begins_with_primary (x ∷ xs) = not (x.primary == 0)
 
 -- A text that begins with this character is compared by itself: the character's decomposition begins with a safe one,
 -- and where elements may be variable its first element has a primary.
-pub record BeginsAnew (all : CollatorTables) (settings : Settings) (c : ℕ) (cs : List ℕ) : Type 0 where
+pub record BeginsAnew (collation : Collation) (c : ℕ) (cs : List ℕ) : Type 0 where
   pub first : ℕ
   pub more : List ℕ
   pub decomposes : decompose Nfd c ≡ first ∷ more
-  pub safe : IsSafe (reading_by all settings) first
-  pub handled : (last_variable_by all settings ≡ 0) ⊎ (begins_with_primary (elements_of (reading_by all settings) (nfd (c ∷ cs))) ≡ true)
+  pub safe : IsSafe (reading_by collation) first
+  pub handled : (last_variable_by collation ≡ 0) ⊎ (begins_with_primary (elements_of (reading_by collation) (nfd (c ∷ cs))) ≡ true)
 
 -- a text that may follow others without a change of what it gives
-abbrev pub IsTail : CollatorTables → Settings → List ℕ → Type 0
-IsTail all settings [] = ⊤
-IsTail all settings (c ∷ cs) = BeginsAnew all settings c cs
+abbrev pub IsTail : Collation → List ℕ → Type 0
+IsTail collation [] = ⊤
+IsTail collation (c ∷ cs) = BeginsAnew collation c cs
 
 -- texts with a common beginning are in the order of what follows it, where secondaries aren't read backward
 abbrev pub CommonBeginningsDoNotCount : Type 0
 CommonBeginningsDoNotCount =
-    (all : CollatorTables) (settings : Settings) → ReadsForward (form_by all settings).secondary
-    → (head t u : List ℕ) → IsTail all settings t → IsTail all settings u
-    → text_order all settings (head ++ t) (head ++ u) ≡ text_order all settings t u
+    (c : Collation) → ReadsForward (form_by c).secondary
+    → (head t u : List ℕ) → IsTail c t → IsTail c u
+    → text_order c (head ++ t) (head ++ u) ≡ text_order c t u

@@ -3,37 +3,36 @@ use Rattle.std.specs.Prelude.{ℕ, ◌≡◌, ◌↔◌, List, map}
 use Rattle.std.specs.declared.cmp.Ordering.{Ordering}
 use Rattle.std.specs.declared.cmp.Ordering.TheVariants.{Equal}
 use Rattle.unicode_normalization.specs.Forms.{nfd}
-use Rattle.icu_options.specs.Settings.{Settings}
 use Rattle.icu_levels.specs.ListOrder.{list_order}
 use Rattle.icu_levels.specs.Primaries.{Compression, primary_level}
 use Rattle.icu_levels.specs.Keys.{LevelPart, part_bytes, LevelLists, PartDetermines, secondary_part, case_part, tertiary_part, quaternary_part, identical_part, primaries_order, secondaries_order, cases_order, tertiaries_order, quaternaries_order, characters_order}
 use Rattle.icu_levels.specs.LevelLaws.{KeepOrder}
 use Rattle.icu_levels.specs.KeyLaws.{SameSecondaries, SameCases, SameTertiaries, SameQuaternaries, SameCharacters, HaveSameLists}
 use Rattle.icu_levels.specs.declared.forms.KeyForm.{KeyForm}
-use Rattle.icu_provider.specs.CollatorTables.{CollatorTables}
 use Rattle.icu_checks.specs.GoodTables.{IsGoodTables}
 use Rattle.icu_elements.specs.TextElementLaws.{IsText}
+use Rattle.icu_order.specs.Collations.{Collation}
 use Rattle.icu_order.specs.Forms.{compression_of, form_by}
 use Rattle.icu_order.specs.TextOrder.{lists_by, text_order, text_key}
 
--- what holds of any two texts, by all tables that meet the conditions and by all settings
-abbrev pub OfTexts : (CollatorTables → Settings → List ℕ → List ℕ → Type 0) → Type 0
-OfTexts P = (all : CollatorTables) (settings : Settings) → IsGoodTables all → (t u : List ℕ) → IsText t → IsText u → P all settings t u
+-- what holds of any two texts, by each collation whose tables meet the conditions
+abbrev pub OfTexts : (Collation → List ℕ → List ℕ → Type 0) → Type 0
+OfTexts P = (c : Collation) → IsGoodTables c.tables → (t u : List ℕ) → IsText t → IsText u → P c t u
 
 -- the dictionary order of two keys is the order of their texts
 abbrev pub KeysKeepTextOrder : Type 0
-KeysKeepTextOrder = OfTexts (λ all settings t u. list_order (text_key all settings t) (text_key all settings u) ≡ text_order all settings t u)
+KeysKeepTextOrder = OfTexts (λ c t u. list_order (text_key c t) (text_key c u) ≡ text_order c t u)
 
 -- texts tie exactly if they have one key
 abbrev pub EqualTextsHaveOneKey : Type 0
 EqualTextsHaveOneKey =
-    OfTexts (λ all settings t u. (text_order all settings t u ≡ Equal) ↔ (text_key all settings t ≡ text_key all settings u))
+    OfTexts (λ c t u. (text_order c t u ≡ Equal) ↔ (text_key c t ≡ text_key c u))
 
 -- they have one key exactly if they have the same list at each level that the key has
 abbrev pub KeysDetermineTextLists : Type 0
 KeysDetermineTextLists =
-    OfTexts (λ all settings t u. (text_key all settings t ≡ text_key all settings u)
-    ↔ HaveSameLists (compression_of all) (form_by all settings) (lists_by all settings (nfd t)) (lists_by all settings (nfd u)))
+    OfTexts (λ c t u. (text_key c t ≡ text_key c u)
+    ↔ HaveSameLists (compression_of c.tables) (form_by c) (lists_by c (nfd t)) (lists_by c (nfd u)))
 
 -- A level of two keys: its bytes determine the order, whatever follows them, and the same bytes mean the same list
 pub record LevelKeeps (p q : LevelPart) (order : Ordering) (Same : Type 0) : Type 0 where
@@ -62,5 +61,5 @@ pub record LevelsKeep (c : Compression) (f : KeyForm) (t u : LevelLists) : Type 
 
 abbrev pub LevelsKeepTextOrder : Type 0
 LevelsKeepTextOrder =
-    OfTexts (λ all settings t u. LevelsKeep (compression_of all) (form_by all settings) (lists_by all settings (nfd t))
-    (lists_by all settings (nfd u)))
+    OfTexts (λ c t u. LevelsKeep (compression_of c.tables) (form_by c)
+    (lists_by c (nfd t)) (lists_by c (nfd u)))

@@ -15,14 +15,14 @@ pub fn good_tables_serve_levels()
     ensures { GoodTablesServeLevels }
 {}
 
-/// Each level of the keys of two texts by itself, for all tables that meet the conditions and all settings: where all
+/// Each level of the keys of two texts by itself, for every collation whose tables meet the conditions: where all
 /// earlier levels tie, its bytes determine the order of its lists, whatever follows them, and the same bytes mean the
 /// same list (UTS #10, "Form Sort Keys").
 pub fn levels_keep_text_order()
     ensures { LevelsKeepTextOrder }
 {}
 
-/// The order theorem, for all tables that meet the conditions, all settings and any two texts (UTS #10, "Compare Sort
+/// The order theorem, for every collation whose tables meet the conditions and any two texts (UTS #10, "Compare Sort
 /// Keys").
 pub fn keys_keep_text_order()
     // The dictionary order of the two keys is the order of the texts.
@@ -35,9 +35,9 @@ pub fn keys_keep_text_order()
     ensures lists { KeysDetermineTextLists }
 {}
 
-/// Texts with a common beginning are in the order of what follows it, for all tables, and all settings by which
-/// secondary weights aren't read backward. What follows has to be a text that may follow others without a change of
-/// what it gives (`IsTail`): empty, or begun by a character before which texts may be cut.
+/// Texts with a common beginning are in the order of what follows it, for every collation that doesn't read secondary
+/// weights backward. What follows has to be a text that may follow others without a change of what it gives (`IsTail`):
+/// empty, or begun by a character before which texts may be cut.
 pub fn common_beginnings_do_not_count()
     ensures { CommonBeginningsDoNotCount }
 {}

@@ -1,4 +1,4 @@
-//! The order of any two texts by the tables and the settings of a collator, the sort key of a text, and the theorem
+//! The order of any two texts by a collation (tables and settings together), the sort key of a text, and the theorem
 //! that keys order as texts do. A crate of definitions (`specs/`) and of theorems: it has no code with meaning.
 #![tactic(auto)]
 

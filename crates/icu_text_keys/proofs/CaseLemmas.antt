@@ -2,14 +2,13 @@
 use Rattle.std.proofs.Common.{ℕ, ◌<◌, false, List, arith}
 use Rattle.std.specs.List.{AllByRecursion}
 use Rattle.unicode_normalization.specs.Forms.{nfd}
-use Rattle.icu_options.specs.Settings.{Settings}
 use Rattle.icu_levels.specs.declared.forms.CaseForm.TheVariants.{LowerFirst}
 use Rattle.icu_entries.specs.Elements.{Element}
 use Rattle.icu_data.proofs.ListLemmas.{weaker}
-use Rattle.icu_provider.specs.CollatorTables.{CollatorTables}
 use Rattle.icu_checks.specs.GoodTables.{IsGoodTables}
 use Rattle.icu_elements.specs.TextElements.{elements_of}
 use Rattle.icu_elements.specs.TextElementLaws.{IsText}
+use Rattle.icu_order.specs.Collations.{Collation}
 use Rattle.icu_order.specs.Forms.{last_variable_by}
 use Rattle.icu_order.specs.Handled.{HandledElement, stayed, shifted_primary}
 use Rattle.icu_order.specs.TextOrder.{reading_by, handled_by}
@@ -18,7 +17,9 @@ use Rattle.icu_order.proofs.HandledLemmas.{HoldsOf, handled_hold}
 use Rattle.icu_order.proofs.TextSources.{IsSource, text_sources}
 use Rattle.icu_text_keys.specs.HandledSources.{HasCase}
 
-module _ (all : CollatorTables) (good : IsGoodTables all) where
+module _ (collation : Collation) (good : IsGoodTables collation.tables) where
+  open collation use {tables as all, settings}
+
   case_below : (x : Element) → IsSource all x → x.lower < 0xC000
   case_below x s = let rank = has_rank all good LowerFirst x s in omega (arith, rank)
 
@@ -26,8 +27,8 @@ module _ (all : CollatorTables) (good : IsGoodTables all) where
   has_case (stayed x) s = case_below x s
   has_case (shifted_primary p) s = tt
 
-  pub text_has_case : (settings : Settings) (t : List ℕ) → IsText t → AllByRecursion HasCase (handled_by all settings (nfd t))
-  text_has_case settings t text =
-      weaker (HoldsOf (IsSource all) (λ p. Unit {0})) HasCase has_case (handled_by all settings (nfd t))
-      (handled_hold (IsSource all) (λ p. Unit {0}) settings.alternate_handling (last_variable_by all settings) (λ x s v. tt) false
-      (elements_of (reading_by all settings) (nfd t)) (text_sources all good settings t text))
+  pub text_has_case : (t : List ℕ) → IsText t → AllByRecursion HasCase (handled_by collation (nfd t))
+  text_has_case t text =
+      weaker (HoldsOf (IsSource all) (λ p. Unit {0})) HasCase has_case (handled_by collation (nfd t))
+      (handled_hold (IsSource all) (λ p. Unit {0}) settings.alternate_handling (last_variable_by collation) (λ x s v. tt) false
+      (elements_of (reading_by collation) (nfd t)) (text_sources collation good t text))

@@ -1,3 +1,4 @@
+pub mod CheckedCollations
 pub mod Compressions
 pub mod LevelRests
 pub mod KeyRests

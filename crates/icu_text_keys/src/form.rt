@@ -1,9 +1,8 @@
-//! Which levels the key of a text has, by the tables and the settings of a collator.
+//! Which levels the key of a text has, by a collation (tables and settings together).
 
 ghost use Rattle.std.specs.Prelude.{◌≡◌};
-ghost use Rattle.icu_options.specs.FlaggedSettings.{values_of};
-ghost use Rattle.icu_checks.specs.Checked.{checked_tables};
 ghost use Rattle.icu_order.specs.Forms.{direction, secondary_form, case_form, cased_form, tertiary_form, handling_form, quaternary_form, is_identical, form_by};
+ghost use Rattle.icu_text_keys.specs.CheckedCollations.{collation_of};
 
 use icu_checks::CheckedTables;
 use icu_levels::forms::{CaseForm, KeyForm, QuaternaryForm, SecondaryForm, TertiaryForm};
@@ -85,7 +84,7 @@ fn is_identical(strength: Strength) -> bool
 /// The levels that the keys of a collator have, and their forms (UTS #35 part 5, "Setting Options"). The secondary
 /// level is backward where the metadata says so.
 pub fn key_form(tables: &CheckedTables, settings: CollatorOptionsBitField) -> KeyForm
-    ensures { result ≡ form_by (checked_tables tables.now) (values_of settings) }
+    ensures { result ≡ form_by (collation_of tables.now settings) }
 {
     let strength = settings.strength();
     let case_level = settings.case_level();

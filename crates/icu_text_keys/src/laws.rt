@@ -2,8 +2,8 @@
 
 ghost use Rattle.icu_text_keys.specs.TextCases.{TextsHaveCase};
 
-/// The elements of any text, by all tables that meet the conditions and by all settings, have case bits other than 11,
-/// as a writer of keys asks (UTS #35 part 5, "Case Parameters").
+/// The elements of any text, by every collation whose tables meet the conditions, have case bits other than 11, as a
+/// writer of keys asks (UTS #35 part 5, "Case Parameters").
 pub fn texts_have_case()
     ensures { TextsHaveCase }
 {}

@@ -8,7 +8,7 @@ pub returns-clause-same : goal.returns-clause-same
 returns-clause-same c = λ t u p q. levels_determine_texts t u p q
 
 pub returns-clause-order : goal.returns-clause-order
-returns-clause-order c = λ all settings is t u. identical_texts all settings is t u
+returns-clause-order c = λ collation is t u. identical_texts collation is t u
 
 pub returns-clause-key : goal.returns-clause-key
-returns-clause-key c = λ all settings good is t u p q. identical_keys all settings is t u good p q
+returns-clause-key c = λ collation good is t u p q. identical_keys collation is t u good p q

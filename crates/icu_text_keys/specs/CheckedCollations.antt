@@ -1,0 +1,8 @@
+-- The collation that checked tables and merged settings make.
+use Rattle.icu_options.specs.FlaggedSettings.{FlaggedSettings, values_of}
+use Rattle.icu_checks.specs.Checked.{checked_tables}
+use Rattle.icu_checks.specs.declared.checked.CheckedTables.{CheckedTables}
+use Rattle.icu_order.specs.Collations.{Collation}
+
+abbrev pub collation_of : CheckedTables → FlaggedSettings → Collation
+collation_of tables settings = record { tables = checked_tables tables; settings = values_of settings }
