@@ -6,14 +6,13 @@ use Rattle.std.proofs.lemmas.Bool.{cases_order as number_cases}
 use Rattle.icu_levels.specs.ListOrder.{list_order}
 use Rattle.icu_levels.proofs.Order.{less_number, more_number, same_front, same_lists_order}
 use Rattle.icu_levels.proofs.Orderings.{then_assoc, then_equal}
+use Rattle.icu_order.specs.Collations.{Collation}
 use Rattle.icu_order.specs.Handled.{HandledElement}
 use Rattle.icu_text_keys.specs.declared.handled.Handled.{Handled}
 use Rattle.icu_text_keys.specs.HandledSources.{handled_as, GivesNext}
-use Rattle.icu_options.specs.Settings.{Settings}
 use Rattle.icu_levels.specs.Keys.{LevelLists, secondaries_order, cases_order, tertiaries_order, quaternaries_order}
 use Rattle.icu_levels.specs.declared.forms.KeyForm.{KeyForm}
 use Rattle.icu_levels.specs.declared.forms.TertiaryForm.{TertiaryForm}
-use Rattle.icu_provider.specs.CollatorTables.{CollatorTables}
 use Rattle.icu_provider.specs.StoredTables.{reordering_of}
 use Rattle.icu_provider.specs.declared.reordering.CollationReordering.{CollationReordering}
 use Rattle.icu_order.specs.Forms.{form_by}
@@ -172,67 +171,67 @@ in_three : (p s t s' c q : Ordering) (t' : Ordering) → s ≡ s' → c ≡ Equa
     → ordering_then p (ordering_then s (ordering_then Equal t)) ≡ ordering_then p (ordering_then s' (ordering_then c (ordering_then t' q)))
 in_three p s t s' c q t' e f g h = rw (e, f, g, h) (ap (λ w. ordering_then p (ordering_then s' w)) (sym (then_equal t')))
 
-module _ (all : CollatorTables) (settings : Settings) (t u : List ℕ) where
+module _ (collation : Collation) (t u : List ℕ) where
   abbrev form : KeyForm
-  form = form_by all settings
+  form = form_by collation
 
   abbrev left : LevelLists
-  left = lists_by all settings t
+  left = lists_by collation t
 
   abbrev right : LevelLists
-  right = lists_by all settings u
+  right = lists_by collation u
 
-  pub leading_read : (r : Option CollationReordering) → option_map reordering_of r ≡ all.reordering
-      → order_on (Primary r) (handled_by all settings t) (handled_by all settings u) ≡ leading_order all settings t u
+  pub leading_read : (r : Option CollationReordering) → option_map reordering_of r ≡ collation.tables.reordering
+      → order_on (Primary r) (handled_by collation t) (handled_by collation u) ≡ leading_order collation t u
   unfolding order_on leading_order
-  leading_read r e = primaries_read all settings t u r e
+  leading_read r e = primaries_read collation t u r e
 
-  pub three_read : (first : Level) (f : TertiaryForm) → order_on first (handled_by all settings t) (handled_by all settings u) ≡ leading_order all settings t u
+  pub three_read : (first : Level) (f : TertiaryForm) → order_on first (handled_by collation t) (handled_by collation u) ≡ leading_order collation t u
       → IsThreeLevel form f
-      → three_order (three_levels first f) Equal (handled_by all settings t) (handled_by all settings u)
-      ≡ elements_order all settings t u
+      → three_order (three_levels first f) Equal (handled_by collation t) (handled_by collation u)
+      ≡ elements_order collation t u
   unfolding order_on leading_order elements_order before_characters
   three_read first f leads is =
-      ap (λ p. ordering_then p (ordering_then (order_on Secondary (handled_by all settings t) (handled_by all settings u))
-      (order_on (Tertiary f) (handled_by all settings t) (handled_by all settings u)))) leads
-      ∙ in_three (leading_order all settings t u) _ _ (secondaries_order form.secondary left right) (cases_order form.cases left right)
+      ap (λ p. ordering_then p (ordering_then (order_on Secondary (handled_by collation t) (handled_by collation u))
+      (order_on (Tertiary f) (handled_by collation t) (handled_by collation u)))) leads
+      ∙ in_three (leading_order collation t u) _ _ (secondaries_order form.secondary left right) (cases_order form.cases left right)
       (quaternaries_order form.quaternary left right) (tertiaries_order form.tertiary left right)
-      (secondaries_read all settings t u ∙ ap (λ o. secondaries_order o left right) (sym is.secondary))
-      (ap (λ o. cases_order o left right) is.cases) (tertiaries_read all settings t u f is.tertiaries) (ap (λ o. quaternaries_order o left right) is.quaternary)
+      (secondaries_read collation t u ∙ ap (λ o. secondaries_order o left right) (sym is.secondary))
+      (ap (λ o. cases_order o left right) is.cases) (tertiaries_read collation t u f is.tertiaries) (ap (λ o. quaternaries_order o left right) is.quaternary)
 
   -- primaries that tie leave it to the levels after them
-  pub lower_decides : leading_order all settings t u ≡ Equal → lower_order all settings t u ≡ elements_order all settings t u
+  pub lower_decides : leading_order collation t u ≡ Equal → lower_order collation t u ≡ elements_order collation t u
   unfolding leading_order lower_order elements_order before_characters
-  lower_decides ties = sym (ap (λ p. ordering_then p (lower_order all settings t u)) ties)
+  lower_decides ties = sym (ap (λ p. ordering_then p (lower_order collation t u)) ties)
 
   -- primaries that differ decide
-  pub leading_decides : (o : Ordering) → o ≡ leading_order all settings t u → o ≢ Equal → o ≡ elements_order all settings t u
+  pub leading_decides : (o : Ordering) → o ≡ leading_order collation t u → o ≢ Equal → o ≡ elements_order collation t u
   unfolding leading_order lower_order elements_order before_characters
-  leading_decides Less e n = ap (λ p. ordering_then p (lower_order all settings t u)) e
+  leading_decides Less e n = ap (λ p. ordering_then p (lower_order collation t u)) e
   leading_decides Equal e n = absurd (n refl)
-  leading_decides Greater e n = ap (λ p. ordering_then p (lower_order all settings t u)) e
+  leading_decides Greater e n = ap (λ p. ordering_then p (lower_order collation t u)) e
 
   -- what a pass over both texts shows
-  module _ (first : Level) (hs ks : List HandledElement) (leads : order_on first (handled_by all settings t) (handled_by all settings u) ≡ leading_order all settings t u)
-      (e : hs ≡ handled_by all settings t) (g : ks ≡ handled_by all settings u) where
-    on_first_read : order_on first hs ks ≡ leading_order all settings t u
-    on_first_read = ap (λ x. order_on first x ks) e ∙ ap (order_on first (handled_by all settings t)) g ∙ leads
+  module _ (first : Level) (hs ks : List HandledElement) (leads : order_on first (handled_by collation t) (handled_by collation u) ≡ leading_order collation t u)
+      (e : hs ≡ handled_by collation t) (g : ks ≡ handled_by collation u) where
+    on_first_read : order_on first hs ks ≡ leading_order collation t u
+    on_first_read = ap (λ x. order_on first x ks) e ∙ ap (order_on first (handled_by collation t)) g ∙ leads
 
     pub in_step_read : {E : Type 0} (r : Result (Option Ordering) E) (f : TertiaryForm) → IsThreeLevel form f
         → IfOk r (λ found. MatchOption found (order_on first hs ks ≡ Equal) (λ o. o ≡ three_order (three_levels first f) Equal hs ks))
-        → IfOk r (λ found. MatchOption found (leading_order all settings t u ≡ Equal) (λ o. o ≡ elements_order all settings t u))
+        → IfOk r (λ found. MatchOption found (leading_order collation t u ≡ Equal) (λ o. o ≡ elements_order collation t u))
     in_step_read (Err x) f is h = tt
     in_step_read (Ok None) f is h = sym on_first_read ∙ h
     in_step_read (Ok (Some o)) f is h =
-        h ∙ ap (λ x. three_order (three_levels first f) Equal x ks) e ∙ ap (three_order (three_levels first f) Equal (handled_by all settings t)) g
+        h ∙ ap (λ x. three_order (three_levels first f) Equal x ks) e ∙ ap (three_order (three_levels first f) Equal (handled_by collation t)) g
         ∙ three_read first f leads is
 
     pub difference_read : {E : Type 0} (r : Result (Option Ordering) E)
         → IfOk r (λ found. IfSome found (λ o. o ≡ Equal → hs ≡ ks))
         → IfOk r (λ found. MatchOption found (order_on first hs ks ≡ Equal) (λ o. o ≡ order_on first hs ks))
-        → IfOk r (λ found. MatchOption found (leading_order all settings t u ≡ Equal) (λ o. o ≡ elements_order all settings t u))
+        → IfOk r (λ found. MatchOption found (leading_order collation t u ≡ Equal) (λ o. o ≡ elements_order collation t u))
     difference_read (Err x) same h = tt
     difference_read (Ok None) same h = sym on_first_read ∙ h
     difference_read (Ok (Some Less)) same h = leading_decides Less (h ∙ on_first_read) (λ q. cc)
-    difference_read (Ok (Some Equal)) same h = sym (same_elements all settings t u (sym e ∙ same refl ∙ g))
+    difference_read (Ok (Some Equal)) same h = sym (same_elements collation t u (sym e ∙ same refl ∙ g))
     difference_read (Ok (Some Greater)) same h = leading_decides Greater (h ∙ on_first_read) (λ q. cc)

@@ -5,8 +5,7 @@ use Rattle.std.specs.List.{AllByRecursion}
 use Rattle.std.proofs.lemmas.Bool.{and_parts}
 use Rattle.std.proofs.Math.Utf8.{scalar, scalars}
 use Rattle.unicode_normalization.specs.Forms.{nfd}
-use Rattle.icu_options.specs.Settings.{Settings}
-use Rattle.icu_provider.specs.CollatorTables.{CollatorTables, reorder}
+use Rattle.icu_provider.specs.CollatorTables.{reorder}
 use Rattle.icu_levels.specs.Identical.{identical_level}
 use Rattle.icu_levels.specs.Keys.{LevelLists, LevelPart, opened, key_bytes, secondary_part, case_part, tertiary_part, quaternary_part, identical_part, parts_bytes}
 use Rattle.icu_levels.specs.Primaries.{Compression, primary_level}
@@ -16,6 +15,7 @@ use Rattle.icu_levels.specs.declared.forms.QuaternaryForm.{QuaternaryForm}
 use Rattle.icu_levels.specs.declared.forms.SecondaryForm.{SecondaryForm}
 use Rattle.icu_levels.specs.declared.forms.SecondaryForm.TheVariants.{Forward, Backward}
 use Rattle.icu_levels.specs.declared.forms.TertiaryForm.{TertiaryForm}
+use Rattle.icu_order.specs.Collations.{Collation}
 use Rattle.icu_order.specs.Handled.{HandledElement}
 use Rattle.icu_order.specs.Levels.{level_lists}
 use Rattle.icu_order.specs.TextOrder.{handled_by, lists_by, text_key}
@@ -64,14 +64,14 @@ same_key c f hs cs ds h =
 
 -- the key that is written of a decomposed text, and of characters that are its own where they count, is that of the
 -- text
-pub key_read : (all : CollatorTables) (settings : Settings) (t ds cs : List ℕ) → ds ≡ nfd t → (IsTrue (form_by all settings).identical → cs ≡ ds)
-    → key_bytes (compression_of all) (form_by all settings) (level_lists (reorder all) (form_by all settings) (handled_by all settings ds) cs)
-    ≡ text_key all settings t
+pub key_read : (collation : Collation) (t ds cs : List ℕ) → ds ≡ nfd t → (IsTrue (form_by collation).identical → cs ≡ ds)
+    → key_bytes (compression_of collation.tables) (form_by collation) (level_lists (reorder collation.tables) (form_by collation) (handled_by collation ds) cs)
+    ≡ text_key collation t
 unfolding text_key lists_by
-key_read all settings t ds cs read same =
-    let form : KeyForm = form_by all settings in
-    ap (λ (l : List ℕ). key_bytes (compression_of all) form (level_lists (reorder all) form (handled_by all settings l) cs)) read
-    ∙ same_key (compression_of all) form (handled_by all settings (nfd t)) cs (nfd t) (λ on. same on ∙ read)
+key_read collation t ds cs read same =
+    let form : KeyForm = form_by collation in
+    ap (λ (l : List ℕ). key_bytes (compression_of collation.tables) form (level_lists (reorder collation.tables) form (handled_by collation l) cs)) read
+    ∙ same_key (compression_of collation.tables) form (handled_by collation (nfd t)) cs (nfd t) (λ on. same on ∙ read)
 
 -- ---- texts
 

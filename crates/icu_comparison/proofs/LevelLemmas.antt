@@ -1,7 +1,6 @@
 -- The weights that code reads level by level are the lists of the definitions.
 use Rattle.std.proofs.Common.{ℕ, ◌≡◌, ◌==◌, Bool, true, false, List, [], ◌∷◌, ◌++◌, Option, Some, None, option_map, if◌then◌else◌, map, refl, ap, ◌∙◌}
 use Rattle.std.specs.Prelude.{option_to_list}
-use Rattle.icu_options.specs.Settings.{Settings}
 use Rattle.icu_levels.specs.ListOrder.{list_order}
 use Rattle.icu_levels.specs.Keys.{primaries_order, secondaries_order, cases_order, tertiaries_order, quaternaries_order}
 use Rattle.icu_levels.specs.declared.forms.CaseForm.{CaseForm}
@@ -11,9 +10,10 @@ use Rattle.icu_levels.specs.declared.forms.SecondaryForm.{SecondaryForm}
 use Rattle.icu_levels.specs.declared.forms.TertiaryForm.{TertiaryForm}
 use Rattle.icu_entries.specs.Elements.{Element}
 use Rattle.icu_entries.specs.ElementConditions.{tertiary_of}
-use Rattle.icu_provider.specs.CollatorTables.{CollatorTables, reorder_by}
+use Rattle.icu_provider.specs.CollatorTables.{reorder_by}
 use Rattle.icu_provider.specs.StoredTables.{reordering_of}
 use Rattle.icu_provider.specs.declared.reordering.CollationReordering.{CollationReordering}
+use Rattle.icu_order.specs.Collations.{Collation}
 use Rattle.icu_order.specs.Handled.{HandledElement, stayed, shifted_primary, stayed_elements}
 use Rattle.icu_order.specs.Levels.{weights, primary_of, primaries, secondary_of, secondaries, case_reads, case_rank, masked_tertiary, tertiary_in, tertiaries, quaternary_weight, quaternaries}
 use Rattle.icu_order.specs.Forms.{compression_of, form_by}
@@ -78,44 +78,44 @@ both : (level : Level) (has : List HandledElement → List ℕ) → ((hs : List 
     → (hs ks : List HandledElement) → list_order (level_weights level hs) (level_weights level ks) ≡ list_order (has hs) (has ks)
 both level has e hs ks = ap (λ l. list_order l (level_weights level ks)) (e hs) ∙ ap (list_order (has hs)) (e ks)
 
-module _ (all : CollatorTables) (settings : Settings) (t u : List ℕ) where
+module _ (collation : Collation) (t u : List ℕ) where
   abbrev left : List HandledElement
-  left = handled_by all settings t
+  left = handled_by collation t
 
   abbrev right : List HandledElement
-  right = handled_by all settings u
+  right = handled_by collation u
 
-  pub primaries_read : (r : Option CollationReordering) → option_map reordering_of r ≡ all.reordering
+  pub primaries_read : (r : Option CollationReordering) → option_map reordering_of r ≡ collation.tables.reordering
       → list_order (level_weights (Primary r) left) (level_weights (Primary r) right)
-      ≡ primaries_order (compression_of all) (lists_by all settings t) (lists_by all settings u)
+      ≡ primaries_order (compression_of collation.tables) (lists_by collation t) (lists_by collation u)
   unfolding lists_by
   primaries_read r e =
       both (Primary r) (λ hs. map (reorder_by (option_map reordering_of r)) (primaries (stayed_elements hs))) (primary_weights r) left right
       ∙ ap (λ x. list_order (map (reorder_by x) (primaries (stayed_elements left))) (map (reorder_by x) (primaries (stayed_elements right)))) e
 
   pub secondaries_read : list_order (level_weights Secondary left) (level_weights Secondary right)
-      ≡ secondaries_order (Some Forward) (lists_by all settings t) (lists_by all settings u)
+      ≡ secondaries_order (Some Forward) (lists_by collation t) (lists_by collation u)
   unfolding lists_by
   secondaries_read = both Secondary (λ hs. secondaries (stayed_elements hs)) secondary_weights left right
 
-  pub cases_read : (before : Option SecondaryForm) (form : CaseForm) → before ≡ (form_by all settings).secondary → (form_by all settings).cases ≡ Some form
+  pub cases_read : (before : Option SecondaryForm) (form : CaseForm) → before ≡ (form_by collation).secondary → (form_by collation).cases ≡ Some form
       → list_order (level_weights (Case before form) left) (level_weights (Case before form) right)
-      ≡ cases_order (form_by all settings).cases (lists_by all settings t) (lists_by all settings u)
+      ≡ cases_order (form_by collation).cases (lists_by collation t) (lists_by collation u)
   unfolding lists_by
   cases_read before form e f =
       both (Case before form) (λ hs. weights (case_reads before) (case_rank form) (stayed_elements hs)) (case_weights before form) left right
       ∙ rw (e, f) refl
 
-  pub tertiaries_read : (form : TertiaryForm) → (form_by all settings).tertiary ≡ Some form
+  pub tertiaries_read : (form : TertiaryForm) → (form_by collation).tertiary ≡ Some form
       → list_order (level_weights (Tertiary form) left) (level_weights (Tertiary form) right)
-      ≡ tertiaries_order (form_by all settings).tertiary (lists_by all settings t) (lists_by all settings u)
+      ≡ tertiaries_order (form_by collation).tertiary (lists_by collation t) (lists_by collation u)
   unfolding lists_by
   tertiaries_read form e =
       both (Tertiary form) (λ hs. tertiaries form (stayed_elements hs)) (tertiary_weights form) left right ∙ rw (e) refl
 
-  pub quaternaries_read : (r : Option CollationReordering) (form : QuaternaryForm) → option_map reordering_of r ≡ all.reordering
+  pub quaternaries_read : (r : Option CollationReordering) (form : QuaternaryForm) → option_map reordering_of r ≡ collation.tables.reordering
       → list_order (level_weights (Quaternary r) left) (level_weights (Quaternary r) right)
-      ≡ quaternaries_order (Some form) (lists_by all settings t) (lists_by all settings u)
+      ≡ quaternaries_order (Some form) (lists_by collation t) (lists_by collation u)
   unfolding lists_by
   quaternaries_read r form e =
       both (Quaternary r) (λ hs. quaternaries (reorder_by (option_map reordering_of r)) hs) (quaternary_weights r) left right

@@ -3,12 +3,11 @@ use Rattle.std.proofs.Common.{arith, ◌≡◌, ℕ, Bool, true, false, not, ◌
 use Rattle.std.specs.Ordering.{ordering_then, ordering_index}
 use Rattle.std.proofs.lemmas.Bool.Decides.{nat_tests}
 use Rattle.unicode_normalization.specs.Forms.{nfd}
-use Rattle.icu_options.specs.Settings.{Settings}
 use Rattle.icu_levels.specs.Keys.{LevelLists, primaries_order, secondaries_order, cases_order, tertiaries_order, quaternaries_order, characters_order}
 use Rattle.icu_levels.specs.declared.forms.KeyForm.{KeyForm}
-use Rattle.icu_provider.specs.CollatorTables.{CollatorTables}
 use Rattle.icu_entries.specs.Elements.{Element}
 use Rattle.icu_options.specs.declared.settings.AlternateHandling.{AlternateHandling}
+use Rattle.icu_order.specs.Collations.{Collation}
 use Rattle.icu_order.specs.Handled.{handled, stayed, is_variable}
 use Rattle.icu_order.specs.Forms.{compression_of, form_by}
 use Rattle.icu_order.specs.TextOrder.{lists_by, text_order}
@@ -57,16 +56,16 @@ sixth p s k t q i =
     last t _ q i (ap (ordering_then q) (then_equal i)))))
 
 -- the order of two texts is that of their elements, and then that of their characters
-pub order_in_two : (all : CollatorTables) (settings : Settings) (t u : List ℕ)
-    → text_order all settings t u
-    ≡ ordering_then (elements_order all settings (nfd t) (nfd u))
-    (characters_order (form_by all settings).identical (lists_by all settings (nfd t)) (lists_by all settings (nfd u)))
+pub order_in_two : (collation : Collation) (t u : List ℕ)
+    → text_order collation t u
+    ≡ ordering_then (elements_order collation (nfd t) (nfd u))
+    (characters_order (form_by collation).identical (lists_by collation (nfd t)) (lists_by collation (nfd u)))
 unfolding text_order elements_order before_characters
-order_in_two all settings t u =
-    let form : KeyForm = form_by all settings in
-    let left : LevelLists = lists_by all settings (nfd t) in
-    let right : LevelLists = lists_by all settings (nfd u) in
-    sixth (primaries_order (compression_of all) left right) (secondaries_order form.secondary left right) (cases_order form.cases left right)
+order_in_two collation t u =
+    let form : KeyForm = form_by collation in
+    let left : LevelLists = lists_by collation (nfd t) in
+    let right : LevelLists = lists_by collation (nfd u) in
+    sixth (primaries_order (compression_of collation.tables) left right) (secondaries_order form.secondary left right) (cases_order form.cases left right)
     (tertiaries_order form.tertiary left right) (quaternaries_order form.quaternary left right) (characters_order form.identical left right)
 
 -- where no element comes, none is handled

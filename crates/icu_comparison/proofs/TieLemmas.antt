@@ -1,12 +1,12 @@
 -- Lists of equal elements tie on each level.
 use Rattle.std.proofs.Common.{◌≡◌, ℕ, List, map, Ordering, Equal, refl, ap, ◌∙◌}
 use Rattle.std.specs.Ordering.{ordering_then}
-use Rattle.icu_options.specs.Settings.{Settings}
 use Rattle.icu_levels.specs.Keys.{LevelLists}
 use Rattle.icu_levels.specs.declared.forms.KeyForm.{KeyForm}
 use Rattle.icu_levels.proofs.Order.{same_lists_order}
 use Rattle.icu_levels.proofs.OwnOrder.{own_secondaries, own_cases, own_tertiaries, own_quaternaries}
-use Rattle.icu_provider.specs.CollatorTables.{CollatorTables, reorder}
+use Rattle.icu_provider.specs.CollatorTables.{reorder}
+use Rattle.icu_order.specs.Collations.{Collation}
 use Rattle.icu_order.specs.Levels.{level_lists}
 use Rattle.icu_order.specs.Forms.{form_by}
 use Rattle.icu_order.specs.TextOrder.{handled_by, lists_by}
@@ -23,10 +23,10 @@ tie f form t cs =
     (own_cases t cs form.cases) (own_tertiaries t cs form.tertiary) (own_quaternaries t cs form.quaternary)
 
 -- texts of the same elements are equal before their characters
-pub same_elements : (all : CollatorTables) (settings : Settings) (t u : List ℕ) → handled_by all settings t ≡ handled_by all settings u
-    → elements_order all settings t u ≡ Equal
+pub same_elements : (collation : Collation) (t u : List ℕ) → handled_by collation t ≡ handled_by collation u
+    → elements_order collation t u ≡ Equal
 unfolding elements_order lists_by
-same_elements all settings t u same =
-    let form = form_by all settings in
-    ap (λ hs. before_characters (reorder all) form (level_lists (reorder all) form hs t) (level_lists (reorder all) form (handled_by all settings u) u)) same
-    ∙ tie (reorder all) form (level_lists (reorder all) form (handled_by all settings u) t) u
+same_elements collation t u same =
+    let form = form_by collation in
+    ap (λ hs. before_characters (reorder collation.tables) form (level_lists (reorder collation.tables) form hs t) (level_lists (reorder collation.tables) form (handled_by collation u) u)) same
+    ∙ tie (reorder collation.tables) form (level_lists (reorder collation.tables) form (handled_by collation u) t) u

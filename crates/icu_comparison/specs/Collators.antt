@@ -9,6 +9,8 @@ use Rattle.icu_provider.specs.Requests.{Request}
 use Rattle.icu_checks.specs.Checked.{checked_tables}
 use Rattle.icu_provider.specs.CollatorTables.{CollatorTables}
 use Rattle.icu_provider.specs.LoadedTables.{loaded_tables}
+use Rattle.icu_order.specs.Collations.{Collation}
+use Rattle.icu_text_keys.specs.CheckedCollations.{collation_of}
 use Rattle.icu_comparison.specs.declared.collator.Collator.{Collator}
 use Rattle.icu_comparison.specs.declared.collator.CollatorBorrowed.{CollatorBorrowed}
 
@@ -24,12 +26,15 @@ loaded_for loads preferences = loaded_tables loads (request_in preferences)
 
 -- ---- what a collator has
 
--- all tables together, and the merged settings
+-- all tables together, the merged settings, and both
 abbrev pub tables_kept : Collator → CollatorTables
 tables_kept c = checked_tables c.tables
 
 abbrev pub settings_kept : Collator → Settings
 settings_kept c = values_of c.settings
+
+abbrev pub collation_kept : Collator → Collation
+collation_kept c = collation_of c.tables c.settings
 
 -- the same of a collator that borrows its tables
 abbrev pub tables_borrowed : CollatorBorrowed → CollatorTables
@@ -37,3 +42,6 @@ tables_borrowed c = checked_tables c.tables.now
 
 abbrev pub settings_borrowed : CollatorBorrowed → Settings
 settings_borrowed c = values_of c.settings
+
+abbrev pub collation_borrowed : CollatorBorrowed → Collation
+collation_borrowed c = collation_of c.tables.now c.settings

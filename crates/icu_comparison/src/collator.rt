@@ -1,4 +1,4 @@
-//! Collators: tables and settings.
+//! Collators: each has a collation, tables and settings together.
 
 ghost use Rattle.std.specs.Prelude.{◌≡◌, ◌<◌, ◌∷◌, [], ℕ, true, false, Err, Ok, IfErr, IfOk, IsSome};
 ghost use Rattle.icu_options.specs.Conversions.{resolved_of};
@@ -13,6 +13,7 @@ ghost use Rattle.icu_elements.specs.Reading.{element_tables};
 ghost use Rattle.icu_elements.specs.TextElements.{Reading, elements_of};
 ghost use Rattle.icu_order.specs.Forms.{form_by, last_variable_by};
 ghost use Rattle.icu_order.specs.TextOrder.{reading_by, handled_elements, handled_by};
+ghost use Rattle.icu_text_keys.specs.CheckedCollations.{collation_of};
 ghost use Rattle.icu_levels.specs.CommonBeginnings.{ReadsForward};
 ghost use Rattle.icu_comparison.specs.inner.TextFronts.{IsFront};
 ghost use Rattle.icu_shortcuts.specs.Named.{NamesAll};
@@ -48,12 +49,12 @@ pub struct Collator {
     ghost backward: { (values_of settings).backward_second_level
         ≡ is_backward (checked_tables tables).bits },
     ghost names: { NamesAll named (checked_tables tables).tables },
-    ghost known: { AreLetters (reading_by (checked_tables tables) (values_of settings)) letters },
+    ghost known: { AreLetters (reading_by (collation_of tables settings)) letters },
 }
 
 impl Collator {
     ghost use Rattle.icu_comparison.specs.Collators.{loaded_for, tables_kept, settings_kept};
-    ghost use Rattle.icu_comparison.specs.Collators.{tables_borrowed, settings_borrowed};
+    ghost use Rattle.icu_comparison.specs.Collators.{collation_kept, collation_borrowed};
 
     /// A collator by the tables that a provider returns for the locale and the type of `preferences`
     /// (`load_tables` says which are asked for, and in which order). They are checked together, and
@@ -106,8 +107,7 @@ impl Collator {
     /// The same collator, borrowed: copies nothing of the tables. What each comparison asks of the settings is worked
     /// out here, so that one borrowed collator serves for many comparisons.
     pub fn as_borrowed(&self) -> CollatorBorrowed<'_>
-        ensures tables { tables_borrowed result ≡ tables_kept self.now }
-        ensures settings { settings_borrowed result ≡ settings_kept self.now }
+        ensures { collation_borrowed result ≡ collation_kept self.now }
     {
         CollatorBorrowed {
             tables: &self.tables,
@@ -134,14 +134,14 @@ fn refused_as_root<T>(kept: Result<T, AllocError>) -> Result<T, DataError>
     }
 }
 
-/// Before which characters texts may be cut that are read by these tables and settings.
+/// Before which characters texts may be cut that are read by this collation.
 fn safe_places<'d>(
     tables: &'d CheckedTables,
     named: &'d NamedCharacters,
     settings: CollatorOptionsBitField,
 ) -> SafePlaces<'d>
     requires { NamesAll named.now (checked_tables tables.now).tables }
-    ensures { safe_reading result ≡ reading_by (checked_tables tables.now) (values_of settings) }
+    ensures { safe_reading result ≡ reading_by (collation_of tables.now settings) }
 {
     SafePlaces::new(
         ElementTables::new(tables),
@@ -172,7 +172,7 @@ fn front_of(letter: &Letter) -> Front
 
 /// The lead byte of numbers, where digits are read as numbers.
 fn numeric_primary(tables: &CheckedTables, settings: CollatorOptionsBitField) -> Option<u8>
-    ensures { result ≡ (reading_by (checked_tables tables.now) (values_of settings)).numeric }
+    ensures { result ≡ (reading_by (collation_of tables.now settings)).numeric }
 {
     if settings.numeric() {
         Some(tables.special_primaries().numeric_primary())
@@ -183,7 +183,7 @@ fn numeric_primary(tables: &CheckedTables, settings: CollatorOptionsBitField) ->
 
 /// The last primary weight of the groups that are variable, or 0 where none is.
 fn last_variable(tables: &CheckedTables, settings: CollatorOptionsBitField) -> u32
-    ensures { result ≡ last_variable_by (checked_tables tables.now) (values_of settings) }
+    ensures { result ≡ last_variable_by (collation_of tables.now settings) }
 {
     match settings.alternate_handling() {
         AlternateHandling::NonIgnorable => 0,
@@ -206,14 +206,14 @@ pub struct CollatorBorrowed<'a> {
     last_variable: u32,
     ghost backward: { (values_of settings).backward_second_level
         ≡ is_backward (checked_tables tables.now).bits },
-    ghost known: { AreLetters (reading_by (checked_tables tables.now) (values_of settings)) letters.now },
-    ghost levels: { form ≡ form_by (checked_tables tables.now) (values_of settings) },
-    ghost variable: { last_variable ≡ last_variable_by (checked_tables tables.now) (values_of settings) },
+    ghost known: { AreLetters (reading_by (collation_of tables.now settings)) letters.now },
+    ghost levels: { form ≡ form_by (collation_of tables.now settings) },
+    ghost variable: { last_variable ≡ last_variable_by (collation_of tables.now settings) },
     ghost names: { NamesAll named.now (checked_tables tables.now).tables },
 }
 
 impl<'a> CollatorBorrowed<'a> {
-    ghost use Rattle.icu_comparison.specs.Collators.{tables_borrowed, settings_borrowed};
+    ghost use Rattle.icu_comparison.specs.Collators.{collation_borrowed, settings_borrowed, tables_borrowed};
     ghost use Rattle.icu_comparison.specs.HandledRests.{handled_rest, handled_to_come, plain_to_come};
 
     /// The settings that the collator works by.
@@ -239,16 +239,15 @@ impl<'a> CollatorBorrowed<'a> {
 
     /// The levels that count, and their forms.
     pub(crate) fn key_form(&self) -> KeyForm
-        ensures { result ≡ form_by (tables_borrowed self.now) (settings_borrowed self.now) }
+        ensures { result ≡ form_by (collation_borrowed self.now) }
     {
         self.form
     }
 
-    /// The elements of a text as the settings handle variable ones (UTS #10, "Variable Weighting").
+    /// The elements of a text as the collation handles variable ones (UTS #10, "Variable Weighting").
     pub(crate) fn handled<'e>(&self, elements: &'e [CollationElement]) -> HandledElements<'e>
         ensures { handled_rest result
-            ≡ handled_elements (tables_borrowed self.now) (settings_borrowed self.now)
-            false elements.entry.now }
+            ≡ handled_elements (collation_borrowed self.now) false elements.entry.now }
     {
         let handling = self.settings.alternate_handling();
         HandledElements::new(elements, handling, self.last_variable())
@@ -256,15 +255,14 @@ impl<'a> CollatorBorrowed<'a> {
 
     /// The last primary weight of the groups that are variable, or 0 where none is.
     pub(crate) fn last_variable(&self) -> u32
-        ensures { result
-            ≡ last_variable_by (tables_borrowed self.now) (settings_borrowed self.now) }
+        ensures { result ≡ last_variable_by (collation_borrowed self.now) }
     {
         self.last_variable
     }
 
     /// Whether secondary weights are read backward.
     pub(crate) fn reads_backward(&self) -> bool
-        ensures { result ≡ false → ReadsForward (form_by (tables_borrowed self.now) (settings_borrowed self.now)).secondary }
+        ensures { result ≡ false → ReadsForward (form_by (collation_borrowed self.now)).secondary }
     {
         self.key_form().secondary == Some(SecondaryForm::Backward)
     }
@@ -272,7 +270,7 @@ impl<'a> CollatorBorrowed<'a> {
     /// What a character says of the front of a text that begins with it.
     #[inline(always)]
     pub(crate) fn front(&self, c: char) -> Front
-        ensures { IsFront (reading_by (tables_borrowed self.now) (settings_borrowed self.now)) c result }
+        ensures { IsFront (reading_by (collation_borrowed self.now)) c result }
     {
         match self.letters.get(c) {
             Some(letter) => front_of(letter),
@@ -283,7 +281,7 @@ impl<'a> CollatorBorrowed<'a> {
     /// The same of a character that isn't among those that are read most.
     #[inline]
     fn other_front(&self, c: char) -> Front
-        ensures { IsFront (reading_by (tables_borrowed self.now) (settings_borrowed self.now)) c result }
+        ensures { IsFront (reading_by (collation_borrowed self.now)) c result }
     {
         match self.letters.syllable(c) {
             Some(letter) => front_of(&letter),
@@ -294,7 +292,7 @@ impl<'a> CollatorBorrowed<'a> {
     /// What is known of a character by the first one of its decomposition.
     #[inline(never)]
     fn outline(&self, c: char) -> Letter
-        ensures { IsLetter (reading_by (tables_borrowed self.now) (settings_borrowed self.now)) c result }
+        ensures { IsLetter (reading_by (collation_borrowed self.now)) c result }
     {
         outline_of(&safe_places(self.tables, self.named, self.settings), c)
     }
@@ -304,7 +302,7 @@ impl<'a> CollatorBorrowed<'a> {
         &self,
         text: T,
     ) -> Result<Vec<CollationElement>, AllocError>
-        ensures { let reading = reading_by (tables_borrowed self.now) (settings_borrowed self.now) in
+        ensures { let reading = reading_by (collation_borrowed self.now) in
             IfOk result (λ es. es.items ≡ elements_of reading (nfd (T.text text))) }
     {
         all_elements(
@@ -318,7 +316,7 @@ impl<'a> CollatorBorrowed<'a> {
     /// What texts are read by.
     #[inline(always)]
     pub(crate) fn cursor_tables(&self) -> CursorTables<'a>
-        ensures { cursor_reading result ≡ reading_by (tables_borrowed self.now) (settings_borrowed self.now) }
+        ensures { cursor_reading result ≡ reading_by (collation_borrowed self.now) }
     {
         CursorTables::new(
             self.tables(),
@@ -329,16 +327,16 @@ impl<'a> CollatorBorrowed<'a> {
         )
     }
 
-    /// Reads the elements of a text, as the settings handle variable ones.
+    /// Reads the elements of a text, as the collation handles variable ones.
     #[inline(always)]
     pub(crate) fn handled_text<'c, T: EncodedText>(
         &self,
         tables: &'c CursorTables<'a>,
         text: T,
     ) -> HandledText<'c, 'a, T>
-        requires { cursor_reading tables.now ≡ reading_by (tables_borrowed self.now) (settings_borrowed self.now) }
+        requires { cursor_reading tables.now ≡ reading_by (collation_borrowed self.now) }
         ensures { handled_to_come T.text result
-            ≡ handled_by (tables_borrowed self.now) (settings_borrowed self.now) (nfd (T.text text)) }
+            ≡ handled_by (collation_borrowed self.now) (nfd (T.text text)) }
     {
         let handling = self.settings.alternate_handling();
         HandledText::new(
@@ -355,18 +353,17 @@ impl<'a> CollatorBorrowed<'a> {
         tables: &'c CursorTables<'a>,
         text: T,
     ) -> PlainText<'c, 'a, T>
-        requires reading { cursor_reading tables.now ≡ reading_by (tables_borrowed self.now) (settings_borrowed self.now) }
-        requires plain { last_variable_by (tables_borrowed self.now) (settings_borrowed self.now) ≡ 0 }
+        requires reading { cursor_reading tables.now ≡ reading_by (collation_borrowed self.now) }
+        requires plain { last_variable_by (collation_borrowed self.now) ≡ 0 }
         ensures { plain_to_come T.text result
-            ≡ handled_by (tables_borrowed self.now) (settings_borrowed self.now) (nfd (T.text text)) }
+            ≡ handled_by (collation_borrowed self.now) (nfd (T.text text)) }
     {
         PlainText::new(ElementCursor::new(tables, text))
     }
 
     /// The lead byte of numbers, where digits are read as numbers.
     fn numeric_primary(&self) -> Option<u8>
-        ensures { result
-            ≡ (reading_by (tables_borrowed self.now) (settings_borrowed self.now)).numeric }
+        ensures { result ≡ (reading_by (collation_borrowed self.now)).numeric }
     {
         numeric_primary(self.tables, self.settings)
     }

@@ -17,18 +17,18 @@ use std::alloc::AllocError;
 use std::cmp::Ordering;
 
 impl<'a> CollatorBorrowed<'a> {
-    ghost use Rattle.icu_comparison.specs.Collators.{tables_borrowed, settings_borrowed};
+    ghost use Rattle.icu_comparison.specs.Collators.{collation_borrowed};
 
-    /// The order of two texts by the tables and the settings (UTS #10, "Compare Sort Keys"), for all of them. The first
+    /// The order of two texts by the collation (UTS #10, "Compare Sort Keys"), for each collation. The first
     /// level that differs decides: primary weights, reordered, then secondary weights, forward or backward, cases,
     /// tertiary weights, quaternary weights, and the characters of the decomposed texts, as far as the settings name
     /// these levels. It is the dictionary order of the two texts' sort keys. Fails only where an allocation does.
     pub fn compare(&self, left: &str, right: &str) -> Result<Ordering, AllocError>
-        ensures order { IfOk result (λ o. o ≡ text_order (tables_borrowed self.now)
-            (settings_borrowed self.now) (chars left.now) (chars right.now)) }
+        ensures order { IfOk result (λ o. o ≡ text_order (collation_borrowed self.now)
+            (chars left.now) (chars right.now)) }
         ensures keys { IfOk result (λ o. o ≡ list_order
-            (text_key (tables_borrowed self.now) (settings_borrowed self.now) (chars left.now))
-            (text_key (tables_borrowed self.now) (settings_borrowed self.now) (chars right.now))) }
+            (text_key (collation_borrowed self.now) (chars left.now))
+            (text_key (collation_borrowed self.now) (chars right.now))) }
         ensures same { left.now ≡ right.now → result ≡ Ok Ordering.Equal }
     {
         self.compare_texts(str_text(left), str_text(right))
@@ -37,11 +37,11 @@ impl<'a> CollatorBorrowed<'a> {
     /// The same of two texts in UTF-8 that may be damaged: each maximal ill-formed part is one U+FFFD
     /// (Unicode Standard, "Unicode Encoding Forms"). Fails only where an allocation does.
     pub fn compare_utf8(&self, left: &[u8], right: &[u8]) -> Result<Ordering, AllocError>
-        ensures order { IfOk result (λ o. o ≡ text_order (tables_borrowed self.now)
-            (settings_borrowed self.now) (utf8_text left.now) (utf8_text right.now)) }
+        ensures order { IfOk result (λ o. o ≡ text_order (collation_borrowed self.now)
+            (utf8_text left.now) (utf8_text right.now)) }
         ensures keys { IfOk result (λ o. o ≡ list_order
-            (text_key (tables_borrowed self.now) (settings_borrowed self.now) (utf8_text left.now))
-            (text_key (tables_borrowed self.now) (settings_borrowed self.now) (utf8_text right.now))) }
+            (text_key (collation_borrowed self.now) (utf8_text left.now))
+            (text_key (collation_borrowed self.now) (utf8_text right.now))) }
         ensures same { left.now ≡ right.now → result ≡ Ok Ordering.Equal }
     {
         self.compare_texts(Utf8Text(left), Utf8Text(right))
@@ -50,11 +50,11 @@ impl<'a> CollatorBorrowed<'a> {
     /// The same of two texts in UTF-16: each unpaired surrogate is U+FFFD (Unicode Standard, "Unicode
     /// Encoding Forms"). Fails only where an allocation does.
     pub fn compare_utf16(&self, left: &[u16], right: &[u16]) -> Result<Ordering, AllocError>
-        ensures order { IfOk result (λ o. o ≡ text_order (tables_borrowed self.now)
-            (settings_borrowed self.now) (utf16_text left.now) (utf16_text right.now)) }
+        ensures order { IfOk result (λ o. o ≡ text_order (collation_borrowed self.now)
+            (utf16_text left.now) (utf16_text right.now)) }
         ensures keys { IfOk result (λ o. o ≡ list_order
-            (text_key (tables_borrowed self.now) (settings_borrowed self.now) (utf16_text left.now))
-            (text_key (tables_borrowed self.now) (settings_borrowed self.now) (utf16_text right.now))) }
+            (text_key (collation_borrowed self.now) (utf16_text left.now))
+            (text_key (collation_borrowed self.now) (utf16_text right.now))) }
         ensures same { left.now ≡ right.now → result ≡ Ok Ordering.Equal }
     {
         self.compare_texts(Utf16Text(left), Utf16Text(right))
@@ -63,11 +63,11 @@ impl<'a> CollatorBorrowed<'a> {
     /// The same of two texts in Latin-1: each byte is the character of its number (Unicode Standard,
     /// "Latin"). Fails only where an allocation does.
     pub fn compare_latin1(&self, left: &[u8], right: &[u8]) -> Result<Ordering, AllocError>
-        ensures order { IfOk result (λ o. o ≡ text_order (tables_borrowed self.now)
-            (settings_borrowed self.now) (latin1_text left.now) (latin1_text right.now)) }
+        ensures order { IfOk result (λ o. o ≡ text_order (collation_borrowed self.now)
+            (latin1_text left.now) (latin1_text right.now)) }
         ensures keys { IfOk result (λ o. o ≡ list_order
-            (text_key (tables_borrowed self.now) (settings_borrowed self.now) (latin1_text left.now))
-            (text_key (tables_borrowed self.now) (settings_borrowed self.now) (latin1_text right.now))) }
+            (text_key (collation_borrowed self.now) (latin1_text left.now))
+            (text_key (collation_borrowed self.now) (latin1_text right.now))) }
         ensures same { left.now ≡ right.now → result ≡ Ok Ordering.Equal }
     {
         self.compare_texts(Latin1Text(left), Latin1Text(right))
@@ -75,11 +75,11 @@ impl<'a> CollatorBorrowed<'a> {
 
     /// The same of a text in Latin-1 and one in UTF-16. Fails only where an allocation does.
     pub fn compare_latin1_utf16(&self, left: &[u8], right: &[u16]) -> Result<Ordering, AllocError>
-        ensures order { IfOk result (λ o. o ≡ text_order (tables_borrowed self.now)
-            (settings_borrowed self.now) (latin1_text left.now) (utf16_text right.now)) }
+        ensures order { IfOk result (λ o. o ≡ text_order (collation_borrowed self.now)
+            (latin1_text left.now) (utf16_text right.now)) }
         ensures keys { IfOk result (λ o. o ≡ list_order
-            (text_key (tables_borrowed self.now) (settings_borrowed self.now) (latin1_text left.now))
-            (text_key (tables_borrowed self.now) (settings_borrowed self.now) (utf16_text right.now))) }
+            (text_key (collation_borrowed self.now) (latin1_text left.now))
+            (text_key (collation_borrowed self.now) (utf16_text right.now))) }
         ensures same { left.now ≡ right.now → result ≡ Ok Ordering.Equal }
     {
         self.compare_texts(Latin1Text(left), Utf16Text(right))
@@ -91,11 +91,11 @@ impl<'a> CollatorBorrowed<'a> {
         left: L,
         right: R,
     ) -> Result<Ordering, AllocError>
-        ensures order { IfOk result (λ o. o ≡ text_order (tables_borrowed self.now)
-            (settings_borrowed self.now) (L.text left) (R.text right)) }
+        ensures order { IfOk result (λ o. o ≡ text_order (collation_borrowed self.now)
+            (L.text left) (R.text right)) }
         ensures keys { IfOk result (λ o. o ≡ list_order
-            (text_key (tables_borrowed self.now) (settings_borrowed self.now) (L.text left))
-            (text_key (tables_borrowed self.now) (settings_borrowed self.now) (R.text right))) }
+            (text_key (collation_borrowed self.now) (L.text left))
+            (text_key (collation_borrowed self.now) (R.text right))) }
         ensures same { L.units left ≡ R.units right → result ≡ Ok Ordering.Equal }
     {
         let order = self.compare_tails(left, right)?;
@@ -112,8 +112,8 @@ impl<'a> CollatorBorrowed<'a> {
         left: L,
         right: R,
     ) -> Result<Ordering, AllocError>
-        ensures order { IfOk result (λ o. o ≡ text_order (tables_borrowed self.now)
-            (settings_borrowed self.now) (L.text left) (R.text right)) }
+        ensures order { IfOk result (λ o. o ≡ text_order (collation_borrowed self.now)
+            (L.text left) (R.text right)) }
         ensures same { L.units left ≡ R.units right → result ≡ Ok Ordering.Equal }
     {
         let common = left.common_units(right);
@@ -134,7 +134,7 @@ impl<'a> CollatorBorrowed<'a> {
 
     /// A text is equal to itself.
     fn is_equal_to_itself<T: EncodedText>(&self, text: T)
-        ensures { text_order (tables_borrowed self.now) (settings_borrowed self.now)
+        ensures { text_order (collation_borrowed self.now)
             (T.text text) (T.text text) ≡ Ordering.Equal }
     {
         keys_keep_text_order();
@@ -148,8 +148,8 @@ impl<'a> CollatorBorrowed<'a> {
         left: L,
         right: R,
     ) -> Result<Ordering, AllocError>
-        ensures { IfOk result (λ o. o ≡ text_order (tables_borrowed self.now)
-            (settings_borrowed self.now) (L.text left) (R.text right)) }
+        ensures { IfOk result (λ o. o ≡ text_order (collation_borrowed self.now)
+            (L.text left) (R.text right)) }
     {
         if let Some(order) = self.compare_fronts(left, right) {
             return Ok(order);
@@ -163,8 +163,8 @@ impl<'a> CollatorBorrowed<'a> {
         left: L,
         right: R,
     ) -> Result<Ordering, AllocError>
-        ensures { IfOk result (λ o. o ≡ text_order (tables_borrowed self.now)
-            (settings_borrowed self.now) (L.text left) (R.text right)) }
+        ensures { IfOk result (λ o. o ≡ text_order (collation_borrowed self.now)
+            (L.text left) (R.text right)) }
     {
         let order = self.compare_elements(left, right)?;
         if order != Ordering::Equal {
@@ -180,9 +180,9 @@ impl<'a> CollatorBorrowed<'a> {
         left: L,
         right: R,
     ) -> Result<Ordering, AllocError>
-        ensures { let all = tables_borrowed self.now in let settings = settings_borrowed self.now in
-            IfOk result (λ o. o ≡ characters_order (form_by all settings).identical
-            (lists_by all settings (nfd (L.text left))) (lists_by all settings (nfd (R.text right)))) }
+        ensures { let collation = collation_borrowed self.now in
+            IfOk result (λ o. o ≡ characters_order (form_by collation).identical
+            (lists_by collation (nfd (L.text left))) (lists_by collation (nfd (R.text right)))) }
     {
         if self.key_form().identical {
             compare_characters(self.tables.allocator(), left, right)

@@ -19,7 +19,7 @@ use std::alloc::AllocError;
 use std::cmp::Ordering;
 
 impl<'a> CollatorBorrowed<'a> {
-    ghost use Rattle.icu_comparison.specs.Collators.{tables_borrowed, settings_borrowed};
+    ghost use Rattle.icu_comparison.specs.Collators.{collation_borrowed};
     ghost use Rattle.icu_comparison.specs.inner.ElementOrders.{elements_order, leading_order, lower_order};
     ghost use Rattle.icu_comparison.specs.inner.InStep.{order_on, IsThreeLevel};
 
@@ -30,10 +30,10 @@ impl<'a> CollatorBorrowed<'a> {
         left: L,
         right: R,
     ) -> Result<Ordering, AllocError>
-        ensures { let all = tables_borrowed self.now in let settings = settings_borrowed self.now in
+        ensures { let collation = collation_borrowed self.now in
             IfOk result (λ o. o ≡ list_order
-            (level_weights level.entry (handled_by all settings (nfd (L.text left))))
-            (level_weights level.entry (handled_by all settings (nfd (R.text right))))) }
+            (level_weights level.entry (handled_by collation (nfd (L.text left))))
+            (level_weights level.entry (handled_by collation (nfd (R.text right))))) }
     {
         let tables = self.cursor_tables();
         let mut left = self.handled_text(&tables, left);
@@ -47,9 +47,9 @@ impl<'a> CollatorBorrowed<'a> {
         left: L,
         right: R,
     ) -> Result<Ordering, AllocError>
-        ensures { let all = tables_borrowed self.now in let settings = settings_borrowed self.now in
-            IfOk result (λ o. o ≡ secondaries_order (form_by all settings).secondary
-            (lists_by all settings (nfd (L.text left))) (lists_by all settings (nfd (R.text right)))) }
+        ensures { let collation = collation_borrowed self.now in
+            IfOk result (λ o. o ≡ secondaries_order (form_by collation).secondary
+            (lists_by collation (nfd (L.text left))) (lists_by collation (nfd (R.text right)))) }
     {
         match self.key_form().secondary {
             None => Ok(Ordering::Equal),
@@ -65,9 +65,9 @@ impl<'a> CollatorBorrowed<'a> {
         left: L,
         right: R,
     ) -> Result<Ordering, AllocError>
-        ensures { let all = tables_borrowed self.now in let settings = settings_borrowed self.now in
-            IfOk result (λ o. o ≡ segments_order (lists_by all settings (nfd (L.text left))).segments
-            (lists_by all settings (nfd (R.text right))).segments) }
+        ensures { let collation = collation_borrowed self.now in
+            IfOk result (λ o. o ≡ segments_order (lists_by collation (nfd (L.text left))).segments
+            (lists_by collation (nfd (R.text right))).segments) }
     {
         let left = self.elements(left)?;
         let right = self.elements(right)?;
@@ -82,9 +82,9 @@ impl<'a> CollatorBorrowed<'a> {
         left: L,
         right: R,
     ) -> Result<Ordering, AllocError>
-        ensures { let all = tables_borrowed self.now in let settings = settings_borrowed self.now in
-            IfOk result (λ o. o ≡ cases_order (form_by all settings).cases
-            (lists_by all settings (nfd (L.text left))) (lists_by all settings (nfd (R.text right)))) }
+        ensures { let collation = collation_borrowed self.now in
+            IfOk result (λ o. o ≡ cases_order (form_by collation).cases
+            (lists_by collation (nfd (L.text left))) (lists_by collation (nfd (R.text right)))) }
     {
         let form = self.key_form();
         match form.cases {
@@ -99,9 +99,9 @@ impl<'a> CollatorBorrowed<'a> {
         left: L,
         right: R,
     ) -> Result<Ordering, AllocError>
-        ensures { let all = tables_borrowed self.now in let settings = settings_borrowed self.now in
-            IfOk result (λ o. o ≡ tertiaries_order (form_by all settings).tertiary
-            (lists_by all settings (nfd (L.text left))) (lists_by all settings (nfd (R.text right)))) }
+        ensures { let collation = collation_borrowed self.now in
+            IfOk result (λ o. o ≡ tertiaries_order (form_by collation).tertiary
+            (lists_by collation (nfd (L.text left))) (lists_by collation (nfd (R.text right)))) }
     {
         match self.key_form().tertiary {
             None => Ok(Ordering::Equal),
@@ -115,9 +115,9 @@ impl<'a> CollatorBorrowed<'a> {
         left: L,
         right: R,
     ) -> Result<Ordering, AllocError>
-        ensures { let all = tables_borrowed self.now in let settings = settings_borrowed self.now in
-            IfOk result (λ o. o ≡ quaternaries_order (form_by all settings).quaternary
-            (lists_by all settings (nfd (L.text left))) (lists_by all settings (nfd (R.text right)))) }
+        ensures { let collation = collation_borrowed self.now in
+            IfOk result (λ o. o ≡ quaternaries_order (form_by collation).quaternary
+            (lists_by collation (nfd (L.text left))) (lists_by collation (nfd (R.text right)))) }
     {
         match self.key_form().quaternary {
             None => Ok(Ordering::Equal),
@@ -132,8 +132,8 @@ impl<'a> CollatorBorrowed<'a> {
         left: L,
         right: R,
     ) -> Result<Ordering, AllocError>
-        ensures { IfOk result (λ o. o ≡ elements_order (tables_borrowed self.now)
-            (settings_borrowed self.now) (nfd (L.text left)) (nfd (R.text right))) }
+        ensures { IfOk result (λ o. o ≡ elements_order (collation_borrowed self.now)
+            (nfd (L.text left)) (nfd (R.text right))) }
     {
         match self.compare_at_once(left, right)? {
             Some(order) => Ok(order),
@@ -150,9 +150,9 @@ impl<'a> CollatorBorrowed<'a> {
         left: L,
         right: R,
     ) -> Result<Option<Ordering>, AllocError>
-        ensures { let all = tables_borrowed self.now in let settings = settings_borrowed self.now in
-            IfOk result (λ found. MatchOption found (leading_order all settings (nfd (L.text left)) (nfd (R.text right)) ≡ Equal)
-            (λ o. o ≡ elements_order all settings (nfd (L.text left)) (nfd (R.text right)))) }
+        ensures { let collation = collation_borrowed self.now in
+            IfOk result (λ found. MatchOption found (leading_order collation (nfd (L.text left)) (nfd (R.text right)) ≡ Equal)
+            (λ o. o ≡ elements_order collation (nfd (L.text left)) (nfd (R.text right)))) }
     {
         let tables = self.cursor_tables();
         let mut left = self.handled_text(&tables, left);
@@ -166,8 +166,8 @@ impl<'a> CollatorBorrowed<'a> {
 
     /// The level of the primary weights, reordered.
     fn primary_level(&self) -> Level<'a>
-        ensures { let all = tables_borrowed self.now in let settings = settings_borrowed self.now in (t u : List ℕ) →
-            order_on result (handled_by all settings t) (handled_by all settings u) ≡ leading_order all settings t u }
+        ensures { let collation = collation_borrowed self.now in (t u : List ℕ) →
+            order_on result (handled_by collation t) (handled_by collation u) ≡ leading_order collation t u }
     {
         Level::Primary(self.tables.reordering())
     }
@@ -175,7 +175,7 @@ impl<'a> CollatorBorrowed<'a> {
     /// The form of the tertiary level, where that, the primary and the secondary level are all before the identical
     /// one, and secondary weights are compared forward.
     fn three_level_form(&self) -> Option<TertiaryForm>
-        ensures { IfSome result (λ form. IsThreeLevel (form_by (tables_borrowed self.now) (settings_borrowed self.now)) form) }
+        ensures { IfSome result (λ form. IsThreeLevel (form_by (collation_borrowed self.now)) form) }
     {
         let form = self.key_form();
         match (form.secondary, form.cases, form.tertiary, form.quaternary) {
@@ -192,8 +192,8 @@ impl<'a> CollatorBorrowed<'a> {
         left: L,
         right: R,
     ) -> Result<Ordering, AllocError>
-        ensures { IfOk result (λ o. o ≡ lower_order (tables_borrowed self.now)
-            (settings_borrowed self.now) (nfd (L.text left)) (nfd (R.text right))) }
+        ensures { IfOk result (λ o. o ≡ lower_order (collation_borrowed self.now)
+            (nfd (L.text left)) (nfd (R.text right))) }
     {
         let order = self.compare_secondaries(left, right)?;
         if order != Ordering::Equal {

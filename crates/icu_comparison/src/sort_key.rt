@@ -29,11 +29,11 @@ fn write_nothing<S: CollationKeySink>(sink: &mut S) -> Result<S::Output, SortKey
 }
 
 impl<'a> CollatorBorrowed<'a> {
-    ghost use Rattle.icu_comparison.specs.Collators.{tables_borrowed, settings_borrowed};
+    ghost use Rattle.icu_comparison.specs.Collators.{collation_borrowed};
 
-    /// Writes the sort key of a text by the tables and the settings to a sink, and ends it (UTS #10, "Form Sort Keys";
-    /// UTS #35 part 5, "Setting Options"). The dictionary order of two texts' keys by the same tables and settings is
-    /// the order of the texts that `compare` returns. Each text has a key, by all tables and settings.
+    /// Writes the sort key of a text by the collation to a sink, and ends it (UTS #10, "Form Sort Keys"; UTS #35 part 5,
+    /// "Setting Options"). The dictionary order of two texts' keys by the same collation is the order of the texts that
+    /// `compare` returns. Each text has a key, by each collation.
     ///
     /// `Ok` means that the sink took the whole key, and is what its `finish` returned. After an error, discard what the
     /// sink holds.
@@ -48,7 +48,7 @@ impl<'a> CollatorBorrowed<'a> {
         sink: &mut S,
     ) -> Result<S::Output, SortKeyError<S::Error>>
         ensures key { WritesKey S.took S.refused S.finished S.State.is_default sink.old
-            (text_key (tables_borrowed self.now) (settings_borrowed self.now) (chars text.now)) result sink.new }
+            (text_key (collation_borrowed self.now) (chars text.now)) result sink.new }
     {
         self.write_key_of(str_text(text), sink)
     }
@@ -65,7 +65,7 @@ impl<'a> CollatorBorrowed<'a> {
         sink: &mut S,
     ) -> Result<S::Output, SortKeyError<S::Error>>
         ensures key { WritesKey S.took S.refused S.finished S.State.is_default sink.old
-            (text_key (tables_borrowed self.now) (settings_borrowed self.now) (utf8_text text.now)) result sink.new }
+            (text_key (collation_borrowed self.now) (utf8_text text.now)) result sink.new }
     {
         self.write_key_of(Utf8Text(text), sink)
     }
@@ -81,7 +81,7 @@ impl<'a> CollatorBorrowed<'a> {
         sink: &mut S,
     ) -> Result<S::Output, SortKeyError<S::Error>>
         ensures key { WritesKey S.took S.refused S.finished S.State.is_default sink.old
-            (text_key (tables_borrowed self.now) (settings_borrowed self.now) (utf16_text text.now)) result sink.new }
+            (text_key (collation_borrowed self.now) (utf16_text text.now)) result sink.new }
     {
         self.write_key_of(Utf16Text(text), sink)
     }
@@ -93,7 +93,7 @@ impl<'a> CollatorBorrowed<'a> {
         sink: &mut S,
     ) -> Result<S::Output, SortKeyError<S::Error>>
         ensures key { WritesKey S.took S.refused S.finished S.State.is_default sink.old
-            (text_key (tables_borrowed self.now) (settings_borrowed self.now) (T.text text)) result sink.new }
+            (text_key (collation_borrowed self.now) (T.text text)) result sink.new }
     {
         self.tables.are_good();
         texts_have_case();
@@ -113,12 +113,12 @@ impl<'a> CollatorBorrowed<'a> {
         sink: &mut S,
     ) -> Result<S::Output, SortKeyError<S::Error>>
         requires cases { AllByRecursion HasCase
-            (handled_by (tables_borrowed self.now) (settings_borrowed self.now) (nfd (T.text text))) }
-        ensures key { let all = tables_borrowed self.now in let settings = settings_borrowed self.now in
+            (handled_by (collation_borrowed self.now) (nfd (T.text text))) }
+        ensures key { let collation = collation_borrowed self.now in
             WritesKey S.took S.refused S.finished S.State.is_default sink.old
-            (key_bytes (compression_of all) (form_by all settings) (level_lists (reorder all) (form_by all settings)
-            (handled_by all settings (nfd (T.text text))) characters.now))
-            result sink.new }
+            (key_bytes (compression_of collation.tables) (form_by collation)
+            (level_lists (reorder collation.tables) (form_by collation)
+            (handled_by collation (nfd (T.text text))) characters.now)) result sink.new }
     {
         if self.last_variable() == 0 {
             self.write_plain(text, characters, sink)
@@ -136,14 +136,14 @@ impl<'a> CollatorBorrowed<'a> {
         characters: &[char],
         sink: &mut S,
     ) -> Result<S::Output, SortKeyError<S::Error>>
-        requires plain { last_variable_by (tables_borrowed self.now) (settings_borrowed self.now) ≡ 0 }
+        requires plain { last_variable_by (collation_borrowed self.now) ≡ 0 }
         requires cases { AllByRecursion HasCase
-            (handled_by (tables_borrowed self.now) (settings_borrowed self.now) (nfd (T.text text))) }
-        ensures key { let all = tables_borrowed self.now in let settings = settings_borrowed self.now in
+            (handled_by (collation_borrowed self.now) (nfd (T.text text))) }
+        ensures key { let collation = collation_borrowed self.now in
             WritesKey S.took S.refused S.finished S.State.is_default sink.old
-            (key_bytes (compression_of all) (form_by all settings) (level_lists (reorder all) (form_by all settings)
-            (handled_by all settings (nfd (T.text text))) characters.now))
-            result sink.new }
+            (key_bytes (compression_of collation.tables) (form_by collation)
+            (level_lists (reorder collation.tables) (form_by collation)
+            (handled_by collation (nfd (T.text text))) characters.now)) result sink.new }
     {
         let compression = TableCompression::new(self.tables);
         let tables = self.cursor_tables();
@@ -168,12 +168,12 @@ impl<'a> CollatorBorrowed<'a> {
         sink: &mut S,
     ) -> Result<S::Output, SortKeyError<S::Error>>
         requires cases { AllByRecursion HasCase
-            (handled_by (tables_borrowed self.now) (settings_borrowed self.now) (nfd (T.text text))) }
-        ensures key { let all = tables_borrowed self.now in let settings = settings_borrowed self.now in
+            (handled_by (collation_borrowed self.now) (nfd (T.text text))) }
+        ensures key { let collation = collation_borrowed self.now in
             WritesKey S.took S.refused S.finished S.State.is_default sink.old
-            (key_bytes (compression_of all) (form_by all settings) (level_lists (reorder all) (form_by all settings)
-            (handled_by all settings (nfd (T.text text))) characters.now))
-            result sink.new }
+            (key_bytes (compression_of collation.tables) (form_by collation)
+            (level_lists (reorder collation.tables) (form_by collation)
+            (handled_by collation (nfd (T.text text))) characters.now)) result sink.new }
     {
         let compression = TableCompression::new(self.tables);
         let tables = self.cursor_tables();
@@ -191,7 +191,7 @@ impl<'a> CollatorBorrowed<'a> {
 
     /// The characters of a text, decomposed, where they count.
     fn key_characters<T: EncodedText>(&self, text: T) -> Result<Vec<char>, AllocError>
-        ensures { IfOk result (λ cs. IsTrue (form_by (tables_borrowed self.now) (settings_borrowed self.now)).identical →
+        ensures { IfOk result (λ cs. IsTrue (form_by (collation_borrowed self.now)).identical →
             cs.items ≡ nfd (T.text text)) }
     {
         let alloc = self.tables.allocator();

@@ -31,7 +31,7 @@ struct Opening {
 }
 
 impl<'a> CollatorBorrowed<'a> {
-    ghost use Rattle.icu_comparison.specs.Collators.{tables_borrowed, settings_borrowed};
+    ghost use Rattle.icu_comparison.specs.Collators.{tables_borrowed, collation_borrowed};
     ghost use Rattle.icu_comparison.specs.inner.Tails.{Decides, GivesPrimary, IsFirst, LeadsWith};
     ghost use Rattle.icu_order.specs.TextCuts.{IsTail};
 
@@ -45,10 +45,10 @@ impl<'a> CollatorBorrowed<'a> {
         common: usize,
     ) -> Option<(L, R, Option<Ordering>)>
         requires heads { (n : ℕ) → n ≤ common → L.head left n ≡ R.head right n }
-        requires forward { ReadsForward (form_by (tables_borrowed self.now) (settings_borrowed self.now)).secondary }
-        ensures { let all = tables_borrowed self.now in let settings = settings_borrowed self.now in
-            IfSome result (λ p. (text_order all settings (L.text p.0) (R.text p.1) ≡ text_order all settings (L.text left) (R.text right))
-            × IfSome p.2 (λ o. o ≡ text_order all settings (L.text left) (R.text right))) }
+        requires forward { ReadsForward (form_by (collation_borrowed self.now)).secondary }
+        ensures { let collation = collation_borrowed self.now in
+            IfSome result (λ p. (text_order collation (L.text p.0) (R.text p.1) ≡ text_order collation (L.text left) (R.text right))
+            × IfSome p.2 (λ o. o ≡ text_order collation (L.text left) (R.text right))) }
     {
         for at in (1..=common).rev() {
             let tails = self.tails_at(left, right, at);
@@ -68,10 +68,10 @@ impl<'a> CollatorBorrowed<'a> {
         at: usize,
     ) -> Option<(L, R, Option<Ordering>)>
         requires head { L.head left at ≡ R.head right at }
-        requires forward { ReadsForward (form_by (tables_borrowed self.now) (settings_borrowed self.now)).secondary }
-        ensures { let all = tables_borrowed self.now in let settings = settings_borrowed self.now in
-            IfSome result (λ p. (text_order all settings (L.text p.0) (R.text p.1) ≡ text_order all settings (L.text left) (R.text right))
-            × IfSome p.2 (λ o. o ≡ text_order all settings (L.text left) (R.text right))) }
+        requires forward { ReadsForward (form_by (collation_borrowed self.now)).secondary }
+        ensures { let collation = collation_borrowed self.now in
+            IfSome result (λ p. (text_order collation (L.text p.0) (R.text p.1) ≡ text_order collation (L.text left) (R.text right))
+            × IfSome p.2 (λ o. o ≡ text_order collation (L.text left) (R.text right))) }
     {
         let one = left.split_at(at)?;
         let other = right.split_at(at)?;
@@ -95,10 +95,10 @@ impl<'a> CollatorBorrowed<'a> {
         one: Opening,
         other: Opening,
     ) -> Option<Ordering>
-        requires one { IfSome one.primary (λ p. LeadsWith (tables_borrowed self.now) (settings_borrowed self.now) (L.text left) p) }
-        requires other { IfSome other.primary (λ p. LeadsWith (tables_borrowed self.now) (settings_borrowed self.now) (R.text right) p) }
-        ensures { let all = tables_borrowed self.now in let settings = settings_borrowed self.now in
-            IfSome result (λ o. o ≡ text_order all settings (L.text left) (R.text right)) }
+        requires one { IfSome one.primary (λ p. LeadsWith (collation_borrowed self.now) (L.text left) p) }
+        requires other { IfSome other.primary (λ p. LeadsWith (collation_borrowed self.now) (R.text right) p) }
+        ensures { let collation = collation_borrowed self.now in
+            IfSome result (λ o. o ≡ text_order collation (L.text left) (R.text right)) }
     {
         match self.order_of(one, other) {
             Some(order) => Some(order),
@@ -114,8 +114,8 @@ impl<'a> CollatorBorrowed<'a> {
         left: L,
         right: R,
     ) -> Option<Ordering>
-        ensures { let all = tables_borrowed self.now in let settings = settings_borrowed self.now in
-            IfSome result (λ o. o ≡ text_order all settings (L.text left) (R.text right)) }
+        ensures { let collation = collation_borrowed self.now in
+            IfSome result (λ o. o ≡ text_order collation (L.text left) (R.text right)) }
     {
         let tables = self.cursor_tables();
         let mut one = LetterCursor::new(&tables, left);
@@ -133,7 +133,7 @@ impl<'a> CollatorBorrowed<'a> {
     /// The next primary weight of the letters of a text, where elements that have it aren't variable.
     #[inline(always)]
     fn next_primary<T: EncodedText>(&self, letters: &mut LetterCursor<'_, '_, T>) -> Option<u32>
-        ensures given { IfSome result (λ p. GivesPrimary (tables_borrowed self.now) (settings_borrowed self.now) T.text letters.old p letters.new) }
+        ensures given { IfSome result (λ p. GivesPrimary (collation_borrowed self.now) T.text letters.old p letters.new) }
         ensures some { IfSome result (λ p. p ≢ 0) }
     {
         'elements: for _ in 0..ELEMENTS_AHEAD {
@@ -148,8 +148,8 @@ impl<'a> CollatorBorrowed<'a> {
     /// What the first character of a text says, which is looked up once.
     #[inline(always)]
     fn opening<T: EncodedText>(&self, text: T) -> Opening
-        ensures tail { IsTrue result.is_tail → IsTail (tables_borrowed self.now) (settings_borrowed self.now) (T.text text) }
-        ensures leads { IfSome result.primary (λ p. LeadsWith (tables_borrowed self.now) (settings_borrowed self.now) (T.text text) p) }
+        ensures tail { IsTrue result.is_tail → IsTail (collation_borrowed self.now) (T.text text) }
+        ensures leads { IfSome result.primary (λ p. LeadsWith (collation_borrowed self.now) (T.text text) p) }
     {
         match text.split_first_ascii() {
             Some((byte, _)) => self.opening_by(char::from(byte)),
@@ -160,8 +160,8 @@ impl<'a> CollatorBorrowed<'a> {
     /// The same of a text that doesn't begin with ASCII.
     #[inline(never)]
     fn other_opening<T: EncodedText>(&self, text: T) -> Opening
-        ensures tail { IsTrue result.is_tail → IsTail (tables_borrowed self.now) (settings_borrowed self.now) (T.text text) }
-        ensures leads { IfSome result.primary (λ p. LeadsWith (tables_borrowed self.now) (settings_borrowed self.now) (T.text text) p) }
+        ensures tail { IsTrue result.is_tail → IsTail (collation_borrowed self.now) (T.text text) }
+        ensures leads { IfSome result.primary (λ p. LeadsWith (collation_borrowed self.now) (T.text text) p) }
     {
         match text.split_first_char() {
             Some((first, _)) => self.opening_by(first),
@@ -175,8 +175,8 @@ impl<'a> CollatorBorrowed<'a> {
     /// What a character says of each text that begins with it.
     #[inline(always)]
     fn opening_by(&self, c: char) -> Opening
-        ensures tail { (rest : List ℕ) → IsTrue result.is_tail → IsTail (tables_borrowed self.now) (settings_borrowed self.now) (c ∷ rest) }
-        ensures leads { (rest : List ℕ) → IfSome result.primary (λ p. LeadsWith (tables_borrowed self.now) (settings_borrowed self.now) (c ∷ rest) p) }
+        ensures tail { (rest : List ℕ) → IsTrue result.is_tail → IsTail (collation_borrowed self.now) (c ∷ rest) }
+        ensures leads { (rest : List ℕ) → IfSome result.primary (λ p. LeadsWith (collation_borrowed self.now) (c ∷ rest) p) }
     {
         let front = self.front(c);
         first_starters_lead();
@@ -190,7 +190,7 @@ impl<'a> CollatorBorrowed<'a> {
     #[inline(always)]
     fn begins_tail(&self, front: Front) -> bool
         ensures { IsTrue result → IsTrue front.is_safe
-            × ((front.leading_primary ≢ 0) ⊎ (last_variable_by (tables_borrowed self.now) (settings_borrowed self.now) ≡ 0)) }
+            × ((front.leading_primary ≢ 0) ⊎ (last_variable_by (collation_borrowed self.now) ≡ 0)) }
     {
         front.is_safe && (front.leading_primary != 0 || self.last_variable() == 0)
     }
@@ -199,7 +199,7 @@ impl<'a> CollatorBorrowed<'a> {
     #[inline(always)]
     fn known_primary(&self, primary: u32) -> Option<u32>
         ensures { IfSome result (λ p. (p ≡ primary)
-            × (last_variable_by (tables_borrowed self.now) (settings_borrowed self.now) < p)) }
+            × (last_variable_by (collation_borrowed self.now) < p)) }
     {
         if primary > self.last_variable() {
             Some(primary)
@@ -214,8 +214,8 @@ impl<'a> CollatorBorrowed<'a> {
         left: L,
         right: R,
     ) -> Option<Ordering>
-        ensures { let all = tables_borrowed self.now in let settings = settings_borrowed self.now in
-            IfSome result (λ o. o ≡ text_order all settings (L.text left) (R.text right)) }
+        ensures { let collation = collation_borrowed self.now in
+            IfSome result (λ o. o ≡ text_order collation (L.text left) (R.text right)) }
     {
         self.order_of_openings(left, right, self.opening(left), self.opening(right))
     }
@@ -223,9 +223,9 @@ impl<'a> CollatorBorrowed<'a> {
     /// The same of texts that open so.
     #[inline(always)]
     fn order_of(&self, one: Opening, other: Opening) -> Option<Ordering>
-        ensures { let all = tables_borrowed self.now in let settings = settings_borrowed self.now in
-            (t u : List ℕ) → IfSome one.primary (λ p. LeadsWith all settings t p) → IfSome other.primary (λ p. LeadsWith all settings u p)
-            → IfSome result (λ o. o ≡ text_order all settings t u) }
+        ensures { let collation = collation_borrowed self.now in
+            (t u : List ℕ) → IfSome one.primary (λ p. LeadsWith collation t p) → IfSome other.primary (λ p. LeadsWith collation u p)
+            → IfSome result (λ o. o ≡ text_order collation t u) }
     {
         match (one.primary, other.primary) {
             (Some(primary), Some(other_primary)) => {

@@ -5,8 +5,8 @@ use Rattle.std.specs.declared.cmp.Ordering.{Ordering}
 use Rattle.icu_levels.specs.ListOrder.{list_order}
 use Rattle.icu_levels.specs.Keys.{LevelLists, secondaries_order, cases_order, tertiaries_order, quaternaries_order}
 use Rattle.icu_levels.specs.declared.forms.KeyForm.{KeyForm}
-use Rattle.icu_options.specs.Settings.{Settings}
-use Rattle.icu_provider.specs.CollatorTables.{CollatorTables, reorder}
+use Rattle.icu_provider.specs.CollatorTables.{reorder}
+use Rattle.icu_order.specs.Collations.{Collation}
 use Rattle.icu_order.specs.Forms.{form_by}
 use Rattle.icu_order.specs.TextOrder.{lists_by}
 
@@ -23,16 +23,16 @@ unfoldable pub before_characters : (ℕ → ℕ) → KeyForm → LevelLists → 
 before_characters reorder form t u =
     ordering_then (list_order (map reorder t.primaries) (map reorder u.primaries)) (after_primaries form t u)
 
--- the same of two decomposed texts, by the tables and the settings of a collator
-unfoldable pub elements_order : CollatorTables → Settings → List ℕ → List ℕ → Ordering
-elements_order all settings t u =
-    before_characters (reorder all) (form_by all settings) (lists_by all settings t) (lists_by all settings u)
+-- the same of two decomposed texts, by a collation
+unfoldable pub elements_order : Collation → List ℕ → List ℕ → Ordering
+elements_order c t u =
+    before_characters (reorder c.tables) (form_by c) (lists_by c t) (lists_by c u)
 
 -- the order of their primaries
-unfoldable pub leading_order : CollatorTables → Settings → List ℕ → List ℕ → Ordering
-leading_order all settings t u =
-    list_order (map (reorder all) (lists_by all settings t).primaries) (map (reorder all) (lists_by all settings u).primaries)
+unfoldable pub leading_order : Collation → List ℕ → List ℕ → Ordering
+leading_order c t u =
+    list_order (map (reorder c.tables) (lists_by c t).primaries) (map (reorder c.tables) (lists_by c u).primaries)
 
 -- that of the levels between the primary and the identical one
-unfoldable pub lower_order : CollatorTables → Settings → List ℕ → List ℕ → Ordering
-lower_order all settings t u = after_primaries (form_by all settings) (lists_by all settings t) (lists_by all settings u)
+unfoldable pub lower_order : Collation → List ℕ → List ℕ → Ordering
+lower_order c t u = after_primaries (form_by c) (lists_by c t) (lists_by c u)

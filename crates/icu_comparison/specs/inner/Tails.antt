@@ -4,13 +4,12 @@ use Rattle.std.specs.Ordering.{nat_cmp}
 use Rattle.std.specs.declared.cmp.Ordering.{Ordering}
 use Rattle.std.specs.declared.cmp.Ordering.TheVariants.{Equal}
 use Rattle.unicode_normalization.specs.Forms.{nfd}
-use Rattle.icu_options.specs.Settings.{Settings}
 use Rattle.icu_entries.specs.Elements.{Element}
 use Rattle.icu_levels.specs.ListOrder.{list_order}
-use Rattle.icu_provider.specs.CollatorTables.{CollatorTables}
 use Rattle.icu_elements.specs.TextElements.{elements_of}
 use Rattle.icu_cursor.specs.declared.letter_cursor.LetterCursor.{LetterCursor}
 use Rattle.icu_cursor.specs.LetterCursors.{letters_give}
+use Rattle.icu_order.specs.Collations.{Collation}
 use Rattle.icu_order.specs.Forms.{last_variable_by}
 use Rattle.icu_order.specs.Handled.{handled, stayed_elements}
 use Rattle.icu_order.specs.Levels.{primaries}
@@ -22,17 +21,17 @@ IsFirst p [] = p ≡ 0
 IsFirst p (x ∷ xs) = (x ≡ p) × (p ≢ 0)
 
 -- the primaries of elements, where a variable one came last before them or not
-abbrev pub primaries_given : CollatorTables → Settings → Bool → List Element → List ℕ
-primaries_given all settings after es =
-    primaries (stayed_elements (handled settings.alternate_handling (last_variable_by all settings) after es))
+abbrev pub primaries_given : Collation → Bool → List Element → List ℕ
+primaries_given c after es =
+    primaries (stayed_elements (handled c.settings.alternate_handling (last_variable_by c) after es))
 
 -- those of a text
-abbrev pub primaries_of : CollatorTables → Settings → List ℕ → List ℕ
-primaries_of all settings t = primaries_given all settings false (elements_of (reading_by all settings) (nfd t))
+abbrev pub primaries_of : Collation → List ℕ → List ℕ
+primaries_of c t = primaries_given c false (elements_of (reading_by c) (nfd t))
 
 -- the primaries of a text begin with this one, or there are none where it is 0
-unfoldable pub LeadsWith : CollatorTables → Settings → List ℕ → ℕ → Type 0
-LeadsWith all settings t p = IsFirst p (primaries_of all settings t)
+unfoldable pub LeadsWith : Collation → List ℕ → ℕ → Type 0
+LeadsWith c t p = IsFirst p (primaries_of c t)
 
 -- this order is that of two lists, and isn't Equal
 abbrev pub Decides : List ℕ → List ℕ → Ordering → Type 0
@@ -44,16 +43,16 @@ unequal_order p q = if p == q then None else Some (nat_cmp p q)
 
 -- whatever stands before, the primaries of what a cursor over letters gives are these, and then those of what it gives
 -- later
-abbrev pub GivesPrimaries : {T : Type 0} → CollatorTables → Settings → (T → List ℕ) → LetterCursor T → List ℕ → LetterCursor T → Type 0
-GivesPrimaries all settings text old ps new =
+abbrev pub GivesPrimaries : {T : Type 0} → Collation → (T → List ℕ) → LetterCursor T → List ℕ → LetterCursor T → Type 0
+GivesPrimaries c text old ps new =
     (before : List ℕ) (after : Bool) → (b : List ℕ) × (a : Bool)
-    × (primaries_given all settings after (letters_give text old before) ≡ ps ++ primaries_given all settings a (letters_give text new b))
+    × (primaries_given c after (letters_give text old before) ≡ ps ++ primaries_given c a (letters_give text new b))
 
 -- a single one
-abbrev pub GivesPrimary : {T : Type 0} → CollatorTables → Settings → (T → List ℕ) → LetterCursor T → ℕ → LetterCursor T → Type 0
-GivesPrimary all settings text old p new = GivesPrimaries all settings text old (p ∷ []) new
+abbrev pub GivesPrimary : {T : Type 0} → Collation → (T → List ℕ) → LetterCursor T → ℕ → LetterCursor T → Type 0
+GivesPrimary c text old p new = GivesPrimaries c text old (p ∷ []) new
 
 -- the primaries of a text are these, and then those of what a cursor over letters gives
-abbrev pub ReadsOn : {T : Type 0} → CollatorTables → Settings → List ℕ → List ℕ → (T → List ℕ) → LetterCursor T → Type 0
-ReadsOn all settings t ps text c =
-    (b : List ℕ) × (a : Bool) × (primaries_of all settings t ≡ ps ++ primaries_given all settings a (letters_give text c b))
+abbrev pub ReadsOn : {T : Type 0} → Collation → List ℕ → List ℕ → (T → List ℕ) → LetterCursor T → Type 0
+ReadsOn collation t ps text c =
+    (b : List ℕ) × (a : Bool) × (primaries_of collation t ≡ ps ++ primaries_given collation a (letters_give text c b))

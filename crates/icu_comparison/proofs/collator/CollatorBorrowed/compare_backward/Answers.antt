@@ -5,21 +5,20 @@ use Rattle.icu_levels.specs.ListOrder.{segments_order}
 use Rattle.icu_order.specs.Handled.{stayed_elements}
 use Rattle.icu_order.specs.Levels.{segments}
 use Rattle.icu_order.specs.TextOrder.{handled_elements, handled_by, lists_by}
-use Rattle.icu_comparison.specs.Collators.{tables_borrowed, settings_borrowed}
+use Rattle.icu_comparison.specs.Collators.{collation_borrowed}
 use Rattle.icu_comparison.specs.HandledRests.{handled_rest}
 use Rattle.icu_comparison.proofs.collator.CollatorBorrowed.compare_backward.Goals as goal
 
 pub returns : goal.returns
 unfolding lists_by
 returns g c =
-    let all = tables_borrowed c.args.self.now in
-    let settings = settings_borrowed c.args.self.now in
+    let collation = collation_borrowed c.args.self.now in
     let t = nfd (g.L.EncodedText.text c.args.left) in
     let u = nfd (g.R.EncodedText.text c.args.right) in
-    let left : handled_rest c.handled-left.result ≡ handled_by all settings t =
-    c.handled-left.ensures ∙ ap (handled_elements all settings false) (c.as_slice.ensures.value ∙ c.in_ok-left.ensures) in
-    let right : handled_rest c.handled-right.result ≡ handled_by all settings u =
-    c.handled-right.ensures ∙ ap (handled_elements all settings false) (c.as_slice-2.ensures.value ∙ c.in_ok-right.ensures) in
+    let left : handled_rest c.handled-left.result ≡ handled_by collation t =
+    c.handled-left.ensures ∙ ap (handled_elements collation false) (c.as_slice.ensures.value ∙ c.in_ok-left.ensures) in
+    let right : handled_rest c.handled-right.result ≡ handled_by collation u =
+    c.handled-right.ensures ∙ ap (handled_elements collation false) (c.as_slice-2.ensures.value ∙ c.in_ok-right.ensures) in
     c.compare_segments.ensures
     ∙ ap (λ hs. segments_order (segments (stayed_elements hs)) (segments (stayed_elements (handled_rest c.handled-right.result)))) left
-    ∙ ap (λ hs. segments_order (segments (stayed_elements (handled_by all settings t))) (segments (stayed_elements hs))) right
+    ∙ ap (λ hs. segments_order (segments (stayed_elements (handled_by collation t))) (segments (stayed_elements hs))) right

@@ -2,17 +2,16 @@
 use Rattle.std.proofs.Common.{◌≡◌, ◌∙◌, Ordering, Some, IfOk, subst, sym, ap}
 use Rattle.unicode_normalization.specs.Forms.{nfd}
 use Rattle.icu_order.specs.Forms.{form_by}
-use Rattle.icu_comparison.specs.Collators.{tables_borrowed, settings_borrowed}
+use Rattle.icu_comparison.specs.Collators.{collation_borrowed}
 use Rattle.icu_levels.specs.declared.forms.KeyForm.{KeyForm}
 use Rattle.icu_comparison.proofs.LevelLemmas.{cases_read}
 use Rattle.icu_comparison.proofs.collator.CollatorBorrowed.compare_cases.Goals as goal
 
 pub returns-in-Some : goal.returns-in-Some
 returns-in-Some g c =
-    let all = tables_borrowed c.args.self.now in
-    let settings = settings_borrowed c.args.self.now in
-    let counts : (form_by all settings).cases ≡ Some c.in-Some.cases = sym (ap (λ (k : KeyForm). k.cases) c.key_form-form.ensures) ∙ c.in-Some.is in
+    let collation = collation_borrowed c.args.self.now in
+    let counts : (form_by collation).cases ≡ Some c.in-Some.cases = sym (ap (λ (k : KeyForm). k.cases) c.key_form-form.ensures) ∙ c.in-Some.is in
     subst (λ (w : Ordering). IfOk c.compare_on.result (λ o. o ≡ w))
-    (cases_read all settings (nfd (g.L.EncodedText.text c.args.left)) (nfd (g.R.EncodedText.text c.args.right))
+    (cases_read collation (nfd (g.L.EncodedText.text c.args.left)) (nfd (g.R.EncodedText.text c.args.right))
     c.key_form-form.result.secondary c.in-Some.cases (ap (λ (k : KeyForm). k.secondary) c.key_form-form.ensures) counts)
     c.compare_on.ensures

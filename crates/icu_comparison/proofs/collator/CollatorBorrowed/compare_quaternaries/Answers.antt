@@ -2,7 +2,7 @@
 use Rattle.std.proofs.Common.{◌≡◌, ◌∙◌, Ordering, Some, IfOk, subst, sym, ap}
 use Rattle.unicode_normalization.specs.Forms.{nfd}
 use Rattle.icu_order.specs.Forms.{form_by}
-use Rattle.icu_comparison.specs.Collators.{tables_borrowed, settings_borrowed}
+use Rattle.icu_comparison.specs.Collators.{collation_borrowed}
 use Rattle.icu_levels.specs.Keys.{quaternaries_order}
 use Rattle.icu_levels.specs.declared.forms.KeyForm.{KeyForm}
 use Rattle.icu_order.specs.TextOrder.{lists_by}
@@ -11,12 +11,11 @@ use Rattle.icu_comparison.proofs.collator.CollatorBorrowed.compare_quaternaries.
 
 pub returns-in-Some : goal.returns-in-Some
 returns-in-Some g c =
-    let all = tables_borrowed c.args.self.now in
-    let settings = settings_borrowed c.args.self.now in
+    let collation = collation_borrowed c.args.self.now in
     let t = nfd (g.L.EncodedText.text c.args.left) in
     let u = nfd (g.R.EncodedText.text c.args.right) in
-    let counts : (form_by all settings).quaternary ≡ Some c.in-Some.field-0 = sym (ap (λ (k : KeyForm). k.quaternary) c.key_form.ensures) ∙ c.in-Some.is in
+    let counts : (form_by collation).quaternary ≡ Some c.in-Some.field-0 = sym (ap (λ (k : KeyForm). k.quaternary) c.key_form.ensures) ∙ c.in-Some.is in
     subst (λ (w : Ordering). IfOk c.compare_on.result (λ o. o ≡ w))
-    (quaternaries_read all settings t u c.reordering.result c.in-Some.field-0 c.reordering.ensures
-    ∙ ap (λ f. quaternaries_order f (lists_by all settings t) (lists_by all settings u)) (sym counts))
+    (quaternaries_read collation t u c.reordering.result c.in-Some.field-0 c.reordering.ensures
+    ∙ ap (λ f. quaternaries_order f (lists_by collation t) (lists_by collation u)) (sym counts))
     c.compare_on.ensures

@@ -6,17 +6,16 @@ use Rattle.icu_levels.specs.declared.forms.KeyForm.{KeyForm}
 use Rattle.icu_levels.specs.declared.forms.SecondaryForm.TheVariants.{Forward}
 use Rattle.icu_order.specs.Forms.{form_by}
 use Rattle.icu_order.specs.TextOrder.{lists_by}
-use Rattle.icu_comparison.specs.Collators.{tables_borrowed, settings_borrowed}
+use Rattle.icu_comparison.specs.Collators.{collation_borrowed}
 use Rattle.icu_comparison.proofs.LevelLemmas.{secondaries_read}
 use Rattle.icu_comparison.proofs.collator.CollatorBorrowed.compare_secondaries.Goals as goal
 
 pub returns-in-Some-Forward : goal.returns-in-Some-Forward
 returns-in-Some-Forward g c =
-    let all = tables_borrowed c.args.self.now in
-    let settings = settings_borrowed c.args.self.now in
+    let collation = collation_borrowed c.args.self.now in
     let t = nfd (g.L.EncodedText.text c.args.left) in
     let u = nfd (g.R.EncodedText.text c.args.right) in
-    let counts : (form_by all settings).secondary ≡ Some Forward = sym (ap (λ (k : KeyForm). k.secondary) c.key_form.ensures) ∙ c.in-Some-Forward.is ∙ ap (λ f. Some f) (search rules) in
+    let counts : (form_by collation).secondary ≡ Some Forward = sym (ap (λ (k : KeyForm). k.secondary) c.key_form.ensures) ∙ c.in-Some-Forward.is ∙ ap (λ f. Some f) (search rules) in
     subst (λ (w : Ordering). IfOk c.compare_on.result (λ o. o ≡ w))
-    (secondaries_read all settings t u ∙ ap (λ f. secondaries_order f (lists_by all settings t) (lists_by all settings u)) (sym counts))
+    (secondaries_read collation t u ∙ ap (λ f. secondaries_order f (lists_by collation t) (lists_by collation u)) (sym counts))
     c.compare_on.ensures

@@ -1,13 +1,12 @@
 -- Texts of the same units are one text.
 use Rattle.std.proofs.Common.{arith, ◌≡◌, ◌∙◌, ℕ, List, sym, ap}
 use Rattle.icu_order.specs.TextOrder.{text_order}
-use Rattle.icu_comparison.specs.Collators.{tables_borrowed, settings_borrowed}
+use Rattle.icu_comparison.specs.Collators.{collation_borrowed}
 use Rattle.icu_comparison.proofs.collator.CollatorBorrowed.compare_tails.Goals as goal
 
 pub returns-then-common-unit_count-2-clause-order : goal.returns-then-common-unit_count-2-clause-order
 returns-then-common-unit_count-2-clause-order g c =
-    let all = tables_borrowed c.args.self.now in
-    let settings = settings_borrowed c.args.self.now in
+    let collation = collation_borrowed c.args.self.now in
     let common = c.common_units-common.result in
     let left = g.L.EncodedText.text c.args.left in
     let right = g.R.EncodedText.text c.args.right in
@@ -17,4 +16,4 @@ returns-then-common-unit_count-2-clause-order g c =
     ∙ c.common_units-common.ensures.heads common (omega arith)
     ∙ ap (g.R.EncodedText.head c.args.right) c.if-common-unit_count-2.true
     ∙ c.unit_count-then-common-unit_count.ensures.whole in
-    sym c.is_equal_to_itself.ensures ∙ ap (λ (t : List ℕ). text_order all settings left t) same
+    sym c.is_equal_to_itself.ensures ∙ ap (λ (t : List ℕ). text_order collation left t) same

@@ -2,11 +2,11 @@
 use Rattle.std.proofs.Common.{rules}
 use Rattle.icu_order.specs.TextOrder.{reading_by}
 use Rattle.icu_shortcuts.specs.LetterTables.{AreLetters}
-use Rattle.icu_comparison.specs.Collators.{tables_borrowed, settings_borrowed}
+use Rattle.icu_comparison.specs.Collators.{collation_borrowed}
 use Rattle.icu_comparison.proofs.collator.CollatorBorrowed.front.Goals as goal
 
 pub returns-in-Some : goal.returns-in-Some
 returns-in-Some c =
-    let reading = reading_by (tables_borrowed c.args.self.now) (settings_borrowed c.args.self.now) in
+    let reading = reading_by (collation_borrowed c.args.self.now) in
     let known : AreLetters reading c.args.self.now.letters.now = search rules in
     c.front_of.ensures reading c.args.c (c.in-Some.ensures.known reading known)

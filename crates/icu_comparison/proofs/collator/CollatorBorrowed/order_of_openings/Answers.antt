@@ -1,14 +1,13 @@
 -- The first primaries decide.
 use Rattle.std.proofs.Common.{◌≡◌, Option, Ordering, IfSome, subst}
 use Rattle.icu_order.specs.TextOrder.{text_order}
-use Rattle.icu_comparison.specs.Collators.{tables_borrowed, settings_borrowed}
+use Rattle.icu_comparison.specs.Collators.{collation_borrowed}
 use Rattle.icu_comparison.proofs.collator.CollatorBorrowed.order_of_openings.Goals as goal
 
 pub returns-in-Some : goal.returns-in-Some
 returns-in-Some g c =
     let t = g.L.EncodedText.text c.args.left in
     let u = g.R.EncodedText.text c.args.right in
-    let all = tables_borrowed c.args.self.now in
-    let settings = settings_borrowed c.args.self.now in
-    subst (λ (r : Option Ordering). IfSome r (λ o. o ≡ text_order all settings t u)) c.in-Some.is
+    let collation = collation_borrowed c.args.self.now in
+    subst (λ (r : Option Ordering). IfSome r (λ o. o ≡ text_order collation t u)) c.in-Some.is
     (c.order_of.ensures t u c.requires.one c.requires.other)

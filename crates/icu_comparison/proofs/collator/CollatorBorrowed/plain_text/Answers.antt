@@ -6,15 +6,14 @@ use Rattle.icu_elements.specs.TextElements.{Reading, elements_of}
 use Rattle.icu_order.specs.Forms.{last_variable_by}
 use Rattle.icu_order.specs.Handled.{stayed}
 use Rattle.icu_order.specs.TextOrder.{reading_by}
-use Rattle.icu_comparison.specs.Collators.{tables_borrowed, settings_borrowed}
+use Rattle.icu_comparison.specs.Collators.{collation_borrowed}
 use Rattle.icu_comparison.proofs.OrdersInTurn.{all_stay}
 use Rattle.icu_comparison.proofs.collator.CollatorBorrowed.plain_text.Goals as goal
 
 pub returns : goal.returns
 returns g c =
-    let all = tables_borrowed c.args.self.now in
-    let settings = settings_borrowed c.args.self.now in
+    let collation = collation_borrowed c.args.self.now in
     let text = nfd (g.T.EncodedText.text c.args.text) in
     c.new-2.ensures
     ∙ ap (λ (es : List Element). map stayed es) (c.new.ensures ∙ ap (λ (r : Reading). elements_of r text) c.requires.reading)
-    ∙ sym (all_stay settings.alternate_handling (last_variable_by all settings) (elements_of (reading_by all settings) text) c.requires.plain)
+    ∙ sym (all_stay collation.settings.alternate_handling (last_variable_by collation) (elements_of (reading_by collation) text) c.requires.plain)

@@ -1,18 +1,17 @@
 -- The common beginning doesn't count.
 use Rattle.std.proofs.Common.{◌≡◌, IfSome, Ordering, subst, rules}
 use Rattle.icu_order.specs.TextOrder.{text_order}
-use Rattle.icu_comparison.specs.Collators.{tables_borrowed, settings_borrowed}
+use Rattle.icu_comparison.specs.Collators.{collation_borrowed}
 use Rattle.icu_comparison.proofs.TailLemmas.{tails_order}
 use Rattle.icu_comparison.proofs.collator.CollatorBorrowed.tails_at.Goals as goal
 
 pub returns : goal.returns
 returns g c =
-    let all = tables_borrowed c.args.self.now in
-    let settings = settings_borrowed c.args.self.now in
+    let collation = collation_borrowed c.args.self.now in
     let t = g.L.EncodedText.text c.in_ok-one.one in
     let u = g.R.EncodedText.text c.in_ok-other.other in
-    let same : text_order all settings t u ≡ text_order all settings (g.L.EncodedText.text c.args.left) (g.R.EncodedText.text c.args.right) =
-    tails_order all settings c.common_beginnings_do_not_count.ensures c.requires.forward
+    let same : text_order collation t u ≡ text_order collation (g.L.EncodedText.text c.args.left) (g.R.EncodedText.text c.args.right) =
+    tails_order collation c.common_beginnings_do_not_count.ensures c.requires.forward
     (g.L.EncodedText.text c.args.left) (g.R.EncodedText.text c.args.right)
     (g.L.EncodedText.head c.args.left c.args.at) (g.R.EncodedText.head c.args.right c.args.at)
     t u c.in_ok-one.ensures c.in_ok-other.ensures c.requires.head

@@ -2,18 +2,18 @@
 use Rattle.std.proofs.Common.{◌∙◌, ℕ, List, refl, subst}
 use Rattle.unicode_normalization.specs.Forms.{nfd}
 use Rattle.icu_keys.specs.KeyWrites.{WritesKey}
-use Rattle.icu_comparison.specs.Collators.{tables_borrowed, settings_borrowed}
+use Rattle.icu_comparison.specs.Collators.{collation_borrowed}
 use Rattle.icu_comparison.proofs.KeyLemmas.{key_read}
 use Rattle.icu_comparison.proofs.collator.CollatorBorrowed.write_key_of.Goals as goal
 
 pub write_with_characters-requires : goal.write_with_characters-requires
 write_with_characters-requires g c = record {
-  cases = c.texts_have_case.ensures (tables_borrowed c.args.self.now) (settings_borrowed c.args.self.now) c.are_good.ensures (g.T.EncodedText.text c.args.text) c.has_scalar_values.ensures;
+  cases = c.texts_have_case.ensures (collation_borrowed c.args.self.now) c.are_good.ensures (g.T.EncodedText.text c.args.text) c.has_scalar_values.ensures;
 }
 
 pub returns : goal.returns
 returns g c =
     let text = g.T.EncodedText.text c.args.text in
-    let read = key_read (tables_borrowed c.args.self.now) (settings_borrowed c.args.self.now) text (nfd text) c.as_slice.result.now
+    let read = key_read (collation_borrowed c.args.self.now) text (nfd text) c.as_slice.result.now
     refl (λ on. c.as_slice.ensures.value ∙ c.in-Ok.ensures on) in
     record { key = subst (λ (key : List ℕ). WritesKey g.S.CollationKeySink.took g.S.CollationKeySink.refused g.S.CollationKeySink.finished g.S.State.Default.is_default c.args.sink.now key c.write_with_characters.result c.write_with_characters.new.sink) read c.write_with_characters.ensures.key }
