@@ -5,4 +5,4 @@ use Rattle.icu_checks.specs.declared.checked.CheckedTables.{CheckedTables}
 use Rattle.icu_order.specs.Collations.{Collation}
 
 abbrev pub collation_of : CheckedTables → FlaggedSettings → Collation
-collation_of tables settings = record { tables = checked_tables tables; settings = values_of settings }
+collation_of t s = record { tables = checked_tables t; settings = values_of s }

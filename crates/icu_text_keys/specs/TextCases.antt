@@ -11,4 +11,5 @@ use Rattle.icu_text_keys.specs.HandledSources.{HasCase}
 -- of any text, by each collation whose tables meet the conditions
 abbrev pub TextsHaveCase : Type 0
 TextsHaveCase =
-    (c : Collation) → IsGoodTables c.tables → (t : List ℕ) → IsText t → AllByRecursion HasCase (handled_by c (nfd t))
+    (c : Collation) → IsGoodTables c.tables → (t : List ℕ) → IsText t
+    → AllByRecursion HasCase (handled_by c (nfd t))
