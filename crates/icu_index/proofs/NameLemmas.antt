@@ -2,7 +2,7 @@
 use Rattle.std.proofs.Common.{◌≡◌, ℕ, suc, List, [], ◌∷◌, length, sym, ap, ◌∙◌, subst}
 use Rattle.std.specs.declared.cmp.Ordering.{Ordering}
 use Rattle.icu_comparison.specs.declared.collator.CollatorBorrowed.{CollatorBorrowed}
-use Rattle.icu_comparison.specs.Collators.{tables_borrowed, settings_borrowed}
+use Rattle.icu_comparison.specs.Collators.{tables_borrowed, collation_borrowed}
 use Rattle.icu_checks.specs.GoodTables.{IsGoodTables}
 use Rattle.icu_encodings.proofs.Utf8Lemmas.{utf8_scalars}
 use Rattle.icu_encodings.specs.DecodedTexts.{utf8_text}
@@ -13,17 +13,17 @@ use Rattle.icu_index.specs.inner.NameGroups.{Group, key_of, added, names_in, IsK
 use Rattle.icu_index.proofs.GroupLemmas.{Ascend, found_at, added_is_inserted, added_keyed, found_are_equal, length_inserted}
 
 pub names_keep : (c : CollatorBorrowed) → IsGoodTables (tables_borrowed c) → (x y : List ℕ)
-    → name_order (tables_borrowed c) (settings_borrowed c) x y
-    ≡ list_order (key_of (tables_borrowed c) (settings_borrowed c) x) (key_of (tables_borrowed c) (settings_borrowed c) y)
+    → name_order (collation_borrowed c) x y
+    ≡ list_order (key_of (collation_borrowed c) x) (key_of (collation_borrowed c) y)
 names_keep c good x y =
-    sym (keys_keep (tables_borrowed c) good (settings_borrowed c) (utf8_text x) (utf8_text y) (utf8_scalars x) (utf8_scalars y))
+    sym (keys_keep (collation_borrowed c) good (utf8_text x) (utf8_text y) (utf8_scalars x) (utf8_scalars y))
 
 module _ (c : CollatorBorrowed) (good : IsGoodTables (tables_borrowed c)) where
   abbrev order : List ℕ → List ℕ → Ordering
-  order x y = name_order (tables_borrowed c) (settings_borrowed c) x y
+  order x y = name_order (collation_borrowed c) x y
 
   abbrev key : List ℕ → List ℕ
-  key x = key_of (tables_borrowed c) (settings_borrowed c) x
+  key x = key_of (collation_borrowed c) x
 
   -- groups with one more name
   module _ (name copy k : List ℕ) (is : copy ≡ name) (keys : k ≡ key name) (old new : List Group) (up : Ascend old) (keyed : IsKeyed key old)

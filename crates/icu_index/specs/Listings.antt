@@ -6,13 +6,12 @@ use Rattle.std.specs.Ordering.{is_eq, is_gt}
 use Rattle.std.specs.declared.cmp.Ordering.{Ordering}
 use Rattle.icu_checks.specs.GoodTables.{IsGoodTables}
 use Rattle.icu_encodings.specs.DecodedTexts.{utf8_text}
-use Rattle.icu_options.specs.Settings.{Settings}
-use Rattle.icu_provider.specs.CollatorTables.{CollatorTables}
+use Rattle.icu_order.specs.Collations.{Collation}
 use Rattle.icu_order.specs.TextOrder.{text_order}
 
 -- the order of two names, which are bytes in UTF-8 that may be damaged: that of their texts
-abbrev pub name_order : CollatorTables → Settings → List ℕ → List ℕ → Ordering
-name_order all settings x y = text_order all settings (utf8_text x) (utf8_text y)
+abbrev pub name_order : Collation → List ℕ → List ℕ → Ordering
+name_order c x y = text_order c (utf8_text x) (utf8_text y)
 
 -- a listing with one more name: before the first listed one that compares Greater to it, or last
 abbrev pub inserted : (List ℕ → List ℕ → Ordering) → List ℕ → List (List ℕ) → List (List ℕ)
@@ -33,8 +32,8 @@ pub record IsStablySorted (order : List ℕ → List ℕ → Ordering) (names so
   pub ascends : IsSorted order sorted
   pub stable : IsStable order names sorted
 
--- by any tables that meet the conditions and any settings, names that were inserted one after another are sorted
+-- by each collation whose tables meet the conditions, names that were inserted one after another are sorted
 abbrev pub InsertsSort : Type 0
 InsertsSort =
-    (all : CollatorTables) (settings : Settings) (names : List (List ℕ)) → IsGoodTables all
-    → IsStablySorted (name_order all settings) names (listed (name_order all settings) names)
+    (c : Collation) (names : List (List ℕ)) → IsGoodTables c.tables
+    → IsStablySorted (name_order c) names (listed (name_order c) names)

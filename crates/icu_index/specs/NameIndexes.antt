@@ -2,24 +2,20 @@
 use Rattle.std.specs.Prelude.{ℕ, List, ◌++◌}
 use Rattle.std.specs.List.{flat_map}
 use Rattle.std.specs.declared.cmp.Ordering.{Ordering}
-use Rattle.icu_options.specs.Settings.{Settings}
-use Rattle.icu_provider.specs.CollatorTables.{CollatorTables}
-use Rattle.icu_comparison.specs.Collators.{tables_borrowed, settings_borrowed}
+use Rattle.icu_order.specs.Collations.{Collation}
+use Rattle.icu_comparison.specs.Collators.{collation_borrowed}
 use Rattle.icu_index.specs.declared.index.NameIndex.{NameIndex}
 use Rattle.icu_index.specs.declared.names.NameIter.{NameIter}
 use Rattle.icu_index.specs.Listings.{name_order}
 use Rattle.icu_index.specs.inner.NameGroups.{names_of, names_in, groups_of}
 
--- the tables and the settings that names are ordered by
-abbrev pub index_tables : NameIndex → CollatorTables
-index_tables i = tables_borrowed i.collator
-
-abbrev pub index_settings : NameIndex → Settings
-index_settings i = settings_borrowed i.collator
+-- the collation that names are ordered by
+abbrev pub index_collation : NameIndex → Collation
+index_collation i = collation_borrowed i.collator
 
 -- the order of two names in an index
 abbrev pub index_order : NameIndex → List ℕ → List ℕ → Ordering
-index_order i = name_order (index_tables i) (index_settings i)
+index_order i = name_order (index_collation i)
 
 -- the names of an index, in order
 abbrev pub listing : NameIndex → List (List ℕ)

@@ -3,7 +3,7 @@
 ghost use Rattle.std.specs.Prelude.{◌≡◌, [], length, map, IfOk, IsErr, IsTrue, OnOk, OnErr, ◌↔◌};
 ghost use Rattle.std.proofs.Props.{props};
 ghost use Rattle.std.specs.BTreeMap.{IsOrdered};
-ghost use Rattle.icu_comparison.specs.Collators.{settings_borrowed, settings_kept, tables_borrowed, tables_kept};
+ghost use Rattle.icu_comparison.specs.Collators.{collation_borrowed, collation_kept};
 ghost use Rattle.icu_index.specs.Listings.{equal_names, inserted};
 ghost use Rattle.icu_index.specs.inner.NameGroups.{groups_of, key_of, key_order, names_in, IsKeyed};
 
@@ -19,7 +19,7 @@ fn name_key(
     collator: &CollatorBorrowed<'_>,
     name: &[u8],
 ) -> Result<Vec<u8>, AllocError>
-    ensures { IfOk result (λ key. key.items ≡ key_of (tables_borrowed collator.now) (settings_borrowed collator.now) name.now) }
+    ensures { IfOk result (λ key. key.items ≡ key_of (collation_borrowed collator.now) name.now) }
 {
     let mut key = Vec::new(alloc);
     match collator.write_sort_key_utf8_to(name, &mut key) {
@@ -37,19 +37,18 @@ pub struct NameIndex<'a> {
     collator: CollatorBorrowed<'a>,
     groups: Groups,
     len: usize,
-    ghost keyed: { IsKeyed (key_of (tables_borrowed collator) (settings_borrowed collator)) (groups_of groups.entries) } by { Prim.hlevel props },
+    ghost keyed: { IsKeyed (key_of (collation_borrowed collator)) (groups_of groups.entries) } by { Prim.hlevel props },
     ghost ascending: { IsOrdered key_order groups } by { Prim.hlevel props },
     ghost counted: { len ≡ length (names_in (groups_of groups.entries)) },
 }
 
 impl<'a> NameIndex<'a> {
-    ghost use Rattle.icu_index.specs.NameIndexes.{index_order, index_settings, index_tables, listing, names_left};
+    ghost use Rattle.icu_index.specs.NameIndexes.{index_collation, index_order, listing, names_left};
 
     /// An index without names, that orders them by a collator. Does not allocate.
     pub fn new(alloc: Global, collator: &'a Collator) -> NameIndex<'a>
         ensures empty { listing result ≡ [] }
-        ensures tables { index_tables result ≡ tables_kept collator.entry.now }
-        ensures settings { index_settings result ≡ settings_kept collator.entry.now }
+        ensures collation { index_collation result ≡ collation_kept collator.entry.now }
     {
         NameIndex {
             alloc,
@@ -72,8 +71,7 @@ impl<'a> NameIndex<'a> {
         ensures full { length (listing self.old) ≡ usize.MAX → IsErr result }
 
         // The order stays.
-        ensures tables { index_tables self.new ≡ index_tables self.old }
-        ensures settings { index_settings self.new ≡ index_settings self.old }
+        ensures collation { index_collation self.new ≡ index_collation self.old }
     {
         self.collator.has_good_tables();
         let len = self.len.checked_add(1).ok_or(AllocError)?;

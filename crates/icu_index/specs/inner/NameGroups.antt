@@ -5,14 +5,13 @@ use Rattle.std.specs.Ordering.{match_ordering}
 use Rattle.std.specs.Global.{Vec}
 use Rattle.std.specs.declared.cmp.Ordering.{Ordering}
 use Rattle.icu_encodings.specs.DecodedTexts.{utf8_text}
-use Rattle.icu_options.specs.Settings.{Settings}
 use Rattle.icu_levels.specs.ListOrder.{list_order}
-use Rattle.icu_provider.specs.CollatorTables.{CollatorTables}
+use Rattle.icu_order.specs.Collations.{Collation}
 use Rattle.icu_order.specs.TextOrder.{text_key}
 
 -- the sort key of a name
-abbrev pub key_of : CollatorTables → Settings → List ℕ → List ℕ
-key_of all settings name = text_key all settings (utf8_text name)
+abbrev pub key_of : Collation → List ℕ → List ℕ
+key_of c name = text_key c (utf8_text name)
 
 -- a key and the names that have it
 abbrev pub Group : Type 0
