@@ -14,6 +14,7 @@ use Rattle.icu_options.specs.declared.settings.CollationNumericOrdering.{Collati
 use Rattle.icu_options.specs.declared.settings.MaxVariable.TheVariants.{Punctuation}
 use Rattle.icu_provider.specs.CollatorTables.{CollatorTables}
 use Rattle.icu_mini.specs.declared.mini.Mini.{Mini}
+use Rattle.icu_order.specs.Collations.{Collation}
 use Rattle.collate.specs.Answers.{ComparesBy, mini_tables}
 
 -- options that set a strength alone
@@ -37,11 +38,11 @@ unfolding settings_by
 merged strength p is =
     ap (λ c. settings_by strength c p.numeric_ordering) is.case_first ∙ ap (λ n. settings_by strength None n) is.numeric_ordering
 
-pub mini-compares : (m : Mini) (strength : Strength) (all : CollatorTables) (settings : Settings) (options : CollatorOptions) (p : CollatorPreferences)
-    → all ≡ mini_tables m → options ≡ at_strength strength → SetNothing p → settings ≡ merge options p (metadata_settings all.bits)
-    → ComparesBy strength m all settings
+pub mini-compares : (m : Mini) (strength : Strength) (kept : Collation) (options : CollatorOptions) (p : CollatorPreferences)
+    → kept.tables ≡ mini_tables m → options ≡ at_strength strength → SetNothing p → kept.settings ≡ merge options p (metadata_settings kept.tables.bits)
+    → ComparesBy strength m kept
 unfolding settings_by
-mini-compares m strength all settings options p is at_this_strength none merged_is = record {
+mini-compares m strength kept options p is at_this_strength none merged_is = record {
   tables = is;
   settings =
       merged_is ∙ ap (λ (a : CollatorTables). merge options p (metadata_settings a.bits)) is

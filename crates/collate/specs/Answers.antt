@@ -8,6 +8,7 @@ use Rattle.icu_options.specs.declared.settings.MaxVariable.TheVariants.{Punctuat
 use Rattle.icu_provider.specs.CollatorTables.{CollatorTables}
 use Rattle.icu_mini.specs.declared.mini.Mini.{Mini}
 use Rattle.icu_mini.specs.Mini.{IsMini, collator_tables, special_held}
+use Rattle.icu_order.specs.Collations.{Collation}
 
 -- all of Mini's tables: its metadata names neither a tailoring nor a reordering
 abbrev pub mini_tables : Mini → CollatorTables
@@ -25,11 +26,11 @@ mini_settings strength = record {
   numeric = false;
 }
 
--- all tables and settings by which texts are compared by these tables at this strength
-pub record ComparesBy (strength : Strength) (m : Mini) (all : CollatorTables) (merged : Settings) : Type 0 where
-  pub tables : all ≡ mini_tables m
-  pub settings : merged ≡ mini_settings strength
+-- the collation by which texts are compared by these tables at this strength
+pub record ComparesBy (strength : Strength) (m : Mini) (c : Collation) : Type 0 where
+  pub tables : c.tables ≡ mini_tables m
+  pub settings : c.settings ≡ mini_settings strength
 
 -- the same by Mini's tables
-abbrev pub mini_compares : Strength → CollatorTables → Settings → Type 0
-mini_compares strength all merged = (m : Mini) × IsMini m × ComparesBy strength m all merged
+abbrev pub mini_compares : Strength → Collation → Type 0
+mini_compares strength c = (m : Mini) × IsMini m × ComparesBy strength m c

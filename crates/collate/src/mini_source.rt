@@ -1,7 +1,7 @@
 //! Mini's tables as a source of collators.
 ghost use Rattle.std.specs.Prelude.{◌≡◌, IfOk, IfErr};
 ghost use Rattle.icu_checks.specs.GoodTables.{IsGoodTables};
-ghost use Rattle.icu_comparison.specs.Collators.{settings_kept, tables_kept};
+ghost use Rattle.icu_comparison.specs.Collators.{collation_kept, tables_kept};
 ghost use Rattle.collate_commands.specs.Refusals.{IsRefusal};
 ghost use Rattle.collate.specs.Answers.{mini_compares};
 ghost use Rattle.collate.specs.Refusals.{IsForCause, mini_refuses};
@@ -34,7 +34,7 @@ impl CollatorSource for MiniSource {
 fn mini_collator(alloc: Global, strength: Strength) -> Result<Collator, Fault>
     ensures refused { IfErr result (IsRefusal (mini_refuses strength)) }
     ensures good { IfOk result (λ c. IsGoodTables (tables_kept c)) }
-    ensures compares { IfOk result (λ c. mini_compares strength (tables_kept c) (settings_kept c)) }
+    ensures compares { IfOk result (λ c. mini_compares strength (collation_kept c)) }
 {
     let mini = Mini::new(alloc)?;
     let options = CollatorOptions {

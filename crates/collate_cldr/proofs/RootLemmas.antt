@@ -20,6 +20,7 @@ use Rattle.icu_provider.specs.CollatorTables.{CollatorTables}
 use Rattle.icu_provider.specs.Requests.{Request}
 use Rattle.icu_provider.specs.SpecialPrimaries.{SpecialPrimaries}
 use Rattle.icu_provider.specs.TableSets.{loads_of}
+use Rattle.icu_order.specs.Collations.{Collation}
 use Rattle.collate_cldr.specs.Files.{ComparesAs, chosen_settings}
 use Rattle.collate_cldr.specs.declared.choice.Chosen.{Chosen}
 
@@ -72,14 +73,14 @@ settings_by c strength first numeric = record {
   numeric = unwrap_or (option_map is_numeric numeric) false;
 }
 
-pub chosen_merged : (c : Chosen) (strength : Strength) (all : CollatorTables) (settings : Settings) (o : CollatorOptions) (p : CollatorPreferences)
-    → IsRoot all
+pub chosen_merged : (c : Chosen) (strength : Strength) (kept : Collation) (o : CollatorOptions) (p : CollatorPreferences)
+    → IsRoot kept.tables
     → o ≡ record { strength = Some strength; alternate_handling = c.alternate_handling; max_variable = c.max_variable; case_level = c.case_level }
     → p.case_first ≡ c.case_first → p.numeric_ordering ≡ c.numeric
-    → settings ≡ merge o p (metadata_settings all.bits)
-    → settings ≡ chosen_settings c strength
+    → kept.settings ≡ merge o p (metadata_settings kept.tables.bits)
+    → kept.settings ≡ chosen_settings c strength
 unfolding settings_by
-chosen_merged c strength all settings o p root options first numeric merged_is =
+chosen_merged c strength kept o p root options first numeric merged_is =
     merged_is ∙ ap (λ b. merge o p (metadata_settings b)) root.metadata
     ∙ ap (λ x. merge x p (metadata_settings 1)) options
     ∙ ap (λ x. settings_by c strength x p.numeric_ordering) first

@@ -7,7 +7,7 @@ use Rattle.icu_options.specs.declared.settings.Strength.{Strength}
 use Rattle.icu_options.specs.declared.settings.AlternateHandling.TheVariants.{NonIgnorable}
 use Rattle.icu_options.specs.declared.settings.CollationCaseFirst.TheVariants as case_first
 use Rattle.icu_options.specs.declared.settings.MaxVariable.TheVariants.{Punctuation}
-use Rattle.icu_provider.specs.CollatorTables.{CollatorTables}
+use Rattle.icu_order.specs.Collations.{Collation}
 use Rattle.collate_cldr.specs.declared.choice.Chosen.{Chosen}
 
 -- the settings that were chosen, at a strength, and those of the root where none was
@@ -23,9 +23,9 @@ chosen_settings chosen strength = record {
 }
 
 -- texts are compared by the tables of a root, with the chosen settings
-pub record ComparesAs (chosen : Chosen) (strength : Strength) (all : CollatorTables) (merged : Settings) : Type 0 where
-  pub root : IsRoot all
-  pub settings : merged ≡ chosen_settings chosen strength
+pub record ComparesAs (chosen : Chosen) (strength : Strength) (c : Collation) : Type 0 where
+  pub root : IsRoot c.tables
+  pub settings : c.settings ≡ chosen_settings chosen strength
 
 -- a line that names a file, and then says something of it
 abbrev pub IsLineOf : List ℕ → List ℕ → Type 0

@@ -2,7 +2,7 @@
 ghost use Rattle.std.specs.Prelude.{◌≡◌, ◌++◌, ◌∷◌, [], codes, string_bytes, IfOk, IfErr};
 ghost use Rattle.icu_cldr.specs.Roots.{IsRoot, root_tables};
 ghost use Rattle.icu_checks.specs.GoodTables.{IsGoodTables};
-ghost use Rattle.icu_comparison.specs.Collators.{settings_kept, tables_kept};
+ghost use Rattle.icu_comparison.specs.Collators.{collation_kept, tables_kept};
 ghost use Rattle.collate_commands.specs.Refusals.{IsRefusal};
 ghost use Rattle.collate_cldr.specs.Files.{ComparesAs, IsLineOf};
 
@@ -29,7 +29,7 @@ pub(crate) struct FileSource<'a, R> {
 impl<'a, R: Files + AllocGlobal> CollatorSource for FileSource<'a, R> {
     ghost use Rattle.collate_cldr.specs.Files.{ComparesAs, IsLineOf};
 
-    ghost compares = { λ s strength all merged. ComparesAs s.chosen strength all merged };
+    ghost compares = { λ s strength collation. ComparesAs s.chosen strength collation };
 
     ghost refuses = { λ s strength line. IsLineOf s.file.now line };
 
@@ -97,7 +97,7 @@ fn root_collator(
     strength: Strength,
 ) -> Result<Collator, Fault>
     requires { IsRoot (root_tables root.now) }
-    ensures compares { IfOk result (λ c. ComparesAs chosen strength (tables_kept c) (settings_kept c)) }
+    ensures compares { IfOk result (λ c. ComparesAs chosen strength (collation_kept c)) }
     ensures good { IfOk result (λ c. IsGoodTables (tables_kept c)) }
     ensures refused { IfErr result (IsRefusal (IsLineOf file.now)) }
 {

@@ -2,9 +2,8 @@
 use Rattle.std.specs.Prelude.{◌≡◌, ℕ, List, [], ◌∷◌, ◌++◌, codes, chars}
 use Rattle.std.specs.declared.cmp.Ordering.{Ordering}
 use Rattle.std.specs.declared.cmp.Ordering.TheVariants.{Less, Equal, Greater}
-use Rattle.icu_options.specs.Settings.{Settings}
 use Rattle.icu_options.specs.declared.settings.Strength.{Strength}
-use Rattle.icu_provider.specs.CollatorTables.{CollatorTables}
+use Rattle.icu_order.specs.Collations.{Collation}
 use Rattle.icu_order.specs.TextOrder.{text_order, text_key}
 use Rattle.icu_index.specs.Listings.{name_order, IsStablySorted}
 use Rattle.collate_commands.specs.Commands.{Asked, for_order, for_key, for_sorting, strength_of}
@@ -23,20 +22,18 @@ pub record SortsLines (order : List ℕ → List ℕ → Ordering) (input output
   pub sorted : IsStablySorted order (lines_of input) lines
   pub written : output ≡ lines_text lines
 
--- The output answers the command by these tables and settings, where these bytes stand in the input: a line with the
+-- The output answers the command by this collation, where these bytes stand in the input: a line with the
 -- sign of the order or with the bytes of the key, or the lines of the input in order.
-abbrev pub IsAnswerBy : CollatorTables → Settings → Asked → List ℕ → List ℕ → Type 0
-IsAnswerBy tables settings (for_order c) input output =
-    output ≡ sign_of (text_order tables settings (chars c.left) (chars c.right)) ++ 10 ∷ []
-IsAnswerBy tables settings (for_key k) input output = output ≡ key_text (text_key tables settings (chars k.text)) ++ 10 ∷ []
-IsAnswerBy tables settings (for_sorting strength) input output = SortsLines (name_order tables settings) input output
+abbrev pub IsAnswerBy : Collation → Asked → List ℕ → List ℕ → Type 0
+IsAnswerBy collation (for_order c) input output = output ≡ sign_of (text_order collation (chars c.left) (chars c.right)) ++ 10 ∷ []
+IsAnswerBy collation (for_key k) input output = output ≡ key_text (text_key collation (chars k.text)) ++ 10 ∷ []
+IsAnswerBy collation (for_sorting strength) input output = SortsLines (name_order collation) input output
 
--- by which tables and settings texts are compared at a strength
+-- by which collations texts are compared at a strength
 abbrev pub Compares : Type 1
-Compares = Strength → CollatorTables → Settings → Type 0
+Compares = Strength → Collation → Type 0
 
--- The output answers the command by such tables and settings, at its strength.
+-- The output answers the command by such a collation, at its strength.
 abbrev pub IsAnswer : Compares → Asked → List ℕ → List ℕ → Type 0
 IsAnswer compares asked input output =
-    (tables : CollatorTables) × (settings : Settings) × compares (strength_of asked) tables settings
-    × IsAnswerBy tables settings asked input output
+    (c : Collation) × compares (strength_of asked) c × IsAnswerBy c asked input output

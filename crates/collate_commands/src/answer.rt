@@ -1,9 +1,9 @@
 //! The answer to a command, by a collator.
 ghost use Rattle.std.specs.Prelude.{◌≡◌, ◌⊎◌, ℕ, List, IfOk, IfErr, ◌++◌, ◌∷◌, [], chars, map};
 ghost use Rattle.icu_checks.specs.GoodTables.{IsGoodTables};
-ghost use Rattle.icu_comparison.specs.Collators.{settings_kept, tables_kept};
+ghost use Rattle.icu_comparison.specs.Collators.{collation_kept, tables_kept};
 ghost use Rattle.icu_index.specs.Listings.{listed, name_order};
-ghost use Rattle.icu_index.specs.NameIndexes.{index_settings, index_tables, listing};
+ghost use Rattle.icu_index.specs.NameIndexes.{index_collation, listing};
 ghost use Rattle.icu_order.specs.TextOrder.{text_key};
 ghost use Rattle.collate_commands.specs.Answers.{IsAnswerBy, SortsLines, sign_of};
 ghost use Rattle.collate_commands.specs.inner.Asked.{asked};
@@ -36,8 +36,7 @@ fn sign_line(order: Ordering) -> &'static [u8]
 
 /// The bytes of the sort key of a text.
 fn sort_key(alloc: Global, collator: &Collator, text: &str) -> Result<Vec<u8>, AllocError>
-    ensures { IfOk result (λ key. key.items
-        ≡ text_key (tables_kept collator.now) (settings_kept collator.now) (chars text.now)) }
+    ensures { IfOk result (λ key. key.items ≡ text_key (collation_kept collator.now) (chars text.now)) }
 {
     let mut key = Vec::new(alloc);
     match collator.as_borrowed().write_sort_key_to(text, &mut key) {
@@ -53,7 +52,7 @@ fn index_of<'c>(
     lines: &[&[u8]],
 ) -> Result<NameIndex<'c>, AllocError>
     ensures { IfOk result (λ index. listing index
-        ≡ listed (name_order (tables_kept collator.now) (settings_kept collator.now)) (shown lines.now)) }
+        ≡ listed (name_order (collation_kept collator.now)) (shown lines.now)) }
 {
     let mut index = NameIndex::new(alloc, collator);
     for line in lines {
@@ -77,8 +76,7 @@ fn listing_text(alloc: Global, index: &NameIndex<'_>) -> Result<Vec<u8>, AllocEr
 /// The lines of a text, sorted.
 fn sorted_text(alloc: Global, collator: &Collator, bytes: &[u8]) -> Result<Vec<u8>, AllocError>
     requires { IsGoodTables (tables_kept collator.now) }
-    ensures { IfOk result (λ output. SortsLines
-        (name_order (tables_kept collator.now) (settings_kept collator.now))
+    ensures { IfOk result (λ output. SortsLines (name_order (collation_kept collator.now))
         bytes.now output.items) }
 {
     inserts_sort();
@@ -94,7 +92,7 @@ fn sort<R: Read>(alloc: Global, collator: &Collator, input: &mut R) -> Result<Ve
     ensures fault { IfErr result (λ fault. (fault ≡ Fault.NoMemory) ⊎ (fault ≡ Fault.ReadFailed)) }
     ensures answer { IfOk result (λ output. (bytes : List ℕ)
         × TakesWhole (R.remaining input.old) (R.remaining input.new) bytes
-        × SortsLines (name_order (tables_kept collator.now) (settings_kept collator.now)) bytes output.items) }
+        × SortsLines (name_order (collation_kept collator.now)) bytes output.items) }
 {
     let bytes = read_whole(alloc, input)?;
     Ok(sorted_text(alloc, collator, bytes.as_slice())?)
@@ -111,8 +109,7 @@ pub(crate) fn answer<R: Read>(
     ensures fault { IfErr result (IsUnanswered (asked command.entry)) }
     ensures answer { IfOk result (λ output. (bytes : List ℕ)
         × ReadsFor (asked command.entry) (R.remaining input.old) (R.remaining input.new) bytes
-        × IsAnswerBy (tables_kept collator.now) (settings_kept collator.now)
-        (asked command.entry) bytes output.items) }
+        × IsAnswerBy (collation_kept collator.now) (asked command.entry) bytes output.items) }
 {
     match command {
         Command::Compare(texts) => {

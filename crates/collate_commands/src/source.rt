@@ -1,10 +1,9 @@
 //! Where the collators of a program come from.
 ghost use Rattle.std.specs.Prelude.{IfOk, IfErr, ℕ, List};
 ghost use Rattle.icu_checks.specs.GoodTables.{IsGoodTables};
-ghost use Rattle.icu_comparison.specs.Collators.{settings_kept, tables_kept};
-ghost use Rattle.icu_options.specs.Settings.{Settings};
+ghost use Rattle.icu_comparison.specs.Collators.{collation_kept, tables_kept};
 ghost use Rattle.icu_options.specs.declared.settings.Strength.{Strength};
-ghost use Rattle.icu_provider.specs.CollatorTables.{CollatorTables};
+ghost use Rattle.icu_order.specs.Collations.{Collation};
 ghost use Rattle.collate_commands.specs.Refusals.{IsRefusal};
 
 use crate::fault::Fault;
@@ -15,8 +14,8 @@ use std::alloc::Global;
 /// What makes the collators of a program, by the strength that its words name: the tables that it compiles in, or those
 /// of a file.
 pub trait CollatorSource {
-    /// By which tables and settings texts are compared at a strength.
-    ghost compares: { Self → Strength → CollatorTables → Settings → Type 0 };
+    /// By which collations texts are compared at a strength.
+    ghost compares: { Self → Strength → Collation → Type 0 };
 
     /// By which line a collator of a strength is refused.
     ghost refuses: { Self → Strength → List ℕ → Type 0 };
@@ -27,7 +26,7 @@ pub trait CollatorSource {
     ///
     /// `NoMemory` where an allocation fails; `Refused`, with a line that says why, where the tables can't be had.
     fn collator(&self, alloc: Global, strength: Strength) -> Result<Collator, Fault>
-        ensures compares { IfOk result (λ c. compares self.now strength (tables_kept c) (settings_kept c)) }
+        ensures compares { IfOk result (λ c. compares self.now strength (collation_kept c)) }
         ensures good { IfOk result (λ c. IsGoodTables (tables_kept c)) }
         ensures refused { IfErr result (IsRefusal (refuses self.now strength)) };
 }

@@ -26,22 +26,26 @@ loaded_for loads preferences = loaded_tables loads (request_in preferences)
 
 -- ---- what a collator has
 
--- all tables together, the merged settings, and both
+-- all tables together
 abbrev pub tables_kept : Collator → CollatorTables
 tables_kept c = checked_tables c.tables
 
+-- the merged settings
 abbrev pub settings_kept : Collator → Settings
 settings_kept c = values_of c.settings
 
+-- tables and settings as one
 abbrev pub collation_kept : Collator → Collation
 collation_kept c = collation_of c.tables c.settings
 
--- the same of a collator that borrows its tables
+-- all tables of a collator that borrows them
 abbrev pub tables_borrowed : CollatorBorrowed → CollatorTables
 tables_borrowed c = checked_tables c.tables.now
 
+-- the merged settings of one that borrows its tables
 abbrev pub settings_borrowed : CollatorBorrowed → Settings
 settings_borrowed c = values_of c.settings
 
+-- tables and settings of one that borrows its tables, as one
 abbrev pub collation_borrowed : CollatorBorrowed → Collation
 collation_borrowed c = collation_of c.tables.now c.settings

@@ -31,9 +31,9 @@ fn write_nothing<S: CollationKeySink>(sink: &mut S) -> Result<S::Output, SortKey
 impl<'a> CollatorBorrowed<'a> {
     ghost use Rattle.icu_comparison.specs.Collators.{collation_borrowed};
 
-    /// Writes the sort key of a text by the collation to a sink, and ends it (UTS #10, "Form Sort Keys"; UTS #35 part 5,
-    /// "Setting Options"). The dictionary order of two texts' keys by the same collation is the order of the texts that
-    /// `compare` returns. Each text has a key, by each collation.
+    /// Writes the sort key of a text by the collation to a sink, and ends it (UTS #10, "Form Sort Keys"; UTS #35 part
+    /// 5, "Setting Options"). The dictionary order of two texts' keys by the same collation is the order of the texts
+    /// that `compare` returns. Each text has a key, by each collation.
     ///
     /// `Ok` means that the sink took the whole key, and is what its `finish` returned. After an error, discard what the
     /// sink holds.

@@ -4,5 +4,6 @@ use Rattle.icu_checks.specs.Checked.{checked_tables}
 use Rattle.icu_checks.specs.declared.checked.CheckedTables.{CheckedTables}
 use Rattle.icu_order.specs.Collations.{Collation}
 
+-- checked tables and merged settings, as one
 abbrev pub collation_of : CheckedTables → FlaggedSettings → Collation
 collation_of t s = record { tables = checked_tables t; settings = values_of s }

@@ -2,9 +2,9 @@
 #![tactic(auto)]
 
 ghost use Rattle.std.specs.Prelude.{◌≡◌, map, IfOk};
-ghost use Rattle.icu_comparison.specs.Collators.{settings_kept, tables_kept};
+ghost use Rattle.icu_comparison.specs.Collators.{collation_kept};
 ghost use Rattle.icu_index.specs.Listings.{listed, name_order};
-ghost use Rattle.icu_index.specs.NameIndexes.{index_settings, index_tables, listing};
+ghost use Rattle.icu_index.specs.NameIndexes.{index_collation, listing};
 
 use icu_collator::index::NameIndex;
 use icu_collator::options::{CollatorOptions, Strength};
@@ -70,7 +70,7 @@ fn index<'c>(
     names: &[&str],
 ) -> Result<NameIndex<'c>, AllocError>
     ensures { IfOk result (λ index. listing index
-        ≡ listed (name_order (tables_kept collator.now) (settings_kept collator.now)) (map (λ n. n.now) names.now)) }
+        ≡ listed (name_order (collation_kept collator.now)) (map (λ n. n.now) names.now)) }
 {
     let mut index = NameIndex::new(alloc, collator);
     for name in names {

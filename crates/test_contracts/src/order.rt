@@ -3,7 +3,7 @@
 ghost use Rattle.std.specs.Prelude.{◌≡◌, IfOk, OnOk, OnErr, Ok, chars};
 ghost use Rattle.icu_keys.specs.KeyWrites.{WritesKey};
 ghost use Rattle.icu_order.specs.TextOrder.{text_order, text_key};
-ghost use Rattle.icu_comparison.specs.Collators.{tables_kept, settings_kept};
+ghost use Rattle.icu_comparison.specs.Collators.{collation_kept};
 ghost use Rattle.icu_index.specs.Listings.{inserted};
 ghost use Rattle.icu_index.specs.NameIndexes.{index_order, listing};
 
@@ -15,8 +15,7 @@ use std::cmp::Ordering;
 
 /// As `compare`.
 pub fn order(collator: &Collator, left: &str, right: &str) -> Result<Ordering, AllocError>
-    ensures order { IfOk result (λ o. o ≡ text_order (tables_kept collator.now)
-        (settings_kept collator.now) (chars left.now) (chars right.now)) }
+    ensures order { IfOk result (λ o. o ≡ text_order (collation_kept collator.now) (chars left.now) (chars right.now)) }
     ensures same { left.now ≡ right.now → result ≡ Ok Ordering.Equal }
 {
     let order = collator.as_borrowed().compare(left, right)?;
@@ -30,7 +29,7 @@ pub fn key<S: CollationKeySink>(
     sink: &mut S,
 ) -> Result<S::Output, SortKeyError<S::Error>>
     ensures { WritesKey S.took S.refused S.finished S.State.is_default sink.old
-        (text_key (tables_kept collator.now) (settings_kept collator.now) (chars text.now)) result sink.new }
+        (text_key (collation_kept collator.now) (chars text.now)) result sink.new }
 {
     collator.as_borrowed().write_sort_key_to(text, sink)
 }

@@ -1,11 +1,11 @@
 //! Which tables a collator takes, and which levels its keys have by them.
 
 ghost use Rattle.std.specs.Prelude.{◌≡◌, IsOk, IfOk, IfErr};
-ghost use Rattle.icu_options.specs.FlaggedSettings.{values_of};
 ghost use Rattle.icu_provider.specs.TableSets.{tables_in};
 ghost use Rattle.icu_checks.specs.Checked.{checked_tables};
 ghost use Rattle.icu_checks.specs.GoodTables.{IsGoodTables, IsTrueRefusal};
 ghost use Rattle.icu_order.specs.Forms.{form_by};
+ghost use Rattle.icu_text_keys.specs.CheckedCollations.{collation_of};
 
 use icu_checks::CheckedTables;
 use icu_entries::{DataError, DataErrorKind};
@@ -30,7 +30,7 @@ pub fn checked(alloc: Global, tables: TableSet<'_>) -> Result<CheckedTables, Dat
 
 /// As `key_form`.
 pub fn form(tables: &CheckedTables, settings: CollatorOptionsBitField) -> KeyForm
-    ensures { result ≡ form_by (checked_tables tables.now) (values_of settings) }
+    ensures { result ≡ form_by (collation_of tables.now settings) }
 {
     key_form(tables, settings)
 }

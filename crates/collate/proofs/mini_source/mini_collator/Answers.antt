@@ -7,7 +7,7 @@ use Rattle.icu_checks.specs.GoodTables.{IsGoodTables}
 use Rattle.icu_provider.specs.LoadedTables.{loaded_tables}
 use Rattle.icu_mini.specs.Provider.{loads_of}
 use Rattle.icu_options.specs.declared.options.CollatorOptions.{CollatorOptions}
-use Rattle.icu_comparison.specs.Collators.{request_in}
+use Rattle.icu_comparison.specs.Collators.{collation_kept, request_in}
 use Rattle.collate.specs.Refusals.{IsForCause, mini_refuses}
 use Rattle.collate.proofs.MiniLemmas.{mini-loaded}
 use Rattle.collate.proofs.RefusalLemmas.{of_ok, refusal_says}
@@ -20,7 +20,7 @@ returns-in-Ok-clause-compares c =
     let mini = c.in_ok-mini.ensures in (
       m,
       mini,
-      mini-compares m c.args.strength _ _ _ c.default-2.result
+      mini-compares m c.args.strength (collation_kept c.in-Ok.collator) _ c.default-2.result
           (mini-loaded m c.provider.result (request_in c.default-2.result) _ mini c.provider.ensures c.in-Ok.ensures.keeps)
           (ap (λ (o : CollatorOptions). record o { strength = Some c.args.strength }) c.default.ensures) c.default-2.ensures c.in-Ok.ensures.settings,
     )

@@ -1,9 +1,7 @@
 -- The answer to the command is that to what its words name.
 use Rattle.std.proofs.Common.{◌++◌, ◌∷◌, [], chars, ap, ◌∙◌}
-use Rattle.icu_options.specs.Settings.{Settings}
-use Rattle.icu_provider.specs.CollatorTables.{CollatorTables}
+use Rattle.icu_order.specs.Collations.{Collation}
 use Rattle.icu_order.specs.TextOrder.{text_order}
-use Rattle.icu_comparison.specs.Collators.{settings_borrowed, tables_kept}
 use Rattle.collate_commands.specs.Answers.{sign_of}
 use Rattle.collate_commands.specs.KeyText.{key_text}
 use Rattle.collate_commands.proofs.WritingLemmas.{Keeps_same}
@@ -12,13 +10,9 @@ use Rattle.collate_commands.proofs.answer.answer.Goals as goal
 pub returns-in_ok-from_slice-in-Compare-clause-answer : goal.returns-in_ok-from_slice-in-Compare-clause-answer
 returns-in_ok-from_slice-in-Compare-clause-answer g c =
     let order = c.in_ok-order-in-Compare.ensures.order in
-    let collator = c.args.collator.now in
-    let loaded = c.as_borrowed.result in
     let left = chars c.in-Compare.texts.left.now in
     let right = chars c.in-Compare.texts.right.now in
-    let by_collator = order
-    ∙ ap (λ (t : CollatorTables). text_order t (settings_borrowed loaded) left right) c.as_borrowed.ensures.tables
-    ∙ ap (λ (s : Settings). text_order (tables_kept collator) s left right) c.as_borrowed.ensures.settings in
+    let by_collator = order ∙ ap (λ (k : Collation). text_order k left right) c.as_borrowed.ensures in
     rw c.in-Compare.is (
       [],
       Keeps_same (g.R.Read.remaining c.args.input.now),

@@ -1,6 +1,6 @@
 -- The lines that were cut are listed, and those that are listed are written.
 use Rattle.std.proofs.Common.{ap, ◌∙◌, subst, sym}
-use Rattle.icu_comparison.specs.Collators.{settings_kept, tables_kept}
+use Rattle.icu_comparison.specs.Collators.{collation_kept}
 use Rattle.icu_index.specs.Listings.{IsStablySorted, listed, name_order}
 use Rattle.icu_index.specs.NameIndexes.{listing}
 use Rattle.collate_commands.specs.InputLines.{lines_of}
@@ -9,15 +9,14 @@ use Rattle.collate_commands.proofs.answer.sorted_text.Goals as goal
 
 pub returns : goal.returns
 returns c =
-    let tables = tables_kept c.args.collator.now in
-    let settings = settings_kept c.args.collator.now in
-    let order = name_order tables settings in
+    let collation = collation_kept c.args.collator.now in
+    let order = name_order collation in
     let bytes = c.args.bytes.now in
     let cut = ap shown c.as_slice.ensures.value ∙ c.in_ok-lines.ensures in
     let names = listing c.in_ok-index.index in
     let listed_is = c.in_ok-index.ensures ∙ ap (λ ls. listed order ls) cut in
     record {
       lines = names;
-      sorted = subst (λ ls. IsStablySorted order (lines_of bytes) ls) (sym listed_is) (c.inserts_sort.ensures tables settings (lines_of bytes) c.requires);
+      sorted = subst (λ ls. IsStablySorted order (lines_of bytes) ls) (sym listed_is) (c.inserts_sort.ensures collation (lines_of bytes) c.requires);
       written = c.in_ok-text.ensures;
     }
