@@ -11,6 +11,7 @@ import os
 import sys
 
 import cldr_questions
+import many_names
 import row_questions
 from driver import Driver, DriverFault, text, written
 from row_faults import CARELESS, PLANTED, careless_missed, spoilt
@@ -38,7 +39,7 @@ FILES = {
     "matches.txt": (15, row_questions.elements),
     "taken.txt": (9, row_questions.taken),
     "sinks.txt": (14, row_questions.sinks),
-    "names.txt": (17, row_questions.names),
+    "names.txt": (22, row_questions.names),
     "requests.txt": (17, row_questions.requests),
     "resolved.txt": (5, row_questions.resolved),
     "kept.txt": (17, row_questions.kept),
@@ -134,9 +135,9 @@ def unwritten():
         "an empty file": Case([], [f"root {text('8', [])}"], ["collation table Diacritics: Element"]),
         "bytes that are no UTF-8": Case([], [f"root {text('8', list(DAMAGED))}"], ["line 2: expected UTF-8"]),
         "a file by its name": named_file(),
-        "10,000 names": many_names(),
         "bytes written one by one": Case([], lists, len(lists) * [written([row_questions.HELD, 0x61, 0x10, *40 * [5]])]),
         "questions that can't be read": Unread(UNREADABLE),
+        **many_names.cases(),
     }
 
 
@@ -162,15 +163,6 @@ class Unread(Case):
 def is_said_twice(found):
     half = len(found) // 2
     return found[0] == "ok" and found[:half] == found[half:]
-
-
-def many_names():
-    """An index of 10,000 names of two letters, nine different ones, of which 1,111 are `ab`."""
-    names = ["abc"[number % 3] + "abc"[number // 3 % 3] for number in range(10_000)]
-    texts = [text("8", it) for it in names]
-    listings = [row_questions.listing([it.encode() for it in some]) for some in (sorted(names), 1_111 * ["ab"])]
-    asked = [f"names {' , '.join(texts)}", f"equals {' , '.join([text('8', 'ab'), *texts])}"]
-    return Case(["base Mini", f"make 2 {row_questions.six(row_questions.UNNAMED[1:])}"], asked, listings)
 
 
 def unwritten_faults(driver):
@@ -278,6 +270,7 @@ def check_rows(report, programs):
         if recorded is None:
             recorded = found
             report.say("rows: planted faults are found", missed(recorded), len(PLANTED))
+            report.say("rows: faults with many names and long keys are found", many_names.missed(driver), len(many_names.PLANTED))
             report.say("rows: a driver that doesn't answer is found", careless_missed(path), len(CARELESS))
             rows = {name: rows for name, (rows, _) in found.items()}
             report.say("rows: the gate's questions are those of the rows", stale_files(rows), 2)
