@@ -11,25 +11,25 @@ refused, a program says so, or asks again and gives the right answer; anything e
 """
 import concurrent.futures
 import os
-import shlex
 import shutil
-import stat
 import subprocess
 import sys
 import tempfile
 
 from driver import DriverFault
 from hostile import check_hostile
+from long_sorts import check_long_sorts, ends_missed
+from reads import check_reads
 from refusals import check_refusals, driver_is_right
 from rows import check_rows
-from sweeps import TESTS, TOP, Run, faults_of, is_beginning, run, run_on_streams, sweep
+from sweeps import TESTS, TOP, Run, built, faults_of, is_beginning, run, run_on_streams, sweep, wrapped
 
 USAGE = b"usage: collate compare STRENGTH A B | collate key STRENGTH TEXT | collate sort STRENGTH\n"
 
 
 def collate_is_right(plain, refused, ran):
     """Whether `collate` did right: its answer as without a refusal where the request was made again, or the fault's line."""
-    if refused.how != "fail":
+    if not refused.is_error():
         return ran.came_to() == plain.came_to()
     if refused.request == "allocation":
         asked_again = not refused.also_after and ran.counts["allocation"] > plain.counts["allocation"]
@@ -295,8 +295,9 @@ def check_collate_cldr(report, room):
 
 # ---- that the checks can fail: programs with a fault, each of which must be found
 
-# How many runs a program comes to that makes one request of each kind: alone and with all after it, by a signal, by one byte.
-CARELESS_RUNS = 3 * 2 + 2 * 2 + 2
+# How many runs a program comes to that makes one request of each kind: alone and with all after it, by a signal, by one byte, and
+# by a stream that isn't ready.
+CARELESS_RUNS = 3 * 2 + 2 * 3 + 2
 # Shell scripts around the true program, and which of the runs above must find each.
 FAULTY = [
     ("status 0 whatever happens", '"$COLLATE" "$@"; exit 0', "words"),
@@ -309,15 +310,6 @@ FAULTY = [
     ("an output that is lost and not missed",
      'line=$("$COLLATE" "$@"); status=$?; [ -z "$line" ] || echo "$line" 2>/dev/null; exit $status', "streams"),
 ]
-
-
-def wrapped(room, name, program, text):
-    """A shell script around a program, which it knows as $COLLATE."""
-    path = os.path.join(room, name)
-    with open(path, "w", encoding="utf-8") as it:
-        it.write(f"#!/bin/sh\nCOLLATE={shlex.quote(program)}\n{text}\n")
-    os.chmod(path, stat.S_IRWXU)
-    return path
 
 
 def wrong_by_runs(program):
@@ -374,10 +366,6 @@ class Report:
         return 1 if self.failed else 0
 
 
-def built(name):
-    return os.path.join(TOP, "crates", name, "out", name)
-
-
 def compiled(room, name, *options):
     to = os.path.join(room, name)
     subprocess.run(["cc", "-O1", *options, "-o", to, os.path.join(TESTS, f"{name}.c")], check=True)
@@ -401,8 +389,12 @@ def check_collate(report, room, shim):
     ]:
         outcomes = sweep(shim, program, words, given, ["allocation", "read", "write"], collate_is_right)
         report.say(f"collate: each request refused, {what}", faults_of(outcomes), len(outcomes))
-    outcomes = sweep(shim, program, SORT, SORT_RUNS[-1][1], ["read", "write"], collate_is_right)
+    given = SORT_RUNS[-1][1]
+    outcomes = sweep(shim, program, SORT, given, ["read", "write"], collate_is_right)
     report.say("collate: each request refused, a sort of many lines", faults_of(outcomes), len(outcomes))
+    missed = ends_missed(outcomes, run(program, SORT, given, shim=shim), collate_is_right)
+    report.say("collate: a failed read taken for the end is found", missed, len(outcomes))
+    check_long_sorts(report, room, program)
 
 
 def missing_programs():
@@ -425,6 +417,7 @@ def check_all(report, room):
     report.also("rows", check_rows, drivers())
     report.also("hostile input", check_hostile, drivers()[0])
     report.also("refused memory", check_refusals, shim, drivers()[0])
+    report.also("a file of CLDR", check_reads, shim, drivers()[0])
 
 
 def main():

@@ -1,6 +1,8 @@
 """Runs of programs, each of whose requests of the system may be refused: by the library refuse.c, which is preloaded."""
 import concurrent.futures
 import os
+import shlex
+import stat
 import subprocess
 import tempfile
 
@@ -10,6 +12,19 @@ TESTS = os.path.join(TOP, "tests")
 SECONDS = 60
 ENVIRONMENT = {"PATH": "/usr/bin:/bin", "LANG": "C.UTF-8"}
 COUNTED = ("allocation", "read", "write", "refused")
+
+
+def built(name):
+    return os.path.join(TOP, "crates", name, "out", name)
+
+
+def wrapped(room, name, program, text):
+    """A shell script around a program, which it knows as $COLLATE."""
+    path = os.path.join(room, name)
+    with open(path, "w", encoding="utf-8") as it:
+        it.write(f"#!/bin/sh\nCOLLATE={shlex.quote(program)}\n{text}\n")
+    os.chmod(path, stat.S_IRWXU)
+    return path
 
 
 class Run:
@@ -32,6 +47,10 @@ class Refused:
     def __init__(self, request, at, how="fail", also_after=False):
         self.request, self.at, self.how, self.also_after = request, at, how, also_after
 
+    def is_error(self):
+        """Whether the request returns an error which no program that asks once more may pass over."""
+        return self.how in ("fail", "again")
+
     def settings(self):
         return {
             "REFUSE": self.request,
@@ -41,7 +60,8 @@ class Refused:
         }
 
     def __str__(self):
-        how = {"fail": "refused", "signal": "interrupted by a signal", "short": "of one byte"}[self.how]
+        how = {"fail": "refused", "signal": "interrupted by a signal", "short": "of one byte",
+               "again": "to be made again"}[self.how]
         return f"{self.request} {self.at}{' and each after it' if self.also_after else ''} {how}"
 
 
@@ -111,13 +131,13 @@ def tried(shim, program, words, given, plain, refused, is_right):
 
 
 def sweep(shim, program, words, given, requests, is_right):
-    """Refuses each of these requests of a run in turn: alone, with all after it, and where it is no allocation by a signal
-    and by a single byte as well."""
+    """Refuses each of these requests of a run in turn: alone, with all after it, and where it is no allocation by a signal,
+    by a single byte and by the error of a stream that isn't ready as well."""
     plain = run(program, words, given, shim=shim)
     if not plain.counts or not plain.counts[requests[0]]:
         return [Outcome(None, plain, f"no {requests[0]} was counted: {plain}")]
     kinds = [(request, "fail", after) for request in requests for after in (False, True)]
-    kinds += [(request, how, False) for request in requests if request != "allocation" for how in ("signal", "short")]
+    kinds += [(request, how, False) for request in requests if request != "allocation" for how in ("signal", "short", "again")]
     all_refused = [Refused(it, at, how, after) for it, how, after in kinds for at in range(1, plain.counts[it] + 1)]
     with concurrent.futures.ThreadPoolExecutor(os.cpu_count() or 1) as pool:
         return [*pool.map(lambda it: tried(shim, program, words, given, plain, it, is_right), all_refused)]
