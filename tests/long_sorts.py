@@ -1,4 +1,4 @@
-"""Sorts by `collate` of long lines, of many unlike ones and of much input, and reads that fail amid it.
+"""Sorts by `collate` of long lines, of many unlike ones and of much input.
 
 Lines are of lower-case letters, which Mini orders as their code points are, so Python's own sort says what is wanted.
 """
@@ -54,11 +54,3 @@ def check_long_sorts(report, room, program):
         if not wrong_sort(wrapped(room, f"sort{number}", program, fault), lines):
             faults.append(f"not found: {fault}")
         report.say(f"collate: a sort of {what}, and of a program with a fault", faults, 2)
-
-
-def ends_missed(outcomes, plain, is_right):
-    """The failed reads after which a sort is let through of the lines that came before, as if the input had ended there."""
-    ended = Run(0, plain.output[: len(plain.output) // 2], b"", plain.counts)
-    failed = [it for it in outcomes if it.refused and it.refused.request == "read" and it.refused.is_error()]
-    found = [f"not found: {it.refused}, taken for the end" for it in failed if is_right(plain, it.refused, ended)]
-    return found + ["too few"] * (sum(it.refused.how == "again" for it in failed) < 3)
