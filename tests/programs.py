@@ -15,9 +15,10 @@ import subprocess
 import sys
 import tempfile
 
-from driver import DriverFault
 from cldr_program import check_collate_cldr
+from driver import DriverFault
 from hostile import check_hostile
+from long_orders import check_long_orders
 from long_sorts import check_long_sorts
 from names_program import check_sort_names
 from reads import check_reads
@@ -26,8 +27,6 @@ from rows import check_rows
 from sweeps import REQUESTS, TESTS, Run, built, faults_of, losses_missed, run, run_on_streams, says_refusals, sweep, wrapped
 
 USAGE = b"usage: collate compare STRENGTH A B | collate key STRENGTH TEXT | collate sort STRENGTH\n"
-
-
 collate_is_right = says_refusals("collate", b"collate: read failed\n")
 
 
@@ -291,6 +290,7 @@ def check_all(report, room):
     report.also("collate-cldr", check_collate_cldr, room, shim)
     report.also("sort_names", check_sort_names, shim)
     report.also("rows", check_rows, drivers())
+    report.also("long texts", check_long_orders, drivers()[0])
     report.also("hostile input", check_hostile, drivers()[0])
     report.also("refused memory", check_refusals, shim, drivers()[0])
     report.also("a file of CLDR", check_reads, shim, drivers()[0])
