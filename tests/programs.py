@@ -24,6 +24,7 @@ from names_program import check_sort_names
 from reads import check_reads
 from refusals import check_refusals, driver_is_right
 from rows import check_rows
+from settings_pairs import check_settings
 from sweeps import REQUESTS, TESTS, Run, built, faults_of, losses_missed, run, run_on_streams, says_refusals, sweep, wrapped
 
 USAGE = b"usage: collate compare STRENGTH A B | collate key STRENGTH TEXT | collate sort STRENGTH\n"
@@ -291,6 +292,7 @@ def check_all(report, room):
     report.also("sort_names", check_sort_names, shim)
     report.also("rows", check_rows, drivers())
     report.also("long texts", check_long_orders, drivers()[0])
+    report.also("settings", check_settings, drivers()[0])
     report.also("hostile input", check_hostile, drivers()[0])
     report.also("refused memory", check_refusals, shim, drivers()[0])
     report.also("a file of CLDR", check_reads, shim, drivers()[0])
