@@ -32,11 +32,13 @@ def ways(encoding, units):
 
 def readings(rows):
     """The tables of rows, by what makes them, and the questions that read their texts in all ways."""
-    found = {}
+    found, made = {}, {}
     for name, every, lines in rows:
         for line in lines:
             parts = [it.strip() for it in line.split("|")]
-            asked = found.setdefault(tuple(tables_of(every, parts[0]).questions()), {})
+            if parts[0] not in made:
+                made[parts[0]] = tuple(tables_of(every, parts[0]).questions())
+            asked = found.setdefault(made[parts[0]], {})
             for it in parts[TEXTS[name]]:
                 written = ways(*encoded(it))
                 asked.update({f"readings {numeric} {written}": it for numeric in (0, 1)})
@@ -56,21 +58,19 @@ def wrong_readings(driver, found):
     return faults, count
 
 
-def wrong_orders(driver, every, lines):
-    """The rows of two texts whose keys are in another order than the row says."""
+def keys_of(driver, every, lines):
+    """The rows of two texts, each with the keys of both."""
     rows, asked = [bars(it, 5) for it in lines], []
     for tables, named, left, right, _ in rows:
         asked += [*made_by(every, tables, named), *(f"key {text(*encoded(it))}" for it in (as_keyed(left), as_keyed(right)))]
-    answers = iter(zip(asked, driver.ask(asked)))
-    found = []
-    for row in rows:
-        keys = []
-        while len(keys) < 2:
-            question, answer = next(answers)
-            if question.startswith("key "):
-                keys.append(numbers(answer))
-        found += [f"{' | '.join(row)}, but {order_of(*keys)} by keys"] * (order_of(*keys) != row[-1])
-    return found
+    keys = iter(numbers(answer) for question, answer in zip(asked, driver.ask(asked)) if question.startswith("key "))
+    return [(row, next(keys), next(keys)) for row in rows]
+
+
+def wrong_orders(keyed):
+    """The rows of two texts whose keys are in another order than the row says."""
+    found = [(row, order_of(left, right)) for row, left, right in keyed]
+    return [f"{' | '.join(row)}, but {order} by keys" for row, order in found if order != row[-1]]
 
 
 def as_keyed(notation):
@@ -94,10 +94,11 @@ def check_row_readings(report, driver, every, lines_of):
     found = readings(rows)
     faults, count = wrong_readings(driver, found)
     report.say("rows: each text is read alike in all ways", faults, count)
-    faults, count = wrong_readings(OtherText(driver), found)
+    faults, count = wrong_readings(OtherText(driver), readings(rows[-1:]))
     report.say("rows: a text that is read as another is found", ["too few"] * (len(faults) < count // 2), count)
-    orders = rows[0][2]
-    report.say("rows: each order is that of the keys", wrong_orders(driver, every, orders), len(orders))
-    turned = [it.replace("Less", "Greater") for it in orders if it.endswith("Less")]
-    missed = ["too few"] * (len(wrong_orders(driver, every, turned)) != len(turned))
-    report.say("rows: an order that isn't that of the keys is found", missed, len(turned))
+    keyed = keys_of(driver, every, rows[0][2])
+    report.say("rows: each order is that of the keys", wrong_orders(keyed), len(keyed))
+    turned = [(row, right, left) for row, left, right in keyed]
+    wanted = sum(row[-1] != "Equal" for row, _, _ in keyed)
+    missed = ["too few"] * (len(wrong_orders(turned)) != wanted)
+    report.say("rows: an order that isn't that of the keys is found", missed, wanted)
