@@ -124,8 +124,8 @@ def try_edits(steps, listed, names, unproved):
 
 
 def run_programs(steps, affected, unproved):
-    """Runs the rows and refused memory by the driver, where it stands on one of the crates, and what is looked at of `collate`
-    and `collate-cldr`, where they do. Hostile input is left to the gate, which takes minutes for it."""
+    """Runs the rows and refused memory by the driver, where it stands on one of the crates, and what is looked at of `collate`,
+    `collate-cldr` and `sort_names`, where they do. Hostile input is left to the gate, which takes minutes for it."""
     built = [it for it in affected if it not in unproved]
     with tempfile.TemporaryDirectory(prefix="collate-tests-") as room:
         shim = programs.compiled(room, "refuse", "-shared", "-fPIC")
@@ -135,7 +135,9 @@ def run_programs(steps, affected, unproved):
         if "collate" in built:
             steps.also("collate", programs.check_collate, room, shim)
         if "collate_cldr" in built:
-            steps.also("collate-cldr", programs.check_collate_cldr, room)
+            steps.also("collate-cldr", programs.check_collate_cldr, room, shim)
+        if "sort_names" in built:
+            steps.also("sort_names", programs.check_sort_names, shim)
 
 
 def main(names):

@@ -9,38 +9,26 @@ Each memory request, read and write of a run is refused in turn, by the library 
 refused, a program says so, or asks again and gives the right answer; anything else is a fault. The last line is
 `N passed, M failed`. It needs `cc`, a C compiler.
 """
-import concurrent.futures
 import os
-import shlex
 import shutil
-import stat
 import subprocess
 import sys
 import tempfile
 
+from cldr_program import check_collate_cldr
 from driver import DriverFault
 from hostile import check_hostile
+from long_orders import check_long_orders
+from long_sorts import check_long_sorts
+from names_program import check_sort_names
 from reads import check_reads
 from refusals import check_refusals, driver_is_right
 from rows import check_rows
-from sweeps import TESTS, TOP, Run, faults_of, is_beginning, run, run_on_streams, sweep
+from settings_pairs import check_settings
+from sweeps import REQUESTS, TESTS, Run, built, faults_of, losses_missed, run, run_on_streams, says_refusals, sweep, wrapped
 
 USAGE = b"usage: collate compare STRENGTH A B | collate key STRENGTH TEXT | collate sort STRENGTH\n"
-
-
-def collate_is_right(plain, refused, ran):
-    """Whether `collate` did right: its answer as without a refusal where the request was made again, or the fault's line."""
-    if refused.how != "fail":
-        return ran.came_to() == plain.came_to()
-    if refused.request == "allocation":
-        asked_again = not refused.also_after and ran.counts["allocation"] > plain.counts["allocation"]
-        return ran.came_to() == (1, b"", b"collate: no memory\n") or asked_again and ran.came_to() == plain.came_to()
-    if refused.request == "read":
-        return ran.came_to() == (1, b"", b"collate: read failed\n")
-    if plain.status:
-        return ran.status == plain.status and not ran.output and is_beginning(ran.faults, plain.faults)
-    said = b"" if refused.also_after else b"collate: write failed\n"
-    return ran.status == 1 and ran.output != plain.output and is_beginning(ran.output, plain.output) and ran.faults == said
+collate_is_right = says_refusals("collate", b"collate: read failed\n")
 
 
 # ---- what the program `collate` does
@@ -183,121 +171,11 @@ def wrong_streams(program, runs):
     return found
 
 
-# ---- what the program `collate-cldr` does, over a small file with Mini's letters
-
-CLDR_USAGE = b"usage: collate-cldr [OPTION ..] FILE compare STRENGTH A B | key STRENGTH TEXT | sort STRENGTH | neighbours STRENGTH\n"
-LETTERS = os.path.join(TOP, "crates", "collate_cldr", "data", "letters.txt")
-NAMES = "b\ná\nA\na\nb\n10\n9\n".encode()
-# The words of a run, its input, and the status, output and faults that are wanted. Where words are wrong, the faults begin
-# with a line of their own.
-CLDR_RUNS = [
-    ([LETTERS, "compare", "3", "ab", "aB"], b"", 0, b"<\n", b""),
-    ([LETTERS, "compare", "1", "as", "às"], b"", 0, b"=\n", b""),
-    ([LETTERS, "key", "3", "ab"], b"", 0, b"61 10 14 01 06 01 01 06 01\n", b""),
-    ([LETTERS, "key", "i", "a"], b"", 0, b"61 10 01 05 01 01 05 01 01 01 01 92\n", b""),
-    ([LETTERS, "sort", "3"], NAMES, 0, "10\n9\na\nA\ná\nb\nb\n".encode(), b""),
-    (["--numeric", LETTERS, "sort", "3"], NAMES, 0, "9\n10\na\nA\ná\nb\nb\n".encode(), b""),
-    (["--case-first=upper", LETTERS, "sort", "3"], NAMES, 0, "10\n9\nA\na\ná\nb\nb\n".encode(), b""),
-    ([LETTERS, "sort", "1"], b"A\n\xc3\xa1\na", 0, b"A\n\xc3\xa1\na\n", b""),
-    ([LETTERS, "sort", "3"], b"", 0, b"", b""),
-    (["--shifted", LETTERS, "compare", "3", "a-b", "ab"], b"", 0, b"=\n", b""),
-    (["--blanked", LETTERS, "compare", "4", "a-b", "ab"], b"", 0, b"=\n", b""),
-    (["--shifted", "--max-variable=space", LETTERS, "compare", "3", "a-b", "ab"], b"", 0, b"<\n", b""),
-    (["--case-level", LETTERS, "compare", "1", "a", "A"], b"", 0, b"<\n", b""),
-    ([LETTERS, "neighbours", "3"], b"0061\n0041\n0062\n", 0, b"2 pairs, out of order by compare 0, by keys 0; 0 lines passed over\n", b""),
-    (["none", "sort", "3"], NAMES, 1, b"", b"none: not opened\n"),
-    ([], b"", 2, b"", None),
-    ([LETTERS], b"", 2, b"", None),
-    ([LETTERS, "sort"], NAMES, 2, b"", None),
-    ([LETTERS, "sort", "5"], NAMES, 2, b"", None),
-    ([LETTERS, "key", "3"], b"", 2, b"", None),
-    ([LETTERS, "order", "3", "a", "b"], b"", 2, b"", None),
-    (["none", "order", "3", "a", "b"], b"", 2, b"", None),
-    (["--other", LETTERS, "sort", "3"], b"", 2, b"", None),
-]
-
-
-def wrong_cldr_runs(program):
-    found = []
-    for words, given, status, output, faults in CLDR_RUNS:
-        ran = run(program, words, given)
-        is_said = ran.faults.startswith(CLDR_USAGE) if faults is None else ran.faults == faults
-        if (ran.status, ran.output) != (status, output) or not is_said:
-            found.append(f"{words}: {ran}; wanted: {Run(status, output, faults or CLDR_USAGE, None)}")
-    return found
-
-
-def letter_lines():
-    with open(LETTERS, encoding="utf-8") as it:
-        return it.read().splitlines()
-
-
-def probe_of(lines):
-    """A text with each character that lines map by itself."""
-    first = [line.partition(";")[0].split() for line in lines if ";" in line and not line.startswith("#")]
-    codes = [int(it[0], 16) for it in first if len(it) == 1]
-    return "".join(chr(it) for it in codes if it)
-
-
-def key_over(program, room, name, lines, probe):
-    """The run that shows the key of a text by the tables of these lines."""
-    path = os.path.join(room, name)
-    with open(path, "w", encoding="utf-8") as it:
-        it.write("\n".join(lines) + "\n")
-    ran = run(program, [path, "key", "i", probe])
-    os.remove(path)
-    return ran
-
-
-def cut_lines(lines):
-    """Each place at which a line may be cut: its index, and the place. Of lines that are alike, the combining marks', the
-    first and the last two are taken."""
-    marks = [at for at, line in enumerate(lines) if line.startswith("03")]
-    left_out = set(marks[1:-2])
-    return [(at, end) for at, line in enumerate(lines) if at not in left_out for end in range(1, len(line))]
-
-
-def wrong_cuts(program, room, cuts):
-    """Of these cuts of a line of the small file, those that are neither refused, at that line, at the end of the file or by a
-    condition on tables, nor give all characters the key that the whole file gives them."""
-    lines = letter_lines()
-    probe = probe_of(lines)
-    whole = key_over(program, room, "whole", lines, probe)
-    if whole.status:
-        return [f"the whole file: {whole}"]
-
-    def wrong(at, end):
-        cut = lines[at][:end]
-        name = f"cut-{at}-{end}"
-        ran = key_over(program, room, name, [*lines[:at], cut, *lines[at + 1 :]], probe)
-        path = os.path.join(room, name)
-        if ran.status == 1 and not ran.output:
-            places = [f"{path}: line {at + 1}: ", f"{path}: at the end: ", f"{path}: collation table "]
-            return None if any(ran.faults.startswith(it.encode()) for it in places) else f"{cut!r}: {ran}"
-        if ran.came_to() == whole.came_to():
-            return None
-        return f"{cut!r}, of line {at + 1}, was read as something else: {ran}"
-
-    with concurrent.futures.ThreadPoolExecutor(os.cpu_count() or 1) as pool:
-        found = [*pool.map(lambda it: wrong(*it), cuts)]
-    return [it for it in found if it]
-
-
-def check_collate_cldr(report, room):
-    program = built("collate_cldr")
-    report.say("collate-cldr: words", wrong_cldr_runs(program), len(CLDR_RUNS))
-    cuts = cut_lines(letter_lines())
-    report.say("collate-cldr: each line of a file cut at each place", wrong_cuts(program, room, cuts), len(cuts))
-    some = cuts[len(cuts) // 2 :: 100]
-    careless = wrapped(room, "careless_reader", program, '"$COLLATE" "$@" 2>/dev/null || echo')
-    missed = [] if wrong_cuts(careless, room, some) else ["not found: a file that isn't read taken for an empty one"]
-    report.say("collate-cldr: a program with a fault is found", missed, len(some))
-
-
 # ---- that the checks can fail: programs with a fault, each of which must be found
 
-# How many runs a program comes to that makes one request of each kind: alone and with all after it, by a signal, by one byte.
-CARELESS_RUNS = 3 * 2 + 2 * 2 + 2
+# How many runs a program comes to that makes one request of each kind: alone and with all after it, by a signal, by one byte, and
+# by a stream that isn't ready.
+CARELESS_RUNS = 3 * 2 + 2 * 3 + 2
 # Shell scripts around the true program, and which of the runs above must find each.
 FAULTY = [
     ("status 0 whatever happens", '"$COLLATE" "$@"; exit 0', "words"),
@@ -310,15 +188,6 @@ FAULTY = [
     ("an output that is lost and not missed",
      'line=$("$COLLATE" "$@"); status=$?; [ -z "$line" ] || echo "$line" 2>/dev/null; exit $status', "streams"),
 ]
-
-
-def wrapped(room, name, program, text):
-    """A shell script around a program, which it knows as $COLLATE."""
-    path = os.path.join(room, name)
-    with open(path, "w", encoding="utf-8") as it:
-        it.write(f"#!/bin/sh\nCOLLATE={shlex.quote(program)}\n{text}\n")
-    os.chmod(path, stat.S_IRWXU)
-    return path
 
 
 def wrong_by_runs(program):
@@ -340,8 +209,7 @@ def faults_missed(room, program):
 
 def refusals_missed(shim, careless):
     """The kinds of refusal of which a program that looks at none is not found."""
-    requests = ["allocation", "read", "write"]
-    outcomes = sweep(shim, careless, [], b"b\na\n", requests, collate_is_right)
+    outcomes = sweep(shim, careless, [], b"b\na\n", REQUESTS, collate_is_right)
     outcomes += sweep(shim, careless, [], b"b\na\n", ["allocation"], driver_is_right)
     return [f"not found: {it.refused}" for it in outcomes if not it.fault] + ["too few"] * (len(outcomes) < CARELESS_RUNS)
 
@@ -375,10 +243,6 @@ class Report:
         return 1 if self.failed else 0
 
 
-def built(name):
-    return os.path.join(TOP, "crates", name, "out", name)
-
-
 def compiled(room, name, *options):
     to = os.path.join(room, name)
     subprocess.run(["cc", "-O1", *options, "-o", to, os.path.join(TESTS, f"{name}.c")], check=True)
@@ -392,23 +256,25 @@ def check_collate(report, room, shim):
     report.say("collate: sorts", wrong_sorts(program, SORT_RUNS), len(SORT_RUNS))
     report.say("collate: closed and full streams", wrong_streams(program, STREAM_RUNS), len(STREAM_RUNS))
     report.say("collate: programs with a fault are found", faults_missed(room, program), len(FAULTY))
-    for what, words, given in [
-        ("an answer", RIGHT, b""),
-        ("a key", KEY, b""),
-        ("wrong words", WRONG, b""),
-        ("long texts", LONG_RUNS[0][0], b""),
-        ("the key of a long text", LONG_RUNS[-1][0], b""),
-        ("a sort", SORT, LINES),
+    for what, words, given, requests in [
+        ("an answer", RIGHT, b"", REQUESTS),
+        ("a key", KEY, b"", REQUESTS),
+        ("wrong words", WRONG, b"", REQUESTS),
+        ("long texts", LONG_RUNS[0][0], b"", REQUESTS),
+        ("the key of a long text", LONG_RUNS[-1][0], b"", REQUESTS),
+        ("a sort", SORT, LINES, REQUESTS),
+        ("a sort of many lines", SORT, SORT_RUNS[-1][1], ["read", "write"]),
     ]:
-        outcomes = sweep(shim, program, words, given, ["allocation", "read", "write"], collate_is_right)
+        outcomes = sweep(shim, program, words, given, requests, collate_is_right)
         report.say(f"collate: each request refused, {what}", faults_of(outcomes), len(outcomes))
-    outcomes = sweep(shim, program, SORT, SORT_RUNS[-1][1], ["read", "write"], collate_is_right)
-    report.say("collate: each request refused, a sort of many lines", faults_of(outcomes), len(outcomes))
+    missed = losses_missed(outcomes, run(program, words, given, shim=shim), collate_is_right)
+    report.say("collate: a sort that ends where a request is refused is found", missed, len(outcomes))
+    check_long_sorts(report, room, program)
 
 
 def missing_programs():
     """The programs that the checks run and that aren't there. The driver is built by both compilers."""
-    paths = [built(it) for it in ("collate", "collate_cldr")] + drivers()
+    paths = [built(it) for it in ("collate", "collate_cldr", "sort_names")] + drivers()
     return [os.path.basename(it) for it in paths if not os.access(it, os.X_OK)]
 
 
@@ -422,8 +288,11 @@ def check_all(report, room):
     missed = refusals_missed(shim, careless)
     report.say("a program that looks at no refusal is found", missed, CARELESS_RUNS)
     report.also("collate", check_collate, room, shim)
-    report.also("collate-cldr", check_collate_cldr, room)
+    report.also("collate-cldr", check_collate_cldr, room, shim)
+    report.also("sort_names", check_sort_names, shim)
     report.also("rows", check_rows, drivers())
+    report.also("long texts", check_long_orders, drivers()[0])
+    report.also("settings", check_settings, drivers()[0])
     report.also("hostile input", check_hostile, drivers()[0])
     report.also("refused memory", check_refusals, shim, drivers()[0])
     report.also("a file of CLDR", check_reads, shim, drivers()[0])

@@ -31,7 +31,7 @@ def is_said(plain):
 
 def driver_is_right(plain, refused, ran):
     """Whether the driver did right: it says that a read of the file failed, once for each that did."""
-    if refused.how != "fail":
+    if not refused.is_error():
         return ran.came_to() == plain.came_to()
     said = [plain.output, *is_said(plain)]
     if refused.also_after:

@@ -105,9 +105,35 @@ NOTHING_FOR = [
     ("the same behind a common beginning of digits", NUMERIC, by_five_calls(f"{DIGITS} 62", f"{DIGITS} 63", "Less")),
     ("names", TERTIARY, [(f"compare c {left} , c {right}", order) for left, right, order in NAMES]),
     ("keys of names", TERTIARY, [(f"slice 64 c {name}", f"ok {length:X} : ") for name, length in NAME_KEYS]),
+    ("syllables", TERTIARY, [
+        ("compare c 61 AC01 61 , c 41 1100 1161 11A8 61", "Less"),
+        ("compare c 61 AC01*3E8 61 , c 41 AC01*3E8 61", "Less"),
+        ("compare 16 AC01*3E8 61 , 16 AC01*3E8 62", "Less"),
+        ("compare 8 EA B0 81 61 , 8 EA B0 82 61", "Less"),
+        ("slice 2000 c AC01*3E8", "ok "),
+    ]),
 ]
 # A text that is read with what follows it: to hold that, something is allocated.
 PIECES = ("pieces", TERTIARY, [("compare c 62 E1 323 , c 62 1EA1", "Greater")])
+# How many letters stand in two texts behind what is read together, by which the allocations must not grow.
+FEW, MANY = 10, 1_000
+
+
+def behind_a_piece(count):
+    """Calls on texts with pieces that are read together and end before so many letters."""
+    letters = f"61*{count:X}"
+    return [
+        (f"compare c 62 E1 323 {letters} , c 62 1EA1 {letters} 62", "Less"),
+        (f"compare 16 62 E1 323 {letters} 62 , 16 62 1EA1 {letters} 63", "Less"),
+        (f"compare 8 62 C3 A1 CC A3 {letters} 62 , 8 62 E1 BA A1 {letters} 63", "Less"),
+        (f"compare c E1 323 {letters} E1 323 , c 1EA1 {letters} 1EA1", "Greater"),
+        (f"slice 2000 c E1 323 {letters}", "ok "),
+    ]
+
+
+def one_piece(count):
+    """A call on texts that are one piece, of a letter and so many marks: what is allocated for it grows."""
+    return [(f"compare c 61 301*{count:X} 323 62 , c 61 323 301*{count:X} 63", "Less")]
 
 
 def allocated(shim, program, made, calls):
@@ -130,7 +156,16 @@ def faults_of_allocations(shim, program):
         more, faults = allocated(shim, program, made, calls)
         found += faults + [f"{what}: {more} allocations in {MORE - ONCE} rounds of calls"] * (more != 0)
     more, faults = allocated(shim, program, *PIECES[1:])
-    return found + faults + ["no allocation is seen for pieces"] * (more <= 0)
+    found += faults + ["no allocation is seen for pieces"] * (more <= 0)
+    return found + faults_of_growth(shim, program)
+
+
+def faults_of_growth(shim, program):
+    """What is wrong with how much more is allocated for a longer text: nothing more where its pieces are bounded."""
+    (few, faults), (many, others) = (allocated(shim, program, TERTIARY, behind_a_piece(it)) for it in (FEW, MANY))
+    found = faults + others + [f"pieces: {few} allocations with {FEW} letters, {many} with {MANY}"] * (few != many or few <= 0)
+    (few, faults), (many, others) = (allocated(shim, program, TERTIARY, one_piece(it)) for it in (FEW, MANY))
+    return found + faults + others + ["no growth is seen for a piece that grows"] * (many <= few)
 
 
 # ---- the checks, and a fault that is planted
@@ -158,7 +193,7 @@ def check_refusals(report, shim, program):
             named = named_tables(outcomes)
             faults = [] if named == NAMED_TABLES else [f"{named}; wanted: {NAMED_TABLES}"]
             report.say("refused memory: the tables that refusals name", faults, len(outcomes))
-    runs = 2 * len([*NOTHING_FOR, PIECES])
-    report.say("refused memory: nothing is allocated for texts that are the same, beginnings, ends and names",
+    runs = 2 * len([*NOTHING_FOR, PIECES]) + 8
+    report.say("refused memory: nothing is allocated for texts that are the same, beginnings, ends, names and syllables",
                faults_of_allocations(shim, program), runs)
     report.say("refused memory: another answer after a refusal is found", other_answers_missed(shim, program), 1)

@@ -4,7 +4,8 @@
 //   REFUSE=allocation, read or write    which requests are refused; without it none is
 //   REFUSE_AT=N                         the Nth of them, from 1
 //   REFUSE_ALSO_AFTER=1                 and each one after it
-//   REFUSE_HOW=fail, signal or short    it fails; it is interrupted by a signal; it moves one byte alone
+//   REFUSE_HOW=fail, signal, short or again   it fails; it is interrupted by a signal; it moves one byte alone; it fails as
+//                                       where nothing can be moved now
 //   REFUSE_COUNTS=FD                    at exit four numbers go to this file descriptor: how many allocations, reads and
 //                                       writes there were, and how many requests were refused
 //
@@ -24,10 +25,10 @@ extern void *__libc_calloc(size_t, size_t);
 extern void *__libc_memalign(size_t, size_t);
 
 enum request { ALLOCATION, READ, WRITE, REQUESTS };
-enum outcome { FAIL, SIGNAL, SHORT };
+enum outcome { FAIL, SIGNAL, SHORT, AGAIN, OUTCOMES };
 
 static const char *const request_names[] = {"allocation", "read", "write"};
-static const char *const outcome_names[] = {"fail", "signal", "short"};
+static const char *const outcome_names[] = {"fail", "signal", "short", "again"};
 
 static long made[REQUESTS];
 static long refused;
@@ -53,7 +54,7 @@ static int named(const char *name, const char *const *names, int count, int othe
 __attribute__((constructor)) static void begin(void) {
   at = number("REFUSE_AT", 0);
   also_after = number("REFUSE_ALSO_AFTER", 0) != 0;
-  outcome = named("REFUSE_HOW", outcome_names, 3, FAIL);
+  outcome = named("REFUSE_HOW", outcome_names, OUTCOMES, FAIL);
   counts = number("REFUSE_COUNTS", -1);
   memset(made, 0, sizeof made);
   wanted = named("REFUSE", request_names, REQUESTS, -1);
@@ -98,7 +99,7 @@ int posix_memalign(void **to, size_t align, size_t size) {
 // What a refused read or write returns; `call` moves bytes in its place where one byte alone is to be moved.
 static ssize_t moved(long call, int fd, void *bytes, size_t size) {
   if (outcome == SHORT && size) return syscall(call, fd, bytes, (size_t)1);
-  errno = outcome == SIGNAL ? EINTR : EIO;
+  errno = outcome == SIGNAL ? EINTR : outcome == AGAIN ? EAGAIN : EIO;
   return -1;
 }
 

@@ -56,6 +56,8 @@ PLANTED = [
     ("a sink of one byte that is said to take all", "sinks.txt", "limited .* 1 1 ", lambda it: it.replace("Full", "ok")),
     ("a name that is listed twice", "names.txt", "names", listed_twice),
     ("a request that isn't made", "requests.txt", "request", lambda it: it.replace("Metadata+type Metadata", "Metadata+type")),
+    ("a request that is made twice", "requests.txt", "request - -", lambda it: it.replace("Jamo", "Jamo Jamo")),
+    ("diacritics without their type", "requests.txt", "request", lambda it: it.replace("Diacritics+type", "Diacritics")),
     ("a cut line that says more", "cldr/lines.txt", "line", says_more),
     ("a context that loses a row", "cldr/entries.txt", "show rows", lambda it: " ".join(it.split()[3:])),
     ("a lead byte that compresses", "cldr/tables.txt", "compressible", lambda it: "true"),

@@ -11,10 +11,12 @@ import os
 import sys
 
 import cldr_questions
+import many_names
 import row_questions
 from driver import Driver, DriverFault, text, written
 from row_faults import CARELESS, PLANTED, careless_missed, spoilt
 from row_questions import Case
+from row_readings import check_row_readings
 from tables import FIELDS, bases
 
 TOP = os.path.dirname(os.path.dirname(os.path.realpath(__file__)))
@@ -24,8 +26,8 @@ PROGRAMS = [os.path.join(FOLDER, "out", it) for it in ("test_driver", "test_driv
 # Each file of rows: how many it has, so that none is lost, and what makes a case of a row.
 FILES = {
     "refusals.txt": (310, row_questions.refusals),
-    "order.txt": (232, row_questions.order),
-    "keys.txt": (118, row_questions.keys),
+    "order.txt": (246, row_questions.order),
+    "keys.txt": (125, row_questions.keys),
     "elements.txt": (69, row_questions.elements),
     "values.txt": (166, row_questions.values),
     "settings.txt": (37, row_questions.settings),
@@ -38,8 +40,8 @@ FILES = {
     "matches.txt": (15, row_questions.elements),
     "taken.txt": (9, row_questions.taken),
     "sinks.txt": (14, row_questions.sinks),
-    "names.txt": (17, row_questions.names),
-    "requests.txt": (17, row_questions.requests),
+    "names.txt": (22, row_questions.names),
+    "requests.txt": (49, row_questions.requests),
     "resolved.txt": (5, row_questions.resolved),
     "kept.txt": (17, row_questions.kept),
 }
@@ -134,9 +136,10 @@ def unwritten():
         "an empty file": Case([], [f"root {text('8', [])}"], ["collation table Diacritics: Element"]),
         "bytes that are no UTF-8": Case([], [f"root {text('8', list(DAMAGED))}"], ["line 2: expected UTF-8"]),
         "a file by its name": named_file(),
-        "10,000 names": many_names(),
         "bytes written one by one": Case([], lists, len(lists) * [written([row_questions.HELD, 0x61, 0x10, *40 * [5]])]),
+        "a collator after refusals": after_refusals(),
         "questions that can't be read": Unread(UNREADABLE),
+        **many_names.cases(),
     }
 
 
@@ -147,6 +150,17 @@ def named_file():
         content = list(it.read())
     shown = [f"show {it}" for it in FIELDS if "." not in it]
     return Case([], [f"file {letters}", *shown, f"root {text('8', content)}", *shown], is_said_twice)
+
+
+def after_refusals():
+    """A collator after refused tables, a refused request and a file that isn't read: it is the same, and gives the same answers."""
+    made = f"make 4 {row_questions.six(row_questions.UNNAMED[1:])}"
+    refused = [("set jamo 0", "ok"), (made, "Jamo Length"), ("refuse empty Root Absent", "ok"),
+               ("request el trad", "Root : Root Absent"), ("root 8 61", "line 1: expected `;` after the characters")]
+    same = [("compare c 61 62 , c 61 42", "Less"), ("compare 8 C3 A1 , 8 61 CC 81", "Equal"), ("resolved", "4 0 1 0*3"),
+            ("key 16 61", "61 10 1 5 1*2 5 1*4 92"), ("names 8 62 , 8 61", "2 : 61 , 62")]
+    pairs = [*same, *(pair for it in refused for pair in [it, *same])]
+    return Case(["base Mini", made], *([pair[at] for pair in pairs] + end for at, end in ((0, ["refuse none"]), (1, ["ok"]))))
 
 
 class Unread(Case):
@@ -162,15 +176,6 @@ class Unread(Case):
 def is_said_twice(found):
     half = len(found) // 2
     return found[0] == "ok" and found[:half] == found[half:]
-
-
-def many_names():
-    """An index of 10,000 names of two letters, nine different ones, of which 1,111 are `ab`."""
-    names = ["abc"[number % 3] + "abc"[number // 3 % 3] for number in range(10_000)]
-    texts = [text("8", it) for it in names]
-    listings = [row_questions.listing([it.encode() for it in some]) for some in (sorted(names), 1_111 * ["ab"])]
-    asked = [f"names {' , '.join(texts)}", f"equals {' , '.join([text('8', 'ab'), *texts])}"]
-    return Case(["base Mini", f"make 2 {row_questions.six(row_questions.UNNAMED[1:])}"], asked, listings)
 
 
 def unwritten_faults(driver):
@@ -278,8 +283,10 @@ def check_rows(report, programs):
         if recorded is None:
             recorded = found
             report.say("rows: planted faults are found", missed(recorded), len(PLANTED))
+            report.say("rows: faults with many names and long keys are found", many_names.missed(driver), len(many_names.PLANTED))
             report.say("rows: a driver that doesn't answer is found", careless_missed(path), len(CARELESS))
             rows = {name: rows for name, (rows, _) in found.items()}
+            check_row_readings(report, driver, every, lines_of)
             report.say("rows: the gate's questions are those of the rows", stale_files(rows), 2)
 
 

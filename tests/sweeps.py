@@ -1,6 +1,8 @@
 """Runs of programs, each of whose requests of the system may be refused: by the library refuse.c, which is preloaded."""
 import concurrent.futures
 import os
+import shlex
+import stat
 import subprocess
 import tempfile
 
@@ -10,6 +12,20 @@ TESTS = os.path.join(TOP, "tests")
 SECONDS = 60
 ENVIRONMENT = {"PATH": "/usr/bin:/bin", "LANG": "C.UTF-8"}
 COUNTED = ("allocation", "read", "write", "refused")
+REQUESTS = ["allocation", "read", "write"]
+
+
+def built(name):
+    return os.path.join(TOP, "crates", name, "out", name)
+
+
+def wrapped(room, name, program, text):
+    """A shell script around a program, which it knows as $COLLATE."""
+    path = os.path.join(room, name)
+    with open(path, "w", encoding="utf-8") as it:
+        it.write(f"#!/bin/sh\nCOLLATE={shlex.quote(program)}\n{text}\n")
+    os.chmod(path, stat.S_IRWXU)
+    return path
 
 
 class Run:
@@ -32,6 +48,10 @@ class Refused:
     def __init__(self, request, at, how="fail", also_after=False):
         self.request, self.at, self.how, self.also_after = request, at, how, also_after
 
+    def is_error(self):
+        """Whether the request returns an error which no program that asks once more may pass over."""
+        return self.how in ("fail", "again")
+
     def settings(self):
         return {
             "REFUSE": self.request,
@@ -41,7 +61,8 @@ class Refused:
         }
 
     def __str__(self):
-        how = {"fail": "refused", "signal": "interrupted by a signal", "short": "of one byte"}[self.how]
+        how = {"fail": "refused", "signal": "interrupted by a signal", "short": "of one byte",
+               "again": "to be made again"}[self.how]
         return f"{self.request} {self.at}{' and each after it' if self.also_after else ''} {how}"
 
 
@@ -110,17 +131,55 @@ def tried(shim, program, words, given, plain, refused, is_right):
     return Outcome(refused, ran, None if is_right(plain, refused, ran) else f"{refused}: {ran}")
 
 
-def sweep(shim, program, words, given, requests, is_right):
-    """Refuses each of these requests of a run in turn: alone, with all after it, and where it is no allocation by a signal
-    and by a single byte as well."""
+def every(_at, _count, _also_after):
+    return True
+
+
+def sweep(shim, program, words, given, requests, is_right, is_chosen=every):
+    """Refuses each of these requests of a run in turn: alone, with all after it, and where it is no allocation by a signal,
+    by a single byte and by the error of a stream that isn't ready as well. Of
+    allocations those are refused that `is_chosen` chooses by their places, how many there are, and whether all after it are."""
     plain = run(program, words, given, shim=shim)
     if not plain.counts or not plain.counts[requests[0]]:
         return [Outcome(None, plain, f"no {requests[0]} was counted: {plain}")]
     kinds = [(request, "fail", after) for request in requests for after in (False, True)]
-    kinds += [(request, how, False) for request in requests if request != "allocation" for how in ("signal", "short")]
-    all_refused = [Refused(it, at, how, after) for it, how, after in kinds for at in range(1, plain.counts[it] + 1)]
+    kinds += [(request, how, False) for request in requests if request != "allocation" for how in ("signal", "short", "again")]
+    all_refused = [Refused(it, at, how, after) for it, how, after in kinds for at in range(1, plain.counts[it] + 1)
+                   if it != "allocation" or is_chosen(at, plain.counts[it], after)]
     with concurrent.futures.ThreadPoolExecutor(os.cpu_count() or 1) as pool:
         return [*pool.map(lambda it: tried(shim, program, words, given, plain, it, is_right), all_refused)]
+
+
+def says_refusals(name, *read_failures):
+    """Says of a program of this name whether it did right: its answer as without a refusal where the request was made again, or
+    the line of the fault; where a read failed, one of some lines."""
+
+    def is_right(plain, refused, ran):
+        if not refused.is_error():
+            return ran.came_to() == plain.came_to()
+        if refused.request == "allocation":
+            asked_again = not refused.also_after and ran.counts["allocation"] > plain.counts["allocation"]
+            is_said = ran.came_to() == (1, b"", f"{name}: no memory\n".encode())
+            return is_said or asked_again and ran.came_to() == plain.came_to()
+        if refused.request == "read":
+            return ran.came_to() in [(1, b"", it) for it in read_failures]
+        if plain.status:
+            return ran.status == plain.status and not ran.output and is_beginning(ran.faults, plain.faults)
+        said = b"" if refused.also_after else f"{name}: write failed\n".encode()
+        return ran.status == 1 and ran.output != plain.output and is_beginning(ran.output, plain.output) and ran.faults == said
+
+    return is_right
+
+
+def losses_missed(outcomes, plain, is_right):
+    """The failed requests after which a run is let through that says nothing and has lost lines of its output, as if its input had
+    ended there, or as if a call had been left out."""
+    counts = {it: count + 1 for it, count in plain.counts.items()}
+    lines = plain.output.splitlines(keepends=True)
+    lost = [Run(0, b"".join(some), b"", counts) for some in (lines[:-1], lines[1:], [])]
+    failed = [it.refused for it in outcomes if it.refused and it.refused.is_error()]
+    found = [f"not found: {it}, and {ran}" for it in failed for ran in lost if is_right(plain, it, ran)]
+    return found + ["too few"] * (len(failed) < 3)
 
 
 def faults_of(outcomes):
