@@ -1,7 +1,8 @@
 #!/usr/bin/env python3
 """The gate, as bin/test runs it: what compares documents and comments with the sources, `rt ci`, and then tests/programs.py. Says
 on standard output where it is, a line a step, and prints what a failed step says; all that `rt ci` says goes to the file
-out/test.log. The last line is `N passed, M failed`, which counts all of them."""
+out/test.log, and what each crate cost to out/costs.txt. At the end come the dearest crates and functions and what the whole took,
+and the last line is `N passed, M failed`, which counts all of the steps."""
 import os
 import queue
 import re
@@ -10,10 +11,14 @@ import sys
 import threading
 import time
 
-TOP = os.path.dirname(os.path.dirname(os.path.realpath(__file__)))
+sys.path.insert(0, os.path.dirname(os.path.realpath(__file__)))
+import costs  # noqa: E402
+import crates  # noqa: E402
+
+TOP = crates.TOP
 LOG = os.path.join(TOP, "out", "test.log")
-# The programs of bin/ that compare documents and comments with the sources.
-COMPARISONS = ["definitions", "documents", "citations", "comments", "undocumented"]
+# The programs of bin/ that compare documents and comments with the sources, and that count what makes sources hard to read.
+COMPARISONS = ["definitions", "documents", "citations", "comments", "undocumented", "house"]
 # So often at least a line says what is under way, in seconds.
 BEAT = 120
 COUNTS = re.compile(r"^(\d+) passed, (\d+) failed$")
@@ -77,12 +82,6 @@ class Progress:
         self.say(text)
 
 
-def crates_listed():
-    with open(os.path.join(TOP, "crates.txt"), encoding="utf-8") as it:
-        lines = [line.partition("#")[0] for line in it]
-    return [line.partition(":")[0].split()[0] for line in lines if ":" in line]
-
-
 def feed(stream, lines):
     for line in stream:
         lines.put(line)
@@ -90,12 +89,13 @@ def feed(stream, lines):
 
 
 def prove():
-    """Runs `rt ci`, and returns what passed and what failed."""
-    progress = Progress(crates_listed())
+    """Runs `rt ci`, and returns what passed, what failed, and what its processes cost."""
+    progress = Progress([*crates.listed()])
     print(f"rt ci, from nothing: each crate and its tests are proved; all that it says: {os.path.relpath(LOG)}", flush=True)
     how = {"stdin": subprocess.DEVNULL, "stdout": subprocess.PIPE, "stderr": subprocess.STDOUT, "errors": "replace"}
     with open(LOG, "w", encoding="utf-8", buffering=1) as log, subprocess.Popen(["rt", "ci"], cwd=TOP, text=True, **how) as ran:
-        lines = queue.Queue()
+        sampler, lines = costs.Sampler(ran.pid), queue.Queue()
+        sampler.start()
         threading.Thread(target=feed, args=(ran.stdout, lines), daemon=True).start()
         while True:
             try:
@@ -107,11 +107,12 @@ def prove():
                 break
             log.write(line)
             progress.take(line.rstrip("\n"))
+        taken = sampler.end()
     if progress.counts is None:
         progress.say(f"rt ci ended with status {ran.returncode} and no count")
-        return [0, 1]
+        return [0, 1], taken
     passed, failed = progress.counts
-    return [passed, max(failed, int(ran.returncode != 0))]
+    return [passed, max(failed, int(ran.returncode != 0))], taken
 
 
 def run_programs():
@@ -129,7 +130,7 @@ def run_programs():
 
 
 def compare(what):
-    """Runs one of the programs that compare documents and comments with the sources; returns what passed and what failed."""
+    """Runs one of COMPARISONS; returns what passed and what failed."""
     program = [sys.executable, os.path.join(TOP, "bin", what)]
     ran = subprocess.run(program, stdin=subprocess.DEVNULL, stdout=subprocess.PIPE, stderr=subprocess.STDOUT, text=True)
     if ran.returncode:
@@ -139,8 +140,27 @@ def compare(what):
     return [1, 0]
 
 
+def say_costs(taken, before_programs, began):
+    """Says what the run took, by crates and in all; that it can't be told fails nothing."""
+    try:
+        taken.add(("tests/programs.py", "runs"), costs.of_children() - before_programs)
+        taken.whole, taken.passed = costs.of_children(), time.monotonic() - began
+        taken.write(costs.LAST)
+        lines = ["the dearest crates, in seconds of processor time:", *costs.dearest(taken)]
+        functions = costs.dearest_functions()
+        lines += ["the dearest functions, as `bin/costs --functions --keep` found them last:", *functions] if functions else []
+        print("\n".join([*lines, costs.total(taken)]), flush=True)
+    except (OSError, ValueError, ArithmeticError, LookupError) as error:
+        print(f"what the run cost can't be told: {error}", flush=True)
+
+
 def main():
-    steps = [*(compare(it) for it in COMPARISONS), prove(), run_programs()]
+    began = time.monotonic()
+    steps = [compare(it) for it in COMPARISONS]
+    proved, taken = prove()
+    before_programs = costs.of_children()
+    steps += [proved, run_programs()]
+    say_costs(taken, before_programs, began)
     passed, failed = (sum(step[n] for step in steps) for n in (0, 1))
     print(f"{passed} passed, {failed} failed")
     return 1 if failed else 0

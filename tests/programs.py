@@ -1,5 +1,6 @@
 #!/usr/bin/env python3
-"""Runs the built programs and looks at what proofs do not speak of: the status that a process ends with, what goes to which
+"""Runs the built programs and looks at what proofs do not speak of: the rows that the driver answers (rows.py), hostile input
+(hostile.py), refused memory (refusals.py), and of `collate` and `collate-cldr` the status that each ends with, what goes to which
 stream, and what becomes of a request that the system refuses.
 
 usage: tests/programs.py      after `rt ci`, which builds the programs (bin/test does both)
@@ -8,11 +9,8 @@ Each memory request, read and write of a run is refused in turn, by the library 
 refused, a program says so, or asks again and gives the right answer; anything else is a fault. The last line is
 `N passed, M failed`. It needs `cc`, a C compiler.
 """
-import collections
 import concurrent.futures
-import math
 import os
-import resource
 import shlex
 import shutil
 import stat
@@ -20,85 +18,14 @@ import subprocess
 import sys
 import tempfile
 
-TOP = os.path.dirname(os.path.dirname(os.path.realpath(__file__)))
-TESTS = os.path.join(TOP, "tests")
-SECONDS = 60
+from driver import DriverFault
+from hostile import check_hostile
+from reads import check_reads
+from refusals import check_refusals, driver_is_right
+from rows import check_rows
+from sweeps import TESTS, TOP, Run, faults_of, is_beginning, run, run_on_streams, sweep
+
 USAGE = b"usage: collate compare STRENGTH A B | collate key STRENGTH TEXT | collate sort STRENGTH\n"
-NO_MEMORY = b"no memory\n"
-
-
-class Run:
-    """What one run of a program came to."""
-
-    def __init__(self, status, output, faults, counts):
-        self.status, self.output, self.faults, self.counts = status, output, faults, counts
-
-    def came_to(self):
-        return self.status, self.output, self.faults
-
-    def __str__(self):
-        brief = lambda text: repr(text if len(text) < 200 else text[:100] + b" .. " + text[-60:])
-        return f"status {self.status}, output {brief(self.output)}, faults {brief(self.faults)}"
-
-
-class Refused:
-    """Which requests of a run are refused: the one at a place among those of its kind, perhaps with all after it."""
-
-    def __init__(self, request, at, how="fail", also_after=False):
-        self.request, self.at, self.how, self.also_after = request, at, how, also_after
-
-    def settings(self):
-        return {
-            "REFUSE": self.request,
-            "REFUSE_AT": str(self.at),
-            "REFUSE_HOW": self.how,
-            "REFUSE_ALSO_AFTER": str(int(self.also_after)),
-        }
-
-    def __str__(self):
-        how = {"fail": "refused", "signal": "interrupted by a signal", "short": "of one byte"}[self.how]
-        return f"{self.request} {self.at}{' and each after it' if self.also_after else ''} {how}"
-
-
-def run(program, words, given=b"", refused=None, shim=None):
-    """Runs a program, and counts its requests where a library to preload is named. It is then given a file, since through a
-    pipe the number of reads would depend on how fast the pipe is filled."""
-    env = {"PATH": "/usr/bin:/bin", "LANG": "C.UTF-8"}
-    if not shim:
-        ran = subprocess.run([program, *words], input=given, capture_output=True, env=env, timeout=SECONDS)
-        return Run(ran.returncode, ran.stdout, ran.stderr, None)
-    reader, writer = os.pipe()
-    try:
-        env.update({"LD_PRELOAD": shim, "REFUSE_COUNTS": str(writer)}, **(refused.settings() if refused else {}))
-        ran = run_on_a_file([program, *words], given, env, writer)
-    finally:
-        os.close(writer)
-        with os.fdopen(reader, "rb") as it:
-            counts = [int(word) for word in it.read().split()]
-    return Run(ran.returncode, ran.stdout, ran.stderr, dict(zip(("allocation", "read", "write", "refused"), counts)))
-
-
-def run_on_a_file(command, given, env, kept_open):
-    with tempfile.TemporaryFile() as it:
-        it.write(given)
-        it.seek(0)
-        return subprocess.run(command, stdin=it, capture_output=True, env=env, pass_fds=(kept_open,), timeout=SECONDS)
-
-
-def run_on_streams(program, words, redirections):
-    """Runs a program with streams that the shell closes or sends elsewhere, as `>&-` or `>/dev/full`."""
-    line = f'exec "$@" {redirections}'
-    ran = subprocess.run(
-        ["sh", "-c", line, "sh", program, *words], stdin=subprocess.DEVNULL, capture_output=True, timeout=SECONDS
-    )
-    return Run(ran.returncode, ran.stdout, ran.stderr, None)
-
-
-# ---- what a run with a refusal may come to
-
-
-def is_beginning(text, whole):
-    return whole[: len(text)] == text
 
 
 def collate_is_right(plain, refused, ran):
@@ -114,51 +41,6 @@ def collate_is_right(plain, refused, ran):
         return ran.status == plain.status and not ran.output and is_beginning(ran.faults, plain.faults)
     said = b"" if refused.also_after else b"collate: write failed\n"
     return ran.status == 1 and ran.output != plain.output and is_beginning(ran.output, plain.output) and ran.faults == said
-
-
-def driver_is_right(plain, refused, ran):
-    """Whether the driver did right: it makes each refused call again, so that its answers are those without a refusal;
-    where that is refused too, it stops and says so."""
-    if refused.also_after:
-        is_said = ran.status == 1 and ran.faults.endswith(NO_MEMORY)
-        return is_said and ran.output != plain.output and is_beginning(ran.output, plain.output)
-    return (ran.status, ran.output) == (plain.status, plain.output)
-
-
-class Outcome:
-    """One run of a sweep: what was refused, what the run came to if it ended, and what is wrong with it, if anything is."""
-
-    def __init__(self, refused, ran, fault):
-        self.refused, self.ran, self.fault = refused, ran, fault
-
-
-def tried(shim, program, words, given, plain, refused, is_right):
-    try:
-        ran = run(program, words, given, refused, shim)
-    except subprocess.TimeoutExpired:
-        return Outcome(refused, None, f"{refused}: it had not ended after {SECONDS} seconds")
-    if ran.status < 0 or not ran.counts:
-        return Outcome(refused, ran, f"{refused}: it crashed: {ran}")
-    if not ran.counts["refused"]:
-        return Outcome(refused, ran, f"{refused}: the request was not made")
-    return Outcome(refused, ran, None if is_right(plain, refused, ran) else f"{refused}: {ran}")
-
-
-def sweep(shim, program, words, given, requests, is_right):
-    """Refuses each of these requests of a run in turn: alone, with all after it, and where it is no allocation by a signal
-    and by a single byte as well."""
-    plain = run(program, words, given, shim=shim)
-    if not plain.counts or not plain.counts[requests[0]]:
-        return [Outcome(None, plain, f"no {requests[0]} was counted: {plain}")]
-    kinds = [(request, "fail", after) for request in requests for after in (False, True)]
-    kinds += [(request, how, False) for request in requests if request != "allocation" for how in ("signal", "short")]
-    all_refused = [Refused(it, at, how, after) for it, how, after in kinds for at in range(1, plain.counts[it] + 1)]
-    with concurrent.futures.ThreadPoolExecutor(os.cpu_count() or 1) as pool:
-        return [*pool.map(lambda it: tried(shim, program, words, given, plain, it, is_right), all_refused)]
-
-
-def faults_of(outcomes):
-    return [it.fault for it in outcomes if it.fault]
 
 
 # ---- what the program `collate` does
@@ -481,6 +363,13 @@ class Report:
         if len(faults) > 12:
             print(f"       and {len(faults) - 12} more", flush=True)
 
+    def also(self, what, check, *given):
+        """Makes some checks. A run of the driver without an answer for each question ends them, and counts as failed."""
+        try:
+            check(self, *given)
+        except (DriverFault, OSError, ValueError) as fault:
+            self.say(f"{what}: a run ended early", [f"{type(fault).__name__}: {fault}"], 1)
+
     def end(self):
         print(f"{self.passed} passed, {self.failed} failed")
         return 1 if self.failed else 0
@@ -517,234 +406,27 @@ def check_collate(report, room, shim):
     report.say("collate: each request refused, a sort of many lines", faults_of(outcomes), len(outcomes))
 
 
-# The parts of the driver, and the tables that a refused collator names as one allocation after another fails: tables are
-# copied in the order in which they are loaded, the check before that is named by the root, and so are the characters that
-# rows name, which come last.
-PARTS = ["collators", "comparisons", "keys", "elements", "sinks", "index"]
-OF_MINI = ["Root", "Jamo", "SpecialPrimaries", "Diacritics"]
-OF_SWAPPED_LEADS = ["Root", "Jamo", "SpecialPrimaries", "Tailoring", "Reordering", "Diacritics"]
-NAMED_TABLES = 2 * OF_MINI + 2 * OF_SWAPPED_LEADS + ["Root"]
+def missing_programs():
+    """The programs that the checks run and that aren't there. The driver is built by both compilers."""
+    paths = [built(it) for it in ("collate", "collate_cldr")] + drivers()
+    return [os.path.basename(it) for it in paths if not os.access(it, os.X_OK)]
 
 
-def named_tables(outcomes):
-    """The tables that the runs with one refused allocation name, each run of equal ones once."""
-    said = [it.ran.faults.decode() for it in outcomes if it.ran and it.refused and not it.refused.also_after]
-    names = [line.partition("refused: ")[2] for text in said for line in text.splitlines() if line.startswith("refused: ")]
-    return [name for at, name in enumerate(names) if at == 0 or name != names[at - 1]]
+def drivers():
+    """The driver as LLVM built it, and as Rattle's own compiler did."""
+    return [built("test_driver"), f"{built('test_driver')}.by-rattle"]
 
 
-def check_driver(report, shim):
-    program = built("refusal_driver")
-    with open(os.path.join(TOP, "crates", "refusal_driver", "stdout"), "rb") as it:
-        wanted = it.read()
-    whole = run(program, [])
-    report.say("refusal_driver: its answers", [] if whole.came_to() == (0, wanted, b"") else [str(whole)], 1)
-    for part in PARTS:
-        outcomes = sweep(shim, program, [part], b"", ["allocation"], driver_is_right)
-        report.say(f"refusal_driver: each allocation refused, {part}", faults_of(outcomes), len(outcomes))
-        if part == "collators":
-            named = named_tables(outcomes)
-            faults = [] if named == NAMED_TABLES else [f"{named}; wanted: {NAMED_TABLES}"]
-            report.say("refusal_driver: the tables that refusals name", faults, len(outcomes))
-    report.say("refusal_driver: nothing is allocated for common beginnings", faults_of_beginnings(shim, program), 4)
-    report.say("refusal_driver: nothing is allocated for names", faults_of_names(shim, program), 4)
-
-
-def faults_of_beginnings(shim, program):
-    """What is wrong with how much is allocated: for texts that are the same, for ends that differ in their first letters, and
-    behind a common beginning of digits nothing beside the collator, by each of the five calls."""
-    runs = {part: run(program, [part], shim=shim) for part in ("collator", "same", "ends", "beginnings")}
-    counts = {part: it.counts["allocation"] for part, it in runs.items()}
-    faults = [f"{part} allocates: {counts}" for part in ("same", "ends", "beginnings") if counts[part] != counts["collator"]]
-    wanted = {"collator": b"", "same": b"=\n" * 5, "ends": b"<\n" * 5, "beginnings": b"<\n" * 5}
-    return faults + [f"{part}: {it}" for part, it in runs.items() if it.came_to() != (0, wanted[part], b"")]
-
-
-# What the parts of the driver print that compare names with accents and in Hangul, and write their keys.
-PARTS_OF_NAMES = {
-    "plain": b"",
-    "names": b"<\n>\n<\n>\n=\n=\n<\n",
-    "name-keys": b"18 bytes\n13 bytes\n17 bytes\n16 bytes\n19 bytes\n19 bytes\n",
-    "pieces": b">\n",
-}
-
-
-def faults_of_names(shim, program):
-    """What is wrong with how much is allocated for names: nothing beside the collator, but for a mark that comes before the one
-    that it follows."""
-    runs = {part: run(program, [part], shim=shim) for part in PARTS_OF_NAMES}
-    counts = {part: it.counts["allocation"] for part, it in runs.items()}
-    faults = [f"{part} allocates: {counts}" for part in ("names", "name-keys") if counts[part] != counts["plain"]]
-    faults += [f"no allocation is seen: {counts}"] * (counts["pieces"] <= counts["plain"])
-    return faults + [f"{part}: {it}" for part, it in runs.items() if it.came_to() != (0, PARTS_OF_NAMES[part], b"")]
-
-
-# ---- hostile input: damaged tables, random texts, long texts, checks that are timed
-
-# How many sets of tables are damaged and how many texts are compared, and how many of them a run has.
-SETS, TEXTS, PART = 2_000, 2_000, 100
-# How many texts are read in three ways, with the two parts of each, and how many of them a run has.
-READ, READ_PART = 100_000, 10_000
-# What random damage must be refused for at least once: all kinds but `NoMemory`, which must not occur.
-REFUSED = ["Absent", "Length", "Index", "Digit", "Chain", "Tag", "Element", "Context", "Overlap", "Compression", "Reordering",
-           "SpecialPrimary"]
-# How often a long text is compared in a run, how many times as long the second size is, how many times as long it may take, and
-# how often that is measured at most.
-TIMES, LONGER, SLOWER, ATTEMPTS = 2, 4, 8, 5
-# What a long text is made of, its first size, and what is printed of a text of a size. No size is small: what fits into a
-# processor's own cache takes less time for a character.
-LONG_TEXTS = [
-    ("letters", 250_000, lambda size: f"Less, {size + 1} bytes"),
-    ("marks", 100_000, lambda size: "Equal, 2 bytes"),
-    ("digits", 100_000, lambda size: "Less, 5 bytes"),
-    ("beginnings", 100_000, lambda size: f"Greater, {size - 3} bytes"),
-    ("passed", 100_000, lambda size: "Equal, 2 bytes"),
-    ("unended", 100_000, lambda size: f"Less, {size // 2 + 1} bytes"),
-]
-
-
-# How often a check is made in a run, and how many times as long as Mini's it may take for each number that its tables store.
-CHECKS, DEARER = 60, 10
-# Small hostile tables, whose checks are held against Mini's, and large good ones, of which the times are printed alone.
-HOSTILE_TABLES = ["lists", "rows", "listed-rows", "many-rows"]
-LARGE_TABLES = ["root", "tailored"]
-
-
-def counted(program, part, count, *words, size=PART):
-    """Runs a part of `hostile_input` over so many numbers, and returns the sums of what its runs count, and their faults."""
-    def run_from(first):
-        return run(program, [part, str(first), str(min(size, count - first)), *words])
-
-    sums, faults = collections.Counter(), []
-    with concurrent.futures.ThreadPoolExecutor(os.cpu_count() or 1) as pool:
-        for ran in pool.map(run_from, range(0, count, size)):
-            if ran.status or ran.faults:
-                faults.append(str(ran))
-            for line in ran.output.decode().splitlines():
-                name, _, number = line.rpartition(" ")
-                sums[name] += int(number)
-    return sums, faults
-
-
-def wrong_tables(program, count):
-    """What is wrong with what becomes of so many damaged sets of tables."""
-    sums, faults = counted(program, "tables", count)
-    judged = sums["accepted"] + sum(number for name, number in sums.items() if name.startswith("refused "))
-    faults += [f"{judged} sets were judged"] * (judged != count)
-    faults += [f"{sums[it]} sets {it}" for it in ("apart", "disordered", "refused NoMemory") if sums[it]]
-    faults += [f"no set was refused for {it}" for it in REFUSED if not sums[f"refused {it}"]]
-    return faults + ["few sets were accepted"] * (sums["accepted"] < count // 10)
-
-
-def wrong_readers(program, count):
-    """What is wrong with the ways of reading so many random texts."""
-    sums, faults = counted(program, "readers", count, size=READ_PART)
-    faults += ["texts were left out"] * (sums["read"] != 3 * count) + ["few were Latin-1"] * (sums["in Latin-1"] < count // 2)
-    return faults + [f"{sums['apart']} texts apart"] * (sums["apart"] > 0)
-
-
-def wrong_texts(program, count):
-    """What is wrong with the comparisons of so many random texts."""
-    sums, faults = counted(program, "texts", count)
-    faults += ["pairs were left out"] * (sums["compared"] < 5 * count) + ["few were Latin-1"] * (sums["in Latin-1"] < count // 10)
-    return faults + [f"{sums['apart']} pairs apart"] * (sums["apart"] > 0)
-
-
-def least_time(program, words):
-    """The least processor time of three runs, and the runs."""
-    least, ran = None, []
-    for _ in range(3):
-        began = resource.getrusage(resource.RUSAGE_CHILDREN)
-        ran.append(run(program, words))
-        ended = resource.getrusage(resource.RUSAGE_CHILDREN)
-        took = ended.ru_utime + ended.ru_stime - began.ru_utime - began.ru_stime
-        least = took if least is None else min(least, took)
-    return least, ran
-
-
-def seconds_of(program, kind, size, wanted):
-    """The least processor time of three runs on a long text, and their faults."""
-    least, runs = least_time(program, ["long", kind, str(size), str(TIMES)])
-    right = (0, TIMES * f"{wanted}\n".encode(), b"")
-    return least, [f"{kind}, {size}: {ran}; wanted: {wanted}" for ran in runs if ran.came_to() != right]
-
-
-def wrong_long_texts(program, kind, size, wanted):
-    """What is wrong with texts of a size and of a greater one: another answer, or a time that grows beyond proportion; and how
-    many runs there were. A machine that other work slows down for a while lets a time grow as well, so both are measured again
-    before one is called wrong."""
-    short, long, faults = math.inf, math.inf, []
-    none, runs = seconds_of(program, kind, 8, "")[0], 3
-    for _ in range(ATTEMPTS):
-        seconds, wrong = seconds_of(program, kind, size, wanted(size))
-        short, faults = min(short, seconds - none), faults + wrong
-        seconds, wrong = seconds_of(program, kind, size * LONGER, wanted(size * LONGER))
-        long, faults, runs = min(long, seconds - none), faults + wrong, runs + 6
-        if faults or long <= SLOWER * max(short, 0.005):
-            return faults, runs
-    return [f"{kind}: {short:.3f} seconds for {size}, {long:.3f} for {size * LONGER}"], runs
-
-
-class Check:
-    """How long a check of some tables takes, how many numbers they store, and what is wrong with what it comes to."""
-
-    def __init__(self, program, tables, times=CHECKS):
-        self.tables = tables
-        none, _ = least_time(program, ["checks", tables, "0"])
-        least, runs = least_time(program, ["checks", tables, str(times)])
-        first, _, rest = runs[0].output.decode().partition("\n")
-        name, _, number = first.partition(" ")
-        self.numbers = int(number) if name == "numbers" and number.isdigit() else 1
-        self.seconds = max(least - none, 0) / times
-        is_right = rest == times * "accepted\n" and all(ran.came_to() == runs[0].came_to() for ran in runs)
-        self.faults = [] if is_right and (runs[0].status, runs[0].faults) == (0, b"") else [f"{tables}: {runs[0]}"]
-
-    def for_each(self):
-        return self.seconds / self.numbers
-
-    def __str__(self):
-        return f"{self.tables}: {1e3 * self.seconds:.2f} ms, {self.numbers} numbers, {1e9 * self.for_each():.0f} ns for each"
-
-
-def dear_tables(mini, check):
-    """What is wrong with the check of hostile tables, beside Mini's."""
-    allowed = DEARER * max(mini.for_each(), 2e-9)
-    return check.faults + [f"{check}; {mini}"] * (check.for_each() > allowed)
-
-
-def check_times(report, program):
-    mini = Check(program, "mini")
-    hostile = [Check(program, tables) for tables in HOSTILE_TABLES]
-    large = [Check(program, tables, CHECKS // 6) for tables in LARGE_TABLES]
-    faults = mini.faults + [it for check in hostile for it in dear_tables(mini, check)] + [it for check in large for it in check.faults]
-    report.say("hostile_input: checks of hostile tables take little", faults, 6 * (1 + len(hostile) + len(large)))
-    for check in [mini, *hostile, *large]:
-        print(f"       {check}", flush=True)
-
-
-def hostile_faults_missed(room, program):
-    """The checks of hostile input that let a planted fault through."""
-    planted = {"tables": "other tables by a provider", "texts": "another text in UTF-16", "readers": "another text for a cursor"}
-    missed = [f"not found: {what}" for part, what in planted.items() if not counted(program, part, PART, "spoiled")[0]["apart"]]
-    kind, size, wanted = LONG_TEXTS[0]
-    slow = f'case $3 in {size * LONGER}) for it in 1 2 3; do "$COLLATE" "$@" >/dev/null; done;; esac; exec "$COLLATE" "$@"'
-    found, _ = wrong_long_texts(wrapped(room, "slow", program, slow), kind, size, wanted)
-    missed += ["not found: a time beyond proportion"] * (not any(" seconds for " in it for it in found))
-    slow = f'case "$2 $3" in "lists {CHECKS}") for it in $(seq {4 * DEARER}); do "$COLLATE" "$@" >/dev/null; done;; esac; exec "$COLLATE" "$@"'
-    dear = Check(wrapped(room, "dear", program, slow), "lists")
-    return missed + ["not found: a check that takes long"] * (not dear_tables(Check(program, "mini"), dear))
-
-
-def check_hostile_input(report, room):
-    program = built("hostile_input")
-    report.say("hostile_input: damaged tables", wrong_tables(program, SETS), SETS)
-    report.say("hostile_input: random texts", wrong_texts(program, TEXTS), TEXTS)
-    report.say("hostile_input: random texts read in three ways", wrong_readers(program, READ), READ)
-    for kind, size, wanted in LONG_TEXTS:
-        faults, runs = wrong_long_texts(program, kind, size, wanted)
-        report.say(f"hostile_input: long texts, {kind}", faults, runs)
-    check_times(report, program)
-    report.say("hostile_input: planted faults are found", hostile_faults_missed(room, program), 5)
+def check_all(report, room):
+    shim, careless = compiled(room, "refuse", "-shared", "-fPIC"), compiled(room, "careless")
+    missed = refusals_missed(shim, careless)
+    report.say("a program that looks at no refusal is found", missed, CARELESS_RUNS)
+    report.also("collate", check_collate, room, shim)
+    report.also("collate-cldr", check_collate_cldr, room)
+    report.also("rows", check_rows, drivers())
+    report.also("hostile input", check_hostile, drivers()[0])
+    report.also("refused memory", check_refusals, shim, drivers()[0])
+    report.also("a file of CLDR", check_reads, shim, drivers()[0])
 
 
 def main():
@@ -753,19 +435,13 @@ def main():
         print("tests/programs.py: the C compiler 'cc' is not on the PATH")
         report.failed += 1
         return report.end()
-    missing = [it for it in ("collate", "collate_cldr", "refusal_driver", "hostile_input") if not os.access(built(it), os.X_OK)]
+    missing = missing_programs()
     if missing:
         print(f"tests/programs.py: not built: {', '.join(missing)}; 'rt ci' builds them")
         report.failed += len(missing)
         return report.end()
     with tempfile.TemporaryDirectory(prefix="collate-tests-") as room:
-        shim = compiled(room, "refuse", "-shared", "-fPIC")
-        careless = compiled(room, "careless")
-        report.say("a program that looks at no refusal is found", refusals_missed(shim, careless), CARELESS_RUNS)
-        check_collate(report, room, shim)
-        check_collate_cldr(report, room)
-        check_driver(report, shim)
-        check_hostile_input(report, room)
+        check_all(report, room)
     return report.end()
 
 

@@ -39,7 +39,7 @@ pub(crate) fn write_segment<S: CollationKeySink>(
 /// It is fed the nonzero secondary weights of a segment one at a time, in the order of the text, then the end of the
 /// segment, and so on; at the end it is closed. The weights of the segment at hand are kept, since the last is written
 /// first.
-#[derive(Debug, Drop)]
+#[derive(Drop)]
 pub struct BackwardWriter {
     segment: SmallVec<u16, INLINE>,
 }

@@ -13,7 +13,7 @@ use icu_levels::forms::CaseForm;
 use icu_levels::run_bytes::{LOWER_FIRST_CASE_RUNS, RunBytes, UPPER_FIRST_CASE_RUNS};
 
 /// The case of a collation element (UTS #35 part 5, "Case Parameters").
-#[derive(Clone, Copy, Debug, PartialEq, Eq)]
+#[derive(Clone, Copy, PartialEq, Eq)]
 pub enum LetterCase {
     /// Lower case, or none.
     Lower,
@@ -64,7 +64,7 @@ fn nibble(form: CaseForm, rank: u8) -> u8
 ///
 /// It is fed the cases one at a time and closed at the end. Lower case is counted. With lower case first the level of a
 /// text in lower case alone is written as nothing, which only the end decides: `HeldCases` keeps that rule.
-#[derive(Clone, Copy, Debug, Drop)]
+#[derive(Clone, Copy, Drop)]
 pub struct CaseWriter {
     form: CaseForm,
     run: Run,

@@ -30,7 +30,7 @@ fn next_base(character: u32) -> u32
 /// Collation" on U+FFFE).
 ///
 /// It is fed the characters one at a time. Nothing is left to write at the end.
-#[derive(Clone, Copy, Debug, Drop)]
+#[derive(Clone, Copy, Drop)]
 pub struct IdenticalWriter {
     base: u32,
     ghost bounded: { base < 0x110100 },

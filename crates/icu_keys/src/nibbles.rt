@@ -5,7 +5,7 @@ ghost use Rattle.std.specs.Prelude.{◌≡◌, ℕ, ◌<◌, List, [], ◌∷◌
 ghost use Rattle.icu_levels.specs.Cases.{packed};
 
 /// Packs nibbles into bytes, the first of two in the high half.
-#[derive(Clone, Copy, Debug, Drop)]
+#[derive(Clone, Copy, Drop)]
 pub(crate) struct Nibbles {
     /// A nibble that waits for another.
     pub held: Option<u8>,

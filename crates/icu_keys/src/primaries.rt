@@ -108,7 +108,7 @@ fn write_primary<S: CollationKeySink>(
 ///
 /// It is fed the nonzero primary weights, as they are before reordering, one at a time. Nothing is left to write at the
 /// end.
-#[derive(Clone, Copy, Debug, Drop)]
+#[derive(Clone, Copy, Drop)]
 pub struct PrimaryWriter {
     dropped: u8,
 }

@@ -12,7 +12,7 @@ use crate::sink::CollationKeySink;
 use icu_levels::run_bytes::QUATERNARY_RUNS;
 
 /// A weight of the quaternary level (UTS #10, "Variable Weighting").
-#[derive(Clone, Copy, Debug, PartialEq, Eq)]
+#[derive(Clone, Copy, PartialEq, Eq)]
 pub enum QuaternaryWeight {
     /// The quaternary bits of an element with a tertiary, from 0, which is common, to 3. They are above all primaries.
     Bits(u8),
@@ -49,7 +49,7 @@ fn before_shifted(primary: u32) -> Option<u8>
 /// It is fed the weights one at a time and closed at the end. A shifted primary stands after 1B where its lead is 1B or
 /// more. In the unshifted form common weights alone are written as nothing, which only the end decides:
 /// `HeldQuaternaries` keeps that rule.
-#[derive(Clone, Copy, Debug, Drop)]
+#[derive(Clone, Copy, Drop)]
 pub struct QuaternaryWriter {
     run: Run,
     ghost bounded: { run.length ≤ QUATERNARY_RUNS.count },

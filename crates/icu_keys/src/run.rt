@@ -13,7 +13,7 @@ use icu_levels::run_bytes::RunBytes;
 ///
 /// Both kinds of run of n + 1 weights begin with n / count middle bytes, so one is due as soon as a run is longer than
 /// a full count (UTS #10, "Run-Length Compression").
-#[derive(Clone, Copy, Debug, Drop)]
+#[derive(Clone, Copy, Drop)]
 pub struct Run {
     /// How many weights.
     pub length: u8,

@@ -14,7 +14,7 @@ use icu_levels::run_bytes::SECONDARY_RUNS;
 /// It is fed the nonzero secondary weights one at a time and closed at the end. Runs of the common weight 0500 cost a
 /// counter, and other weights stand without a zero byte at their end (UTS #10, "Run-Length Compression" and "Large
 /// Weight Values").
-#[derive(Clone, Copy, Debug, Drop)]
+#[derive(Clone, Copy, Drop)]
 pub struct SecondaryWriter {
     run: Run,
     ghost bounded: { run.length ≤ SECONDARY_RUNS.count },

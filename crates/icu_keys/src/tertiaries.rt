@@ -56,7 +56,7 @@ fn moved(form: TertiaryForm, weight: u16) -> u16
 ///
 /// It is fed the nonzero tertiary weights one at a time, as the form has them, and closed at the end (UTS #10,
 /// "Run-Length Compression" and "Large Weight Values"; UTS #35 part 5, "Case Parameters").
-#[derive(Clone, Copy, Debug, Drop)]
+#[derive(Clone, Copy, Drop)]
 pub struct TertiaryWriter {
     form: TertiaryForm,
     run: Run,

@@ -120,7 +120,7 @@ fn push_held(
 ///
 /// It is fed the three weights of one element after another, and closed at the end. Primaries go straight to the sink,
 /// and the other two levels are held until their end.
-#[derive(Debug, Drop)]
+#[derive(Drop)]
 pub struct ThreeLevelWriter {
     primaries: PrimaryWriter,
     secondaries: HeldSecondaries,

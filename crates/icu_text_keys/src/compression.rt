@@ -10,7 +10,7 @@ use icu_provider::{CollationReordering, CollationSpecialPrimaries};
 
 /// How the primaries of a collator are written: by its reordering, if it has one, and by the leads that its special
 /// primaries name compressible (UTS #35 part 5, "Collation Reordering").
-#[derive(Debug, Clone, Copy)]
+#[derive(Clone, Copy)]
 pub struct TableCompression<'d> {
     special: CollationSpecialPrimaries<'d>,
     reordering: Option<CollationReordering<'d>>,

@@ -16,7 +16,7 @@ use smallvec::SmallVec;
 const LEVEL: u8 = 1;
 
 /// The bytes of a level after the primary one.
-#[derive(Debug, Drop)]
+#[derive(Drop)]
 pub enum LevelBytes {
     /// The key has no such level.
     NoLevel,

@@ -9,7 +9,7 @@ use icu_keys::SortKeyError;
 use std::alloc::AllocError;
 
 /// An element that stayed, or the primary of one that is shifted.
-#[derive(Clone, Copy, Debug, PartialEq)]
+#[derive(Clone, Copy, PartialEq)]
 pub enum Handled {
     /// It counts at each level.
     Stayed(CollationElement),

@@ -118,7 +118,7 @@ fn finish_quaternary(level: Option<HeldQuaternaries>) -> Result<LevelBytes, Allo
 }
 
 /// The levels that a key has after the primary one.
-#[derive(Debug, Drop)]
+#[derive(Drop)]
 pub struct LaterLevels {
     secondary: SecondaryLevel,
     before: Option<SecondaryForm>,

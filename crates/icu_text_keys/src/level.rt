@@ -21,7 +21,7 @@ use icu_levels::forms::SecondaryForm;
 use std::alloc::AllocError;
 
 /// The secondary level.
-#[derive(Debug, Drop)]
+#[derive(Drop)]
 pub enum SecondaryLevel {
     /// The key has none.
     Absent,

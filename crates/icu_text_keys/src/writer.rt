@@ -46,7 +46,7 @@ fn push_primary<S: CollationKeySink, C: PrimaryCompression>(
 ///
 /// It is fed the elements one at a time, as variable weighting leaves them, and closed at the end. Primaries go
 /// straight to the sink. Each later level is held, inline while it is short, and written by `close`.
-#[derive(Debug, Drop)]
+#[derive(Drop)]
 pub struct KeyWriter {
     primaries: PrimaryWriter,
     levels: LaterLevels,

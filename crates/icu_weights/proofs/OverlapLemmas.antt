@@ -1,5 +1,5 @@
 -- Overlaps of the members of a list, from those of its indexes.
-use Rattle.std.proofs.Common.{◌≡◌, ◌≢◌, ℕ, ◌*◌, ◌^◌, ◌<◌, ◌≤◌, List, length, get_or, refl, sym, ap, ◌∙◌, subst, inl, inr, ◌⊎◌, arith, Contains, IsPermutation}
+use Rattle.std.proofs.Common.{◌≡◌, ◌≢◌, ℕ, ◌*◌, ◌^◌, ◌<◌, ◌≤◌, List, length, get_or, refl, sym, ap, ◌∙◌, subst, inl, inr, ◌⊎◌, arith, Contains, IsPermutation, Option, Some, None, IfSome}
 use Rattle.std.specs.List.Sorted.{IsStrictlyIncreasing}
 use Rattle.std.proofs.lemmas.Bool.{cases_lt}
 use Rattle.std.proofs.lemmas.List.{get_or_default}
@@ -10,6 +10,7 @@ use Rattle.icu_levels.specs.ListOrder.{IsBeginning}
 use Rattle.icu_levels.specs.WeightBytes.{weight_bytes}
 use Rattle.icu_levels.specs.Premises.{IsPrefixFree}
 use Rattle.icu_weights.specs.Overlaps.{Overlaps}
+use Rattle.icu_weights.specs.declared.overlap.Overlap.{Overlap}
 use Rattle.icu_weights.proofs.BeginningLemmas.{moved_up_bytes}
 use Rattle.icu_weights.proofs.NeighbourLemmas.{permuted}
 
@@ -73,3 +74,18 @@ free_of_two_bytes ws IsLive fits has free v w p q n h =
     free (v * 2 ^ 16) (w * 2 ^ 16) (has v p) (has w q) (λ e. n (omega (arith, e)))
     (subst (λ l. IsBeginning l (weight_bytes 4 (w * 2 ^ 16))) (sym (moved_up_bytes v (fits v p)))
     (subst (λ l. IsBeginning (weight_bytes 2 v) l) (sym (moved_up_bytes w (fits w q))) h))
+
+-- ---- weights that were put in another order twice
+module _ (ws us vs : List ℕ) (moved : IsPermutation ws us) (again : IsPermutation us vs) where
+  pub comes_along : (w : ℕ) → Contains ws w → Contains vs w
+  comes_along w c = Contains-permutation us vs w again (Contains-permutation ws us w moved c)
+
+  pub was_there : (w : ℕ) → Contains vs w → Contains ws w
+  was_there w c = Contains-permutation us ws w (IsPermutation-sym ws us moved) (Contains-permutation vs us w (IsPermutation-sym us vs again) c)
+
+  pub overlaps_were_there : (spell : ℕ → List ℕ) (v w : ℕ) → Overlaps spell vs v w → Overlaps spell ws v w
+  overlaps_were_there spell v w o = record { first = was_there v o.first; second = was_there w o.second; different = o.different; begins = o.begins }
+
+  pub found_were_there : (spell : ℕ → List ℕ) (found : Option Overlap) → IfSome found (λ o. Overlaps spell vs o.first o.second) → IfSome found (λ o. Overlaps spell ws o.first o.second)
+  found_were_there spell None h = h
+  found_were_there spell (Some o) h = overlaps_were_there spell o.first o.second h

@@ -145,6 +145,14 @@ fn overlapping_neighbours(
     None
 }
 
+/// Puts weights in the order of their lead bytes, those of one lead byte as they stand.
+fn sort_by_lead(weights: &mut Vec<u32>) -> Result<(), AllocError>
+    ensures permutation { IsPermutation weights.old.items weights.new.items }
+{
+    weights.sort_by_key(|weight| lead_byte(*weight))?;
+    Ok(())
+}
+
 /// Two weights of which one begins the other, both before they are reordered and after it. The weights are put in
 /// another order: such weights share their lead bytes before and after, and among those that do, neighbours suffice.
 pub fn first_common_overlap(
@@ -155,6 +163,6 @@ pub fn first_common_overlap(
     ensures overlaps { IfOk result (λ found. IfSome found (λ o. Overlaps (written_bytes (option_map reordering_of reordering.entry)) weights.old.items o.first o.second)) }
 {
     sort_reordered(weights, reordering)?;
-    weights.sort_by_key(|weight| lead_byte(*weight))?;
+    sort_by_lead(weights)?;
     Ok(overlapping_neighbours(weights.as_slice(), reordering))
 }

@@ -10,7 +10,9 @@ ghost use Rattle.icu_elements.specs.Reading.{reading_of};
 ghost use Rattle.icu_elements.specs.ElementReaders.{elements_to_come};
 ghost use Rattle.icu_elements.specs.CollationElements.{StillGives, CanGive, IsRefused, first_of, rest_of};
 
-use icu_elements::{CollationElement, CollationElements, ElementReader, ElementTables, decomposed_text};
+use icu_elements::{
+    CollationElement, CollationElements, ElementReader, ElementTables, decomposed_text,
+};
 use std::alloc::AllocError;
 
 /// A reader of the text that an iterator spells, decomposed: `decomposed_text`, and then `ElementReader::new`.

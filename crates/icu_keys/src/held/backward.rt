@@ -9,7 +9,7 @@ use smallvec::SmallVec;
 use std::alloc::{AllocError, Global};
 
 /// The backward secondary level of a text, segment by segment.
-#[derive(Debug, Drop)]
+#[derive(Drop)]
 pub struct HeldSegments {
     writer: BackwardWriter,
     bytes: SmallVec<u8, INLINE>,

@@ -12,7 +12,7 @@ use std::alloc::{AllocError, Global};
 
 /// The case level of a text. With lower case first nothing is written for lower case alone, which only the end
 /// decides (UTS #35 part 5, "Case Parameters").
-#[derive(Debug, Drop)]
+#[derive(Drop)]
 pub struct HeldCases {
     writer: CaseWriter,
     bytes: SmallVec<u8, INLINE>,

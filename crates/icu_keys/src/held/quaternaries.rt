@@ -12,7 +12,7 @@ use std::alloc::{AllocError, Global};
 
 /// The quaternary level of a text. In the unshifted form nothing is written for common weights alone, which only
 /// the end decides (UTS #10, "Variable Weighting").
-#[derive(Debug, Drop)]
+#[derive(Drop)]
 pub struct HeldQuaternaries {
     writer: QuaternaryWriter,
     bytes: SmallVec<u8, INLINE>,

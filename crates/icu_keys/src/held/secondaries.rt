@@ -14,7 +14,7 @@ use smallvec::SmallVec;
 use std::alloc::{AllocError, Global};
 
 /// The secondary level of a text. Common weights are counted, and written with the weight that comes after them.
-#[derive(Debug, Drop)]
+#[derive(Drop)]
 pub struct HeldSecondaries {
     writer: SecondaryWriter,
     commons: u32,

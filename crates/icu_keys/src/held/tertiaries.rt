@@ -14,7 +14,7 @@ use smallvec::SmallVec;
 use std::alloc::{AllocError, Global};
 
 /// The tertiary level of a text. Common weights are counted, and written with the weight that comes after them.
-#[derive(Debug, Drop)]
+#[derive(Drop)]
 pub struct HeldTertiaries {
     writer: TertiaryWriter,
     commons: u32,

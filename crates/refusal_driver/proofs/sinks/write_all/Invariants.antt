@@ -1,5 +1,0 @@
--- The sink and its state may be written to.
-use Rattle.refusal_driver.proofs.sinks.write_all.Given as goal
-
-abbrev pub invariant-loop : goal.invariant-loop
-invariant-loop g l = g.S.CollationKeySink.is_sound l.sink l.state

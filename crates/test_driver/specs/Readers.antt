@@ -1,0 +1,8 @@
+-- How texts are read by checked tables.
+use Rattle.std.specs.Prelude.{ℕ, Bool, Option}
+use Rattle.icu_checks.specs.Checked.{checked_tables}
+use Rattle.icu_checks.specs.declared.checked.CheckedTables.{CheckedTables}
+use Rattle.icu_elements.specs.TextElements.{Reading}
+
+abbrev pub reading_with : CheckedTables → Option ℕ → Bool → Reading
+reading_with t numeric lithuanian = record { tables = (checked_tables t).tables; numeric = numeric; lithuanian = lithuanian }

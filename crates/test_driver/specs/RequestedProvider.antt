@@ -1,0 +1,15 @@
+-- What the provider of the driver returns: to a request with a type, to one for a locale alone, and to the empty
+-- request.
+use Rattle.std.specs.Prelude.{ℕ, List, [], ◌∷◌, Some, None}
+use Rattle.icu_provider.specs.Requests.{Request}
+
+abbrev pub by_locale : {A : Type 0} → A → A → List ℕ → A
+by_locale local root [] = root
+by_locale local root (_ ∷ _) = local
+
+abbrev pub by_request : {A : Type 0} → A → A → A → Request → A
+by_request typed local root r =
+    elim r.collation_type [
+      | Some _ ↦ typed
+      | None ↦ by_locale local root r.locale
+    ]

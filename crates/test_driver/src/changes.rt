@@ -1,0 +1,110 @@
+//! Questions that change what the program holds. Nothing is allocated once it begins to change.
+use crate::cldr::{CldrFile, read_cldr};
+use crate::collators::{collator, printed};
+use crate::fault::Fault;
+use crate::numbers::single;
+use crate::requests::set_refused;
+use crate::settings::named_settings;
+use crate::state::State;
+use crate::tables::{base, copied, set};
+use crate::texts::{Text, bytes_of};
+use icu_mini::mini::Mini;
+use std::alloc::Global;
+use std::fs;
+use std::io::BufReader;
+
+/// The questions that change what the program holds.
+pub(crate) const CHANGES: [&str; 9] = [
+    "base", "set", "drop", "root", "file", "make", "times", "typed", "refuse",
+];
+
+/// Makes a change.
+pub(crate) fn change(
+    rt: &HostRuntime,
+    state: &mut State,
+    question: &str,
+    rest: &str,
+) -> Result<String, Fault> {
+    let alloc = rt.alloc();
+    match question {
+        "make" => return make(alloc, state, rest),
+        "root" => return read_text(alloc, state, rest),
+        "file" => return read_file(rt, state, rest),
+        _ => {}
+    }
+    let done = String::from_str(alloc, "ok")?;
+    match question {
+        "times" => state.times = single(rest)?,
+        "typed" => state.typed = Some(copied(alloc, &state.mini)?),
+        "refuse" => set_refused(&mut state.refused, rest)?,
+        question => {
+            change_tables(alloc, &mut state.mini, question, rest)?;
+            state.reader = None;
+        }
+    }
+    Ok(done)
+}
+
+/// Changes the tables.
+fn change_tables(alloc: Global, mini: &mut Mini, question: &str, rest: &str) -> Result<(), Fault> {
+    match question {
+        "base" => *mini = base(alloc, rest)?,
+        "set" => set(alloc, mini, rest)?,
+        "drop" => drop_table(mini, rest)?,
+        _ => return Err(Fault::Unread),
+    }
+    Ok(())
+}
+
+/// Takes a table away.
+fn drop_table(mini: &mut Mini, name: &str) -> Result<(), Fault> {
+    match name {
+        "tailoring" => mini.tailoring = None,
+        "reordering" => mini.reordering = None,
+        _ => return Err(Fault::Unread),
+    }
+    Ok(())
+}
+
+/// Makes a collator of the tables. After a refusal the one stays that was there.
+fn make(alloc: Global, state: &mut State, settings: &str) -> Result<String, Fault> {
+    let done = String::from_str(alloc, "ok")?;
+    match collator(alloc, &state.mini, named_settings(alloc, settings)?) {
+        Ok(made) => {
+            state.collator = Some(made);
+            Ok(done)
+        }
+        Err(refusal) => printed(alloc, Some(refusal)),
+    }
+}
+
+/// Takes the tables of a file that was read.
+fn take_root(alloc: Global, state: &mut State, file: CldrFile) -> Result<String, Fault> {
+    let done = String::from_str(alloc, "ok")?;
+    match file {
+        CldrFile::Root(mini, absent) => {
+            state.mini = mini;
+            state.reader = None;
+            state.absent = Some(absent);
+            Ok(done)
+        }
+        CldrFile::Refused(why) => Ok(why),
+    }
+}
+
+/// Reads a file whose bytes are a text.
+fn read_text(alloc: Global, state: &mut State, text: &str) -> Result<String, Fault> {
+    let text = Text::read(alloc, text)?;
+    take_root(alloc, state, read_cldr(alloc, bytes_of(&text)?)?)
+}
+
+/// Reads the file of a name.
+fn read_file(rt: &HostRuntime, state: &mut State, name: &str) -> Result<String, Fault> {
+    let alloc = rt.alloc();
+    let file = fs::open(rt, name)?;
+    take_root(
+        alloc,
+        state,
+        read_cldr(alloc, BufReader::new(alloc, file)?)?,
+    )
+}

@@ -1,0 +1,74 @@
+//! The order of two texts.
+use crate::fault::Fault;
+use crate::texts::{Text, two};
+use icu_comparison::Collator;
+use std::alloc::{AllocError, Global};
+use std::cmp::Ordering;
+
+/// The order of two texts, by the call for their encodings, if there is one.
+fn order(collator: &Collator, left: &Text, right: &Text) -> Option<Result<Ordering, AllocError>> {
+    let borrowed = collator.as_borrowed();
+    match (left, right) {
+        (Text::Characters(left), Text::Characters(right)) => {
+            Some(borrowed.compare(left.as_str(), right.as_str()))
+        }
+        (Text::Utf8(left), Text::Utf8(right)) => {
+            Some(borrowed.compare_utf8(left.as_slice(), right.as_slice()))
+        }
+        (Text::Utf16(left), Text::Utf16(right)) => {
+            Some(borrowed.compare_utf16(left.as_slice(), right.as_slice()))
+        }
+        (Text::Latin1(left), Text::Latin1(right)) => {
+            Some(borrowed.compare_latin1(left.as_slice(), right.as_slice()))
+        }
+        (Text::Latin1(left), Text::Utf16(right)) => {
+            Some(borrowed.compare_latin1_utf16(left.as_slice(), right.as_slice()))
+        }
+        _ => None,
+    }
+}
+
+/// What so many comparisons return, if all return the same.
+fn order_of_times(
+    collator: &Collator,
+    left: &Text,
+    right: &Text,
+    times: u64,
+) -> Result<Option<Ordering>, Fault> {
+    let mut first = None;
+    for _ in 0..times {
+        let order = order(collator, left, right).ok_or(Fault::Unread)??;
+        if first.is_some() && first != Some(order) {
+            return Ok(None);
+        }
+        first = Some(order);
+    }
+    Ok(first)
+}
+
+fn has_call(left: &Text, right: &Text) -> bool {
+    match (left, right) {
+        (Text::Characters(_), Text::Characters(_))
+        | (Text::Utf8(_), Text::Utf8(_))
+        | (Text::Utf16(_), Text::Utf16(_))
+        | (Text::Latin1(_), Text::Latin1(_) | Text::Utf16(_)) => true,
+        _ => false,
+    }
+}
+
+/// The order of two texts.
+pub(crate) fn compare(
+    alloc: Global,
+    collator: &Collator,
+    written: &str,
+    times: u64,
+) -> Result<String, Fault> {
+    let (left, right) = two(alloc, written)?;
+    if !has_call(&left, &right) {
+        return Ok(String::from_str(alloc, "no call")?);
+    }
+    match order_of_times(collator, &left, &right, times)? {
+        Some(order) => Ok(format!(in alloc; "{order:?}")?),
+        None => Ok(String::from_str(alloc, "unlike")?),
+    }
+}

@@ -1,0 +1,117 @@
+//! An index of names.
+use crate::fault::Fault;
+use crate::numbers::written;
+use crate::texts::{Text, bytes_of, several};
+use icu_comparison::Collator;
+use icu_index::NameIndex;
+use std::alloc::{AllocError, Global};
+
+/// Appends a name to a listing, whose first one has no comma before it.
+fn push_name(
+    alloc: Global,
+    text: &mut String,
+    is_first: bool,
+    name: &[u8],
+) -> Result<(), AllocError> {
+    if !is_first {
+        text.push_str(" , ")?;
+    }
+    text.push_str(written(alloc, name)?.as_str())
+}
+
+/// The names of an index, in its order.
+fn listing(alloc: Global, index: &NameIndex<'_>) -> Result<String, AllocError> {
+    let mut text = String::new(alloc);
+    let mut is_first = true;
+    for name in index.iter() {
+        push_name(alloc, &mut text, is_first, name)?;
+        is_first = false;
+    }
+    Ok(text)
+}
+
+/// An index of names, each put in once.
+fn index_at_once<'c>(
+    alloc: Global,
+    collator: &'c Collator,
+    names: &[Text],
+) -> Result<NameIndex<'c>, Fault> {
+    let mut index = NameIndex::new(alloc, collator);
+    for name in names {
+        let name = bytes_of(name)?;
+        index.insert(name)?;
+    }
+    Ok(index)
+}
+
+/// Whether an index of these names has this listing.
+fn is_listing_of(
+    alloc: Global,
+    collator: &Collator,
+    names: &[Text],
+    listed: &str,
+) -> Result<bool, Fault> {
+    let index = index_at_once(alloc, collator, names)?;
+    let listing = listing(alloc, &index)?;
+    Ok(listing.as_str() == listed)
+}
+
+/// An index of names, each put in once more where an allocation failed; or nothing where a call that failed changed the
+/// index.
+fn index<'c>(
+    alloc: Global,
+    collator: &'c Collator,
+    names: &[Text],
+) -> Result<Option<NameIndex<'c>>, Fault> {
+    let mut index = NameIndex::new(alloc, collator);
+    let mut count = 0usize;
+    for name in names {
+        let name = bytes_of(name)?;
+        if index.insert(name).is_err() {
+            let left = listing(alloc, &index)?;
+            let before = names.get(..count).unwrap_or(&[]);
+            if !is_listing_of(alloc, collator, before, left.as_str())? {
+                return Ok(None);
+            }
+            index.insert(name)?;
+        }
+        count = count.saturating_add(1);
+    }
+    Ok(Some(index))
+}
+
+fn lost(alloc: Global) -> Result<String, Fault> {
+    Ok(String::from_str(alloc, "lost")?)
+}
+
+/// How many names an index of these has, and its listing.
+pub(crate) fn names(alloc: Global, collator: &Collator, names: &str) -> Result<String, Fault> {
+    let names = several(alloc, names)?;
+    let Some(index) = index(alloc, collator, names.as_slice())? else {
+        return lost(alloc);
+    };
+    let listing = listing(alloc, &index)?;
+    Ok(format!(in alloc; "{:X} : {listing}", index.len())?)
+}
+
+/// The names of an index that are equal to a name.
+fn equal_names(alloc: Global, index: &NameIndex<'_>, name: &[u8]) -> Result<String, AllocError> {
+    let mut text = String::new(alloc);
+    let names = index.equal_to(name)?;
+    let mut is_first = true;
+    for name in names {
+        push_name(alloc, &mut text, is_first, name.as_slice())?;
+        is_first = false;
+    }
+    format!(in alloc; "{:X} : {text}", names.len())
+}
+
+/// Those that are equal to the first name, of an index of the others.
+pub(crate) fn equals(alloc: Global, collator: &Collator, names: &str) -> Result<String, Fault> {
+    let names = several(alloc, names)?;
+    let (name, names) = names.as_slice().split_first().ok_or(Fault::Unread)?;
+    match index(alloc, collator, names)? {
+        Some(index) => Ok(equal_names(alloc, &index, bytes_of(name)?)?),
+        None => lost(alloc),
+    }
+}

@@ -1,0 +1,116 @@
+//! What texts are read by.
+ghost use Rattle.std.specs.Prelude.{◌≡◌, IfOk};
+ghost use Rattle.icu_checks.specs.Checked.{checked_tables};
+ghost use Rattle.icu_shortcuts.specs.LetterTables.{AreLetters};
+ghost use Rattle.icu_shortcuts.specs.Named.{NamesAll};
+ghost use Rattle.icu_shortcuts.specs.SafeTables.{safe_reading};
+ghost use Rattle.test_driver.specs.Readers.{reading_with};
+
+use icu_checks::CheckedTables;
+use icu_cursor::CursorTables;
+use icu_elements::ElementTables;
+use icu_shortcuts::{Letters, NamedCharacters, SafePlaces};
+use std::alloc::{AllocError, Global};
+
+/// What texts are read by: tables, whether digits are read as numbers, and what is kept of letters.
+#[derive(Drop)]
+pub(crate) struct Reader {
+    tables: CheckedTables,
+    named: NamedCharacters,
+    letters: Letters,
+    /// The lead byte of numbers, where digits are read as numbers.
+    pub(crate) numeric_primary: Option<u8>,
+    pub(crate) lithuanian_dot_above: bool,
+    ghost names: { NamesAll named (checked_tables tables).tables },
+    ghost known: { AreLetters (reading_with tables numeric_primary lithuanian_dot_above) letters },
+}
+
+/// Before which characters texts may be cut that are read so.
+fn safe_places<'d>(
+    tables: &'d CheckedTables,
+    named: &'d NamedCharacters,
+    numeric_primary: Option<u8>,
+    lithuanian_dot_above: bool,
+) -> SafePlaces<'d>
+    requires { NamesAll named.now (checked_tables tables.now).tables }
+    ensures { safe_reading result ≡ reading_with tables.now numeric_primary lithuanian_dot_above }
+{
+    let tables = ElementTables::new(tables);
+    SafePlaces::new(tables, numeric_primary, lithuanian_dot_above, named)
+}
+
+/// What is kept of the letters of texts that are read so.
+fn letters(
+    alloc: Global,
+    tables: &CheckedTables,
+    named: &NamedCharacters,
+    numeric_primary: Option<u8>,
+    lithuanian_dot_above: bool,
+) -> Result<Letters, AllocError>
+    requires { NamesAll named.now (checked_tables tables.now).tables }
+    ensures { IfOk result (λ l. AreLetters (reading_with tables.now numeric_primary lithuanian_dot_above) l) }
+{
+    let places = safe_places(tables, named, numeric_primary, lithuanian_dot_above);
+    Letters::new(alloc, places)
+}
+
+impl Reader {
+    /// By these tables.
+    pub(crate) fn new(
+        alloc: Global,
+        tables: CheckedTables,
+        numbers: bool,
+    ) -> Result<Reader, AllocError> {
+        let numeric_primary = if numbers {
+            Some(tables.special_primaries().numeric_primary())
+        } else {
+            None
+        };
+        let lithuanian_dot_above = tables.metadata().lithuanian_dot_above();
+        let named = NamedCharacters::new(alloc, &tables)?;
+        let letters = letters(
+            alloc,
+            &tables,
+            &named,
+            numeric_primary,
+            lithuanian_dot_above,
+        )?;
+        Ok(Reader {
+            tables,
+            named,
+            letters,
+            numeric_primary,
+            lithuanian_dot_above,
+        })
+    }
+
+    pub(crate) fn tables(&self) -> ElementTables<'_> {
+        ElementTables::new(&self.tables)
+    }
+
+    /// Before which characters texts may be cut.
+    pub(crate) fn safe_places(&self) -> SafePlaces<'_> {
+        safe_places(
+            &self.tables,
+            &self.named,
+            self.numeric_primary,
+            self.lithuanian_dot_above,
+        )
+    }
+
+    /// What is kept of letters.
+    pub(crate) fn letters(&self) -> &Letters {
+        &self.letters
+    }
+
+    /// What a cursor reads by.
+    pub(crate) fn cursor_tables(&self) -> CursorTables<'_> {
+        CursorTables::new(
+            ElementTables::new(&self.tables),
+            self.numeric_primary,
+            self.lithuanian_dot_above,
+            &self.named,
+            &self.letters,
+        )
+    }
+}

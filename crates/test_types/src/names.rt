@@ -1,0 +1,57 @@
+//! The public names of the library, each by the path that a caller writes: one that is lost doesn't compile. What the
+//! names stand for is called by the other tests and by the programs.
+
+mod library {
+    use icu_collator::{
+        CollationKeySink, Collator, CollatorBorrowed, CollatorPreferences, comparison, elements,
+        index, options, preferences, provider,
+    };
+}
+
+mod option_names {
+    use icu_collator::options::{
+        AlternateHandling, CaseLevel, CollationCaseFirst, CollationNumericOrdering,
+        CollatorOptions, CollatorOptionsBitField, CollatorPreferences, MaxVariable,
+        MetadataSettings, ResolvedCollatorOptions, Strength, merged_options,
+    };
+}
+
+mod preference_names {
+    use icu_collator::preferences::{CollationCaseFirst, CollationNumericOrdering};
+}
+
+mod provider_names {
+    use icu_collator::provider::{
+        CheckedTables, CodePointTable, CollationData, CollationDiacritics, CollationJamo,
+        CollationMetadata, CollationProvider, CollationReordering, CollationSpecialPrimaries,
+        Context, ContextRow, ContextTable, DataError, DataErrorKind, DataRequest, DataTable,
+        TableSet, load_tables,
+    };
+}
+
+mod element_names {
+    use icu_collator::elements::laws::{
+        elements_have_sources, good_parts_make_good_texts, good_tables_give_live_elements,
+        texts_decompose,
+    };
+    use icu_collator::elements::{
+        CollationElement, CollationElement32, CollationElements, ElementReader, ElementTables,
+        NonPrimary, Tag, all_elements, decomposed_text,
+    };
+}
+
+mod comparison_names {
+    use icu_collator::comparison::laws::{
+        common_beginnings_do_not_count, good_tables_serve_levels, keys_keep_text_order,
+        levels_keep_text_order,
+    };
+    use icu_collator::comparison::{
+        AnyQuaternaryAccumulator, CollationKeySink, Collator, CollatorBorrowed, Latin1Chars,
+        Latin1Iter, SortKeyError, TooSmall,
+    };
+}
+
+mod index_names {
+    use icu_collator::index::laws::inserts_sort;
+    use icu_collator::index::{NameIndex, NameIter};
+}

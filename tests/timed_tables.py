@@ -1,0 +1,214 @@
+"""Checks of hostile tables, which are timed: none may take more than ten times as long as Mini's for each number that is stored.
+
+The time is that of some checks more, so that reading the questions is no part of it.
+"""
+from driver import numbers, written
+from timing import RUNS, Slowed, least_times
+
+# How often a check is made beyond the first time, how many times as long as Mini's it may take for each number that its tables
+# store, and how often all are measured at most, since other work slows a machine down for a while.
+CHECKS, DEARER, ATTEMPTS = 60, 10, 3
+BLOCK, CODES = 64, 0x110000
+DATA = ["blocks", "values", "ces", "ce32s", "chars", "contexts", "rows"]
+
+
+class Builder:
+    """A root or a tailoring, as a list of numbers for each field: all characters have one entry, but those that are given
+    another. Blocks of 64 equal entries are stored once."""
+
+    def __init__(self, others):
+        self.entries, self.ces, self.ce32s, self.contexts, self.rows, self.chars = [others] * CODES, [], [], [], [], []
+
+    def set_entry(self, c, entry):
+        self.entries[c] = entry
+
+    def set_entries(self, first, last, entry):
+        self.entries[first : last + 1] = [entry] * (last + 1 - first)
+
+    def add_context(self, default, rows):
+        """Adds a context, and returns its index: an entry for all texts but those of its rows, and the rows, each a list of
+        characters and its entry."""
+        self.contexts += [default, len(self.rows) // 3, len(rows)]
+        for characters, entry in rows:
+            self.rows += [len(self.chars), len(characters), entry]
+            self.chars += characters
+        return len(self.contexts) // 3 - 1
+
+    def fields(self):
+        found, blocks = {}, []
+        for first in range(0, CODES, BLOCK):
+            blocks.append(found.setdefault(tuple(self.entries[first : first + BLOCK]), len(found)))
+        values = [entry for block in found for entry in block]
+        return dict(zip(DATA, (blocks, values, self.ces, self.ce32s, self.chars, self.contexts, self.rows)))
+
+    def questions(self, table=""):
+        """What makes this the driver's root, or its tailoring."""
+        return [f"set {table}{name} {written(numbers)}".rstrip() for name, numbers in self.fields().items()]
+
+    def stored(self):
+        """How many numbers are stored."""
+        return sum(len(numbers) for numbers in self.fields().values())
+
+
+# ---- hostile tables
+
+LISTED, ROWED = 0x1FC6, 0xC9
+
+
+def unlike_primary(lead, number):
+    """The primary weight of a number, of three bytes."""
+    return lead << 24 | number // 250 % 250 + 4 << 16 | number % 250 + 4 << 8
+
+
+def unlike_entry(lead, number):
+    """The entry of an element with that primary weight, and with common weights below."""
+    return unlike_primary(lead, number) | 0xC1
+
+
+def list_entry(number):
+    """The entry of a list of 31 elements, by the list's number."""
+    return LISTED | number % 4 * 31 << 13
+
+
+def unlike_elements(count):
+    """So many elements of unlike weights."""
+    below = [0xA000_0600 | number % 250 + 4 << 16 | number % 60 + 4 for number in range(count)]
+    return [unlike_primary(0x30, number) << 32 | low for number, low in enumerate(below)]
+
+
+def of_lists():
+    """A root in which all characters have one list of 31 unlike elements."""
+    builder = Builder(list_entry(0))
+    builder.ces = unlike_elements(31)
+    return builder
+
+
+def of_rows(count):
+    """A root in which all characters have one contraction of so many rows."""
+    builder = Builder(ROWED)
+    builder.add_context(unlike_entry(0x31, 0), [([0x20000 + number], unlike_entry(0x30, number)) for number in range(count)])
+    return builder
+
+
+def of_listed_rows():
+    """A root in which all characters have one contraction whose default and three rows are lists of 31 unlike elements."""
+    builder = Builder(ROWED)
+    builder.ces = unlike_elements(4 * 31)
+    builder.add_context(list_entry(0), [([0x20000 + number], list_entry(number + 1)) for number in range(3)])
+    return builder
+
+
+# ---- tables of the size of CLDR's
+
+# The element that ideographs are counted by: U+3400 has the weight A00202, and each character after it the next one.
+OFFSET_ENTRY, OFFSET_ELEMENT = 0xCE, 0xA002_0200_0034_0001
+IDEOGRAPHS = [(0x3400, 0x4DBF), (0x4E00, 0x9FFF), (0x20000, 0x2A6DF), (0x2A700, 0x2EBE0), (0x30000, 0x3134A)]
+# The characters of other scripts. Each sixth has an entry of its own.
+SCRIPTS = [range(0x100, 0x3400), range(0x10000, 0x17000), range(0x1D000, 0x1E000)]
+ROW_CHARACTERS = [ord(it) for it in "abcdefghijklmnopq"]
+
+
+def root_like_cldr():
+    """A root of 7,600 entries, 1,140 elements in lists, 64 contexts with 1,088 rows, and 93,000 ideographs by an offset entry, in
+    some 720 blocks."""
+    builder = Builder(0xCF)
+    builder.ces = [OFFSET_ELEMENT]
+    for first, last in IDEOGRAPHS:
+        builder.set_entries(first, last, OFFSET_ENTRY)
+    for script in SCRIPTS:
+        for c in script:
+            set_char(builder, c)
+    return builder
+
+
+def set_char(builder, c):
+    """Gives a character what its code says: an entry of its own, a list of three elements, contractions with each of 17 others,
+    or nothing."""
+    number, sort = divmod(c, 6)
+    if sort == 0:
+        builder.set_entry(c, unlike_entry(0x20, number))
+    elif sort == 1 and number % 20 == 0:
+        first = number // 20 * 3
+        builder.set_entry(c, len(builder.ces) << 13 | 0x3C6)
+        builder.ces += [unlike_primary(0x22, it) << 32 | 0x0500_0500 for it in range(first, first + 3)]
+    elif sort == 2 and number % 119 == 0:
+        of_row = [unlike_entry(0x23, number // 119 * 17 + place) for place in range(17)]
+        rows = [([letter], entry) for letter, entry in zip(ROW_CHARACTERS, of_row)]
+        builder.set_entry(c, builder.add_context(unlike_entry(0x24, number // 119), rows) << 13 | ROWED)
+
+
+def tailoring_like_cldr():
+    """A tailoring of 2,000 characters."""
+    builder = Builder(0xC0)
+    for c in range(0x100, 0x8D0):
+        builder.set_entry(c, unlike_entry(0x26, c))
+    return builder
+
+
+# ---- how long checks take
+
+
+class TimedTables:
+    """Tables whose check is timed: those of a base, with another root and perhaps a tailoring."""
+
+    def __init__(self, name, base, root=None, tailoring=None):
+        self.name = name
+        self.made = [f"base {base}", *(root.questions() if root else [])]
+        self.made += tailoring.questions("tailoring.") if tailoring else []
+        self.shown = [f"show {table}{name}" for table in ("", "tailoring.") for name in DATA]
+
+
+class Check:
+    """How long a check of some tables takes, how many numbers their root and tailoring store, and what is wrong with what it
+    comes to."""
+
+    def __init__(self, driver, tables, times=CHECKS):
+        self.tables = tables.name
+        asked = [[*tables.made, f"times {count:X}", "check"] for count in (1, 1 + times)]
+        (once, more), answers = least_times(driver, *asked)
+        shown = driver.ask([*tables.made, *tables.shown])[len(tables.made) :]
+        self.numbers = sum(len(numbers(it)) for it in shown if it != "none") or 1
+        self.seconds = max(more - once, 0) / times
+        self.faults = [f"{tables.name}: {it}" for it in answers if set(it) != {"ok"}]
+
+    def for_each(self):
+        return self.seconds / self.numbers
+
+    def __str__(self):
+        return f"{self.tables}: {1e3 * self.seconds:.2f} ms, {self.numbers} numbers, {1e9 * self.for_each():.0f} ns for each"
+
+
+def dear_tables(mini, check):
+    """What is wrong with the check of hostile tables, beside Mini's."""
+    allowed = DEARER * max(mini.for_each(), 2e-9)
+    return check.faults + [f"{check}; {mini}"] * (check.for_each() > allowed)
+
+
+def check_times(report, driver):
+    """Small hostile tables, whose checks are held against Mini's, and large good ones, of which the times are printed alone."""
+    hostile = [
+        TimedTables("lists", "Mini", of_lists()),
+        TimedTables("rows", "Mini", of_rows(100)),
+        TimedTables("listed-rows", "Mini", of_listed_rows()),
+        TimedTables("many-rows", "Mini", of_rows(0x10000)),
+    ]
+    root = root_like_cldr()
+    large = [TimedTables("root", "Mini", root), TimedTables("tailored", "swapped leads", root, tailoring_like_cldr())]
+    others = [Check(driver, it, CHECKS // 6) for it in large]
+    for _ in range(ATTEMPTS):
+        mini = Check(driver, TimedTables("mini", "Mini"), 4 * CHECKS)
+        checks = [Check(driver, it) for it in hostile]
+        faults = [it for check in [mini, *others] for it in check.faults]
+        faults += [it for check in checks for it in dear_tables(mini, check)]
+        if not faults:
+            break
+    report.say("hostile input: checks of hostile tables take little", faults, 2 * RUNS * (1 + len(checks) + len(others)))
+    for check in [mini, *checks, *others]:
+        print(f"       {check}", flush=True)
+
+
+def dear_checks_missed(driver):
+    """Whether a check that takes long is let through."""
+    slowed = Slowed(driver, [f"times {1 + CHECKS:X}"], 3 * DEARER)
+    dear = dear_tables(Check(driver, TimedTables("mini", "Mini")), Check(slowed, TimedTables("lists", "Mini", of_lists())))
+    return [] if any("ns for each" in it for it in dear) else ["not found: a check that takes long"]
