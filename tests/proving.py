@@ -19,9 +19,9 @@ import crates  # noqa: E402
 
 # Memory in bytes: of a crate's first process, and of each that works with it.
 FIRST, EACH = 1_800_000_000, 900_000_000
-# What a process that shares a crate with others does of what it would do alone, and what a second of the gate's log is here: the
-# gate also looks for contracts that no call can meet, and writes statements.
-SHARED, SHARE = 0.6, 0.8
+# What a process that shares a crate with others does of what it would do alone, and what a second of the gate's log is here: what
+# is kept for later costs more than the statements that the gate writes. So it was in a run from nothing on two processors.
+SHARED, SHARE = 0.3, 1.35
 # So often a line says what is under way, and so long what was read of the sources is taken to be as it was, in seconds.
 BEAT, FRESH = 30, 3
 # A line that says why a crate isn't proved.
