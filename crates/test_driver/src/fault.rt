@@ -35,7 +35,7 @@ impl From<io::Error> for Fault {
     }
 }
 
-/// A refusal that is an answer: one for want of memory is none.
+/// A refusal that is an answer: one where an allocation failed is none.
 pub(crate) fn answered(refusal: DataError) -> Result<DataError, Fault> {
     match refusal.kind {
         DataErrorKind::NoMemory => Err(Fault::Refused(refusal.table)),
