@@ -58,6 +58,20 @@ fn weight_at(compressible: bool, ordinal: u32) -> u32
 }
 
 impl CollationElement {
+    /// The data of an offset: a primary weight of three bytes, the character that has it, whether its lead byte
+    /// compresses, and how many weights it is from one character's to the next one's.
+    pub fn offset_data(primary: u32, base: char, compressible: bool, step: u8) -> Self
+        requires { step < 128 }
+        ensures primary { result.primary ≡ primary }
+        ensures base { offset_base result ≡ base }
+        ensures compressible { offset_compressible result ≡ compressible }
+        ensures step { offset_step result ≡ step }
+    {
+        let compresses = if compressible { 0x80 } else { 0 };
+        let data = base as u32 * 0x100 + compresses + u32::from(step);
+        CollationElement::from_weights(primary, (data >> 16) as u16, (data & 0xffff) as u16)
+    }
+
     /// The character that offset data count from.
     fn offset_base(self) -> u32
         ensures { result ≡ offset_base self }
