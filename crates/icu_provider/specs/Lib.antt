@@ -5,6 +5,7 @@ pub mod Jamo
 pub mod Reorderings
 pub mod SpecialPrimaries
 pub mod Metadata
+pub mod MetadataFields
 pub mod Requests
 pub mod Loads
 pub mod StoredTables

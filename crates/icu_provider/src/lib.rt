@@ -14,7 +14,7 @@ pub mod table_set;
 pub use diacritics::{CollationDiacritics, OwnedDiacritics};
 pub use jamo::{CollationJamo, OwnedJamo};
 pub use loads::load_tables;
-pub use metadata::CollationMetadata;
+pub use metadata::{CollationMetadata, MetadataFields};
 pub use provider::CollationProvider;
 pub use reordering::{CollationReordering, OwnedReordering};
 pub use request::DataRequest;
