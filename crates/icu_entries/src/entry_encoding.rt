@@ -1,7 +1,7 @@
 //! Entries made of what they say: what the calls of `entry.rt` read is what was given here.
 ghost use Rattle.std.specs.Prelude.{◌≡◌, ℕ, ◌+◌, ◌*◌, ◌/◌, ◌%◌, ◌^◌, ◌<◌, [], ◌∷◌, ◌↔◌, IfSome, IsSome, IsTrue};
 ghost use Rattle.icu_entries.specs.Elements.{of_primary};
-ghost use Rattle.icu_entries.specs.EncodedEntries.{implicit_entry, simple_entry, long_primary_entry, long_secondary_entry};
+ghost use Rattle.icu_entries.specs.EncodedEntries.{implicit_entry, simple_entry, common_entry, long_primary_entry, long_secondary_entry};
 ghost use Rattle.icu_entries.specs.EncodedEntries.{entry_list, element_list, prefix_entry, contraction_entry, digit_entry, offset_entry};
 ghost use Rattle.icu_entries.specs.EncodedEntries.{of_weights, fits_simple, fits_long_primary, fits_long_secondary, fits_entry};
 ghost use Rattle.icu_entries.specs.Entries.{fallback_entry, kind_of, self_contained, list_length, entry_index, digit_value};
@@ -57,6 +57,15 @@ impl CollationElement32 {
         CollationElement32::new(
             u32::from(primary) * 0x1_0000 + u32::from(secondary) * 0x100 + u32::from(lower),
         )
+    }
+
+    /// The entry of one element with two bytes of primary weight and common weights below.
+    pub fn common(primary: u16) -> Self
+        ensures entry { result ≡ common_entry primary }
+        ensures kind { kind_of result ≡ EntryKind.Simple }
+        ensures element { self_contained result ≡ of_primary (primary * 2 ^ 16) ∷ [] }
+    {
+        CollationElement32::simple(primary, 0x05, 0x05)
     }
 
     /// The entry of one element with three bytes of primary weight and common weights below.

@@ -1,6 +1,7 @@
 //! Weights of three bytes that are counted from another one.
 ghost use Rattle.std.specs.Prelude.{◌≡◌, ◌<◌, IsTrue};
 ghost use Rattle.icu_entries.specs.Weights.{second_bytes, least_second_byte, lead_at, weight_at, offset_base, offset_compressible, offset_step, ordinal_of_weight, offset_ordinal, offset_weight, offset_element};
+ghost use Rattle.icu_entries.specs.EncodedEntries.{offset_of};
 ghost use Rattle.icu_entries.specs.EntryConditions.{is_three_byte_weight, has_offset_weight};
 
 use crate::element::CollationElement;
@@ -62,6 +63,7 @@ impl CollationElement {
     /// compresses, and how many weights it is from one character's to the next one's.
     pub fn offset_data(primary: u32, base: char, compressible: bool, step: u8) -> Self
         requires { step < 128 }
+        ensures value { result ≡ offset_of primary base compressible step }
         ensures primary { result.primary ≡ primary }
         ensures base { offset_base result ≡ base }
         ensures compressible { offset_compressible result ≡ compressible }

@@ -40,7 +40,7 @@ pub record IsLoaded {T A : Type 0} (says : T → A) (held : A) (Accepted : Type 
   pub holds : IfOk r (λ t. says t ≡ held)
   pub refuses : IfErr r Refused
 
--- the same of a table that there may be: where there is none, it is absent
+-- a table that there may be is returned so where there is one; where there is none, it is absent
 abbrev pub IsLoadedIfAny : {T D A : Type 0} → (T → A) → (D → A) → DataTable → (D → Type 0) → (D → DataErrorKind → Type 0) → Option D → Result T DataError → Type 0
 IsLoadedIfAny says held table Accepted Fails None r = IfErr r (Names table (λ k. k ≡ kinds.Absent)) × (IsOk r → ⊥)
 IsLoadedIfAny says held table Accepted Fails (Some d) r = IsLoaded says (held d) (Accepted d) (Names table (Fails d)) r

@@ -11,11 +11,12 @@ ghost use Rattle.icu_provider.specs.StoredTables.{diacritics_of, jamo_of, reorde
 use crate::ingredients::{diacritics, jamo, root};
 use crate::reordering_data::ReorderingData;
 use icu_data::CollationData;
-use icu_entries::DataErrorKind;
+use icu_entries::{CollationElement, CollationElement32, DataErrorKind};
+use icu_options::MaxVariable;
 use icu_owned_data::DataVectors;
 use icu_provider::{
     CollationDiacritics, CollationJamo, CollationMetadata, CollationReordering,
-    CollationSpecialPrimaries,
+    CollationSpecialPrimaries, MetadataFields,
 };
 use std::alloc::{AllocError, Global};
 
@@ -57,9 +58,9 @@ impl Mini {
     /// those of the digits.
     pub(crate) fn with_root(
         alloc: Global,
-        characters: &[(char, u32)],
-        elements: &[u64],
-        entries: &[u32],
+        characters: &[(char, CollationElement32)],
+        elements: &[CollationElement],
+        entries: &[CollationElement32],
     ) -> Result<Mini, AllocError>
         ensures { IfOk result (Holds (mini_with (mini_root characters.now elements.now entries.now))) }
     {
@@ -70,7 +71,7 @@ impl Mini {
             diacritics: diacritics(alloc)?,
             last_primaries: Vec::from_slice(alloc, &[0x0400, 0x0600, 0x0900, 0x0E00])?,
             numeric_primary: 0x0F,
-            metadata: CollationMetadata { bits: 0x01 },
+            metadata: CollationMetadata::new(MetadataFields::new(MaxVariable::Punctuation)),
             reordering: None,
         })
     }

@@ -6,6 +6,7 @@ ghost use Rattle.icu_owned_data.specs.AddedContexts.{given_context, given_row};
 ghost use Rattle.icu_owned_data.specs.inner.AddedRows.{AddsRows};
 
 use icu_data::{Context, ContextRow};
+use icu_entries::CollationElement32;
 use std::alloc::AllocError;
 
 /// Adds a context with its rows, each a list of characters and its entry, after those that are there. An `Err`, out of
@@ -14,8 +15,8 @@ pub(crate) fn add_context(
     contexts: &mut Vec<Context>,
     rows: &mut Vec<ContextRow>,
     chars: &mut Vec<char>,
-    default: u32,
-    given: &[(&[char], u32)],
+    default: CollationElement32,
+    given: &[(&[char], CollationElement32)],
 ) -> Result<(), AllocError>
     ensures adds { OnOk result (HasRangesInside contexts.old.items rows.old.items chars.old.items → stored_contexts contexts.new.items rows.new.items chars.new.items ≡ stored_contexts contexts.old.items rows.old.items chars.old.items ++ given_context default given.entry.now ∷ []) }
     ensures inside { HasRangesInside contexts.old.items rows.old.items chars.old.items → HasRangesInside contexts.new.items rows.new.items chars.new.items }
@@ -39,8 +40,8 @@ fn push_context(
     contexts: &mut Vec<Context>,
     rows: &mut Vec<ContextRow>,
     chars: &mut Vec<char>,
-    default: u32,
-    given: &[(&[char], u32)],
+    default: CollationElement32,
+    given: &[(&[char], CollationElement32)],
 ) -> Result<(), AllocError>
     ensures pushed { OnOk result (contexts.new.items ≡ contexts.old.items ++ record { default = default; rows_start = length rows.old.items; rows_len = length given.entry.now } ∷ []) }
     ensures adds { OnOk result (AddsRows rows.old.items chars.old.items rows.new.items chars.new.items (map given_row given.entry.now)) }
@@ -51,7 +52,7 @@ fn push_context(
     let rows_len = as_stored(given.len())?;
     push_rows(rows, chars, given)?;
     contexts.push(Context {
-        default,
+        default: default.bits(),
         rows_start,
         rows_len,
     })?;
@@ -62,7 +63,7 @@ fn push_context(
 fn push_rows(
     rows: &mut Vec<ContextRow>,
     chars: &mut Vec<char>,
-    given: &[(&[char], u32)],
+    given: &[(&[char], CollationElement32)],
 ) -> Result<(), AllocError>
     ensures adds { OnOk result (AddsRows rows.old.items chars.old.items rows.new.items chars.new.items (map given_row given.entry.now)) }
     ensures grows { OnErr result ((said : List Row) × AddsRows rows.old.items chars.old.items rows.new.items chars.new.items said) }
@@ -78,7 +79,7 @@ fn push_row(
     rows: &mut Vec<ContextRow>,
     chars: &mut Vec<char>,
     list: &[char],
-    entry: u32,
+    entry: CollationElement32,
 ) -> Result<(), AllocError>
     ensures row { OnOk result (rows.new.items ≡ rows.old.items ++ record { chars_start = length chars.old.items; chars_len = length list.now; entry = entry } ∷ []) }
     ensures chars { OnOk result (chars.new.items ≡ chars.old.items ++ list.now) }
@@ -88,7 +89,7 @@ fn push_row(
     let row = ContextRow {
         chars_start: as_stored(start)?,
         chars_len: as_stored(list.len())?,
-        entry,
+        entry: entry.bits(),
     };
     chars.extend_from_slice(list)?;
     if rows.push(row).is_err() {
