@@ -36,6 +36,7 @@ use crate::violation::Violation;
 use icu_data::CollationData;
 use icu_data::violation::earlier;
 use icu_entries::DataTable;
+use icu_provider::diacritics::OPTIMIZED_DIACRITICS_MAX_COUNT;
 use icu_provider::{CollationReordering, TableSet};
 use std::alloc::{AllocError, Global};
 
@@ -80,7 +81,9 @@ fn count_violation(tables: TableSet<'_>) -> Option<Violation>
     ensures none { result ≡ None → HasDiacriticCount (tables_in tables.entry) }
     ensures some { IfSome result (IsTrueViolation (tables_in tables.entry)) }
 {
-    if tables.diacritics.secondaries().len() == 79 || tables.metadata.tailored_diacritics() {
+    if tables.diacritics.secondaries().len() == OPTIMIZED_DIACRITICS_MAX_COUNT
+        || tables.metadata.tailored_diacritics()
+    {
         None
     } else {
         Some(Violation {

@@ -11,6 +11,7 @@ use crate::error::{Fault, ReadError, named};
 use icu_entries::{CollationElement32, DataTable};
 use icu_options::MaxVariable;
 use icu_owned_data::{DataBuilder, OwnedData};
+use icu_provider::jamo::{JAMO_BASE, JAMO_COUNT};
 use icu_provider::{
     CollationDiacritics, CollationJamo, CollationMetadata, MetadataFields, OwnedDiacritics,
     OwnedJamo, OwnedTables,
@@ -18,18 +19,13 @@ use icu_provider::{
 use std::alloc::Global;
 use std::collections::BTreeMap;
 
-/// The conjoining jamo.
-const FIRST_JAMO: u32 = 0x1100;
-
-const JAMO_COUNT: u32 = 256;
-
 /// The entries of the conjoining jamo.
 fn jamo(alloc: Global, entries: &BTreeMap<char, CollationElement32>) -> Result<OwnedJamo, ReadError>
     ensures { IfErr result IsNumbered }
 {
     let implicit = CollationElement32::implicit();
     let mut jamo = Vec::new(alloc);
-    for code in FIRST_JAMO..FIRST_JAMO + JAMO_COUNT {
+    for code in JAMO_BASE..JAMO_BASE + JAMO_COUNT as u32 {
         let entry = match char::from_u32(code) {
             Some(c) => entries.get(&c).copied().unwrap_or(implicit),
             None => implicit,

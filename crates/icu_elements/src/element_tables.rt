@@ -11,6 +11,7 @@ ghost use Rattle.icu_matches.specs.GoodEntries.{IsGoodFrom};
 use icu_checks::CheckedTables;
 use icu_data::CollationData;
 use icu_entries::{CollationElement32, EntryKind};
+use icu_provider::jamo::{JAMO_BASE, JAMO_COUNT};
 use std::alloc::Global;
 
 /// The tables that elements are read from: root, tailoring, jamo and diacritics, checked together.
@@ -96,16 +97,16 @@ impl<'d> ElementTables<'d> {
         ensures { entry_of (element_tables self.entry) c ≡ homed (data_of result.home) result.ce32 }
     {
         let code = c as usize;
-        if code >= 0x1100 && code < 0x1200 {
+        if code >= JAMO_BASE as usize && code < JAMO_BASE as usize + JAMO_COUNT {
             let jamo = self.tables.jamo();
             return HomedEntry {
                 home: self.tables.root(),
-                ce32: CollationElement32::new(jamo.ce32s()[code - 0x1100]),
+                ce32: CollationElement32::new(jamo.ce32s()[code - JAMO_BASE as usize]),
             };
         }
         if let Some(tailoring) = self.tables.tailoring() {
             let tailored = tailoring.ce32_for_char(c);
-            if tailored != CollationElement32::new(0xC0) {
+            if !tailored.is_fallback() {
                 return HomedEntry {
                     home: tailoring,
                     ce32: tailored,

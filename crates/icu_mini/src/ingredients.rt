@@ -9,6 +9,7 @@ ghost use Rattle.icu_mini.specs.Mini.{mini_root, mini_tailoring};
 use crate::mini_characters::{plain_digits, set_characters, set_mini_characters};
 use icu_entries::{CollationElement, CollationElement32};
 use icu_owned_data::{DataBuilder, DataVectors};
+use icu_provider::diacritics::OPTIMIZED_DIACRITICS_MAX_COUNT;
 use std::alloc::{AllocError, Global};
 
 /// How much a simple entry rises where its primary weight does by one in the second byte.
@@ -93,7 +94,7 @@ pub(crate) fn diacritics(alloc: Global) -> Result<Vec<u16>, AllocError>
     ensures { IfOk result (λ v. v.items ≡ run 0x4600 0x100 79) }
 {
     let mut weights = Vec::new(alloc);
-    for i in 0..79u16 {
+    for i in 0..OPTIMIZED_DIACRITICS_MAX_COUNT as u16 {
         weights.push(0x4600 + 0x100 * i)?;
     }
     Ok(weights)

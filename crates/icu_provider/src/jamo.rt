@@ -5,6 +5,9 @@ ghost use Rattle.icu_provider.specs.Jamo.{IsJamo, FailsJamo};
 use icu_entries::{CollationElement32, DataErrorKind};
 use std::alloc::{AllocError, Global};
 
+/// The first conjoining jamo.
+pub const JAMO_BASE: u32 = 0x1100;
+
 /// How many conjoining jamo there are.
 pub const JAMO_COUNT: usize = 256;
 
