@@ -107,7 +107,11 @@ impl CollationElement32 {
 
     /// The entry of four bytes, least byte first.
     pub fn new_from_ule(ule: [u8; 4]) -> Self
-        ensures { result ≡ slice_index ule 0 + slice_index ule 1 * 256 + slice_index ule 2 * 256 ^ 2 + slice_index ule 3 * 256 ^ 3 }
+        ensures { result
+            ≡ slice_index ule 0
+            + slice_index ule 1 * 256
+            + slice_index ule 2 * 256 ^ 2
+            + slice_index ule 3 * 256 ^ 3 }
     {
         CollationElement32 {
             bits: u32::from_le_bytes(ule),

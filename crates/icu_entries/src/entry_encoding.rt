@@ -52,7 +52,8 @@ impl CollationElement32 {
         requires { lower < 0xC0 }
         ensures entry { result ≡ simple_entry primary secondary lower }
         ensures kind { kind_of result ≡ EntryKind.Simple }
-        ensures element { self_contained result ≡ of_weights (primary * 2 ^ 16) (secondary * 2 ^ 8) (lower * 2 ^ 8) ∷ [] }
+        ensures element { self_contained result
+            ≡ of_weights (primary * 2 ^ 16) (secondary * 2 ^ 8) (lower * 2 ^ 8) ∷ [] }
     {
         CollationElement32::new(
             u32::from(primary) * 0x1_0000 + u32::from(secondary) * 0x100 + u32::from(lower),

@@ -119,7 +119,8 @@ impl CollationElement {
     pub fn offset_element(self, c: char) -> CollationElement
         requires { IsTrue (has_offset_weight self c) }
         ensures value { result ≡ offset_element self c }
-        ensures place { ordinal_of_weight (offset_compressible self) result.primary ≡ offset_ordinal self c }
+        ensures place { ordinal_of_weight (offset_compressible self) result.primary
+            ≡ offset_ordinal self c }
     {
         let compressible = self.offset_compressible();
         CollationElement::new_from_primary(weight_at(compressible, self.offset_ordinal(c)))

@@ -3,6 +3,7 @@ ghost use Rattle.std.specs.Prelude.{◌≡◌, ◌++◌, ◌+◌, ◌*◌, ◌^�
 ghost use Rattle.icu_owned_data.specs.AddedContexts.{given_context};
 ghost use Rattle.icu_owned_data.specs.Building.{SaysOfCharacters};
 ghost use Rattle.icu_owned_data.specs.OwnedData.{vectors_data};
+ghost use Rattle.icu_entries.specs.EncodedEntries.{common_entry};
 ghost use Rattle.icu_mini.specs.Characters.{run};
 ghost use Rattle.icu_mini.specs.Mini.{mini_root, mini_tailoring};
 
@@ -23,7 +24,9 @@ pub(crate) fn root(
     elements: &[CollationElement],
     entries: &[CollationElement32],
 ) -> Result<DataVectors, AllocError>
-    ensures { IfOk result (λ v. SaysOfCharacters (mini_root characters.now elements.now entries.now) (vectors_data v)) }
+    ensures { IfOk result (λ v. SaysOfCharacters
+        (mini_root characters.now elements.now entries.now)
+        (vectors_data v)) }
 {
     let mut builder = DataBuilder::new(alloc, CollationElement32::implicit())?;
     set_mini_characters(&mut builder);
@@ -40,7 +43,9 @@ pub(crate) fn tailoring(
     characters: &[(char, CollationElement32)],
     elements: &[CollationElement],
 ) -> Result<DataVectors, AllocError>
-    ensures { IfOk result (λ v. SaysOfCharacters (mini_tailoring characters.now elements.now []) (vectors_data v)) }
+    ensures { IfOk result (λ v. SaysOfCharacters
+        (mini_tailoring characters.now elements.now [])
+        (vectors_data v)) }
 {
     let mut builder = DataBuilder::new(alloc, CollationElement32::fallback())?;
     set_characters(&mut builder, characters);
@@ -56,7 +61,9 @@ pub(crate) fn in_context(
     default: CollationElement32,
     rows: &[(&[char], CollationElement32)],
 ) -> Result<DataVectors, AllocError>
-    ensures { IfOk result (λ v. SaysOfCharacters (mini_tailoring ((c, entry) ∷ []) [] (given_context default rows.now ∷ [])) (vectors_data v)) }
+    ensures { IfOk result (λ v. SaysOfCharacters
+        (mini_tailoring ((c, entry) ∷ []) [] (given_context default rows.now ∷ []))
+        (vectors_data v)) }
 {
     let mut builder = DataBuilder::new(alloc, CollationElement32::fallback())?;
     set_characters(&mut builder, &[(c, entry)]);
@@ -79,7 +86,8 @@ pub(crate) fn run(alloc: Global, first: u32, step: u32, count: u32) -> Result<Ve
 
 /// The entries of the jamo: the lead byte is 65 for the first half, 66 for the second.
 pub(crate) fn jamo(alloc: Global) -> Result<Vec<u32>, AllocError>
-    ensures { IfOk result (λ v. v.items ≡ run 0x65100505 0x10000 128 ++ run 0x66100505 0x10000 128) }
+    ensures { IfOk result (λ v. v.items
+        ≡ run (common_entry 0x6510) 0x10000 128 ++ run (common_entry 0x6610) 0x10000 128) }
 {
     let first = CollationElement32::common(0x6510).bits();
     let second = CollationElement32::common(0x6610).bits();

@@ -62,7 +62,8 @@ impl Mini {
         elements: &[CollationElement],
         entries: &[CollationElement32],
     ) -> Result<Mini, AllocError>
-        ensures { IfOk result (Holds (mini_with (mini_root characters.now elements.now entries.now))) }
+        ensures { IfOk result (Holds
+            (mini_with (mini_root characters.now elements.now entries.now))) }
     {
         Ok(Mini {
             root: root(alloc, characters, elements, entries)?,
@@ -89,7 +90,8 @@ impl Mini {
     pub fn load_tailoring(&self) -> Result<Option<CollationData<'_>>, DataErrorKind>
         ensures accepts { IsOk result ↔ IfSome self.now.tailoring MayBeData }
         ensures kind { IfErr result (λ k. IfSome self.now.tailoring (λ d. FailsVectors d k)) }
-        ensures holds { IfOk result (λ d. option_map data_of d ≡ option_map vectors_data self.now.tailoring) }
+        ensures holds { IfOk result (λ d. option_map data_of d
+            ≡ option_map vectors_data self.now.tailoring) }
     {
         match &self.tailoring {
             None => Ok(None),
@@ -117,8 +119,10 @@ impl Mini {
 
     /// The special primary weights as a collator takes them, or the kind of a condition that they fail.
     pub fn load_special_primaries(&self) -> Result<CollationSpecialPrimaries<'_>, DataErrorKind>
-        ensures accepts { IsOk result ↔ IsSpecialPrimaries self.now.last_primaries.items self.now.numeric_primary }
-        ensures kind { IfErr result (FailsSpecial self.now.last_primaries.items self.now.numeric_primary) }
+        ensures accepts { IsOk result
+            ↔ IsSpecialPrimaries self.now.last_primaries.items self.now.numeric_primary }
+        ensures kind { IfErr result
+            (FailsSpecial self.now.last_primaries.items self.now.numeric_primary) }
         ensures holds { IfOk result (λ s. special_of s ≡ special_held self.now) }
     {
         CollationSpecialPrimaries::new(self.last_primaries.as_slice(), self.numeric_primary)
@@ -128,7 +132,8 @@ impl Mini {
     pub fn load_reordering(&self) -> Result<Option<CollationReordering<'_>>, DataErrorKind>
         ensures accepts { IsOk result ↔ IfSome self.now.reordering HasAllLeads }
         ensures kind { IfErr result (λ k. k ≡ DataErrorKind.Length) }
-        ensures holds { IfOk result (λ r. option_map reordering_of r ≡ option_map reordering_held self.now.reordering) }
+        ensures holds { IfOk result (λ r. option_map reordering_of r
+            ≡ option_map reordering_held self.now.reordering) }
     {
         match &self.reordering {
             None => Ok(None),

@@ -104,7 +104,10 @@ impl Mini {
     }
 
     fn named_root(&self) -> Result<CollationData<'_>, DataError>
-        ensures { IsLoaded data_of (vectors_data self.now.root) (MayBeData self.now.root) (Names DataTable.Root (FailsVectors self.now.root)) result }
+        ensures { IsLoaded data_of (vectors_data self.now.root)
+            (MayBeData self.now.root)
+            (Names DataTable.Root (FailsVectors self.now.root))
+            result }
     {
         match self.load_root() {
             Ok(root) => Ok(root),
@@ -113,7 +116,10 @@ impl Mini {
     }
 
     fn named_jamo(&self) -> Result<CollationJamo<'_>, DataError>
-        ensures { IsLoaded jamo_of self.now.jamo.items (IsJamo self.now.jamo.items) (Names DataTable.Jamo (FailsJamo self.now.jamo.items)) result }
+        ensures { IsLoaded jamo_of self.now.jamo.items
+            (IsJamo self.now.jamo.items)
+            (Names DataTable.Jamo (FailsJamo self.now.jamo.items))
+            result }
     {
         match self.load_jamo() {
             Ok(jamo) => Ok(jamo),
@@ -122,8 +128,11 @@ impl Mini {
     }
 
     fn named_special_primaries(&self) -> Result<CollationSpecialPrimaries<'_>, DataError>
-        ensures { IsLoaded special_of (special_held self.now) (IsSpecialPrimaries self.now.last_primaries.items self.now.numeric_primary)
-            (Names DataTable.SpecialPrimaries (FailsSpecial self.now.last_primaries.items self.now.numeric_primary)) result }
+        ensures { IsLoaded special_of (special_held self.now)
+            (IsSpecialPrimaries self.now.last_primaries.items self.now.numeric_primary)
+            (Names DataTable.SpecialPrimaries
+                (FailsSpecial self.now.last_primaries.items self.now.numeric_primary))
+            result }
     {
         match self.load_special_primaries() {
             Ok(special) => Ok(special),
@@ -132,7 +141,8 @@ impl Mini {
     }
 
     fn named_tailoring(&self) -> Result<CollationData<'_>, DataError>
-        ensures { IsLoadedIfAny data_of vectors_data DataTable.Tailoring MayBeData FailsVectors self.now.tailoring result }
+        ensures { IsLoadedIfAny data_of vectors_data DataTable.Tailoring
+            MayBeData FailsVectors self.now.tailoring result }
     {
         let Some(tailoring) = &self.tailoring else {
             return Err(refusal(DataTable::Tailoring, DataErrorKind::Absent));
@@ -144,7 +154,8 @@ impl Mini {
     }
 
     fn named_reordering(&self) -> Result<CollationReordering<'_>, DataError>
-        ensures { IsLoadedIfAny reordering_of reordering_held DataTable.Reordering HasAllLeads (λ r k. k ≡ DataErrorKind.Length) self.now.reordering result }
+        ensures { IsLoadedIfAny reordering_of reordering_held DataTable.Reordering
+            HasAllLeads (λ r k. k ≡ DataErrorKind.Length) self.now.reordering result }
     {
         let Some(reordering) = &self.reordering else {
             return Err(refusal(DataTable::Reordering, DataErrorKind::Absent));
@@ -156,7 +167,10 @@ impl Mini {
     }
 
     fn named_diacritics(&self) -> Result<CollationDiacritics<'_>, DataError>
-        ensures { IsLoaded diacritics_of self.now.diacritics.items (IsDiacritics self.now.diacritics.items) (Names DataTable.Diacritics (FailsDiacritics self.now.diacritics.items)) result }
+        ensures { IsLoaded diacritics_of self.now.diacritics.items
+            (IsDiacritics self.now.diacritics.items)
+            (Names DataTable.Diacritics (FailsDiacritics self.now.diacritics.items))
+            result }
     {
         match self.load_diacritics() {
             Ok(diacritics) => Ok(diacritics),

@@ -43,7 +43,8 @@ impl Mini {
         default: CollationElement32,
         rows: &[(&[char], CollationElement32)],
     ) -> Result<Mini, AllocError>
-        ensures { IfOk result (Holds (variants.in_context c entry (given_context default rows.now))) }
+        ensures { IfOk result (Holds
+            (variants.in_context c entry (given_context default rows.now))) }
     {
         let mut mini = Mini::new(alloc)?;
         mini.tailoring = Some(in_context(alloc, c, entry, default, rows)?);
@@ -276,7 +277,8 @@ impl Mini {
 
 /// 61 and 62 change places, and every other lead byte has a 0.
 fn swapped_leads(alloc: Global) -> Result<Vec<u8>, AllocError>
-    ensures { IfOk result (λ v. v.items ≡ slice_set (slice_set (replicate 256 0) 0x61 0x62) 0x62 0x61) }
+    ensures { IfOk result (λ v. v.items
+        ≡ slice_set (slice_set (replicate 256 0) 0x61 0x62) 0x62 0x61) }
 {
     let mut leads = Vec::from_slice(alloc, &[0u8; 256])?;
     leads[0x61] = 0x62;

@@ -18,9 +18,15 @@ pub(crate) fn add_context(
     default: CollationElement32,
     given: &[(&[char], CollationElement32)],
 ) -> Result<(), AllocError>
-    ensures adds { OnOk result (HasRangesInside contexts.old.items rows.old.items chars.old.items → stored_contexts contexts.new.items rows.new.items chars.new.items ≡ stored_contexts contexts.old.items rows.old.items chars.old.items ++ given_context default given.entry.now ∷ []) }
-    ensures inside { HasRangesInside contexts.old.items rows.old.items chars.old.items → HasRangesInside contexts.new.items rows.new.items chars.new.items }
-    ensures err { OnErr result ((contexts.new.items ≡ contexts.old.items) × (rows.new.items ≡ rows.old.items) × (chars.new.items ≡ chars.old.items)) }
+    ensures adds { OnOk result (HasRangesInside contexts.old.items rows.old.items chars.old.items
+        → stored_contexts contexts.new.items rows.new.items chars.new.items
+        ≡ stored_contexts contexts.old.items rows.old.items chars.old.items
+        ++ given_context default given.entry.now ∷ []) }
+    ensures inside { HasRangesInside contexts.old.items rows.old.items chars.old.items
+        → HasRangesInside contexts.new.items rows.new.items chars.new.items }
+    ensures err { OnErr result ((contexts.new.items ≡ contexts.old.items)
+        × (rows.new.items ≡ rows.old.items)
+        × (chars.new.items ≡ chars.old.items)) }
 {
     let row_count = rows.len();
     let char_count = chars.len();
@@ -34,7 +40,7 @@ pub(crate) fn add_context(
     }
 }
 
-/// The same, but an `Err` may leave rows and characters behind.
+/// Adds a context with its rows after those that are there. An `Err` may leave rows and characters behind.
 #[tactic(auto, using(crate::proofs::AddedRowLemmas::grows_by_none))]
 fn push_context(
     contexts: &mut Vec<Context>,
@@ -43,10 +49,17 @@ fn push_context(
     default: CollationElement32,
     given: &[(&[char], CollationElement32)],
 ) -> Result<(), AllocError>
-    ensures pushed { OnOk result (contexts.new.items ≡ contexts.old.items ++ record { default = default; rows_start = length rows.old.items; rows_len = length given.entry.now } ∷ []) }
-    ensures adds { OnOk result (AddsRows rows.old.items chars.old.items rows.new.items chars.new.items (map given_row given.entry.now)) }
+    ensures pushed { OnOk result (contexts.new.items ≡ contexts.old.items ++ record {
+      default = default;
+      rows_start = length rows.old.items;
+      rows_len = length given.entry.now;
+    } ∷ []) }
+    ensures adds { OnOk result (AddsRows
+        rows.old.items chars.old.items rows.new.items chars.new.items
+        (map given_row given.entry.now)) }
     ensures err { OnErr result (contexts.new.items ≡ contexts.old.items) }
-    ensures grows { OnErr result ((said : List Row) × AddsRows rows.old.items chars.old.items rows.new.items chars.new.items said) }
+    ensures grows { OnErr result ((said : List Row)
+        × AddsRows rows.old.items chars.old.items rows.new.items chars.new.items said) }
 {
     let rows_start = as_stored(rows.len())?;
     let rows_len = as_stored(given.len())?;
@@ -65,8 +78,11 @@ fn push_rows(
     chars: &mut Vec<char>,
     given: &[(&[char], CollationElement32)],
 ) -> Result<(), AllocError>
-    ensures adds { OnOk result (AddsRows rows.old.items chars.old.items rows.new.items chars.new.items (map given_row given.entry.now)) }
-    ensures grows { OnErr result ((said : List Row) × AddsRows rows.old.items chars.old.items rows.new.items chars.new.items said) }
+    ensures adds { OnOk result (AddsRows
+        rows.old.items chars.old.items rows.new.items chars.new.items
+        (map given_row given.entry.now)) }
+    ensures grows { OnErr result ((said : List Row)
+        × AddsRows rows.old.items chars.old.items rows.new.items chars.new.items said) }
 {
     for (list, entry) in given {
         push_row(rows, chars, list, *entry)?;
@@ -81,9 +97,14 @@ fn push_row(
     list: &[char],
     entry: CollationElement32,
 ) -> Result<(), AllocError>
-    ensures row { OnOk result (rows.new.items ≡ rows.old.items ++ record { chars_start = length chars.old.items; chars_len = length list.now; entry = entry } ∷ []) }
+    ensures row { OnOk result (rows.new.items ≡ rows.old.items ++ record {
+      chars_start = length chars.old.items;
+      chars_len = length list.now;
+      entry = entry;
+    } ∷ []) }
     ensures chars { OnOk result (chars.new.items ≡ chars.old.items ++ list.now) }
-    ensures err { OnErr result ((rows.new.items ≡ rows.old.items) × (chars.new.items ≡ chars.old.items)) }
+    ensures err { OnErr result ((rows.new.items ≡ rows.old.items)
+        × (chars.new.items ≡ chars.old.items)) }
 {
     let start = chars.len();
     let row = ContextRow {

@@ -32,7 +32,8 @@ pub struct DataBuilder {
 
 /// Appends the bits of elements. An `Err` leaves all as it was.
 fn push_elements(ces: &mut Vec<u64>, elements: &[CollationElement]) -> Result<(), AllocError>
-    ensures adds { OnOk result (map element_of ces.new.items ≡ map element_of ces.old.items ++ elements.now) }
+    ensures adds { OnOk result (map element_of ces.new.items
+        ≡ map element_of ces.old.items ++ elements.now) }
     ensures err { OnErr result (ces.new.items ≡ ces.old.items) }
 {
     let count = ces.len();
@@ -76,8 +77,10 @@ fn fill(entries: &mut Vec<u32>, first: usize, last: usize, entry: CollationEleme
     requires inside { last < length entries.old.items }
     ensures len { length entries.new.items ≡ length entries.old.items }
     ensures set { (k d : ℕ) → first ≤ k → k ≤ last → slice_index_or entries.new.items k d ≡ entry }
-    ensures below { (k d : ℕ) → k < first → slice_index_or entries.new.items k d ≡ slice_index_or entries.old.items k d }
-    ensures above { (k d : ℕ) → last < k → slice_index_or entries.new.items k d ≡ slice_index_or entries.old.items k d }
+    ensures below { (k d : ℕ) → k < first
+        → slice_index_or entries.new.items k d ≡ slice_index_or entries.old.items k d }
+    ensures above { (k d : ℕ) → last < k
+        → slice_index_or entries.new.items k d ≡ slice_index_or entries.old.items k d }
 {
     for index in first..last + 1 {
         entries[index] = entry.bits();
@@ -128,7 +131,8 @@ impl DataBuilder {
     #[tactic(auto, unfolding(crate::specs::Building::built_data))]
     pub fn add_elements(&mut self, elements: &[CollationElement]) -> Result<usize, AllocError>
         ensures index { IfOk result (λ i. i ≡ length (built_data self.old).elements) }
-        ensures adds { OnOk result (built_data self.new ≡ and_elements (built_data self.old) elements.now) }
+        ensures adds { OnOk result (built_data self.new
+            ≡ and_elements (built_data self.old) elements.now) }
         ensures err { OnErr result (built_data self.new ≡ built_data self.old) }
     {
         let index = self.ces.len();
@@ -140,7 +144,8 @@ impl DataBuilder {
     #[tactic(auto, unfolding(crate::specs::Building::built_data))]
     pub fn add_entries(&mut self, entries: &[CollationElement32]) -> Result<usize, AllocError>
         ensures index { IfOk result (λ i. i ≡ length (built_data self.old).entries) }
-        ensures adds { OnOk result (built_data self.new ≡ and_entries (built_data self.old) entries.now) }
+        ensures adds { OnOk result (built_data self.new
+            ≡ and_entries (built_data self.old) entries.now) }
         ensures err { OnErr result (built_data self.new ≡ built_data self.old) }
     {
         let index = self.ce32s.len();
@@ -158,7 +163,8 @@ impl DataBuilder {
         rows: &[(&[char], CollationElement32)],
     ) -> Result<usize, AllocError>
         ensures index { IfOk result (λ i. i ≡ length (built_data self.old).contexts) }
-        ensures adds { OnOk result (built_data self.new ≡ and_context (built_data self.old) (given_context default rows.entry.now)) }
+        ensures adds { OnOk result (built_data self.new
+            ≡ and_context (built_data self.old) (given_context default rows.entry.now)) }
         ensures err { OnErr result (built_data self.new ≡ built_data self.old) }
     {
         let index = self.contexts.len();

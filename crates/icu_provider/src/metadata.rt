@@ -96,7 +96,7 @@ impl CollationMetadata {
         ensures bits { result.bits ≡ metadata_bits fields }
         ensures max_variable { max_variable_of result.bits ≡ fields.max_variable }
         ensures tailored { is_tailored result.bits ≡ fields.tailored }
-        ensures tailored_diacritics { has_tailored_diacritics result.bits ≡ fields.tailored_diacritics }
+        ensures diacritics { has_tailored_diacritics result.bits ≡ fields.tailored_diacritics }
         ensures reordering { has_reordering result.bits ≡ fields.reordering }
         ensures lithuanian { is_lithuanian result.bits ≡ fields.lithuanian_dot_above }
         ensures backward { is_backward result.bits ≡ fields.backward_second_level }
