@@ -35,7 +35,7 @@ impl<'a, R: Files + AllocGlobal> CollatorSource for FileSource<'a, R> {
 
     fn collator(&self, alloc: Global, strength: Strength) -> Result<Collator, Fault> {
         let root = read_file(self.rt, self.file)?;
-        root_collator(alloc, &root, self.file, self.chosen, strength)
+        root_collator(alloc, root, self.file, self.chosen, strength)
     }
 }
 
@@ -91,17 +91,18 @@ fn read_file<R: Files + AllocGlobal>(rt: &R, file: &str) -> Result<CldrRoot, Fau
 /// A collator by the tables that were read from a file, with the chosen settings.
 fn root_collator(
     alloc: Global,
-    root: &CldrRoot,
+    root: CldrRoot,
     file: &str,
     chosen: Chosen,
     strength: Strength,
 ) -> Result<Collator, Fault>
-    requires { IsRoot (root_tables root.now) }
+    requires { IsRoot (root_tables root) }
     ensures compares { IfOk result (λ c. ComparesAs chosen strength (collation_kept c)) }
     ensures good { IfOk result (λ c. IsGoodTables (tables_kept c)) }
     ensures refused { IfErr result (IsRefusal (IsLineOf file.now)) }
 {
-    match Collator::try_new_unstable(alloc, root, chosen.preferences(), chosen.options(strength)) {
+    let tables = root.into_tables();
+    match Collator::try_from_tables(alloc, tables, chosen.preferences(), chosen.options(strength)) {
         Ok(collator) => Ok(collator),
         Err(error) => Err(refusal_of(alloc, file, error)),
     }

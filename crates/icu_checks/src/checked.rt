@@ -62,6 +62,24 @@ impl CheckedTables {
         }
     }
 
+    /// Checks the tables of a collator together, and keeps them: nothing is copied. Allocates, while the check runs,
+    /// the weights that are compared with one another.
+    ///
+    /// Refuses as `from_set` does, and drops what is refused. The tailoring and the reordering are to be there exactly
+    /// where the metadata names them.
+    pub fn from_owned(alloc: Global, tables: OwnedTables) -> Result<CheckedTables, DataError>
+        ensures good { IsOk result → IsGoodTables (owned_tables tables) }
+        ensures refusal { IfErr result (IsTrueRefusal (owned_tables tables)) }
+        ensures exact { IfErr result (λ e.
+            (e.kind ≡ DataErrorKind.NoMemory → ⊥) → IsGoodTables (owned_tables tables) → ⊥) }
+        ensures keeps { IfOk result (λ t. checked_tables t ≡ owned_tables tables) }
+    {
+        match check(alloc, tables.as_set()) {
+            Ok(()) => Ok(CheckedTables { alloc, tables }),
+            Err(refusal) => Err(refusal),
+        }
+    }
+
     /// The same of tables one by one. The tailoring and the reordering are there exactly where the metadata names them;
     /// that is the caller's part, since what is not named is not read.
     pub fn new(

@@ -11,9 +11,7 @@ use crate::entries::IMPLICIT_CE32;
 use crate::error::{Fault, ReadError, named};
 use icu_entries::DataTable;
 use icu_owned_data::{DataBuilder, OwnedData};
-use icu_provider::{
-    CollationDiacritics, CollationJamo, CollationMetadata, OwnedDiacritics, OwnedJamo, OwnedTables,
-};
+use icu_provider::{CollationMetadata, OwnedDiacritics, OwnedJamo, OwnedTables};
 use std::alloc::Global;
 use std::collections::BTreeMap;
 
@@ -37,16 +35,15 @@ fn jamo(alloc: Global, entries: &BTreeMap<char, u32>) -> Result<OwnedJamo, ReadE
         };
         jamo.push(entry)?;
     }
-    let table = named(DataTable::Jamo, CollationJamo::new(jamo.as_slice()))?;
-    Ok(OwnedJamo::copy(alloc, table)?)
+    named(DataTable::Jamo, OwnedJamo::new(jamo))
 }
 
 /// The secondary weights of diacritics.
 fn diacritics(alloc: Global, secondaries: &[u16]) -> Result<OwnedDiacritics, ReadError>
     ensures { IfErr result IsNumbered }
 {
-    let table = named(DataTable::Diacritics, CollationDiacritics::new(secondaries))?;
-    Ok(OwnedDiacritics::copy(alloc, table)?)
+    let secondaries = Vec::from_slice(alloc, secondaries)?;
+    named(DataTable::Diacritics, OwnedDiacritics::new(secondaries))
 }
 
 /// Gives the characters that have contexts their entries.

@@ -6,7 +6,7 @@ ghost use Rattle.icu_cldr.specs.Errors.{IsNumbered};
 use crate::error::{Fault, Missing, ReadError, Refusal, named};
 use icu_entries::DataTable;
 use icu_fractional::LeadByte;
-use icu_provider::{CollationSpecialPrimaries, OwnedSpecialPrimaries};
+use icu_provider::OwnedSpecialPrimaries;
 use std::alloc::Global;
 
 /// What the lines said so far of special primary weights.
@@ -95,10 +95,6 @@ impl Special {
     {
         let numbers = self.last_primaries(alloc)?;
         let lead = self.numeric_lead.ok_or(Missing::NumericLead)?;
-        let table = named(
-            DataTable::SpecialPrimaries,
-            CollationSpecialPrimaries::new(numbers.as_slice(), lead),
-        )?;
-        Ok(OwnedSpecialPrimaries::copy(alloc, table)?)
+        named(DataTable::SpecialPrimaries, OwnedSpecialPrimaries::new(numbers, lead))
     }
 }

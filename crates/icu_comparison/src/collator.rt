@@ -8,6 +8,7 @@ ghost use Rattle.icu_options.specs.Metadata.{metadata_settings, is_backward};
 ghost use Rattle.icu_entries.specs.declared.error.DataErrorKind.TheVariants.{NoMemory};
 ghost use Rattle.icu_checks.specs.Checked.{checked_tables};
 ghost use Rattle.icu_checks.specs.GoodTables.{IsGoodTables, IsTrueRefusal};
+ghost use Rattle.icu_provider.specs.OwnedTables.{owned_tables};
 ghost use Rattle.icu_cursor.specs.Cursors.{cursor_reading};
 ghost use Rattle.icu_elements.specs.Reading.{element_tables};
 ghost use Rattle.icu_elements.specs.TextElements.{Reading, elements_of};
@@ -33,7 +34,7 @@ use icu_options::{
     AlternateHandling, CollatorOptions, CollatorOptionsBitField, CollatorPreferences,
     ResolvedCollatorOptions, merged_options,
 };
-use icu_provider::{CollationProvider, load_tables};
+use icu_provider::{CollationProvider, OwnedTables, load_tables};
 use icu_shortcuts::{Letter, Letters, NamedCharacters, SafePlaces, outline_of};
 use icu_text_keys::key_form;
 use std::alloc::{AllocError, Global};
@@ -92,6 +93,49 @@ impl Collator {
     {
         let loaded = load_tables(provider, preferences.locale, preferences.collation_type)?;
         let tables = CheckedTables::from_set(alloc, loaded)?;
+        Collator::by_tables(alloc, tables, preferences, options)
+    }
+
+    /// A collator by these tables, which are checked together and kept: nothing is copied, and
+    /// nothing is kept that wasn't checked. The tables are those of one collation, so the locale and
+    /// the type of `preferences` aren't read; a tailoring and a reordering are to be there exactly
+    /// where the metadata names them. Settings are those of `try_new_unstable`.
+    ///
+    /// Tables that don't meet the conditions together are refused as `try_new_unstable` refuses them,
+    /// and dropped. `NoMemory` says that an allocation failed.
+    pub fn try_from_tables(
+        alloc: Global,
+        tables: OwnedTables,
+        preferences: CollatorPreferences<'_>,
+        options: CollatorOptions,
+    ) -> Result<Collator, DataError>
+        ensures keeps { IfOk result (λ c. tables_kept c ≡ owned_tables tables) }
+
+        // Unless an allocation fails, a collator is made of good tables, and only of them.
+        ensures good { IfOk result (λ c. IsGoodTables (tables_kept c)) }
+        ensures refusal { IfErr result (IsTrueRefusal (owned_tables tables)) }
+        ensures exact { IfErr result (λ e.
+            (e.kind ≡ NoMemory → ⊥) → IsGoodTables (owned_tables tables) → ⊥) }
+
+        ensures settings { IfOk result (λ c. settings_kept c
+            ≡ merge options preferences.entry (metadata_settings (tables_kept c).bits)) }
+    {
+        let tables = CheckedTables::from_owned(alloc, tables)?;
+        Collator::by_tables(alloc, tables, preferences, options)
+    }
+
+    /// A collator by tables that were checked.
+    fn by_tables(
+        alloc: Global,
+        tables: CheckedTables,
+        preferences: CollatorPreferences<'_>,
+        options: CollatorOptions,
+    ) -> Result<Collator, DataError>
+        ensures keeps { IfOk result (λ c. tables_kept c ≡ checked_tables tables) }
+        ensures settings { IfOk result (λ c. settings_kept c
+            ≡ merge options preferences.entry (metadata_settings (checked_tables tables).bits)) }
+        ensures memory { IfErr result (λ e. e.kind ≡ NoMemory) }
+    {
         let settings = merged_options(options, preferences, tables.metadata().settings());
         let named = refused_as_root(NamedCharacters::new(alloc, &tables))?;
         let places = safe_places(&tables, &named, settings);

@@ -11,69 +11,8 @@ use crate::mini::Mini;
 use icu_data::CollationData;
 use icu_entries::{DataError, DataErrorKind, DataTable};
 use icu_provider::{
-    CollationDiacritics, CollationJamo, CollationMetadata, CollationProvider, CollationReordering,
-    CollationSpecialPrimaries, DataRequest,
+    CollationDiacritics, CollationJamo, CollationReordering, CollationSpecialPrimaries, FixedLoads,
 };
-
-/// A provider that returns the same tables for every locale and type. The fields are public, so that a test may have it
-/// refuse a table, or return another one.
-#[derive(Debug, Clone, Copy)]
-pub struct MiniProvider<'m> {
-    /// The root.
-    pub root: Result<CollationData<'m>, DataError>,
-    /// The entries of the jamo.
-    pub jamo: Result<CollationJamo<'m>, DataError>,
-    /// The special primary weights.
-    pub special: Result<CollationSpecialPrimaries<'m>, DataError>,
-    /// Which tables there are, and the settings.
-    pub metadata: Result<CollationMetadata, DataError>,
-    /// The tailoring.
-    pub tailoring: Result<CollationData<'m>, DataError>,
-    /// The reordering.
-    pub reordering: Result<CollationReordering<'m>, DataError>,
-    /// The secondary weights of the diacritics.
-    pub diacritics: Result<CollationDiacritics<'m>, DataError>,
-}
-
-impl<'m> CollationProvider for MiniProvider<'m> {
-    ghost use Rattle.icu_mini.specs.Provider.{loads_of};
-
-    ghost loads = { loads_of };
-
-    fn load_root(&self) -> Result<CollationData<'_>, DataError> {
-        self.root
-    }
-
-    fn load_jamo(&self) -> Result<CollationJamo<'_>, DataError> {
-        self.jamo
-    }
-
-    fn load_special_primaries(&self) -> Result<CollationSpecialPrimaries<'_>, DataError> {
-        self.special
-    }
-
-    fn load_metadata(&self, _request: DataRequest<'_>) -> Result<CollationMetadata, DataError> {
-        self.metadata
-    }
-
-    fn load_tailoring(&self, _request: DataRequest<'_>) -> Result<CollationData<'_>, DataError> {
-        self.tailoring
-    }
-
-    fn load_reordering(
-        &self,
-        _request: DataRequest<'_>,
-    ) -> Result<CollationReordering<'_>, DataError> {
-        self.reordering
-    }
-
-    fn load_diacritics(
-        &self,
-        _request: DataRequest<'_>,
-    ) -> Result<CollationDiacritics<'_>, DataError> {
-        self.diacritics
-    }
-}
 
 /// The refusal of a table.
 fn refusal(table: DataTable, kind: DataErrorKind) -> DataError
@@ -89,10 +28,10 @@ impl Mini {
 
     /// A provider of these tables, for every locale and type. A table that fails a condition of its own is refused with
     /// the kind of one; a tailoring and a reordering that there isn't are `Absent`.
-    pub fn provider(&self) -> MiniProvider<'_>
+    pub fn provider(&self) -> FixedLoads<'_>
         ensures { LoadsMini self.now result }
     {
-        MiniProvider {
+        FixedLoads {
             root: self.named_root(),
             jamo: self.named_jamo(),
             special: self.named_special_primaries(),

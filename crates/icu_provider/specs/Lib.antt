@@ -7,6 +7,7 @@ pub mod SpecialPrimaries
 pub mod Metadata
 pub mod Requests
 pub mod Loads
+pub mod FixedLoads
 pub mod StoredTables
 pub mod CollatorTables
 pub mod LoadedTables

@@ -82,6 +82,20 @@ impl OwnedDiacritics {
     ghost use Rattle.icu_provider.specs.StoredTables.{diacritics_of};
     ghost use Rattle.icu_provider.specs.OwnedTables.{owned_diacritics};
 
+    /// Takes the weights, or refuses them with the kind of a condition that they fail, as `CollationDiacritics::new`
+    /// does. What is refused is dropped.
+    #[tactic(auto, unfolding(crate::specs::OwnedTables::owned_diacritics))]
+    pub fn new(secondaries: Vec<u16>) -> Result<OwnedDiacritics, DataErrorKind>
+        ensures accepts { IsOk result ↔ IsDiacritics secondaries.items }
+        ensures kind { IfErr result (FailsDiacritics secondaries.items) }
+        ensures keeps { IfOk result (λ o. owned_diacritics o ≡ secondaries.items) }
+    {
+        match CollationDiacritics::new(secondaries.as_slice()) {
+            Ok(_) => Ok(OwnedDiacritics { secondaries }),
+            Err(kind) => Err(kind),
+        }
+    }
+
     /// Copies the weights.
     #[tactic(auto, unfolding(crate::specs::OwnedTables::owned_diacritics))]
     pub fn copy(

@@ -71,6 +71,20 @@ impl OwnedJamo {
     ghost use Rattle.icu_provider.specs.StoredTables.{jamo_of};
     ghost use Rattle.icu_provider.specs.OwnedTables.{owned_jamo};
 
+    /// Takes the entries, or refuses them with the kind of a condition that they fail, as `CollationJamo::new` does.
+    /// What is refused is dropped.
+    #[tactic(auto, unfolding(crate::specs::OwnedTables::owned_jamo))]
+    pub fn new(ce32s: Vec<u32>) -> Result<OwnedJamo, DataErrorKind>
+        ensures accepts { IsOk result ↔ IsJamo ce32s.items }
+        ensures kind { IfErr result (FailsJamo ce32s.items) }
+        ensures keeps { IfOk result (λ o. owned_jamo o ≡ ce32s.items) }
+    {
+        match CollationJamo::new(ce32s.as_slice()) {
+            Ok(_) => Ok(OwnedJamo { ce32s }),
+            Err(kind) => Err(kind),
+        }
+    }
+
     /// Copies the entries.
     #[tactic(auto, unfolding(crate::specs::OwnedTables::owned_jamo))]
     pub fn copy(alloc: Global, jamo: CollationJamo<'_>) -> Result<OwnedJamo, AllocError>

@@ -2,6 +2,7 @@
 #![tactic(auto)]
 
 pub mod diacritics;
+pub mod fixed_provider;
 pub mod jamo;
 pub mod loads;
 pub mod metadata;
@@ -12,6 +13,7 @@ pub mod special_primaries;
 pub mod table_set;
 
 pub use diacritics::{CollationDiacritics, OwnedDiacritics};
+pub use fixed_provider::{FixedLoads, FixedProvider};
 pub use jamo::{CollationJamo, OwnedJamo};
 pub use loads::load_tables;
 pub use metadata::CollationMetadata;

@@ -144,6 +144,27 @@ impl OwnedSpecialPrimaries {
     ghost use Rattle.icu_provider.specs.StoredTables.{special_of};
     ghost use Rattle.icu_provider.specs.OwnedTables.{owned_special};
 
+    /// Takes the numbers, or refuses them with the kind of a condition that they fail, as
+    /// `CollationSpecialPrimaries::new` does. What is refused is dropped.
+    #[tactic(auto, unfolding(crate::specs::OwnedTables::owned_special))]
+    pub fn new(
+        last_primaries: Vec<u16>,
+        numeric_primary: u8,
+    ) -> Result<OwnedSpecialPrimaries, DataErrorKind>
+        ensures accepts { IsOk result ↔ IsSpecialPrimaries last_primaries.items numeric_primary }
+        ensures kind { IfErr result (FailsSpecial last_primaries.items numeric_primary) }
+        ensures keeps { IfOk result (λ o.
+            owned_special o ≡ record { last = last_primaries.items; numeric = numeric_primary }) }
+    {
+        match CollationSpecialPrimaries::new(last_primaries.as_slice(), numeric_primary) {
+            Ok(_) => Ok(OwnedSpecialPrimaries {
+                last_primaries,
+                numeric_primary,
+            }),
+            Err(kind) => Err(kind),
+        }
+    }
+
     /// Copies the numbers.
     #[tactic(auto, unfolding(crate::specs::OwnedTables::owned_special))]
     pub fn copy(
