@@ -8,7 +8,7 @@ use Rattle.icu_provider.specs.Requests.{Request}
 use Rattle.icu_provider.specs.SpecialPrimaries.{SpecialPrimaries}
 use Rattle.icu_data.specs.Data.{Data}
 use Rattle.icu_provider.specs.CollatorTables.{CollatorTables}
-use Rattle.icu_provider.specs.LoadedTables.{and_then, or_else, typed_first, if_named, diacritics_request, loaded_tables}
+use Rattle.icu_provider.specs.LoadedTables.{then_load, or_else, typed_first, if_named, diacritics_request, loaded_tables}
 use Rattle.icu_mini.specs.declared.mini.Mini.{Mini}
 use Rattle.icu_provider.specs.declared.fixed_provider.FixedLoads.{FixedLoads}
 use Rattle.icu_provider.specs.FixedLoads.{fixed_loads}
@@ -26,7 +26,7 @@ record Follows {A B : Type 0} (x : Result A DataError) (next : A → Result B Da
   first : x ≡ Ok value
   then_next : next value ≡ Ok b
 
-follows : {A B : Type 0} (x : Result A DataError) (next : A → Result B DataError) (b : B) → and_then x next ≡ Ok b → Follows x next b
+follows : {A B : Type 0} (x : Result A DataError) (next : A → Result B DataError) (b : B) → then_load x next ≡ Ok b → Follows x next b
 follows (Ok a) next b h = record { value = a; first = refl; then_next = h }
 follows (Err e) next b h = absurd (cc)
 
@@ -45,9 +45,9 @@ whatever_type x (Some _) = again x
 -- the tables from the metadata on
 from_bits : Loads → Request → Data → List ℕ → SpecialPrimaries → ℕ → Result CollatorTables DataError
 from_bits loads r root jamo special bits =
-    and_then (if_named (is_tailored bits) (typed_first loads.tailoring r)) (λ tailoring.
-    and_then (if_named (has_reordering bits) (typed_first loads.reordering r)) (λ reordering.
-    and_then (loads.diacritics (diacritics_request bits r)) (λ diacritics.
+    then_load (if_named (is_tailored bits) (typed_first loads.tailoring r)) (λ tailoring.
+    then_load (if_named (has_reordering bits) (typed_first loads.reordering r)) (λ reordering.
+    then_load (loads.diacritics (diacritics_request bits r)) (λ diacritics.
     Ok (record {
       tables = record { root = root; tailoring = tailoring; jamo = jamo; diacritics = diacritics };
       special = special;

@@ -50,7 +50,8 @@ impl CheckedTables {
     pub fn from_set(alloc: Global, tables: TableSet<'_>) -> Result<CheckedTables, DataError>
         ensures good { IsOk result → IsGoodTables (tables_in tables.entry) }
         ensures refusal { IfErr result (IsTrueRefusal (tables_in tables.entry)) }
-        ensures exact { IfErr result (λ e. (e.kind ≡ DataErrorKind.NoMemory → ⊥) → IsGoodTables (tables_in tables.entry) → ⊥) }
+        ensures exact { IfErr result (λ e.
+            (e.kind ≡ DataErrorKind.NoMemory → ⊥) → IsGoodTables (tables_in tables.entry) → ⊥) }
         ensures keeps { IfOk result (λ t. checked_tables t ≡ tables_in tables.entry) }
     {
         match check(alloc, tables) {
@@ -80,8 +81,8 @@ impl CheckedTables {
         }
     }
 
-    /// The same of tables one by one. The tailoring and the reordering are there exactly where the metadata names them;
-    /// that is the caller's part, since what is not named is not read.
+    /// Checks tables that are handed in one by one, and copies them, as `from_set` does. The tailoring and the
+    /// reordering are to be there exactly where the metadata names them.
     pub fn new(
         alloc: Global,
         root: CollationData<'_>,
@@ -92,10 +93,16 @@ impl CheckedTables {
         reordering: Option<CollationReordering<'_>>,
         diacritics: CollationDiacritics<'_>,
     ) -> Result<CheckedTables, DataError>
-        ensures good { IsOk result → IsGoodTables (tables_of root.entry jamo.entry special.entry metadata tailoring.entry reordering.entry diacritics.entry) }
-        ensures refusal { IfErr result (IsTrueRefusal (tables_of root.entry jamo.entry special.entry metadata tailoring.entry reordering.entry diacritics.entry)) }
-        ensures exact { IfErr result (λ e. (e.kind ≡ DataErrorKind.NoMemory → ⊥) → IsGoodTables (tables_of root.entry jamo.entry special.entry metadata tailoring.entry reordering.entry diacritics.entry) → ⊥) }
-        ensures keeps { IfOk result (λ t. checked_tables t ≡ tables_of root.entry jamo.entry special.entry metadata tailoring.entry reordering.entry diacritics.entry) }
+        ensures good { IsOk result → IsGoodTables (tables_of root.entry jamo.entry special.entry
+            metadata tailoring.entry reordering.entry diacritics.entry) }
+        ensures refusal { IfErr result (IsTrueRefusal (tables_of root.entry jamo.entry special.entry
+            metadata tailoring.entry reordering.entry diacritics.entry)) }
+        ensures exact { IfErr result (λ e. (e.kind ≡ DataErrorKind.NoMemory → ⊥)
+            → IsGoodTables (tables_of root.entry jamo.entry special.entry
+            metadata tailoring.entry reordering.entry diacritics.entry) → ⊥) }
+        ensures keeps { IfOk result (λ t. checked_tables t
+            ≡ tables_of root.entry jamo.entry special.entry
+            metadata tailoring.entry reordering.entry diacritics.entry) }
     {
         CheckedTables::from_set(
             alloc,

@@ -14,7 +14,7 @@ use Rattle.icu_entries.specs.Elements.{Element, of_primary, case_mask, tertiary_
 use Rattle.icu_entries.specs.ElementConditions.{separator_primary, tertiary_of, has_shape, has_whole_weights, has_weights_below, has_lower_half, has_primary_lead}
 use Rattle.icu_provider.specs.CollatorTables.{CollatorTables}
 use Rattle.icu_checks.specs.declared.condition.Condition.TheVariants as conditions
-use Rattle.icu_checks.specs.declared.condition.ElementCondition.TheVariants.{Width}
+use Rattle.icu_checks.specs.declared.condition.LiveElementCondition.TheVariants.{Width}
 use Rattle.icu_checks.specs.GoodTables.{IsGoodTables}
 use Rattle.icu_elements.specs.LiveTexts.{IsLiveElement}
 use Rattle.icu_order.specs.Handled.{is_variable}

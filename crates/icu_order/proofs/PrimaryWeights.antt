@@ -12,7 +12,7 @@ use Rattle.icu_entries.specs.ElementConditions.{has_primary_lead, separator_prim
 use Rattle.icu_provider.specs.Reorderings.{Reordering, lead_byte}
 use Rattle.icu_provider.specs.SpecialPrimaries.{is_compressible}
 use Rattle.icu_checks.specs.declared.condition.Condition.TheVariants as conditions
-use Rattle.icu_checks.specs.declared.condition.ElementCondition.TheVariants.{Width, MiddleLead, NumericLead, SharedLead, SecondByte}
+use Rattle.icu_checks.specs.declared.condition.LiveElementCondition.TheVariants.{Width, MiddleLead, NumericLead, SharedLead, SecondByte}
 use Rattle.icu_checks.specs.declared.condition.PairCondition.TheVariants.{Primaries, Compression}
 use Rattle.icu_checks.specs.declared.condition.LeadCondition.TheVariants as leads
 use Rattle.icu_provider.specs.CollatorTables.{CollatorTables, reorder_by, reorder, new_lead}

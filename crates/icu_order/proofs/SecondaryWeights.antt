@@ -7,7 +7,7 @@ use Rattle.icu_levels.specs.Premises.{AreSecondaries, IsPrefixFree}
 use Rattle.icu_levels.proofs.MovedWeights.{begins_lead}
 use Rattle.icu_entries.specs.ElementConditions.{has_secondary_lead, has_tertiary_lead, tertiary_of}
 use Rattle.icu_checks.specs.declared.condition.Condition.TheVariants as conditions
-use Rattle.icu_checks.specs.declared.condition.ElementCondition.TheVariants.{Width, BackwardLead}
+use Rattle.icu_checks.specs.declared.condition.LiveElementCondition.TheVariants.{Width, BackwardLead}
 use Rattle.icu_checks.specs.declared.condition.PairCondition.TheVariants.{Secondaries}
 use Rattle.icu_provider.specs.CollatorTables.{CollatorTables, is_forward}
 use Rattle.icu_checks.specs.GoodTables.{IsGoodTables}

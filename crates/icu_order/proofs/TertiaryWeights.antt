@@ -17,7 +17,7 @@ use Rattle.icu_entries.specs.declared.error.DataTable.{DataTable}
 use Rattle.icu_entries.specs.Elements.{Element, common, case_mask, tertiary_mask}
 use Rattle.icu_entries.specs.ElementConditions.{has_shape, has_whole_weights, has_weights_below, has_lower_half, has_secondary_lead, has_tertiary_lead, tertiary_of}
 use Rattle.icu_checks.specs.declared.condition.Condition.TheVariants as conditions
-use Rattle.icu_checks.specs.declared.condition.ElementCondition.TheVariants.{Width, TertiaryElement}
+use Rattle.icu_checks.specs.declared.condition.LiveElementCondition.TheVariants.{Width, TertiaryElement}
 use Rattle.icu_checks.specs.declared.condition.PairCondition.TheVariants.{Tertiaries}
 use Rattle.icu_provider.specs.CollatorTables.{CollatorTables}
 use Rattle.icu_checks.specs.ElementConditions.{is_tertiary_element, is_high_tertiary_element, upper_case}

@@ -65,9 +65,11 @@ impl<'d> CollationSpecialPrimaries<'d> {
         last_primaries: &'d [u16],
         numeric_primary: u8,
     ) -> Result<CollationSpecialPrimaries<'d>, DataErrorKind>
-        ensures accepts { IsOk result ↔ IsSpecialPrimaries last_primaries.entry.now numeric_primary }
+        ensures accepts { IsOk result
+            ↔ IsSpecialPrimaries last_primaries.entry.now numeric_primary }
         ensures kind { IfErr result (FailsSpecial last_primaries.entry.now numeric_primary) }
-        ensures keeps { IfOk result (λ s. special_of s ≡ record { last = last_primaries.entry.now; numeric = numeric_primary }) }
+        ensures keeps { IfOk result (λ s. special_of s
+            ≡ record { last = last_primaries.entry.now; numeric = numeric_primary }) }
     {
         if last_primaries.len() < 4 {
             return Err(DataErrorKind::Length);
@@ -84,7 +86,8 @@ impl<'d> CollationSpecialPrimaries<'d> {
         numeric_primary: u8,
     ) -> CollationSpecialPrimaries<'d>
         requires { IsSpecialPrimaries last_primaries.now numeric_primary }
-        ensures { special_of result ≡ record { last = last_primaries.entry.now; numeric = numeric_primary } }
+        ensures { special_of result
+            ≡ record { last = last_primaries.entry.now; numeric = numeric_primary } }
     {
         CollationSpecialPrimaries {
             last_primaries,

@@ -118,7 +118,8 @@ fn or_absent<T>(table: DataTable, found: Option<T>) -> Result<T, DataError>
 /// The copy, or an error for the table: out of memory.
 fn or_no_memory<T>(table: DataTable, copy: Result<T, AllocError>) -> Result<T, DataError>
     ensures copy { IfOk result (λ t. copy ≡ Ok t) }
-    ensures memory { IfErr result (λ e. e ≡ record { table = table; kind = DataErrorKind.NoMemory }) }
+    ensures memory { IfErr result (λ e.
+        e ≡ record { table = table; kind = DataErrorKind.NoMemory }) }
 {
     match copy {
         Ok(copy) => Ok(copy),
@@ -145,7 +146,8 @@ fn copy_reordering(
     alloc: Global,
     reordering: Option<CollationReordering<'_>>,
 ) -> Result<Option<OwnedReordering>, AllocError>
-    ensures { IfOk result (λ o. option_map owned_reordering o ≡ option_map reordering_of reordering.entry) }
+    ensures { IfOk result (λ o. option_map owned_reordering o
+        ≡ option_map reordering_of reordering.entry) }
 {
     match reordering {
         Some(reordering) => Ok(Some(OwnedReordering::copy(alloc, reordering)?)),

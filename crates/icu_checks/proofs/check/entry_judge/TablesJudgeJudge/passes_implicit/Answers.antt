@@ -1,6 +1,6 @@
 use Rattle.icu_provider.specs.TableSets.{tables_in}
 use Rattle.icu_checks.proofs.ImplicitLemmas.{implicit_no_violation}
-use Rattle.icu_checks.proofs.check.entry_judge.EntryJudgeJudge.passes_implicit.Goals as goal
+use Rattle.icu_checks.proofs.check.entry_judge.TablesJudgeJudge.passes_implicit.Goals as goal
 
 pub returns : goal.returns
 returns c passes home char e is =

@@ -11,7 +11,7 @@ use Rattle.icu_provider.specs.CollatorTables.{CollatorTables}
 use Rattle.icu_provider.specs.TableSets.{tables_in}
 use Rattle.icu_checks.specs.inner.EntryViolations.{first_failing_element}
 use Rattle.icu_checks.proofs.RunLemmas.{GivesBetween, gives_between, offset_no_violation}
-use Rattle.icu_checks.proofs.check.entry_judge.EntryJudgeJudge.passes_run.Goals as goal
+use Rattle.icu_checks.proofs.check.entry_judge.TablesJudgeJudge.passes_run.Goals as goal
 
 pub ce_from_offset_ce32-requires-clause-inside : goal.ce_from_offset_ce32-requires-clause-inside
 ce_from_offset_ce32-requires-clause-inside c =

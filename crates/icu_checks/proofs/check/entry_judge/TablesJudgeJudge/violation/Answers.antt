@@ -5,7 +5,7 @@ use Rattle.icu_provider.specs.TableSets.{tables_in}
 use Rattle.icu_checks.specs.inner.Violations.{violation_rank}
 use Rattle.icu_checks.specs.inner.EntryViolations.{rows_violation}
 use Rattle.icu_checks.proofs.EntryViolationLemmas.{without_own}
-use Rattle.icu_checks.proofs.check.entry_judge.EntryJudgeJudge.violation.Goals as goal
+use Rattle.icu_checks.proofs.check.entry_judge.TablesJudgeJudge.violation.Goals as goal
 
 pub returns-in-None : goal.returns-in-None
 returns-in-None c =
