@@ -102,7 +102,12 @@ fn root_collator(
     ensures refused { IfErr result (IsRefusal (IsLineOf file.now)) }
 {
     let tables = root.into_tables();
-    match Collator::try_from_tables(alloc, tables, chosen.preferences(), chosen.options(strength)) {
+    match Collator::try_from_tables(
+        alloc,
+        tables,
+        chosen.preferences(),
+        chosen.options(strength),
+    ) {
         Ok(collator) => Ok(collator),
         Err(error) => Err(refusal_of(alloc, file, error)),
     }

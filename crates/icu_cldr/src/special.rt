@@ -95,6 +95,9 @@ impl Special {
     {
         let numbers = self.last_primaries(alloc)?;
         let lead = self.numeric_lead.ok_or(Missing::NumericLead)?;
-        named(DataTable::SpecialPrimaries, OwnedSpecialPrimaries::new(numbers, lead))
+        named(
+            DataTable::SpecialPrimaries,
+            OwnedSpecialPrimaries::new(numbers, lead),
+        )
     }
 }
