@@ -9,7 +9,7 @@ ghost use Rattle.icu_entries.specs.declared.error.DataErrorKind.TheVariants.{NoM
 ghost use Rattle.icu_checks.specs.Checked.{checked_tables};
 ghost use Rattle.icu_checks.specs.GoodTables.{IsGoodTables, IsTrueRefusal};
 ghost use Rattle.icu_cursor.specs.Cursors.{cursor_reading};
-ghost use Rattle.icu_elements.specs.Reading.{element_tables};
+ghost use Rattle.icu_elements.specs.Reading.{element_tables, reading_of};
 ghost use Rattle.icu_elements.specs.TextElements.{Reading, elements_of};
 ghost use Rattle.icu_order.specs.Forms.{form_by, last_variable_by};
 ghost use Rattle.icu_order.specs.TextOrder.{reading_by, handled_elements, handled_by};
@@ -25,7 +25,7 @@ ghost use Rattle.unicode_normalization.specs.Forms.{nfd};
 use crate::handled::{HandledElements, HandledText, PlainText};
 use icu_checks::CheckedTables;
 use icu_cursor::{CursorTables, ElementCursor};
-use icu_elements::{ElementTables, all_elements};
+use icu_elements::{ElementTables, TextReading, all_elements};
 use icu_encodings::{Characters, EncodedText};
 use icu_entries::{CollationElement, DataError, DataErrorKind, DataTable};
 use icu_levels::forms::{KeyForm, SecondaryForm};
@@ -111,7 +111,7 @@ impl Collator {
     {
         CollatorBorrowed {
             tables: &self.tables,
-            named: &self.named,
+            places: safe_places(&self.tables, &self.named, self.settings),
             letters: &self.letters,
             settings: self.settings,
             form: key_form(&self.tables, self.settings),
@@ -134,6 +134,19 @@ fn refused_as_root<T>(kept: Result<T, AllocError>) -> Result<T, DataError>
     }
 }
 
+/// How texts are read by this collation.
+#[inline]
+fn text_reading(tables: &CheckedTables, settings: CollatorOptionsBitField) -> TextReading<'_>
+    ensures reading { reading_of result ≡ reading_by (collation_of tables.now settings) }
+    ensures tables { element_tables result.tables ≡ (checked_tables tables.now).tables }
+{
+    TextReading {
+        tables: ElementTables::new(tables),
+        numeric_primary: numeric_primary(tables, settings),
+        lithuanian_dot_above: tables.metadata().lithuanian_dot_above(),
+    }
+}
+
 /// Before which characters texts may be cut that are read by this collation.
 fn safe_places<'d>(
     tables: &'d CheckedTables,
@@ -143,12 +156,7 @@ fn safe_places<'d>(
     requires { NamesAll named.now (checked_tables tables.now).tables }
     ensures { safe_reading result ≡ reading_by (collation_of tables.now settings) }
 {
-    SafePlaces::new(
-        ElementTables::new(tables),
-        numeric_primary(tables, settings),
-        tables.metadata().lithuanian_dot_above(),
-        named,
-    )
+    SafePlaces::new(text_reading(tables, settings), named)
 }
 
 /// What a character says of the front of a text that begins with it: whether the text may be cut before it, and the
@@ -162,7 +170,8 @@ pub(crate) struct Front {
 /// What is known of a letter says what its front is.
 #[inline(always)]
 fn front_of(letter: &Letter) -> Front
-    ensures { (reading : Reading) (c : ℕ) → IsLetter reading c letter.now → IsFront reading c result }
+    ensures { (reading : Reading) (c : ℕ) → IsLetter reading c letter.now
+        → IsFront reading c result }
 {
     Front {
         is_safe: letter.is_safe,
@@ -199,17 +208,18 @@ fn last_variable(tables: &CheckedTables, settings: CollatorOptionsBitField) -> u
 #[derive(Debug, Clone, Copy)]
 pub struct CollatorBorrowed<'a> {
     pub(crate) tables: &'a CheckedTables,
-    named: &'a NamedCharacters,
+    /// Before which characters texts may be cut, and how they are read.
+    places: SafePlaces<'a>,
     letters: &'a Letters,
     settings: CollatorOptionsBitField,
     form: KeyForm,
     last_variable: u32,
     ghost backward: { (values_of settings).backward_second_level
         ≡ is_backward (checked_tables tables.now).bits },
+    ghost reads: { safe_reading places ≡ reading_by (collation_of tables.now settings) },
     ghost known: { AreLetters (reading_by (collation_of tables.now settings)) letters.now },
     ghost levels: { form ≡ form_by (collation_of tables.now settings) },
     ghost variable: { last_variable ≡ last_variable_by (collation_of tables.now settings) },
-    ghost names: { NamesAll named.now (checked_tables tables.now).tables },
 }
 
 impl<'a> CollatorBorrowed<'a> {
@@ -278,7 +288,7 @@ impl<'a> CollatorBorrowed<'a> {
         }
     }
 
-    /// The same of a character that isn't among those that are read most.
+    /// What a character says that isn't among those that are read most.
     #[inline]
     fn other_front(&self, c: char) -> Front
         ensures { IsFront (reading_by (collation_borrowed self.now)) c result }
@@ -294,7 +304,7 @@ impl<'a> CollatorBorrowed<'a> {
     fn outline(&self, c: char) -> Letter
         ensures { IsLetter (reading_by (collation_borrowed self.now)) c result }
     {
-        outline_of(&safe_places(self.tables, self.named, self.settings), c)
+        outline_of(&self.places, c)
     }
 
     /// The elements of a text.
@@ -305,12 +315,7 @@ impl<'a> CollatorBorrowed<'a> {
         ensures { let reading = reading_by (collation_borrowed self.now) in
             IfOk result (λ es. es.items ≡ elements_of reading (nfd (T.text text))) }
     {
-        all_elements(
-            self.tables(),
-            Characters::new(text),
-            self.numeric_primary(),
-            self.tables.metadata().lithuanian_dot_above(),
-        )
+        all_elements(self.places.reading(), Characters::new(text))
     }
 
     /// What texts are read by.
@@ -318,13 +323,7 @@ impl<'a> CollatorBorrowed<'a> {
     pub(crate) fn cursor_tables(&self) -> CursorTables<'a>
         ensures { cursor_reading result ≡ reading_by (collation_borrowed self.now) }
     {
-        CursorTables::new(
-            self.tables(),
-            self.numeric_primary(),
-            self.tables.metadata().lithuanian_dot_above(),
-            self.named,
-            self.letters,
-        )
+        CursorTables::new(self.places, self.letters)
     }
 
     /// Reads the elements of a text, as the collation handles variable ones.
@@ -346,7 +345,7 @@ impl<'a> CollatorBorrowed<'a> {
         )
     }
 
-    /// The same where no element is variable.
+    /// Reads the elements of a text, where none is variable.
     #[inline(always)]
     pub(crate) fn plain_text<'c, T: EncodedText>(
         &self,
@@ -359,12 +358,5 @@ impl<'a> CollatorBorrowed<'a> {
             ≡ handled_by (collation_borrowed self.now) (nfd (T.text text)) }
     {
         PlainText::new(ElementCursor::new(tables, text))
-    }
-
-    /// The lead byte of numbers, where digits are read as numbers.
-    fn numeric_primary(&self) -> Option<u8>
-        ensures { result ≡ (reading_by (collation_borrowed self.now)).numeric }
-    {
-        numeric_primary(self.tables, self.settings)
     }
 }

@@ -22,7 +22,8 @@ use std::alloc::AllocError;
 
 /// What a call returns that was to write a key and ran out of memory before it wrote anything.
 fn write_nothing<S: CollationKeySink>(sink: &mut S) -> Result<S::Output, SortKeyError<S::Error>>
-    ensures { (key : List ℕ) → WritesKey S.took S.refused S.finished S.State.is_default sink.old key result sink.new }
+    ensures { (key : List ℕ) → WritesKey S.took S.refused S.finished S.State.is_default sink.old key
+        result sink.new }
 {
     let _state = S::State::default();
     Err(SortKeyError::NoMemory)
@@ -53,8 +54,8 @@ impl<'a> CollatorBorrowed<'a> {
         self.write_key_of(str_text(text), sink)
     }
 
-    /// The same of a text in UTF-8 that may be damaged: each maximal ill-formed part is one U+FFFD (Unicode Standard,
-    /// "Unicode Encoding Forms").
+    /// Writes the sort key of a text in UTF-8 that may be damaged, where each maximal ill-formed part is one U+FFFD
+    /// (Unicode Standard, "Unicode Encoding Forms"), to a sink, and ends it.
     ///
     /// # Errors
     ///
@@ -70,7 +71,8 @@ impl<'a> CollatorBorrowed<'a> {
         self.write_key_of(Utf8Text(text), sink)
     }
 
-    /// The same of a text in UTF-16: each unpaired surrogate is U+FFFD (Unicode Standard, "Unicode Encoding Forms").
+    /// Writes the sort key of a text in UTF-16, where each unpaired surrogate is U+FFFD (Unicode Standard, "Unicode
+    /// Encoding Forms"), to a sink, and ends it.
     ///
     /// # Errors
     ///
@@ -127,8 +129,8 @@ impl<'a> CollatorBorrowed<'a> {
         }
     }
 
-    /// The same where no element is variable, so that none is asked for that. Out of line, as the next one is: a
-    /// function clears the locals of all that it does each time that it is called.
+    /// Writes the key of a text where no element is variable, so that none is asked for that. Out of line, as
+    /// `write_variable` is: a function clears the locals of all that it does each time that it is called.
     #[inline(never)]
     fn write_plain<T: EncodedText, S: CollationKeySink>(
         &self,
@@ -159,7 +161,7 @@ impl<'a> CollatorBorrowed<'a> {
         )
     }
 
-    /// The same where elements may be variable.
+    /// Writes the key of a text where elements may be variable.
     #[inline(never)]
     fn write_variable<T: EncodedText, S: CollationKeySink>(
         &self,

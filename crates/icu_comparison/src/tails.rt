@@ -47,7 +47,8 @@ impl<'a> CollatorBorrowed<'a> {
         requires heads { (n : ℕ) → n ≤ common → L.head left n ≡ R.head right n }
         requires forward { ReadsForward (form_by (collation_borrowed self.now)).secondary }
         ensures { let collation = collation_borrowed self.now in
-            IfSome result (λ p. (text_order collation (L.text p.0) (R.text p.1) ≡ text_order collation (L.text left) (R.text right))
+            IfSome result (λ p. (text_order collation (L.text p.0) (R.text p.1)
+            ≡ text_order collation (L.text left) (R.text right))
             × IfSome p.2 (λ o. o ≡ text_order collation (L.text left) (R.text right))) }
     {
         for at in (1..=common).rev() {
@@ -59,7 +60,8 @@ impl<'a> CollatorBorrowed<'a> {
         None
     }
 
-    /// The same, where both texts may be cut at this place.
+    /// What two texts have from this place on, where both may be cut there, and their order where what they begin with there
+    /// decides it. `None` where one may not be cut.
     #[inline(always)]
     fn tails_at<L: EncodedText, R: EncodedText>(
         &self,
@@ -70,7 +72,8 @@ impl<'a> CollatorBorrowed<'a> {
         requires head { L.head left at ≡ R.head right at }
         requires forward { ReadsForward (form_by (collation_borrowed self.now)).secondary }
         ensures { let collation = collation_borrowed self.now in
-            IfSome result (λ p. (text_order collation (L.text p.0) (R.text p.1) ≡ text_order collation (L.text left) (R.text right))
+            IfSome result (λ p. (text_order collation (L.text p.0) (R.text p.1)
+            ≡ text_order collation (L.text left) (R.text right))
             × IfSome p.2 (λ o. o ≡ text_order collation (L.text left) (R.text right))) }
     {
         let one = left.split_at(at)?;
@@ -95,8 +98,10 @@ impl<'a> CollatorBorrowed<'a> {
         one: Opening,
         other: Opening,
     ) -> Option<Ordering>
-        requires one { IfSome one.primary (λ p. LeadsWith (collation_borrowed self.now) (L.text left) p) }
-        requires other { IfSome other.primary (λ p. LeadsWith (collation_borrowed self.now) (R.text right) p) }
+        requires one { IfSome one.primary (λ p. LeadsWith (collation_borrowed self.now)
+            (L.text left) p) }
+        requires other { IfSome other.primary (λ p. LeadsWith (collation_borrowed self.now)
+            (R.text right) p) }
         ensures { let collation = collation_borrowed self.now in
             IfSome result (λ o. o ≡ text_order collation (L.text left) (R.text right)) }
     {
@@ -133,7 +138,8 @@ impl<'a> CollatorBorrowed<'a> {
     /// The next primary weight of the letters of a text, where elements that have it aren't variable.
     #[inline(always)]
     fn next_primary<T: EncodedText>(&self, letters: &mut LetterCursor<'_, '_, T>) -> Option<u32>
-        ensures given { IfSome result (λ p. GivesPrimary (collation_borrowed self.now) T.text letters.old p letters.new) }
+        ensures given { IfSome result (λ p. GivesPrimary (collation_borrowed self.now) T.text
+            letters.old p letters.new) }
         ensures some { IfSome result (λ p. p ≢ 0) }
     {
         'elements: for _ in 0..ELEMENTS_AHEAD {
@@ -149,7 +155,8 @@ impl<'a> CollatorBorrowed<'a> {
     #[inline(always)]
     fn opening<T: EncodedText>(&self, text: T) -> Opening
         ensures tail { IsTrue result.is_tail → IsTail (collation_borrowed self.now) (T.text text) }
-        ensures leads { IfSome result.primary (λ p. LeadsWith (collation_borrowed self.now) (T.text text) p) }
+        ensures leads { IfSome result.primary (λ p. LeadsWith (collation_borrowed self.now)
+            (T.text text) p) }
     {
         match text.split_first_ascii() {
             Some((byte, _)) => self.opening_by(char::from(byte)),
@@ -157,11 +164,12 @@ impl<'a> CollatorBorrowed<'a> {
         }
     }
 
-    /// The same of a text that doesn't begin with ASCII.
+    /// What the first character of a text says that doesn't begin with ASCII.
     #[inline(never)]
     fn other_opening<T: EncodedText>(&self, text: T) -> Opening
         ensures tail { IsTrue result.is_tail → IsTail (collation_borrowed self.now) (T.text text) }
-        ensures leads { IfSome result.primary (λ p. LeadsWith (collation_borrowed self.now) (T.text text) p) }
+        ensures leads { IfSome result.primary (λ p. LeadsWith (collation_borrowed self.now)
+            (T.text text) p) }
     {
         match text.split_first_char() {
             Some((first, _)) => self.opening_by(first),
@@ -175,8 +183,10 @@ impl<'a> CollatorBorrowed<'a> {
     /// What a character says of each text that begins with it.
     #[inline(always)]
     fn opening_by(&self, c: char) -> Opening
-        ensures tail { (rest : List ℕ) → IsTrue result.is_tail → IsTail (collation_borrowed self.now) (c ∷ rest) }
-        ensures leads { (rest : List ℕ) → IfSome result.primary (λ p. LeadsWith (collation_borrowed self.now) (c ∷ rest) p) }
+        ensures tail { (rest : List ℕ) → IsTrue result.is_tail
+            → IsTail (collation_borrowed self.now) (c ∷ rest) }
+        ensures leads { (rest : List ℕ)
+            → IfSome result.primary (λ p. LeadsWith (collation_borrowed self.now) (c ∷ rest) p) }
     {
         let front = self.front(c);
         first_starters_lead();
@@ -220,11 +230,12 @@ impl<'a> CollatorBorrowed<'a> {
         self.order_of_openings(left, right, self.opening(left), self.opening(right))
     }
 
-    /// The same of texts that open so.
+    /// The order of texts that open so, where their first primary weights are known and differ.
     #[inline(always)]
     fn order_of(&self, one: Opening, other: Opening) -> Option<Ordering>
         ensures { let collation = collation_borrowed self.now in
-            (t u : List ℕ) → IfSome one.primary (λ p. LeadsWith collation t p) → IfSome other.primary (λ p. LeadsWith collation u p)
+            (t u : List ℕ) → IfSome one.primary (λ p. LeadsWith collation t p)
+            → IfSome other.primary (λ p. LeadsWith collation u p)
             → IfSome result (λ o. o ≡ text_order collation t u) }
     {
         match (one.primary, other.primary) {
@@ -239,7 +250,8 @@ impl<'a> CollatorBorrowed<'a> {
     #[inline(always)]
     fn order_of_primaries(&self, one: u32, other: u32) -> Option<Ordering>
         ensures { let reorder = reorder (tables_borrowed self.now) in
-            (ps qs : List ℕ) → IsFirst one ps → IsFirst other qs → IfSome result (λ o. Decides (map reorder ps) (map reorder qs) o) }
+            (ps qs : List ℕ) → IsFirst one ps → IsFirst other qs
+            → IfSome result (λ o. Decides (map reorder ps) (map reorder qs) o) }
     {
         if one == 0 || other == 0 {
             return unequal(one, other);

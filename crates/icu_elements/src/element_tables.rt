@@ -28,7 +28,7 @@ pub(crate) struct HomedEntry<'d> {
 
 impl<'d> ElementTables<'d> {
     ghost use Rattle.icu_elements.specs.Reading.{element_tables};
-    ghost use Rattle.icu_elements.specs.TextElements.{continues_number, digit_of};
+    ghost use Rattle.icu_elements.specs.TextElements.{continues_number, digit_of_char};
 
     /// The tables of a collator, borrowed without a second check. Does not allocate.
     #[inline(always)]
@@ -62,7 +62,8 @@ impl<'d> ElementTables<'d> {
     /// the tailoring's, and where there is none, or it is fallback, the root's (UTS #35 part 5, "Collation
     /// Tailorings").
     pub(crate) fn entry(self, c: char) -> HomedEntry<'d>
-        ensures value { entry_of (element_tables self.entry) c ≡ homed (data_of result.home) result.ce32 }
+        ensures value { entry_of (element_tables self.entry) c
+            ≡ homed (data_of result.home) result.ce32 }
         ensures good { IsGoodFrom (data_of result.home) c result.ce32 }
     {
         self.found(c)
@@ -78,7 +79,8 @@ impl<'d> ElementTables<'d> {
     /// The digit of a character that goes on a number: no diacritic, and its own entry is a digit's.
     #[tactic(auto, using(crate::proofs::TakenDigitLemmas::other_kind))]
     pub(crate) fn digit(self, c: char) -> Option<u8>
-        ensures value { result ≡ (if continues_number (element_tables self.entry) c then Some (digit_of (element_tables self.entry) c) else None) }
+        ensures value { let tables = element_tables self.entry in
+            result ≡ (if continues_number tables c then Some (digit_of_char tables c) else None) }
         ensures decimal { IfSome result (λ d. d < 10) }
     {
         if self.diacritic(c).is_some() {

@@ -27,12 +27,7 @@ impl Item for CollationElement {
 
 /// All elements of a text at once.
 fn at_once(reader: &Reader, text: &str) -> Result<Vec<CollationElement>, AllocError> {
-    all_elements(
-        reader.tables(),
-        text.chars(),
-        reader.numeric_primary,
-        reader.lithuanian_dot_above,
-    )
+    all_elements(reader.reading(), text.chars())
 }
 
 /// As many elements as are asked for.
@@ -57,12 +52,7 @@ fn one_by_one(
     text: &str,
     count: usize,
 ) -> Result<Vec<CollationElement>, AllocError> {
-    let elements = CollationElements::new(
-        text.chars(),
-        reader.tables(),
-        reader.numeric_primary,
-        reader.lithuanian_dot_above,
-    );
+    let elements = CollationElements::new(text.chars(), reader.reading());
     let mut read = first_elements(alloc, elements, count.saturating_add(2))?;
     let end = CollationElement::default();
     if let [.., last, end_again] = read.as_slice() {
@@ -196,12 +186,7 @@ fn count_taken(
         count.set(count.get().wrapping_add(1));
         c
     });
-    let iterator = CollationElements::new(
-        delegate,
-        reader.tables(),
-        reader.numeric_primary,
-        reader.lithuanian_dot_above,
-    );
+    let iterator = CollationElements::new(delegate, reader.reading());
     first_elements(alloc, iterator, elements)?;
     Ok(count.get())
 }
