@@ -60,8 +60,8 @@ impl<'a> CollatorBorrowed<'a> {
         None
     }
 
-    /// What two texts have from this place on, where both may be cut there, and their order where what they begin with there
-    /// decides it. `None` where one may not be cut.
+    /// What two texts have from this place on, where both may be cut there, and their order where what they begin with
+    /// there decides it. `None` where one may not be cut.
     #[inline(always)]
     fn tails_at<L: EncodedText, R: EncodedText>(
         &self,

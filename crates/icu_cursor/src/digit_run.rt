@@ -92,7 +92,8 @@ pub(crate) fn read_number<T: EncodedText>(
     requires numeric { (cursor_reading tables.now).numeric ≡ Some lead }
     requires digit { IsNumberDigit (cursor_reading tables.now) c first }
     ensures piece { IfOk result (λ found. IfSome found (λ p.
-        IsNumberPiece (cursor_reading tables.now) (c ∷ T.text text) (T.text p.1) (number_left p.0))) }
+        IsNumberPiece (cursor_reading tables.now) (c ∷ T.text text)
+        (T.text p.1) (number_left p.0))) }
     ensures rest { IfOk result (λ found. IfSome found (λ p.
         length (T.text p.1) ≤ length (T.text text))) }
 {

@@ -35,7 +35,8 @@ fn read_one<I: Iterator<Item = char> + Drop>(
     ensures ready { OnOk result (CanDecompose I.can_next I.remaining source.new) }
     ensures text { IfOk result (λ found. ReadsOne I.next_gives found
         source.old (unread text.old) source.new (unread text.new)) }
-    ensures size { OnOk result (decompositions_size I.remaining source.new + length (unread text.new)
+    ensures size { OnOk result
+        (decompositions_size I.remaining source.new + length (unread text.new)
         ≤ decompositions_size I.remaining source.old + length (unread text.old)) }
     ensures shorter { IfOk result (λ found. is_some found ≡ true
         → decompositions_size I.remaining source.new < decompositions_size I.remaining source.old) }
@@ -59,7 +60,8 @@ pub(crate) fn read_first<I: Iterator<Item = char> + Drop>(
     ensures ready { OnOk result (CanDecompose I.can_next I.remaining source.new) }
     ensures text { OnOk result (ReadsTo I.next_gives IsBegun
         source.old (unread text.old) source.new (unread text.new)) }
-    ensures size { OnOk result (decompositions_size I.remaining source.new + length (unread text.new)
+    ensures size { OnOk result
+        (decompositions_size I.remaining source.new + length (unread text.new)
         ≤ decompositions_size I.remaining source.old + length (unread text.old)) }
 {
     if !text.is_empty() {
@@ -85,8 +87,10 @@ fn read_run<I: Iterator<Item = char> + Drop>(
     requires { CanDecompose I.can_next I.remaining source.old }
     ensures ready { OnOk result (CanDecompose I.can_next I.remaining source.new) }
     ensures text { OnOk result (ReadsTo I.next_gives
-        (λ l. has_run_end (element_tables tables.entry) l ≡ true) source.old (unread text.old) source.new (unread text.new)) }
-    ensures size { OnOk result (decompositions_size I.remaining source.new + length (unread text.new)
+        (λ l. has_run_end (element_tables tables.entry) l ≡ true)
+        source.old (unread text.old) source.new (unread text.new)) }
+    ensures size { OnOk result
+        (decompositions_size I.remaining source.new + length (unread text.new)
         ≤ decompositions_size I.remaining source.old + length (unread text.old)) }
 {
     if has_run_end(tables, text.as_slice()) {
@@ -118,7 +122,8 @@ fn read_starter<I: Iterator<Item = char> + Drop>(
     ensures ready { OnOk result (CanDecompose I.can_next I.remaining source.new) }
     ensures text { OnOk result (ReadsTo I.next_gives (λ l. list_any is_starter (drop from l) ≡ true)
         source.old (unread text.old) source.new (unread text.new)) }
-    ensures size { OnOk result (decompositions_size I.remaining source.new + length (unread text.new)
+    ensures size { OnOk result
+        (decompositions_size I.remaining source.new + length (unread text.new)
         ≤ decompositions_size I.remaining source.old + length (unread text.old)) }
 {
     if has_starter(&text.as_slice()[from..]) {
@@ -144,7 +149,8 @@ fn read_rows<I: Iterator<Item = char> + Drop>(
     ensures text { OnOk result (ReadsTo I.next_gives
         (λ l. are_decided (found_context context.entry).rows l ≡ true)
         source.old (unread text.old) source.new (unread text.new)) }
-    ensures size { OnOk result (decompositions_size I.remaining source.new + length (unread text.new)
+    ensures size { OnOk result
+        (decompositions_size I.remaining source.new + length (unread text.new)
         ≤ decompositions_size I.remaining source.old + length (unread text.old)) }
 {
     'rows: while row_goes_on(context, text.as_slice()) {
@@ -181,7 +187,8 @@ fn read_match<I: Iterator<Item = char> + Drop>(
     ensures text { IfOk result (λ taken.
         ReadsTo I.next_gives (IsMatchRead (found_context context.entry) taken)
         source.old (unread text.old) source.new (unread text.new)) }
-    ensures size { OnOk result (decompositions_size I.remaining source.new + length (unread text.new)
+    ensures size { OnOk result
+        (decompositions_size I.remaining source.new + length (unread text.new)
         ≤ decompositions_size I.remaining source.old + length (unread text.old)) }
 {
     read_rows(context, source, text)?;
@@ -208,7 +215,8 @@ fn read_number<I: Iterator<Item = char> + Drop>(
     ensures ready { OnOk result (CanDecompose I.can_next I.remaining source.new) }
     ensures text { OnOk result (ReadsTo I.next_gives (IsRunRead (reading_of reading.entry) ce32)
         source.old (unread text.old) source.new (unread text.new)) }
-    ensures size { OnOk result (decompositions_size I.remaining source.new + length (unread text.new)
+    ensures size { OnOk result
+        (decompositions_size I.remaining source.new + length (unread text.new)
         ≤ decompositions_size I.remaining source.old + length (unread text.old)) }
 {
     if !begins_number(reading, ce32) {
@@ -229,7 +237,8 @@ fn read_contraction<I: Iterator<Item = char> + Drop>(
     ensures ready { OnOk result (CanDecompose I.can_next I.remaining source.new) }
     ensures text { OnOk result (ReadsTo I.next_gives (HasWholeContraction (reading_of reading.entry)
         (found_context context.entry)) source.old (unread text.old) source.new (unread text.new)) }
-    ensures size { OnOk result (decompositions_size I.remaining source.new + length (unread text.new)
+    ensures size { OnOk result
+        (decompositions_size I.remaining source.new + length (unread text.new)
         ≤ decompositions_size I.remaining source.old + length (unread text.old)) }
 {
     let taken = read_match(context, source, text)?;
@@ -250,7 +259,8 @@ fn read_dot<I: Iterator<Item = char> + Drop>(
     ensures ready { OnOk result (CanDecompose I.can_next I.remaining source.new) }
     ensures text { OnOk result (ReadsTo I.next_gives (IsDotRead (reading_of reading.entry) c)
         source.old (unread text.old) source.new (unread text.new)) }
-    ensures size { OnOk result (decompositions_size I.remaining source.new + length (unread text.new)
+    ensures size { OnOk result
+        (decompositions_size I.remaining source.new + length (unread text.new)
         ≤ decompositions_size I.remaining source.old + length (unread text.old)) }
 {
     if reading.lithuanian_dot_above && c == '\u{307}' {
@@ -271,7 +281,8 @@ pub(crate) fn read_ahead<I: Iterator<Item = char> + Drop>(
     ensures ready { OnOk result (CanDecompose I.can_next I.remaining source.new) }
     ensures text { OnOk result (ReadsTo I.next_gives (HasWholeStep (reading_of reading.entry)
         (recent_chars recent) c) source.old (unread text.old) source.new (unread text.new)) }
-    ensures size { OnOk result (decompositions_size I.remaining source.new + length (unread text.new)
+    ensures size { OnOk result
+        (decompositions_size I.remaining source.new + length (unread text.new)
         ≤ decompositions_size I.remaining source.old + length (unread text.old)) }
 {
     if reading.tables.diacritic(c).is_some() {
