@@ -36,7 +36,7 @@ mod element_names {
     };
     use icu_collator::elements::{
         CollationElement, CollationElement32, CollationElements, ElementReader, ElementTables,
-        NonPrimary, Tag, all_elements, decomposed_text,
+        NonPrimary, Tag, TextReading, all_elements, decomposed_text,
     };
 }
 
