@@ -12,6 +12,6 @@ returns c =
     let piece = c.args.piece.now in
     ap elements_to_come c.in_ok-new.ensures.ok
     ∙ c.after-reader.ensures
-    ∙ ap (λ (r : Reading). elements_after r (last_two [] c.as_slice.result.now) c.extend_nfd.new.text.items) c.reading.ensures
+    ∙ ap (λ (r : Reading). elements_after r (last_two [] c.as_slice.result.now) c.extend_nfd.new.out.items) c.reading.ensures
     ∙ ap₂ (λ (b t : List ℕ). elements_after (cursor_reading c.args.tables.now) (last_two [] b) t) (c.as_slice.ensures.value ∙ c.in_ok-before.ensures)
     (c.in_ok-extend_nfd.ensures.ok ∙ ap (λ (l : List ℕ). l ++ nfd piece) c.new-text.ensures.items)
