@@ -53,7 +53,10 @@ fn safe_places<'d>(
     requires { NamesAll named.now (checked_tables tables.now).tables }
     ensures { safe_reading result ≡ reading_with tables.now numeric_primary lithuanian_dot_above }
 {
-    SafePlaces::new(reading(tables, numeric_primary, lithuanian_dot_above), named)
+    SafePlaces::new(
+        reading(tables, numeric_primary, lithuanian_dot_above),
+        named,
+    )
 }
 
 /// What is kept of the letters of texts that are read so.
@@ -104,7 +107,11 @@ impl Reader {
 
     /// How texts are read.
     pub(crate) fn reading(&self) -> TextReading<'_> {
-        reading(&self.tables, self.numeric_primary, self.lithuanian_dot_above)
+        reading(
+            &self.tables,
+            self.numeric_primary,
+            self.lithuanian_dot_above,
+        )
     }
 
     /// Before which characters texts may be cut.
