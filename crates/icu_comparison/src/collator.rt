@@ -111,7 +111,7 @@ impl Collator {
     {
         CollatorBorrowed {
             tables: &self.tables,
-            places: safe_places(&self.tables, &self.named, self.settings),
+            named: &self.named,
             letters: &self.letters,
             settings: self.settings,
             form: key_form(&self.tables, self.settings),
@@ -208,18 +208,17 @@ fn last_variable(tables: &CheckedTables, settings: CollatorOptionsBitField) -> u
 #[derive(Debug, Clone, Copy)]
 pub struct CollatorBorrowed<'a> {
     pub(crate) tables: &'a CheckedTables,
-    /// Before which characters texts may be cut, and how they are read.
-    places: SafePlaces<'a>,
+    named: &'a NamedCharacters,
     letters: &'a Letters,
     settings: CollatorOptionsBitField,
     form: KeyForm,
     last_variable: u32,
     ghost backward: { (values_of settings).backward_second_level
         ≡ is_backward (checked_tables tables.now).bits },
-    ghost reads: { safe_reading places ≡ reading_by (collation_of tables.now settings) },
     ghost known: { AreLetters (reading_by (collation_of tables.now settings)) letters.now },
     ghost levels: { form ≡ form_by (collation_of tables.now settings) },
     ghost variable: { last_variable ≡ last_variable_by (collation_of tables.now settings) },
+    ghost names: { NamesAll named.now (checked_tables tables.now).tables },
 }
 
 impl<'a> CollatorBorrowed<'a> {
@@ -304,7 +303,7 @@ impl<'a> CollatorBorrowed<'a> {
     fn outline(&self, c: char) -> Letter
         ensures { IsLetter (reading_by (collation_borrowed self.now)) c result }
     {
-        outline_of(&self.places, c)
+        outline_of(&safe_places(self.tables, self.named, self.settings), c)
     }
 
     /// The elements of a text.
@@ -315,7 +314,10 @@ impl<'a> CollatorBorrowed<'a> {
         ensures { let reading = reading_by (collation_borrowed self.now) in
             IfOk result (λ es. es.items ≡ elements_of reading (nfd (T.text text))) }
     {
-        all_elements(self.places.reading(), Characters::new(text))
+        all_elements(
+            text_reading(self.tables, self.settings),
+            Characters::new(text),
+        )
     }
 
     /// What texts are read by.
@@ -323,7 +325,10 @@ impl<'a> CollatorBorrowed<'a> {
     pub(crate) fn cursor_tables(&self) -> CursorTables<'a>
         ensures { cursor_reading result ≡ reading_by (collation_borrowed self.now) }
     {
-        CursorTables::new(self.places, self.letters)
+        CursorTables::new(
+            safe_places(self.tables, self.named, self.settings),
+            self.letters,
+        )
     }
 
     /// Reads the elements of a text, as the collation handles variable ones.

@@ -5,7 +5,7 @@ use Rattle.icu_shortcuts.specs.LetterTables.{AreLetters}
 use Rattle.icu_comparison.proofs.collator.CollatorBorrowed.cursor_tables.Goals as goal
 
 pub new-requires : goal.new-requires
-new-requires c = subst (λ (r : Reading). AreLetters r c.args.self.now.letters.now) (sym c.args.self.now.reads) c.args.self.now.known
+new-requires c = subst (λ (r : Reading). AreLetters r c.args.self.now.letters.now) (sym c.safe_places.ensures) c.args.self.now.known
 
 pub returns : goal.returns
-returns c = c.new.ensures ∙ c.args.self.now.reads
+returns c = c.new.ensures ∙ c.safe_places.ensures
