@@ -22,7 +22,7 @@ use std::alloc::AllocError;
 
 /// What a call returns that was to write a key and ran out of memory before it wrote anything.
 fn write_nothing<S: CollationKeySink>(sink: &mut S) -> Result<S::Output, SortKeyError<S::Error>>
-    ensures { (key : List ℕ) → WritesKey S.took S.refused S.finished S.State.is_default sink.old key result sink.new }
+    ensures { (key : List ℕ) → WritesKey S.effects sink.old key result sink.new }
 {
     let _state = S::State::default();
     Err(SortKeyError::NoMemory)
@@ -47,7 +47,7 @@ impl<'a> CollatorBorrowed<'a> {
         text: &str,
         sink: &mut S,
     ) -> Result<S::Output, SortKeyError<S::Error>>
-        ensures key { WritesKey S.took S.refused S.finished S.State.is_default sink.old
+        ensures key { WritesKey S.effects sink.old
             (text_key (collation_borrowed self.now) (chars text.now)) result sink.new }
     {
         self.write_key_of(str_text(text), sink)
@@ -64,7 +64,7 @@ impl<'a> CollatorBorrowed<'a> {
         text: &[u8],
         sink: &mut S,
     ) -> Result<S::Output, SortKeyError<S::Error>>
-        ensures key { WritesKey S.took S.refused S.finished S.State.is_default sink.old
+        ensures key { WritesKey S.effects sink.old
             (text_key (collation_borrowed self.now) (utf8_text text.now)) result sink.new }
     {
         self.write_key_of(Utf8Text(text), sink)
@@ -80,7 +80,7 @@ impl<'a> CollatorBorrowed<'a> {
         text: &[u16],
         sink: &mut S,
     ) -> Result<S::Output, SortKeyError<S::Error>>
-        ensures key { WritesKey S.took S.refused S.finished S.State.is_default sink.old
+        ensures key { WritesKey S.effects sink.old
             (text_key (collation_borrowed self.now) (utf16_text text.now)) result sink.new }
     {
         self.write_key_of(Utf16Text(text), sink)
@@ -92,7 +92,7 @@ impl<'a> CollatorBorrowed<'a> {
         text: T,
         sink: &mut S,
     ) -> Result<S::Output, SortKeyError<S::Error>>
-        ensures key { WritesKey S.took S.refused S.finished S.State.is_default sink.old
+        ensures key { WritesKey S.effects sink.old
             (text_key (collation_borrowed self.now) (T.text text)) result sink.new }
     {
         self.tables.are_good();
@@ -115,7 +115,7 @@ impl<'a> CollatorBorrowed<'a> {
         requires cases { AllByRecursion HasCase
             (handled_by (collation_borrowed self.now) (nfd (T.text text))) }
         ensures key { let collation = collation_borrowed self.now in
-            WritesKey S.took S.refused S.finished S.State.is_default sink.old
+            WritesKey S.effects sink.old
             (key_bytes (compression_of collation.tables) (form_by collation)
             (level_lists (reorder collation.tables) (form_by collation)
             (handled_by collation (nfd (T.text text))) characters.now)) result sink.new }
@@ -140,7 +140,7 @@ impl<'a> CollatorBorrowed<'a> {
         requires cases { AllByRecursion HasCase
             (handled_by (collation_borrowed self.now) (nfd (T.text text))) }
         ensures key { let collation = collation_borrowed self.now in
-            WritesKey S.took S.refused S.finished S.State.is_default sink.old
+            WritesKey S.effects sink.old
             (key_bytes (compression_of collation.tables) (form_by collation)
             (level_lists (reorder collation.tables) (form_by collation)
             (handled_by collation (nfd (T.text text))) characters.now)) result sink.new }
@@ -170,7 +170,7 @@ impl<'a> CollatorBorrowed<'a> {
         requires cases { AllByRecursion HasCase
             (handled_by (collation_borrowed self.now) (nfd (T.text text))) }
         ensures key { let collation = collation_borrowed self.now in
-            WritesKey S.took S.refused S.finished S.State.is_default sink.old
+            WritesKey S.effects sink.old
             (key_bytes (compression_of collation.tables) (form_by collation)
             (level_lists (reorder collation.tables) (form_by collation)
             (handled_by collation (nfd (T.text text))) characters.now)) result sink.new }

@@ -26,7 +26,7 @@ pub(crate) fn write_held<S: CollationKeySink>(
 ) -> Result<(), S::Error>
     requires { S.is_sound sink.old state.old }
     ensures sound { S.is_sound sink.new state.new }
-    ensures bytes { Writes S.took S.refused sink.old state.old bytes.now.items
+    ensures bytes { Writes S.effects sink.old state.old bytes.now.items
         result sink.new state.new }
 {
     if bytes.is_empty() {

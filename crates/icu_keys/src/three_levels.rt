@@ -36,7 +36,7 @@ fn push_primary<S: CollationKeySink, C: PrimaryCompression>(
 ) -> Result<(), S::Error>
     requires { S.is_sound sink.old state.old }
     ensures sound { S.is_sound sink.new state.new }
-    ensures bytes { Feeds S.took S.refused sink.old state.old
+    ensures bytes { Feeds S.effects sink.old state.old
         (λ ws. primary_rest (C.compression compression.now) writer.old (weight_before weight ws))
         (primary_rest (C.compression compression.now) writer.new) result sink.new state.new }
 {
@@ -175,7 +175,7 @@ impl ThreeLevelWriter {
         requires fits { tertiary < 0x4000 }
         ensures sound { S.is_sound sink.new state.new }
         ensures form { three_levels_form self.new ≡ three_levels_form self.old }
-        ensures bytes { KeyFeeds S.took S.refused sink.old state.old
+        ensures bytes { KeyFeeds S.effects sink.old state.old
             (λ (lists : ThreeLists). three_levels_rest (C.compression compression.now) self.old
             (element_before primary secondary tertiary lists))
             (three_levels_rest (C.compression compression.now) self.new) result sink.new state.new }
@@ -202,7 +202,7 @@ impl ThreeLevelWriter {
         requires fits { moved_tertiary form tertiary < 2 ^ 16 }
         ensures sound { S.is_sound sink.new state.new }
         ensures form { three_levels_form self.new ≡ three_levels_form self.old }
-        ensures bytes { KeyFeeds S.took S.refused sink.old state.old
+        ensures bytes { KeyFeeds S.effects sink.old state.old
             (λ (lists : ThreeLists). three_levels_rest (C.compression compression.now) self.old
             (element_before primary secondary tertiary lists))
             (three_levels_rest (C.compression compression.now) self.new) result sink.new state.new }
@@ -225,7 +225,7 @@ impl ThreeLevelWriter {
     ) -> Result<(), S::Error>
         requires { S.is_sound sink.old state.old }
         ensures sound { S.is_sound sink.new state.new }
-        ensures bytes { (c : Compression) → Writes S.took S.refused sink.old state.old
+        ensures bytes { (c : Compression) → Writes S.effects sink.old state.old
             (three_levels_rest c self.now (record { primaries = []; secondaries = []; tertiaries = [] }))
             result sink.new state.new }
     {

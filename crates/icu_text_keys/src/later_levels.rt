@@ -194,7 +194,7 @@ impl LaterLevels {
     ) -> Result<(), SortKeyError<S::Error>>
         requires { S.is_sound sink.old state.old }
         ensures sound { S.is_sound sink.new state.new }
-        ensures bytes { (reorder : ℕ → ℕ) → KeyWrites S.took S.refused sink.old state.old
+        ensures bytes { (reorder : ℕ → ℕ) → KeyWrites S.effects sink.old state.old
             (parts_bytes (levels_left reorder self characters.now [])) result sink.new state.new }
     {
         let identical = self.identical;

@@ -52,7 +52,7 @@ fn push_stayed<S: CollationKeySink, C: PrimaryCompression>(
     requires case { element.lower < 0xC000 }
     ensures sound { S.is_sound sink.new state.new }
     ensures form { three_levels_form writer.new ≡ form }
-    ensures bytes { KeyFeeds S.took S.refused sink.old state.old
+    ensures bytes { KeyFeeds S.effects sink.old state.old
         (λ (hs : List HandledElement). three_levels_left (C.compression compression.now) writer.old (stayed element ∷ hs))
         (three_levels_left (C.compression compression.now) writer.new) result sink.new state.new }
 {
@@ -83,7 +83,7 @@ fn push_handled<S: CollationKeySink, C: PrimaryCompression>(
     requires case { HasCase (handled_as element) }
     ensures sound { S.is_sound sink.new state.new }
     ensures form { three_levels_form writer.new ≡ form }
-    ensures bytes { KeyFeeds S.took S.refused sink.old state.old
+    ensures bytes { KeyFeeds S.effects sink.old state.old
         (λ (hs : List HandledElement). three_levels_left (C.compression compression.now) writer.old (handled_as element ∷ hs))
         (three_levels_left (C.compression compression.now) writer.new) result sink.new state.new }
 {
@@ -102,7 +102,7 @@ fn close_levels<S: CollationKeySink>(
 ) -> Result<(), SortKeyError<S::Error>>
     requires { S.is_sound sink.old state.old }
     ensures sound { S.is_sound sink.new state.new }
-    ensures bytes { (c : Compression) → KeyWrites S.took S.refused sink.old state.old
+    ensures bytes { (c : Compression) → KeyWrites S.effects sink.old state.old
         (three_levels_left c writer.now []) result sink.new state.new }
 {
     match writer.close(sink, state) {
@@ -125,7 +125,7 @@ fn write_rest<S: CollationKeySink, C: PrimaryCompression, H: HandledSource>(
     requires form { three_levels_form writer ≡ form }
     requires cases { AllByRecursion HasCase (H.handled_left elements.old) }
     ensures sound { S.is_sound sink.new state.new }
-    ensures bytes { KeyWrites S.took S.refused sink.old state.old
+    ensures bytes { KeyWrites S.effects sink.old state.old
         (three_levels_left (C.compression compression.now) writer (H.handled_left elements.old))
         result sink.new state.new }
 {
@@ -148,7 +148,7 @@ fn write_in_form<S: CollationKeySink, C: PrimaryCompression, H: HandledSource>(
     requires sound { S.is_sound sink.old state.old }
     requires cases { AllByRecursion HasCase (H.handled_left elements.old) }
     ensures sound { S.is_sound sink.new state.new }
-    ensures bytes { (cs : List ℕ) → KeyWrites S.took S.refused sink.old state.old
+    ensures bytes { (cs : List ℕ) → KeyWrites S.effects sink.old state.old
         (key_bytes (C.compression compression.now) (form_of_three_levels form)
         (level_lists (C.compression compression.now).reorder (form_of_three_levels form) (H.handled_left elements.old) cs))
         result sink.new state.new }
@@ -170,7 +170,7 @@ pub(crate) fn write_three_levels<S: CollationKeySink, C: PrimaryCompression, H: 
     requires sound { S.is_sound sink.old state.old }
     requires cases { AllByRecursion HasCase (H.handled_left elements.old) }
     ensures sound { S.is_sound sink.new state.new }
-    ensures bytes { (cs : List ℕ) → KeyWrites S.took S.refused sink.old state.old
+    ensures bytes { (cs : List ℕ) → KeyWrites S.effects sink.old state.old
         (key_bytes (C.compression compression.now) (form_of_three_levels form)
         (level_lists (C.compression compression.now).reorder (form_of_three_levels form) (H.handled_left elements.old) cs))
         result sink.new state.new }

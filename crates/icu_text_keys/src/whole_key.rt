@@ -29,7 +29,7 @@ fn write_elements<S: CollationKeySink, C: PrimaryCompression, H: HandledSource>(
     requires sound { S.is_sound sink.old state.old }
     requires cases { AllByRecursion HasCase (H.handled_left elements.old) }
     ensures sound { S.is_sound sink.new state.new }
-    ensures bytes { KeyWrites S.took S.refused sink.old state.old
+    ensures bytes { KeyWrites S.effects sink.old state.old
         (key_rest (C.compression compression.now) writer characters.now (H.handled_left elements.old))
         result sink.new state.new }
 {
@@ -53,7 +53,7 @@ fn write_levels<S: CollationKeySink, C: PrimaryCompression, H: HandledSource>(
     requires sound { S.is_sound sink.old state.old }
     requires cases { AllByRecursion HasCase (H.handled_left elements.old) }
     ensures sound { S.is_sound sink.new state.new }
-    ensures bytes { KeyWrites S.took S.refused sink.old state.old
+    ensures bytes { KeyWrites S.effects sink.old state.old
         (key_bytes (C.compression compression.now) form
         (level_lists (C.compression compression.now).reorder form (H.handled_left elements.old) characters.now))
         result sink.new state.new }
@@ -86,7 +86,7 @@ pub fn write_key<S: CollationKeySink, C: PrimaryCompression, H: HandledSource>(
     characters: &[char],
 ) -> Result<S::Output, SortKeyError<S::Error>>
     requires { AllByRecursion HasCase (H.handled_left elements.old) }
-    ensures { WritesKey S.took S.refused S.finished S.State.is_default sink.old
+    ensures { WritesKey S.effects sink.old
         (key_bytes (C.compression compression.now) form
         (level_lists (C.compression compression.now).reorder form (H.handled_left elements.old) characters.now))
         result sink.new }

@@ -30,7 +30,7 @@ fn push_primary<S: CollationKeySink, C: PrimaryCompression>(
 ) -> Result<(), S::Error>
     requires { S.is_sound sink.old state.old }
     ensures sound { S.is_sound sink.new state.new }
-    ensures bytes { Feeds S.took S.refused sink.old state.old
+    ensures bytes { Feeds S.effects sink.old state.old
         (λ (es : List Element). primary_rest (C.compression compression.now) writer.old (primaries (element ∷ es)))
         (λ es. primary_rest (C.compression compression.now) writer.new (primaries es))
         result sink.new state.new }
@@ -77,7 +77,7 @@ impl KeyWriter {
         requires sound { S.is_sound sink.old state.old }
         requires case { element.lower < 0xC000 }
         ensures sound { S.is_sound sink.new state.new }
-        ensures bytes { (cs : List ℕ) → KeyFeeds S.took S.refused sink.old state.old
+        ensures bytes { (cs : List ℕ) → KeyFeeds S.effects sink.old state.old
             (λ (hs : List HandledElement). key_rest (C.compression compression.now) self.old cs (stayed element ∷ hs))
             (key_rest (C.compression compression.now) self.new cs) result sink.new state.new }
     {
@@ -101,7 +101,7 @@ impl KeyWriter {
     ) -> Result<(), SortKeyError<S::Error>>
         requires { S.is_sound sink.old state.old }
         ensures sound { S.is_sound sink.new state.new }
-        ensures bytes { (cs : List ℕ) → KeyFeeds S.took S.refused sink.old state.old
+        ensures bytes { (cs : List ℕ) → KeyFeeds S.effects sink.old state.old
             (λ (hs : List HandledElement). key_rest (C.compression compression.now) self.old cs (shifted_primary primary ∷ hs))
             (key_rest (C.compression compression.now) self.new cs) result sink.new state.new }
     {
@@ -122,7 +122,7 @@ impl KeyWriter {
         requires sound { S.is_sound sink.old state.old }
         requires case { HasCase (handled_as element) }
         ensures sound { S.is_sound sink.new state.new }
-        ensures bytes { (cs : List ℕ) → KeyFeeds S.took S.refused sink.old state.old
+        ensures bytes { (cs : List ℕ) → KeyFeeds S.effects sink.old state.old
             (λ (hs : List HandledElement). key_rest (C.compression compression.now) self.old cs (handled_as element ∷ hs))
             (key_rest (C.compression compression.now) self.new cs) result sink.new state.new }
     {
@@ -143,7 +143,7 @@ impl KeyWriter {
     ) -> Result<(), SortKeyError<S::Error>>
         requires { S.is_sound sink.old state.old }
         ensures sound { S.is_sound sink.new state.new }
-        ensures bytes { (c : Compression) → KeyWrites S.took S.refused sink.old state.old
+        ensures bytes { (c : Compression) → KeyWrites S.effects sink.old state.old
             (key_rest c self characters.now []) result sink.new state.new }
     {
         self.levels.write(sink, state, characters)

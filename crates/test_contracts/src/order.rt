@@ -28,7 +28,7 @@ pub fn key<S: CollationKeySink>(
     text: &str,
     sink: &mut S,
 ) -> Result<S::Output, SortKeyError<S::Error>>
-    ensures { WritesKey S.took S.refused S.finished S.State.is_default sink.old
+    ensures { WritesKey S.effects sink.old
         (text_key (collation_kept collator.now) (chars text.now)) result sink.new }
 {
     collator.as_borrowed().write_sort_key_to(text, sink)

@@ -91,7 +91,7 @@ impl HeldSecondaries {
     fn write<S: CollationKeySink>(&self, sink: &mut S, state: &mut S::State) -> Result<(), S::Error>
         requires { S.is_sound sink.old state.old }
         ensures sound { S.is_sound sink.new state.new }
-        ensures bytes { Writes S.took S.refused sink.old state.old (held_secondaries self.now [])
+        ensures bytes { Writes S.effects sink.old state.old (held_secondaries self.now [])
             result sink.new state.new }
     {
         write_held(sink, state, &self.bytes)?;
@@ -106,7 +106,7 @@ impl HeldSecondaries {
     ) -> Result<(), S::Error>
         requires { S.is_sound sink.old state.old }
         ensures sound { S.is_sound sink.new state.new }
-        ensures bytes { Writes S.took S.refused sink.old state.old
+        ensures bytes { Writes S.effects sink.old state.old
             (part_bytes (opened (held_secondaries self.now []))) result sink.new state.new }
     {
         sink.write_byte(state, LEVEL)?;
@@ -122,7 +122,7 @@ impl HeldSecondaries {
     ) -> Result<(), S::Error>
         requires { S.is_sound sink.old state.old }
         ensures sound { S.is_sound sink.new state.new }
-        ensures bytes { Writes S.took S.refused sink.old state.old
+        ensures bytes { Writes S.effects sink.old state.old
             (part_bytes (closed (held_secondaries self.now []))) result sink.new state.new }
     {
         self.write_opened(sink, state)?;

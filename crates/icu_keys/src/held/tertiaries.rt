@@ -117,7 +117,7 @@ impl HeldTertiaries {
     fn write<S: CollationKeySink>(&self, sink: &mut S, state: &mut S::State) -> Result<(), S::Error>
         requires { S.is_sound sink.old state.old }
         ensures sound { S.is_sound sink.new state.new }
-        ensures bytes { Writes S.took S.refused sink.old state.old (held_tertiaries self.now [])
+        ensures bytes { Writes S.effects sink.old state.old (held_tertiaries self.now [])
             result sink.new state.new }
     {
         write_held(sink, state, &self.bytes)?;
@@ -132,7 +132,7 @@ impl HeldTertiaries {
     ) -> Result<(), S::Error>
         requires { S.is_sound sink.old state.old }
         ensures sound { S.is_sound sink.new state.new }
-        ensures bytes { Writes S.took S.refused sink.old state.old
+        ensures bytes { Writes S.effects sink.old state.old
             (part_bytes (opened (held_tertiaries self.now []))) result sink.new state.new }
     {
         sink.write_byte(state, LEVEL)?;
@@ -148,7 +148,7 @@ impl HeldTertiaries {
     ) -> Result<(), S::Error>
         requires { S.is_sound sink.old state.old }
         ensures sound { S.is_sound sink.new state.new }
-        ensures bytes { Writes S.took S.refused sink.old state.old
+        ensures bytes { Writes S.effects sink.old state.old
             (part_bytes (closed (held_tertiaries self.now []))) result sink.new state.new }
     {
         self.write_opened(sink, state)?;

@@ -14,7 +14,7 @@ returns-clause-bytes g c =
     let x = c.args.element in
     let old = c.args.writer.now in
     let new = c.push_in_form.new.self in
-    key_feeds_mapped g.S.CollationKeySink.took g.S.CollationKeySink.refused (three_lists form) _ _ _ _
+    key_feeds_mapped g.S.CollationKeySink.effects (three_lists form) _ _ _ _
     (λ (lists : ThreeLists). three_levels_rest compression old (element_before c.primary.result c.secondary.result c.tertiary_or_none.result lists))
     (three_levels_rest compression new)
     (λ (hs : List HandledElement). three_levels_left compression old (stayed x ∷ hs)) (three_levels_left compression new) _

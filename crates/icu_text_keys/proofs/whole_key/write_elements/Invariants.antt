@@ -10,7 +10,7 @@ abbrev pub invariant-writing : goal.invariant-writing
 invariant-writing g l = record {
   sound : g.S.CollationKeySink.is_sound l.sink l.state;
   cases : AllByRecursion HasCase (g.H.HandledSource.handled_left l.elements);
-  owes : Owes g.S.CollationKeySink.took l.fn.sink l.fn.state (key_rest (g.C.PrimaryCompression.compression l.compression) l.fn.writer l.characters (g.H.HandledSource.handled_left l.fn.elements))
+  owes : Owes g.S.CollationKeySink.effects l.fn.sink l.fn.state (key_rest (g.C.PrimaryCompression.compression l.compression) l.fn.writer l.characters (g.H.HandledSource.handled_left l.fn.elements))
       (key_rest (g.C.PrimaryCompression.compression l.compression) l.writer l.characters (g.H.HandledSource.handled_left l.elements)) l.sink l.state;
 }
 
