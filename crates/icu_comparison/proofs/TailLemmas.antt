@@ -18,10 +18,10 @@ use Rattle.icu_shortcuts.specs.Letters.{LeadsWith as LetterLeads}
 use Rattle.icu_cursor.specs.declared.letter_cursor.LetterCursor.{LetterCursor}
 use Rattle.icu_cursor.specs.LetterCursors.{GoesOn, letters_give}
 use Rattle.icu_shortcuts.specs.SafeTables.{IsSafeBefore}
-use Rattle.icu_order.specs.Collations.{Collation}
-use Rattle.icu_order.specs.Forms.{form_by, last_variable_by}
-use Rattle.icu_order.specs.Handled.{stayed, handled, is_variable, stayed_elements}
-use Rattle.icu_order.specs.Levels.{weights, primaries}
+use Rattle.icu_weighting.specs.Collations.{Collation}
+use Rattle.icu_weighting.specs.Forms.{form_by, last_variable_by}
+use Rattle.icu_weighting.specs.Handled.{stayed, handled, is_variable, stayed_elements}
+use Rattle.icu_weighting.specs.Levels.{weights, primaries}
 use Rattle.icu_order.specs.TextCuts.{begins_with_primary, IsTail, CommonBeginningsDoNotCount}
 use Rattle.icu_order.specs.TextOrder.{reading_by, lists_by, text_order}
 use Rattle.icu_comparison.specs.inner.Tails.{IsFirst, LeadsWith, Decides, GivesPrimaries, GivesPrimary, ReadsOn, primaries_given, primaries_of, unequal_order}

@@ -13,7 +13,7 @@ ghost use Rattle.icu_elements.specs.Reading.{element_tables};
 ghost use Rattle.icu_elements.specs.TextElements.{Reading, elements_of};
 ghost use Rattle.icu_order.specs.Forms.{form_by, last_variable_by};
 ghost use Rattle.icu_order.specs.TextOrder.{reading_by, handled_elements, handled_by};
-ghost use Rattle.icu_text_keys.specs.CheckedCollations.{collation_of};
+ghost use Rattle.icu_weighting.specs.CheckedCollations.{collation_of};
 ghost use Rattle.icu_levels.specs.CommonBeginnings.{ReadsForward};
 ghost use Rattle.icu_comparison.specs.inner.TextFronts.{IsFront};
 ghost use Rattle.icu_shortcuts.specs.Named.{NamesAll};
@@ -30,12 +30,12 @@ use icu_encodings::{Characters, EncodedText};
 use icu_entries::{CollationElement, DataError, DataErrorKind, DataTable};
 use icu_levels::forms::{KeyForm, SecondaryForm};
 use icu_options::{
-    AlternateHandling, CollatorOptions, CollatorOptionsBitField, CollatorPreferences,
-    ResolvedCollatorOptions, merged_options,
+    CollatorOptions, CollatorOptionsBitField, CollatorPreferences, ResolvedCollatorOptions,
+    merged_options,
 };
 use icu_provider::{CollationProvider, load_tables};
 use icu_shortcuts::{Letter, Letters, NamedCharacters, SafePlaces, outline_of};
-use icu_text_keys::key_form;
+use icu_weighting::{key_form, last_variable};
 use std::alloc::{AllocError, Global};
 
 /// Compares texts by a language's rules (UTS #10). Owns copies of its tables, which were checked
@@ -178,19 +178,6 @@ fn numeric_primary(tables: &CheckedTables, settings: CollatorOptionsBitField) ->
         Some(tables.special_primaries().numeric_primary())
     } else {
         None
-    }
-}
-
-/// The last primary weight of the groups that are variable, or 0 where none is.
-fn last_variable(tables: &CheckedTables, settings: CollatorOptionsBitField) -> u32
-    ensures { result ≡ last_variable_by (collation_of tables.now settings) }
-{
-    match settings.alternate_handling() {
-        AlternateHandling::NonIgnorable => 0,
-        AlternateHandling::Shifted | AlternateHandling::Blanked => {
-            let special = tables.special_primaries();
-            special.last_primary_for_group(settings.max_variable())
-        }
     }
 }
 

@@ -9,7 +9,7 @@ ghost use Rattle.icu_order.specs.Forms.{compression_of, form_by, last_variable_b
 ghost use Rattle.icu_order.specs.Levels.{level_lists};
 ghost use Rattle.icu_order.specs.TextOrder.{handled_by, text_key};
 ghost use Rattle.icu_provider.specs.CollatorTables.{reorder};
-ghost use Rattle.icu_text_keys.specs.HandledSources.{HasCase};
+ghost use Rattle.icu_weighting.specs.HandledSources.{HasCase};
 ghost use Rattle.unicode_normalization.specs.Forms.{nfd};
 
 use crate::collator::CollatorBorrowed;

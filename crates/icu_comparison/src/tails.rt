@@ -8,11 +8,11 @@ ghost use Rattle.icu_provider.specs.CollatorTables.{reorder};
 ghost use Rattle.icu_comparison.specs.inner.Tails.{unequal_order};
 
 use crate::collator::{CollatorBorrowed, Front};
-use crate::forward_levels::reordered;
 use icu_cursor::LetterCursor;
 use icu_cuts::laws::first_starters_lead;
 use icu_encodings::EncodedText;
 use icu_order::laws::common_beginnings_do_not_count;
+use icu_weighting::element_weights::reordered;
 use std::cmp::Ordering;
 
 /// How many primary weights of two texts are compared by their letters, at most.

@@ -59,7 +59,7 @@ module _ {X St F E : Type 0} (effects : SinkEffects X St F E) where
     taken = w.taken;
   }
 
-  -- the same, said of other lists
+  -- bytes that a call brought, said of other lists
   pub brings_of : {R Q : Type 0} (f : Q → R) (x y : X) (s t : St) (p q : R → List ℕ) → Brings effects x s p q y t
       → Brings effects x s (λ rest. p (f rest)) (λ rest. q (f rest)) y t
   brings_of f x y s t p q w = record { front = w.front; taken = w.taken; leaves = λ rest. w.leaves (f rest) }

@@ -28,6 +28,6 @@ WritesKey {X} {St} effects x key (Ok output) y =
 WritesKey {X} {St} effects x key (Err (Sink e)) y =
     (s : St) × effects.begins s
     × (((t : St) × WriteFails effects x s key e y t)
-      ⊎ ((z : X) × (t : St) × effects.took x s key z t × effects.finished z t (Err e) y))
+    ⊎ ((z : X) × (t : St) × effects.took x s key z t × effects.finished z t (Err e) y))
 WritesKey {X} {St} effects x key (Err NoMemory) y =
     (s : St) × (t : St) × effects.begins s × TakesBeginning (λ front. effects.took x s front y t) key

@@ -52,7 +52,8 @@ fn lead_to_drop<C: PrimaryCompression>(compression: &C, weight: u32, reordered: 
 
 /// The lead of a reordered primary as it is written: not of 0, which has no bytes.
 fn written_lead(primary: u32) -> Option<u8>
-    ensures { weight_bytes 4 primary ≡ option_to_list result ++ weight_bytes 3 (below_lead primary) }
+    ensures { weight_bytes 4 primary
+        ≡ option_to_list result ++ weight_bytes 3 (below_lead primary) }
 {
     if primary == 0 {
         None

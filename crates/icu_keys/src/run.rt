@@ -104,7 +104,8 @@ impl Run {
         ensures sound { S.is_sound sink.new state.new }
         ensures bounded { self.new.length ≤ runs.now.count }
         ensures bytes { (spell : ℕ → List ℕ) → Feeds S.effects sink.old state.old
-            (λ ws. level_bytes runs.now spell self.old.length (replicate more runs.now.common ++ ws))
+            (λ ws. level_bytes runs.now spell self.old.length
+            (replicate more runs.now.common ++ ws))
             (level_bytes runs.now spell self.new.length) result sink.new state.new }
     {
         let room = runs.count - self.length;
@@ -115,7 +116,7 @@ impl Run {
         self.write_full_counts(runs, sink, state, more)
     }
 
-    /// The same, where the run becomes longer than a full count.
+    /// Writes what `more` common weights decide, where they make the run longer than a full count.
     #[cold]
     #[inline(never)]
     fn write_full_counts<S: CollationKeySink>(
@@ -131,7 +132,8 @@ impl Run {
         ensures sound { S.is_sound sink.new state.new }
         ensures bounded { self.new.length ≤ runs.now.count }
         ensures bytes { (spell : ℕ → List ℕ) → Feeds S.effects sink.old state.old
-            (λ ws. level_bytes runs.now spell self.old.length (replicate more runs.now.common ++ ws))
+            (λ ws. level_bytes runs.now spell self.old.length
+            (replicate more runs.now.common ++ ws))
             (level_bytes runs.now spell self.new.length) result sink.new state.new }
     {
         let full = u64::from(runs.count);

@@ -94,7 +94,8 @@ impl SecondaryWriter {
         requires { S.is_sound sink.old state.old }
         ensures sound { S.is_sound sink.new state.new }
         ensures bytes { Writes S.effects sink.old state.old
-            (secondary_rest self (replicate more SECONDARY_RUNS.common ++ [])) result sink.new state.new }
+            (secondary_rest self (replicate more SECONDARY_RUNS.common ++ []))
+            result sink.new state.new }
     {
         self.push_commons(sink, state, more)?;
         self.close(sink, state)

@@ -124,7 +124,8 @@ impl TertiaryWriter {
         ensures sound { S.is_sound sink.new state.new }
         ensures form { tertiary_form_of self.new ≡ tertiary_form_of self.old }
         ensures bytes { Feeds S.effects sink.old state.old
-            (λ ws. tertiary_rest self.old (replicate more (tertiary_runs (tertiary_form_of self.old)).common ++ ws))
+            (λ ws. tertiary_rest self.old
+            (replicate more (tertiary_runs (tertiary_form_of self.old)).common ++ ws))
             (tertiary_rest self.new) result sink.new state.new }
     {
         let runs = runs_of(self.form);
@@ -156,7 +157,8 @@ impl TertiaryWriter {
         requires { S.is_sound sink.old state.old }
         ensures sound { S.is_sound sink.new state.new }
         ensures bytes { Writes S.effects sink.old state.old
-            (tertiary_rest self (replicate more (tertiary_runs (tertiary_form_of self)).common ++ []))
+            (tertiary_rest self
+            (replicate more (tertiary_runs (tertiary_form_of self)).common ++ []))
             result sink.new state.new }
     {
         self.push_commons(sink, state, more)?;

@@ -21,10 +21,10 @@ use Rattle.icu_elements.specs.TextElements.{digit_of, elements_of, number_elemen
 use Rattle.icu_elements.specs.TextElementLaws.{IsText}
 use Rattle.icu_elements.proofs.DecomposedLemmas.{IsDecomposedText-nfd}
 use Rattle.icu_elements.proofs.ReadableLemmas.{good_readable}
-use Rattle.icu_order.specs.Collations.{Collation}
-use Rattle.icu_order.specs.Forms.{compression_of, form_by, is_identical}
-use Rattle.icu_order.specs.Handled.{handled, stayed_elements}
-use Rattle.icu_order.specs.Levels.{weights, primaries, level_lists}
+use Rattle.icu_weighting.specs.Collations.{Collation}
+use Rattle.icu_weighting.specs.Forms.{compression_of, form_by, is_identical}
+use Rattle.icu_weighting.specs.Handled.{handled, stayed_elements}
+use Rattle.icu_weighting.specs.Levels.{weights, primaries, level_lists}
 use Rattle.icu_order.specs.LiveWeights.{IsLivePrimary}
 use Rattle.icu_order.specs.TextOrder.{reading_by, handled_elements, lists_by, text_order}
 use Rattle.icu_order.proofs.NumberLists.{number_all, run_leads}

@@ -11,8 +11,8 @@ use Rattle.icu_checks.specs.declared.condition.ElementCondition.TheVariants.{Wid
 use Rattle.icu_checks.specs.declared.condition.PairCondition.TheVariants.{Secondaries}
 use Rattle.icu_provider.specs.CollatorTables.{CollatorTables, is_forward}
 use Rattle.icu_checks.specs.GoodTables.{IsGoodTables}
-use Rattle.icu_order.specs.Levels.{secondary_of}
-use Rattle.icu_order.specs.LiveWeights.{IsLiveWeight, IsLiveSecondary, least_secondary_lead}
+use Rattle.icu_weighting.specs.Levels.{secondary_of}
+use Rattle.icu_order.specs.LiveWeights.{IsLevelWeight, IsLiveSecondary, least_secondary_lead}
 use Rattle.icu_order.proofs.LiveElementLemmas.{live-leads}
 
 -- the leads of secondaries, from the least one on
@@ -40,7 +40,7 @@ from_least false s h (inr (inr high)) = inr (inr high)
 module _ (all : CollatorTables) (good : IsGoodTables all) where
   -- of live elements
   abbrev OfElement : ℕ → Type 0
-  OfElement = IsLiveWeight secondary_of secondary_of all
+  OfElement = IsLevelWeight secondary_of secondary_of all
 
   element_lead : (s : ℕ) → OfElement s → HasLead (least_secondary_lead all) s
   element_lead s w =

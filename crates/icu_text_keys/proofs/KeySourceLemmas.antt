@@ -5,9 +5,9 @@ use Rattle.icu_keys.specs.declared.error.SortKeyError.{SortKeyError}
 use Rattle.icu_keys.specs.declared.error.SortKeyError.TheVariants.{NoMemory}
 use Rattle.icu_keys.specs.KeyWrites.{KeyWrites}
 use Rattle.icu_keys.proofs.Writing.{Owes}
-use Rattle.icu_order.specs.Handled.{HandledElement}
-use Rattle.icu_text_keys.specs.declared.handled.Handled.{Handled}
-use Rattle.icu_text_keys.specs.HandledSources.{GivesNext, handled_as}
+use Rattle.icu_weighting.specs.Handled.{HandledElement}
+use Rattle.icu_weighting.specs.declared.handled_element.Handled.{Handled}
+use Rattle.icu_weighting.specs.HandledSources.{GivesNext, handled_as}
 
 pub one_given : (before after : List HandledElement) (o : Option Handled) (h : Handled) → o ≡ Some h → GivesNext before o after → before ≡ handled_as h ∷ after
 one_given before after o h e w = subst (λ (o : Option Handled). GivesNext before o after) e w

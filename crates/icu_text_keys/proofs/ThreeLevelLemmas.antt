@@ -9,8 +9,8 @@ use Rattle.icu_keys.specs.declared.error.SortKeyError.{SortKeyError}
 use Rattle.icu_keys.specs.declared.error.SortKeyError.TheVariants.{Sink, NoMemory}
 use Rattle.icu_keys.specs.KeyWrites.{KeyWrites, KeyFeeds}
 use Rattle.icu_keys.specs.ThreeLists.{weight_before, element_before}
-use Rattle.icu_order.specs.Handled.{HandledElement, stayed, stayed_elements}
-use Rattle.icu_order.specs.Levels.{weights, primaries, secondaries, tertiaries}
+use Rattle.icu_weighting.specs.Handled.{HandledElement, stayed, stayed_elements}
+use Rattle.icu_weighting.specs.Levels.{weights, primaries, secondaries, tertiaries}
 use Rattle.icu_text_keys.specs.inner.ThreeLevelKeys.{three_lists}
 
 -- two levels, and others that are absent

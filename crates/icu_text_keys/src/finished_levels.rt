@@ -109,7 +109,8 @@ pub(crate) fn write_later<S: CollationKeySink>(
     requires { S.is_sound sink.old state.old }
     ensures sound { S.is_sound sink.new state.new }
     ensures bytes { Writes S.effects sink.old state.old
-        (parts_bytes (map part_of parts.now) ++ part_bytes (characters_left identical characters.now))
+        (parts_bytes (map part_of parts.now)
+        ++ part_bytes (characters_left identical characters.now))
         result sink.new state.new }
 {
     write_parts(sink, state, parts)?;

@@ -6,24 +6,26 @@ ghost use Rattle.icu_levels.specs.Keys.{key_bytes};
 ghost use Rattle.icu_levels.specs.Primaries.{Compression};
 ghost use Rattle.icu_keys.specs.KeyWrites.{KeyWrites, KeyFeeds};
 ghost use Rattle.icu_keys.specs.ThreeLevels.{three_levels_form};
-ghost use Rattle.icu_order.specs.Handled.{HandledElement, stayed};
-ghost use Rattle.icu_order.specs.Levels.{level_lists};
-ghost use Rattle.icu_text_keys.specs.HandledSources.{HasCase, handled_as};
+ghost use Rattle.icu_weighting.specs.Handled.{HandledElement, stayed};
+ghost use Rattle.icu_weighting.specs.Levels.{level_lists};
+ghost use Rattle.icu_weighting.specs.HandledSources.{HasCase, handled_as};
 ghost use Rattle.icu_text_keys.specs.inner.ThreeLevelKeys.{form_of_three_levels, three_levels_left};
 
-use crate::element_weights::tertiary_or_none;
-use crate::handled::{Handled, HandledSource, next_element};
+use crate::next_element::next_element;
+use crate::written_weights::tertiary_or_none;
 use icu_entries::CollationElement;
 use icu_keys::primaries::PrimaryCompression;
 use icu_keys::three_levels::ThreeLevelWriter;
 use icu_keys::{CollationKeySink, SortKeyError};
 use icu_levels::forms::{KeyForm, SecondaryForm, TertiaryForm};
+use icu_weighting::{Handled, HandledSource};
 use std::alloc::Global;
 
 /// The form of the tertiaries, where a key has the primary level, secondaries from the front, tertiaries, and no other
 /// level.
 pub(crate) fn three_level_tertiaries(form: KeyForm) -> Option<TertiaryForm>
-    ensures { (tertiary : TertiaryForm) → (result ≡ Some tertiary) ↔ (form ≡ form_of_three_levels tertiary) }
+    ensures { (tertiary : TertiaryForm) → (result ≡ Some tertiary)
+        ↔ (form ≡ form_of_three_levels tertiary) }
 {
     match form {
         KeyForm {
@@ -53,7 +55,8 @@ fn push_stayed<S: CollationKeySink, C: PrimaryCompression>(
     ensures sound { S.is_sound sink.new state.new }
     ensures form { three_levels_form writer.new ≡ form }
     ensures bytes { KeyFeeds S.effects sink.old state.old
-        (λ (hs : List HandledElement). three_levels_left (C.compression compression.now) writer.old (stayed element ∷ hs))
+        (λ (hs : List HandledElement). three_levels_left (C.compression compression.now) writer.old
+        (stayed element ∷ hs))
         (three_levels_left (C.compression compression.now) writer.new) result sink.new state.new }
 {
     writer.push_in_form(
@@ -84,7 +87,8 @@ fn push_handled<S: CollationKeySink, C: PrimaryCompression>(
     ensures sound { S.is_sound sink.new state.new }
     ensures form { three_levels_form writer.new ≡ form }
     ensures bytes { KeyFeeds S.effects sink.old state.old
-        (λ (hs : List HandledElement). three_levels_left (C.compression compression.now) writer.old (handled_as element ∷ hs))
+        (λ (hs : List HandledElement). three_levels_left (C.compression compression.now) writer.old
+        (handled_as element ∷ hs))
         (three_levels_left (C.compression compression.now) writer.new) result sink.new state.new }
 {
     match element {
@@ -94,7 +98,7 @@ fn push_handled<S: CollationKeySink, C: PrimaryCompression>(
 }
 
 /// Writes the rest of a key, as its elements end here.
-#[tactic(auto, unfolding(icu_order::specs::Levels::weights))]
+#[tactic(auto, unfolding(icu_weighting::specs::Levels::weights))]
 fn close_levels<S: CollationKeySink>(
     writer: &ThreeLevelWriter,
     sink: &mut S,
@@ -150,7 +154,8 @@ fn write_in_form<S: CollationKeySink, C: PrimaryCompression, H: HandledSource>(
     ensures sound { S.is_sound sink.new state.new }
     ensures bytes { (cs : List ℕ) → KeyWrites S.effects sink.old state.old
         (key_bytes (C.compression compression.now) (form_of_three_levels form)
-        (level_lists (C.compression compression.now).reorder (form_of_three_levels form) (H.handled_left elements.old) cs))
+        (level_lists (C.compression compression.now).reorder (form_of_three_levels form)
+        (H.handled_left elements.old) cs))
         result sink.new state.new }
 {
     let writer = ThreeLevelWriter::with_form(alloc, form);
@@ -172,7 +177,8 @@ pub(crate) fn write_three_levels<S: CollationKeySink, C: PrimaryCompression, H: 
     ensures sound { S.is_sound sink.new state.new }
     ensures bytes { (cs : List ℕ) → KeyWrites S.effects sink.old state.old
         (key_bytes (C.compression compression.now) (form_of_three_levels form)
-        (level_lists (C.compression compression.now).reorder (form_of_three_levels form) (H.handled_left elements.old) cs))
+        (level_lists (C.compression compression.now).reorder (form_of_three_levels form)
+        (H.handled_left elements.old) cs))
         result sink.new state.new }
 {
     match form {

@@ -37,10 +37,10 @@ impl CollationKeySink for Limited {
     ghost is_sound = { λ _ _. Unit {0} };
 
     ghost effects = { record {
-        took = λ x _ b y _. y.taken.items ≡ x.taken.items ++ b;
-        refused = λ x _ b _ y _. TakesBeginning (λ c. y.taken.items ≡ x.taken.items ++ c) b;
-        finished = λ x _ r y. y ≡ x;
-        begins = λ _. Unit {0};
+      took = λ x _ b y _. y.taken.items ≡ x.taken.items ++ b;
+      refused = λ x _ b _ y _. TakesBeginning (λ c. y.taken.items ≡ x.taken.items ++ c) b;
+      finished = λ x _ r y. y ≡ x;
+      begins = λ _. Unit {0};
     } };
 
     ghost begins_default = { λ _ _. tt };

@@ -3,7 +3,7 @@ use Rattle.std.proofs.lemmas.List.{nil_from_length, length-take-le}
 use Rattle.std.proofs.lemmas.Result.{err_from_is_err_and}
 use Rattle.icu_levels.specs.Secondaries.{secondary_level}
 use Rattle.icu_keys.specs.WriterRests.{secondary_rest}
-use Rattle.icu_keys.proofs.SegmentLemmas.{reverse_last}
+use Rattle.icu_keys.proofs.ReversedSegments.{reverse_last}
 use Rattle.icu_keys.proofs.Writing.{Owes, owes_fed, owes_fails, owes_written}
 use Rattle.icu_keys.proofs.backward.write_segment.Goals as goal
 

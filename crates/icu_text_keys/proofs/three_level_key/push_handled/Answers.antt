@@ -1,8 +1,8 @@
 use Rattle.std.proofs.Common.{List, ◌∷◌, sym, subst}
 use Rattle.icu_keys.specs.KeyWrites.{KeyFeeds}
-use Rattle.icu_order.specs.Handled.{HandledElement}
-use Rattle.icu_text_keys.specs.declared.handled.Handled.{Handled}
-use Rattle.icu_text_keys.specs.HandledSources.{handled_as}
+use Rattle.icu_weighting.specs.Handled.{HandledElement}
+use Rattle.icu_weighting.specs.declared.handled_element.Handled.{Handled}
+use Rattle.icu_weighting.specs.HandledSources.{handled_as}
 use Rattle.icu_text_keys.specs.inner.ThreeLevelKeys.{three_levels_left}
 use Rattle.icu_text_keys.proofs.three_level_key.push_handled.Goals as goal
 

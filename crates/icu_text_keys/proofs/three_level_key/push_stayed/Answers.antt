@@ -2,7 +2,7 @@ use Rattle.std.proofs.Common.{List, ◌∷◌, ap, ◌∙◌}
 use Rattle.icu_levels.specs.Primaries.{Compression}
 use Rattle.icu_keys.specs.ThreeLevels.{three_levels_rest}
 use Rattle.icu_keys.specs.ThreeLists.{ThreeLists, element_before}
-use Rattle.icu_order.specs.Handled.{HandledElement, stayed, stayed_elements}
+use Rattle.icu_weighting.specs.Handled.{HandledElement, stayed, stayed_elements}
 use Rattle.icu_text_keys.specs.inner.ThreeLevelKeys.{three_lists, three_levels_left}
 use Rattle.icu_text_keys.proofs.ThreeLevelLemmas.{key_feeds_mapped, one_more}
 use Rattle.icu_text_keys.proofs.three_level_key.push_stayed.Goals as goal

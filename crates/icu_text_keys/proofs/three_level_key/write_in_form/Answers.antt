@@ -4,7 +4,7 @@ use Rattle.icu_levels.specs.Primaries.{Compression, primary_level}
 use Rattle.icu_levels.specs.Secondaries.{secondary_level}
 use Rattle.icu_levels.specs.Tertiaries.{tertiary_level}
 use Rattle.icu_keys.specs.ThreeLevels.{three_levels_rest}
-use Rattle.icu_order.specs.Handled.{HandledElement}
+use Rattle.icu_weighting.specs.Handled.{HandledElement}
 use Rattle.icu_text_keys.specs.inner.ThreeLevelKeys.{three_lists}
 use Rattle.icu_text_keys.proofs.ThreeLevelLemmas.{two_parts, key_same}
 use Rattle.icu_text_keys.proofs.three_level_key.write_in_form.Goals as goal

@@ -2,7 +2,7 @@ use Rattle.std.proofs.Common.{◌≡◌, length}
 use Rattle.std.specs.List.{AllByRecursion}
 use Rattle.icu_keys.proofs.Writing.{Owes}
 use Rattle.icu_keys.specs.ThreeLevels.{three_levels_form}
-use Rattle.icu_text_keys.specs.HandledSources.{HasCase}
+use Rattle.icu_weighting.specs.HandledSources.{HasCase}
 use Rattle.icu_text_keys.specs.inner.ThreeLevelKeys.{three_levels_left}
 use Rattle.icu_text_keys.proofs.three_level_key.write_rest.Given as goal
 

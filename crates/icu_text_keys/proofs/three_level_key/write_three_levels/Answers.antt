@@ -3,7 +3,7 @@ use Rattle.icu_levels.specs.Keys.{key_bytes}
 use Rattle.icu_levels.specs.Primaries.{Compression}
 use Rattle.icu_levels.specs.declared.forms.TertiaryForm.{TertiaryForm}
 use Rattle.icu_keys.specs.KeyWrites.{KeyWrites}
-use Rattle.icu_order.specs.Levels.{level_lists}
+use Rattle.icu_weighting.specs.Levels.{level_lists}
 use Rattle.icu_text_keys.specs.inner.ThreeLevelKeys.{form_of_three_levels}
 use Rattle.icu_text_keys.proofs.three_level_key.write_three_levels.Goals as goal
 

@@ -4,9 +4,9 @@ use Rattle.std.specs.List.{AllByRecursion}
 use Rattle.icu_levels.specs.Primaries.{Compression}
 use Rattle.icu_keys.proofs.Writing.{Owes, owes_fed}
 use Rattle.icu_keys.proofs.KeyWriting.{key_owed, feeds_stopped}
-use Rattle.icu_order.specs.Handled.{HandledElement}
-use Rattle.icu_text_keys.specs.declared.handled.Handled.{Handled}
-use Rattle.icu_text_keys.specs.HandledSources.{HasCase, handled_as}
+use Rattle.icu_weighting.specs.Handled.{HandledElement}
+use Rattle.icu_weighting.specs.declared.handled_element.Handled.{Handled}
+use Rattle.icu_weighting.specs.HandledSources.{HasCase, handled_as}
 use Rattle.icu_text_keys.specs.KeyRests.{key_rest}
 use Rattle.icu_text_keys.proofs.KeySourceLemmas.{one_given, none_given, stopped}
 use Rattle.icu_text_keys.proofs.whole_key.write_elements.Goals as goal

@@ -1,7 +1,7 @@
 use Rattle.std.proofs.Common.{length}
 use Rattle.std.specs.List.{AllByRecursion}
 use Rattle.icu_keys.proofs.Writing.{Owes}
-use Rattle.icu_text_keys.specs.HandledSources.{HasCase}
+use Rattle.icu_weighting.specs.HandledSources.{HasCase}
 use Rattle.icu_text_keys.specs.KeyRests.{key_rest}
 use Rattle.icu_text_keys.proofs.whole_key.write_elements.Given as goal
 

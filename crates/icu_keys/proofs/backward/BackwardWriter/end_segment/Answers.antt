@@ -3,7 +3,7 @@ use Rattle.std.proofs.lemmas.List.{append-nil}
 use Rattle.std.proofs.lemmas.Result.{err_from_is_err_and}
 use Rattle.icu_levels.specs.Secondaries.{secondary_level, further_segments}
 use Rattle.icu_keys.specs.Writes.{WriteFails}
-use Rattle.icu_keys.proofs.SegmentLemmas.{segment_step}
+use Rattle.icu_keys.proofs.ReversedSegments.{segment_step}
 use Rattle.icu_keys.proofs.Writing.{fails_front, feeds_writes, writes_last}
 use Rattle.icu_keys.proofs.backward.BackwardWriter.end_segment.Goals as goal
 

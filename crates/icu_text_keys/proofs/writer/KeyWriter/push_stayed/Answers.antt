@@ -4,8 +4,8 @@ use Rattle.icu_entries.specs.Elements.{Element}
 use Rattle.icu_keys.specs.WriterRests.{primary_rest}
 use Rattle.icu_keys.proofs.Writing.{fails_front}
 use Rattle.icu_keys.proofs.KeyWriting.{begins_brought, brings_of}
-use Rattle.icu_order.specs.Handled.{HandledElement, stayed, stayed_elements}
-use Rattle.icu_order.specs.Levels.{primaries}
+use Rattle.icu_weighting.specs.Handled.{HandledElement, stayed, stayed_elements}
+use Rattle.icu_weighting.specs.Levels.{primaries}
 use Rattle.icu_text_keys.specs.LevelRests.{levels_left}
 use Rattle.icu_text_keys.proofs.writer.KeyWriter.push_stayed.Goals as goal
 
