@@ -9,6 +9,7 @@ use Rattle.icu_entries.specs.ElementConditions.{tertiary_of}
 use Rattle.icu_data.specs.Final.{final_elements}
 use Rattle.icu_data.specs.Live.{live_from}
 use Rattle.icu_data.specs.CollectedWeights.{is_stated, IsWeightAmong}
+pub use Rattle.icu_data.specs.CollectedWeights.{Adds}
 use Rattle.icu_data.specs.Data.{Data, homed}
 use Rattle.icu_provider.specs.Tables.{Tables}
 use Rattle.icu_checks.specs.declared.check.weights.WeightList.{WeightList}
@@ -56,10 +57,6 @@ pub record IsWeightBy (list : WeightList) (table : DataTable) (tables : Tables) 
   pub weighs : weight_at list x ≡ Some w
 
 -- ---- the weights that a list comes to hold
-
--- a list holds what it held, and what is P
-abbrev pub Adds : (ℕ → Type 0) → List ℕ → List ℕ → Type 0
-Adds P old new = (w : ℕ) → Contains new w ↔ (Contains old w ⊎ P w)
 
 -- the weight is P at a place before the n-th
 pub record IsBelow (P : ℕ → ℕ → Type 0) (n w : ℕ) : Type 0 where
