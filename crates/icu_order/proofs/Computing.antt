@@ -1,3 +1,4 @@
+-- What has to be opened to compute the keys and the orders of worked rows.
 use Rattle.icu_provider.specs.Reorderings.{moved, reordered}
 use Rattle.icu_provider.specs.SpecialPrimaries.{is_compressible}
 use Rattle.icu_elements.proofs.Computing.{icu_elements}
