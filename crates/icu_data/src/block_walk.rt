@@ -1,14 +1,13 @@
 //! A walk over all characters, block by block: what is stored once is visited once, as far as it doesn't go by the
 //! character.
-ghost use Rattle.std.specs.Prelude.{◌≡◌, ℕ, ◌+◌, ◌*◌, ◌^◌, ◌≤◌, ◌<◌, ◌||◌, ◌⊎◌, Bool, true, false, IfSome, OnOk, IsTrue};
+ghost use Rattle.std.specs.Prelude.{◌≡◌, ◌+◌, ◌*◌, ◌^◌, ◌<◌, ◌||◌, Bool, true, false, IfSome, OnOk, IsTrue};
 ghost use Rattle.std.specs.Char.{IsScalar};
 ghost use Rattle.icu_entries.specs.Entries.{kind_of};
 ghost use Rattle.icu_data.specs.Data.{Data};
-ghost use Rattle.icu_data.specs.Live.{goes_by_character, leads_to_character, live_at};
+ghost use Rattle.icu_data.specs.Live.{goes_by_character, leads_to_character};
 ghost use Rattle.icu_data.specs.StoredData.{data_of, block_in};
 ghost use Rattle.icu_data.specs.Walks.{Walked, after_char, EachOfBlock};
 ghost use Rattle.icu_data.specs.inner.BlockWalks.{is_wanted, WalkedTo, WalksOn, AddsShared, AreShared, IsRun, IsState, AreStates};
-ghost use Rattle.icu_data.specs.inner.VisitedEntries.{IsRemembered};
 
 use crate::data::CollationData;
 use crate::visited_entries::VisitedEntries;

@@ -1,5 +1,5 @@
 //! The contexts of prefixes and contractions.
-ghost use Rattle.std.specs.Prelude.{◌≡◌, ◌↔◌, ◌<◌, ◌≤◌, ℕ, IsOk, IfOk, IfErr, IsTrue, All, length, take, drop, slice_index_or, slice_get, Some, []};
+ghost use Rattle.std.specs.Prelude.{◌≡◌, ◌↔◌, ◌<◌, ◌≤◌, ℕ, IsOk, IfOk, IfErr, IsTrue, All, length, take, drop, slice_get, Some, []};
 ghost use Rattle.icu_data.specs.Data.{context_in};
 ghost use Rattle.icu_data.specs.Contexts.{row_of, rows_of, stored_contexts, HasRowsInside, HasCharsInside, HasRangesInside, is_before, ascend_from, has_ascending_rows, HasAscendingRows, IsContextTable, FailsContexts};
 

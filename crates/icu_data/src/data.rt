@@ -1,5 +1,5 @@
 //! Roots and tailorings.
-ghost use Rattle.std.specs.Prelude.{◌≡◌, ◌+◌, ◌<◌, ◌≤◌, length, slice_index, slice_index_or, take, drop, map, IsTrue, All, IsOk, IfOk, IfErr, true, ◌↔◌, ◌∷◌, []};
+ghost use Rattle.std.specs.Prelude.{◌≡◌, ◌+◌, ◌<◌, ◌≤◌, length, slice_index, take, drop, map, IsTrue, All, IsOk, IfOk, IfErr, true, ◌↔◌, ◌∷◌, []};
 ghost use Rattle.icu_data.specs.Contexts.{has_ascending_rows};
 ghost use Rattle.icu_entries.specs.Elements.{element_of};
 ghost use Rattle.std.specs.List.{list_all};

@@ -1,10 +1,6 @@
 //! The conditions on one entry of a root or a tailoring.
 ghost use Rattle.std.specs.Prelude.{◌≡◌, Bool, IsTrue};
-ghost use Rattle.std.specs.List.{list_all};
 ghost use Rattle.icu_entries.specs.Entries.{kind_of};
-ghost use Rattle.icu_data.specs.Data.{homed};
-ghost use Rattle.icu_data.specs.Final.{final_elements};
-ghost use Rattle.icu_entries.specs.ElementConditions.{element_meets};
 ghost use Rattle.icu_data.specs.inner.Visitors.{all_meet};
 ghost use Rattle.icu_data.specs.LiveConditions.{elements_meet, first_failing};
 ghost use Rattle.icu_data.specs.StoredData.{data_of};

@@ -1,5 +1,5 @@
 -- The weights of live elements that are compared with one another, and how they stand in four bytes.
-use Rattle.std.specs.Prelude.{ℕ, ◌≡◌, ◌↔◌, ◌⊎◌, ◌<◌, ◌+◌, ◌*◌, ◌^◌, false, ◌||◌, ◌==◌, List, slice_index, Option, Some, None, IsTrue, if◌then◌else◌}
+use Rattle.std.specs.Prelude.{ℕ, ◌≡◌, ◌<◌, ◌+◌, ◌*◌, ◌^◌, false, ◌||◌, ◌==◌, slice_index, Option, Some, None, IsTrue, if◌then◌else◌}
 use Rattle.std.specs.List.{Contains}
 use Rattle.icu_entries.specs.declared.error.DataTable.{DataTable}
 use Rattle.icu_entries.specs.declared.error.DataTable.TheVariants.{Diacritics}
