@@ -7,7 +7,7 @@ ghost use Rattle.collate_commands.specs.Refusals.{IsRefusal};
 ghost use Rattle.collate_cldr.specs.Files.{ComparesAs, IsLineOf};
 
 use crate::choice::Chosen;
-use collate_commands::{CollatorSource, Fault};
+use collate_commands::{CollatorSource, ProgramFault};
 use icu_cldr::{CldrRoot, ReadError, read_root};
 use icu_comparison::Collator;
 use icu_entries::{DataError, DataErrorKind};
@@ -33,7 +33,7 @@ impl<'a, R: Files + AllocGlobal> CollatorSource for FileSource<'a, R> {
 
     ghost refuses = { λ s strength line. IsLineOf s.file.now line };
 
-    fn collator(&self, alloc: Global, strength: Strength) -> Result<Collator, Fault> {
+    fn collator(&self, alloc: Global, strength: Strength) -> Result<Collator, ProgramFault> {
         let root = read_file(self.rt, self.file)?;
         root_collator(alloc, &root, self.file, self.chosen, strength)
     }
@@ -41,7 +41,8 @@ impl<'a, R: Files + AllocGlobal> CollatorSource for FileSource<'a, R> {
 
 /// The line that says of a file what is wrong with it.
 fn line_of(alloc: Global, file: &str, what: &str) -> Result<String, AllocError>
-    ensures { IfOk result (λ line. string_bytes line ≡ file.now ++ codes ": " ++ what.now ++ 10 ∷ []) }
+    ensures { IfOk result (λ line.
+        string_bytes line ≡ file.now ++ codes ": " ++ what.now ++ 10 ∷ []) }
 {
     let mut line = file.to_string(alloc)?;
     line.push_str(": ")?;
@@ -51,27 +52,27 @@ fn line_of(alloc: Global, file: &str, what: &str) -> Result<String, AllocError>
 }
 
 /// A fault that says of a file what is wrong with it.
-fn refused(alloc: Global, file: &str, what: &str) -> Fault
+fn refused(alloc: Global, file: &str, what: &str) -> ProgramFault
     ensures { IsRefusal (IsLineOf file.now) result }
 {
     match line_of(alloc, file, what) {
-        Ok(line) => Fault::Refused(line),
-        Err(_) => Fault::NoMemory,
+        Ok(line) => ProgramFault::Refused(line),
+        Err(_) => ProgramFault::NoMemory,
     }
 }
 
-/// The same by an error's own text.
-fn refused_by<E: Display>(alloc: Global, file: &str, error: &E) -> Fault
+/// A fault that says of a file what is wrong with it, by an error's own text.
+fn refused_by<E: Display>(alloc: Global, file: &str, error: &E) -> ProgramFault
     ensures { IsRefusal (IsLineOf file.now) result }
 {
     match error.to_string(alloc) {
         Ok(what) => refused(alloc, file, what.as_str()),
-        Err(_) => Fault::NoMemory,
+        Err(_) => ProgramFault::NoMemory,
     }
 }
 
 /// Reads the tables of a file.
-fn read_file<R: Files + AllocGlobal>(rt: &R, file: &str) -> Result<CldrRoot, Fault>
+fn read_file<R: Files + AllocGlobal>(rt: &R, file: &str) -> Result<CldrRoot, ProgramFault>
     ensures root { IfOk result (λ root. IsRoot (root_tables root)) }
     ensures refused { IfErr result (IsRefusal (IsLineOf file.now)) }
 {
@@ -79,11 +80,11 @@ fn read_file<R: Files + AllocGlobal>(rt: &R, file: &str) -> Result<CldrRoot, Fau
         return Err(refused(rt.alloc(), file, "not opened"));
     };
     let Ok(reader) = BufReader::new(rt.alloc(), opened) else {
-        return Err(Fault::NoMemory);
+        return Err(ProgramFault::NoMemory);
     };
     match read_root(rt.alloc(), reader) {
         Ok(root) => Ok(root),
-        Err(ReadError::NoMemory) => Err(Fault::NoMemory),
+        Err(ReadError::NoMemory) => Err(ProgramFault::NoMemory),
         Err(error) => Err(refused_by(rt.alloc(), file, &error)),
     }
 }
@@ -95,7 +96,7 @@ fn root_collator(
     file: &str,
     chosen: Chosen,
     strength: Strength,
-) -> Result<Collator, Fault>
+) -> Result<Collator, ProgramFault>
     requires { IsRoot (root_tables root.now) }
     ensures compares { IfOk result (λ c. ComparesAs chosen strength (collation_kept c)) }
     ensures good { IfOk result (λ c. IsGoodTables (tables_kept c)) }
@@ -108,11 +109,11 @@ fn root_collator(
 }
 
 /// What a refusal of tables comes to.
-fn refusal_of(alloc: Global, file: &str, error: DataError) -> Fault
+fn refusal_of(alloc: Global, file: &str, error: DataError) -> ProgramFault
     ensures { IsRefusal (IsLineOf file.now) result }
 {
     match error.kind {
-        DataErrorKind::NoMemory => Fault::NoMemory,
+        DataErrorKind::NoMemory => ProgramFault::NoMemory,
         _ => refused_by(alloc, file, &error),
     }
 }

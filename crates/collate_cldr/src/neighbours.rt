@@ -1,5 +1,5 @@
 //! Whether lines are in order, as those of CLDR's test files should be.
-use collate_commands::Fault;
+use collate_commands::ProgramFault;
 use icu_comparison::Collator;
 use std::alloc::{AllocError, Global};
 use std::cmp::Ordering;
@@ -47,14 +47,14 @@ fn before_comment(line: &str) -> &str {
 }
 
 /// A text with its key.
-fn with_key(alloc: Global, collator: &Collator, text: String) -> Result<Keyed, Fault> {
+fn with_key(alloc: Global, collator: &Collator, text: String) -> Result<Keyed, ProgramFault> {
     let mut key = Vec::new(alloc);
     match collator
         .as_borrowed()
         .write_sort_key_to(text.as_str(), &mut key)
     {
         Ok(_) => Ok(Keyed { text, key }),
-        Err(_) => Err(Fault::NoMemory),
+        Err(_) => Err(ProgramFault::NoMemory),
     }
 }
 
@@ -70,7 +70,12 @@ impl Counts {
     }
 
     /// Takes in a pair of neighbours.
-    fn add(&mut self, collator: &Collator, left: &Keyed, right: &Keyed) -> Result<(), Fault> {
+    fn add(
+        &mut self,
+        collator: &Collator,
+        left: &Keyed,
+        right: &Keyed,
+    ) -> Result<(), ProgramFault> {
         let order = collator
             .as_borrowed()
             .compare(left.text.as_str(), right.text.as_str())?;
@@ -90,15 +95,15 @@ pub(crate) fn neighbours<R: Read + Drop>(
     alloc: Global,
     collator: &Collator,
     input: R,
-) -> Result<Counts, Fault> {
+) -> Result<Counts, ProgramFault> {
     let Ok(reader) = BufReader::new(alloc, input) else {
-        return Err(Fault::NoMemory);
+        return Err(ProgramFault::NoMemory);
     };
     let mut counts = Counts::new();
     let mut last: Option<Keyed> = None;
     for line in reader.lines(alloc) {
         let Ok(line) = line else {
-            return Err(Fault::ReadFailed);
+            return Err(ProgramFault::ReadFailed);
         };
         let numbers = before_comment(line.as_str()).trim();
         if numbers.is_empty() {

@@ -23,7 +23,8 @@ pub fn reader<'d, I: Iterator<Item = char> + Drop>(
     requires can { I.can_next delegate }
     requires ends { IsFinite (I.remaining delegate) }
     ensures { (cs : List ℕ) → Spells I.next_gives delegate cs
-        → IfOk result (λ reader. elements_to_come reader ≡ elements_of (reading_of tables.entry None false) (nfd cs)) }
+        → IfOk result (λ reader.
+        elements_to_come reader ≡ elements_of (reading_of tables.entry None false) (nfd cs)) }
 {
     let text = decomposed_text(tables.allocator(), delegate)?;
     Ok(ElementReader::new(text, tables, None, false))

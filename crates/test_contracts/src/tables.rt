@@ -19,7 +19,8 @@ use std::alloc::Global;
 pub fn checked(alloc: Global, tables: TableSet<'_>) -> Result<CheckedTables, DataError>
     ensures good { IsOk result → IsGoodTables (tables_in tables.entry) }
     ensures refusal { IfErr result (IsTrueRefusal (tables_in tables.entry)) }
-    ensures exact { IfErr result (λ e. (e.kind ≡ DataErrorKind.NoMemory → ⊥) → IsGoodTables (tables_in tables.entry) → ⊥) }
+    ensures exact { IfErr result (λ e. (e.kind ≡ DataErrorKind.NoMemory → ⊥)
+        → IsGoodTables (tables_in tables.entry) → ⊥) }
     ensures keeps { IfOk result (λ t. checked_tables t ≡ tables_in tables.entry) }
 {
     match CheckedTables::from_set(alloc, tables) {
