@@ -206,7 +206,7 @@ fn count_taken(
     Ok(count.get())
 }
 
-/// The same, by the number of elements and the text.
+/// How many characters are taken for the first elements of a text, by the number of elements and the text.
 pub(crate) fn taken(alloc: Global, reader: &Reader, question: &str) -> Result<String, Fault> {
     let (elements, text) = question.split_once(' ').ok_or(Fault::Unread)?;
     let text = Text::read(alloc, text)?;

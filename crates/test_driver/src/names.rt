@@ -106,7 +106,7 @@ fn equal_names(alloc: Global, index: &NameIndex<'_>, name: &[u8]) -> Result<Stri
     format!(in alloc; "{:X} : {text}", names.len())
 }
 
-/// Those that are equal to the first name, of an index of the others.
+/// The names that are equal to the first one, of an index of the others.
 pub(crate) fn equals(alloc: Global, collator: &Collator, names: &str) -> Result<String, Fault> {
     let names = several(alloc, names)?;
     let (name, names) = names.as_slice().split_first().ok_or(Fault::Unread)?;

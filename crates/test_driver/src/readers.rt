@@ -48,7 +48,8 @@ fn letters(
     lithuanian_dot_above: bool,
 ) -> Result<Letters, AllocError>
     requires { NamesAll named.now (checked_tables tables.now).tables }
-    ensures { IfOk result (λ l. AreLetters (reading_with tables.now numeric_primary lithuanian_dot_above) l) }
+    ensures { IfOk result
+        (λ l. AreLetters (reading_with tables.now numeric_primary lithuanian_dot_above) l) }
 {
     let places = safe_places(tables, named, numeric_primary, lithuanian_dot_above);
     Letters::new(alloc, places)

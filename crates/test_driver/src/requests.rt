@@ -50,7 +50,8 @@ struct ByRequest<'m> {
 
 impl<'m> ByRequest<'m> {
     fn provider_for(&self, request: DataRequest<'_>) -> MiniProvider<'m>
-        ensures { result ≡ by_request self.now.typed self.now.local self.now.empty (request_of request.entry) }
+        ensures { result
+            ≡ by_request self.now.typed self.now.local self.now.empty (request_of request.entry) }
     {
         if request.collation_type.is_some() {
             self.typed
