@@ -17,3 +17,5 @@ pub use Rattle.icu_order.specs.Forms
 pub use Rattle.icu_keys.specs.KeyWrites
 pub use Rattle.icu_comparison.specs.HandledRests
 pub use Rattle.icu_comparison.specs.Collators
+pub use Rattle.icu_index.specs.Listings
+pub use Rattle.icu_index.specs.NameIndexes
