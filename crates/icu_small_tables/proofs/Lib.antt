@@ -1,0 +1,3 @@
+pub mod SmallElements
+pub mod SmallEntries
+pub mod GoodLemmas
