@@ -21,11 +21,11 @@ use Rattle.icu_small_tables.proofs.SmallEntries.{root_by, entry_is_good, rows_ar
 
 -- ---- what each table shows by itself
 
-of_replicate : {X : Type 0} (P : X → Type 0) (n : ℕ) (x : X) → P x → All P (replicate n x)
+pub of_replicate : {X : Type 0} (P : X → Type 0) (n : ℕ) (x : X) → P x → All P (replicate n x)
 of_replicate P n x h =
     λ k d few. subst P (sym (get_or-replicate n k x d (subst (λ m. k < m) (length-replicate n x) few))) h
 
-rows_ascend : IsTrue (has_ascending_rows context_of_a)
+pub rows_ascend : IsTrue (has_ascending_rows context_of_a)
 unfolding ascend_from
 rows_ascend = refl
 
@@ -46,7 +46,7 @@ grave_alone i few =
     let first : 0 ≡ i = omega arith in
     subst (λ n. IsTrue (is_replaced_index n || is_diacritic_weight true (slice_index (grave ∷ []) n))) first grave_weighs
 
-tables_are : (value : ℕ → ℕ) → AreTables (with_root (root_by value))
+pub tables_are : (value : ℕ → ℕ) → AreTables (with_root (root_by value))
 tables_are value = record {
   root = of_replicate (λ (x : Context). IsTrue (has_ascending_rows x)) 1 context_of_a rows_ascend;
   tailoring = λ x is. cc;
@@ -82,7 +82,7 @@ pub small_tables_are_good : IsGoodTables small_tables
 small_tables_are_good = good_by small_entry (λ c few. refl)
 
 -- a root without lists and with this context is one by the entries of its characters
-root_is : (value : ℕ → ℕ) (elements : List Element) (entries : List ℕ) (contexts : List Context) → elements ≡ [] → entries ≡ [] → contexts ≡ context_of_a ∷ []
+pub root_is : (value : ℕ → ℕ) (elements : List Element) (entries : List ℕ) (contexts : List Context) → elements ≡ [] → entries ≡ [] → contexts ≡ context_of_a ∷ []
     → root_by value ≡ record { value = value; elements = elements; entries = entries; contexts = contexts }
 root_is value elements entries contexts no_elements no_entries one = cc
 
