@@ -1,5 +1,5 @@
 -- What is said of tables that are checked, where they meet all conditions.
-use Rattle.std.proofs.Common.{◌≡◌, Result, Ok, Err, refl, sym, subst}
+use Rattle.std.proofs.Common.{◌≡◌, ℕ, Result, Ok, Err, refl, sym, subst}
 use Rattle.std.specs.Prelude.{IfOk, IfErr}
 use Rattle.icu_entries.specs.declared.error.DataError.{DataError}
 use Rattle.icu_entries.specs.declared.error.DataErrorKind.{DataErrorKind}
@@ -10,16 +10,16 @@ use Rattle.icu_provider.specs.CollatorTables.{CollatorTables}
 use Rattle.icu_checks.specs.declared.checked.CheckedTables.{CheckedTables}
 use Rattle.icu_checks.specs.Checked.{checked_tables}
 use Rattle.icu_checks.specs.GoodTables.{IsGoodTables}
-use Rattle.icu_small_tables.specs.SmallTables.{small_root, with_root, AreSmallTables}
-use Rattle.icu_small_tables.proofs.GoodLemmas.{same_tables_are_good}
+use Rattle.icu_small_tables.specs.SmallTables.{small_root, with_root, AreSmallTables, IsLowLead}
+use Rattle.icu_small_tables.proofs.SmallTableLemmas.{same_tables_are_good}
 
 is_memory : (kind : DataErrorKind) → ((kind ≡ NoMemory → ⊥) → ⊥) → kind ≡ NoMemory
 is_memory NoMemory h = refl
 is_memory _ h = absurd (h (λ is. cc))
 
-module _ (root : Data) (says : SaysOfCharacters small_root root) (all : CollatorTables) (is : all ≡ with_root root) where
+module _ (n : ℕ) (low : IsLowLead n) (root : Data) (says : SaysOfCharacters small_root root) (all : CollatorTables) (is : all ≡ with_root n root) where
   are : AreSmallTables all
-  are = subst AreSmallTables (sym is) (record { root = says; others = refl })
+  are = subst AreSmallTables (sym is) (record { numeric = low; root = says; others = refl })
 
   pub only_memory : (r : Result CheckedTables DataError) → IfErr r (λ e. (e.kind ≡ NoMemory → ⊥) → IsGoodTables all → ⊥) → IfErr r (λ e. e.kind ≡ NoMemory)
   only_memory (Ok tables) h = tt

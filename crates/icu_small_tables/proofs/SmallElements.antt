@@ -1,5 +1,5 @@
 -- The elements of the small tables, and what the conditions on elements ask of them.
-use Rattle.std.proofs.Common.{◌≡◌, ◌≢◌, ◌⊎◌, ◌<◌, ◌/◌, ◌%◌, ◌^◌, ℕ, false, List, [], ◌∷◌, refl, sym, ap, subst, ◌∙◌, arith, inl, inr, IsTrue}
+use Rattle.std.proofs.Common.{◌≡◌, ◌≢◌, ◌⊎◌, ◌<◌, ◌/◌, ◌%◌, ◌^◌, ℕ, false, List, [], ◌∷◌, refl, sym, ap, subst, ◌∙◌, arith, inl, inr, IsTrue, ◌*◌, ◌≤◌, nat_eq}
 use Rattle.std.proofs.lemmas.Bool.{eqb-true}
 use Rattle.std.proofs.lemmas.Bool.Decides.{nat_tests}
 use Rattle.std.specs.List.{Contains, list_all}
@@ -23,9 +23,10 @@ use Rattle.icu_data.proofs.ListLemmas.{of_member}
 use Rattle.icu_checks.proofs.ComparedLevelLemmas.{passes}
 use Rattle.icu_checks.proofs.EntryViolationLemmas.{passes_element}
 use Rattle.icu_checks.proofs.ImplicitLemmas.{AreBytes, implicit_bytes, implicit_pass}
+use Rattle.icu_weights.specs.Leads.{is_middle}
 use Rattle.icu_weights.proofs.BeginningLemmas.{four_bytes_begin, one_byte_begins}
 use Rattle.icu_weights.proofs.WrittenWeightLemmas.{same_first}
-use Rattle.icu_small_tables.specs.SmallTables.{letter_a, letter_b, letter_a_grave, grave, with_root}
+use Rattle.icu_small_tables.specs.SmallTables.{letter_a, letter_b, letter_a_grave, grave, IsLowLead, with_root}
 
 -- the elements that don't go by a character
 abbrev pub stated_elements : List Element
@@ -38,34 +39,53 @@ pub data IsSmallElement (x : Element) : Type 0 where
 
 -- ---- lead bytes
 
-pub lead_meets : (root : Data) (condition : LeadCondition) → LeadMeets condition (with_root root)
-unfolding is_compressible
-lead_meets root of_lead.Separator = refl
-lead_meets root of_lead.HighLead = λ p fits is. is
-lead_meets root of_lead.ImplicitLead = record { together = λ p fits is. is; middle = refl }
-lead_meets root of_lead.NumericLead = record { together = λ p fits is. is; middle = refl }
-lead_meets root of_lead.LeadsApart = λ same. let h = same in omega arith
-lead_meets root of_lead.NumericWhole = refl
+lead_is : (b : ℕ) → b * 0x1000000 / 0x1000000 ≡ b
+lead_is b = omega arith
 
--- ---- each element
+module _ (n : ℕ) (low : IsLowLead n) (root : Data) where
+  middle : IsTrue (is_middle n)
+  middle = let least = low.low in let most = low.high in grind (arith, nat_tests, least, most)
 
-stated_meet : (root : Data) (condition : ElementCondition) → IsTrue (list_all (element_meets condition (with_root root)) stated_elements)
-unfolding is_compressible
-stated_meet root of_element.Width = refl
-stated_meet root of_element.BackwardLead = refl
-stated_meet root of_element.TertiaryElement = refl
-stated_meet root of_element.MiddleLead = refl
-stated_meet root of_element.ImplicitLength = refl
-stated_meet root of_element.NumericLead = refl
-stated_meet root of_element.SharedLead = refl
-stated_meet root of_element.SecondByte = refl
+  whole : is_compressible (with_root n root).special n ≡ false
+  unfolding is_compressible
+  whole = let most = low.high in grind (arith, nat_tests, most)
 
-pub element_is_good : (root : Data) (condition : ElementCondition) (x : Element) → IsSmallElement x → IsTrue (element_meets condition (with_root root) x)
-element_is_good root condition x (stated is) = passes (element_meets condition (with_root root)) stated_elements x (stated_meet root condition) is
-element_is_good root condition x (implicit c is) =
-    subst (λ y. IsTrue (element_meets condition (with_root root) y)) (sym is)
-    (passes_element (with_root root) (of_primary (implicit_weight c))
-    (implicit_pass (with_root root) (lead_meets root of_lead.ImplicitLead) (lead_meets root of_lead.LeadsApart) (omega arith) c) condition)
+  apart : 0xFE ≡ n * 0x1000000 / 0x1000000 → ⊥
+  apart same = let most = low.high in let lead = lead_is n in omega (arith, same, lead, most)
+
+  pub lead_meets : (condition : LeadCondition) → LeadMeets condition (with_root n root)
+  lead_meets of_lead.Separator = refl
+  lead_meets of_lead.HighLead = λ p fits is. is
+  lead_meets of_lead.ImplicitLead = record { together = λ p fits is. is; middle = refl }
+  lead_meets of_lead.NumericLead = record {
+    together = λ p fits is. is ∙ sym (lead_is n);
+    middle = subst (λ b. IsTrue (is_middle b)) (sym (lead_is n)) middle;
+  }
+  lead_meets of_lead.LeadsApart = apart
+  lead_meets of_lead.NumericWhole = whole
+
+  -- ---- each element
+
+  no_letter : (b : ℕ) → 0x29 ≤ b → nat_eq b n ≡ false
+  no_letter b least = let most = low.high in grind (arith, nat_tests, most)
+
+  stated_meet : (condition : ElementCondition) → IsTrue (list_all (element_meets condition (with_root n root)) stated_elements)
+  unfolding is_compressible
+  stated_meet of_element.Width = refl
+  stated_meet of_element.BackwardLead = refl
+  stated_meet of_element.TertiaryElement = refl
+  stated_meet of_element.MiddleLead = refl
+  stated_meet of_element.ImplicitLength = refl
+  stated_meet of_element.NumericLead = rw (no_letter 0x29 (omega arith), no_letter 0x2A (omega arith), no_letter 0x2B (omega arith)) refl
+  stated_meet of_element.SharedLead = rw (lead_is n, no_letter 0x29 (omega arith), no_letter 0x2A (omega arith), no_letter 0x2B (omega arith)) refl
+  stated_meet of_element.SecondByte = refl
+
+  pub element_is_good : (condition : ElementCondition) (x : Element) → IsSmallElement x → IsTrue (element_meets condition (with_root n root) x)
+  element_is_good condition x (stated is) = passes (element_meets condition (with_root n root)) stated_elements x (stated_meet condition) is
+  element_is_good condition x (implicit c is) =
+      subst (λ y. IsTrue (element_meets condition (with_root n root) y)) (sym is)
+      (passes_element (with_root n root) (of_primary (implicit_weight c))
+      (implicit_pass (with_root n root) (lead_meets of_lead.ImplicitLead) (lead_meets of_lead.LeadsApart) (let most = low.high in omega (arith, most)) c) condition)
 
 -- ---- two elements: each weight is one byte, but for implicit ones, whose lead byte is theirs alone
 
@@ -140,12 +160,12 @@ secondaries_apart v w alone lone some other differ begins =
 not_alone : (x : Element) → x.secondary ≢ 0 → is_tertiary_element x ≡ false
 not_alone x some = grind (arith, nat_tests, some)
 
-pairs_meet : (root : Data) (condition : PairCondition) (x y : Element) → HasSmallWeights x → HasSmallWeights y → PairMeets condition (with_root root) x y
-pairs_meet root of_pair.TertiaryElementWeights x y first second = λ alone some. let none = not_alone x first.some in cc
-pairs_meet root of_pair.Primaries x y first second = primaries_apart x.primary y.primary first.primary second.primary
-pairs_meet root of_pair.Secondaries x y first second = secondaries_apart x.secondary y.secondary first.secondary second.secondary
-pairs_meet root of_pair.Tertiaries x y first second = λ some other differ. absurd (differ (first.tertiary ∙ sym second.tertiary))
-pairs_meet root of_pair.Compression x y first second = λ some other lead. ap (λ b. is_compressible (with_root root).special b) lead
+pairs_meet : (n : ℕ) (root : Data) (condition : PairCondition) (x y : Element) → HasSmallWeights x → HasSmallWeights y → PairMeets condition (with_root n root) x y
+pairs_meet n root of_pair.TertiaryElementWeights x y first second = λ alone some. let none = not_alone x first.some in cc
+pairs_meet n root of_pair.Primaries x y first second = primaries_apart x.primary y.primary first.primary second.primary
+pairs_meet n root of_pair.Secondaries x y first second = secondaries_apart x.secondary y.secondary first.secondary second.secondary
+pairs_meet n root of_pair.Tertiaries x y first second = λ some other differ. absurd (differ (first.tertiary ∙ sym second.tertiary))
+pairs_meet n root of_pair.Compression x y first second = λ some other lead. ap (λ b. is_compressible (with_root n root).special b) lead
 
-pub pair_is_good : (root : Data) (condition : PairCondition) (x y : Element) → IsSmallElement x → IsSmallElement y → PairMeets condition (with_root root) x y
-pair_is_good root condition x y first second = pairs_meet root condition x y (small_weights x first) (small_weights y second)
+pub pair_is_good : (n : ℕ) (root : Data) (condition : PairCondition) (x y : Element) → IsSmallElement x → IsSmallElement y → PairMeets condition (with_root n root) x y
+pair_is_good n root condition x y first second = pairs_meet n root condition x y (small_weights x first) (small_weights y second)

@@ -28,7 +28,7 @@ use Rattle.icu_data.proofs.ImplicitLemmas.{implicit_passes}
 use Rattle.icu_data.proofs.ListLemmas.{all_members, of_member}
 use Rattle.icu_data.proofs.ViolationLemmas.{passes_meets}
 use Rattle.icu_checks.proofs.ComparedLevelLemmas.{implicit_elements, passes}
-use Rattle.icu_small_tables.specs.SmallTables.{letter_a, letter_b, letter_a_grave, grave, contraction_entry, implicit_entry, context_of_a, small_entry, with_root}
+use Rattle.icu_small_tables.specs.SmallTables.{letter_a, letter_b, letter_a_grave, grave, contraction_entry, implicit_entry, context_of_a, small_entry, tables_with}
 use Rattle.icu_small_tables.proofs.SmallElements.{IsSmallElement, stated, implicit, stated_elements}
 
 -- a root with these entries of characters
@@ -123,18 +123,18 @@ module _ (P : ℕ → ℕ → Type 0) (value : ℕ → ℕ) (says : (c : ℕ) �
   live_in_root : (c e : ℕ) → IsScalar c → Contains (live_from (root_by value) (value c)) e → P c e
   live_in_root c e scalar member = live_entry c (value c) e (subst IsEntry (sym (says c (scalar_below c scalar))) (has_entry c)) member
 
-  live_in_jamo : (c e : ℕ) → IsTrue (is_jamo c) → Contains (live_from (root_by value) (jamo_entry (with_root (root_by value)).tables c)) e → P c e
+  live_in_jamo : (c e : ℕ) → IsTrue (is_jamo c) → Contains (live_from (root_by value) (jamo_entry (tables_with (root_by value)) c)) e → P c e
   live_in_jamo c e jamo member = live_entry c _ e (counted (jamo_implicit (c - 0x1100) (in_jamo c jamo))) member
 
 -- what holds of the root and those entries with each character holds of each live entry
 pub by_entry : (P : Data → ℕ → ℕ → Type 0) (value : ℕ → ℕ) → ((c : ℕ) → c < code_point_count → value c ≡ small_entry c)
     → ((c e : ℕ) → Contains stated_entries e → P (root_by value) c e) → ((c : ℕ) → P (root_by value) c implicit_entry)
-    → (table : DataTable) (home : Data) (c e : ℕ) → IsLiveBy table (with_root (root_by value)).tables home c e → P home c e
+    → (table : DataTable) (home : Data) (c e : ℕ) → IsLiveBy table (tables_with (root_by value)) home c e → P home c e
 by_entry P value says each others tables.Root home c e live =
     let member = subst (λ (d : Data). Contains (live_from d (d.value c)) e) live.0 live.2 in
     subst (λ d. P d c e) (sym live.0) (live_in_root (P (root_by value)) value says each others c e live.1 member)
 by_entry P value says each others tables.Jamo home c e live =
-    let member = subst (λ d. Contains (live_from d (jamo_entry (with_root (root_by value)).tables c)) e) live.0 live.2 in
+    let member = subst (λ d. Contains (live_from d (jamo_entry (tables_with (root_by value)) c)) e) live.0 live.2 in
     subst (λ d. P d c e) (sym live.0) (live_in_jamo (P (root_by value)) value says each others c e live.1 member)
 by_entry P value says each others tables.Tailoring home c e live = let clash = live.0 in cc
 by_entry P value says each others tables.SpecialPrimaries home c e live = absurd live
@@ -192,7 +192,7 @@ implicit_gives : (home : Data) (c : ℕ) → Gives home c implicit_entry
 implicit_gives home c = gives_one home c implicit_entry _ (implicit c refl) (implicit_elements home c implicit_entry is_implicit)
 
 of_live_entry : (value : ℕ → ℕ) → ((c : ℕ) → c < code_point_count → value c ≡ small_entry c)
-    → (table : DataTable) (x : Element) → IsOfEntryBy table (with_root (root_by value)).tables x → IsSmallElement x
+    → (table : DataTable) (x : Element) → IsOfEntryBy table (tables_with (root_by value)) x → IsSmallElement x
 unfolding Gives
 of_live_entry value says table x is =
     by_entry Gives value says (stated_give (root_by value)) (implicit_gives (root_by value)) table is.home is.char is.entry is.live x is.member
@@ -204,7 +204,7 @@ of_diacritic x is =
 
 -- all live elements are those of the small tables
 pub live_element : (value : ℕ → ℕ) → ((c : ℕ) → c < code_point_count → value c ≡ small_entry c)
-    → (table : DataTable) (x : Element) → IsElementBy table (with_root (root_by value)).tables x → IsSmallElement x
+    → (table : DataTable) (x : Element) → IsElementBy table (tables_with (root_by value)) x → IsSmallElement x
 live_element value says tables.Root x is = of_live_entry value says tables.Root x is
 live_element value says tables.Jamo x is = of_live_entry value says tables.Jamo x is
 live_element value says tables.Tailoring x is = of_live_entry value says tables.Tailoring x is
@@ -216,14 +216,14 @@ live_element value says tables.Diacritics x is = of_diacritic x is
 -- ---- each live entry
 
 pub entry_is_good : (value : ℕ → ℕ) → ((c : ℕ) → c < code_point_count → value c ≡ small_entry c)
-    → (condition : LiveCondition) (table : DataTable) (home : Data) (c e : ℕ) → IsLiveBy table (with_root (root_by value)).tables home c e → IsTrue (meets condition home c e)
+    → (condition : LiveCondition) (table : DataTable) (home : Data) (c e : ℕ) → IsLiveBy table (tables_with (root_by value)) home c e → IsTrue (meets condition home c e)
 entry_is_good value says condition =
     by_entry (λ home c e. IsTrue (meets condition home c e)) value says
     (λ c e member. passes (meets condition (root_by value) c) stated_entries e (stated_meet condition value c) member)
     (λ c. implicit_meets condition (root_by value) c)
 
 pub rows_are_plain : (n : ℕ) (value : ℕ → ℕ) → ((c : ℕ) → c < code_point_count → value c ≡ small_entry c)
-    → (table : DataTable) (home : Data) (c e : ℕ) → IsLiveBy table (with_root (root_by value)).tables home c e → IsTrue (avoids_diacritics n home e)
+    → (table : DataTable) (home : Data) (c e : ℕ) → IsLiveBy table (tables_with (root_by value)) home c e → IsTrue (avoids_diacritics n home e)
 rows_are_plain n value says =
     by_entry (λ home c e. IsTrue (avoids_diacritics n home e)) value says
     (λ c e member. passes (avoids_diacritics n (root_by value)) stated_entries e (rows_avoid n value) member)

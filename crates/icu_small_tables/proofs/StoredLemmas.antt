@@ -19,7 +19,7 @@ use Rattle.icu_data.proofs.ListLemmas.{all_members, weaker}
 use Rattle.icu_small_tables.specs.SmallTables.{letter_a, letter_a_grave, context_of_a, implicit_entry, small_entry, small_root}
 use Rattle.icu_small_tables.specs.StoredRoot.{HoldsFirst, small_block, StoresSmallRoot}
 use Rattle.icu_small_tables.proofs.SmallEntries.{root_by, entry_is_good}
-use Rattle.icu_small_tables.proofs.GoodLemmas.{of_replicate, rows_ascend, root_is}
+use Rattle.icu_small_tables.proofs.SmallTableLemmas.{of_replicate, rows_ascend, root_is}
 
 others_are_implicit : (c : ℕ) → c ≢ 0x61 → c ≢ 0x62 → small_entry c ≡ implicit_entry
 others_are_implicit c not_a not_b = grind (arith, nat_tests, not_a, not_b)

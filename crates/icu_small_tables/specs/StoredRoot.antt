@@ -12,6 +12,7 @@ pub record HoldsFirst (f : ℕ → ℕ) (xs : List ℕ) (n : ℕ) : Type 0 where
 abbrev pub small_block : ℕ → ℕ
 small_block i = if i == 1 then 1 else 0
 
+-- lists that are the small root
 pub record StoresSmallRoot (v : DataVectors) : Type 0 where
   pub blocks : HoldsFirst small_block v.blocks.items 17408
   pub values : HoldsFirst small_entry v.values.items 128

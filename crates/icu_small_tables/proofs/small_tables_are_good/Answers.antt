@@ -1,4 +1,4 @@
-use Rattle.icu_small_tables.proofs.GoodLemmas.{small_tables_are_good, same_tables_are_good}
+use Rattle.icu_small_tables.proofs.SmallTableLemmas.{small_tables_are_good, same_tables_are_good}
 use Rattle.icu_small_tables.proofs.small_tables_are_good.Goals as goal
 
 pub returns-clause-good : goal.returns-clause-good
