@@ -18,6 +18,7 @@ use icu_provider::{
     CollationDiacritics, CollationJamo, CollationMetadata, CollationSpecialPrimaries, TableSet,
 };
 use std::alloc::Global;
+use std::process::Abort;
 
 /// The conditions on all tables of a collator can be met: the small tables meet them, and so do tables that say the
 /// same of characters. So what is proved of tables that meet them is proved of some.
@@ -53,4 +54,10 @@ pub fn checked_small_tables(alloc: Global) -> Result<CheckedTables, DataError>
 {
     let root = small_root::root(alloc)?;
     CheckedTables::from_set(alloc, set_with(&root, 0x10))
+}
+
+#[test]
+fn small_tables_are_accepted(rt: HostRuntime) {
+    let accepted = checked_small_tables(rt.alloc()).is_ok();
+    assert!(rt; accepted);
 }
