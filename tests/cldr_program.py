@@ -234,6 +234,7 @@ COMMANDS = [
     (["sort", "3"], NAMES, lambda at, count, after: not after or at % SOME == 0 or at > count - LAST_ONES),
     (["compare", "3", "ab", "aB"], b"", lambda at, count, after: at > count - LAST_ONES),
     (["key", "3", "ab"], b"", lambda at, count, after: at > count - LAST_ONES),
+    (["neighbours", "3"], b"0061\n0041\n0062\n", lambda at, count, after: at > count - LAST_ONES),
 ]
 
 

@@ -6,7 +6,7 @@ from row_questions import Case, is_printed, row_parts
 
 # What each file begins with: without these lines none is read.
 FIRST_LINES = """# a small file
-[Unified_Ideograph 4E00..4E0F 3400..3401]
+[Unified_Ideograph 4E00..4E0F 3400..3401 20000..2000F FA11]
 [top_byte\t61\tLatn COMPRESS ]
 0000; [,,]
 FDD1 201C; [05 06 02, 05, 05]
@@ -51,13 +51,23 @@ def entries(_every, row):
 def entry_printed(entry, *lists):
     """An entry with what it refers to; of a prefix or a contraction also its context."""
     (entry,), lists = entry, Lists(*lists)
+    return context_printed(entry, lists) or final_printed(entry, lists)
+
+
+def context_printed(entry, lists):
+    """A prefix or a contraction with its context, each contraction in a prefix in brackets; of another entry nothing."""
     what = {0xC8: "prefix", 0xC9: "contraction"}.get(entry & 0xFF)
     if not what:
-        return final_printed(entry, lists)
+        return ""
     at = 3 * (entry >> 13)
     default, parts = row_parts(lists.contexts[at : at + 3], lists.rows, lists.chars)
-    printed = [" ".join(f"{it:04X}" for it in before) + f"={final_printed(entry, lists)}" for before, entry in parts]
-    return " ".join([what, final_printed(default, lists), *printed])
+    printed = [" ".join(f"{it:04X}" for it in before) + f"={member_printed(entry, lists)}" for before, entry in parts]
+    return " ".join([what, member_printed(default, lists), *printed])
+
+
+def member_printed(entry, lists):
+    inner = context_printed(entry, lists)
+    return f"[{inner}]" if inner else final_printed(entry, lists)
 
 
 def final_printed(entry, lists):

@@ -17,8 +17,9 @@ import crates  # noqa: E402
 
 TOP = crates.TOP
 LOG = os.path.join(TOP, "out", "test.log")
-# The programs of bin/ that compare documents and comments with the sources, and that count what makes sources hard to read.
-COMPARISONS = ["definitions", "documents", "citations", "comments", "undocumented", "house"]
+# The programs of bin/ that compare documents and comments with the sources, count what makes sources hard to read, and list where
+# a body makes an error.
+COMPARISONS = ["definitions", "documents", "citations", "comments", "undocumented", "house", "made-errors"]
 # So often at least a line says what is under way, in seconds.
 BEAT = 120
 COUNTS = re.compile(r"^(\d+) passed, (\d+) failed$")

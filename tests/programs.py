@@ -15,6 +15,7 @@ import subprocess
 import sys
 import tempfile
 
+from calls import check_calls
 from cldr_program import check_collate_cldr
 from driver import DriverFault
 from hostile import check_hostile
@@ -290,6 +291,7 @@ def check_all(report, room):
     report.also("collate", check_collate, room, shim)
     report.also("collate-cldr", check_collate_cldr, room, shim)
     report.also("sort_names", check_sort_names, shim)
+    report.also("calls", check_calls)
     report.also("rows", check_rows, drivers())
     report.also("long texts", check_long_orders, drivers()[0])
     report.also("settings", check_settings, drivers()[0])

@@ -5,7 +5,7 @@ import re
 import shlex
 import tempfile
 
-from driver import SECONDS, Driver, DriverFault
+from driver import SECONDS, Driver, DriverFault, numbers, written
 
 TURNED = {"Less": "Greater", "Greater": "Less"}
 
@@ -22,6 +22,15 @@ def listed_twice(answer):
 
 def safe(answer):
     return answer if " safe" in answer else answer.replace(" 00000000", " safe 00000000")
+
+
+def without_last_jamo(answer):
+    return written([*numbers(answer)[:0xF0], *16 * [0xCF]])
+
+
+def of_next_digit(answer):
+    entry = int(answer, 16)
+    return f"{entry + 0x100:X}" if entry & 0xFF == 0xCA else answer
 
 
 def says_more(answer):
@@ -61,6 +70,9 @@ PLANTED = [
     ("a cut line that says more", "cldr/lines.txt", "line", says_more),
     ("a context that loses a row", "cldr/entries.txt", "show rows", lambda it: " ".join(it.split()[3:])),
     ("a lead byte that compresses", "cldr/tables.txt", "compressible", lambda it: "true"),
+    ("implicit weights that don't compress", "cldr/tables.txt", "compressible FE", lambda it: "false"),
+    ("jamo that are left out from U+11F0 on", "cldr/tables.txt", "show jamo", without_last_jamo),
+    ("digits a value too great", "cldr/entries.txt", "entry", of_next_digit),
     ("a table that is there", "cldr/tables.txt", "absent", lambda it: it.partition(", ")[0] + ", ok"),
     ("a line that isn't counted", "cldr/refused.txt", "root", lambda it: it.replace("line 90", "line 89")),
 ]

@@ -11,6 +11,7 @@ import os
 import sys
 
 import cldr_questions
+import long_files
 import many_names
 import row_questions
 from driver import Driver, DriverFault, text, written
@@ -34,9 +35,9 @@ FILES = {
     "encodings.txt": (478, row_questions.encodings),
     "letters.txt": (34, row_questions.letters),
     "cldr/lines.txt": (38, cldr_questions.line),
-    "cldr/entries.txt": (16, cldr_questions.entries),
-    "cldr/tables.txt": (11, cldr_questions.companions),
-    "cldr/refused.txt": (9, cldr_questions.refused),
+    "cldr/entries.txt": (54, cldr_questions.entries),
+    "cldr/tables.txt": (23, cldr_questions.companions),
+    "cldr/refused.txt": (10, cldr_questions.refused),
     "matches.txt": (15, row_questions.elements),
     "taken.txt": (9, row_questions.taken),
     "sinks.txt": (14, row_questions.sinks),
@@ -140,6 +141,7 @@ def unwritten():
         "a collator after refusals": after_refusals(),
         "questions that can't be read": Unread(UNREADABLE),
         **many_names.cases(),
+        **long_files.cases(),
     }
 
 

@@ -8,13 +8,14 @@ use Rattle.icu_provider.specs.Requests.{Request}
 use Rattle.icu_provider.specs.SpecialPrimaries.{SpecialPrimaries}
 use Rattle.icu_data.specs.Data.{Data}
 use Rattle.icu_provider.specs.CollatorTables.{CollatorTables}
-use Rattle.icu_provider.specs.LoadedTables.{and_then, or_else, typed_first, if_named, diacritics_request, loaded_tables}
+use Rattle.icu_provider.specs.LoadedTables.{then_load, or_else, typed_first, if_named, diacritics_request, loaded_tables}
 use Rattle.icu_mini.specs.declared.mini.Mini.{Mini}
-use Rattle.icu_mini.specs.declared.provider.MiniProvider.{MiniProvider}
+use Rattle.icu_provider.specs.declared.fixed_provider.FixedLoads.{FixedLoads}
+use Rattle.icu_provider.specs.FixedLoads.{fixed_loads}
 use Rattle.icu_owned_data.specs.declared.data_vectors.DataVectors.{DataVectors}
 use Rattle.icu_owned_data.specs.OwnedData.{vectors_data}
 use Rattle.icu_mini.specs.Mini.{IsMini, special_held, SaysAny}
-use Rattle.icu_mini.specs.Provider.{LoadsMini, loads_of}
+use Rattle.icu_mini.specs.Provider.{LoadsMini}
 use Rattle.collate.specs.Answers.{mini_tables}
 
 -- ---- what is returned
@@ -25,7 +26,7 @@ record Follows {A B : Type 0} (x : Result A DataError) (next : A → Result B Da
   first : x ≡ Ok value
   then_next : next value ≡ Ok b
 
-follows : {A B : Type 0} (x : Result A DataError) (next : A → Result B DataError) (b : B) → and_then x next ≡ Ok b → Follows x next b
+follows : {A B : Type 0} (x : Result A DataError) (next : A → Result B DataError) (b : B) → then_load x next ≡ Ok b → Follows x next b
 follows (Ok a) next b h = record { value = a; first = refl; then_next = h }
 follows (Err e) next b h = absurd (cc)
 
@@ -44,9 +45,9 @@ whatever_type x (Some _) = again x
 -- the tables from the metadata on
 from_bits : Loads → Request → Data → List ℕ → SpecialPrimaries → ℕ → Result CollatorTables DataError
 from_bits loads r root jamo special bits =
-    and_then (if_named (is_tailored bits) (typed_first loads.tailoring r)) (λ tailoring.
-    and_then (if_named (has_reordering bits) (typed_first loads.reordering r)) (λ reordering.
-    and_then (loads.diacritics (diacritics_request bits r)) (λ diacritics.
+    then_load (if_named (is_tailored bits) (typed_first loads.tailoring r)) (λ tailoring.
+    then_load (if_named (has_reordering bits) (typed_first loads.reordering r)) (λ reordering.
+    then_load (loads.diacritics (diacritics_request bits r)) (λ diacritics.
     Ok (record {
       tables = record { root = root; tailoring = tailoring; jamo = jamo; diacritics = diacritics };
       special = special;
@@ -66,7 +67,7 @@ made_of root tailoring jamo diacritics special = record {
   reordering = None;
 }
 
-pub mini-loaded : (m : Mini) (p : MiniProvider) (r : Request) (all : CollatorTables) → IsMini m → LoadsMini m p → loaded_tables (loads_of p) r ≡ Ok all → all ≡ mini_tables m
+pub mini-loaded : (m : Mini) (p : FixedLoads) (r : Request) (all : CollatorTables) → IsMini m → LoadsMini m p → loaded_tables (fixed_loads p) r ≡ Ok all → all ≡ mini_tables m
 unfolding loaded_tables from_bits made_of
 mini-loaded m p r all mini holds h =
     let root = follows _ _ all h in
@@ -75,8 +76,8 @@ mini-loaded m p r all mini holds h =
     let metadata = follows _ _ all special.then_next in
     let bits : metadata.value ≡ 1 =
     said _ p.metadata _ _ holds.metadata.0 (sym (whatever_type _ r.collation_type) ∙ metadata.first) ∙ mini.metadata in
-    let rest : from_bits (loads_of p) r root.value jamo.value special.value 1 ≡ Ok all =
-    subst (λ b. from_bits (loads_of p) r root.value jamo.value special.value b ≡ Ok all) bits metadata.then_next in
+    let rest : from_bits (fixed_loads p) r root.value jamo.value special.value 1 ≡ Ok all =
+    subst (λ b. from_bits (fixed_loads p) r root.value jamo.value special.value b ≡ Ok all) bits metadata.then_next in
     let diacritics = follows _ _ all rest in
     let made : made_of root.value None jamo.value diacritics.value special.value ≡ all = cc (diacritics.then_next) in
     let first : root.value ≡ vectors_data m.root = said _ p.root _ _ holds.root.holds root.first in

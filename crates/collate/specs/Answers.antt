@@ -31,6 +31,6 @@ pub record ComparesBy (strength : Strength) (m : Mini) (c : Collation) : Type 0 
   pub tables : c.tables ≡ mini_tables m
   pub settings : c.settings ≡ mini_settings strength
 
--- the same by Mini's tables
+-- the collation by which texts are compared at this strength by the tables of a Mini
 abbrev pub mini_compares : Strength → Collation → Type 0
 mini_compares strength c = (m : Mini) × IsMini m × ComparesBy strength m c

@@ -2,8 +2,9 @@
 use Rattle.std.specs.Prelude.{ℕ, List, [], ◌∷◌, ◌++◌, codes}
 use Rattle.collate_commands.specs.Faults.{Lines}
 
-abbrev pub fault_lines : Lines
-fault_lines = record {
+-- the lines that `collate` says of its faults
+abbrev pub collate_lines : Lines
+collate_lines = record {
   usage = codes "usage: collate compare STRENGTH A B | collate key STRENGTH TEXT | collate sort STRENGTH" ++ 10 ∷ [];
   no_memory = codes "collate: no memory" ++ 10 ∷ [];
   read_failed = codes "collate: read failed" ++ 10 ∷ [];

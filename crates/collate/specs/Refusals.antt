@@ -8,19 +8,20 @@ use Rattle.icu_checks.specs.GoodTables.{IsGoodTables}
 use Rattle.icu_provider.specs.LoadedTables.{loaded_tables}
 use Rattle.icu_provider.specs.Requests.{Request}
 use Rattle.icu_mini.specs.declared.mini.Mini.{Mini}
-use Rattle.icu_mini.specs.declared.provider.MiniProvider.{MiniProvider}
+use Rattle.icu_provider.specs.declared.fixed_provider.FixedLoads.{FixedLoads}
+use Rattle.icu_provider.specs.FixedLoads.{fixed_loads}
 use Rattle.icu_mini.specs.Mini.{IsMini}
-use Rattle.icu_mini.specs.Provider.{LoadsMini, loads_of}
+use Rattle.icu_mini.specs.Provider.{LoadsMini}
 use Rattle.collate.specs.Faults.{refused_line}
 
 -- Mini's tables are not all returned, or those that are returned don't meet the conditions on the tables of a collator.
 pub record TablesFail : Type 0 where
   pub tables : Mini
-  pub provider : MiniProvider
+  pub provider : FixedLoads
   pub request : Request
   pub mini : IsMini tables
   pub holds : LoadsMini tables provider
-  pub fails : (all : CollatorTables) → loaded_tables (loads_of provider) request ≡ Ok all → IsGoodTables all → ⊥
+  pub fails : (all : CollatorTables) → loaded_tables (fixed_loads provider) request ≡ Ok all → IsGoodTables all → ⊥
 
 -- the line by which a collator is refused, and what it says is true
 abbrev pub mini_refuses : Strength → List ℕ → Type 0

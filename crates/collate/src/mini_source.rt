@@ -6,7 +6,7 @@ ghost use Rattle.collate_commands.specs.Refusals.{IsRefusal};
 ghost use Rattle.collate.specs.Answers.{mini_compares};
 ghost use Rattle.collate.specs.Refusals.{IsForCause, mini_refuses};
 
-use collate_commands::{CollatorSource, Fault};
+use collate_commands::{CollatorSource, ProgramFault};
 use icu_comparison::Collator;
 use icu_entries::{DataError, DataErrorKind};
 use icu_mini::mini::Mini;
@@ -25,13 +25,13 @@ impl CollatorSource for MiniSource {
 
     ghost refuses = { λ _. mini_refuses };
 
-    fn collator(&self, alloc: Global, strength: Strength) -> Result<Collator, Fault> {
+    fn collator(&self, alloc: Global, strength: Strength) -> Result<Collator, ProgramFault> {
         mini_collator(alloc, strength)
     }
 }
 
 /// The collator by Mini's tables, with a strength.
-fn mini_collator(alloc: Global, strength: Strength) -> Result<Collator, Fault>
+fn mini_collator(alloc: Global, strength: Strength) -> Result<Collator, ProgramFault>
     ensures refused { IfErr result (IsRefusal (mini_refuses strength)) }
     ensures good { IfOk result (λ c. IsGoodTables (tables_kept c)) }
     ensures compares { IfOk result (λ c. mini_compares strength (collation_kept c)) }
@@ -53,14 +53,14 @@ fn mini_collator(alloc: Global, strength: Strength) -> Result<Collator, Fault>
 }
 
 /// What a refusal of the tables comes to.
-fn refused(alloc: Global, refusal: DataError) -> Fault
+fn refused(alloc: Global, refusal: DataError) -> ProgramFault
     ensures { IsRefusal (IsForCause refusal.kind) result }
 {
     match refusal.kind {
-        DataErrorKind::NoMemory => Fault::NoMemory,
+        DataErrorKind::NoMemory => ProgramFault::NoMemory,
         _ => match "collate: tables refused\n".to_string(alloc) {
-            Ok(line) => Fault::Refused(line),
-            Err(_) => Fault::NoMemory,
+            Ok(line) => ProgramFault::Refused(line),
+            Err(_) => ProgramFault::NoMemory,
         },
     }
 }

@@ -3,9 +3,9 @@ ghost use Rattle.std.specs.Prelude.{◌≡◌, ◌≤◌, ◌↔◌, None, IfSom
 ghost use Rattle.std.specs.Io.KnownBytes.{Keeps};
 ghost use Rattle.collate_commands.specs.Commands.{command_of};
 ghost use Rattle.collate_commands.specs.Faults.{lines_in};
-ghost use Rattle.collate_commands.specs.declared.fault.Fault.TheVariants.{WrongWords};
-ghost use Rattle.collate.specs.Faults.{fault_lines};
-ghost use Rattle.collate.specs.ProgramRuns.{Says, PrintsAnswer, Fails};
+ghost use Rattle.collate_commands.specs.declared.fault.ProgramFault.TheVariants.{WrongWords};
+ghost use Rattle.collate.specs.Faults.{collate_lines};
+ghost use Rattle.collate.specs.ProgramRuns.{Says, PrintsMiniAnswer, FailsOverMini};
 
 use crate::mini_source::MiniSource;
 use collate_commands::Wording;
@@ -14,7 +14,7 @@ use std::io::{Read, Write};
 
 /// What the program says of its faults.
 pub fn wording() -> Wording
-    ensures { lines_in result ≡ fault_lines }
+    ensures { lines_in result ≡ collate_lines }
 {
     Wording {
         usage: "usage: collate compare STRENGTH A B | collate key STRENGTH TEXT | collate sort STRENGTH\n",
@@ -46,11 +46,11 @@ pub fn run<R: Read, W: Write, E: Write>(
     ensures usage { result ≡ 2 → Says WrongWords (E.contents faults.old) (E.contents faults.new) }
     ensures nothing { result ≡ 2 → Keeps (W.contents output.old) (W.contents output.new) }
     ensures answer { result ≡ 0 → IfSome (command_of (map string_bytes words.now))
-        (PrintsAnswer (R.remaining input.old) (R.remaining input.new)
+        (PrintsMiniAnswer (R.remaining input.old) (R.remaining input.new)
         (W.contents output.old) (W.contents output.new)) }
     ensures no_fault { result ≡ 0 → Keeps (E.contents faults.old) (E.contents faults.new) }
     ensures refused { result ≡ 1 → IfSome (command_of (map string_bytes words.now)) (λ asked.
-        Fails asked (R.remaining input.old) (R.remaining input.new)
+        FailsOverMini asked (R.remaining input.old) (R.remaining input.new)
         (W.contents output.old) (W.contents output.new)
         (E.contents faults.old) (E.contents faults.new)) }
 {

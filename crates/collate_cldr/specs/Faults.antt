@@ -12,8 +12,9 @@ usage_text =
     ++ codes "options: --numeric --shifted --blanked --case-level --case-first=off|lower|upper\n"
     ++ codes "         --max-variable=space|punctuation|symbol|currency | --help\n"
 
-abbrev pub fault_lines : Lines
-fault_lines = record {
+-- the lines that `collate-cldr` says of its faults
+abbrev pub cldr_lines : Lines
+cldr_lines = record {
   usage = usage_text;
   no_memory = codes "collate-cldr: no memory\n";
   read_failed = codes "collate-cldr: read failed\n";

@@ -69,7 +69,7 @@ impl Chosen {
         }
     }
 
-    /// The same, and one choice more. Of two choices of one setting the last counts.
+    /// What was chosen, and one choice more. Of two choices of one setting the last counts.
     pub(crate) fn with(mut self, choice: Choice) -> Chosen
         ensures { result ≡ chosen_with self choice }
     {

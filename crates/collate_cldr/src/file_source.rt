@@ -7,7 +7,7 @@ ghost use Rattle.collate_commands.specs.Refusals.{IsRefusal};
 ghost use Rattle.collate_cldr.specs.Files.{ComparesAs, IsLineOf};
 
 use crate::choice::Chosen;
-use collate_commands::{CollatorSource, Fault};
+use collate_commands::{CollatorSource, ProgramFault};
 use icu_cldr::{CldrRoot, ReadError, read_root};
 use icu_comparison::Collator;
 use icu_entries::{DataError, DataErrorKind};
@@ -33,15 +33,16 @@ impl<'a, R: Files + AllocGlobal> CollatorSource for FileSource<'a, R> {
 
     ghost refuses = { λ s strength line. IsLineOf s.file.now line };
 
-    fn collator(&self, alloc: Global, strength: Strength) -> Result<Collator, Fault> {
+    fn collator(&self, alloc: Global, strength: Strength) -> Result<Collator, ProgramFault> {
         let root = read_file(self.rt, self.file)?;
-        root_collator(alloc, &root, self.file, self.chosen, strength)
+        root_collator(alloc, root, self.file, self.chosen, strength)
     }
 }
 
 /// The line that says of a file what is wrong with it.
 fn line_of(alloc: Global, file: &str, what: &str) -> Result<String, AllocError>
-    ensures { IfOk result (λ line. string_bytes line ≡ file.now ++ codes ": " ++ what.now ++ 10 ∷ []) }
+    ensures { IfOk result (λ line.
+        string_bytes line ≡ file.now ++ codes ": " ++ what.now ++ 10 ∷ []) }
 {
     let mut line = file.to_string(alloc)?;
     line.push_str(": ")?;
@@ -51,27 +52,27 @@ fn line_of(alloc: Global, file: &str, what: &str) -> Result<String, AllocError>
 }
 
 /// A fault that says of a file what is wrong with it.
-fn refused(alloc: Global, file: &str, what: &str) -> Fault
+fn refused(alloc: Global, file: &str, what: &str) -> ProgramFault
     ensures { IsRefusal (IsLineOf file.now) result }
 {
     match line_of(alloc, file, what) {
-        Ok(line) => Fault::Refused(line),
-        Err(_) => Fault::NoMemory,
+        Ok(line) => ProgramFault::Refused(line),
+        Err(_) => ProgramFault::NoMemory,
     }
 }
 
-/// The same by an error's own text.
-fn refused_by<E: Display>(alloc: Global, file: &str, error: &E) -> Fault
+/// A fault that says of a file what is wrong with it, by an error's own text.
+fn refused_by<E: Display>(alloc: Global, file: &str, error: &E) -> ProgramFault
     ensures { IsRefusal (IsLineOf file.now) result }
 {
     match error.to_string(alloc) {
         Ok(what) => refused(alloc, file, what.as_str()),
-        Err(_) => Fault::NoMemory,
+        Err(_) => ProgramFault::NoMemory,
     }
 }
 
 /// Reads the tables of a file.
-fn read_file<R: Files + AllocGlobal>(rt: &R, file: &str) -> Result<CldrRoot, Fault>
+fn read_file<R: Files + AllocGlobal>(rt: &R, file: &str) -> Result<CldrRoot, ProgramFault>
     ensures root { IfOk result (λ root. IsRoot (root_tables root)) }
     ensures refused { IfErr result (IsRefusal (IsLineOf file.now)) }
 {
@@ -79,11 +80,11 @@ fn read_file<R: Files + AllocGlobal>(rt: &R, file: &str) -> Result<CldrRoot, Fau
         return Err(refused(rt.alloc(), file, "not opened"));
     };
     let Ok(reader) = BufReader::new(rt.alloc(), opened) else {
-        return Err(Fault::NoMemory);
+        return Err(ProgramFault::NoMemory);
     };
     match read_root(rt.alloc(), reader) {
         Ok(root) => Ok(root),
-        Err(ReadError::NoMemory) => Err(Fault::NoMemory),
+        Err(ReadError::NoMemory) => Err(ProgramFault::NoMemory),
         Err(error) => Err(refused_by(rt.alloc(), file, &error)),
     }
 }
@@ -91,28 +92,34 @@ fn read_file<R: Files + AllocGlobal>(rt: &R, file: &str) -> Result<CldrRoot, Fau
 /// A collator by the tables that were read from a file, with the chosen settings.
 fn root_collator(
     alloc: Global,
-    root: &CldrRoot,
+    root: CldrRoot,
     file: &str,
     chosen: Chosen,
     strength: Strength,
-) -> Result<Collator, Fault>
-    requires { IsRoot (root_tables root.now) }
+) -> Result<Collator, ProgramFault>
+    requires { IsRoot (root_tables root) }
     ensures compares { IfOk result (λ c. ComparesAs chosen strength (collation_kept c)) }
     ensures good { IfOk result (λ c. IsGoodTables (tables_kept c)) }
     ensures refused { IfErr result (IsRefusal (IsLineOf file.now)) }
 {
-    match Collator::try_new_unstable(alloc, root, chosen.preferences(), chosen.options(strength)) {
+    let tables = root.into_tables();
+    match Collator::try_from_tables(
+        alloc,
+        tables,
+        chosen.preferences(),
+        chosen.options(strength),
+    ) {
         Ok(collator) => Ok(collator),
         Err(error) => Err(refusal_of(alloc, file, error)),
     }
 }
 
 /// What a refusal of tables comes to.
-fn refusal_of(alloc: Global, file: &str, error: DataError) -> Fault
+fn refusal_of(alloc: Global, file: &str, error: DataError) -> ProgramFault
     ensures { IsRefusal (IsLineOf file.now) result }
 {
     match error.kind {
-        DataErrorKind::NoMemory => Fault::NoMemory,
+        DataErrorKind::NoMemory => ProgramFault::NoMemory,
         _ => refused_by(alloc, file, &error),
     }
 }

@@ -1,12 +1,12 @@
 //! Whether lines are in order, as those of CLDR's test files should be.
-use collate_commands::Fault;
+use collate_commands::ProgramFault;
 use icu_comparison::Collator;
 use std::alloc::{AllocError, Global};
 use std::cmp::Ordering;
-use std::io::{BufRead, BufReader, Read};
+use std::io::{self, BufRead, BufReader, ErrorKind, Read};
 
-/// What was seen of lines: pairs of neighbours, those of which the first is greater than the second, by their
-/// comparison and by their keys, and lines with numbers of no characters, as lone surrogates, which were passed over.
+/// What was counted: pairs of neighbours, pairs out of order by comparison, pairs out of order by keys, and lines that
+/// were passed over since a number is no character's, as that of a lone surrogate.
 #[derive(Debug, Clone, Copy, PartialEq, Eq)]
 pub(crate) struct Counts {
     pub(crate) pairs: u64,
@@ -47,14 +47,14 @@ fn before_comment(line: &str) -> &str {
 }
 
 /// A text with its key.
-fn with_key(alloc: Global, collator: &Collator, text: String) -> Result<Keyed, Fault> {
+fn with_key(alloc: Global, collator: &Collator, text: String) -> Result<Keyed, ProgramFault> {
     let mut key = Vec::new(alloc);
     match collator
         .as_borrowed()
         .write_sort_key_to(text.as_str(), &mut key)
     {
         Ok(_) => Ok(Keyed { text, key }),
-        Err(_) => Err(Fault::NoMemory),
+        Err(_) => Err(ProgramFault::NoMemory),
     }
 }
 
@@ -70,7 +70,12 @@ impl Counts {
     }
 
     /// Takes in a pair of neighbours.
-    fn add(&mut self, collator: &Collator, left: &Keyed, right: &Keyed) -> Result<(), Fault> {
+    fn add(
+        &mut self,
+        collator: &Collator,
+        left: &Keyed,
+        right: &Keyed,
+    ) -> Result<(), ProgramFault> {
         let order = collator
             .as_borrowed()
             .compare(left.text.as_str(), right.text.as_str())?;
@@ -85,20 +90,29 @@ impl Counts {
     }
 }
 
+/// Why a line isn't had: an allocation failed, or a read did.
+fn unread(error: &io::Error) -> ProgramFault {
+    match error.kind() {
+        ErrorKind::OutOfMemory => ProgramFault::NoMemory,
+        _ => ProgramFault::ReadFailed,
+    }
+}
+
 /// Looks at the lines of a reader, each of which spells a text by the numbers of its characters.
 pub(crate) fn neighbours<R: Read + Drop>(
     alloc: Global,
     collator: &Collator,
     input: R,
-) -> Result<Counts, Fault> {
+) -> Result<Counts, ProgramFault> {
     let Ok(reader) = BufReader::new(alloc, input) else {
-        return Err(Fault::NoMemory);
+        return Err(ProgramFault::NoMemory);
     };
     let mut counts = Counts::new();
     let mut last: Option<Keyed> = None;
     for line in reader.lines(alloc) {
-        let Ok(line) = line else {
-            return Err(Fault::ReadFailed);
+        let line = match line {
+            Ok(line) => line,
+            Err(error) => return Err(unread(&error)),
         };
         let numbers = before_comment(line.as_str()).trim();
         if numbers.is_empty() {

@@ -5,13 +5,13 @@ ghost use Rattle.collate_commands.specs.Commands.{command_of};
 ghost use Rattle.collate_commands.specs.Faults.{lines_in};
 ghost use Rattle.collate_commands.specs.ProgramRuns.{PrintsAnswer, Fails};
 ghost use Rattle.collate_commands.specs.PartialWrites.{AppendsBeginning};
-ghost use Rattle.collate_cldr.specs.Faults.{fault_lines, usage_text};
+ghost use Rattle.collate_cldr.specs.Faults.{cldr_lines, usage_text};
 ghost use Rattle.collate_cldr.specs.Files.{ComparesAs, IsLineOf};
 
 use crate::asked::{Asked, Request};
 use crate::file_source::FileSource;
 use crate::neighbours::{Counts, neighbours};
-use collate_commands::{CollatorSource, Fault, Wording, report, strength_named};
+use collate_commands::{CollatorSource, ProgramFault, Wording, report, strength_named};
 use icu_options::Strength;
 use std::io::{Read, Write};
 use std::rt::Files;
@@ -28,7 +28,7 @@ options: --numeric --shifted --blanked --case-level --case-first=off|lower|upper
 
 /// What the program says of its faults.
 pub(crate) fn wording() -> Wording
-    ensures { lines_in result ≡ fault_lines }
+    ensures { lines_in result ≡ cldr_lines }
 {
     Wording {
         usage: USAGE,
@@ -64,7 +64,7 @@ pub(crate) fn run<R: Files + AllocGlobal, I: Read + Drop, W: Write, E: Write>(
             }
             None => run_command(rt, request, &mut input, output, faults),
         },
-        None => report(Fault::WrongWords, wording(), faults),
+        None => report(ProgramFault::WrongWords, wording(), faults),
     }
 }
 
@@ -77,20 +77,23 @@ fn run_command<R: Files + AllocGlobal, I: Read, W: Write, E: Write>(
     faults: &mut E,
 ) -> u8
     ensures statuses { result ≤ 2 }
-    ensures wrong_words { (result ≡ 2) ↔ (command_of (map string_bytes request.entry.words.now) ≡ None) }
+    ensures wrong_words { (result ≡ 2)
+        ↔ (command_of (map string_bytes request.entry.words.now) ≡ None) }
     ensures usage { result ≡ 2
         → AppendsBeginning (E.contents faults.old) (E.contents faults.new) usage_text }
     ensures nothing { result ≡ 2 → Keeps (W.contents output.old) (W.contents output.new) }
 
     // The answer is by the tables of the file, with the chosen settings.
     ensures answer { result ≡ 0 → IfSome (command_of (map string_bytes request.entry.words.now))
-        (PrintsAnswer (ComparesAs request.entry.chosen) (I.remaining input.old) (I.remaining input.new)
+        (PrintsAnswer (ComparesAs request.entry.chosen)
+        (I.remaining input.old) (I.remaining input.new)
         (W.contents output.old) (W.contents output.new)) }
     ensures no_fault { result ≡ 0 → Keeps (E.contents faults.old) (E.contents faults.new) }
 
     // A file that isn't read, or whose tables are refused, is named.
     ensures refused { result ≡ 1 → IfSome (command_of (map string_bytes request.entry.words.now))
-        (Fails fault_lines (ComparesAs request.entry.chosen) (λ strength. IsLineOf request.entry.file.now)
+        (Fails cldr_lines (ComparesAs request.entry.chosen)
+        (λ strength. IsLineOf request.entry.file.now)
         (I.remaining input.old) (I.remaining input.new)
         (W.contents output.old) (W.contents output.new)
         (E.contents faults.old) (E.contents faults.new)) }
@@ -126,7 +129,7 @@ fn print_neighbours<R: Files + AllocGlobal, I: Read + Drop, W: Write>(
     strength: Strength,
     input: I,
     output: &mut W,
-) -> Result<(), Fault> {
+) -> Result<(), ProgramFault> {
     let source = FileSource {
         rt,
         file: request.file,
@@ -137,7 +140,7 @@ fn print_neighbours<R: Files + AllocGlobal, I: Read + Drop, W: Write>(
 }
 
 /// Writes what was seen of lines to the output, and flushes it.
-fn print_counts<W: Write>(counts: Counts, output: &mut W) -> Result<(), Fault> {
+fn print_counts<W: Write>(counts: Counts, output: &mut W) -> Result<(), ProgramFault> {
     let Counts {
         pairs,
         greater,
@@ -149,21 +152,21 @@ fn print_counts<W: Write>(counts: Counts, output: &mut W) -> Result<(), Fault> {
         "{pairs} pairs, out of order by compare {greater}, by keys {greater_by_keys}; {passed_over} lines passed over"
     );
     if written.is_err() || output.flush().is_err() {
-        return Err(Fault::WriteFailed);
+        return Err(ProgramFault::WriteFailed);
     }
     Ok(())
 }
 
 /// Writes a text to the output, and flushes it.
-fn print<W: Write>(text: &str, output: &mut W) -> Result<(), Fault> {
+fn print<W: Write>(text: &str, output: &mut W) -> Result<(), ProgramFault> {
     if output.write_all(text.as_bytes()).is_err() || output.flush().is_err() {
-        return Err(Fault::WriteFailed);
+        return Err(ProgramFault::WriteFailed);
     }
     Ok(())
 }
 
 /// The status after something was to be printed: says on standard error what kept it from that.
-fn status_of<E: Write>(printed: Result<(), Fault>, faults: &mut E) -> u8
+fn status_of<E: Write>(printed: Result<(), ProgramFault>, faults: &mut E) -> u8
     ensures { result ≤ 2 }
 {
     match printed {

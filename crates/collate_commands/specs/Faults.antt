@@ -1,10 +1,11 @@
 -- What keeps a program from printing an answer: the status that it ends with, and what it says.
 use Rattle.std.specs.Prelude.{ℕ, List, string_bytes}
-use Rattle.collate_commands.specs.declared.fault.Fault.{Fault}
-use Rattle.collate_commands.specs.declared.fault.Fault.TheVariants.{WrongWords, NoMemory, Refused, ReadFailed, WriteFailed}
+use Rattle.collate_commands.specs.declared.fault.ProgramFault.{ProgramFault}
+use Rattle.collate_commands.specs.declared.fault.ProgramFault.TheVariants.{WrongWords, NoMemory, Refused, ReadFailed, WriteFailed}
 use Rattle.collate_commands.specs.declared.fault.Wording.{Wording}
 
-abbrev pub status_of : Fault → ℕ
+-- the status that a program ends with for a fault
+abbrev pub status_of : ProgramFault → ℕ
 status_of WrongWords = 2
 status_of _ = 1
 
@@ -15,6 +16,7 @@ pub record Lines : Type 0 where
   pub read_failed : List ℕ
   pub write_failed : List ℕ
 
+-- the lines that a program's wording has
 abbrev pub lines_in : Wording → Lines
 lines_in w = record {
   usage = w.usage.now;
@@ -24,7 +26,7 @@ lines_in w = record {
 }
 
 -- the line that is said of a fault
-abbrev pub line_of : Lines → Fault → List ℕ
+abbrev pub line_of : Lines → ProgramFault → List ℕ
 line_of lines WrongWords = lines.usage
 line_of lines NoMemory = lines.no_memory
 line_of lines (Refused line) = string_bytes line

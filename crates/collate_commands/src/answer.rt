@@ -1,19 +1,19 @@
 //! The answer to a command, by a collator.
-ghost use Rattle.std.specs.Prelude.{◌≡◌, ◌⊎◌, ℕ, List, IfOk, IfErr, ◌++◌, ◌∷◌, [], chars, map};
+ghost use Rattle.std.specs.Prelude.{◌≡◌, ℕ, List, IfOk, IfErr, ◌++◌, ◌∷◌, [], chars, map};
 ghost use Rattle.icu_checks.specs.GoodTables.{IsGoodTables};
 ghost use Rattle.icu_comparison.specs.Collators.{collation_kept, tables_kept};
-ghost use Rattle.icu_index.specs.Listings.{listed, name_order};
+ghost use Rattle.icu_index.specs.Listings.{listing_of, name_order};
 ghost use Rattle.icu_index.specs.NameIndexes.{index_collation, listing};
 ghost use Rattle.icu_order.specs.TextOrder.{text_key};
 ghost use Rattle.collate_commands.specs.Answers.{IsAnswerBy, SortsLines, sign_of};
 ghost use Rattle.collate_commands.specs.inner.Asked.{asked};
 ghost use Rattle.collate_commands.specs.InputLines.{lines_text};
 ghost use Rattle.collate_commands.specs.InputRead.{ReadsFor, TakesWhole};
-ghost use Rattle.collate_commands.specs.Refusals.{IsUnanswered};
+ghost use Rattle.collate_commands.specs.Refusals.{IsUnanswered, IsUnread};
 ghost use Rattle.collate_commands.specs.inner.Shown.{shown};
 
 use crate::command::Command;
-use crate::fault::Fault;
+use crate::fault::ProgramFault;
 use crate::key_line::key_line;
 use crate::lines::{lines, read_whole};
 use icu_comparison::Collator;
@@ -36,7 +36,8 @@ fn sign_line(order: Ordering) -> &'static [u8]
 
 /// The bytes of the sort key of a text.
 fn sort_key(alloc: Global, collator: &Collator, text: &str) -> Result<Vec<u8>, AllocError>
-    ensures { IfOk result (λ key. key.items ≡ text_key (collation_kept collator.now) (chars text.now)) }
+    ensures { IfOk result (λ key.
+        key.items ≡ text_key (collation_kept collator.now) (chars text.now)) }
 {
     let mut key = Vec::new(alloc);
     match collator.as_borrowed().write_sort_key_to(text, &mut key) {
@@ -52,7 +53,7 @@ fn index_of<'c>(
     lines: &[&[u8]],
 ) -> Result<NameIndex<'c>, AllocError>
     ensures { IfOk result (λ index. listing index
-        ≡ listed (name_order (collation_kept collator.now)) (shown lines.now)) }
+        ≡ listing_of (name_order (collation_kept collator.now)) (shown lines.now)) }
 {
     let mut index = NameIndex::new(alloc, collator);
     for line in lines {
@@ -87,9 +88,9 @@ fn sorted_text(alloc: Global, collator: &Collator, bytes: &[u8]) -> Result<Vec<u
 }
 
 /// The lines of the input, sorted.
-fn sort<R: Read>(alloc: Global, collator: &Collator, input: &mut R) -> Result<Vec<u8>, Fault>
+fn sort<R: Read>(alloc: Global, collator: &Collator, input: &mut R) -> Result<Vec<u8>, ProgramFault>
     requires { IsGoodTables (tables_kept collator.now) }
-    ensures fault { IfErr result (λ fault. (fault ≡ Fault.NoMemory) ⊎ (fault ≡ Fault.ReadFailed)) }
+    ensures fault { IfErr result IsUnread }
     ensures answer { IfOk result (λ output. (bytes : List ℕ)
         × TakesWhole (R.remaining input.old) (R.remaining input.new) bytes
         × SortsLines (name_order (collation_kept collator.now)) bytes output.items) }
@@ -104,7 +105,7 @@ pub(crate) fn answer<R: Read>(
     collator: &Collator,
     command: Command<'_>,
     input: &mut R,
-) -> Result<Vec<u8>, Fault>
+) -> Result<Vec<u8>, ProgramFault>
     requires { IsGoodTables (tables_kept collator.now) }
     ensures fault { IfErr result (IsUnanswered (asked command.entry)) }
     ensures answer { IfOk result (λ output. (bytes : List ℕ)

@@ -1,20 +1,20 @@
 //! What the system hands to a program: its arguments, and its input.
-use crate::fault::Fault;
+use crate::fault::ProgramFault;
 use std::io::Read;
 use std::rt::Env;
 use std::{env, io};
 
 /// The words after the program's name. An argument that is not UTF-8 is no word of a command.
-pub fn words<R: Env + AllocGlobal>(rt: &R) -> Result<Vec<String>, Fault> {
+pub fn words<R: Env + AllocGlobal>(rt: &R) -> Result<Vec<String>, ProgramFault> {
     let arguments = env::args(rt).map_err(fault_of)?;
     Ok(arguments.skip(1).collect(rt.alloc())?)
 }
 
 /// What a failure to read the arguments is.
-fn fault_of(error: io::Error) -> Fault {
+fn fault_of(error: io::Error) -> ProgramFault {
     match error.kind() {
-        io::ErrorKind::InvalidData => Fault::WrongWords,
-        _ => Fault::NoMemory,
+        io::ErrorKind::InvalidData => ProgramFault::WrongWords,
+        _ => ProgramFault::NoMemory,
     }
 }
 

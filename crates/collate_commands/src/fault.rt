@@ -5,7 +5,7 @@ use std::alloc::{AllocError, AllocFailed};
 
 /// What keeps a program from printing an answer.
 #[derive(Debug, Drop)]
-pub enum Fault {
+pub enum ProgramFault {
     /// The words are no command.
     WrongWords,
     /// An allocation failed.
@@ -31,7 +31,7 @@ pub struct Wording {
     pub write_failed: &'static str,
 }
 
-impl Fault {
+impl ProgramFault {
     ghost use Rattle.collate_commands.specs.Faults.{status_of, line_of, lines_in};
 
     /// The status that the program then ends with.
@@ -40,8 +40,11 @@ impl Fault {
         ensures bound { result ≤ 2 }
     {
         match self {
-            Fault::WrongWords => 2,
-            Fault::NoMemory | Fault::Refused(_) | Fault::ReadFailed | Fault::WriteFailed => 1,
+            ProgramFault::WrongWords => 2,
+            ProgramFault::NoMemory
+            | ProgramFault::Refused(_)
+            | ProgramFault::ReadFailed
+            | ProgramFault::WriteFailed => 1,
         }
     }
 
@@ -50,31 +53,31 @@ impl Fault {
         ensures { result.now ≡ line_of (lines_in wording) self.now }
     {
         match self {
-            Fault::WrongWords => wording.usage,
-            Fault::NoMemory => wording.no_memory,
-            Fault::Refused(line) => line.as_str(),
-            Fault::ReadFailed => wording.read_failed,
-            Fault::WriteFailed => wording.write_failed,
+            ProgramFault::WrongWords => wording.usage,
+            ProgramFault::NoMemory => wording.no_memory,
+            ProgramFault::Refused(line) => line.as_str(),
+            ProgramFault::ReadFailed => wording.read_failed,
+            ProgramFault::WriteFailed => wording.write_failed,
         }
     }
 }
 
-impl From<AllocError> for Fault {
-    ghost use Rattle.collate_commands.specs.declared.fault.Fault.TheVariants.{NoMemory};
+impl From<AllocError> for ProgramFault {
+    ghost use Rattle.collate_commands.specs.declared.fault.ProgramFault.TheVariants.{NoMemory};
 
     ghost from_gives = { λ _ fault. fault ≡ NoMemory };
 
-    fn from(_: AllocError) -> Fault {
-        Fault::NoMemory
+    fn from(_: AllocError) -> ProgramFault {
+        ProgramFault::NoMemory
     }
 }
 
-impl<T: Drop> From<AllocFailed<T>> for Fault {
-    ghost use Rattle.collate_commands.specs.declared.fault.Fault.TheVariants.{NoMemory};
+impl<T: Drop> From<AllocFailed<T>> for ProgramFault {
+    ghost use Rattle.collate_commands.specs.declared.fault.ProgramFault.TheVariants.{NoMemory};
 
     ghost from_gives = { λ _ fault. fault ≡ NoMemory };
 
-    fn from(_: AllocFailed<T>) -> Fault {
-        Fault::NoMemory
+    fn from(_: AllocFailed<T>) -> ProgramFault {
+        ProgramFault::NoMemory
     }
 }

@@ -14,6 +14,6 @@ mod writing;
 
 pub use arguments::{Input, words};
 pub use command::strength_named;
-pub use fault::{Fault, Wording};
+pub use fault::{ProgramFault, Wording};
 pub use program::{report, run};
 pub use source::CollatorSource;

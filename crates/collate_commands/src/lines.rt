@@ -1,26 +1,27 @@
 //! The lines of the input.
-ghost use Rattle.std.specs.Prelude.{◌≡◌, ◌⊎◌, ◌==◌, IfOk, IfErr};
+ghost use Rattle.std.specs.Prelude.{◌≡◌, ◌==◌, IfOk, IfErr};
 ghost use Rattle.std.specs.Io.BufRead.{strip_last};
 ghost use Rattle.std.specs.List.{slice_split};
 ghost use Rattle.collate_commands.specs.InputLines.{lines_of};
 ghost use Rattle.collate_commands.specs.InputRead.{TakesWhole};
+ghost use Rattle.collate_commands.specs.Refusals.{IsUnread};
 ghost use Rattle.collate_commands.specs.inner.Shown.{shown};
 
-use crate::fault::Fault;
+use crate::fault::ProgramFault;
 use std::alloc::{AllocError, Global};
 use std::io::{ErrorKind, Read};
 
 /// Reads the input to its end.
-pub(crate) fn read_whole<R: Read>(alloc: Global, input: &mut R) -> Result<Vec<u8>, Fault>
+pub(crate) fn read_whole<R: Read>(alloc: Global, input: &mut R) -> Result<Vec<u8>, ProgramFault>
     ensures whole { IfOk result (λ bytes.
         TakesWhole (R.remaining input.old) (R.remaining input.new) bytes.items) }
-    ensures fault { IfErr result (λ fault. (fault ≡ Fault.NoMemory) ⊎ (fault ≡ Fault.ReadFailed)) }
+    ensures fault { IfErr result IsUnread }
 {
     let mut bytes = Vec::new(alloc);
     match input.read_to_end(&mut bytes) {
         Ok(_) => Ok(bytes),
-        Err(e) if e.kind() == ErrorKind::OutOfMemory => Err(Fault::NoMemory),
-        Err(_) => Err(Fault::ReadFailed),
+        Err(e) if e.kind() == ErrorKind::OutOfMemory => Err(ProgramFault::NoMemory),
+        Err(_) => Err(ProgramFault::ReadFailed),
     }
 }
 

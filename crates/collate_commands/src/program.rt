@@ -10,7 +10,7 @@ ghost use Rattle.collate_commands.specs.inner.Stops.{Stops};
 
 use crate::answer::answer;
 use crate::command::Command;
-use crate::fault::{Fault, Wording};
+use crate::fault::{ProgramFault, Wording};
 use crate::source::CollatorSource;
 use crate::writing::write_text;
 use std::alloc::Global;
@@ -37,8 +37,8 @@ pub fn run<S: CollatorSource, R: Read, W: Write, E: Write>(
 ) -> u8
     ensures statuses { result ≤ 2 }
     ensures wrong_words { (result ≡ 2) ↔ (command_of (map string_bytes words.now) ≡ None) }
-    ensures usage { result ≡ 2
-        → AppendsBeginning (E.contents faults.old) (E.contents faults.new) (lines_in wording).usage }
+    ensures usage { result ≡ 2 → AppendsBeginning (E.contents faults.old) (E.contents faults.new)
+        (lines_in wording).usage }
     ensures nothing { result ≡ 2 → Keeps (W.contents output.old) (W.contents output.new) }
     ensures answer { result ≡ 0 → IfSome (command_of (map string_bytes words.now))
         (PrintsAnswer (S.compares source.now) (R.remaining input.old) (R.remaining input.new)
@@ -51,7 +51,7 @@ pub fn run<S: CollatorSource, R: Read, W: Write, E: Write>(
         (E.contents faults.old) (E.contents faults.new)) }
 {
     let Some(command) = Command::parse(words) else {
-        return report(Fault::WrongWords, wording, faults);
+        return report(ProgramFault::WrongWords, wording, faults);
     };
     match print_answer(alloc, source, command, input, output) {
         Ok(()) => 0,
@@ -66,7 +66,7 @@ fn print_answer<S: CollatorSource, R: Read, W: Write>(
     command: Command<'_>,
     input: &mut R,
     output: &mut W,
-) -> Result<(), Fault>
+) -> Result<(), ProgramFault>
     ensures ok { OnOk result (PrintsAnswer (S.compares source.now)
         (R.remaining input.old) (R.remaining input.new)
         (W.contents output.old) (W.contents output.new) (asked command.entry)) }
@@ -78,13 +78,13 @@ fn print_answer<S: CollatorSource, R: Read, W: Write>(
     let line = answer(alloc, &collator, command, input)?;
     match write_text(output, line.as_slice()) {
         Ok(()) => Ok(()),
-        Err(_) => Err(Fault::WriteFailed),
+        Err(_) => Err(ProgramFault::WriteFailed),
     }
 }
 
 /// Writes to standard error what kept the program from printing an answer, and returns its status. That a write fails
 /// there changes nothing.
-pub fn report<E: Write>(fault: Fault, wording: Wording, faults: &mut E) -> u8
+pub fn report<E: Write>(fault: ProgramFault, wording: Wording, faults: &mut E) -> u8
     ensures status { result ≡ status_of fault }
     ensures said { AppendsBeginning (E.contents faults.old) (E.contents faults.new)
         (line_of (lines_in wording) fault) }

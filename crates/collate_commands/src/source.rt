@@ -6,7 +6,7 @@ ghost use Rattle.icu_options.specs.declared.settings.Strength.{Strength};
 ghost use Rattle.icu_order.specs.Collations.{Collation};
 ghost use Rattle.collate_commands.specs.Refusals.{IsRefusal};
 
-use crate::fault::Fault;
+use crate::fault::ProgramFault;
 use icu_comparison::Collator;
 use icu_options::Strength;
 use std::alloc::Global;
@@ -25,7 +25,7 @@ pub trait CollatorSource {
     /// # Errors
     ///
     /// `NoMemory` where an allocation fails; `Refused`, with a line that says why, where the tables can't be had.
-    fn collator(&self, alloc: Global, strength: Strength) -> Result<Collator, Fault>
+    fn collator(&self, alloc: Global, strength: Strength) -> Result<Collator, ProgramFault>
         ensures compares { IfOk result (λ c. compares self.now strength (collation_kept c)) }
         ensures good { IfOk result (λ c. IsGoodTables (tables_kept c)) }
         ensures refused { IfErr result (IsRefusal (refuses self.now strength)) };

@@ -21,7 +21,7 @@ use Rattle.icu_provider.specs.declared.table_set.TableSet.{TableSet}
 use Rattle.icu_checks.specs.declared.check.weights.WeightList.{WeightList}
 use Rattle.icu_provider.specs.CollatorTables.{CollatorTables}
 use Rattle.icu_provider.specs.TableSets.{tables_in}
-use Rattle.icu_checks.specs.inner.ComparedWeights.{weight_at, IsWeightBy, Adds, IsBelow, IsJamoWeight, IsDiacriticWeight}
+use Rattle.icu_checks.specs.inner.ComparedWeights.{compared_weight, IsWeightBy, Adds, IsBelow, IsJamoWeight, IsDiacriticWeight}
 use Rattle.icu_checks.proofs.LoadedViolationLemmas.{last_or_before}
 
 -- ---- what is added
@@ -82,7 +82,7 @@ below_step P start old new n before now w = (
 -- ---- table by table
 
 module _ (list : WeightList) (all : CollatorTables) where
-  pub root_same : (w : ℕ) → IsLiveWeight (weight_at list) false all.tables.root w ↔ IsWeightBy list Root all.tables w
+  pub root_same : (w : ℕ) → IsLiveWeight (compared_weight list) false all.tables.root w ↔ IsWeightBy list Root all.tables w
   root_same w = (
     λ is. record {
       x = is.among.x;
@@ -106,7 +106,7 @@ module _ (list : WeightList) (all : CollatorTables) where
   same_some : (a b : Data) → Some a ≡ Some b → a ≡ b
   same_some a b h = cc
 
-  pub tailoring_same : (t : Data) → all.tables.tailoring ≡ Some t → (w : ℕ) → IsLiveWeight (weight_at list) true t w ↔ IsWeightBy list Tailoring all.tables w
+  pub tailoring_same : (t : Data) → all.tables.tailoring ≡ Some t → (w : ℕ) → IsLiveWeight (compared_weight list) true t w ↔ IsWeightBy list Tailoring all.tables w
   tailoring_same t found w = (
     λ is. record {
       x = is.among.x;
@@ -187,7 +187,7 @@ module _ (list : WeightList) (all : CollatorTables) where
     λ is. record {
       place = is.read.place;
       below = subst (λ n. is.read.place < n) (sym count) is.read.inside;
-      is = record { kept = is.read.kept; weighs = subst (λ x. weight_at list x ≡ Some w) is.read.is is.weighs };
+      is = record { kept = is.read.kept; weighs = subst (λ x. compared_weight list x ≡ Some w) is.read.is is.weighs };
     },
   )
 
@@ -206,14 +206,14 @@ abbrev Found : (ℕ → Type 0) → List ℕ → List ℕ → Type 0
 Found P old new = (w : ℕ) → Contains new w ↔ (Contains old w ⊎ P w)
 
 module _ (s : TableSet) (list : WeightList) where
-  pub loaded_root : {X E : Type 0} (r : Result X E) (old new : List ℕ) → OnOk r (Found (IsLiveWeight (weight_at list) false (data_of s.root)) old new) → OnOk r (Adds (IsWeightBy list Root (tables_in s).tables) old new)
+  pub loaded_root : {X E : Type 0} (r : Result X E) (old new : List ℕ) → OnOk r (Found (IsLiveWeight (compared_weight list) false (data_of s.root)) old new) → OnOk r (Adds (IsWeightBy list Root (tables_in s).tables) old new)
   unfolding tables_in
-  loaded_root r old new = on_ok _ _ (adds_same (IsLiveWeight (weight_at list) false (data_of s.root)) (IsWeightBy list Root (tables_in s).tables) old new (root_same list (tables_in s))) r
+  loaded_root r old new = on_ok _ _ (adds_same (IsLiveWeight (compared_weight list) false (data_of s.root)) (IsWeightBy list Root (tables_in s).tables) old new (root_same list (tables_in s))) r
 
-  pub loaded_tailoring : (t : CollationData) → s.tailoring ≡ Some t → {X E : Type 0} (r : Result X E) (old new : List ℕ) → OnOk r (Found (IsLiveWeight (weight_at list) true (data_of t)) old new) → OnOk r (Adds (IsWeightBy list Tailoring (tables_in s).tables) old new)
+  pub loaded_tailoring : (t : CollationData) → s.tailoring ≡ Some t → {X E : Type 0} (r : Result X E) (old new : List ℕ) → OnOk r (Found (IsLiveWeight (compared_weight list) true (data_of t)) old new) → OnOk r (Adds (IsWeightBy list Tailoring (tables_in s).tables) old new)
   unfolding tables_in
   loaded_tailoring t found r old new =
-      on_ok _ _ (adds_same (IsLiveWeight (weight_at list) true (data_of t)) (IsWeightBy list Tailoring (tables_in s).tables) old new
+      on_ok _ _ (adds_same (IsLiveWeight (compared_weight list) true (data_of t)) (IsWeightBy list Tailoring (tables_in s).tables) old new
       (tailoring_same list (tables_in s) (data_of t) (ap (option_map data_of) found))) r
 
   pub loaded_no_tailoring : s.tailoring ≡ None → (old : List ℕ) → Adds (IsWeightBy list Tailoring (tables_in s).tables) old old
@@ -221,11 +221,11 @@ module _ (s : TableSet) (list : WeightList) where
   loaded_no_tailoring found old = adds_none (IsWeightBy list Tailoring (tables_in s).tables) old old refl (no_tailoring list (tables_in s) (ap (option_map data_of) found))
 
   pub loaded_of_jamo : (i e c : ℕ) → e ≡ slice_index (jamo_of s.jamo) i → c ≡ 0x1100 + i → {X E : Type 0} (r : Result X E) (old new : List ℕ)
-      → OnOk r (Found (IsWeightAmong (weight_at list) (data_of s.root) c (live_from (data_of s.root) e)) old new) → OnOk r (Adds (IsJamoWeight list (tables_in s) i) old new)
+      → OnOk r (Found (IsWeightAmong (compared_weight list) (data_of s.root) c (live_from (data_of s.root) e)) old new) → OnOk r (Adds (IsJamoWeight list (tables_in s) i) old new)
   unfolding tables_in
   loaded_of_jamo i e c is at r old new h =
-      subst (λ e. OnOk r (Found (IsWeightAmong (weight_at list) (data_of s.root) (0x1100 + i) (live_from (data_of s.root) e)) old new)) is
-      (subst (λ d. OnOk r (Found (IsWeightAmong (weight_at list) (data_of s.root) d (live_from (data_of s.root) e)) old new)) at h)
+      subst (λ e. OnOk r (Found (IsWeightAmong (compared_weight list) (data_of s.root) (0x1100 + i) (live_from (data_of s.root) e)) old new)) is
+      (subst (λ d. OnOk r (Found (IsWeightAmong (compared_weight list) (data_of s.root) d (live_from (data_of s.root) e)) old new)) at h)
 
   pub loaded_jamo : (n : ℕ) → n ≡ 256 → (old new : List ℕ) → Adds (IsBelow (IsJamoWeight list (tables_in s)) n) old new → Adds (IsWeightBy list Jamo (tables_in s).tables) old new
   loaded_jamo n count old new adds =
@@ -243,7 +243,7 @@ module _ (s : TableSet) (list : WeightList) where
   none_some_weight w h = cc
 
   abbrev diacritic_weight : ℕ → Option ℕ
-  diacritic_weight i = weight_at list (of_secondary (slice_index (diacritics_of s.diacritics) i))
+  diacritic_weight i = compared_weight list (of_secondary (slice_index (diacritics_of s.diacritics) i))
 
   pub loaded_diacritic : (i v : ℕ) → is_replaced_index i ≡ false → diacritic_weight i ≡ Some v → (old new : List ℕ) → new ≡ old ++ v ∷ [] → Adds (IsDiacriticWeight list (tables_in s) i) old new
   unfolding tables_in

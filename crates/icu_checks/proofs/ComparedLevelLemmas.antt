@@ -25,7 +25,7 @@ use Rattle.icu_provider.specs.CollatorTables.{CollatorTables}
 use Rattle.icu_checks.specs.ElementConditions.{implicit_lead, is_tertiary_element}
 use Rattle.icu_checks.specs.LiveElements.{IsElementBy}
 use Rattle.icu_checks.specs.inner.EntryViolations.{MeetsIn, LiveMeets}
-use Rattle.icu_checks.specs.inner.ComparedWeights.{left_aligned, nonzero, uncommon, weight_at, IsReadBy}
+use Rattle.icu_checks.specs.inner.ComparedWeights.{left_aligned, nonzero, uncommon, compared_weight, IsReadBy}
 use Rattle.icu_data.proofs.ViolationLemmas.{meets_readable}
 use Rattle.icu_checks.proofs.ImplicitLemmas.{implicit_bytes, weighs_nothing}
 
@@ -139,24 +139,24 @@ some_of_one s h e = grind (arith, nat_tests)
 two_bytes_weigh : (s w : ℕ) → left_aligned s ≡ Some w → (s ≢ 0) × (s * 2 ^ 16 ≡ w)
 two_bytes_weigh s w h = let parts = kept (s == 0 || s == common) (s * 2 ^ 16) w h in (some_of_two s parts.0, parts.1)
 
-pub primary_weighs : (x : Element) (w : ℕ) → weight_at Primaries x ≡ Some w → (x.primary ≢ 0) × (x.primary ≡ w)
-unfolding weight_at
+pub primary_weighs : (x : Element) (w : ℕ) → compared_weight Primaries x ≡ Some w → (x.primary ≢ 0) × (x.primary ≡ w)
+unfolding compared_weight
 primary_weighs x w h = let parts = kept (x.primary == 0) x.primary w h in (some_of_one x.primary parts.0, parts.1)
 
-pub secondary_weighs : (x : Element) (w : ℕ) → weight_at Secondaries x ≡ Some w → (x.secondary ≢ 0) × (x.secondary * 2 ^ 16 ≡ w)
-unfolding weight_at
+pub secondary_weighs : (x : Element) (w : ℕ) → compared_weight Secondaries x ≡ Some w → (x.secondary ≢ 0) × (x.secondary * 2 ^ 16 ≡ w)
+unfolding compared_weight
 secondary_weighs x w h = two_bytes_weigh x.secondary w h
 
-pub tertiary_weighs : (x : Element) (w : ℕ) → weight_at Tertiaries x ≡ Some w → (tertiary_of x ≢ 0) × (tertiary_of x * 2 ^ 16 ≡ w)
-unfolding weight_at
+pub tertiary_weighs : (x : Element) (w : ℕ) → compared_weight Tertiaries x ≡ Some w → (tertiary_of x ≢ 0) × (tertiary_of x * 2 ^ 16 ≡ w)
+unfolding compared_weight
 tertiary_weighs x w h = two_bytes_weigh (tertiary_of x) w h
 
-pub tertiary_element_weighs : (x : Element) (w : ℕ) → weight_at TertiaryElements x ≡ Some w → (is_tertiary_element x ≡ true) × (tertiary_of x ≡ w)
-unfolding weight_at
+pub tertiary_element_weighs : (x : Element) (w : ℕ) → compared_weight TertiaryElements x ≡ Some w → (is_tertiary_element x ≡ true) × (tertiary_of x ≡ w)
+unfolding compared_weight
 tertiary_element_weighs x w h = chosen (is_tertiary_element x) (tertiary_of x) w h
 
-pub beside_weighs : (x : Element) (w : ℕ) → weight_at WithSecondary x ≡ Some w → (x.secondary ≢ 0) × (tertiary_of x ≡ w)
-unfolding weight_at
+pub beside_weighs : (x : Element) (w : ℕ) → compared_weight WithSecondary x ≡ Some w → (x.secondary ≢ 0) × (tertiary_of x ≡ w)
+unfolding compared_weight
 beside_weighs x w h =
     let parts = kept_of (x.secondary == 0) (uncommon (tertiary_of x)) w h in
     (some_of_one x.secondary parts.0, (kept (tertiary_of x == 0 || tertiary_of x == common) (tertiary_of x) w parts.1).1)
@@ -168,9 +168,9 @@ none_some w h = cc
 
 -- but for primary weights, none of an implicit element is collected, and primary weights with another lead byte aren't
 -- implicit
-pub weighs_explicit : (list : WeightList) (x : Element) (w : ℕ) → (list ≡ Primaries → ⊥) → weight_at list x ≡ Some w → IsExplicit x
+pub weighs_explicit : (list : WeightList) (x : Element) (w : ℕ) → (list ≡ Primaries → ⊥) → compared_weight list x ≡ Some w → IsExplicit x
 weighs_explicit list x w other weighs c is =
-    none_some w (sym (weighs_nothing list (implicit_weight c) other) ∙ ap (weight_at list) (sym is) ∙ weighs)
+    none_some w (sym (weighs_nothing list (implicit_weight c) other) ∙ ap (compared_weight list) (sym is) ∙ weighs)
 
 pub lead_explicit : (x : Element) → lead_byte x.primary ≢ implicit_lead → IsExplicit x
 lead_explicit x other c is = other (ap (λ (x : Element). lead_byte x.primary) is ∙ (implicit_bytes c).lead)
@@ -182,8 +182,8 @@ two_bytes_kept s some other =
       | inr f ↦ rw f refl
     ]
 
-pub primary_kept : (x : Element) → x.primary ≢ 0 → weight_at Primaries x ≡ Some x.primary
-unfolding weight_at
+pub primary_kept : (x : Element) → x.primary ≢ 0 → compared_weight Primaries x ≡ Some x.primary
+unfolding compared_weight
 primary_kept x some = kept_nonzero x.primary some
   where
     kept_nonzero : (p : ℕ) → p ≢ 0 → nonzero p ≡ Some p
@@ -193,16 +193,16 @@ primary_kept x some = kept_nonzero x.primary some
           | inr f ↦ rw f refl
         ]
 
-pub tertiary_element_kept : (x : Element) → IsTrue (is_tertiary_element x) → weight_at TertiaryElements x ≡ Some (tertiary_of x)
-unfolding weight_at
+pub tertiary_element_kept : (x : Element) → IsTrue (is_tertiary_element x) → compared_weight TertiaryElements x ≡ Some (tertiary_of x)
+unfolding compared_weight
 tertiary_element_kept x h = by (is_tertiary_element x) (tertiary_of x) h
   where
     by : (b : Bool) (t : ℕ) → IsTrue b → (if b then Some t else None) ≡ Some t
     by true t h = refl
     by false t h = cc
 
-pub beside_kept : (x : Element) → x.secondary ≢ 0 → tertiary_of x ≢ 0 → tertiary_of x ≢ common → weight_at WithSecondary x ≡ Some (tertiary_of x)
-unfolding weight_at
+pub beside_kept : (x : Element) → x.secondary ≢ 0 → tertiary_of x ≢ 0 → tertiary_of x ≢ common → compared_weight WithSecondary x ≡ Some (tertiary_of x)
+unfolding compared_weight
 beside_kept x below some other = by x.secondary (tertiary_of x) below some other
   where
     inner : (t : ℕ) → t ≢ 0 → t ≢ common → uncommon t ≡ Some t

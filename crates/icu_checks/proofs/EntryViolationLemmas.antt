@@ -15,12 +15,12 @@ use Rattle.icu_data.proofs.ViolationLemmas.{find_passes, find_none, not_false, n
 use Rattle.icu_data.proofs.SameEntryLemmas.{failing_alike, readable_alike, elements_alike}
 use Rattle.icu_data.proofs.ListLemmas.{weaker, all_members}
 use Rattle.icu_checks.specs.declared.condition.Condition.TheVariants as conditions
-use Rattle.icu_checks.specs.declared.condition.ElementCondition.{ElementCondition}
-use Rattle.icu_checks.specs.declared.condition.ElementCondition.TheVariants.{Width, BackwardLead, TertiaryElement, MiddleLead, ImplicitLength, NumericLead, SharedLead, SecondByte}
+use Rattle.icu_checks.specs.declared.condition.LiveElementCondition.{LiveElementCondition}
+use Rattle.icu_checks.specs.declared.condition.LiveElementCondition.TheVariants.{Width, BackwardLead, TertiaryElement, MiddleLead, ImplicitLength, NumericLead, SharedLead, SecondByte}
 use Rattle.icu_checks.specs.declared.violation.Violation.{Violation}
 use Rattle.icu_provider.specs.CollatorTables.{CollatorTables}
 use Rattle.icu_checks.specs.LiveElements.{IsLiveBy, IsElementBy}
-use Rattle.icu_checks.specs.ElementConditions.{element_meets, element_conditions}
+use Rattle.icu_checks.specs.ElementConditions.{live_element_meets, element_conditions}
 use Rattle.icu_checks.specs.inner.Violations.{violation_rank, IsTrueViolation}
 use Rattle.icu_checks.specs.inner.EntryViolations.{of_element, first_failing_element, element_violation, after_element, judged_element, elements_violation, of_entry, rows_violation, entry_violation}
 
@@ -48,9 +48,9 @@ is_readable_where_none_fails home c e none = meets_readable home c e (passes_mee
 
 module _ (all : CollatorTables) where
   abbrev pub MeetsAll : Element → Type 0
-  MeetsAll x = (condition : ElementCondition) → IsTrue (element_meets condition all x)
+  MeetsAll x = (condition : LiveElementCondition) → IsTrue (live_element_meets condition all x)
 
-  listed : (x : Element) → AllByRecursion (λ condition. not (element_meets condition all x) ≡ false) element_conditions → (condition : ElementCondition) → IsTrue (element_meets condition all x)
+  listed : (x : Element) → AllByRecursion (λ condition. not (live_element_meets condition all x) ≡ false) element_conditions → (condition : LiveElementCondition) → IsTrue (live_element_meets condition all x)
   listed x each Width = not_false _ each.0
   listed x each BackwardLead = not_false _ each.1.0
   listed x each TertiaryElement = not_false _ each.1.1.0
@@ -60,20 +60,20 @@ module _ (all : CollatorTables) where
   listed x each SharedLead = not_false _ each.1.1.1.1.1.1.0
   listed x each SecondByte = not_false _ each.1.1.1.1.1.1.1.0
 
-  pub passes_element : (x : Element) → first_failing_element all x ≡ None → (condition : ElementCondition) → IsTrue (element_meets condition all x)
+  pub passes_element : (x : Element) → first_failing_element all x ≡ None → (condition : LiveElementCondition) → IsTrue (live_element_meets condition all x)
   unfolding first_failing_element
-  passes_element x h = listed x (find_none (λ condition. not (element_meets condition all x)) element_conditions h)
+  passes_element x h = listed x (find_none (λ condition. not (live_element_meets condition all x)) element_conditions h)
 
-  fails_element : (x : Element) → IfSome (first_failing_element all x) (λ condition. element_meets condition all x ≡ false)
+  fails_element : (x : Element) → IfSome (first_failing_element all x) (λ condition. live_element_meets condition all x ≡ false)
   unfolding first_failing_element
   fails_element x =
-      weaker_some _ (λ condition. element_meets condition all x ≡ false) (λ condition h. not_true (element_meets condition all x) h) _
-      (find_passes (λ condition. not (element_meets condition all x)) element_conditions)
+      weaker_some _ (λ condition. live_element_meets condition all x ≡ false) (λ condition h. not_true (live_element_meets condition all x) h) _
+      (find_passes (λ condition. not (live_element_meets condition all x)) element_conditions)
 
   pub element_true : (table : DataTable) (x : Element) → IsElementBy table all.tables x → IfSome (element_violation all table x) (IsTrueViolation all)
   element_true table x is =
-      map_some (of_element table) (λ condition. element_meets condition all x ≡ false) (IsTrueViolation all)
-      (λ condition fails meets. clash (element_meets condition all x) fails (meets table refl x is)) (first_failing_element all x) (fails_element x)
+      map_some (of_element table) (λ condition. live_element_meets condition all x ≡ false) (IsTrueViolation all)
+      (λ condition fails meets. clash (live_element_meets condition all x) fails (meets table refl x is)) (first_failing_element all x) (fails_element x)
 
   elements_true : (table : DataTable) (best : Option Violation) (xs : List Element) → IfSome best (IsTrueViolation all) → AllByRecursion (IsElementBy table all.tables) xs → IfSome (fold (after_element all table) best xs) (IsTrueViolation all)
   elements_true table best [] h is = h

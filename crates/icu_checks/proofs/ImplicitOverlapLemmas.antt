@@ -23,7 +23,7 @@ use Rattle.icu_checks.specs.declared.condition.Condition.TheVariants as conditio
 use Rattle.icu_checks.specs.declared.condition.PairCondition.TheVariants as of_pair
 use Rattle.icu_checks.specs.declared.check.implicit_overlaps.ImplicitClash.{ImplicitClash}
 use Rattle.icu_provider.specs.declared.table_set.TableSet.{TableSet}
-use Rattle.icu_checks.specs.declared.check.weights.Level.TheVariants.{Primary}
+use Rattle.icu_checks.specs.declared.check.weights.ComparedLevel.TheVariants.{Primary}
 use Rattle.icu_checks.specs.declared.check.weights.WeightList.TheVariants.{Primaries}
 use Rattle.icu_provider.specs.CollatorTables.{CollatorTables}
 use Rattle.icu_provider.specs.TableSets.{tables_in}

@@ -17,7 +17,7 @@ use Rattle.icu_entries.specs.ElementConditions.{tertiary_of, has_shape, has_lead
 use Rattle.icu_data.specs.Final.{final_elements}
 use Rattle.icu_data.specs.Data.{homed}
 use Rattle.icu_checks.specs.declared.condition.Condition.TheVariants as conditions
-use Rattle.icu_checks.specs.declared.condition.ElementCondition.TheVariants as of_element
+use Rattle.icu_checks.specs.declared.condition.LiveElementCondition.TheVariants as of_element
 use Rattle.icu_checks.specs.declared.condition.PairCondition.TheVariants as of_pair
 use Rattle.icu_checks.specs.declared.check.weights.WeightList.{WeightList}
 use Rattle.icu_checks.specs.declared.check.weights.WeightList.TheVariants.{Primaries, Secondaries, Tertiaries, TertiaryElements, WithSecondary}
@@ -27,7 +27,7 @@ use Rattle.icu_checks.specs.ElementConditions.{is_tertiary_element, is_high_tert
 use Rattle.icu_checks.specs.inner.EntryViolations.{MeetsIn, LiveMeets}
 use Rattle.icu_checks.specs.GoodTables.{AreTables, Meets}
 use Rattle.icu_checks.specs.inner.PairViolations.{TertiaryElementsAreHigh}
-use Rattle.icu_checks.specs.inner.ComparedWeights.{left_aligned, weight_at, IsWeightBy}
+use Rattle.icu_checks.specs.inner.ComparedWeights.{left_aligned, compared_weight, IsWeightBy}
 use Rattle.icu_checks.proofs.CommonWeightLemmas.{HaveLeads, none_begins}
 use Rattle.icu_weights.proofs.OverlapLemmas.{free_of_two_bytes}
 use Rattle.icu_checks.proofs.ComparedLevelLemmas.{IsExplicit, meets_in, read_by, weighs_explicit, two_bytes_kept, tertiary_element_kept, beside_kept, second_of_three, third_of_three, implied, passes}
@@ -48,7 +48,7 @@ module _ (all : CollatorTables) where
 
 module _ (all : CollatorTables) (met : LiveMeets all) where
   pub collected_at : (list : WeightList) (ws : List ℕ) → Collected all list ws → (table : DataTable) (x : Element) → IsElementBy table all.tables x → IsExplicit x
-      → (w : ℕ) → weight_at list x ≡ Some w → Contains ws w
+      → (w : ℕ) → compared_weight list x ≡ Some w → Contains ws w
   collected_at list ws has table x is explicit w weighs = has table w (record { x = x; read = read_by all met table x is explicit; weighs = weighs })
 
 -- ---- the weights of one element
@@ -98,12 +98,12 @@ diacritic_leads : (s : ℕ) → IsTrue (is_diacritic_weight true s) → IsTrue (
 unfolding is_diacritic_weight
 diacritic_leads s h = third_of_three (not (s == 0)) (has_shape (of_secondary s)) (has_leads true (of_secondary s)) h
 
-secondary_weight : (x : Element) → weight_at Secondaries x ≡ left_aligned x.secondary
-unfolding weight_at
+secondary_weight : (x : Element) → compared_weight Secondaries x ≡ left_aligned x.secondary
+unfolding compared_weight
 secondary_weight x = refl
 
-tertiary_weight : (x : Element) → weight_at Tertiaries x ≡ left_aligned (tertiary_of x)
-unfolding weight_at
+tertiary_weight : (x : Element) → compared_weight Tertiaries x ≡ left_aligned (tertiary_of x)
+unfolding compared_weight
 tertiary_weight x = refl
 
 -- ---- the conditions
@@ -141,7 +141,7 @@ module _ (all : CollatorTables) (met : LiveMeets all) (tables : AreTables all) w
   leads_of Reordering x is = absurd is.live
 
   -- weights of two bytes, of which the common one isn't collected
-  two_bytes_meet : (list : WeightList) → (list ≡ Primaries → ⊥) → (weigh : Element → ℕ) → ((x : Element) → weight_at list x ≡ left_aligned (weigh x))
+  two_bytes_meet : (list : WeightList) → (list ≡ Primaries → ⊥) → (weigh : Element → ℕ) → ((x : Element) → compared_weight list x ≡ left_aligned (weigh x))
       → HaveLeads (IsLiveWeight all weigh) → ((w : ℕ) → IsLiveWeight all weigh w → w < 2 ^ 16)
       → (ws : List ℕ) → Collected all list ws → IsPrefixFree (weight_bytes 4) (Contains ws) → IsPrefixFree (weight_bytes 2) (IsLiveWeight all weigh)
   two_bytes_meet list other_list weigh weighs leads fits ws has free =

@@ -9,8 +9,8 @@ use Rattle.icu_provider.specs.Reorderings.{lead_byte}
 use Rattle.icu_provider.specs.SpecialPrimaries.{is_compressible}
 use Rattle.icu_checks.specs.declared.condition.Condition.TheVariants as conditions
 use Rattle.icu_checks.specs.declared.condition.PairCondition.TheVariants as of_pair
-use Rattle.icu_checks.specs.declared.check.weights.Level.{Level}
-use Rattle.icu_checks.specs.declared.check.weights.Level.TheVariants.{Primary, Secondary, Tertiary}
+use Rattle.icu_checks.specs.declared.check.weights.ComparedLevel.{ComparedLevel}
+use Rattle.icu_checks.specs.declared.check.weights.ComparedLevel.TheVariants.{Primary, Secondary, Tertiary}
 use Rattle.icu_checks.specs.declared.check.weights.WeightList.TheVariants.{Primaries, Secondaries, Tertiaries, TertiaryElements, WithSecondary}
 use Rattle.icu_provider.specs.CollatorTables.{CollatorTables, reorder}
 use Rattle.icu_checks.specs.PairConditions.{BeginsNot, PairMeets}
@@ -68,8 +68,8 @@ pub refute_elements : (all : CollatorTables) (t u : DataTable) (x y : Element) �
     → MeetsBy (conditions.Pair of_pair.Primaries) table all → ⊥
 refute_elements all t u x y is_x is_y some_x some_y differ begins table named meets = meets t u x is_x y is_y named some_x some_y differ begins
 
--- the same of collected weights of any level
-pub refute_clash : (level : Level) (all : CollatorTables) (t u : DataTable) (v w : ℕ) → v < 2 ^ 32 → w < 2 ^ 32
+-- two collected weights of any level that clash, by the table that they are named by
+pub refute_clash : (level : ComparedLevel) (all : CollatorTables) (t u : DataTable) (v w : ℕ) → v < 2 ^ 32 → w < 2 ^ 32
     → IsWeightBy (list_of level) t all.tables v → IsWeightBy (list_of level) u all.tables w → v ≢ w → IsBeginning (bytes_at level all v) (bytes_at level all w)
     → (table : DataTable) → IsClashTable level t u v w table → MeetsBy (conditions.Pair (overlap_condition level)) table all → ⊥
 refute_clash Primary all t u v w fits_v fits_w a b differ begins table named meets =

@@ -11,11 +11,11 @@ use Rattle.icu_data.specs.Live.{live_from, live_at, EachLive}
 use Rattle.icu_provider.specs.LiveTables.{jamo_entry}
 use Rattle.icu_data.specs.Violations.{IsViolationAmong, IsLiveViolation}
 use Rattle.icu_data.proofs.ListLemmas.{of_member}
-use Rattle.icu_checks.specs.declared.condition.ElementCondition.{ElementCondition}
+use Rattle.icu_checks.specs.declared.condition.LiveElementCondition.{LiveElementCondition}
 use Rattle.icu_checks.specs.declared.violation.Violation.{Violation}
 use Rattle.icu_provider.specs.CollatorTables.{CollatorTables}
 use Rattle.icu_checks.specs.LiveElements.{IsLiveBy, IsOfEntryBy}
-use Rattle.icu_checks.specs.ElementConditions.{element_meets}
+use Rattle.icu_checks.specs.ElementConditions.{live_element_meets}
 use Rattle.icu_checks.specs.inner.Violations.{IsTrueViolation}
 use Rattle.icu_checks.specs.inner.EntryViolations.{entry_violation, MeetsIn}
 use Rattle.icu_checks.proofs.EntryViolationLemmas.{entry_none, entry_true}
@@ -24,7 +24,7 @@ module _ (all : CollatorTables) where
   abbrev NoViolation : DataTable → Type 0
   NoViolation table = (home : Data) (c e : ℕ) → IsLiveBy table all.tables home c e → entry_violation all table home c e ≡ None
 
-  element_passes : (table : DataTable) → NoViolation table → (condition : ElementCondition) (x : Element) → IsOfEntryBy table all.tables x → IsTrue (element_meets condition all x)
+  element_passes : (table : DataTable) → NoViolation table → (condition : LiveElementCondition) (x : Element) → IsOfEntryBy table all.tables x → IsTrue (live_element_meets condition all x)
   element_passes table none condition x is =
       let passes = entry_none all table is.home is.char is.entry (none is.home is.char is.entry is.live) in
       of_member _ (final_elements (homed is.home is.entry) is.char) x passes.elements is.member condition

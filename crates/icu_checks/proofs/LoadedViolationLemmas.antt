@@ -13,13 +13,13 @@ use Rattle.icu_data.specs.StoredData.{data_of}
 use Rattle.icu_provider.specs.StoredTables.{jamo_of, diacritics_of}
 use Rattle.icu_data.specs.Violations.{IsViolationAmong, IsLiveViolation}
 use Rattle.icu_data.proofs.ViolationLemmas.{weaker_some, not_before, earlier-none}
-use Rattle.icu_checks.specs.declared.condition.ElementCondition.{ElementCondition}
+use Rattle.icu_checks.specs.declared.condition.LiveElementCondition.{LiveElementCondition}
 use Rattle.icu_checks.specs.declared.violation.Violation.{Violation}
 use Rattle.icu_provider.specs.declared.table_set.TableSet.{TableSet}
 use Rattle.icu_provider.specs.TableSets.{tables_in}
 use Rattle.icu_data.specs.Violations.{earlier}
 use Rattle.icu_checks.specs.inner.Violations.{violation_rank, IsTrueViolation}
-use Rattle.icu_checks.specs.ElementConditions.{element_meets}
+use Rattle.icu_checks.specs.ElementConditions.{live_element_meets}
 use Rattle.icu_checks.specs.inner.EntryViolations.{of_element, element_violation, entry_violation, JamoPasses, DiacriticMeets, MeetsIn}
 use Rattle.icu_checks.proofs.EntryViolationLemmas.{passes_element, element_true}
 use Rattle.icu_checks.proofs.LiveViolationLemmas.{root_meets, jamo_meets, tailoring_meets, no_tailoring_meets, root_true, jamo_true, tailoring_true}
@@ -93,20 +93,20 @@ module _ (s : TableSet) where
   abbrev diacritic_at : ℕ → Element
   diacritic_at i = of_secondary (slice_index (diacritics_of s.diacritics) i)
 
-  no_violation : (o : Option ElementCondition) → option_map (of_element Diacritics) o ≡ None → o ≡ None
+  no_violation : (o : Option LiveElementCondition) → option_map (of_element Diacritics) o ≡ None → o ≡ None
   no_violation None h = refl
   no_violation (Some x) h = cc
 
   pub loaded_diacritic : (i : ℕ) (x : Element) → x ≡ diacritic_at i → element_violation (tables_in s) Diacritics x ≡ None → DiacriticMeets (tables_in s) i
   unfolding tables_in
-  loaded_diacritic i x is none = λ kept. subst (λ x. (condition : ElementCondition) → IsTrue (element_meets condition (tables_in s) x)) is (passes_element (tables_in s) x (no_violation _ none))
+  loaded_diacritic i x is none = λ kept. subst (λ x. (condition : LiveElementCondition) → IsTrue (live_element_meets condition (tables_in s) x)) is (passes_element (tables_in s) x (no_violation _ none))
 
   pub loaded_diacritics : ((i : ℕ) → i < length (diacritics_of s.diacritics) → DiacriticMeets (tables_in s) i) → MeetsIn Diacritics (tables_in s)
   unfolding tables_in
   loaded_diacritics each = record {
     entries = λ condition home c e is. absurd is;
     rows = λ home c e is. absurd is;
-    elements = λ condition x is. subst (λ x. IsTrue (element_meets condition (tables_in s) x)) (sym is.is) (each is.place is.inside is.kept condition);
+    elements = λ condition x is. subst (λ x. IsTrue (live_element_meets condition (tables_in s) x)) (sym is.is) (each is.place is.inside is.kept condition);
   }
 
   pub loaded_diacritic_true : (i : ℕ) → i < length (diacritics_of s.diacritics) → is_replaced_index i ≡ false → (x : Element) → x ≡ of_secondary (slice_index (diacritics_of s.diacritics) i) → IfSome (element_violation (tables_in s) Diacritics x) (IsTrueViolation (tables_in s))

@@ -17,7 +17,7 @@ use Rattle.icu_provider.specs.Reorderings.{Reordering, lead_byte}
 use Rattle.icu_provider.specs.SpecialPrimaries.{is_compressible}
 use Rattle.icu_data.specs.Data.{homed}
 use Rattle.icu_checks.specs.declared.condition.Condition.TheVariants as conditions
-use Rattle.icu_checks.specs.declared.condition.ElementCondition.TheVariants.{Width, MiddleLead, ImplicitLength, SharedLead}
+use Rattle.icu_checks.specs.declared.condition.LiveElementCondition.TheVariants.{Width, MiddleLead, ImplicitLength, SharedLead}
 use Rattle.icu_checks.specs.declared.condition.LeadCondition.TheVariants.{ImplicitLead, Separator, HighLead}
 use Rattle.icu_checks.specs.declared.condition.PairCondition.TheVariants as of_pair
 use Rattle.icu_checks.specs.declared.check.weights.WeightList.TheVariants.{Primaries}

@@ -20,15 +20,15 @@ use Rattle.icu_weights.proofs.LeadLemmas.{replaced, stays, lead-with_lead}
 use Rattle.icu_provider.specs.Reorderings.{Reordering, lead_byte, with_lead, reordered}
 use Rattle.icu_provider.specs.SpecialPrimaries.{is_compressible}
 use Rattle.icu_provider.specs.CollatorTables.{CollatorTables, is_forward, reorder}
-use Rattle.icu_checks.specs.declared.condition.ElementCondition.{ElementCondition}
-use Rattle.icu_checks.specs.declared.condition.ElementCondition.TheVariants.{Width, BackwardLead, TertiaryElement, MiddleLead, ImplicitLength, NumericLead, SharedLead, SecondByte}
-use Rattle.icu_checks.specs.ElementConditions.{implicit_lead, has_low_bytes, has_second_byte, primary_meets, element_meets, element_conditions}
-use Rattle.icu_checks.specs.inner.EntryViolations.{first_failing_element, entry_violation, TakesWhole}
+use Rattle.icu_checks.specs.declared.condition.LiveElementCondition.{LiveElementCondition}
+use Rattle.icu_checks.specs.declared.condition.LiveElementCondition.TheVariants.{Width, BackwardLead, TertiaryElement, MiddleLead, ImplicitLength, NumericLead, SharedLead, SecondByte}
+use Rattle.icu_checks.specs.ElementConditions.{implicit_lead, has_low_bytes, has_second_byte, primary_meets, live_element_meets, element_conditions}
+use Rattle.icu_checks.specs.inner.EntryViolations.{first_failing_element, entry_violation, KeepsLeadTogether}
 use Rattle.icu_checks.proofs.EntryViolationLemmas.{passes_element, without_own}
 
 -- ---- what a reordering takes whole
 
-pub kept_whole : (b : ℕ) → TakesWhole None b
+pub kept_whole : (b : ℕ) → KeepsLeadTogether None b
 kept_whole b p q at_p at_q = at_p ∙ sym at_q
 
 isnt_zero : (b : ℕ) → b ≢ 0 → nat_eq b 0 ≡ false
@@ -39,7 +39,7 @@ lead_replaced r b p given at =
     ap (λ w. lead_byte w) (replaced r p (ap (λ l. nat_eq (slice_index r.leads l) 0) at ∙ isnt_zero (slice_index r.leads b) given))
     ∙ lead-with_lead (slice_index r.leads (lead_byte p)) p ∙ ap (λ l. slice_index r.leads l) at
 
-pub replaced_whole : (r : Reordering) (b : ℕ) → slice_index r.leads b ≢ 0 → TakesWhole (Some r) b
+pub replaced_whole : (r : Reordering) (b : ℕ) → slice_index r.leads b ≢ 0 → KeepsLeadTogether (Some r) b
 replaced_whole r b given p q at_p at_q = lead_replaced r b p given at_p ∙ sym (lead_replaced r b q given at_q)
 
 lead_stays : (r : Reordering) (b p : ℕ) → (slice_index r.leads b == 0) ≡ true → r.limit ≤ b * 0x1000000 → lead_byte p ≡ b → lead_byte (reordered r p) ≡ b
@@ -47,7 +47,7 @@ lead_stays r b p zero_byte limit at =
     let high : (nat_le p 1 || nat_le r.limit p) ≡ true = grind (arith, nat_tests) in
     ap (λ w. lead_byte w) (stays r p (ap (λ l. nat_eq (slice_index r.leads l) 0) at ∙ zero_byte) high) ∙ at
 
-pub stays_whole : (r : Reordering) (b : ℕ) → slice_index r.leads b ≡ 0 → r.limit ≤ b * 0x1000000 → TakesWhole (Some r) b
+pub stays_whole : (r : Reordering) (b : ℕ) → slice_index r.leads b ≡ 0 → r.limit ≤ b * 0x1000000 → KeepsLeadTogether (Some r) b
 stays_whole r b zero_byte limit p q at_p at_q =
     let is : (slice_index r.leads b == 0) ≡ true = ap (λ n. nat_eq n 0) zero_byte in
     lead_stays r b p is limit at_p ∙ sym (lead_stays r b q is limit at_q)
@@ -62,7 +62,7 @@ or_right : (a b : Bool) → a ≡ false → IsTrue (a || b) → IsTrue b
 or_right true b f h = cc
 or_right false b f h = h
 
-module _ (all : CollatorTables) (p z q : ℕ) (some : p ≢ 0) (whole_bytes : p % 256 ≡ 0) (one_lead : lead_byte p ≡ lead_byte z) (whole : TakesWhole all.reordering (lead_byte p))
+module _ (all : CollatorTables) (p z q : ℕ) (some : p ≢ 0) (whole_bytes : p % 256 ≡ 0) (one_lead : lead_byte p ≡ lead_byte z) (whole : KeepsLeadTogether all.reordering (lead_byte p))
     (least : first_failing_element all (of_primary p) ≡ None) (greatest : first_failing_element all (of_primary z) ≡ None) (low : p ≤ q) (high : q ≤ z) where
   same_lead : lead_byte q ≡ lead_byte p
   same_lead = omega (arith, one_lead)
@@ -70,10 +70,10 @@ module _ (all : CollatorTables) (p z q : ℕ) (some : p ≢ 0) (whole_bytes : p 
   same_new : lead_byte (reorder all q) ≡ lead_byte (reorder all p)
   same_new = whole q p same_lead refl
 
-  of_least : (condition : ElementCondition) → IsTrue (element_meets condition all (of_primary p))
+  of_least : (condition : LiveElementCondition) → IsTrue (live_element_meets condition all (of_primary p))
   of_least = passes_element all (of_primary p) least
 
-  of_greatest : (condition : ElementCondition) → IsTrue (element_meets condition all (of_primary z))
+  of_greatest : (condition : LiveElementCondition) → IsTrue (live_element_meets condition all (of_primary z))
   of_greatest = passes_element all (of_primary z) greatest
 
   p_some : nat_eq p 0 ≡ false
@@ -143,7 +143,7 @@ module _ (all : CollatorTables) (p z q : ℕ) (some : p ≢ 0) (whole_bytes : p 
       let of_z : IsTrue (not (is_compressible all.special (lead_byte z)) || has_second_byte z) = or_right (nat_eq z 0) _ z_some (of_greatest SecondByte) in
       rw same_lead (second_between (is_compressible all.special (lead_byte p)) of_p (subst (λ l. IsTrue (not (is_compressible all.special l) || has_second_byte z)) (sym one_lead) of_z))
 
-  element : (condition : ElementCondition) → IsTrue (element_meets condition all (of_primary q))
+  element : (condition : LiveElementCondition) → IsTrue (live_element_meets condition all (of_primary q))
   element Width = rw width refl
   element BackwardLead = or_second (is_forward all) true refl
   element TertiaryElement = refl
@@ -155,7 +155,7 @@ module _ (all : CollatorTables) (p z q : ℕ) (some : p ≢ 0) (whole_bytes : p 
 
   pub between_passes : first_failing_element all (of_primary q) ≡ None
   unfolding first_failing_element
-  between_passes = none_found (λ condition. not (element_meets condition all (of_primary q))) (λ condition. negated (element_meets condition all (of_primary q)) (element condition)) element_conditions
+  between_passes = none_found (λ condition. not (live_element_meets condition all (of_primary q))) (λ condition. negated (live_element_meets condition all (of_primary q)) (element condition)) element_conditions
 
 -- ---- weights of characters in a row
 

@@ -10,7 +10,7 @@ use Rattle.icu_provider.specs.StoredTables.{reordering_of, special_of}
 use Rattle.icu_checks.specs.declared.condition.Condition.TheVariants as conditions
 use Rattle.icu_checks.specs.declared.condition.PairCondition.TheVariants.{Compression}
 use Rattle.icu_provider.specs.declared.table_set.TableSet.{TableSet}
-use Rattle.icu_checks.specs.declared.check.weights.Level.{Level}
+use Rattle.icu_checks.specs.declared.check.weights.ComparedLevel.{ComparedLevel}
 use Rattle.icu_checks.specs.declared.check.weights.WeightList.{WeightList}
 use Rattle.icu_checks.specs.declared.check.weights.WeightList.TheVariants.{Primaries}
 use Rattle.icu_provider.specs.CollatorTables.{CollatorTables, reorder_by, reorder}
@@ -20,7 +20,7 @@ use Rattle.icu_weights.specs.Overlaps.{Overlaps}
 use Rattle.icu_checks.specs.inner.ComparedLevels.{list_of, bytes_at}
 use Rattle.icu_checks.specs.GoodTables.{MeetsBy}
 use Rattle.icu_checks.specs.inner.ComparedWeights.{IsWeightBy, Adds}
-use Rattle.icu_checks.specs.inner.PairViolations.{IsListedWeight, AreListed, HoldsAll, HoldsLevel, AreClashing, AreAlike}
+use Rattle.icu_checks.specs.inner.PairViolations.{IsListedWeight, AreListed, HoldsAll, HoldsLevel, AreClashing, ListCompressesAlike}
 use Rattle.icu_checks.proofs.CollectLemmas.{special_none, metadata_none, reordering_none}
 use Rattle.icu_checks.proofs.LevelRefutes.{refute_compression}
 
@@ -82,7 +82,7 @@ module _ (s : TableSet) (r : CollationReordering) (found : s.reordering ≡ Some
   leads : (p : ℕ) → lead_byte (reorder (tables_in s) p) ≡ lead_byte (reordered (reordering_of r) p)
   leads p = ap lead_byte (reorders p)
 
-  pub loaded_alike : (ws : List ℕ) → CompressAlike ws (special_of s.special) (reordering_of r) → AreAlike (tables_in s) ws
+  pub loaded_alike : (ws : List ℕ) → CompressAlike ws (special_of s.special) (reordering_of r) → ListCompressesAlike (tables_in s) ws
   loaded_alike ws alike v w in_v in_w same =
       subst (λ special. is_compressible special (lead_byte v) ≡ is_compressible special (lead_byte w)) (sym same_special)
       (alike v w in_v in_w (sym (leads v) ∙ same ∙ leads w))
@@ -109,13 +109,13 @@ module _ (s : TableSet) (found : s.reordering ≡ None) where
   keeps p = ap (λ o. reorder_by (option_map reordering_of o) p) found
 
   -- weights that share a lead byte compress alike
-  pub same_leads : (ws : List ℕ) → AreAlike (tables_in s) ws
+  pub same_leads : (ws : List ℕ) → ListCompressesAlike (tables_in s) ws
   same_leads ws v w in_v in_w same = ap (is_compressible (tables_in s).special) (sym (ap lead_byte (keeps v)) ∙ same ∙ ap lead_byte (keeps w))
 
 -- ---- weights that clash
 
 -- weights of a list by some tables
-pub clashing : (level : Level) (all : CollatorTables) (ws : List ℕ) (v w : ℕ) → AreListed (list_of level) all.tables ws → Overlaps (bytes_at level all) ws v w → AreClashing level all v w
+pub clashing : (level : ComparedLevel) (all : CollatorTables) (ws : List ℕ) (v w : ℕ) → AreListed (list_of level) all.tables ws → Overlaps (bytes_at level all) ws v w → AreClashing level all v w
 clashing level all ws v w listed overlaps = record {
   first = listed v overlaps.first;
   second = listed w overlaps.second;

@@ -11,6 +11,7 @@ use Rattle.icu_provider.specs.OwnedTables.{owned_tables}
 use Rattle.icu_provider.specs.TableSets.{tables_in}
 use Rattle.icu_checks.specs.declared.checked.CheckedTables.{CheckedTables}
 
+-- what the tables say that are kept
 abbrev pub checked_tables : CheckedTables → CollatorTables
 checked_tables t = owned_tables t.tables
 

@@ -35,5 +35,6 @@ meets_prop all (conditions.Element condition) = hlevel props
 meets_prop all (conditions.Pair condition) = hlevel (props, pair_prop)
 meets_prop all (conditions.Lead condition) = lead_prop all condition
 
+-- two proofs that tables meet the conditions are the same
 pub good_prop : (all : CollatorTables) → IsProp (IsGoodTables all)
 good_prop all = hlevel (props, meets_prop)

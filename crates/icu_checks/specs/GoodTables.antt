@@ -20,28 +20,31 @@ use Rattle.icu_provider.specs.Reorderings.{Reordering}
 use Rattle.icu_provider.specs.SpecialPrimaries.{IsSpecialPrimaries}
 use Rattle.icu_checks.specs.declared.condition.Condition.{Condition}
 use Rattle.icu_checks.specs.declared.condition.Condition.TheVariants as conditions
-use Rattle.icu_checks.specs.declared.condition.ElementCondition.{ElementCondition}
-use Rattle.icu_checks.specs.declared.condition.ElementCondition.TheVariants as of_element
+use Rattle.icu_checks.specs.declared.condition.LiveElementCondition.{LiveElementCondition}
+use Rattle.icu_checks.specs.declared.condition.LiveElementCondition.TheVariants as of_element
 use Rattle.icu_checks.specs.declared.condition.PairCondition.{PairCondition}
 use Rattle.icu_checks.specs.declared.condition.PairCondition.TheVariants as of_pair
 use Rattle.icu_checks.specs.declared.condition.LeadCondition.{LeadCondition}
 use Rattle.icu_checks.specs.declared.condition.LeadCondition.TheVariants as of_lead
 use Rattle.icu_provider.specs.CollatorTables.{CollatorTables}
 use Rattle.icu_checks.specs.LiveElements.{IsLiveBy, IsElementBy}
-use Rattle.icu_checks.specs.ElementConditions.{element_meets}
+use Rattle.icu_checks.specs.ElementConditions.{live_element_meets}
 use Rattle.icu_weights.specs.Overlaps.{AreOverlapping}
 use Rattle.icu_checks.specs.PairConditions.{PairMeets}
 use Rattle.icu_checks.specs.LeadConditions.{LeadMeets}
 
 -- ---- what each table shows by itself
 
+-- the rows of each context ascend
 abbrev pub HasAscendingContexts : Data → Type 0
 HasAscendingContexts home = All (λ (x : Context). IsTrue (has_ascending_rows x)) home.contexts
 
+-- a new lead byte for each of the 256 lead bytes
 pub record IsReordering (r : Reordering) : Type 0 where
   pub count : length r.leads ≡ 256
   pub bytes : All (λ b. b < 256) r.leads
 
+-- what the constructors of the tables check
 pub record AreTables (all : CollatorTables) : Type 0 where
   pub root : HasAscendingContexts all.tables.root
   pub tailoring : ForSome all.tables.tailoring HasAscendingContexts
@@ -56,15 +59,19 @@ pub record AreTables (all : CollatorTables) : Type 0 where
 abbrev pub HasDiacriticCount : CollatorTables → Type 0
 HasDiacriticCount all = IsTrue (length all.tables.diacritics == 79 || has_tailored_diacritics all.bits)
 
+-- P holds of each entry that is live by the table, with its home and its character
 abbrev pub EachEntry : (Data → ℕ → ℕ → Type 0) → DataTable → CollatorTables → Type 0
 EachEntry P table all = (home : Data) (c e : ℕ) → IsLiveBy table all.tables home c e → P home c e
 
+-- P holds of each element that is live by the table
 abbrev pub EachElement : (Element → Type 0) → DataTable → CollatorTables → Type 0
 EachElement P table all = (x : Element) → IsElementBy table all.tables x → P x
 
+-- P holds of each element of one table with each of another
 abbrev pub EachPair : (Element → Element → Type 0) → DataTable → DataTable → CollatorTables → Type 0
 EachPair P first second all = EachElement (λ x. EachElement (λ y. P x y) second all) first all
 
+-- an entry of a home meets a condition on entries, with a character
 abbrev pub EntryMeets : LiveCondition → Data → ℕ → ℕ → Type 0
 EntryMeets condition home c e = IsTrue (meets condition home c e)
 
@@ -77,7 +84,7 @@ abbrev pub Meets : Condition → CollatorTables → Type 0
 Meets conditions.DiacriticCount all = HasDiacriticCount all
 Meets (conditions.Entry condition) all = (table : DataTable) → EachEntry (EntryMeets condition) table all
 Meets conditions.PrefixRows all = (table : DataTable) → EachEntry (HasPlainRows all) table all
-Meets (conditions.Element condition) all = (table : DataTable) → EachElement (λ x. IsTrue (element_meets condition all x)) table all
+Meets (conditions.Element condition) all = (table : DataTable) → EachElement (λ x. IsTrue (live_element_meets condition all x)) table all
 Meets (conditions.Pair condition) all = (first second : DataTable) → EachPair (PairMeets condition all) first second all
 Meets (conditions.Lead condition) all = LeadMeets condition all
 
@@ -89,26 +96,26 @@ pub record IsGoodTables (all : CollatorTables) : Type 0 where
 -- ---- what a refusal says
 
 -- the kind by which a condition is reported
-abbrev pub kind_of : Condition → DataErrorKind
-kind_of conditions.DiacriticCount = kinds.Length
-kind_of (conditions.Entry of_entry.Indices) = kinds.Index
-kind_of (conditions.Entry of_entry.PrefixRows) = kinds.Context
-kind_of (conditions.Entry of_entry.Chains) = kinds.Chain
-kind_of (conditions.Entry of_entry.Digits) = kinds.Digit
-kind_of (conditions.Entry of_entry.Bytes) = kinds.Tag
-kind_of (conditions.Entry _) = kinds.Element
-kind_of conditions.PrefixRows = kinds.Context
-kind_of (conditions.Element of_element.MiddleLead) = kinds.Reordering
-kind_of (conditions.Element of_element.ImplicitLength) = kinds.Overlap
-kind_of (conditions.Element of_element.NumericLead) = kinds.Overlap
-kind_of (conditions.Element of_element.SharedLead) = kinds.Reordering
-kind_of (conditions.Element of_element.SecondByte) = kinds.Compression
-kind_of (conditions.Element _) = kinds.Element
-kind_of (conditions.Pair of_pair.TertiaryElementWeights) = kinds.Element
-kind_of (conditions.Pair of_pair.Compression) = kinds.Compression
-kind_of (conditions.Pair _) = kinds.Overlap
-kind_of (conditions.Lead of_lead.NumericWhole) = kinds.Compression
-kind_of (conditions.Lead _) = kinds.Reordering
+abbrev pub reported_kind : Condition → DataErrorKind
+reported_kind conditions.DiacriticCount = kinds.Length
+reported_kind (conditions.Entry of_entry.Indices) = kinds.Index
+reported_kind (conditions.Entry of_entry.PrefixRows) = kinds.Context
+reported_kind (conditions.Entry of_entry.Chains) = kinds.Chain
+reported_kind (conditions.Entry of_entry.Digits) = kinds.Digit
+reported_kind (conditions.Entry of_entry.Bytes) = kinds.Tag
+reported_kind (conditions.Entry _) = kinds.Element
+reported_kind conditions.PrefixRows = kinds.Context
+reported_kind (conditions.Element of_element.MiddleLead) = kinds.Reordering
+reported_kind (conditions.Element of_element.ImplicitLength) = kinds.Overlap
+reported_kind (conditions.Element of_element.NumericLead) = kinds.Overlap
+reported_kind (conditions.Element of_element.SharedLead) = kinds.Reordering
+reported_kind (conditions.Element of_element.SecondByte) = kinds.Compression
+reported_kind (conditions.Element _) = kinds.Element
+reported_kind (conditions.Pair of_pair.TertiaryElementWeights) = kinds.Element
+reported_kind (conditions.Pair of_pair.Compression) = kinds.Compression
+reported_kind (conditions.Pair _) = kinds.Overlap
+reported_kind (conditions.Lead of_lead.NumericWhole) = kinds.Compression
+reported_kind (conditions.Lead _) = kinds.Reordering
 
 -- the order in which tables are named
 abbrev pub table_rank : DataTable → ℕ
@@ -125,7 +132,7 @@ abbrev pub later : DataTable → DataTable → DataTable
 later a b = if nat_lt (table_rank a) (table_rank b) then b else a
 
 -- the table that a condition on elements speaks of beside their own
-abbrev pub table_of_element : ElementCondition → DataTable
+abbrev pub table_of_element : LiveElementCondition → DataTable
 table_of_element of_element.BackwardLead = tables.Metadata
 table_of_element of_element.MiddleLead = tables.Reordering
 table_of_element of_element.NumericLead = tables.SpecialPrimaries
@@ -133,6 +140,7 @@ table_of_element of_element.SharedLead = tables.Reordering
 table_of_element of_element.SecondByte = tables.SpecialPrimaries
 table_of_element _ = tables.Root
 
+-- the table that a condition on lead bytes speaks of
 abbrev pub table_of_lead : LeadCondition → DataTable
 table_of_lead of_lead.NumericWhole = tables.SpecialPrimaries
 table_of_lead _ = tables.Reordering
@@ -155,7 +163,7 @@ MeetsBy conditions.DiacriticCount table all = table ≡ tables.Diacritics → Ha
 MeetsBy (conditions.Entry condition) table all = EachEntry (EntryMeets condition) table all
 MeetsBy conditions.PrefixRows table all = table ≡ tables.Diacritics → Meets conditions.PrefixRows all
 MeetsBy (conditions.Element condition) table all =
-    (own : DataTable) → table ≡ later own (table_of_element condition) → EachElement (λ x. IsTrue (element_meets condition all x)) own all
+    (own : DataTable) → table ≡ later own (table_of_element condition) → EachElement (λ x. IsTrue (live_element_meets condition all x)) own all
 MeetsBy (conditions.Pair condition) table all =
     (first second : DataTable) → EachPair (λ x y. IsNamedBy condition first second x y table → PairMeets condition all x y) first second all
 MeetsBy (conditions.Lead condition) table all = table ≡ table_of_lead condition → LeadMeets condition all
@@ -163,7 +171,7 @@ MeetsBy (conditions.Lead condition) table all = table ≡ table_of_lead conditio
 -- a condition of this kind fails, and this table takes part in it
 pub record FailsBy (table : DataTable) (kind : DataErrorKind) (all : CollatorTables) : Type 0 where
   pub condition : Condition
-  pub of_kind : kind_of condition ≡ kind
+  pub of_kind : reported_kind condition ≡ kind
   pub fails : MeetsBy condition table all → ⊥
 
 -- The refusal is true. That memory ran out says nothing of the tables.

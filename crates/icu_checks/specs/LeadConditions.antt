@@ -10,20 +10,22 @@ use Rattle.icu_provider.specs.CollatorTables.{CollatorTables, reorder_by, reorde
 use Rattle.icu_checks.specs.ElementConditions.{implicit_lead}
 
 -- every primary weight with the first lead byte is taken to the second
-abbrev pub TakesLeadBy : Option Reordering → ℕ → ℕ → Type 0
-TakesLeadBy reordering b d = (p : ℕ) → p < 2 ^ 32 → lead_byte p ≡ b → lead_byte (reorder_by reordering p) ≡ d
+abbrev pub LeadGoesToBy : Option Reordering → ℕ → ℕ → Type 0
+LeadGoesToBy reordering b d = (p : ℕ) → p < 2 ^ 32 → lead_byte p ≡ b → lead_byte (reorder_by reordering p) ≡ d
 
-abbrev pub TakesLead : CollatorTables → ℕ → ℕ → Type 0
-TakesLead all b d = TakesLeadBy all.reordering b d
+-- the reordering of the tables, if there is one, takes every primary weight with the first lead byte to the second
+abbrev pub LeadGoesTo : CollatorTables → ℕ → ℕ → Type 0
+LeadGoesTo all b d = LeadGoesToBy all.reordering b d
 
 -- every primary weight with a lead byte is taken to one lead byte, from 03 to FE
 pub record TakesTogether (all : CollatorTables) (b : ℕ) : Type 0 where
-  pub together : TakesLead all b (new_lead all b)
+  pub together : LeadGoesTo all b (new_lead all b)
   pub middle : IsTrue (is_middle (new_lead all b))
 
+-- what each condition asks of lead bytes
 abbrev pub LeadMeets : LeadCondition → CollatorTables → Type 0
 LeadMeets Separator all = reorder all separator_primary ≡ separator_primary
-LeadMeets HighLead all = TakesLead all 0xFF 0xFF
+LeadMeets HighLead all = LeadGoesTo all 0xFF 0xFF
 LeadMeets ImplicitLead all = TakesTogether all implicit_lead
 LeadMeets NumericLead all = TakesTogether all all.special.numeric
 LeadMeets LeadsApart all = new_lead all implicit_lead ≢ new_lead all all.special.numeric

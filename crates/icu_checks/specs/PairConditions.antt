@@ -16,8 +16,8 @@ abbrev pub BeginsNot : (ℕ → List ℕ) → ℕ → ℕ → Type 0
 BeginsNot spell v w = v ≢ 0 → w ≢ 0 → v ≢ w → IsBeginning (spell v) (spell w) → ⊥
 
 -- two primary weights that share a lead byte after reordering have lead bytes that compress alike
-abbrev pub CompressAlike : CollatorTables → ℕ → ℕ → Type 0
-CompressAlike all p q =
+abbrev pub PairCompressesAlike : CollatorTables → ℕ → ℕ → Type 0
+PairCompressesAlike all p q =
     p ≢ 0 → q ≢ 0 → lead_byte (reorder all p) ≡ lead_byte (reorder all q)
     → is_compressible all.special (lead_byte p) ≡ is_compressible all.special (lead_byte q)
 
@@ -27,4 +27,4 @@ PairMeets TertiaryElementWeights all x y = IsTrue (is_tertiary_element x) → y.
 PairMeets Primaries all x y = BeginsNot (λ p. weight_bytes 4 (reorder all p)) x.primary y.primary
 PairMeets Secondaries all x y = BeginsNot (weight_bytes 2) x.secondary y.secondary
 PairMeets Tertiaries all x y = BeginsNot (weight_bytes 2) (tertiary_of x) (tertiary_of y)
-PairMeets Compression all x y = CompressAlike all x.primary y.primary
+PairMeets Compression all x y = PairCompressesAlike all x.primary y.primary

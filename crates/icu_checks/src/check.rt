@@ -30,12 +30,13 @@ use crate::check::live_violations::live_violation;
 use crate::check::overlap_violations::level_violation;
 use crate::check::primary_violations::primary_violation;
 use crate::check::tertiary_violations::tertiary_violation;
-use crate::check::weights::Level;
+use crate::check::weights::ComparedLevel;
 use crate::condition::{Condition, LeadCondition};
 use crate::violation::Violation;
 use icu_data::CollationData;
 use icu_data::violation::earlier;
 use icu_entries::DataTable;
+use icu_provider::diacritics::OPTIMIZED_DIACRITICS_MAX_COUNT;
 use icu_provider::{CollationReordering, TableSet};
 use std::alloc::{AllocError, Global};
 
@@ -80,7 +81,9 @@ fn count_violation(tables: TableSet<'_>) -> Option<Violation>
     ensures none { result ≡ None → HasDiacriticCount (tables_in tables.entry) }
     ensures some { IfSome result (IsTrueViolation (tables_in tables.entry)) }
 {
-    if tables.diacritics.secondaries().len() == 79 || tables.metadata.tailored_diacritics() {
+    if tables.diacritics.secondaries().len() == OPTIMIZED_DIACRITICS_MAX_COUNT
+        || tables.metadata.tailored_diacritics()
+    {
         None
     } else {
         Some(Violation {
@@ -92,7 +95,8 @@ fn count_violation(tables: TableSet<'_>) -> Option<Violation>
 
 /// The first violation of pairs of live elements.
 fn pairs_violation(alloc: Global, tables: TableSet<'_>) -> Result<Option<Violation>, AllocError>
-    ensures { IfOk result (IsOutcome (tables_in tables.entry) (PairsMeet (tables_in tables.entry))) }
+    ensures { IfOk result (IsOutcome (tables_in tables.entry)
+        (PairsMeet (tables_in tables.entry))) }
 {
     let mut lists = listed_weights(alloc, tables)?;
     let tertiary_element = tertiary_violation(
@@ -101,8 +105,18 @@ fn pairs_violation(alloc: Global, tables: TableSet<'_>) -> Result<Option<Violati
         &lists.tertiary_elements,
         &lists.with_secondary,
     )?;
-    let secondary = level_violation(alloc, tables, Level::Secondary, &mut lists.secondaries)?;
-    let tertiary = level_violation(alloc, tables, Level::Tertiary, &mut lists.tertiaries)?;
+    let secondary = level_violation(
+        alloc,
+        tables,
+        ComparedLevel::Secondary,
+        &mut lists.secondaries,
+    )?;
+    let tertiary = level_violation(
+        alloc,
+        tables,
+        ComparedLevel::Tertiary,
+        &mut lists.tertiaries,
+    )?;
     let primary = primary_violation(alloc, tables, &mut lists.primaries)?;
     Ok(earlier(
         earlier(tertiary_element, secondary),
@@ -145,7 +159,8 @@ pub(crate) fn first_violation(
     alloc: Global,
     tables: TableSet<'_>,
 ) -> Result<Option<Violation>, AllocError>
-    ensures { IfOk result (IsOutcome (tables_in tables.entry) (IsGoodTables (tables_in tables.entry))) }
+    ensures { IfOk result (IsOutcome (tables_in tables.entry)
+        (IsGoodTables (tables_in tables.entry))) }
 {
     if let Some(violation) = count_violation(tables) {
         return Ok(Some(violation));

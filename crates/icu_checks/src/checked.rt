@@ -23,8 +23,7 @@ pub struct CheckedTables {
     ghost good: { IsGoodTables (owned_tables tables) } by { good_prop _ },
 }
 
-/// Refuses tables that fail a condition. Where the check itself runs out of memory, the root is named, whose weights
-/// take the most.
+/// Refuses tables that fail a condition. Out of memory is reported for the root.
 fn check(alloc: Global, tables: TableSet<'_>) -> Result<(), DataError>
     ensures good { IsOk result → IsGoodTables (tables_in tables.entry) }
     ensures refusal { IfErr result (IsTrueRefusal (tables_in tables.entry)) }
@@ -50,7 +49,8 @@ impl CheckedTables {
     pub fn from_set(alloc: Global, tables: TableSet<'_>) -> Result<CheckedTables, DataError>
         ensures good { IsOk result → IsGoodTables (tables_in tables.entry) }
         ensures refusal { IfErr result (IsTrueRefusal (tables_in tables.entry)) }
-        ensures exact { IfErr result (λ e. (e.kind ≡ DataErrorKind.NoMemory → ⊥) → IsGoodTables (tables_in tables.entry) → ⊥) }
+        ensures exact { IfErr result (λ e.
+            (e.kind ≡ DataErrorKind.NoMemory → ⊥) → IsGoodTables (tables_in tables.entry) → ⊥) }
         ensures keeps { IfOk result (λ t. checked_tables t ≡ tables_in tables.entry) }
     {
         match check(alloc, tables) {
@@ -62,8 +62,26 @@ impl CheckedTables {
         }
     }
 
-    /// The same of tables one by one. The tailoring and the reordering are there exactly where the metadata names them;
-    /// that is the caller's part, since what is not named is not read.
+    /// Checks the tables of a collator together, and keeps them: nothing is copied. Allocates, while the check runs,
+    /// the weights that are compared with one another.
+    ///
+    /// Refuses as `from_set` does, and drops what is refused. The tailoring and the reordering are to be there exactly
+    /// where the metadata names them.
+    pub fn from_owned(alloc: Global, tables: OwnedTables) -> Result<CheckedTables, DataError>
+        ensures good { IsOk result → IsGoodTables (owned_tables tables) }
+        ensures refusal { IfErr result (IsTrueRefusal (owned_tables tables)) }
+        ensures exact { IfErr result (λ e.
+            (e.kind ≡ DataErrorKind.NoMemory → ⊥) → IsGoodTables (owned_tables tables) → ⊥) }
+        ensures keeps { IfOk result (λ t. checked_tables t ≡ owned_tables tables) }
+    {
+        match check(alloc, tables.as_set()) {
+            Ok(()) => Ok(CheckedTables { alloc, tables }),
+            Err(refusal) => Err(refusal),
+        }
+    }
+
+    /// Checks tables that are handed in one by one, and copies them, as `from_set` does. The tailoring and the
+    /// reordering are to be there exactly where the metadata names them.
     pub fn new(
         alloc: Global,
         root: CollationData<'_>,
@@ -74,10 +92,16 @@ impl CheckedTables {
         reordering: Option<CollationReordering<'_>>,
         diacritics: CollationDiacritics<'_>,
     ) -> Result<CheckedTables, DataError>
-        ensures good { IsOk result → IsGoodTables (tables_of root.entry jamo.entry special.entry metadata tailoring.entry reordering.entry diacritics.entry) }
-        ensures refusal { IfErr result (IsTrueRefusal (tables_of root.entry jamo.entry special.entry metadata tailoring.entry reordering.entry diacritics.entry)) }
-        ensures exact { IfErr result (λ e. (e.kind ≡ DataErrorKind.NoMemory → ⊥) → IsGoodTables (tables_of root.entry jamo.entry special.entry metadata tailoring.entry reordering.entry diacritics.entry) → ⊥) }
-        ensures keeps { IfOk result (λ t. checked_tables t ≡ tables_of root.entry jamo.entry special.entry metadata tailoring.entry reordering.entry diacritics.entry) }
+        ensures good { IsOk result → IsGoodTables (tables_of root.entry jamo.entry special.entry
+            metadata tailoring.entry reordering.entry diacritics.entry) }
+        ensures refusal { IfErr result (IsTrueRefusal (tables_of root.entry jamo.entry special.entry
+            metadata tailoring.entry reordering.entry diacritics.entry)) }
+        ensures exact { IfErr result (λ e. (e.kind ≡ DataErrorKind.NoMemory → ⊥)
+            → IsGoodTables (tables_of root.entry jamo.entry special.entry
+            metadata tailoring.entry reordering.entry diacritics.entry) → ⊥) }
+        ensures keeps { IfOk result (λ t. checked_tables t
+            ≡ tables_of root.entry jamo.entry special.entry
+            metadata tailoring.entry reordering.entry diacritics.entry) }
     {
         CheckedTables::from_set(
             alloc,

@@ -1,13 +1,13 @@
 ghost use Rattle.std.specs.Prelude.{◌≡◌, ◌<◌};
-ghost use Rattle.icu_checks.specs.GoodTables.{kind_of};
-ghost use Rattle.icu_checks.specs.inner.ConditionGroups.{group_of_entry, group_of_element, group_of_pair, group_of_lead, group_of, group_index};
+ghost use Rattle.icu_checks.specs.GoodTables.{reported_kind};
+ghost use Rattle.icu_checks.specs.inner.ConditionGroups.{group_of_entry, group_of_element, group_of_pair, group_of_lead, group_of, group_place};
 
 use icu_data::live_condition::LiveCondition;
 use icu_entries::DataErrorKind;
 
 /// A condition on one element that is live, beside what other tables say.
 #[derive(Debug, Clone, Copy, PartialEq, Eq)]
-pub enum ElementCondition {
+pub enum LiveElementCondition {
     /// Its weights have the widths of their fields, as all that are stored have.
     Width,
     /// Where the second level is compared from the end, no secondary weight leads with 02, which then parts segments.
@@ -68,7 +68,7 @@ pub enum Condition {
     /// No row of a prefix has a diacritic.
     PrefixRows,
     /// On one element.
-    Element(ElementCondition),
+    Element(LiveElementCondition),
     /// On two.
     Pair(PairCondition),
     /// On lead bytes.
@@ -107,7 +107,7 @@ pub enum ConditionGroup {
     KeptLeads,
     /// The lead bytes of implicit weights and of numbers, before reordering.
     OwnLeads,
-    /// The same after reordering.
+    /// The lead bytes of implicit weights and of numbers, after reordering.
     ReorderedLeads,
     /// What the compression of lead bytes needs.
     Compression,
@@ -116,7 +116,7 @@ pub enum ConditionGroup {
 impl ConditionGroup {
     /// Its index among the groups.
     pub(crate) fn index(self) -> u32
-        ensures value { result ≡ group_index self }
+        ensures value { result ≡ group_place self }
         ensures bound { result < 16 }
     {
         self as u32
@@ -139,19 +139,19 @@ fn group_of_entry(condition: LiveCondition) -> ConditionGroup
     }
 }
 
-fn group_of_element(condition: ElementCondition) -> ConditionGroup
+fn group_of_element(condition: LiveElementCondition) -> ConditionGroup
     ensures { result ≡ group_of_element condition }
 {
     match condition {
-        ElementCondition::Width => ConditionGroup::Shapes,
-        ElementCondition::BackwardLead => ConditionGroup::Leads,
-        ElementCondition::TertiaryElement => ConditionGroup::TertiaryElements,
-        ElementCondition::MiddleLead => ConditionGroup::KeptLeads,
-        ElementCondition::ImplicitLength | ElementCondition::NumericLead => {
+        LiveElementCondition::Width => ConditionGroup::Shapes,
+        LiveElementCondition::BackwardLead => ConditionGroup::Leads,
+        LiveElementCondition::TertiaryElement => ConditionGroup::TertiaryElements,
+        LiveElementCondition::MiddleLead => ConditionGroup::KeptLeads,
+        LiveElementCondition::ImplicitLength | LiveElementCondition::NumericLead => {
             ConditionGroup::OwnLeads
         }
-        ElementCondition::SharedLead => ConditionGroup::ReorderedLeads,
-        ElementCondition::SecondByte => ConditionGroup::Compression,
+        LiveElementCondition::SharedLead => ConditionGroup::ReorderedLeads,
+        LiveElementCondition::SecondByte => ConditionGroup::Compression,
     }
 }
 
@@ -196,7 +196,7 @@ impl Condition {
 
     /// The kind of a refusal for this condition.
     pub fn kind(self) -> DataErrorKind
-        ensures { result ≡ kind_of self }
+        ensures { result ≡ reported_kind self }
     {
         match self {
             Condition::DiacriticCount => DataErrorKind::Length,
@@ -213,7 +213,7 @@ impl Condition {
 }
 
 fn kind_of_entry(condition: LiveCondition) -> DataErrorKind
-    ensures { result ≡ kind_of (Condition.Entry condition) }
+    ensures { result ≡ reported_kind (Condition.Entry condition) }
 {
     match condition {
         LiveCondition::Indices => DataErrorKind::Index,
@@ -228,15 +228,17 @@ fn kind_of_entry(condition: LiveCondition) -> DataErrorKind
     }
 }
 
-fn kind_of_element(condition: ElementCondition) -> DataErrorKind
-    ensures { result ≡ kind_of (Condition.Element condition) }
+fn kind_of_element(condition: LiveElementCondition) -> DataErrorKind
+    ensures { result ≡ reported_kind (Condition.Element condition) }
 {
     match condition {
-        ElementCondition::Width
-        | ElementCondition::BackwardLead
-        | ElementCondition::TertiaryElement => DataErrorKind::Element,
-        ElementCondition::MiddleLead | ElementCondition::SharedLead => DataErrorKind::Reordering,
-        ElementCondition::ImplicitLength | ElementCondition::NumericLead => DataErrorKind::Overlap,
-        ElementCondition::SecondByte => DataErrorKind::Compression,
+        LiveElementCondition::Width
+        | LiveElementCondition::BackwardLead
+        | LiveElementCondition::TertiaryElement => DataErrorKind::Element,
+        LiveElementCondition::MiddleLead | LiveElementCondition::SharedLead =>
+            DataErrorKind::Reordering,
+        LiveElementCondition::ImplicitLength | LiveElementCondition::NumericLead =>
+            DataErrorKind::Overlap,
+        LiveElementCondition::SecondByte => DataErrorKind::Compression,
     }
 }

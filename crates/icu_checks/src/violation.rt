@@ -1,8 +1,8 @@
 ghost use Rattle.std.specs.Prelude.{◌≡◌, ◌<◌};
 ghost use Rattle.icu_checks.specs.inner.Violations.{violation_rank};
-ghost use Rattle.icu_checks.specs.GoodTables.{table_rank, kind_of, later, table_of_element, table_of_lead};
+ghost use Rattle.icu_checks.specs.GoodTables.{table_rank, reported_kind, later, table_of_element, table_of_lead};
 
-use crate::condition::{Condition, ElementCondition, LeadCondition};
+use crate::condition::{Condition, LeadCondition, LiveElementCondition};
 use icu_data::violation::Ranked;
 use icu_entries::{DataError, DataTable};
 
@@ -27,20 +27,21 @@ pub(crate) fn later(a: DataTable, b: DataTable) -> DataTable
     if table_rank(a) < table_rank(b) { b } else { a }
 }
 
-impl ElementCondition {
+impl LiveElementCondition {
     /// The table that it speaks of beside an element's own.
     pub(crate) fn table(self) -> DataTable
         ensures { result ≡ table_of_element self }
     {
         match self {
-            ElementCondition::BackwardLead => DataTable::Metadata,
-            ElementCondition::MiddleLead | ElementCondition::SharedLead => DataTable::Reordering,
-            ElementCondition::NumericLead | ElementCondition::SecondByte => {
+            LiveElementCondition::BackwardLead => DataTable::Metadata,
+            LiveElementCondition::MiddleLead | LiveElementCondition::SharedLead =>
+                DataTable::Reordering,
+            LiveElementCondition::NumericLead | LiveElementCondition::SecondByte => {
                 DataTable::SpecialPrimaries
             }
-            ElementCondition::Width
-            | ElementCondition::TertiaryElement
-            | ElementCondition::ImplicitLength => DataTable::Root,
+            LiveElementCondition::Width
+            | LiveElementCondition::TertiaryElement
+            | LiveElementCondition::ImplicitLength => DataTable::Root,
         }
     }
 }
@@ -70,7 +71,7 @@ impl Violation {
     /// The refusal that names it.
     pub(crate) fn error(self) -> DataError
         ensures table { result.table ≡ self.table }
-        ensures kind { result.kind ≡ kind_of self.condition }
+        ensures kind { result.kind ≡ reported_kind self.condition }
     {
         DataError {
             table: self.table,

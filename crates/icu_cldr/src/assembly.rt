@@ -7,57 +7,51 @@ ghost use Rattle.icu_cldr.specs.Roots.{IsRoot};
 use crate::collected::Collected;
 use crate::contexts::{Contexts, entry_in_contexts};
 use crate::digits::make_digits;
-use crate::entries::IMPLICIT_CE32;
 use crate::error::{Fault, ReadError, named};
-use icu_entries::DataTable;
+use icu_entries::{CollationElement32, DataTable};
+use icu_options::MaxVariable;
 use icu_owned_data::{DataBuilder, OwnedData};
-use icu_provider::{
-    CollationDiacritics, CollationJamo, CollationMetadata, OwnedDiacritics, OwnedJamo, OwnedTables,
-};
+use icu_provider::jamo::{JAMO_BASE, JAMO_COUNT};
+use icu_provider::{CollationMetadata, MetadataFields, OwnedDiacritics, OwnedJamo, OwnedTables};
 use std::alloc::Global;
 use std::collections::BTreeMap;
 
-/// The metadata of the root: the last variable group is punctuation.
-const ROOT_METADATA: u32 = 1;
-
-/// The conjoining jamo.
-const FIRST_JAMO: u32 = 0x1100;
-
-const JAMO_COUNT: u32 = 256;
-
 /// The entries of the conjoining jamo.
-fn jamo(alloc: Global, entries: &BTreeMap<char, u32>) -> Result<OwnedJamo, ReadError>
+fn jamo(alloc: Global, entries: &BTreeMap<char, CollationElement32>) -> Result<OwnedJamo, ReadError>
     ensures { IfErr result IsNumbered }
 {
+    let implicit = CollationElement32::implicit();
     let mut jamo = Vec::new(alloc);
-    for code in FIRST_JAMO..FIRST_JAMO + JAMO_COUNT {
+    for code in JAMO_BASE..JAMO_BASE + JAMO_COUNT as u32 {
         let entry = match char::from_u32(code) {
-            Some(c) => entries.get(&c).copied().unwrap_or(IMPLICIT_CE32),
-            None => IMPLICIT_CE32,
+            Some(c) => entries.get(&c).copied().unwrap_or(implicit),
+            None => implicit,
         };
-        jamo.push(entry)?;
+        jamo.push(entry.bits())?;
     }
-    let table = named(DataTable::Jamo, CollationJamo::new(jamo.as_slice()))?;
-    Ok(OwnedJamo::copy(alloc, table)?)
+    named(DataTable::Jamo, OwnedJamo::new(jamo))
 }
 
 /// The secondary weights of diacritics.
 fn diacritics(alloc: Global, secondaries: &[u16]) -> Result<OwnedDiacritics, ReadError>
     ensures { IfErr result IsNumbered }
 {
-    let table = named(DataTable::Diacritics, CollationDiacritics::new(secondaries))?;
-    Ok(OwnedDiacritics::copy(alloc, table)?)
+    let secondaries = Vec::from_slice(alloc, secondaries)?;
+    named(DataTable::Diacritics, OwnedDiacritics::new(secondaries))
 }
 
 /// Gives the characters that have contexts their entries.
 fn resolve_contexts(
     alloc: Global,
     builder: &mut DataBuilder,
-    entries: &mut BTreeMap<char, u32>,
+    entries: &mut BTreeMap<char, CollationElement32>,
     contexts: &BTreeMap<char, Contexts>,
 ) -> Result<(), Fault> {
     for (c, contexts) in contexts.iter() {
-        let own = entries.get(c).copied().unwrap_or(IMPLICIT_CE32);
+        let own = entries
+            .get(c)
+            .copied()
+            .unwrap_or(CollationElement32::implicit());
         let entry = entry_in_contexts(alloc, builder, own, contexts)?;
         entries.insert(*c, entry)?;
     }
@@ -65,7 +59,10 @@ fn resolve_contexts(
 }
 
 /// The root.
-fn root(mut builder: DataBuilder, entries: &BTreeMap<char, u32>) -> Result<OwnedData, ReadError>
+fn root(
+    mut builder: DataBuilder,
+    entries: &BTreeMap<char, CollationElement32>,
+) -> Result<OwnedData, ReadError>
     ensures { IfErr result IsNumbered }
 {
     for (c, entry) in entries.iter() {
@@ -97,9 +94,7 @@ impl Collected {
             diacritics: diacritics(alloc, &secondaries)?,
             special: special.table(alloc)?,
             root: root(builder, &entries)?,
-            metadata: CollationMetadata {
-                bits: ROOT_METADATA,
-            },
+            metadata: CollationMetadata::new(MetadataFields::new(MaxVariable::Punctuation)),
             tailoring: None,
             reordering: None,
         })

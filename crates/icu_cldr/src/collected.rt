@@ -3,15 +3,14 @@ ghost use Rattle.std.specs.Prelude.{◌≡◌, ◌+◌, ◌<◌, ◌≤◌, IfSo
 ghost use Rattle.icu_cldr.specs.inner.Diacritics.{SaysOfMark};
 
 use crate::contexts::{Contexts, Surroundings};
-use crate::entries::{
-    IMPLICIT_CE32, INDEX_COUNT, Target, Weights, element_list, entry_list, reference,
-};
 use crate::error::{Fault, Refusal};
 use crate::ideograph_weights::{IdeographWeights, STEP, WeightedRange, char_count};
 use crate::special::Special;
+use icu_entries::element::COMMON_WEIGHT16;
+use icu_entries::{CollationElement, CollationElement32, INDEX_COUNT, LIST_LENGTH_MAX};
 use icu_fractional::{CharRange, FractionalElement, Line, Mapping, Primary};
 use icu_owned_data::DataBuilder;
-use icu_provider::diacritics::is_replaced_index;
+use icu_provider::diacritics::{OPTIMIZED_DIACRITICS_MAX_COUNT, is_replaced_index};
 use std::alloc::{AllocError, Global};
 use std::collections::BTreeMap;
 
@@ -20,9 +19,6 @@ const BOUNDARY: char = '\u{FDD1}';
 
 /// The first of the combining marks whose secondary weights have a table of their own.
 const FIRST_DIACRITIC: u32 = 0x300;
-
-/// How many these are.
-const DIACRITIC_COUNT: usize = 79;
 
 /// How many ideographs have entries of their own where there are no more together.
 const FEW_IDEOGRAPHS: u32 = 8;
@@ -33,10 +29,10 @@ pub(crate) struct Collected {
     pub(crate) alloc: Global,
     pub(crate) builder: DataBuilder,
     /// The entries of characters, where nothing around them counts.
-    pub(crate) entries: BTreeMap<char, u32>,
+    pub(crate) entries: BTreeMap<char, CollationElement32>,
     /// The entries of characters by what stands around them.
     pub(crate) contexts: BTreeMap<char, Contexts>,
-    pub(crate) diacritics: [u16; DIACRITIC_COUNT],
+    pub(crate) diacritics: [u16; OPTIMIZED_DIACRITICS_MAX_COUNT],
     pub(crate) special: Special,
     pub(crate) ideographs: IdeographWeights,
 }
@@ -59,7 +55,7 @@ fn diacritic_index(c: char) -> Option<usize>
     ensures bound { IfSome result (λ index. index < 79) }
 {
     let index = (c as u32).checked_sub(FIRST_DIACRITIC)? as usize;
-    if index < DIACRITIC_COUNT {
+    if index < OPTIMIZED_DIACRITICS_MAX_COUNT {
         Some(index)
     } else {
         None
@@ -68,12 +64,14 @@ fn diacritic_index(c: char) -> Option<usize>
 
 /// The secondary weight of a combining mark. One that has a decomposition is in no text that is compared, and its
 /// weight isn't read.
-fn secondary_of_diacritic(index: usize, elements: &[Weights]) -> Result<u16, Fault>
+fn secondary_of_diacritic(index: usize, elements: &[CollationElement]) -> Result<u16, Fault>
     ensures { IfOk result (SaysOfMark index elements.now) }
 {
     match elements {
-        [element, ..] if is_replaced_index(index) => Ok(element.secondary),
-        [element] if element.primary == 0 && element.tertiary == 0x0500 => Ok(element.secondary),
+        [element, ..] if is_replaced_index(index) => Ok(element.secondary()),
+        [element] if element.primary() == 0 && element.lower() == COMMON_WEIGHT16 => {
+            Ok(element.secondary())
+        }
         _ => Err(Fault::Refused(Refusal::Diacritic)),
     }
 }
@@ -83,10 +81,10 @@ impl Collected {
     pub(crate) fn new(alloc: Global) -> Result<Collected, AllocError> {
         Ok(Collected {
             alloc,
-            builder: DataBuilder::new(alloc, IMPLICIT_CE32)?,
+            builder: DataBuilder::new(alloc, CollationElement32::implicit())?,
             entries: BTreeMap::new(alloc),
             contexts: BTreeMap::new(alloc),
-            diacritics: [0; DIACRITIC_COUNT],
+            diacritics: [0; OPTIMIZED_DIACRITICS_MAX_COUNT],
             special: Special::new(),
             ideographs: IdeographWeights::new(alloc),
         })
@@ -129,13 +127,12 @@ impl Collected {
         let Some(primary) = weighted.primary(range.first) else {
             return Err(Fault::Refused(Refusal::FewerIdeographs));
         };
-        let first = u64::from(range.first as u32);
-        let bits = u64::from(primary) << 32 | first << 8 | u64::from(STEP);
-        let index = self.builder.add_elements(&[bits])?;
+        let data = CollationElement::offset_data(primary, range.first, false, STEP as u8);
+        let index = self.builder.add_elements(&[data])?;
         if index >= INDEX_COUNT {
             return Err(Fault::Refused(Refusal::FullTables));
         }
-        let entry = reference(Target::Offset, index);
+        let entry = CollationElement32::offset(index);
         self.builder.set_entries(range.first, range.last, entry);
         Ok(())
     }
@@ -147,13 +144,14 @@ impl Collected {
             if let Some(c) = char::from_u32(code)
                 && let Some(primary) = weighted.primary(c)
             {
-                self.builder.set_entry(c, primary + 0xC1);
+                self.builder
+                    .set_entry(c, CollationElement32::long_primary(primary));
             }
         }
     }
 
-    /// The weights of an element.
-    fn weights(&self, element: FractionalElement) -> Result<Weights, Fault> {
+    /// The element of a line.
+    fn element(&self, element: FractionalElement) -> Result<CollationElement, Fault> {
         let primary = match element.primary {
             Primary::Weight(primary) => respelt(primary),
             Primary::OfIdeograph(c) => match self.ideographs.primary(c) {
@@ -161,53 +159,49 @@ impl Collected {
                 None => return Err(Fault::Refused(Refusal::Ideograph)),
             },
         };
-        Ok(Weights {
-            primary,
-            secondary: element.secondary,
-            tertiary: element.tertiary,
-        })
+        Ok(CollationElement::from_weights(primary, element.secondary, element.tertiary))
     }
 
-    /// The weights of elements.
-    fn all_weights(&self, elements: &[FractionalElement]) -> Result<Vec<Weights>, Fault> {
-        let mut weights = Vec::new(self.alloc);
-        for element in elements {
-            weights.push(self.weights(*element)?)?;
+    /// The elements of a line.
+    fn elements(&self, read: &[FractionalElement]) -> Result<Vec<CollationElement>, Fault> {
+        let mut elements = Vec::new(self.alloc);
+        for element in read {
+            elements.push(self.element(*element)?)?;
         }
-        Ok(weights)
+        Ok(elements)
     }
 
     /// Takes in a mapping.
     fn add_mapping(&mut self, mapping: Mapping) -> Result<(), Fault> {
-        let weights = self.all_weights(mapping.elements.as_slice())?;
+        let elements = self.elements(mapping.elements.as_slice())?;
         if let Some(index) = diacritic_index(mapping.first) {
             if !mapping.prefix.is_empty() || !mapping.suffix.is_empty() {
                 return Err(Fault::Refused(Refusal::Diacritic));
             }
-            self.diacritics[index] = secondary_of_diacritic(index, weights.as_slice())?;
+            self.diacritics[index] = secondary_of_diacritic(index, elements.as_slice())?;
         }
         if mapping.first == BOUNDARY {
-            self.add_boundary(mapping.suffix.as_slice(), weights.as_slice());
+            self.add_boundary(mapping.suffix.as_slice(), elements.as_slice());
         }
-        let entry = self.add_elements(weights.as_slice())?;
+        let entry = self.add_elements(elements.as_slice())?;
         self.add_entry(mapping, entry)
     }
 
     /// Takes in the first primary weight of a script or of a group of variable elements.
-    fn add_boundary(&mut self, samples: &[char], elements: &[Weights]) {
+    fn add_boundary(&mut self, samples: &[char], elements: &[CollationElement]) {
         if let ([sample], [element]) = (samples, elements) {
-            self.special.set_first_primary(*sample, element.primary);
+            self.special.set_first_primary(*sample, element.primary());
         }
     }
 
     /// The entry of elements. Those that one entry doesn't spell become a list.
-    fn add_elements(&mut self, elements: &[Weights]) -> Result<u32, Fault> {
-        if elements.len() >= 32 {
+    fn add_elements(&mut self, elements: &[CollationElement]) -> Result<CollationElement32, Fault> {
+        if elements.len() > LIST_LENGTH_MAX {
             return Err(Fault::Refused(Refusal::FewerElements));
         }
         let mut entries = Vec::new(self.alloc);
         for element in elements {
-            match element.entry() {
+            match CollationElement32::from_element(*element) {
                 Some(entry) => entries.push(entry)?,
                 None => return self.add_element_list(elements),
             }
@@ -219,33 +213,35 @@ impl Collected {
     }
 
     /// The entry of a list of entries.
-    fn add_entry_list(&mut self, entries: &[u32]) -> Result<u32, Fault>
+    fn add_entry_list(
+        &mut self,
+        entries: &[CollationElement32],
+    ) -> Result<CollationElement32, Fault>
         requires { length entries.now ≤ 31 }
     {
         let index = self.builder.add_entries(entries)?;
         if index >= INDEX_COUNT {
             return Err(Fault::Refused(Refusal::FullTables));
         }
-        Ok(entry_list(index, entries.len()))
+        Ok(CollationElement32::entry_list(index, entries.len()))
     }
 
     /// The entry of a list of elements.
-    fn add_element_list(&mut self, elements: &[Weights]) -> Result<u32, Fault>
+    fn add_element_list(
+        &mut self,
+        elements: &[CollationElement],
+    ) -> Result<CollationElement32, Fault>
         requires { length elements.now ≤ 31 }
     {
-        let mut bits = Vec::new(self.alloc);
-        for element in elements {
-            bits.push(element.bits())?;
-        }
-        let index = self.builder.add_elements(bits.as_slice())?;
+        let index = self.builder.add_elements(elements)?;
         if index >= INDEX_COUNT {
             return Err(Fault::Refused(Refusal::FullTables));
         }
-        Ok(element_list(index, elements.len()))
+        Ok(CollationElement32::element_list(index, elements.len()))
     }
 
     /// Takes in the entry of a text.
-    fn add_entry(&mut self, mapping: Mapping, entry: u32) -> Result<(), Fault> {
+    fn add_entry(&mut self, mapping: Mapping, entry: CollationElement32) -> Result<(), Fault> {
         let Mapping {
             prefix,
             first,
@@ -269,8 +265,8 @@ impl Collected {
         first: char,
         prefix: Vec<char>,
         suffix: Vec<char>,
-        entry: u32,
-    ) -> Result<Option<u32>, Fault> {
+        entry: CollationElement32,
+    ) -> Result<Option<CollationElement32>, Fault> {
         let mut before = prefix;
         before.reverse();
         let surroundings = Surroundings {

@@ -1,8 +1,8 @@
 //! Mappings that depend on the characters around.
-ghost use Rattle.std.specs.Prelude.{◌≡◌};
+ghost use Rattle.std.specs.Prelude.{◌<◌, ◌^◌, IfOk, IfSome};
 
-use crate::entries::{INDEX_COUNT, Target, reference};
 use crate::error::{Fault, Refusal};
+use icu_entries::{CollationElement32, INDEX_COUNT};
 use icu_owned_data::DataBuilder;
 use std::alloc::{AllocError, Global};
 use std::collections::BTreeMap;
@@ -15,28 +15,29 @@ pub(crate) struct Surroundings {
 }
 
 /// The entries of a character by what stands around it. Equal beginnings follow one another, the shorter first.
-pub(crate) type Contexts = BTreeMap<Surroundings, u32>;
+pub(crate) type Contexts = BTreeMap<Surroundings, CollationElement32>;
 
-/// The entry of a context with these rows, or the default where there are none.
-fn context(
+/// The index of a context with these rows, or nothing where there are none.
+fn add_context(
     alloc: Global,
     builder: &mut DataBuilder,
-    target: Target,
-    default: u32,
-    rows: &BTreeMap<Vec<char>, u32>,
-) -> Result<u32, Fault> {
+    default: CollationElement32,
+    rows: &BTreeMap<Vec<char>, CollationElement32>,
+) -> Result<Option<usize>, Fault>
+    ensures { IfOk result (λ added. IfSome added (λ index. index < 2 ^ 19)) }
+{
     if rows.is_empty() {
-        return Ok(default);
+        return Ok(None);
     }
-    let mut list: Vec<(&[char], u32)> = Vec::new(alloc);
-    for (chars, entry) in rows.iter() {
-        list.push((chars.as_slice(), *entry))?;
-    }
+    let list: Vec<(&[char], CollationElement32)> = rows
+        .iter()
+        .map(|(chars, entry)| (chars.as_slice(), *entry))
+        .collect(alloc)?;
     let index = builder.add_context(default, list.as_slice())?;
     if index >= INDEX_COUNT {
         return Err(Fault::Refused(Refusal::FullTables));
     }
-    Ok(reference(target, index))
+    Ok(Some(index))
 }
 
 /// The entry of a character behind these characters, the nearest first: by what stands after it, where a mapping with a
@@ -44,12 +45,12 @@ fn context(
 fn contraction(
     alloc: Global,
     builder: &mut DataBuilder,
-    own: u32,
+    own: CollationElement32,
     contexts: &Contexts,
     before: &[char],
-) -> Result<u32, Fault> {
+) -> Result<CollationElement32, Fault> {
     let mut default = own;
-    let mut rows: BTreeMap<Vec<char>, u32> = BTreeMap::new(alloc);
+    let mut rows: BTreeMap<Vec<char>, CollationElement32> = BTreeMap::new(alloc);
     for (surroundings, entry) in contexts.iter() {
         if !before.starts_with(surroundings.before.as_slice()) {
             continue;
@@ -60,17 +61,20 @@ fn contraction(
             rows.insert(surroundings.after.clone()?, *entry)?;
         }
     }
-    context(alloc, builder, Target::Contraction, default, &rows)
+    match add_context(alloc, builder, default, &rows)? {
+        Some(index) => Ok(CollationElement32::contraction(index)),
+        None => Ok(default),
+    }
 }
 
 /// The entry of a character that has these contexts, and elsewhere this entry.
 pub(crate) fn entry_in_contexts(
     alloc: Global,
     builder: &mut DataBuilder,
-    own: u32,
+    own: CollationElement32,
     contexts: &Contexts,
-) -> Result<u32, Fault> {
-    let mut rows: BTreeMap<Vec<char>, u32> = BTreeMap::new(alloc);
+) -> Result<CollationElement32, Fault> {
+    let mut rows: BTreeMap<Vec<char>, CollationElement32> = BTreeMap::new(alloc);
     for surroundings in contexts.keys() {
         let before = surroundings.before.as_slice();
         if !before.is_empty() && !rows.contains_key(before) {
@@ -79,5 +83,8 @@ pub(crate) fn entry_in_contexts(
         }
     }
     let default = contraction(alloc, builder, own, contexts, &[])?;
-    context(alloc, builder, Target::Prefix, default, &rows)
+    match add_context(alloc, builder, default, &rows)? {
+        Some(index) => Ok(CollationElement32::prefix(index)),
+        None => Ok(default),
+    }
 }

@@ -1,25 +1,29 @@
 //! The digits that make numbers: characters with General_Category Nd.
-use crate::entries::{INDEX_COUNT, digit_entry};
 use crate::error::{Fault, Refusal};
+use icu_entries::{CollationElement32, INDEX_COUNT};
 use icu_owned_data::DataBuilder;
 use std::alloc::Global;
 use std::collections::BTreeMap;
 use ucd_perl::digit_ranges;
 
 /// The entry of a digit whose plain entry this is.
-fn entry_of_digit(builder: &mut DataBuilder, value: u32, plain: u32) -> Result<u32, Fault> {
+fn entry_of_digit(
+    builder: &mut DataBuilder,
+    value: u32,
+    plain: CollationElement32,
+) -> Result<CollationElement32, Fault> {
     let index = builder.add_entries(&[plain])?;
     if index >= INDEX_COUNT {
         return Err(Fault::Refused(Refusal::FullTables));
     }
-    Ok(digit_entry(index, value % 10))
+    Ok(CollationElement32::digit_with_plain((value % 10) as u8, index))
 }
 
-/// Makes the entries of these characters, as far as they have any, entries of digits. Such characters follow one
-/// another by tens, from zero to nine (Unicode Standard, "Numeric Value").
+/// Replaces the entry of each mapped character of a range of digits by a digit entry. Digits follow one another by
+/// tens, from zero to nine (Unicode Standard, "Numeric Value").
 fn make_digits_of(
     builder: &mut DataBuilder,
-    entries: &mut BTreeMap<char, u32>,
+    entries: &mut BTreeMap<char, CollationElement32>,
     first: u32,
     last: u32,
 ) -> Result<(), Fault> {
@@ -35,11 +39,11 @@ fn make_digits_of(
     Ok(())
 }
 
-/// Makes the entries of all digits that have one entries of digits.
+/// Replaces the entry of each mapped digit by a digit entry.
 pub(crate) fn make_digits(
     alloc: Global,
     builder: &mut DataBuilder,
-    entries: &mut BTreeMap<char, u32>,
+    entries: &mut BTreeMap<char, CollationElement32>,
 ) -> Result<(), Fault> {
     for (first, last) in digit_ranges(alloc)? {
         make_digits_of(builder, entries, first, last)?;

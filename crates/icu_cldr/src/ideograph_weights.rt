@@ -1,5 +1,5 @@
 //! The primary weights of ideographs, which the file leaves to its reader.
-ghost use Rattle.std.specs.Prelude.{◌≡◌, ◌+◌, ◌*◌, ◌<◌, ◌≤◌, false, IfSome, IfOk};
+ghost use Rattle.std.specs.Prelude.{◌≡◌, ◌+◌, ◌*◌, ◌%◌, ◌<◌, ◌≤◌, false, IfSome, IfOk};
 ghost use Rattle.icu_entries.specs.Weights.{weight_at};
 
 use crate::error::{Fault, Refusal};
@@ -37,6 +37,7 @@ pub(crate) struct IdeographWeights {
 pub(crate) fn weight_at(ordinal: u32) -> u32
     requires { ordinal < 0xFE * 64516 }
     ensures value { result ≡ weight_at false ordinal }
+    ensures three_bytes { result % 256 ≡ 0 }
     ensures bound { result < 0xFE000000 }
 {
     let lead = ordinal / 254 / 254;
@@ -120,7 +121,8 @@ impl IdeographWeights {
 impl WeightedRange {
     /// The primary weight of a character of the range.
     pub(crate) fn primary(self, c: char) -> Option<u32>
-        ensures { IfSome result (λ p. p < 0xFE000000) }
+        ensures bound { IfSome result (λ p. p < 0xFE000000) }
+        ensures three_bytes { IfSome result (λ p. p % 256 ≡ 0) }
     {
         let past = (c as u32).saturating_sub(self.range.first as u32);
         let ordinal = self.ordinal.checked_add(past * STEP)?;

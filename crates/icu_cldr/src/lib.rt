@@ -6,7 +6,6 @@ mod assembly;
 mod collected;
 mod contexts;
 mod digits;
-mod entries;
 pub mod error;
 mod ideograph_weights;
 mod line_reader;

@@ -1,16 +1,12 @@
 //! The root collation as a provider.
 ghost use Rattle.std.specs.Prelude.{◌≡◌, IfOk, IfErr};
+ghost use Rattle.icu_provider.specs.OwnedTables.{owned_tables};
 ghost use Rattle.icu_cldr.specs.Errors.{IsNumbered};
 ghost use Rattle.icu_cldr.specs.Roots.{IsRoot, root_tables};
 
 use crate::error::ReadError;
 use crate::line_reader::read_tables;
-use icu_data::CollationData;
-use icu_entries::{DataError, DataErrorKind, DataTable};
-use icu_provider::{
-    CollationDiacritics, CollationJamo, CollationMetadata, CollationProvider, CollationReordering,
-    CollationSpecialPrimaries, DataRequest, OwnedTables,
-};
+use icu_provider::{FixedLoads, FixedProvider, OwnedTables};
 use std::alloc::Global;
 use std::io::BufRead;
 
@@ -32,56 +28,24 @@ pub fn read_root<R: BufRead + Drop>(alloc: Global, reader: R) -> Result<CldrRoot
     })
 }
 
-impl CollationProvider for CldrRoot {
+impl CldrRoot {
+    /// The tables, without a copy. `Collator::try_from_tables` takes them.
+    #[tactic(auto, unfolding(crate::specs::Roots::root_tables))]
+    pub fn into_tables(self) -> OwnedTables
+        ensures { owned_tables result ≡ root_tables self }
+    {
+        self.tables
+    }
+}
+
+impl FixedProvider for CldrRoot {
     ghost use Rattle.icu_provider.specs.TableSets.{loads_of};
     ghost use Rattle.icu_cldr.specs.Roots.{root_tables};
 
-    ghost loads = { λ r. loads_of (root_tables r) };
+    ghost fixed = { λ r. loads_of (root_tables r) };
 
-    #[tactic(auto, unfolding(icu_provider::specs::OwnedTables::owned_tables, crate::specs::Roots::root_tables))]
-    fn load_root(&self) -> Result<CollationData<'_>, DataError> {
-        Ok(self.tables.root.as_data())
-    }
-
-    #[tactic(auto, unfolding(icu_provider::specs::OwnedTables::owned_tables, crate::specs::Roots::root_tables))]
-    fn load_jamo(&self) -> Result<CollationJamo<'_>, DataError> {
-        Ok(self.tables.jamo.as_jamo())
-    }
-
-    #[tactic(auto, unfolding(icu_provider::specs::OwnedTables::owned_tables, crate::specs::Roots::root_tables))]
-    fn load_special_primaries(&self) -> Result<CollationSpecialPrimaries<'_>, DataError> {
-        Ok(self.tables.special.as_special_primaries())
-    }
-
-    #[tactic(auto, unfolding(icu_provider::specs::OwnedTables::owned_tables, crate::specs::Roots::root_tables))]
-    fn load_metadata(&self, _: DataRequest<'_>) -> Result<CollationMetadata, DataError> {
-        Ok(self.tables.metadata)
-    }
-
-    #[tactic(auto, unfolding(icu_provider::specs::OwnedTables::owned_tables, crate::specs::Roots::root_tables))]
-    fn load_tailoring(&self, _: DataRequest<'_>) -> Result<CollationData<'_>, DataError> {
-        match &self.tables.tailoring {
-            Some(tailoring) => Ok(tailoring.as_data()),
-            None => Err(DataError {
-                table: DataTable::Tailoring,
-                kind: DataErrorKind::Absent,
-            }),
-        }
-    }
-
-    #[tactic(auto, unfolding(icu_provider::specs::OwnedTables::owned_tables, crate::specs::Roots::root_tables))]
-    fn load_reordering(&self, _: DataRequest<'_>) -> Result<CollationReordering<'_>, DataError> {
-        match &self.tables.reordering {
-            Some(reordering) => Ok(reordering.as_reordering()),
-            None => Err(DataError {
-                table: DataTable::Reordering,
-                kind: DataErrorKind::Absent,
-            }),
-        }
-    }
-
-    #[tactic(auto, unfolding(icu_provider::specs::OwnedTables::owned_tables, crate::specs::Roots::root_tables))]
-    fn load_diacritics(&self, _: DataRequest<'_>) -> Result<CollationDiacritics<'_>, DataError> {
-        Ok(self.tables.diacritics.as_diacritics())
+    #[tactic(auto, unfolding(crate::specs::Roots::root_tables))]
+    fn loads(&self) -> FixedLoads<'_> {
+        self.tables.loads()
     }
 }

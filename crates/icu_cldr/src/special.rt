@@ -6,7 +6,7 @@ ghost use Rattle.icu_cldr.specs.Errors.{IsNumbered};
 use crate::error::{Fault, Missing, ReadError, Refusal, named};
 use icu_entries::DataTable;
 use icu_fractional::LeadByte;
-use icu_provider::{CollationSpecialPrimaries, OwnedSpecialPrimaries};
+use icu_provider::OwnedSpecialPrimaries;
 use std::alloc::Global;
 
 /// What the lines said so far of special primary weights.
@@ -20,7 +20,8 @@ pub(crate) struct Special {
     compressible: [u16; 16],
 }
 
-/// The two highest bytes of the first primary weight after a group. A second byte of 02 is that of no weight but such.
+/// The two highest bytes of the first primary weight after a group. Only such a first weight has the second byte 02, so
+/// 00 stands for it.
 fn group_end(first_primary: u32) -> u16 {
     let end = (first_primary >> 16) as u16;
     if end % 0x100 <= 2 {
@@ -31,7 +32,7 @@ fn group_end(first_primary: u32) -> u16 {
 }
 
 impl Special {
-    /// Nothing is said but that implicit weights compress.
+    /// Special primary weights with no group's end set; only the lead byte of implicit weights compresses.
     pub(crate) fn new() -> Special {
         Special {
             space_end: None,
@@ -95,10 +96,9 @@ impl Special {
     {
         let numbers = self.last_primaries(alloc)?;
         let lead = self.numeric_lead.ok_or(Missing::NumericLead)?;
-        let table = named(
+        named(
             DataTable::SpecialPrimaries,
-            CollationSpecialPrimaries::new(numbers.as_slice(), lead),
-        )?;
-        Ok(OwnedSpecialPrimaries::copy(alloc, table)?)
+            OwnedSpecialPrimaries::new(numbers, lead),
+        )
     }
 }

@@ -14,6 +14,9 @@ pub use Rattle.icu_order.specs.Levels
 pub use Rattle.icu_order.specs.TextOrder
 pub use Rattle.icu_order.specs.Handled
 pub use Rattle.icu_order.specs.Forms
+pub use Rattle.icu_keys.specs.Sinks
 pub use Rattle.icu_keys.specs.KeyWrites
 pub use Rattle.icu_comparison.specs.HandledRests
 pub use Rattle.icu_comparison.specs.Collators
+pub use Rattle.icu_index.specs.Listings
+pub use Rattle.icu_index.specs.NameIndexes

@@ -28,7 +28,8 @@ pub mod provider {
     pub use icu_entries::{DataError, DataErrorKind, DataTable};
     pub use icu_provider::{
         CollationDiacritics, CollationJamo, CollationMetadata, CollationProvider,
-        CollationReordering, CollationSpecialPrimaries, DataRequest, TableSet, load_tables,
+        CollationReordering, CollationSpecialPrimaries, DataRequest, FixedLoads, FixedProvider,
+        OwnedTables, TableSet, load_tables,
     };
 }
 

@@ -6,16 +6,16 @@ use Rattle.std.proofs.lemmas.Bool.{cases_order as number_cases}
 use Rattle.icu_levels.specs.ListOrder.{list_order}
 use Rattle.icu_levels.proofs.Order.{less_number, more_number, same_front, same_lists_order}
 use Rattle.icu_levels.proofs.Orderings.{then_assoc, then_equal}
-use Rattle.icu_order.specs.Collations.{Collation}
-use Rattle.icu_order.specs.Handled.{HandledElement}
-use Rattle.icu_text_keys.specs.declared.handled.Handled.{Handled}
-use Rattle.icu_text_keys.specs.HandledSources.{handled_as, GivesNext}
+use Rattle.icu_weighting.specs.Collations.{Collation}
+use Rattle.icu_weighting.specs.Handled.{HandledElement}
+use Rattle.icu_weighting.specs.declared.handled_element.Handled.{Handled}
+use Rattle.icu_weighting.specs.HandledSources.{handled_as, GivesNext}
 use Rattle.icu_levels.specs.Keys.{LevelLists, secondaries_order, cases_order, tertiaries_order, quaternaries_order}
 use Rattle.icu_levels.specs.declared.forms.KeyForm.{KeyForm}
 use Rattle.icu_levels.specs.declared.forms.TertiaryForm.{TertiaryForm}
 use Rattle.icu_provider.specs.StoredTables.{reordering_of}
 use Rattle.icu_provider.specs.declared.reordering.CollationReordering.{CollationReordering}
-use Rattle.icu_order.specs.Forms.{form_by}
+use Rattle.icu_weighting.specs.Forms.{form_by}
 use Rattle.icu_order.specs.TextOrder.{handled_by, lists_by}
 use Rattle.icu_comparison.proofs.TieLemmas.{same_elements}
 use Rattle.icu_comparison.proofs.LevelLemmas.{primaries_read, secondaries_read, tertiaries_read}
@@ -131,7 +131,7 @@ module _ (levels : ThreeLevels) (third : Ordering) where
       rw (first, second, last) (ap (λ w. ordering_then (order_on levels.first us vs) (ordering_then (order_on levels.second us vs) w))
       (then_assoc third o (order_on levels.third us vs)))
 
-  -- the same of what sources gave
+  -- a step by what two sources gave
   pub step_both : (hs ks us vs : List HandledElement) (one other : Option Handled) (o : Ordering)
       → ((level : Level) → order_on level hs ks ≡ order_from level one other us vs)
       → StepBoth levels one other o → three_order levels third hs ks ≡ three_order levels (ordering_then third o) us vs

@@ -15,11 +15,11 @@ use Rattle.icu_levels.specs.declared.forms.QuaternaryForm.{QuaternaryForm}
 use Rattle.icu_levels.specs.declared.forms.SecondaryForm.{SecondaryForm}
 use Rattle.icu_levels.specs.declared.forms.SecondaryForm.TheVariants.{Forward, Backward}
 use Rattle.icu_levels.specs.declared.forms.TertiaryForm.{TertiaryForm}
-use Rattle.icu_order.specs.Collations.{Collation}
-use Rattle.icu_order.specs.Handled.{HandledElement}
-use Rattle.icu_order.specs.Levels.{level_lists}
+use Rattle.icu_weighting.specs.Collations.{Collation}
+use Rattle.icu_weighting.specs.Handled.{HandledElement}
+use Rattle.icu_weighting.specs.Levels.{level_lists}
 use Rattle.icu_order.specs.TextOrder.{handled_by, lists_by, text_key}
-use Rattle.icu_order.specs.Forms.{compression_of, form_by}
+use Rattle.icu_weighting.specs.Forms.{compression_of, form_by}
 
 -- ---- characters that don't count
 

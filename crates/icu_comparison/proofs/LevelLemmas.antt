@@ -13,10 +13,10 @@ use Rattle.icu_entries.specs.ElementConditions.{tertiary_of}
 use Rattle.icu_provider.specs.CollatorTables.{reorder_by}
 use Rattle.icu_provider.specs.StoredTables.{reordering_of}
 use Rattle.icu_provider.specs.declared.reordering.CollationReordering.{CollationReordering}
-use Rattle.icu_order.specs.Collations.{Collation}
-use Rattle.icu_order.specs.Handled.{HandledElement, stayed, shifted_primary, stayed_elements}
-use Rattle.icu_order.specs.Levels.{weights, primary_of, primaries, secondary_of, secondaries, case_reads, case_rank, masked_tertiary, tertiary_in, tertiaries, quaternary_weight, quaternaries}
-use Rattle.icu_order.specs.Forms.{compression_of, form_by}
+use Rattle.icu_weighting.specs.Collations.{Collation}
+use Rattle.icu_weighting.specs.Handled.{HandledElement, stayed, shifted_primary, stayed_elements}
+use Rattle.icu_weighting.specs.Levels.{weights, primary_of, primaries, secondary_of, secondaries, case_reads, case_rank, masked_tertiary, tertiary_in, tertiaries, quaternary_weight, quaternaries}
+use Rattle.icu_weighting.specs.Forms.{compression_of, form_by}
 use Rattle.icu_order.specs.TextOrder.{handled_by, lists_by}
 use Rattle.icu_comparison.specs.declared.forward_levels.Level.{Level}
 use Rattle.icu_comparison.specs.declared.forward_levels.Level.TheVariants.{Primary, Secondary, Case, Tertiary, Quaternary}

@@ -7,12 +7,12 @@ use Rattle.icu_levels.specs.Keys.{LevelLists, primaries_order, secondaries_order
 use Rattle.icu_levels.specs.declared.forms.KeyForm.{KeyForm}
 use Rattle.icu_entries.specs.Elements.{Element}
 use Rattle.icu_options.specs.declared.settings.AlternateHandling.{AlternateHandling}
-use Rattle.icu_order.specs.Collations.{Collation}
-use Rattle.icu_order.specs.Handled.{handled, stayed, is_variable}
-use Rattle.icu_order.specs.Forms.{compression_of, form_by}
+use Rattle.icu_weighting.specs.Collations.{Collation}
+use Rattle.icu_weighting.specs.Handled.{handled, stayed, is_variable}
+use Rattle.icu_weighting.specs.Forms.{compression_of, form_by}
 use Rattle.icu_order.specs.TextOrder.{lists_by, text_order}
-use Rattle.icu_comparison.specs.HandledRests.{handled_after}
-use Rattle.icu_comparison.specs.declared.weighting.VariableWeighting.{VariableWeighting}
+use Rattle.icu_weighting.specs.VariableWeightings.{handled_after}
+use Rattle.icu_weighting.specs.declared.weighting.VariableWeighting.{VariableWeighting}
 use Rattle.icu_comparison.specs.inner.ElementOrders.{before_characters, elements_order}
 use Rattle.std.specs.declared.cmp.Ordering.{Ordering}
 use Rattle.std.specs.declared.cmp.Ordering.TheVariants.{Less, Equal, Greater}
@@ -39,7 +39,7 @@ goes_on p q rest whole test is unset e r = r ∙ subst (λ o. rest ≡ ordering_
 last : (o p q r : Ordering) → p ≡ ordering_then q r → ordering_then o p ≡ ordering_then (ordering_then o q) r
 last o p q r e = ap (ordering_then o) e ∙ then_assoc o q r
 
--- the same, where the rest may fail
+-- an order that ties goes on with the rest, which may fail
 pub goes_on_ok : {E : Type 0} (p q rest : Ordering) (test : Bool) (r : Result Ordering E) → test ≡ not (ordering_index p == 1) → test ≡ false → p ≡ q
     → IfOk r (λ o. o ≡ rest) → IfOk r (λ o. o ≡ ordering_then q rest)
 goes_on_ok p q rest test (Ok o) is unset e h = goes_on p q rest o test is unset e h

@@ -14,14 +14,14 @@ use Rattle.icu_provider.specs.CollatorTables.{reorder}
 use Rattle.icu_elements.specs.TextElements.{Reading, elements_of, elements_after, elements_along}
 use Rattle.icu_cuts.proofs.NfdLemmas.{nfd-nil}
 use Rattle.icu_cuts.specs.ReadingLaws.{FirstStartersLead}
-use Rattle.icu_shortcuts.specs.Letters.{LeadsWith as LetterLeads}
+use Rattle.icu_shortcuts.specs.Letters.{HasLeadingPrimary}
 use Rattle.icu_cursor.specs.declared.letter_cursor.LetterCursor.{LetterCursor}
 use Rattle.icu_cursor.specs.LetterCursors.{GoesOn, letters_give}
 use Rattle.icu_shortcuts.specs.SafeTables.{IsSafeBefore}
-use Rattle.icu_order.specs.Collations.{Collation}
-use Rattle.icu_order.specs.Forms.{form_by, last_variable_by}
-use Rattle.icu_order.specs.Handled.{stayed, handled, is_variable, stayed_elements}
-use Rattle.icu_order.specs.Levels.{weights, primaries}
+use Rattle.icu_weighting.specs.Collations.{Collation}
+use Rattle.icu_weighting.specs.Forms.{form_by, last_variable_by}
+use Rattle.icu_weighting.specs.Handled.{stayed, handled, is_variable, stayed_elements}
+use Rattle.icu_weighting.specs.Levels.{weights, primaries}
 use Rattle.icu_order.specs.TextCuts.{begins_with_primary, IsTail, CommonBeginningsDoNotCount}
 use Rattle.icu_order.specs.TextOrder.{reading_by, lists_by, text_order}
 use Rattle.icu_comparison.specs.inner.Tails.{IsFirst, LeadsWith, Decides, GivesPrimaries, GivesPrimary, ReadsOn, primaries_given, primaries_of, unequal_order}
@@ -63,7 +63,7 @@ unfolding handled weights
 no_primary collation true x xs zero = (true, rw zero refl)
 no_primary collation false x xs zero = (false, rw zero refl)
 
-module _ (collation : Collation) (law : FirstStartersLead) (c : ℕ) (cs : List ℕ) (p : ℕ) (h : LetterLeads (reading_by collation) c p) where
+module _ (collation : Collation) (law : FirstStartersLead) (c : ℕ) (cs : List ℕ) (p : ℕ) (h : HasLeadingPrimary (reading_by collation) c p) where
   first_element : (before : List ℕ) → (rest : List Element) × (elements_after (reading_by collation) before (nfd (c ∷ cs)) ≡ h.element ∷ rest)
   first_element before =
       let led = law (reading_by collation) before c h.first h.more cs h.decomposes h.starter h.alone in
@@ -83,12 +83,12 @@ module _ (collation : Collation) (law : FirstStartersLead) (c : ℕ) (cs : List 
 
 -- where what is known of the first character is a primary above the variable ones, a text leads with it
 pub opening_leads : (collation : Collation) (law : FirstStartersLead) (c : ℕ) (cs : List ℕ) (q : ℕ)
-    → (q ≢ 0 → LetterLeads (reading_by collation) c q) → (r : Option ℕ)
+    → (q ≢ 0 → HasLeadingPrimary (reading_by collation) c q) → (r : Option ℕ)
     → IfSome r (λ p. (p ≡ q) × (last_variable_by collation < p)) → IfSome r (λ p. LeadsWith collation (c ∷ cs) p)
 opening_leads collation law c cs q leads None h = tt
 opening_leads collation law c cs q leads (Some p) h =
     let nonzero : q ≢ 0 = λ z. above_nothing (last_variable_by collation) p h.1 (h.0 ∙ z) in
-    first_leads collation law c cs p (subst (λ (x : ℕ). LetterLeads (reading_by collation) c x) (sym h.0) (leads nonzero)) h.1
+    first_leads collation law c cs p (subst (λ (x : ℕ). HasLeadingPrimary (reading_by collation) c x) (sym h.0) (leads nonzero)) h.1
 
 nothing_after : (reading : Reading) (before : List ℕ) → elements_after reading before (nfd []) ≡ []
 unfolding elements_after elements_along

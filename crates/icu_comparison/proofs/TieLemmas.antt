@@ -6,9 +6,9 @@ use Rattle.icu_levels.specs.declared.forms.KeyForm.{KeyForm}
 use Rattle.icu_levels.proofs.Order.{same_lists_order}
 use Rattle.icu_levels.proofs.OwnOrder.{own_secondaries, own_cases, own_tertiaries, own_quaternaries}
 use Rattle.icu_provider.specs.CollatorTables.{reorder}
-use Rattle.icu_order.specs.Collations.{Collation}
-use Rattle.icu_order.specs.Levels.{level_lists}
-use Rattle.icu_order.specs.Forms.{form_by}
+use Rattle.icu_weighting.specs.Collations.{Collation}
+use Rattle.icu_weighting.specs.Levels.{level_lists}
+use Rattle.icu_weighting.specs.Forms.{form_by}
 use Rattle.icu_order.specs.TextOrder.{handled_by, lists_by}
 use Rattle.icu_comparison.specs.inner.ElementOrders.{before_characters, elements_order}
 

@@ -9,8 +9,8 @@ use Rattle.icu_provider.specs.Requests.{Request}
 use Rattle.icu_checks.specs.Checked.{checked_tables}
 use Rattle.icu_provider.specs.CollatorTables.{CollatorTables}
 use Rattle.icu_provider.specs.LoadedTables.{loaded_tables}
-use Rattle.icu_order.specs.Collations.{Collation}
-use Rattle.icu_text_keys.specs.CheckedCollations.{collation_of}
+use Rattle.icu_weighting.specs.Collations.{Collation}
+use Rattle.icu_weighting.specs.CheckedCollations.{collation_of}
 use Rattle.icu_comparison.specs.declared.collator.Collator.{Collator}
 use Rattle.icu_comparison.specs.declared.collator.CollatorBorrowed.{CollatorBorrowed}
 

@@ -6,9 +6,9 @@ pub use Rattle.icu_data.specs.Data
 pub use Rattle.icu_provider.specs.Tables
 pub use Rattle.icu_elements.specs.TextElements
 pub use Rattle.icu_elements.specs.Reading
-pub use Rattle.icu_order.specs.Handled
-pub use Rattle.icu_order.specs.Levels
-pub use Rattle.icu_order.specs.Forms
+pub use Rattle.icu_weighting.specs.Handled
+pub use Rattle.icu_weighting.specs.Levels
+pub use Rattle.icu_weighting.specs.Forms
 pub use Rattle.icu_order.specs.TextOrder
 pub mod Collators
 pub mod HandledRests

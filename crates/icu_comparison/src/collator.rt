@@ -8,12 +8,13 @@ ghost use Rattle.icu_options.specs.Metadata.{metadata_settings, is_backward};
 ghost use Rattle.icu_entries.specs.declared.error.DataErrorKind.TheVariants.{NoMemory};
 ghost use Rattle.icu_checks.specs.Checked.{checked_tables};
 ghost use Rattle.icu_checks.specs.GoodTables.{IsGoodTables, IsTrueRefusal};
+ghost use Rattle.icu_provider.specs.OwnedTables.{owned_tables};
 ghost use Rattle.icu_cursor.specs.Cursors.{cursor_reading};
-ghost use Rattle.icu_elements.specs.Reading.{element_tables};
+ghost use Rattle.icu_elements.specs.Reading.{element_tables, reading_of};
 ghost use Rattle.icu_elements.specs.TextElements.{Reading, elements_of};
 ghost use Rattle.icu_order.specs.Forms.{form_by, last_variable_by};
 ghost use Rattle.icu_order.specs.TextOrder.{reading_by, handled_elements, handled_by};
-ghost use Rattle.icu_text_keys.specs.CheckedCollations.{collation_of};
+ghost use Rattle.icu_weighting.specs.CheckedCollations.{collation_of};
 ghost use Rattle.icu_levels.specs.CommonBeginnings.{ReadsForward};
 ghost use Rattle.icu_comparison.specs.inner.TextFronts.{IsFront};
 ghost use Rattle.icu_shortcuts.specs.Named.{NamesAll};
@@ -25,17 +26,17 @@ ghost use Rattle.unicode_normalization.specs.Forms.{nfd};
 use crate::handled::{HandledElements, HandledText, PlainText};
 use icu_checks::CheckedTables;
 use icu_cursor::{CursorTables, ElementCursor};
-use icu_elements::{ElementTables, all_elements};
+use icu_elements::{ElementTables, TextReading, all_elements};
 use icu_encodings::{Characters, EncodedText};
 use icu_entries::{CollationElement, DataError, DataErrorKind, DataTable};
 use icu_levels::forms::{KeyForm, SecondaryForm};
 use icu_options::{
-    AlternateHandling, CollatorOptions, CollatorOptionsBitField, CollatorPreferences,
-    ResolvedCollatorOptions, merged_options,
+    CollatorOptions, CollatorOptionsBitField, CollatorPreferences, ResolvedCollatorOptions,
+    merged_options,
 };
-use icu_provider::{CollationProvider, load_tables};
+use icu_provider::{CollationProvider, OwnedTables, load_tables};
 use icu_shortcuts::{Letter, Letters, NamedCharacters, SafePlaces, outline_of};
-use icu_text_keys::key_form;
+use icu_weighting::{key_form, last_variable};
 use std::alloc::{AllocError, Global};
 
 /// Compares texts by a language's rules (UTS #10). Owns copies of its tables, which were checked
@@ -92,6 +93,49 @@ impl Collator {
     {
         let loaded = load_tables(provider, preferences.locale, preferences.collation_type)?;
         let tables = CheckedTables::from_set(alloc, loaded)?;
+        Collator::by_tables(alloc, tables, preferences, options)
+    }
+
+    /// A collator by these tables, which are checked together and kept: nothing is copied, and
+    /// nothing is kept that wasn't checked. The tables are those of one collation, so the locale and
+    /// the type of `preferences` aren't read; a tailoring and a reordering are to be there exactly
+    /// where the metadata names them. Settings are those of `try_new_unstable`.
+    ///
+    /// Tables that don't meet the conditions together are refused as `try_new_unstable` refuses them,
+    /// and dropped. `NoMemory` says that an allocation failed.
+    pub fn try_from_tables(
+        alloc: Global,
+        tables: OwnedTables,
+        preferences: CollatorPreferences<'_>,
+        options: CollatorOptions,
+    ) -> Result<Collator, DataError>
+        ensures keeps { IfOk result (λ c. tables_kept c ≡ owned_tables tables) }
+
+        // Unless an allocation fails, a collator is made of good tables, and only of them.
+        ensures good { IfOk result (λ c. IsGoodTables (tables_kept c)) }
+        ensures refusal { IfErr result (IsTrueRefusal (owned_tables tables)) }
+        ensures exact { IfErr result (λ e.
+            (e.kind ≡ NoMemory → ⊥) → IsGoodTables (owned_tables tables) → ⊥) }
+
+        ensures settings { IfOk result (λ c. settings_kept c
+            ≡ merge options preferences.entry (metadata_settings (tables_kept c).bits)) }
+    {
+        let tables = CheckedTables::from_owned(alloc, tables)?;
+        Collator::by_tables(alloc, tables, preferences, options)
+    }
+
+    /// A collator by tables that were checked.
+    fn by_tables(
+        alloc: Global,
+        tables: CheckedTables,
+        preferences: CollatorPreferences<'_>,
+        options: CollatorOptions,
+    ) -> Result<Collator, DataError>
+        ensures keeps { IfOk result (λ c. tables_kept c ≡ checked_tables tables) }
+        ensures settings { IfOk result (λ c. settings_kept c
+            ≡ merge options preferences.entry (metadata_settings (checked_tables tables).bits)) }
+        ensures memory { IfErr result (λ e. e.kind ≡ NoMemory) }
+    {
         let settings = merged_options(options, preferences, tables.metadata().settings());
         let named = refused_as_root(NamedCharacters::new(alloc, &tables))?;
         let places = safe_places(&tables, &named, settings);
@@ -134,6 +178,19 @@ fn refused_as_root<T>(kept: Result<T, AllocError>) -> Result<T, DataError>
     }
 }
 
+/// How texts are read by this collation.
+#[inline]
+fn text_reading(tables: &CheckedTables, settings: CollatorOptionsBitField) -> TextReading<'_>
+    ensures reading { reading_of result ≡ reading_by (collation_of tables.now settings) }
+    ensures tables { element_tables result.tables ≡ (checked_tables tables.now).tables }
+{
+    TextReading {
+        tables: ElementTables::new(tables),
+        numeric_primary: numeric_primary(tables, settings),
+        lithuanian_dot_above: tables.metadata().lithuanian_dot_above(),
+    }
+}
+
 /// Before which characters texts may be cut that are read by this collation.
 fn safe_places<'d>(
     tables: &'d CheckedTables,
@@ -143,12 +200,7 @@ fn safe_places<'d>(
     requires { NamesAll named.now (checked_tables tables.now).tables }
     ensures { safe_reading result ≡ reading_by (collation_of tables.now settings) }
 {
-    SafePlaces::new(
-        ElementTables::new(tables),
-        numeric_primary(tables, settings),
-        tables.metadata().lithuanian_dot_above(),
-        named,
-    )
+    SafePlaces::new(text_reading(tables, settings), named)
 }
 
 /// What a character says of the front of a text that begins with it: whether the text may be cut before it, and the
@@ -162,7 +214,8 @@ pub(crate) struct Front {
 /// What is known of a letter says what its front is.
 #[inline(always)]
 fn front_of(letter: &Letter) -> Front
-    ensures { (reading : Reading) (c : ℕ) → IsLetter reading c letter.now → IsFront reading c result }
+    ensures { (reading : Reading) (c : ℕ) → IsLetter reading c letter.now
+        → IsFront reading c result }
 {
     Front {
         is_safe: letter.is_safe,
@@ -178,19 +231,6 @@ fn numeric_primary(tables: &CheckedTables, settings: CollatorOptionsBitField) ->
         Some(tables.special_primaries().numeric_primary())
     } else {
         None
-    }
-}
-
-/// The last primary weight of the groups that are variable, or 0 where none is.
-fn last_variable(tables: &CheckedTables, settings: CollatorOptionsBitField) -> u32
-    ensures { result ≡ last_variable_by (collation_of tables.now settings) }
-{
-    match settings.alternate_handling() {
-        AlternateHandling::NonIgnorable => 0,
-        AlternateHandling::Shifted | AlternateHandling::Blanked => {
-            let special = tables.special_primaries();
-            special.last_primary_for_group(settings.max_variable())
-        }
     }
 }
 
@@ -278,7 +318,7 @@ impl<'a> CollatorBorrowed<'a> {
         }
     }
 
-    /// The same of a character that isn't among those that are read most.
+    /// What a character says that isn't among those that are read most.
     #[inline]
     fn other_front(&self, c: char) -> Front
         ensures { IsFront (reading_by (collation_borrowed self.now)) c result }
@@ -306,10 +346,8 @@ impl<'a> CollatorBorrowed<'a> {
             IfOk result (λ es. es.items ≡ elements_of reading (nfd (T.text text))) }
     {
         all_elements(
-            self.tables(),
+            text_reading(self.tables, self.settings),
             Characters::new(text),
-            self.numeric_primary(),
-            self.tables.metadata().lithuanian_dot_above(),
         )
     }
 
@@ -319,10 +357,7 @@ impl<'a> CollatorBorrowed<'a> {
         ensures { cursor_reading result ≡ reading_by (collation_borrowed self.now) }
     {
         CursorTables::new(
-            self.tables(),
-            self.numeric_primary(),
-            self.tables.metadata().lithuanian_dot_above(),
-            self.named,
+            safe_places(self.tables, self.named, self.settings),
             self.letters,
         )
     }
@@ -346,7 +381,7 @@ impl<'a> CollatorBorrowed<'a> {
         )
     }
 
-    /// The same where no element is variable.
+    /// Reads the elements of a text, where none is variable.
     #[inline(always)]
     pub(crate) fn plain_text<'c, T: EncodedText>(
         &self,
@@ -359,12 +394,5 @@ impl<'a> CollatorBorrowed<'a> {
             ≡ handled_by (collation_borrowed self.now) (nfd (T.text text)) }
     {
         PlainText::new(ElementCursor::new(tables, text))
-    }
-
-    /// The lead byte of numbers, where digits are read as numbers.
-    fn numeric_primary(&self) -> Option<u8>
-        ensures { result ≡ (reading_by (collation_borrowed self.now)).numeric }
-    {
-        numeric_primary(self.tables, self.settings)
     }
 }

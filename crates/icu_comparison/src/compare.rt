@@ -34,8 +34,8 @@ impl<'a> CollatorBorrowed<'a> {
         self.compare_texts(str_text(left), str_text(right))
     }
 
-    /// The same of two texts in UTF-8 that may be damaged: each maximal ill-formed part is one U+FFFD
-    /// (Unicode Standard, "Unicode Encoding Forms"). Fails only where an allocation does.
+    /// The order of two texts in UTF-8 that may be damaged: each maximal ill-formed part is one U+FFFD (Unicode
+    /// Standard, "Unicode Encoding Forms"). Fails only where an allocation does.
     pub fn compare_utf8(&self, left: &[u8], right: &[u8]) -> Result<Ordering, AllocError>
         ensures order { IfOk result (λ o. o ≡ text_order (collation_borrowed self.now)
             (utf8_text left.now) (utf8_text right.now)) }
@@ -47,8 +47,8 @@ impl<'a> CollatorBorrowed<'a> {
         self.compare_texts(Utf8Text(left), Utf8Text(right))
     }
 
-    /// The same of two texts in UTF-16: each unpaired surrogate is U+FFFD (Unicode Standard, "Unicode
-    /// Encoding Forms"). Fails only where an allocation does.
+    /// The order of two texts in UTF-16: each unpaired surrogate is U+FFFD (Unicode Standard, "Unicode Encoding
+    /// Forms"). Fails only where an allocation does.
     pub fn compare_utf16(&self, left: &[u16], right: &[u16]) -> Result<Ordering, AllocError>
         ensures order { IfOk result (λ o. o ≡ text_order (collation_borrowed self.now)
             (utf16_text left.now) (utf16_text right.now)) }
@@ -60,7 +60,7 @@ impl<'a> CollatorBorrowed<'a> {
         self.compare_texts(Utf16Text(left), Utf16Text(right))
     }
 
-    /// The same of two texts in Latin-1: each byte is the character of its number (Unicode Standard,
+    /// The order of two texts in Latin-1: each byte is the character of its number (Unicode Standard,
     /// "Latin"). Fails only where an allocation does.
     pub fn compare_latin1(&self, left: &[u8], right: &[u8]) -> Result<Ordering, AllocError>
         ensures order { IfOk result (λ o. o ≡ text_order (collation_borrowed self.now)
@@ -73,7 +73,7 @@ impl<'a> CollatorBorrowed<'a> {
         self.compare_texts(Latin1Text(left), Latin1Text(right))
     }
 
-    /// The same of a text in Latin-1 and one in UTF-16. Fails only where an allocation does.
+    /// The order of a text in Latin-1 and one in UTF-16. Fails only where an allocation does.
     pub fn compare_latin1_utf16(&self, left: &[u8], right: &[u16]) -> Result<Ordering, AllocError>
         ensures order { IfOk result (λ o. o ≡ text_order (collation_borrowed self.now)
             (latin1_text left.now) (utf16_text right.now)) }

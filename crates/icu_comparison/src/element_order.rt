@@ -4,7 +4,7 @@ ghost use Rattle.std.specs.Prelude.{◌≡◌, ℕ, List, IfOk, IfSome, MatchOpt
 ghost use Rattle.std.specs.declared.cmp.Ordering.TheVariants.{Equal};
 ghost use Rattle.icu_levels.specs.ListOrder.{list_order, segments_order};
 ghost use Rattle.icu_levels.specs.Keys.{secondaries_order, cases_order, tertiaries_order, quaternaries_order};
-ghost use Rattle.icu_order.specs.Forms.{form_by};
+ghost use Rattle.icu_weighting.specs.Forms.{form_by};
 ghost use Rattle.icu_order.specs.TextOrder.{handled_by, lists_by};
 ghost use Rattle.icu_comparison.specs.inner.LevelWeights.{level_weights};
 ghost use Rattle.unicode_normalization.specs.Forms.{nfd};
@@ -141,17 +141,18 @@ impl<'a> CollatorBorrowed<'a> {
         }
     }
 
-    /// The same, where one pass over both texts shows it. It goes past the elements that both have, and compares
-    /// primary weights from the first on that differ; where only secondary and tertiary weights count after them, it
-    /// compares these as well, as far as elements are in step. None where the primary weights tie, and no more is
-    /// known.
+    /// The order of the elements of two texts, where one pass over both shows it. It goes past the elements that both
+    /// have, and compares primary weights from the first on that differ; where only secondary and tertiary weights
+    /// count after them, it compares these as well, as far as elements are in step. None where the primary weights tie,
+    /// and no more is known.
     fn compare_at_once<L: EncodedText, R: EncodedText>(
         &self,
         left: L,
         right: R,
     ) -> Result<Option<Ordering>, AllocError>
         ensures { let collation = collation_borrowed self.now in
-            IfOk result (λ found. MatchOption found (leading_order collation (nfd (L.text left)) (nfd (R.text right)) ≡ Equal)
+            IfOk result (λ found. MatchOption found
+            (leading_order collation (nfd (L.text left)) (nfd (R.text right)) ≡ Equal)
             (λ o. o ≡ elements_order collation (nfd (L.text left)) (nfd (R.text right)))) }
     {
         let tables = self.cursor_tables();
@@ -167,7 +168,8 @@ impl<'a> CollatorBorrowed<'a> {
     /// The level of the primary weights, reordered.
     fn primary_level(&self) -> Level<'a>
         ensures { let collation = collation_borrowed self.now in (t u : List ℕ) →
-            order_on result (handled_by collation t) (handled_by collation u) ≡ leading_order collation t u }
+            order_on result (handled_by collation t) (handled_by collation u)
+            ≡ leading_order collation t u }
     {
         Level::Primary(self.tables.reordering())
     }
@@ -175,7 +177,8 @@ impl<'a> CollatorBorrowed<'a> {
     /// The form of the tertiary level, where that, the primary and the secondary level are all before the identical
     /// one, and secondary weights are compared forward.
     fn three_level_form(&self) -> Option<TertiaryForm>
-        ensures { IfSome result (λ form. IsThreeLevel (form_by (collation_borrowed self.now)) form) }
+        ensures { IfSome result
+            (λ form. IsThreeLevel (form_by (collation_borrowed self.now)) form) }
     {
         let form = self.key_form();
         match (form.secondary, form.cases, form.tertiary, form.quaternary) {

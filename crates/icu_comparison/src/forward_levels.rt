@@ -3,28 +3,21 @@
 ghost use Rattle.std.specs.Prelude.{◌≡◌, ◌≤◌, ◌∷◌, ◌+◌, [], List, Some, length, IfOk, IfSome, IsTrue, MatchOption};
 ghost use Rattle.std.specs.Ordering.{ordering_then};
 ghost use Rattle.icu_levels.specs.ListOrder.{list_order};
-ghost use Rattle.icu_order.specs.Levels.{case_rank, tertiary_in, quaternary_weight};
-ghost use Rattle.icu_provider.specs.CollatorTables.{reorder_by};
-ghost use Rattle.icu_provider.specs.StoredTables.{reordering_of};
-ghost use Rattle.std.specs.Prelude.{option_map};
-ghost use Rattle.icu_text_keys.specs.HandledSources.{handled_as};
-ghost use Rattle.icu_order.specs.Handled.{HandledElement};
-ghost use Rattle.icu_comparison.specs.inner.LevelWeights.{weight_of, read_as, weight_in, level_weights};
+ghost use Rattle.icu_weighting.specs.Levels.{quaternary_weight};
+ghost use Rattle.icu_weighting.specs.HandledSources.{handled_as};
+ghost use Rattle.icu_weighting.specs.Handled.{HandledElement};
+ghost use Rattle.icu_comparison.specs.inner.LevelWeights.{weight_of_stayed, read_as, weight_in, level_weights};
 ghost use Rattle.icu_comparison.specs.inner.InStep.{from_first, order_on, order_from, DecidesOn, HasWeight};
 
 use icu_entries::CollationElement;
 use icu_levels::forms::{CaseForm, SecondaryForm, TertiaryForm};
 use icu_provider::CollationReordering;
-use icu_text_keys::element_weights::{case_read, masked_tertiary};
-use icu_text_keys::{Handled, HandledSource};
+use icu_weighting::element_weights::{
+    case_rank, case_read, masked_tertiary, quaternary_number, reordered, tertiary_weight,
+};
+use icu_weighting::{Handled, HandledSource};
 use std::alloc::AllocError;
 use std::cmp::Ordering;
-
-/// The case bits of a lower half.
-const CASE_MASK: u16 = 0xC000;
-
-/// The quaternary bits of a lower half.
-const QUATERNARY_MASK: u16 = 0xC0;
 
 /// A level that is compared from the front (UTS #10, "Form Sort Keys").
 #[derive(Debug, Clone, Copy)]
@@ -42,55 +35,11 @@ pub(crate) enum Level<'d> {
     Quaternary(Option<CollationReordering<'d>>),
 }
 
-/// The primary weight as it is compared: reordered, where there is a reordering.
-#[inline(always)]
-pub(crate) fn reordered(reordering: Option<CollationReordering<'_>>, primary: u32) -> u32
-    ensures { result ≡ reorder_by (option_map reordering_of reordering.entry) primary }
-{
-    match reordering {
-        Some(reordering) => reordering.reorder(primary),
-        None => primary,
-    }
-}
-
-/// Where the case of an element stands among the three (UTS #35 part 5, "Case Parameters").
-fn case_rank(form: CaseForm, element: CollationElement) -> u64
-    ensures { result ≡ case_rank form element }
-{
-    let rank = u64::from(element.non_primary().tertiary_case_quarternary(0xFFFF) >> 14);
-    match form {
-        CaseForm::LowerFirst => rank,
-        CaseForm::UpperFirst => 2u64.saturating_sub(rank),
-    }
-}
-
-/// What a form of the tertiary level has for an element. Upper case first inverts the case bits; an
-/// element with a tertiary weight alone comes after all others.
-#[inline(always)]
-fn tertiary_weight(form: TertiaryForm, element: CollationElement) -> u64
-    ensures { result ≡ tertiary_in form element }
-{
-    let masked = masked_tertiary(form, element);
-    match form {
-        TertiaryForm::UpperFirst => {
-            if element.secondary() == 0 {
-                u64::from(masked) + 0x4000
-            } else {
-                u64::from(masked ^ CASE_MASK)
-            }
-        }
-        _ => u64::from(masked),
-    }
-}
-
 /// The quaternary weight of an element that stayed: its bits, above all primary weights.
 fn quaternary_weight(element: CollationElement) -> u64
     ensures { result ≡ quaternary_weight element }
 {
-    let bits = element
-        .non_primary()
-        .tertiary_case_quarternary(QUATERNARY_MASK);
-    0x1_0000_0000 + u64::from(bits >> 6)
+    0x1_0000_0000 + u64::from(quaternary_number(element))
 }
 
 /// A weight, where the level reads something of the element.
@@ -104,8 +53,8 @@ fn read_as(read: u32, weight: u64) -> Option<u64>
 impl<'d> Level<'d> {
     /// What the level has for an element, if it reads something of it.
     #[inline(always)]
-    fn weight_of(self, element: CollationElement) -> Option<u64>
-        ensures { result ≡ weight_of self.entry element }
+    fn weight_of_stayed(self, element: CollationElement) -> Option<u64>
+        ensures { result ≡ weight_of_stayed self.entry element }
     {
         match self {
             Level::Primary(reordering) => {
@@ -121,7 +70,7 @@ impl<'d> Level<'d> {
             }
             Level::Tertiary(form) => {
                 let read = masked_tertiary(form, element);
-                read_as(u32::from(read), tertiary_weight(form, element))
+                read_as(u32::from(read), u64::from(tertiary_weight(form, element)))
             }
             Level::Quaternary(_) => {
                 let read = element.non_primary().tertiary();
@@ -130,17 +79,18 @@ impl<'d> Level<'d> {
         }
     }
 
-    /// The same of an element that is handled: the quaternary level alone has something for a
-    /// shifted one.
+    /// What the level has for an element as it was handled: the quaternary level alone has something for a shifted
+    /// one.
     #[inline(always)]
     fn weight(self, handled: Handled) -> Option<u64>
         ensures { result ≡ weight_in self.entry (handled_as handled) }
     {
         match handled {
-            Handled::Stayed(element) => self.weight_of(element),
+            Handled::Stayed(element) => self.weight_of_stayed(element),
             Handled::Shifted(primary) => match self {
                 Level::Quaternary(reordering) => Some(u64::from(reordered(reordering, primary))),
-                _ => None,
+                Level::Primary(_) | Level::Secondary | Level::Case(_, _) | Level::Tertiary(_) =>
+                    None,
             },
         }
     }
@@ -152,7 +102,8 @@ impl<'d> Level<'d> {
         left: &mut L,
         right: &mut R,
     ) -> Result<Ordering, AllocError>
-        ensures { IfOk result (λ o. o ≡ list_order (level_weights self.entry (L.handled_left left.old))
+        ensures { IfOk result
+            (λ o. o ≡ list_order (level_weights self.entry (L.handled_left left.old))
             (level_weights self.entry (R.handled_left right.old))) }
     {
         'pairs: loop {
@@ -168,7 +119,7 @@ impl<'d> Level<'d> {
         }
     }
 
-    /// The same from these elements on, which the sources gave last: none of a source that has ended.
+    /// The order on this level from these elements on, which the sources gave last: none of a source that has ended.
     #[tactic(auto, unfolding(crate::specs::inner::InStep::order_on))]
     pub(crate) fn compare_from<L: HandledSource, R: HandledSource>(
         self,
@@ -177,7 +128,8 @@ impl<'d> Level<'d> {
         left: &mut L,
         right: &mut R,
     ) -> Result<Ordering, AllocError>
-        ensures { IfOk result (λ o. o ≡ order_from self.entry one other (L.handled_left left.old) (R.handled_left right.old)) }
+        ensures { IfOk result (λ o. o ≡ order_from self.entry one other (L.handled_left left.old)
+            (R.handled_left right.old)) }
     {
         match (self.next_from(one, left)?, self.next_from(other, right)?) {
             (Some(weight), Some(other_weight)) => {
@@ -200,8 +152,10 @@ impl<'d> Level<'d> {
         first: Option<Handled>,
         rest: &mut S,
     ) -> Result<Option<u64>, AllocError>
-        ensures { IfOk result (λ next. MatchOption next (level_weights self.entry (from_first first (S.handled_left rest.old)) ≡ [])
-            (λ w. level_weights self.entry (from_first first (S.handled_left rest.old)) ≡ w ∷ level_weights self.entry (S.handled_left rest.new))) }
+        ensures { IfOk result (λ next. MatchOption next
+            (level_weights self.entry (from_first first (S.handled_left rest.old)) ≡ [])
+            (λ w. level_weights self.entry (from_first first (S.handled_left rest.old))
+            ≡ w ∷ level_weights self.entry (S.handled_left rest.new))) }
     {
         let Some(handled) = first else {
             return Ok(None);
@@ -215,7 +169,8 @@ impl<'d> Level<'d> {
     /// Whether the level has the same weight for two elements, or none for either.
     #[inline(always)]
     pub(crate) fn ties(self, one: &Handled, other: &Handled) -> bool
-        ensures { IsTrue result → weight_in self.entry (handled_as one.now) ≡ weight_in self.entry (handled_as other.now) }
+        ensures { IsTrue result → weight_in self.entry (handled_as one.now)
+            ≡ weight_in self.entry (handled_as other.now) }
     {
         match (self.weight(*one), self.weight(*other)) {
             (Some(weight), Some(other_weight)) => weight == other_weight,
@@ -228,7 +183,8 @@ impl<'d> Level<'d> {
     #[inline(always)]
     pub(crate) fn order_of_weights(self, one: &Handled, other: &Handled) -> Option<Ordering>
         ensures { IfSome result (λ o. (hs ks : List HandledElement) →
-            order_on self.entry (handled_as one.now ∷ hs) (handled_as other.now ∷ ks) ≡ ordering_then o (order_on self.entry hs ks)) }
+            order_on self.entry (handled_as one.now ∷ hs) (handled_as other.now ∷ ks)
+            ≡ ordering_then o (order_on self.entry hs ks)) }
     {
         match (self.weight(*one), self.weight(*other)) {
             (Some(weight), Some(other_weight)) => Some(weight.cmp(&other_weight)),
@@ -259,7 +215,7 @@ impl<'d> Level<'d> {
         }
     }
 
-    /// The same of two elements.
+    /// The order that two elements decide: they do if the level has weights for both that differ.
     fn decide_by_weights(self, one: Handled, other: Handled) -> Option<Ordering>
         ensures { IfSome result (λ o. DecidesOn self.entry (Some one) (Some other) o) }
     {
@@ -274,10 +230,13 @@ impl<'d> Level<'d> {
     /// The next weight of a text on this level, or `None` after the last one.
     #[tactic(auto, unfolding(crate::specs::inner::LevelWeights::level_weights))]
     fn next<S: HandledSource>(self, elements: &mut S) -> Result<Option<u64>, AllocError>
-        ensures weights { IfOk result (λ next. MatchOption next (level_weights self.entry (S.handled_left elements.old) ≡ [])
-            (λ w. level_weights self.entry (S.handled_left elements.old) ≡ w ∷ level_weights self.entry (S.handled_left elements.new))) }
+        ensures weights { IfOk result
+            (λ next. MatchOption next (level_weights self.entry (S.handled_left elements.old) ≡ [])
+            (λ w. level_weights self.entry (S.handled_left elements.old)
+            ≡ w ∷ level_weights self.entry (S.handled_left elements.new))) }
         ensures smaller { IfOk result (λ w. IfSome w
-            (λ x. length (S.handled_left elements.new) + 1 ≤ length (S.handled_left elements.old))) }
+            (λ x. length (S.handled_left elements.new) + 1
+            ≤ length (S.handled_left elements.old))) }
     {
         'passing: while let Some(handled) = elements.next_handled()? {
             if let Some(weight) = self.weight(handled) {

@@ -2,12 +2,11 @@
 
 ghost use Rattle.std.specs.Prelude.{◌≡◌, false, ◌≤◌, ◌++◌, ◌+◌, [], length, map, option_map, option_to_list, IfSome, IfOk, None};
 
-use crate::weighting::VariableWeighting;
 use icu_cursor::ElementCursor;
 use icu_encodings::EncodedText;
 use icu_entries::CollationElement;
 use icu_options::AlternateHandling;
-use icu_text_keys::{Handled, HandledSource};
+use icu_weighting::{Handled, HandledSource, VariableWeighting};
 use std::alloc::AllocError;
 
 /// The elements of a text that are left, as variable weighting handles them: a variable element is
@@ -21,8 +20,8 @@ pub struct HandledElements<'a> {
 
 impl<'a> HandledElements<'a> {
     ghost use Rattle.icu_comparison.specs.HandledRests.{handled_rest};
-    ghost use Rattle.icu_text_keys.specs.HandledSources.{handled_as};
-    ghost use Rattle.icu_order.specs.Handled.{handled};
+    ghost use Rattle.icu_weighting.specs.HandledSources.{handled_as};
+    ghost use Rattle.icu_weighting.specs.Handled.{handled};
 
     /// All elements of a text. Variable are those with a primary weight above the merge separator's
     /// and up to `last_variable`: none, where that is 0.
@@ -48,7 +47,7 @@ impl<'a> HandledElements<'a> {
     }
 
     /// The next element that didn't vanish, or `None` after the last one.
-    #[tactic(auto, unfolding(icu_order::specs::Handled::handled))]
+    #[tactic(auto, unfolding(icu_weighting::specs::Handled::handled))]
     pub fn next(&mut self) -> Option<Handled>
         ensures handled { handled_rest self.old
             ≡ option_to_list (option_map handled_as result) ++ handled_rest self.new }
@@ -89,7 +88,7 @@ pub(crate) struct HandledText<'c, 'd, T> {
 impl<'c, 'd, T: EncodedText> HandledText<'c, 'd, T> {
     ghost use Rattle.icu_comparison.specs.HandledRests.{handled_to_come};
     ghost use Rattle.icu_cursor.specs.Cursors.{cursor_gives};
-    ghost use Rattle.icu_order.specs.Handled.{handled};
+    ghost use Rattle.icu_weighting.specs.Handled.{handled};
 
     /// All elements that a cursor still gives. Variable are those with a primary weight above the
     /// merge separator's and up to `last_variable`: none, where that is 0.
@@ -135,7 +134,7 @@ pub(crate) struct PlainText<'c, 'd, T> {
 impl<'c, 'd, T: EncodedText> PlainText<'c, 'd, T> {
     ghost use Rattle.icu_comparison.specs.HandledRests.{plain_to_come};
     ghost use Rattle.icu_cursor.specs.Cursors.{cursor_gives};
-    ghost use Rattle.icu_order.specs.Handled.{stayed};
+    ghost use Rattle.icu_weighting.specs.Handled.{stayed};
 
     /// All elements that a cursor still gives.
     #[inline(always)]

@@ -2,12 +2,12 @@
 
 ghost use Rattle.std.specs.Prelude.{◌≡◌, ◌≤◌, List, length, IfOk, IfSome, MatchOption, None};
 ghost use Rattle.std.specs.declared.cmp.Ordering.TheVariants.{Equal};
-ghost use Rattle.icu_order.specs.Handled.{HandledElement};
+ghost use Rattle.icu_weighting.specs.Handled.{HandledElement};
 ghost use Rattle.icu_comparison.specs.inner.InStep.{from_first, order_on, order_from, three_order, three_levels, StepsBy, StepBoth};
 
 use crate::forward_levels::Level;
 use icu_levels::forms::TertiaryForm;
-use icu_text_keys::{Handled, HandledSource};
+use icu_weighting::{Handled, HandledSource};
 use std::alloc::AllocError;
 use std::cmp::Ordering;
 
@@ -21,7 +21,8 @@ pub(crate) fn first_difference<L: HandledSource, R: HandledSource>(
     left: &mut L,
     right: &mut R,
 ) -> Result<Option<Pair>, AllocError>
-    ensures same { IfOk result (λ found. found ≡ None → L.handled_left left.old ≡ R.handled_left right.old) }
+    ensures same { IfOk result
+        (λ found. found ≡ None → L.handled_left left.old ≡ R.handled_left right.old) }
     ensures rest { IfOk result (λ found. IfSome found (λ p. (level : Level) →
         order_on level (L.handled_left left.old) (R.handled_left right.old)
         ≡ order_from level p.0 p.1 (L.handled_left left.new) (R.handled_left right.new))) }
@@ -43,15 +44,15 @@ pub(crate) fn first_difference<L: HandledSource, R: HandledSource>(
     }
 }
 
-/// The order of what two sources give on a level, of which the first pair of elements that differs is the first that
-/// counts: `Equal` where they give the same elements, and none where they tie and give others. Fails only where an
-/// allocation does.
+/// Compares two sources on one level from their first elements that differ. `Some(Equal)` where the sources have the
+/// same elements; `None` where the level ties though elements differ. Fails only where an allocation does.
 pub(crate) fn compare_from_difference<L: HandledSource, R: HandledSource>(
     level: Level<'_>,
     left: &mut L,
     right: &mut R,
 ) -> Result<Option<Ordering>, AllocError>
-    ensures same { IfOk result (λ found. IfSome found (λ o. o ≡ Equal → L.handled_left left.old ≡ R.handled_left right.old)) }
+    ensures same { IfOk result (λ found.
+        IfSome found (λ o. o ≡ Equal → L.handled_left left.old ≡ R.handled_left right.old)) }
     ensures order { IfOk result (λ found. MatchOption found
         (order_on level.entry (L.handled_left left.old) (R.handled_left right.old) ≡ Equal)
         (λ o. o ≡ order_on level.entry (L.handled_left left.old) (R.handled_left right.old))) }
@@ -86,7 +87,8 @@ fn order_of_pair(
     Level::Tertiary(form).order_of_weights(one, other)
 }
 
-/// The same of elements that two sources gave, if both gave one.
+/// The order on the tertiary level of what two sources gave, if both gave an element, and those tie on the first and
+/// the secondary level.
 #[inline(always)]
 fn order_of_both(
     first: Level<'_>,
@@ -102,9 +104,8 @@ fn order_of_both(
     }
 }
 
-/// The order of what two sources give on a level, on the secondary and on the tertiary one in turn, or none where they
-/// tie on the first, and elements that aren't in step have to be compared on the others. Fails only where an allocation
-/// does.
+/// Compares two sources on the first level, then in the same pass on the secondary and the tertiary one. `None` where
+/// the first level ties and the others have to be compared by passes of their own. Fails only where an allocation does.
 pub(crate) fn compare_in_step<L: HandledSource, R: HandledSource>(
     first: Level<'_>,
     form: TertiaryForm,
@@ -113,7 +114,8 @@ pub(crate) fn compare_in_step<L: HandledSource, R: HandledSource>(
 ) -> Result<Option<Ordering>, AllocError>
     ensures { IfOk result (λ found. MatchOption found
         (order_on first.entry (L.handled_left left.old) (R.handled_left right.old) ≡ Equal)
-        (λ o. o ≡ three_order (three_levels first.entry form) Equal (L.handled_left left.old) (R.handled_left right.old))) }
+        (λ o. o ≡ three_order (three_levels first.entry form) Equal (L.handled_left left.old)
+        (R.handled_left right.old))) }
 {
     let mut third = Ordering::Equal;
     'pairs: loop {
@@ -127,7 +129,7 @@ pub(crate) fn compare_in_step<L: HandledSource, R: HandledSource>(
     }
 }
 
-/// The same from elements on that aren't in step: the rest of the first level decides, or, where it ties, these
+/// The order from elements on that aren't in step: the rest of the first level decides, or, where it ties, these
 /// elements on the secondary one.
 fn compare_out_of_step<L: HandledSource, R: HandledSource>(
     first: Level<'_>,
@@ -137,9 +139,11 @@ fn compare_out_of_step<L: HandledSource, R: HandledSource>(
     right: &mut R,
 ) -> Result<Option<Ordering>, AllocError>
     ensures { IfOk result (λ found. MatchOption found
-        (order_from first.entry pair.0 pair.1 (L.handled_left left.old) (R.handled_left right.old) ≡ Equal)
+        (order_from first.entry pair.0 pair.1 (L.handled_left left.old) (R.handled_left right.old)
+        ≡ Equal)
         (λ o. (third : Ordering) → o ≡ three_order (three_levels first.entry form) third
-        (from_first pair.0 (L.handled_left left.old)) (from_first pair.1 (R.handled_left right.old)))) }
+        (from_first pair.0 (L.handled_left left.old))
+        (from_first pair.1 (R.handled_left right.old)))) }
 {
     let (one, other) = pair;
     let decided = Level::Secondary.decide(&one, &other);

@@ -12,10 +12,9 @@ mod segments;
 pub mod sort_key;
 mod tails;
 mod texts;
-mod weighting;
 
 pub use collator::{Collator, CollatorBorrowed};
 pub use handled::HandledElements;
 pub use icu_encodings::{Latin1Chars, Latin1Iter};
 pub use icu_keys::{CollationKeySink, SortKeyError, TooSmall};
-pub use icu_text_keys::{Handled, HandledSource, key_form};
+pub use icu_weighting::{Handled, HandledSource, key_form};

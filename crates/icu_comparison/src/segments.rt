@@ -3,20 +3,21 @@
 ghost use Rattle.std.specs.Prelude.{◌≡◌, true, false, ◌≤◌, ◌<◌, ◌+◌, ◌-◌, ℕ, List, [], ◌∷◌, length, drop, reverse, IfSome, IsTrue, Some, None};
 ghost use Rattle.std.specs.Ordering.{ordering_then};
 ghost use Rattle.icu_levels.specs.ListOrder.{list_order, segments_order};
-ghost use Rattle.icu_order.specs.Levels.{segments};
-ghost use Rattle.icu_order.specs.Handled.{stayed_elements};
+ghost use Rattle.icu_weighting.specs.Levels.{segments};
+ghost use Rattle.icu_weighting.specs.Handled.{stayed_elements};
 ghost use Rattle.icu_comparison.specs.HandledRests.{handled_rest};
 ghost use Rattle.icu_comparison.specs.inner.SegmentsLeft.{this_segment, next_segments};
 
 use crate::handled::HandledElements;
 use icu_entries::element::MERGE_SEPARATOR_PRIMARY;
-use icu_text_keys::Handled;
+use icu_weighting::Handled;
 use std::cmp::Ordering;
 
 /// The next secondary weight of the segment that a text is in, or `None` at the segment's end.
-#[tactic(auto, unfolding(icu_order::specs::Levels::parted))]
+#[tactic(auto, unfolding(icu_weighting::specs::Levels::parted))]
 fn next_in_segment(elements: &mut HandledElements<'_>) -> Option<u16>
-    ensures weight { IfSome result (λ w. this_segment elements.old ≡ w ∷ this_segment elements.new) }
+    ensures weight { IfSome result
+        (λ w. this_segment elements.old ≡ w ∷ this_segment elements.new) }
     ensures later { next_segments elements.new ≡ next_segments elements.old }
     ensures end { result ≡ None → (this_segment elements.old ≡ []) × (elements.new ≡ elements.old) }
     ensures size { length elements.new.rest.now ≤ length elements.old.rest.now }
@@ -40,10 +41,11 @@ fn next_in_segment(elements: &mut HandledElements<'_>) -> Option<u16>
 }
 
 /// Whether there is a segment after this one, of which nothing is left; goes to it.
-#[tactic(auto, unfolding(icu_order::specs::Levels::parted))]
+#[tactic(auto, unfolding(icu_weighting::specs::Levels::parted))]
 fn pass_separator(elements: &mut HandledElements<'_>) -> bool
     requires { this_segment elements.old ≡ [] }
-    ensures next { IsTrue result → next_segments elements.old ≡ this_segment elements.new ∷ next_segments elements.new }
+    ensures next { IsTrue result →
+        next_segments elements.old ≡ this_segment elements.new ∷ next_segments elements.new }
     ensures end { result ≡ false → next_segments elements.old ≡ [] }
     ensures smaller { IsTrue result → length elements.new.rest.now < length elements.old.rest.now }
 {
@@ -89,7 +91,8 @@ fn compare_from_end(
     otherwise: Ordering,
 ) -> Ordering
     requires { length (this_segment left.old) ≡ length (this_segment right.old) }
-    ensures order { result ≡ ordering_then (list_order (reverse (this_segment left.old)) (reverse (this_segment right.old))) otherwise }
+    ensures order { result ≡ ordering_then (list_order (reverse (this_segment left.old))
+        (reverse (this_segment right.old))) otherwise }
     ensures left_ends { this_segment left.new ≡ [] }
     ensures left_later { next_segments left.new ≡ next_segments left.old }
     ensures left_size { length left.new.rest.now ≤ length left.old.rest.now }
@@ -108,7 +111,8 @@ fn compare_from_end(
 /// The order of the segments that two texts are in, each from its end: the first pair from there
 /// that differs decides, and a prefix comes first. Goes to the ends of both.
 fn compare_segment(left: &mut HandledElements<'_>, right: &mut HandledElements<'_>) -> Ordering
-    ensures order { result ≡ list_order (reverse (this_segment left.old)) (reverse (this_segment right.old)) }
+    ensures order { result
+        ≡ list_order (reverse (this_segment left.old)) (reverse (this_segment right.old)) }
     ensures left_ends { this_segment left.new ≡ [] }
     ensures left_later { next_segments left.new ≡ next_segments left.old }
     ensures left_size { length left.new.rest.now ≤ length left.old.rest.now }

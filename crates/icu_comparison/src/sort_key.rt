@@ -9,7 +9,7 @@ ghost use Rattle.icu_order.specs.Forms.{compression_of, form_by, last_variable_b
 ghost use Rattle.icu_order.specs.Levels.{level_lists};
 ghost use Rattle.icu_order.specs.TextOrder.{handled_by, text_key};
 ghost use Rattle.icu_provider.specs.CollatorTables.{reorder};
-ghost use Rattle.icu_text_keys.specs.HandledSources.{HasCase};
+ghost use Rattle.icu_weighting.specs.HandledSources.{HasCase};
 ghost use Rattle.unicode_normalization.specs.Forms.{nfd};
 
 use crate::collator::CollatorBorrowed;
@@ -22,7 +22,7 @@ use std::alloc::AllocError;
 
 /// What a call returns that was to write a key and ran out of memory before it wrote anything.
 fn write_nothing<S: CollationKeySink>(sink: &mut S) -> Result<S::Output, SortKeyError<S::Error>>
-    ensures { (key : List ℕ) → WritesKey S.took S.refused S.finished S.State.is_default sink.old key result sink.new }
+    ensures { (key : List ℕ) → WritesKey S.effects sink.old key result sink.new }
 {
     let _state = S::State::default();
     Err(SortKeyError::NoMemory)
@@ -47,14 +47,14 @@ impl<'a> CollatorBorrowed<'a> {
         text: &str,
         sink: &mut S,
     ) -> Result<S::Output, SortKeyError<S::Error>>
-        ensures key { WritesKey S.took S.refused S.finished S.State.is_default sink.old
+        ensures key { WritesKey S.effects sink.old
             (text_key (collation_borrowed self.now) (chars text.now)) result sink.new }
     {
         self.write_key_of(str_text(text), sink)
     }
 
-    /// The same of a text in UTF-8 that may be damaged: each maximal ill-formed part is one U+FFFD (Unicode Standard,
-    /// "Unicode Encoding Forms").
+    /// Writes the sort key of a text in UTF-8 that may be damaged, where each maximal ill-formed part is one U+FFFD
+    /// (Unicode Standard, "Unicode Encoding Forms"), to a sink, and ends it.
     ///
     /// # Errors
     ///
@@ -64,13 +64,14 @@ impl<'a> CollatorBorrowed<'a> {
         text: &[u8],
         sink: &mut S,
     ) -> Result<S::Output, SortKeyError<S::Error>>
-        ensures key { WritesKey S.took S.refused S.finished S.State.is_default sink.old
+        ensures key { WritesKey S.effects sink.old
             (text_key (collation_borrowed self.now) (utf8_text text.now)) result sink.new }
     {
         self.write_key_of(Utf8Text(text), sink)
     }
 
-    /// The same of a text in UTF-16: each unpaired surrogate is U+FFFD (Unicode Standard, "Unicode Encoding Forms").
+    /// Writes the sort key of a text in UTF-16, where each unpaired surrogate is U+FFFD (Unicode Standard, "Unicode
+    /// Encoding Forms"), to a sink, and ends it.
     ///
     /// # Errors
     ///
@@ -80,7 +81,7 @@ impl<'a> CollatorBorrowed<'a> {
         text: &[u16],
         sink: &mut S,
     ) -> Result<S::Output, SortKeyError<S::Error>>
-        ensures key { WritesKey S.took S.refused S.finished S.State.is_default sink.old
+        ensures key { WritesKey S.effects sink.old
             (text_key (collation_borrowed self.now) (utf16_text text.now)) result sink.new }
     {
         self.write_key_of(Utf16Text(text), sink)
@@ -92,7 +93,7 @@ impl<'a> CollatorBorrowed<'a> {
         text: T,
         sink: &mut S,
     ) -> Result<S::Output, SortKeyError<S::Error>>
-        ensures key { WritesKey S.took S.refused S.finished S.State.is_default sink.old
+        ensures key { WritesKey S.effects sink.old
             (text_key (collation_borrowed self.now) (T.text text)) result sink.new }
     {
         self.tables.are_good();
@@ -115,7 +116,7 @@ impl<'a> CollatorBorrowed<'a> {
         requires cases { AllByRecursion HasCase
             (handled_by (collation_borrowed self.now) (nfd (T.text text))) }
         ensures key { let collation = collation_borrowed self.now in
-            WritesKey S.took S.refused S.finished S.State.is_default sink.old
+            WritesKey S.effects sink.old
             (key_bytes (compression_of collation.tables) (form_by collation)
             (level_lists (reorder collation.tables) (form_by collation)
             (handled_by collation (nfd (T.text text))) characters.now)) result sink.new }
@@ -127,8 +128,8 @@ impl<'a> CollatorBorrowed<'a> {
         }
     }
 
-    /// The same where no element is variable, so that none is asked for that. Out of line, as the next one is: a
-    /// function clears the locals of all that it does each time that it is called.
+    /// Writes the key of a text by settings under which no element is variable. Not inlined: inlined, each key call
+    /// would clear its locals too.
     #[inline(never)]
     fn write_plain<T: EncodedText, S: CollationKeySink>(
         &self,
@@ -140,7 +141,7 @@ impl<'a> CollatorBorrowed<'a> {
         requires cases { AllByRecursion HasCase
             (handled_by (collation_borrowed self.now) (nfd (T.text text))) }
         ensures key { let collation = collation_borrowed self.now in
-            WritesKey S.took S.refused S.finished S.State.is_default sink.old
+            WritesKey S.effects sink.old
             (key_bytes (compression_of collation.tables) (form_by collation)
             (level_lists (reorder collation.tables) (form_by collation)
             (handled_by collation (nfd (T.text text))) characters.now)) result sink.new }
@@ -159,7 +160,7 @@ impl<'a> CollatorBorrowed<'a> {
         )
     }
 
-    /// The same where elements may be variable.
+    /// Writes the key of a text where elements may be variable.
     #[inline(never)]
     fn write_variable<T: EncodedText, S: CollationKeySink>(
         &self,
@@ -170,7 +171,7 @@ impl<'a> CollatorBorrowed<'a> {
         requires cases { AllByRecursion HasCase
             (handled_by (collation_borrowed self.now) (nfd (T.text text))) }
         ensures key { let collation = collation_borrowed self.now in
-            WritesKey S.took S.refused S.finished S.State.is_default sink.old
+            WritesKey S.effects sink.old
             (key_bytes (compression_of collation.tables) (form_by collation)
             (level_lists (reorder collation.tables) (form_by collation)
             (handled_by collation (nfd (T.text text))) characters.now)) result sink.new }

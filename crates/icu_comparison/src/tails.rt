@@ -8,11 +8,11 @@ ghost use Rattle.icu_provider.specs.CollatorTables.{reorder};
 ghost use Rattle.icu_comparison.specs.inner.Tails.{unequal_order};
 
 use crate::collator::{CollatorBorrowed, Front};
-use crate::forward_levels::reordered;
 use icu_cursor::LetterCursor;
 use icu_cuts::laws::first_starters_lead;
 use icu_encodings::EncodedText;
 use icu_order::laws::common_beginnings_do_not_count;
+use icu_weighting::element_weights::reordered;
 use std::cmp::Ordering;
 
 /// How many primary weights of two texts are compared by their letters, at most.
@@ -21,9 +21,8 @@ const WEIGHTS_AHEAD: u32 = 6;
 /// How many elements are passed over to the next primary weight of a text, at most.
 const ELEMENTS_AHEAD: u32 = 3;
 
-/// What the first character of a text says: whether the text may follow others without a change of what it gives, and
-/// the first primary weight of the text, 0 of an empty one, where that is known and elements that begin with it aren't
-/// variable.
+/// Facts about a text's first character: whether a safe place is before it, and the text's first primary weight, where
+/// that is known and no variable element has it (0 for the empty text).
 #[derive(Debug, Clone, Copy)]
 struct Opening {
     is_tail: bool,
@@ -35,9 +34,9 @@ impl<'a> CollatorBorrowed<'a> {
     ghost use Rattle.icu_comparison.specs.inner.Tails.{Decides, GivesPrimary, IsFirst, LeadsWith};
     ghost use Rattle.icu_order.specs.TextCuts.{IsTail};
 
-    /// What two texts have from the last safe place on within their common beginning, which is `common` units long, and
-    /// the order of the texts where the first characters from there on decide it. `None` where there is no such place
-    /// but that at its front.
+    /// The rests of two texts from their last common safe place on, within their common prefix of `common` units, and
+    /// the order of the texts where the first characters of the rests decide it. `None` where the only such place is at
+    /// the start.
     pub(crate) fn tails<L: EncodedText, R: EncodedText>(
         &self,
         left: L,
@@ -47,7 +46,8 @@ impl<'a> CollatorBorrowed<'a> {
         requires heads { (n : ℕ) → n ≤ common → L.head left n ≡ R.head right n }
         requires forward { ReadsForward (form_by (collation_borrowed self.now)).secondary }
         ensures { let collation = collation_borrowed self.now in
-            IfSome result (λ p. (text_order collation (L.text p.0) (R.text p.1) ≡ text_order collation (L.text left) (R.text right))
+            IfSome result (λ p. (text_order collation (L.text p.0) (R.text p.1)
+            ≡ text_order collation (L.text left) (R.text right))
             × IfSome p.2 (λ o. o ≡ text_order collation (L.text left) (R.text right))) }
     {
         for at in (1..=common).rev() {
@@ -59,7 +59,8 @@ impl<'a> CollatorBorrowed<'a> {
         None
     }
 
-    /// The same, where both texts may be cut at this place.
+    /// What two texts have from this place on, where both may be cut there, and their order where what they begin with
+    /// there decides it. `None` where one may not be cut.
     #[inline(always)]
     fn tails_at<L: EncodedText, R: EncodedText>(
         &self,
@@ -70,7 +71,8 @@ impl<'a> CollatorBorrowed<'a> {
         requires head { L.head left at ≡ R.head right at }
         requires forward { ReadsForward (form_by (collation_borrowed self.now)).secondary }
         ensures { let collation = collation_borrowed self.now in
-            IfSome result (λ p. (text_order collation (L.text p.0) (R.text p.1) ≡ text_order collation (L.text left) (R.text right))
+            IfSome result (λ p. (text_order collation (L.text p.0) (R.text p.1)
+            ≡ text_order collation (L.text left) (R.text right))
             × IfSome p.2 (λ o. o ≡ text_order collation (L.text left) (R.text right))) }
     {
         let one = left.split_at(at)?;
@@ -85,8 +87,9 @@ impl<'a> CollatorBorrowed<'a> {
         Some((one, other, order))
     }
 
-    /// The order of two texts that open so, where the first primary weights that they begin with are known and differ,
-    /// or else those of the letters that they begin with.
+    /// The order of two texts by the facts about their first characters: by their first primary weights where both are
+    /// known and differ, else by the primary weights of the letters that both begin with. `None` where these do not
+    /// decide.
     #[inline(always)]
     fn order_of_openings<L: EncodedText, R: EncodedText>(
         &self,
@@ -95,8 +98,10 @@ impl<'a> CollatorBorrowed<'a> {
         one: Opening,
         other: Opening,
     ) -> Option<Ordering>
-        requires one { IfSome one.primary (λ p. LeadsWith (collation_borrowed self.now) (L.text left) p) }
-        requires other { IfSome other.primary (λ p. LeadsWith (collation_borrowed self.now) (R.text right) p) }
+        requires one { IfSome one.primary (λ p. LeadsWith (collation_borrowed self.now)
+            (L.text left) p) }
+        requires other { IfSome other.primary (λ p. LeadsWith (collation_borrowed self.now)
+            (R.text right) p) }
         ensures { let collation = collation_borrowed self.now in
             IfSome result (λ o. o ≡ text_order collation (L.text left) (R.text right)) }
     {
@@ -133,7 +138,8 @@ impl<'a> CollatorBorrowed<'a> {
     /// The next primary weight of the letters of a text, where elements that have it aren't variable.
     #[inline(always)]
     fn next_primary<T: EncodedText>(&self, letters: &mut LetterCursor<'_, '_, T>) -> Option<u32>
-        ensures given { IfSome result (λ p. GivesPrimary (collation_borrowed self.now) T.text letters.old p letters.new) }
+        ensures given { IfSome result (λ p. GivesPrimary (collation_borrowed self.now) T.text
+            letters.old p letters.new) }
         ensures some { IfSome result (λ p. p ≢ 0) }
     {
         'elements: for _ in 0..ELEMENTS_AHEAD {
@@ -145,11 +151,12 @@ impl<'a> CollatorBorrowed<'a> {
         None
     }
 
-    /// What the first character of a text says, which is looked up once.
+    /// The facts about the first character of a text, by one look-up.
     #[inline(always)]
     fn opening<T: EncodedText>(&self, text: T) -> Opening
         ensures tail { IsTrue result.is_tail → IsTail (collation_borrowed self.now) (T.text text) }
-        ensures leads { IfSome result.primary (λ p. LeadsWith (collation_borrowed self.now) (T.text text) p) }
+        ensures leads { IfSome result.primary (λ p. LeadsWith (collation_borrowed self.now)
+            (T.text text) p) }
     {
         match text.split_first_ascii() {
             Some((byte, _)) => self.opening_by(char::from(byte)),
@@ -157,11 +164,12 @@ impl<'a> CollatorBorrowed<'a> {
         }
     }
 
-    /// The same of a text that doesn't begin with ASCII.
+    /// What the first character of a text says that doesn't begin with ASCII.
     #[inline(never)]
     fn other_opening<T: EncodedText>(&self, text: T) -> Opening
         ensures tail { IsTrue result.is_tail → IsTail (collation_borrowed self.now) (T.text text) }
-        ensures leads { IfSome result.primary (λ p. LeadsWith (collation_borrowed self.now) (T.text text) p) }
+        ensures leads { IfSome result.primary (λ p. LeadsWith (collation_borrowed self.now)
+            (T.text text) p) }
     {
         match text.split_first_char() {
             Some((first, _)) => self.opening_by(first),
@@ -175,8 +183,10 @@ impl<'a> CollatorBorrowed<'a> {
     /// What a character says of each text that begins with it.
     #[inline(always)]
     fn opening_by(&self, c: char) -> Opening
-        ensures tail { (rest : List ℕ) → IsTrue result.is_tail → IsTail (collation_borrowed self.now) (c ∷ rest) }
-        ensures leads { (rest : List ℕ) → IfSome result.primary (λ p. LeadsWith (collation_borrowed self.now) (c ∷ rest) p) }
+        ensures tail { (rest : List ℕ) → IsTrue result.is_tail
+            → IsTail (collation_borrowed self.now) (c ∷ rest) }
+        ensures leads { (rest : List ℕ)
+            → IfSome result.primary (λ p. LeadsWith (collation_borrowed self.now) (c ∷ rest) p) }
     {
         let front = self.front(c);
         first_starters_lead();
@@ -220,11 +230,12 @@ impl<'a> CollatorBorrowed<'a> {
         self.order_of_openings(left, right, self.opening(left), self.opening(right))
     }
 
-    /// The same of texts that open so.
+    /// The order of texts that open so, where their first primary weights are known and differ.
     #[inline(always)]
     fn order_of(&self, one: Opening, other: Opening) -> Option<Ordering>
         ensures { let collation = collation_borrowed self.now in
-            (t u : List ℕ) → IfSome one.primary (λ p. LeadsWith collation t p) → IfSome other.primary (λ p. LeadsWith collation u p)
+            (t u : List ℕ) → IfSome one.primary (λ p. LeadsWith collation t p)
+            → IfSome other.primary (λ p. LeadsWith collation u p)
             → IfSome result (λ o. o ≡ text_order collation t u) }
     {
         match (one.primary, other.primary) {
@@ -239,7 +250,8 @@ impl<'a> CollatorBorrowed<'a> {
     #[inline(always)]
     fn order_of_primaries(&self, one: u32, other: u32) -> Option<Ordering>
         ensures { let reorder = reorder (tables_borrowed self.now) in
-            (ps qs : List ℕ) → IsFirst one ps → IsFirst other qs → IfSome result (λ o. Decides (map reorder ps) (map reorder qs) o) }
+            (ps qs : List ℕ) → IsFirst one ps → IsFirst other qs
+            → IfSome result (λ o. Decides (map reorder ps) (map reorder qs) o) }
     {
         if one == 0 || other == 0 {
             return unequal(one, other);

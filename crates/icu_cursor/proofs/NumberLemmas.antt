@@ -8,24 +8,24 @@ use Rattle.std.proofs.lemmas.List.Folds.{list_all-append}
 use Rattle.unicode_normalization.specs.Forms.{nfd}
 use Rattle.unicode_normalization.proofs.TableFacts.{class_of_latin}
 use Rattle.icu_entries.specs.Elements.{Element, of_primary}
-use Rattle.icu_elements.specs.TextElements.{Reading, continues_number, digit_of, begins_with_mark, number_elements, last_two, elements_after}
+use Rattle.icu_elements.specs.TextElements.{Reading, continues_number, digit_of_char, begins_with_mark, number_elements, last_two, elements_after}
 use Rattle.icu_elements.proofs.StepLemmas.{elements_after_nil}
-use Rattle.icu_cuts.proofs.DigitRunLemmas.{elements_after-digits}
+use Rattle.icu_cuts.proofs.NumberRunLemmas.{elements_after-digits}
 use Rattle.icu_cuts.proofs.LetterLemmas.{low_text}
 use Rattle.icu_cuts.proofs.NfdLemmas.{nfd-nil}
 use Rattle.icu_shortcuts.specs.Letters.{IsNumberDigit}
-use Rattle.icu_cursor.specs.inner.NumberElements.{IsRun, IsNumberPiece}
+use Rattle.icu_cursor.specs.inner.NumberElements.{IsDigitRun, IsNumberPiece}
 use Rattle.icu_cursor.specs.inner.Places.{BeginsSafely}
 
 -- ---- runs
 
 -- no digit yet
-pub run_begun : (reading : Reading) (text digits : List ℕ) → IsRun reading text text digits digits
+pub run_begun : (reading : Reading) (text digits : List ℕ) → IsDigitRun reading text text digits digits
 run_begun reading text digits = record { chars = []; parts = refl; low = refl; continues = refl; values = sym (append-nil digits) }
 
 -- one more
-pub run_more : (reading : Reading) (text rest after old new : List ℕ) (c d : ℕ) → IsRun reading text rest old new → rest ≡ c ∷ after → IsNumberDigit reading c d
-    → IsRun reading text after old (new ++ d ∷ [])
+pub run_more : (reading : Reading) (text rest after old new : List ℕ) (c d : ℕ) → IsDigitRun reading text rest old new → rest ≡ c ∷ after → IsNumberDigit reading c d
+    → IsDigitRun reading text after old (new ++ d ∷ [])
 run_more reading text rest after old new c d h next is = record {
   chars = h.chars ++ c ∷ [];
   parts = h.parts ∙ ap (λ (l : List ℕ). h.chars ++ l) next ∙ sym (append_assoc h.chars (c ∷ []) after);
@@ -33,8 +33,8 @@ run_more reading text rest after old new c d h next is = record {
   continues = list_all-append (continues_number reading.tables) h.chars (c ∷ []) ∙ and_from _ _ h.continues (and_from _ _ is.continues refl);
   values =
       ap₂ (λ (l : List ℕ) (e : ℕ). l ++ e ∷ []) h.values (sym is.value)
-      ∙ append_assoc old (map (digit_of reading.tables) h.chars) (digit_of reading.tables c ∷ [])
-      ∙ ap (λ (l : List ℕ). old ++ l) (sym (map-append (digit_of reading.tables) h.chars (c ∷ [])));
+      ∙ append_assoc old (map (digit_of_char reading.tables) h.chars) (digit_of_char reading.tables c ∷ [])
+      ∙ ap (λ (l : List ℕ). old ++ l) (sym (map-append (digit_of_char reading.tables) h.chars (c ∷ [])));
 }
 
 -- ---- numbers
@@ -52,10 +52,10 @@ low_piece cs low = ap nfd (sym (append-nil cs)) ∙ low_text cs [] low ∙ ap (�
 -- a text of digits is one number
 digits_alone : (reading : Reading) (lead : ℕ) (c : ℕ) (cs before : List ℕ) → reading.numeric ≡ Some lead → list_all (λ c. nat_lt c 0xC0) (c ∷ cs) ≡ true
     → list_all (continues_number reading.tables) (c ∷ cs) ≡ true
-    → elements_after reading before (nfd (c ∷ cs)) ≡ number_elements lead (map (digit_of reading.tables) (c ∷ cs))
+    → elements_after reading before (nfd (c ∷ cs)) ≡ number_elements lead (map (digit_of_char reading.tables) (c ∷ cs))
 digits_alone reading lead c cs before numeric low continues =
     let parts = and_parts (nat_lt c 0xC0) _ low in
-    let es = number_elements lead (map (digit_of reading.tables) (c ∷ cs)) in
+    let es = number_elements lead (map (digit_of_char reading.tables) (c ∷ cs)) in
     ap (elements_after reading before) (low_piece (c ∷ cs) low)
     ∙ elements_after-digits reading lead before c cs [] numeric continues refl (unmarked cs parts.1)
     ∙ ap (λ (l : List Element). es ++ l) (elements_after_nil reading (last_two before (c ∷ cs)))
@@ -63,14 +63,14 @@ digits_alone reading lead c cs before numeric low continues =
 
 -- a digit and the run after it
 pub number_piece : (reading : Reading) (lead c d : ℕ) (text rest digits : List ℕ) (es : List Element) → reading.numeric ≡ Some lead → IsNumberDigit reading c d
-    → IsRun reading text rest (d ∷ []) digits → BeginsSafely reading rest → es ≡ number_elements lead digits → IsNumberPiece reading (c ∷ text) rest es
+    → IsDigitRun reading text rest (d ∷ []) digits → BeginsSafely reading rest → es ≡ number_elements lead digits → IsNumberPiece reading (c ∷ text) rest es
 number_piece reading lead c d text rest digits es numeric is run safe given = record {
   piece = c ∷ run.chars;
   parts = ap (λ (l : List ℕ). c ∷ l) run.parts;
   safe = safe;
   elements = λ before.
       given
-      ∙ ap (number_elements lead) (run.values ∙ ap (λ (e : ℕ). e ∷ map (digit_of reading.tables) run.chars) (sym is.value))
+      ∙ ap (number_elements lead) (run.values ∙ ap (λ (e : ℕ). e ∷ map (digit_of_char reading.tables) run.chars) (sym is.value))
       ∙ sym (digits_alone reading lead c run.chars before numeric (and_from _ _ (lt-ltb c 0xC0 is.low) run.low) (and_from _ _ is.continues run.continues));
 }
 

@@ -8,7 +8,7 @@ use Rattle.icu_elements.specs.TextElements.{last_two}
 use Rattle.icu_elements.proofs.ReaderLemmas.{last_two-append}
 use Rattle.icu_cuts.specs.Alone.{context_after}
 use Rattle.icu_cursor.specs.declared.recent_letters.RecentLetters.{RecentLetters}
-use Rattle.icu_cursor.specs.inner.ReadCharacters.{letters_read, context_of}
+use Rattle.icu_cursor.specs.inner.ReadCharacters.{letters_read, context_read}
 
 short : (xs : List ℕ) → length (take 2 xs) ≤ 2
 short xs = omega (arith, length-take 2 xs)
@@ -56,6 +56,6 @@ more (Some a) (Some b) c =
     ∙ sym (after_context (da ++ db) dc)
     ∙ ap (λ l. context_after (last_two [] (da ++ l)) dc) (sym (append-nil db))
 
-pub context_more : (r s : RecentLetters) (c : ℕ) → s.older ≡ r.last → s.last ≡ Some c → context_of s ≡ context_after (context_of r) (decompose Nfd c)
-unfolding context_of
+pub context_more : (r s : RecentLetters) (c : ℕ) → s.older ≡ r.last → s.last ≡ Some c → context_read s ≡ context_after (context_read r) (decompose Nfd c)
+unfolding context_read
 context_more r s c older last = rw (older, last) (more r.older r.last c)

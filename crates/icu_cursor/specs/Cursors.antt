@@ -2,21 +2,21 @@
 use Rattle.std.specs.Prelude.{ℕ, List, ◌++◌}
 use Rattle.unicode_normalization.specs.Forms.{nfd}
 use Rattle.icu_entries.specs.Elements.{Element}
-use Rattle.icu_elements.specs.Reading.{reading_of}
+use Rattle.icu_shortcuts.specs.SafeTables.{safe_reading}
 use Rattle.icu_elements.specs.TextElements.{Reading, elements_after}
 use Rattle.icu_cursor.specs.declared.cursor.ElementCursor.{ElementCursor}
 use Rattle.icu_cursor.specs.declared.cursor_tables.CursorTables.{CursorTables}
-use Rattle.icu_cursor.specs.inner.ReadCharacters.{context_of}
+use Rattle.icu_cursor.specs.inner.ReadCharacters.{context_read}
 use Rattle.icu_cursor.specs.inner.Pieces.{piece_gives}
 use Rattle.icu_cursor.specs.inner.Ready.{elements_ready}
 
 -- how texts are read
 unfoldable pub cursor_reading : CursorTables → Reading
-cursor_reading t = reading_of t.tables t.numeric_primary t.lithuanian_dot_above
+cursor_reading t = safe_reading t.places
 
 -- the elements of the text that isn't read, after what was read before it
 abbrev pub elements_unread : {T : Type 0} → (T → List ℕ) → ElementCursor T → List Element
-elements_unread text c = elements_after (cursor_reading c.tables.now) (context_of c.recent) (nfd (text c.text))
+elements_unread text c = elements_after (cursor_reading c.tables.now) (context_read c.recent) (nfd (text c.text))
 
 -- the elements that it still gives, unless an allocation fails: those that stand ready, those of a piece, and those of
 -- the text that isn't read

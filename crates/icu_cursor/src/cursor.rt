@@ -75,7 +75,8 @@ impl<'c, 'd, T: EncodedText> ElementCursor<'c, 'd, T> {
     /// The next of the elements of a letter.
     #[inline(always)]
     fn take_ready(&mut self) -> Option<CollationElement>
-        ensures next { cursor_gives T.text self.old ≡ option_to_list result ++ cursor_gives T.text self.new }
+        ensures next { cursor_gives T.text self.old
+            ≡ option_to_list result ++ cursor_gives T.text self.new }
         ensures text { self.new.text ≡ self.old.text }
         ensures end { result ≡ None → elements_ready self.new.ready ≡ [] }
     {
@@ -88,7 +89,8 @@ impl<'c, 'd, T: EncodedText> ElementCursor<'c, 'd, T> {
     #[inline]
     fn take_ascii(&mut self) -> Option<CollationElement>
         requires { HasNothingReady self.old }
-        ensures next { cursor_gives T.text self.old ≡ option_to_list result ++ cursor_gives T.text self.new }
+        ensures next { cursor_gives T.text self.old
+            ≡ option_to_list result ++ cursor_gives T.text self.new }
     {
         let tables = self.tables;
         let (byte, rest) = self.text.split_first_ascii()?;
@@ -174,7 +176,7 @@ impl<'c, 'd, T: EncodedText> ElementCursor<'c, 'd, T> {
         }
     }
 
-    /// The same of a letter that isn't among those that are read most. Out of line: a function clears its locals each
+    /// Reads a character that isn't among those that are read most. Out of line: a function clears its locals each
     /// time that it is called. A syllable is read here by itself, since all that is known of it is of one kind.
     #[inline(never)]
     fn read_other(&mut self, c: char, rest: T) -> Result<Option<CollationElement>, AllocError>
@@ -190,7 +192,7 @@ impl<'c, 'd, T: EncodedText> ElementCursor<'c, 'd, T> {
         }
     }
 
-    /// The same of a letter that is no syllable either.
+    /// Reads a character that is no Hangul syllable either.
     #[inline(never)]
     fn read_rare(&mut self, c: char, rest: T) -> Result<Option<CollationElement>, AllocError>
         requires nothing { HasNothingReady self.old }
@@ -203,7 +205,7 @@ impl<'c, 'd, T: EncodedText> ElementCursor<'c, 'd, T> {
         self.read_letter(c, &letter, rest)
     }
 
-    /// The same of a letter of which this is known.
+    /// Reads a letter of which this is known, by itself or with what stands around it.
     #[inline(always)]
     fn read_letter(
         &mut self,
@@ -242,7 +244,7 @@ impl<'c, 'd, T: EncodedText> ElementCursor<'c, 'd, T> {
         ensures same { OnOk result (cursor_gives T.text self.new ≡ cursor_gives T.text self.old) }
         ensures shorter { OnOk result (length (T.text self.new.text) ≤ length (T.text rest)) }
     {
-        let Some(lead) = self.tables.numeric_primary else {
+        let Some(lead) = self.tables.reading().numeric_primary else {
             return self.begin_piece(c, rest);
         };
         match read_number(self.tables, lead, c, digit, rest)? {

@@ -1,59 +1,55 @@
 //! What texts are read by, letter by letter.
 
 ghost use Rattle.std.specs.Prelude.{◌≡◌, ℕ, IfSome, IsTrue};
-ghost use Rattle.icu_elements.specs.Reading.{element_tables, reading_of};
+ghost use Rattle.icu_elements.specs.Reading.{reading_of};
 ghost use Rattle.icu_shortcuts.specs.Letters.{IsNumberDigit};
 ghost use Rattle.icu_shortcuts.specs.LetterTables.{AreLetters};
-ghost use Rattle.icu_shortcuts.specs.Named.{NamesAll};
 ghost use Rattle.icu_shortcuts.specs.SafeTables.{safe_reading};
 ghost use Rattle.icu_cursor.specs.inner.Places.{MayBeCut};
 ghost use Rattle.icu_cursor.specs.inner.MarkRuns.{IsInRun};
 ghost use Rattle.icu_cursor.specs.inner.Standing.{Serves};
 
-use icu_elements::ElementTables;
-use icu_shortcuts::{Letter, Letters, NamedCharacters, SafePlaces, letter_of};
+use icu_elements::TextReading;
+use icu_shortcuts::{Letter, Letters, SafePlaces, letter_of};
+use std::alloc::Global;
 use unicode_normalization::Form;
 use unicode_normalization::char::{canonical_combining_class, decomposition};
 
 /// What texts are read by, letter by letter: the tables, and what is kept of the characters that are read most.
 #[derive(Debug, Clone, Copy)]
 pub struct CursorTables<'d> {
-    pub(crate) tables: ElementTables<'d>,
-    pub(crate) numeric_primary: Option<u8>,
-    pub(crate) lithuanian_dot_above: bool,
     places: SafePlaces<'d>,
     letters: &'d Letters,
-    ghost places_by: { safe_reading places ≡ reading_of tables numeric_primary lithuanian_dot_above },
-    ghost letters_by: { ∥ AreLetters (reading_of tables numeric_primary lithuanian_dot_above) letters.now ∥₁ },
+    ghost letters_by: { ∥ AreLetters (safe_reading places) letters.now ∥₁ },
 }
 
 impl<'d> CursorTables<'d> {
     ghost use Rattle.icu_cursor.specs.Cursors.{cursor_reading};
 
-    /// By these tables, whose rows name no other characters than `named` has, and with these letters, which were worked
-    /// out for them. `numeric_primary` is the lead byte of numbers, where digits are read as numbers. With
-    /// `lithuanian_dot_above`, U+0307 before a diacritic above is silent. Does not allocate.
+    /// Texts are read as those are whose safe places these are, and with letters that were worked out for them. Does
+    /// not allocate.
     #[inline(always)]
     #[tactic(auto, unfolding(crate::specs::Cursors::cursor_reading))]
-    pub fn new(
-        tables: ElementTables<'d>,
-        numeric_primary: Option<u8>,
-        lithuanian_dot_above: bool,
-        named: &'d NamedCharacters,
-        letters: &'d Letters,
-    ) -> CursorTables<'d>
-        requires names { NamesAll named.now (element_tables tables) }
-        requires letters { AreLetters (reading_of tables numeric_primary lithuanian_dot_above) letters.now }
-        ensures { cursor_reading result ≡ reading_of tables.entry numeric_primary lithuanian_dot_above }
+    pub fn new(places: SafePlaces<'d>, letters: &'d Letters) -> CursorTables<'d>
+        requires { AreLetters (safe_reading places) letters.now }
+        ensures { cursor_reading result ≡ safe_reading places.entry }
     {
-        let places = SafePlaces::new(tables, numeric_primary, lithuanian_dot_above, named);
-        CursorTables {
-            tables,
-            numeric_primary,
-            lithuanian_dot_above,
-            places,
-            letters,
-        }
+        CursorTables { places, letters }
+    }
+
+    /// How the texts are read.
+    #[inline]
+    #[tactic(auto, unfolding(crate::specs::Cursors::cursor_reading))]
+    pub(crate) fn reading(&self) -> TextReading<'d>
+        ensures { reading_of result ≡ cursor_reading self.now }
+    {
+        self.places.reading()
+    }
+
+    /// The allocator that the tables were made with.
+    #[inline]
+    pub(crate) fn allocator(&self) -> Global {
+        self.reading().tables.allocator()
     }
 
     /// Before which characters the texts may be cut.
@@ -126,7 +122,7 @@ impl<'d> CursorTables<'d> {
     }
 }
 
-/// The same, by the character's decomposition.
+/// The class of a character in a run of marks, by its decomposition.
 fn class_of_first(c: char) -> Option<u8>
     ensures { IfSome result (λ class. IsInRun c class) }
 {

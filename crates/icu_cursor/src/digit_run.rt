@@ -4,7 +4,7 @@ ghost use Rattle.std.specs.Prelude.{◌≡◌, ◌<◌, ◌≤◌, ◌∷◌, []
 ghost use Rattle.icu_elements.specs.TextElements.{number_elements};
 ghost use Rattle.icu_shortcuts.specs.Letters.{IsNumberDigit};
 ghost use Rattle.icu_cursor.specs.Cursors.{cursor_reading};
-ghost use Rattle.icu_cursor.specs.inner.NumberElements.{IsDigitTaken, IsRun, IsNumberPiece, number_left};
+ghost use Rattle.icu_cursor.specs.inner.NumberElements.{BeginsWithDigit, IsDigitRun, IsNumberPiece, number_left};
 
 use crate::cursor_tables::CursorTables;
 use crate::stands::begins_safely;
@@ -52,7 +52,8 @@ impl NumberElements {
 /// Takes the next character of a text, where it is an ASCII digit that goes on a number, and gives its value.
 #[inline]
 fn take_digit<T: EncodedText>(tables: &CursorTables<'_>, text: &mut T) -> Option<u8>
-    ensures digit { IfSome result (λ d. IsDigitTaken (cursor_reading tables.now) (T.text text.old) (T.text text.new) d) }
+    ensures digit { IfSome result (λ d. BeginsWithDigit (cursor_reading tables.now)
+        (T.text text.old) (T.text text.new) d) }
     ensures none { result ≡ None → T.text text.new ≡ T.text text.old }
 {
     let (byte, rest) = text.split_first_ascii()?;
@@ -68,7 +69,8 @@ fn push_run<T: EncodedText>(
     text: T,
 ) -> Result<T, AllocError>
     requires { All (λ d. d < 10) digits.old.items }
-    ensures run { IfOk result (λ rest. IsRun (cursor_reading tables.now) (T.text text) (T.text rest) digits.old.items digits.new.items) }
+    ensures run { IfOk result (λ rest. IsDigitRun (cursor_reading tables.now) (T.text text)
+        (T.text rest) digits.old.items digits.new.items) }
     ensures decimal { OnOk result (All (λ d. d < 10) digits.new.items) }
 {
     let mut rest = text;
@@ -89,10 +91,13 @@ pub(crate) fn read_number<T: EncodedText>(
 ) -> Result<Option<(NumberElements, T)>, AllocError>
     requires numeric { (cursor_reading tables.now).numeric ≡ Some lead }
     requires digit { IsNumberDigit (cursor_reading tables.now) c first }
-    ensures piece { IfOk result (λ found. IfSome found (λ p. IsNumberPiece (cursor_reading tables.now) (c ∷ T.text text) (T.text p.1) (number_left p.0))) }
-    ensures rest { IfOk result (λ found. IfSome found (λ p. length (T.text p.1) ≤ length (T.text text))) }
+    ensures piece { IfOk result (λ found. IfSome found (λ p.
+        IsNumberPiece (cursor_reading tables.now) (c ∷ T.text text)
+        (T.text p.1) (number_left p.0))) }
+    ensures rest { IfOk result (λ found. IfSome found (λ p.
+        length (T.text p.1) ≤ length (T.text text))) }
 {
-    let alloc = tables.tables.allocator();
+    let alloc = tables.allocator();
     let mut digits = Digits::new(alloc);
     digits.push(first)?;
     let rest = push_run(tables, &mut digits, text)?;

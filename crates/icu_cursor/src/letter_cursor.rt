@@ -50,7 +50,7 @@ impl<'c, 'd, T: EncodedText> LetterCursor<'c, 'd, T> {
         self.read_letter()
     }
 
-    /// The same of a text of whose letters none has elements left.
+    /// The next element, where no letter that was read has any left.
     #[inline(always)]
     fn read_letter(&mut self) -> Option<CollationElement>
         requires { elements_ready self.old.ready ≡ [] }

@@ -5,7 +5,7 @@ ghost use Rattle.unicode_normalization.specs.Forms.{nfd};
 ghost use Rattle.icu_elements.specs.ElementReaders.{elements_to_come};
 ghost use Rattle.icu_elements.specs.TextElements.{elements_after};
 ghost use Rattle.icu_cursor.specs.Cursors.{cursor_reading};
-ghost use Rattle.icu_cursor.specs.inner.ReadCharacters.{context_of};
+ghost use Rattle.icu_cursor.specs.inner.ReadCharacters.{context_read};
 ghost use Rattle.icu_cursor.specs.inner.Pieces.{IsPiece, begun_gives, piece_gives};
 
 use crate::cursor_tables::CursorTables;
@@ -33,10 +33,11 @@ pub(crate) fn split_piece<T: EncodedText>(
     first: char,
     text: T,
 ) -> Result<(Vec<char>, T), AllocError>
-    ensures piece { IfOk result (λ p. IsPiece (cursor_reading tables.now) (first ∷ T.text text) p.0.items (T.text p.1)) }
+    ensures piece { IfOk result (λ p. IsPiece (cursor_reading tables.now) (first ∷ T.text text)
+        p.0.items (T.text p.1)) }
     ensures rest { IfOk result (λ p. length (T.text p.1) ≤ length (T.text text)) }
 {
-    let mut piece = Vec::new(tables.tables.allocator());
+    let mut piece = Vec::new(tables.allocator());
     piece.push(first)?;
     let mut rest = text;
     'chars: while let Some((c, after)) = rest.split_first_char() {
@@ -55,26 +56,22 @@ pub(crate) fn read_piece<'d>(
     before: RecentLetters,
     piece: &[char],
 ) -> Result<Piece<'d>, AllocError>
-    ensures { IfOk result (λ p. begun_gives p ≡ elements_after (cursor_reading tables.now) (context_of before) (nfd piece.now)) }
+    ensures { IfOk result (λ p. begun_gives p
+        ≡ elements_after (cursor_reading tables.now) (context_read before) (nfd piece.now)) }
 {
-    let alloc = tables.tables.allocator();
+    let alloc = tables.allocator();
     let before = before.decomposed(alloc)?;
     let mut text = Vec::new(alloc);
     extend_nfd(&mut text, piece)?;
-    let reader = ElementReader::after(
-        before.as_slice(),
-        text,
-        tables.tables,
-        tables.numeric_primary,
-        tables.lithuanian_dot_above,
-    );
+    let reader = ElementReader::after(before.as_slice(), text, tables.reading());
     Ok(Piece::Text(Box::new(alloc, reader)?))
 }
 
 impl Piece<'_> {
     /// Its next element, or `None` after the last one.
     fn next(&mut self) -> Result<Option<CollationElement>, AllocError>
-        ensures next { IfOk result (λ next. begun_gives self.old ≡ option_to_list next ++ begun_gives self.new) }
+        ensures next { IfOk result (λ next.
+            begun_gives self.old ≡ option_to_list next ++ begun_gives self.new) }
         ensures end { IfOk result (λ next. next ≡ None → begun_gives self.old ≡ []) }
     {
         match self {
@@ -91,7 +88,8 @@ impl Piece<'_> {
 pub(crate) fn next_of_piece(
     piece: &mut Option<Piece<'_>>,
 ) -> Result<Option<CollationElement>, AllocError>
-    ensures next { IfOk result (λ next. piece_gives piece.old ≡ option_to_list next ++ piece_gives piece.new) }
+    ensures next { IfOk result (λ next.
+        piece_gives piece.old ≡ option_to_list next ++ piece_gives piece.new) }
     ensures end { IfOk result (λ next. next ≡ None → piece_gives piece.new ≡ []) }
 {
     if let Some(begun) = piece {

@@ -19,12 +19,12 @@ pub(crate) struct RecentLetters {
 }
 
 impl RecentLetters {
-    ghost use Rattle.icu_cursor.specs.inner.ReadCharacters.{letters_read, context_of};
+    ghost use Rattle.icu_cursor.specs.inner.ReadCharacters.{letters_read, context_read};
 
     /// None was read yet.
-    #[tactic(auto, unfolding(crate::specs::inner::ReadCharacters::context_of))]
+    #[tactic(auto, unfolding(crate::specs::inner::ReadCharacters::context_read))]
     pub(crate) fn new() -> RecentLetters
-        ensures { context_of result ≡ [] }
+        ensures { context_read result ≡ [] }
     {
         RecentLetters {
             older: None,
@@ -36,16 +36,17 @@ impl RecentLetters {
     #[inline(always)]
     #[tactic(auto, using(crate::proofs::ReadCharacterLemmas::context_more))]
     pub(crate) fn push(&mut self, c: char)
-        ensures { context_of self.new ≡ context_after (context_of self.old) (decompose Nfd c) }
+        ensures { context_read self.new ≡ context_after (context_read self.old) (decompose Nfd c) }
     {
         self.older = self.last;
         self.last = Some(c);
     }
 
     /// What they decompose to.
-    #[tactic(auto, unfolding(crate::specs::inner::ReadCharacters::context_of))]
+    #[tactic(auto, unfolding(crate::specs::inner::ReadCharacters::context_read))]
     pub(crate) fn decomposed(self, alloc: Global) -> Result<Vec<char>, AllocError>
-        ensures { IfOk result (λ cs. cs.items ≡ flat_map (decompose Nfd) (letters_read self.older self.last)) }
+        ensures { IfOk result (λ cs. cs.items
+            ≡ flat_map (decompose Nfd) (letters_read self.older self.last)) }
     {
         let mut chars = Vec::new(alloc);
         if let Some(last) = self.last {

@@ -41,7 +41,8 @@ fn marks_rise<T: EncodedText>(tables: &CursorTables<'_>, class: u8, text: T) -> 
     false
 }
 
-/// The same, at once of a text that begins with an ASCII character, which is no mark.
+/// Whether the marks that a text begins with rise from this class, and are few: at once where it begins with an ASCII
+/// character, which is no mark. False says nothing.
 #[inline(always)]
 fn rises<T: EncodedText>(tables: &CursorTables<'_>, class: u8, text: T) -> bool
     ensures { IsTrue result → Rises class (T.text text) }

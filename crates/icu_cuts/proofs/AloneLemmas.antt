@@ -97,7 +97,7 @@ pub letter_of_starters : (reading : Reading) (before : List ℕ) (c : ℕ) (ds c
 letter_of_starters reading before c ds cs split starters alone =
     ap (elements_after reading before) (nfd-starters c ds cs split starters) ∙ elements_after-alone reading before ds (nfd cs) alone
 
--- the same for a character that stands for itself
+-- so is one that stands for itself
 pub lone_starter : (reading : Reading) (before : List ℕ) (c : ℕ) (cs : List ℕ) → decompose Nfd c ≡ c ∷ [] → is_starter c ≡ true → is_alone reading c ≡ true
     → elements_after reading before (nfd (c ∷ cs)) ≡ elements_of_char reading.tables c ++ elements_after reading (last_two before (c ∷ [])) (nfd cs)
 lone_starter reading before c cs split starter alone =

@@ -2,7 +2,7 @@
 use Rattle.std.proofs.Common.{◌≡◌, ℕ, ◌≤◌, List, [], ◌∷◌, ◌++◌, length, reverse, refl, ap, ◌∙◌, arith, length-append}
 use Rattle.icu_elements.specs.TextElements.{Reading, Step, step, consumed, last_two, elements_after}
 use Rattle.icu_cuts.specs.Cuts.{cut, IsSafe}
-use Rattle.icu_cuts.specs.LeftContexts.{AreAlike, context_along, context_left}
+use Rattle.icu_cuts.specs.LeftContexts.{AgreeUpTo, context_along, context_left}
 use Rattle.icu_elements.proofs.StepLemmas.{Rests-step}
 use Rattle.icu_cuts.proofs.MatchCuts.{same_cut}
 use Rattle.icu_cuts.proofs.StepCuts.{step-append, step-same, step-at, cut-last_two, cut_taken, elements_along-same}
@@ -18,11 +18,11 @@ context_along-enough reading (_ ∷ along) (_ ∷ others) before (c ∷ text) fi
     context_along-enough reading along others (last_two before (consumed c s)) s.rest (omega (arith, shorter)) (omega (arith, shorter))
 
 -- alike contexts give the same elements, and leave alike contexts
-pub elements_after-alike : (reading : Reading) (x : ℕ) (p q text : List ℕ) → IsSafe reading x → AreAlike x p q → elements_after reading p text ≡ elements_after reading q text
+pub elements_after-alike : (reading : Reading) (x : ℕ) (p q text : List ℕ) → IsSafe reading x → AgreeUpTo x p q → elements_after reading p text ≡ elements_after reading q text
 unfolding elements_after
 elements_after-alike reading x p q text safe alike = elements_along-same reading x text p q text safe alike
 
-context_along-alike : (reading : Reading) (x : ℕ) (along p q text : List ℕ) → IsSafe reading x → AreAlike x p q → AreAlike x (context_along along reading p text) (context_along along reading q text)
+context_along-alike : (reading : Reading) (x : ℕ) (along p q text : List ℕ) → IsSafe reading x → AgreeUpTo x p q → AgreeUpTo x (context_along along reading p text) (context_along along reading q text)
 unfolding context_along
 context_along-alike reading x along p q [] safe alike = alike
 context_along-alike reading x [] p q (c ∷ text) safe alike = alike
@@ -33,7 +33,7 @@ context_along-alike reading x (_ ∷ along) p q (c ∷ text) safe alike =
     ∙ ap (λ (s : Step). cut x (context_along along reading (last_two q (consumed c s)) s.rest)) (step-same reading x p q c text safe alike)
 
 -- from x on, whatever the contexts were
-context_along-at : (reading : Reading) (x : ℕ) (along p q more : List ℕ) → IsSafe reading x → length more ≤ length along → AreAlike x (context_along (x ∷ along) reading p (x ∷ more)) (context_along (x ∷ along) reading q (x ∷ more))
+context_along-at : (reading : Reading) (x : ℕ) (along p q more : List ℕ) → IsSafe reading x → length more ≤ length along → AgreeUpTo x (context_along (x ∷ along) reading p (x ∷ more)) (context_along (x ∷ along) reading q (x ∷ more))
 unfolding context_along
 context_along-at reading x along p q more safe fits =
     let s = step reading p x more in
@@ -42,7 +42,7 @@ context_along-at reading x along p q more safe fits =
     ∙ ap (λ (s : Step). cut x (context_along along reading (last_two q (consumed x s)) s.rest)) (step-at reading p q x more safe)
 
 context_along-whole : (reading : Reading) (x : ℕ) (along before head more : List ℕ) → IsSafe reading x → length (head ++ x ∷ more) ≤ length along
-    → AreAlike x (context_along along reading before (head ++ x ∷ more)) (context_left reading [] (x ∷ more))
+    → AgreeUpTo x (context_along along reading before (head ++ x ∷ more)) (context_left reading [] (x ∷ more))
 unfolding context_along context_left
 context_along-whole reading x along before [] more safe fits =
     ap (cut x) (context_along-enough reading along (x ∷ more) before (x ∷ more) fits (omega arith))
@@ -56,7 +56,7 @@ context_along-whole reading x (_ ∷ along) before (c ∷ head) more safe fits =
     ∙ context_along-whole reading x along (last_two before (consumed c s)) s.rest more safe room
 
 -- what a piece from a safe character leaves is alike to what the whole text leaves
-pub context_left-piece : (reading : Reading) (x : ℕ) (before head more : List ℕ) → IsSafe reading x → AreAlike x (context_left reading before (head ++ x ∷ more)) (context_left reading [] (x ∷ more))
+pub context_left-piece : (reading : Reading) (x : ℕ) (before head more : List ℕ) → IsSafe reading x → AgreeUpTo x (context_left reading before (head ++ x ∷ more)) (context_left reading [] (x ∷ more))
 unfolding context_left
 context_left-piece reading x before head more safe = context_along-whole reading x (head ++ x ∷ more) before head more safe (omega arith)
 

@@ -4,7 +4,7 @@ pub mod MatchCuts
 pub mod StepCuts
 pub mod CutLemmas
 pub mod LeftContextLemmas
-pub mod DigitRunLemmas
+pub mod NumberRunLemmas
 pub mod BaseLemmas
 mod WorkedCuts
 pub mod LetterLemmas

@@ -12,7 +12,7 @@ use Rattle.icu_entries.specs.Entries.{kind_of, digit_value}
 use Rattle.icu_data.specs.Data.{Data, HomedEntry, homed}
 use Rattle.icu_provider.specs.Tables.{Tables, is_jamo, tailored_entry, entry_of, diacritic_of}
 use Rattle.icu_matches.specs.Matches.{Match, after_prefix, match_of, match_from}
-use Rattle.icu_elements.specs.TextElements.{Reading, Step, is_diacritic_above, is_silent_dot, continues_number, digit_of, begins_with_mark, number_elements, number_step, entry_step, step, consumed, matched_step, last_two, elements_along, elements_after, elements_of}
+use Rattle.icu_elements.specs.TextElements.{Reading, Step, is_diacritic_above, is_silent_dot, continues_number, digit_of_char, begins_with_mark, number_elements, number_step, entry_step, step, consumed, matched_step, last_two, elements_along, elements_after, elements_of}
 use Rattle.icu_elements.proofs.Computing.{icu_elements}
 use Rattle.icu_cuts.specs.Cuts.{cut, is_named, is_named_by_tailoring, is_prefix_kind, has_prefix, IsSafe}
 use Rattle.icu_cuts.proofs.MatchCuts.{same_cut, cut-append, match_of-append, match_of-same}
@@ -40,10 +40,10 @@ number_step-append tables lead x m more starter stops =
     let run = take_while (continues_number tables) m.rest in
     let fits : length run ≤ length m.rest = omega (arith, length-prefix_len (continues_number tables) m.rest, prefix_len-le-length (continues_number tables) m.rest) in
     let alone : List ℕ → Step = λ r. record { elements = number_elements lead (digit_value m.entry ∷ []); suffix = m.suffix; rest = r } in
-    let together : List ℕ → List ℕ → Step = λ run r. record { elements = number_elements lead (digit_value m.entry ∷ map (digit_of tables) run); suffix = run; rest = drop (length run) r } in
+    let together : List ℕ → List ℕ → Step = λ run r. record { elements = number_elements lead (digit_value m.entry ∷ map (digit_of_char tables) run); suffix = run; rest = drop (length run) r } in
     let whole = m.rest ++ x ∷ more in
     let whole_run = take_while (continues_number tables) whole in
-    let left : List ℕ → Step = λ r. record { elements = number_elements lead (digit_value m.entry ∷ map (digit_of tables) run); suffix = run; rest = r } in
+    let left : List ℕ → Step = λ r. record { elements = number_elements lead (digit_value m.entry ∷ map (digit_of_char tables) run); suffix = run; rest = r } in
     let same_together : together whole_run whole ≡ and_more (together run m.rest) (x ∷ more) =
     ap (λ run. together run whole) (take_while-stop (continues_number tables) m.rest x more stops)
     ∙ ap left (drop-append-le (length run) m.rest (x ∷ more) fits) in

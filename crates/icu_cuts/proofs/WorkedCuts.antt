@@ -10,7 +10,7 @@ use Rattle.icu_provider.specs.Tables.{Tables}
 use Rattle.icu_matches.specs.Matches.{contracted}
 use Rattle.icu_elements.specs.TextElements.{Reading, non_numeric_reading, elements_of}
 use Rattle.icu_elements.proofs.Computing.{icu_elements}
-use Rattle.icu_elements.proofs.WorkedTables.{mini, ring, two_marks, prefixed, numeric}
+use Rattle.icu_elements.proofs.WorkedReadings.{mini, ring, two_marks, prefixed, numeric}
 use Rattle.icu_cuts.specs.Alone.{is_alone, stays_before, stays_first, run_ascends, all_stay}
 use Rattle.icu_cuts.specs.Cuts.{IsSafe, cut, is_named_by_tailoring}
 use Rattle.icu_cuts.specs.LeftContexts.{context_along, context_left}

@@ -27,14 +27,17 @@ is_named_in x context = list_any (names x) context.rows
 abbrev pub is_named : ℕ → Data → Bool
 is_named x home = list_any (is_named_in x) home.contexts
 
+-- a row of the tailoring does, where there is one
 abbrev pub is_named_by_tailoring : ℕ → Option Data → Bool
 is_named_by_tailoring x None = false
 is_named_by_tailoring x (Some d) = is_named x d
 
+-- the kind of an entry with prefixes
 abbrev pub is_prefix_kind : EntryKind → Bool
 is_prefix_kind Prefix = true
 is_prefix_kind _ = false
 
+-- the character's own entry has prefixes
 abbrev pub has_prefix : Tables → ℕ → Bool
 has_prefix tables c = is_prefix_kind (kind_of (entry_of tables c).entry)
 

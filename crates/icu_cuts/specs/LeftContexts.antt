@@ -3,10 +3,11 @@ use Rattle.std.specs.Prelude.{ℕ, ◌≡◌, List, [], ◌∷◌}
 use Rattle.icu_elements.specs.TextElements.{Reading, step, consumed, last_two}
 use Rattle.icu_cuts.specs.Cuts.{cut}
 
--- the same up to the first x, nearest character first
-abbrev pub AreAlike : ℕ → List ℕ → List ℕ → Type 0
-AreAlike x p q = cut x p ≡ cut x q
+-- two contexts that have the same characters up to the first x, nearest character first
+abbrev pub AgreeUpTo : ℕ → List ℕ → List ℕ → Type 0
+AgreeUpTo x p q = cut x p ≡ cut x q
 
+-- the last two characters consumed, once as many steps are taken as a list has members, at most
 unfoldable pub context_along : List ℕ → Reading → List ℕ → List ℕ → List ℕ
 context_along along reading before [] = before
 context_along [] reading before (c ∷ text) = before

@@ -1,33 +1,33 @@
 //! The laws, each the contract of a function that makes no call.
 
-ghost use Rattle.icu_cuts.specs.ReadingLaws.{TextsGoByTurns, NothingGivesNothing, EnoughIsEnough, SafePlacesAreEnough};
-ghost use Rattle.icu_cuts.specs.ReadingLaws.{LoneStartersStand, LowLettersStand, LowTextsStay, JamoStand, SyllablesStand};
-ghost use Rattle.icu_cuts.specs.ReadingLaws.{LettersThatStayStand, ComposedLettersStand, LoneMarksStand, FirstStartersLead};
-ghost use Rattle.icu_cuts.specs.ReadingLaws.{DigitRunsAreNumbers, BasesStand, TextsPart, TextsStartAnew, PiecesStandAlone};
+ghost use Rattle.icu_cuts.specs.ReadingLaws.{ElementsComeStepByStep, NothingGivesNothing, MoreTextKeepsWholeSteps, SafePlacesAreEnough};
+ghost use Rattle.icu_cuts.specs.ReadingLaws.{LoneStartersAreReadAlone, LowLettersAreReadAlone, LowTextsStay, JamoAreReadAlone, SyllablesAreReadAlone};
+ghost use Rattle.icu_cuts.specs.ReadingLaws.{UnmovedLettersAreReadAlone, ComposedLettersAreReadAlone, LoneMarksAreReadAlone, FirstStartersLead};
+ghost use Rattle.icu_cuts.specs.ReadingLaws.{DigitRunsAreNumbers, BasesBeforeUnnamedStarters, TextsCutAtSafePlaces, TextsStartAnew, PiecesStandAlone};
 
 /// The elements of a text are those of one step, and of what it leaves; a text without characters has none (UTS #10,
 /// "Produce Collation Element Arrays").
-pub fn texts_go_by_turns()
-    ensures turns { TextsGoByTurns }
+pub fn elements_come_step_by_step()
+    ensures turns { ElementsComeStepByStep }
     ensures nothing { NothingGivesNothing }
 {}
 
 /// A starter that stands for itself and alone is read by itself, whatever follows: so is a character below U+00C0 and a
 /// conjoining jamo, where it stands alone, and a Hangul syllable whose jamo do (UAX #15).
-pub fn lone_starters_stand()
-    ensures starters { LoneStartersStand }
-    ensures low { LowLettersStand }
+pub fn lone_starters_are_read_alone()
+    ensures starters { LoneStartersAreReadAlone }
+    ensures low { LowLettersAreReadAlone }
     ensures low_texts { LowTextsStay }
-    ensures jamo { JamoStand }
-    ensures syllables { SyllablesStand }
+    ensures jamo { JamoAreReadAlone }
+    ensures syllables { SyllablesAreReadAlone }
 {}
 
 /// A character whose decomposition stays where it is and stands alone is read by itself: a letter and its marks before
 /// marks that go after them or before a starter, a mark that none of its run goes before (UAX #15).
-pub fn letters_that_stay_stand()
-    ensures all { LettersThatStayStand }
-    ensures composed { ComposedLettersStand }
-    ensures marks { LoneMarksStand }
+pub fn unmoved_letters_are_read_alone()
+    ensures all { UnmovedLettersAreReadAlone }
+    ensures composed { ComposedLettersAreReadAlone }
+    ensures marks { LoneMarksAreReadAlone }
 {}
 
 /// The elements of a text begin with those of the starter that its first character decomposes to first, where that
@@ -43,20 +43,20 @@ pub fn digit_runs_are_numbers()
 
 /// A base of contractions gives what it gives at the end of a text, before a starter that none of its rows names (UTS
 /// #10, "Produce Collation Element Arrays").
-pub fn bases_stand()
-    ensures { BasesStand }
+pub fn bases_before_unnamed_starters()
+    ensures { BasesBeforeUnnamedStarters }
 {}
 
 /// A text is cut before a character whose decomposition begins with a safe one: its elements are those of its two
 /// parts, and what follows is the same whatever stood before.
-pub fn texts_part()
-    ensures cut { TextsPart }
+pub fn texts_cut_at_safe_places()
+    ensures cut { TextsCutAtSafePlaces }
     ensures start { TextsStartAnew }
     ensures pieces { PiecesStandAlone }
 {}
 
 /// Where a text is enough for a step, reading on changes nothing; a text with a safe character in it is.
-pub fn enough_is_enough()
-    ensures steps { EnoughIsEnough }
+pub fn more_text_keeps_whole_steps()
+    ensures steps { MoreTextKeepsWholeSteps }
     ensures safe { SafePlacesAreEnough }
 {}

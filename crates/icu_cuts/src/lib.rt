@@ -1,5 +1,5 @@
-//! The laws by which a text is read a character at a time, in pieces, or as far as a step looks (UTS #10, "Produce
-//! Collation Element Arrays"), and the scan of a run of marks that they ask for.
+//! Laws of reading a text: a character at a time, in pieces, or as far as a step looks (UTS #10, "Produce Collation
+//! Element Arrays"). Beside them the scan of a run of marks.
 #![tactic(auto)]
 
 pub mod laws;

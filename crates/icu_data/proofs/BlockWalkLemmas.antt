@@ -22,7 +22,7 @@ use Rattle.icu_data.specs.Data.{Data}
 use Rattle.icu_data.specs.Live.{goes_by_character, leads_to_character, live_digit, live_contraction, live_from, live_at}
 use Rattle.icu_data.specs.StoredData.{data_of, block_in}
 use Rattle.icu_data.specs.Walks.{after_all, after_run, after_chars, StandsFor, Walked}
-use Rattle.icu_data.specs.inner.BlockWalks.{is_wanted, WalkedTo, AreShared, IsVisited, Holds, IsRun, IsShared, IsState, IsRead, HasState, AreStates}
+use Rattle.icu_data.specs.inner.BlockWalks.{is_wanted, WalkedTo, AreShared, IsVisited, HasWalked, IsRun, IsShared, IsState, IsRead, HasState, AreStates}
 use Rattle.icu_data.specs.inner.VisitedEntries.{IsRemembered}
 use Rattle.icu_data.specs.declared.visited_entries.VisitedEntries.{VisitedEntries}
 use Rattle.icu_data.proofs.ListLemmas.{all_append}
@@ -91,7 +91,7 @@ one_element home e h =
     let spells : spells_one (kind_of e) ≡ true = spelt (kind_of e) h in
     ap (list_any goes_by_character) (alone (kind_of e) e home spells refl) ∙ itself (kind_of e) e spells refl
 
--- one that is counted from another character's goes by its own
+-- an entry that is counted from another character's leads to itself alone
 offset_digit : (e : ℕ) (home : Data) → kind_of e ≡ Offset → live_digit home e ≡ e ∷ []
 unfolding live_digit
 offset_digit e home is = rw (is, live_digit) refl
@@ -115,7 +115,7 @@ offset_leads e is home = ap (list_any goes_by_character) (offset_from e home is)
 not_offset : Fallback ≡ Offset → ⊥
 not_offset h = cc
 
--- so it is all that is live with its character
+-- an offset entry is all that is live with its character
 pub offset_alone : (falls_back : Bool) (home : Data) (c : ℕ) → kind_of (home.value c) ≡ Offset → live_at falls_back home c ≡ home.value c ∷ []
 offset_alone falls_back home c is =
     kept falls_back (home.value c == 0xC0) (home.value c) (live_from home (home.value c)) (isnt_fallback Offset (home.value c) not_offset is)
@@ -211,7 +211,7 @@ module _ {V : Type 0} (after : V → Data → ℕ → ℕ → V) (falls_back : B
   offset_adds v w c e is offset adds =
       adds ∙ ap (after v home c) is ∙ sym (ap (λ es. after_all after v home c es) (offset_alone falls_back home c (ap kind_of (sym is) ∙ offset)))
 
-  -- so are visits of it with each of some characters in a row
+  -- visits of an offset entry are all that characters in a row come to
   run_adds : (v : V) (first e c : ℕ) → IsRun home first e → first ≤ c → c < first + 64 → IsScalar c → after v home c e ≡ after_all after v home c (live_at falls_back home c)
   run_adds v first e c r low high s = offset_adds v (after v home c e) c e (sym (r.same c low high s)) r.offset refl
 
@@ -230,7 +230,7 @@ module _ {V : Type 0} (after : V → Data → ℕ → ℕ → V) (falls_back : B
       subst (To part v (after before home (first + n) e) first) next
       (walked_on part v before (after before home (first + n) e) first (first + n) (first + n + 1) (visited_run part v first e n r scalars (omega arith)) one)
 
-  -- and where visits of it change nothing, none of them is needed
+  -- where visits of an entry with characters in a row change nothing, none of them is needed
   same_run : (v : V) (first e n : ℕ) → ((c : ℕ) → first ≤ c → c < first + 64 → after v home c e ≡ v) → n ≤ 64 → after_run after v home first e n ≡ v
   unfolding after_run
   same_run v first e zero nothing h = refl
@@ -268,7 +268,7 @@ module _ {V : Type 0} (after : V → Data → ℕ → ℕ → V) (falls_back : B
       below_or : (c b : ℕ) → (c < b) ⊎ (b ≤ c)
       below_or c b = grind arith
 
-  -- and not at all where none does
+  -- a block is not visited again where no character of it leads to an entry that goes by it
   pub shared_again : (t : V) (first other : ℕ) → ((c : ℕ) → first ≤ c → c < first + 64 → IsScalar (other + (c - first)) × (home.value (other + (c - first)) ≡ home.value c))
       → IsShared home other → To ByCharacter t t first (first + 64)
   shared_again t first other same shared = record {
@@ -371,7 +371,7 @@ new_state d i b Unread s reads is = absurd is
 new_state d i b Visited s reads is = record { index = i; below = omega arith; scalar = s; reads = reads; is = is }
 new_state d i b Shared s reads is = record { index = i; below = omega arith; scalar = s; reads = reads; is = is }
 
--- one is set
+-- the state of one more block is set
 pub set_state : (d : CollationData) (i b : ℕ) (state : BlockState) (states : List BlockState) → b < length states → IsScalar (64 * i) → block_in d i ≡ b
     → IsState (data_of d) (64 * i) state → AreStates d i states → AreStates d (i + 1) (set states b state)
 set_state d i b state states inside s reads is are n low =
@@ -411,7 +411,7 @@ still_shared home old new bits more shared e has = elim (more e has) [ inl befor
 
 module _ {V : Type 0} (after : V → Data → ℕ → ℕ → V) (falls_back : Bool) (home : Data) where
   abbrev Held : VisitedEntries → V → V → ℕ → Type 0
-  Held = Holds after falls_back home
+  Held = HasWalked after falls_back home
 
   visited_left : (cs ds : List ℕ) (e : ℕ) → IsVisited home cs e → IsVisited home (cs ++ ds) e
   visited_left cs ds e v = record { char = v.char; among = Contains-append_left cs ds v.char v.among; has = v.has }
@@ -483,7 +483,7 @@ module _ {V : Type 0} (after : V → Data → ℕ → ℕ → V) (falls_back : B
 
 module _ {V : Type 0} (after : V → Data → ℕ → ℕ → V) (falls_back : Bool) (d : CollationData) (i : ℕ) (inside : i < 17408) where
   pub visited_again : (state : BlockState) → IsRead d i (block_in d i) state → (seen : VisitedEntries) (t u : V) → WalkedTo after falls_back ByCharacter (data_of d) t u (64 * i) (64 * i + 64)
-      → (s : V) → Holds after falls_back (data_of d) seen s t (64 * i) → Holds after falls_back (data_of d) seen s u (64 * i + 64)
+      → (s : V) → HasWalked after falls_back (data_of d) seen s t (64 * i) → HasWalked after falls_back (data_of d) seen s u (64 * i + 64)
   unfolding read_again
   visited_again state r seen t u again s h =
       record {
@@ -491,8 +491,8 @@ module _ {V : Type 0} (after : V → Data → ℕ → ℕ → V) (falls_back : B
         visited = λ e has. visited_left after falls_back (data_of d) h.walked.chars again.chars e (h.visited e has);
       }
 
-  pub unvisited_again : IsRead d i (block_in d i) Shared → (seen : VisitedEntries) (s t : V) → Holds after falls_back (data_of d) seen s t (64 * i)
-      → Holds after falls_back (data_of d) seen s t (64 * i + 64)
+  pub unvisited_again : IsRead d i (block_in d i) Shared → (seen : VisitedEntries) (s t : V) → HasWalked after falls_back (data_of d) seen s t (64 * i)
+      → HasWalked after falls_back (data_of d) seen s t (64 * i + 64)
   unvisited_again r seen s t =
       visited_again Shared r seen t t
       (shared_again after falls_back (data_of d) t (64 * i) (64 * r.index) (twins d i r.index r.below inside r.scalar r.reads) r.is) s

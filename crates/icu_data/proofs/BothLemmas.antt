@@ -39,7 +39,7 @@ module _ {V W : Type 0} (f : V → Data → ℕ → ℕ → V) (g : W → Data �
     each = λ c scalar. second_each walked.chars t c (walked.each c scalar);
   }
 
-  -- the same of a walk that may fail
+  -- a walk of two visitors that may fail is a walk of each
   pub on_first : {X E : Type 0} (r : Result X E) (v : V) (w : W) (t : V × W) → OnOk r (Walked (after_both f g) falls_back home (v, w) t) → OnOk r (Walked f falls_back home v t.0)
   on_first (Ok x) v w t walked = first_walked v w t walked
   on_first (Err e) v w t walked = tt

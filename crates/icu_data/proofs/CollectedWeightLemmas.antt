@@ -184,7 +184,7 @@ module _ {W : Type 0} (weight : W → Element → Option ℕ) (weigh : W) (falls
   abbrev Collected : W × (ℕ → Bool) → W × (ℕ → Bool) → Type 0
   Collected = Walked (collected_at weight) falls_back home
 
-  -- and so it is a walk of the weights
+  -- a walk of a collector is a walk of the weights that it holds
   kept_walk : (ws : ℕ → Bool) (s : W × (ℕ → Bool)) → Collected (weigh, ws) s → Walked kept falls_back home ws s.1
   kept_walk ws s w = record { chars = w.chars; scalars = w.scalars; adds_up = ap (λ s. s.1) is; each = λ c scalar. each c (w.each c scalar) }
     where
@@ -217,7 +217,7 @@ module _ {W : Type 0} (weight : W → Element → Option ℕ) (weigh : W) (falls
       (given_elements home c e) (all_members (given_elements home c e))))
       es (all_members es)
 
-  -- and back
+  -- what a weight that is held leads to, a weight that was held before or is given leads to
   abbrev Leads : ℕ → Type 0 → ℕ → ℕ → Type 0
   Leads w G c e = AllByRecursion (λ x. weight weigh x ≡ Some w → G) (given_elements home c e)
 

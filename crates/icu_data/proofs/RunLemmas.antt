@@ -140,7 +140,7 @@ run_given home first e d r c low below = given home d e r.offset r.inside r.take
 
 -- ---- what collects, after so many of them
 
--- one more of them
+-- the visit with one more character of a run
 module _ {W : Type 0} (weight : W → Element → Option ℕ) (home : Data) (first e : ℕ) where
   abbrev pub RanTo : W × (ℕ → Bool) → W × (ℕ → Bool) → ℕ → Type 0
   RanTo old new n = new ≡ after_run (collected_at weight) old home first e n

@@ -172,7 +172,7 @@ module _ {J F : Type 0} (rank : F → ℕ) (violation : J → Data → ℕ → �
   abbrev Judged : J × Option F → J × Option F → Type 0
   Judged = Walked (judged rank violation) falls_back home
 
-  -- and so it is a walk of the violation that is kept
+  -- a walk of a judge is a walk of the violation that is kept
   kept_walk : (o : Option F) (s : J × Option F) → Judged (judge, o) s → Walked kept falls_back home o s.1
   kept_walk o s w = record { chars = w.chars; scalars = w.scalars; adds_up = ap (λ s. s.1) is; each = λ c scalar. each c (w.each c scalar) }
     where
@@ -211,7 +211,7 @@ module _ {J F : Type 0} (rank : F → ℕ) (violation : J → Data → ℕ → �
     λ both. walk_keeps kept falls_back home (λ o. o ≡ None) (λ c scalar. weaker (Passes c) _ (none_on c) (live_at falls_back home c) (both.1 c scalar)) o end w both.0,
   )
 
-  -- one that is found is that of an entry
+  -- a violation that is found is that of an entry
   abbrev Among : ℕ → List ℕ → F → Type 0
   Among c es = IsViolationAmong (violation judge) home c es
 

@@ -3,13 +3,15 @@ use Rattle.std.specs.Prelude.{◌≡◌, ℕ, ◌+◌, ◌*◌, ◌/◌, ◌%◌
 use Rattle.icu_entries.specs.declared.error.DataErrorKind.{DataErrorKind}
 use Rattle.icu_entries.specs.declared.error.DataErrorKind.TheVariants.{Length, Index}
 
--- how many code points share a block, how many blocks they fill, and how many there are
+-- how many code points share a block
 abbrev pub block_len : ℕ
 block_len = 64
 
+-- how many blocks all code points fill
 abbrev pub block_count : ℕ
 block_count = 17408
 
+-- how many code points there are
 abbrev pub code_point_count : ℕ
 code_point_count = 0x110000
 
@@ -22,6 +24,7 @@ pub record HasWholeBlocks (blocks values : List ℕ) : Type 0 where
 abbrev pub HasBlocksInside : List ℕ → List ℕ → Type 0
 HasBlocksInside blocks values = All (λ b. 64 * b + 64 ≤ length values) blocks
 
+-- a table of blocks and values in which each code point has a value
 pub record IsCodePointTable (blocks values : List ℕ) : Type 0 where
   pub whole_blocks : HasWholeBlocks blocks values
   pub inside : HasBlocksInside blocks values

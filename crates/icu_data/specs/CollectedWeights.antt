@@ -1,6 +1,6 @@
 -- The weights of the elements of live entries, as they are collected. Those of implicit weights (UTS #10, "Implicit
 -- Weights") aren't: they follow from the character, and there are a million of them.
-use Rattle.std.specs.Prelude.{ℕ, ◌≡◌, Bool, true, false, ◌&&◌, List, Option, Some, IsTrue}
+use Rattle.std.specs.Prelude.{ℕ, ◌≡◌, Bool, true, false, ◌&&◌, ◌↔◌, ◌⊎◌, List, Option, Some, IsTrue}
 use Rattle.std.specs.Char.{IsScalar}
 use Rattle.std.specs.List.{Contains}
 use Rattle.icu_entries.specs.declared.entry.EntryKind.TheVariants.{Implicit}
@@ -25,8 +25,12 @@ pub record IsWeightAmong (weight : Element → Option ℕ) (home : Data) (c : �
   pub given : Contains (final_elements (homed home e) c) x
   pub weighs : weight x ≡ Some w
 
--- one that is collected of an element of an entry that is live with a character
+-- a weight that is collected of an element of an entry that is live with a character
 pub record IsLiveWeight (weight : Element → Option ℕ) (falls_back : Bool) (home : Data) (w : ℕ) : Type 0 where
   pub c : ℕ
   pub scalar : IsScalar c
   pub among : IsWeightAmong weight home c (live_at falls_back home c) w
+
+-- a list holds what it held, and what is P
+abbrev pub Adds : (ℕ → Type 0) → List ℕ → List ℕ → Type 0
+Adds P old new = (w : ℕ) → Contains new w ↔ (Contains old w ⊎ P w)

@@ -1,7 +1,7 @@
 -- What a root or a tailoring says, apart from how it is stored.
 use Rattle.std.specs.Prelude.{ℕ, Bool, true, ◌&&◌, nat_lt, nat_eq, List, [], ◌∷◌, Option, Some, None, if◌then◌else◌, slice_index, slice_index_or, bytes_eq, length}
 use Rattle.std.specs.List.{starts_with}
-use Rattle.icu_entries.specs.Elements.{Element}
+use Rattle.icu_entries.specs.Elements.{Element, end_element}
 use Rattle.icu_entries.specs.Entries.{entry_index}
 
 -- a list of characters with its entry
@@ -9,12 +9,14 @@ pub record Row : Type 0 where
   pub chars : List ℕ
   pub entry : ℕ
 
--- what a character means beside others: an entry for each of some lists of characters, and one for all else
+-- what a character means beside others: an entry for each of some lists of characters, and one for all else (UTS #35
+-- part 5, "Context-Sensitive Mappings")
 pub record Context : Type 0 where
   pub default : ℕ
   pub rows : List Row
 
--- A root or a tailoring: a function from characters to entries, and the lists and contexts that entries name.
+-- A root or a tailoring: a function from characters to entries, and the lists and contexts that entries name (UTS #35
+-- part 5, "Collation Tailorings").
 pub record Data : Type 0 where
   pub value : ℕ → ℕ
   pub elements : List Element
@@ -26,15 +28,25 @@ pub record HomedEntry : Type 0 where
   pub home : Data
   pub entry : ℕ
 
+-- an entry with this home
 abbrev pub homed : Data → ℕ → HomedEntry
 homed home e = record { home = home; entry = e }
 
--- the context that an entry refers to, or an empty one where its home has none at that index
+-- the empty context
 abbrev pub no_context : Context
 no_context = record { default = 0; rows = [] }
 
+-- the context at an index, or the empty one where there is none
+abbrev pub context_in : List Context → ℕ → Context
+context_in contexts index = slice_index_or contexts index no_context
+
+-- the context that an entry refers to, or the empty one where its home has none at that index
 abbrev pub context_of : HomedEntry → Context
-context_of h = slice_index_or h.home.contexts (entry_index h.entry) no_context
+context_of h = context_in h.home.contexts (entry_index h.entry)
+
+-- the data that an offset entry refers to, or the end element where its home has none at that index
+abbrev pub data_element : Data → ℕ → Element
+data_element home e = slice_index_or home.elements (entry_index e) end_element
 
 -- the plain entry that a digit entry refers to, or 0 where its home has none at that index
 abbrev pub plain_of : Data → ℕ → ℕ
@@ -45,6 +57,7 @@ unfoldable pub row_entry : List Row → List ℕ → Option ℕ
 row_entry [] chars = None
 row_entry (row ∷ rows) chars = if bytes_eq row.chars chars then Some row.entry else row_entry rows chars
 
+-- the row has more characters than the other one, or there is no other one
 abbrev pub is_longer : Row → Option Row → Bool
 is_longer row None = true
 is_longer row (Some best) = nat_lt (length best.chars) (length row.chars)
@@ -53,10 +66,11 @@ is_longer row (Some best) = nat_lt (length best.chars) (length row.chars)
 abbrev pub better : Option Row → Row → List ℕ → Option Row
 better best row text = if starts_with nat_eq text row.chars && is_longer row best then Some row else best
 
+-- the longest of the rows that begin the text, and of the best before them
 unfoldable pub longest_from : Option Row → List Row → List ℕ → Option Row
 longest_from best [] text = best
 longest_from best (row ∷ rows) text = longest_from (better best row text) rows text
 
--- the longest row that begins the text
+-- the longest row that begins the text (UTS #10, "Produce Collation Element Arrays")
 abbrev pub longest_row : List Row → List ℕ → Option Row
 longest_row = longest_from None

@@ -1,6 +1,6 @@
 -- The conditions on one entry of a root or a tailoring, each in one word over the entry, its home and, where it counts,
 -- its character.
-use Rattle.std.specs.Prelude.{ℕ, ◌+◌, Bool, true, not, ◌&&◌, nat_le, nat_lt, length, take, drop}
+use Rattle.std.specs.Prelude.{ℕ, ◌+◌, Bool, true, not, ◌&&◌, nat_le, nat_lt, List, length, take, drop}
 use Rattle.std.specs.List.{list_all}
 use Rattle.icu_entries.specs.declared.entry.EntryKind.TheVariants.{Expansion32, Expansion, Prefix, Contraction, Digit, Offset}
 use Rattle.icu_entries.specs.Entries.{kind_of, entry_index, is_self_contained}
@@ -39,6 +39,7 @@ diacritics_base = 0x300
 abbrev pub is_diacritic : ℕ → ℕ → Bool
 is_diacritic count c = nat_le diacritics_base c && nat_lt c (diacritics_base + count)
 
+-- none of the row's characters is a diacritic
 abbrev pub row_avoids : ℕ → Row → Bool
 row_avoids count row = list_all (λ c. not (is_diacritic count c)) row.chars
 
@@ -50,12 +51,20 @@ avoids_diacritics count home e =
       | _ ↦ true
     ]
 
+-- a prefix may lead to each of these entries: none of them is a prefix
+abbrev pub all_may_follow_prefix : List ℕ → Bool
+all_may_follow_prefix = list_all (λ e. may_follow_prefix (kind_of e))
+
+-- a contraction may lead to each of these entries: none of them is a prefix or a contraction
+abbrev pub all_may_follow_contraction : List ℕ → Bool
+all_may_follow_contraction = list_all (λ e. may_follow_contraction (kind_of e))
+
 -- a prefix leads to no prefix, a contraction to neither, and a digit to a final entry
 unfoldable pub leads_on : Data → ℕ → Bool
 leads_on home e =
     elim (kind_of e) [
-      | Prefix ↦ list_all (λ f. may_follow_prefix (kind_of f)) (named_entries home e)
-      | Contraction ↦ list_all (λ f. may_follow_contraction (kind_of f)) (named_entries home e)
+      | Prefix ↦ all_may_follow_prefix (named_entries home e)
+      | Contraction ↦ all_may_follow_contraction (named_entries home e)
       | Digit ↦ is_final (kind_of (plain_of home e))
       | _ ↦ true
     ]

@@ -1,4 +1,4 @@
--- The elements of a final entry: one that needs no other text.
+-- The elements of a final entry: one that needs no other text (UTS #10, "Expansions").
 use Rattle.std.specs.Prelude.{ℕ, List, [], ◌∷◌, take, drop, map, flat_map}
 use Rattle.icu_entries.specs.Elements.{Element, of_primary}
 use Rattle.icu_entries.specs.declared.entry.EntryKind.TheVariants.{Expansion32, Expansion, Offset, Implicit}
@@ -10,8 +10,8 @@ use Rattle.icu_data.specs.Data.{HomedEntry}
 abbrev pub listed : {A : Type 0} → ℕ → List A → List A
 listed e xs = take (list_length e) (drop (entry_index e) xs)
 
--- the elements that a final entry gives for a character; any other entry has none, nor has an offset entry whose data
--- is missing
+-- the elements that a final entry gives for a character (UTS #10, "Expansions"); any other entry has none, nor has an
+-- offset entry whose data is missing
 unfoldable pub final_elements : HomedEntry → ℕ → List Element
 final_elements h c =
     elim (kind_of h.entry) [

@@ -13,6 +13,7 @@ use Rattle.icu_data.specs.Data.{Row, Context, Data, homed, context_of, plain_of}
 abbrev pub context_entries : Context → List ℕ
 context_entries context = context.default ∷ map (λ (row : Row). row.entry) context.rows
 
+-- what the context leads to that an entry refers to
 abbrev pub named_entries : Data → ℕ → List ℕ
 named_entries home e = context_entries (context_of (homed home e))
 
@@ -31,7 +32,7 @@ live_from home e =
     elim (kind_of e) [ Prefix ↦ e ∷ flat_map (live_contraction home) (named_entries home e) | _ ↦ live_contraction home e ]
 
 -- The entries that are live with a character of a code point table. A tailoring falls back: where its entry is
--- fallback, the root's stands for it, and it has none.
+-- fallback, the root's stands for it, and it has none (UTS #35 part 5, "Collation Tailorings").
 abbrev pub live_at : Bool → Data → ℕ → List ℕ
 live_at falls_back home c = if falls_back && home.value c == fallback_entry then [] else live_from home (home.value c)
 
@@ -40,7 +41,7 @@ live_at falls_back home c = if falls_back && home.value c == fallback_entry then
 unfoldable pub goes_by_character : ℕ → Bool
 goes_by_character e = elim (kind_of e) [ Offset ↦ true | Implicit ↦ true | _ ↦ false ]
 
--- such an entry is live from this one
+-- an entry that gives what goes by its character is live from this one
 unfoldable pub leads_to_character : Data → ℕ → Bool
 leads_to_character home e = list_any goes_by_character (live_from home e)
 

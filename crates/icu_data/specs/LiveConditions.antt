@@ -5,6 +5,7 @@ use Rattle.icu_entries.specs.declared.error.DataErrorKind.{DataErrorKind}
 use Rattle.icu_entries.specs.declared.error.DataErrorKind.TheVariants as kinds
 use Rattle.icu_data.specs.declared.live_condition.LiveCondition.{LiveCondition}
 use Rattle.icu_data.specs.declared.live_condition.LiveCondition.TheVariants.{Indices, PrefixRows, Chains, Digits, Bytes, Offsets, Shapes, Leads, Primaries}
+use Rattle.icu_entries.specs.declared.element_conditions.ElementCondition.{ElementCondition}
 use Rattle.icu_entries.specs.declared.element_conditions.ElementCondition.TheVariants as of_element
 use Rattle.icu_entries.specs.ElementConditions.{element_meets}
 use Rattle.icu_data.specs.DataConditions.{is_inside, has_short_rows, leads_on, has_known_members, fits_offset}
@@ -12,6 +13,10 @@ use Rattle.icu_entries.specs.EntryConditions.{has_digit, has_known_byte}
 use Rattle.icu_data.specs.Data.{Data, homed}
 use Rattle.icu_data.specs.Final.{final_elements}
 use Rattle.icu_data.specs.Live.{EachLive}
+
+-- each element that an entry of this home gives with the character meets the condition on elements
+abbrev pub elements_meet : ElementCondition → Data → ℕ → ℕ → Bool
+elements_meet condition home c e = list_all (element_meets condition) (final_elements (homed home e) c)
 
 -- an entry of this home meets the condition where it is live with this character
 abbrev pub meets : LiveCondition → Data → ℕ → ℕ → Bool
@@ -21,11 +26,11 @@ meets Chains home c e = leads_on home e
 meets Digits home c e = has_digit e
 meets Bytes home c e = has_known_byte e && has_known_members home e
 meets Offsets home c e = fits_offset home c e
-meets Shapes home c e = list_all (element_meets of_element.Shape) (final_elements (homed home e) c)
-meets Leads home c e = list_all (element_meets of_element.Leads) (final_elements (homed home e) c)
-meets Primaries home c e = list_all (element_meets of_element.Primary) (final_elements (homed home e) c)
+meets Shapes home c e = elements_meet of_element.Shape home c e
+meets Leads home c e = elements_meet of_element.Leads home c e
+meets Primaries home c e = elements_meet of_element.Primary home c e
 
--- all of them, in the order in which they are reported
+-- all conditions, in the order in which they are reported
 abbrev pub live_conditions : List LiveCondition
 live_conditions = Indices ∷ PrefixRows ∷ Chains ∷ Digits ∷ Bytes ∷ Offsets ∷ Shapes ∷ Leads ∷ Primaries ∷ []
 
@@ -49,7 +54,7 @@ kind_for Primaries = kinds.Element
 abbrev pub EachMeets : LiveCondition → Bool → Data → Type 0
 EachMeets condition falls_back home = EachLive (λ c e. IsTrue (meets condition home c e)) falls_back home
 
--- each meets each condition
+-- each entry that is live with a character of the code point table meets each condition
 pub record IsGoodData (falls_back : Bool) (home : Data) : Type 0 where
   pub each : (condition : LiveCondition) → EachMeets condition falls_back home
 

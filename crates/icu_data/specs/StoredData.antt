@@ -18,13 +18,15 @@ table_value t = stored_value t.blocks.now t.values.now
 abbrev pub table_block : CodePointTable → ℕ → ℕ
 table_block t i = slice_index t.blocks.now i
 
--- the contexts of a context table, one that was looked up, and a row of one
+-- the contexts of a context table
 abbrev pub contexts_of : ContextTable → List Context
 contexts_of t = stored_contexts t.contexts.now t.rows.now t.chars.now
 
+-- a context that was looked up
 abbrev pub found_context : FoundContext → Context
 found_context f = record { default = f.default; rows = rows_of f.chars.now f.rows.now }
 
+-- a row that was looked up
 abbrev pub found_row : FoundRow → Row
 found_row r = record { chars = r.chars.now; entry = r.entry }
 
@@ -33,8 +35,10 @@ abbrev pub data_by : CodePointTable → List ℕ → List ℕ → ContextTable �
 data_by trie ces ce32s contexts =
     record { value = table_value trie; elements = map element_of ces; entries = ce32s; contexts = contexts_of contexts }
 
+-- the number of the block that 64 code points of a root or a tailoring share
 abbrev pub block_in : CollationData → ℕ → ℕ
 block_in d i = table_block d.trie i
 
+-- what a root or a tailoring that is stored says
 unfoldable pub data_of : CollationData → Data
 data_of d = data_by d.trie d.ces.now d.ce32s.now d.contexts

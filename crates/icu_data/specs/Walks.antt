@@ -1,5 +1,5 @@
 -- A walk over the entries that are live with characters.
-use Rattle.std.specs.Prelude.{ℕ, zero, suc, ◌+◌, ◌≡◌, ◌⊎◌, Bool, false, List, fold}
+use Rattle.std.specs.Prelude.{ℕ, zero, suc, ◌+◌, ◌≡◌, ◌≤◌, ◌<◌, ◌⊎◌, Bool, false, List, fold}
 use Rattle.std.specs.Char.{IsScalar}
 use Rattle.std.specs.List.{AllByRecursion, Contains}
 use Rattle.icu_entries.specs.declared.entry.EntryKind.TheVariants.{Implicit}
@@ -11,9 +11,21 @@ use Rattle.icu_data.specs.Live.{live_at, leads_to_character}
 abbrev pub after_all : {V : Type 0} → (V → Data → ℕ → ℕ → V) → V → Data → ℕ → List ℕ → V
 after_all after v home c es = fold (λ v e. after v home c e) v es
 
+-- what a visitor is after what an entry leads to, in order
+abbrev pub after_lead : {V : Type 0} → (V → Data → ℕ → ℕ → V) → (Data → ℕ → List ℕ) → Data → ℕ → ℕ → V → V
+after_lead after lead home c e v = after_all after v home c (lead home e)
+
+-- what a visitor is after the entries that are live with a character of the code point table, in order
+abbrev pub after_char : {V : Type 0} → (V → Data → ℕ → ℕ → V) → Bool → Data → ℕ → V → V
+after_char after falls_back home c v = after_all after v home c (live_at falls_back home c)
+
 -- what a visitor is after the entries that are live with each of these characters, in order
 abbrev pub after_chars : {V : Type 0} → (V → Data → ℕ → ℕ → V) → Bool → V → Data → List ℕ → V
-after_chars after falls_back v home cs = fold (λ v c. after_all after v home c (live_at falls_back home c)) v cs
+after_chars after falls_back v home cs = fold (λ v c. after_char after falls_back home c v) v cs
+
+-- what holds of each of the 64 code points from one on
+abbrev pub EachOfBlock : ℕ → (ℕ → Type 0) → Type 0
+EachOfBlock first P = (c : ℕ) → first ≤ c → c < first + 64 → P c
 
 -- what a visitor is after visits of an entry with so many characters in a row, from one on
 unfoldable pub after_run : {V : Type 0} → (V → Data → ℕ → ℕ → V) → V → Data → ℕ → ℕ → ℕ → V

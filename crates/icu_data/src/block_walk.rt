@@ -1,14 +1,13 @@
 //! A walk over all characters, block by block: what is stored once is visited once, as far as it doesn't go by the
 //! character.
-ghost use Rattle.std.specs.Prelude.{◌≡◌, ℕ, ◌+◌, ◌*◌, ◌^◌, ◌≤◌, ◌<◌, ◌||◌, ◌⊎◌, Bool, true, false, IfSome, OnOk, IsTrue};
+ghost use Rattle.std.specs.Prelude.{◌≡◌, ◌+◌, ◌*◌, ◌^◌, ◌<◌, ◌||◌, Bool, true, false, IfSome, OnOk, IsTrue};
 ghost use Rattle.std.specs.Char.{IsScalar};
 ghost use Rattle.icu_entries.specs.Entries.{kind_of};
 ghost use Rattle.icu_data.specs.Data.{Data};
-ghost use Rattle.icu_data.specs.Live.{goes_by_character, leads_to_character, live_at};
+ghost use Rattle.icu_data.specs.Live.{goes_by_character, leads_to_character};
 ghost use Rattle.icu_data.specs.StoredData.{data_of, block_in};
-ghost use Rattle.icu_data.specs.Walks.{Walked, after_all};
-ghost use Rattle.icu_data.specs.inner.BlockWalks.{is_wanted, WalkedTo, Holds, AreShared, IsRun, IsState, AreStates};
-ghost use Rattle.icu_data.specs.inner.VisitedEntries.{IsRemembered};
+ghost use Rattle.icu_data.specs.Walks.{Walked, after_char, EachOfBlock};
+ghost use Rattle.icu_data.specs.inner.BlockWalks.{is_wanted, WalkedTo, WalksOn, AddsShared, AreShared, IsRun, IsState, AreStates};
 
 use crate::data::CollationData;
 use crate::visited_entries::VisitedEntries;
@@ -19,11 +18,11 @@ use std::convert::Infallible;
 /// Which characters are visited.
 #[derive(Clone, Copy)]
 enum Part {
-    /// All but those with an implicit weight (UTS #10, "Implicit Weights").
+    /// Characters without an implicit weight (UTS #10, "Implicit Weights").
     Stated,
-    /// Of these, those that lead to an entry that goes by its character.
+    /// Characters without an implicit weight that lead to an entry that goes by its character.
     ByCharacter,
-    /// Those with an implicit weight.
+    /// Characters with an implicit weight.
     Implicit,
 }
 
@@ -32,9 +31,9 @@ enum Part {
 enum BlockState {
     /// No character read it so far.
     Unread,
-    /// They were visited, and some lead to entries that go by their character.
+    /// The values were visited, and some lead to entries that go by their character.
     Visited,
-    /// They were visited, and none leads to such an entry.
+    /// The values were visited, and none leads to an entry that goes by its character.
     Shared,
 }
 
@@ -138,7 +137,8 @@ fn visit_char<V: Visit>(
     falls_back: bool,
 ) -> Result<(), V::Refusal>
     requires { entry ≡ (data_of home).value c }
-    ensures { OnOk result (V.seen visitor.new ≡ after_all V.after (V.seen visitor.old) (data_of home.entry) c (live_at falls_back (data_of home.entry) c)) }
+    ensures { OnOk result (V.seen visitor.new
+        ≡ after_char V.after falls_back (data_of home.entry) c (V.seen visitor.old)) }
 {
     if falls_back && entry.is_fallback() {
         return Ok(());
@@ -149,6 +149,7 @@ fn visit_char<V: Visit>(
     visit_from(visitor, home, c, entry)
 }
 
+/// Visits the character at a code point, if it is of the part.
 fn visit_code<V: Visit>(
     visitor: &mut V,
     home: CollationData<'_>,
@@ -156,7 +157,8 @@ fn visit_code<V: Visit>(
     falls_back: bool,
     part: Part,
 ) -> Result<(), V::Refusal>
-    ensures { OnOk result (WalkedTo V.after falls_back part (data_of home.entry) (V.seen visitor.old) (V.seen visitor.new) code (code + 1)) }
+    ensures { OnOk result (WalkedTo V.after falls_back part (data_of home.entry)
+        (V.seen visitor.old) (V.seen visitor.new) code (code + 1)) }
 {
     match char::from_u32(code) {
         Some(c) => {
@@ -181,7 +183,8 @@ fn visit_codes<V: Visit>(
     part: Part,
 ) -> Result<(), V::Refusal>
     requires { first + count < 2 ^ 32 }
-    ensures { OnOk result (WalkedTo V.after falls_back part (data_of home.entry) (V.seen visitor.old) (V.seen visitor.new) first (first + count)) }
+    ensures { OnOk result (WalkedTo V.after falls_back part (data_of home.entry)
+        (V.seen visitor.old) (V.seen visitor.new) first (first + count)) }
 {
     for code in first..first + count {
         visit_code(visitor, home, code, falls_back, part)?;
@@ -192,7 +195,7 @@ fn visit_codes<V: Visit>(
 /// Remembers an entry that was visited, if it leads to a list or a context, so that it is worth it, and to none that
 /// goes by its character.
 fn remember(home: CollationData<'_>, bits: u32, seen: &mut VisitedEntries)
-    ensures { (e : ℕ) → IsRemembered seen.new e → IsRemembered seen.old e ⊎ ((e ≡ bits) × (leads_to_character (data_of home.entry) e ≡ false)) }
+    ensures { AddsShared (data_of home.entry) seen.old seen.new bits }
 {
     let entry = CollationElement32::new(bits);
     let long = matches!(
@@ -214,7 +217,8 @@ fn visit_new_code<V: Visit>(
 ) -> Result<(), V::Refusal>
     requires { AreShared (data_of home) seen.old }
     ensures shared { AreShared (data_of home.entry) seen.new }
-    ensures walks { OnOk result ((start : V.Seen) → Holds V.after falls_back (data_of home.entry) seen.old start (V.seen visitor.old) code → Holds V.after falls_back (data_of home.entry) seen.new start (V.seen visitor.new) (code + 1)) }
+    ensures walks { OnOk result (WalksOn V.after falls_back (data_of home.entry) seen.old seen.new
+        (V.seen visitor.old) (V.seen visitor.new) code (code + 1)) }
 {
     let Some(c) = char::from_u32(code) else {
         return Ok(());
@@ -243,7 +247,8 @@ fn visit_new_codes<V: Visit>(
     requires first { first < 0x110000 }
     requires shared { AreShared (data_of home) seen.old }
     ensures shared { AreShared (data_of home.entry) seen.new }
-    ensures walks { OnOk result ((start : V.Seen) → Holds V.after falls_back (data_of home.entry) seen.old start (V.seen visitor.old) first → Holds V.after falls_back (data_of home.entry) seen.new start (V.seen visitor.new) (first + 64)) }
+    ensures walks { OnOk result (WalksOn V.after falls_back (data_of home.entry) seen.old seen.new
+        (V.seen visitor.old) (V.seen visitor.new) first (first + 64)) }
 {
     for code in first..first + 64 {
         visit_new_code(visitor, home, code, falls_back, seen)?;
@@ -254,7 +259,8 @@ fn visit_new_codes<V: Visit>(
 /// Whether a character leads to an entry that goes by it, but for an implicit weight.
 fn is_by_character(home: CollationData<'_>, c: char, seen: &VisitedEntries) -> bool
     requires { AreShared (data_of home) seen.now }
-    ensures { result ≡ is_wanted Part.ByCharacter (data_of home.entry) ((data_of home.entry).value c) }
+    ensures { result
+        ≡ is_wanted Part.ByCharacter (data_of home.entry) ((data_of home.entry).value c) }
 {
     let bits = home.bits_for_char(c);
     !seen.has(bits) && is_wanted(Part::ByCharacter, home, CollationElement32::new(bits))
@@ -305,8 +311,9 @@ fn visit_again<V: Visit>(
     first: char,
     falls_back: bool,
 ) -> Result<(), V::Refusal>
-    requires { (c : ℕ) → first ≤ c → c < first + 64 → IsScalar c }
-    ensures { OnOk result (WalkedTo V.after falls_back Part.ByCharacter (data_of home.entry) (V.seen visitor.old) (V.seen visitor.new) first (first + 64)) }
+    requires { EachOfBlock first IsScalar }
+    ensures { OnOk result (WalkedTo V.after falls_back Part.ByCharacter (data_of home.entry)
+        (V.seen visitor.old) (V.seen visitor.new) first (first + 64)) }
 {
     if let Some(entry) = run_entry(home, first) {
         if visitor.passes_run(home, first, entry) {
@@ -340,7 +347,8 @@ fn visit_block<V: Visit>(
     requires shared { AreShared (data_of home) seen.old }
     requires states { AreStates home index states.old }
     ensures shared { OnOk result (AreShared (data_of home.entry) seen.new) }
-    ensures visits { OnOk result ((start : V.Seen) → Holds V.after falls_back (data_of home.entry) seen.old start (V.seen visitor.old) (64 * index) → Holds V.after falls_back (data_of home.entry) seen.new start (V.seen visitor.new) (64 * index + 64)) }
+    ensures visits { OnOk result (WalksOn V.after falls_back (data_of home.entry) seen.old seen.new
+        (V.seen visitor.old) (V.seen visitor.new) (64 * index) (64 * index + 64)) }
     ensures states { OnOk result (AreStates home.entry (index + 1) states.new) }
 {
     let block = usize::from(home.block(index as usize));
@@ -358,7 +366,8 @@ fn visit_block<V: Visit>(
     }
 }
 
-/// The same of any block. Those from D800 to DFFF are no characters', and aren't taken as read.
+/// Visits what a block shows that wasn't visited in another block of the same number, if its code points are
+/// characters': those from D800 to DFFF aren't, and aren't taken as read.
 fn visit_index<V: Visit>(
     visitor: &mut V,
     home: CollationData<'_>,
@@ -371,7 +380,8 @@ fn visit_index<V: Visit>(
     requires shared { AreShared (data_of home) seen.old }
     requires states { AreStates home index states.old }
     ensures shared { OnOk result (AreShared (data_of home.entry) seen.new) }
-    ensures visits { OnOk result ((start : V.Seen) → Holds V.after falls_back (data_of home.entry) seen.old start (V.seen visitor.old) (64 * index) → Holds V.after falls_back (data_of home.entry) seen.new start (V.seen visitor.new) (64 * index + 64)) }
+    ensures visits { OnOk result (WalksOn V.after falls_back (data_of home.entry) seen.old seen.new
+        (V.seen visitor.old) (V.seen visitor.new) (64 * index) (64 * index + 64)) }
     ensures states { OnOk result (AreStates home.entry (index + 1) states.new) }
 {
     match char::from_u32(64 * index) {
@@ -386,7 +396,8 @@ fn visit_stated<V: Visit>(
     home: CollationData<'_>,
     falls_back: bool,
 ) -> Result<(), V::Refusal>
-    ensures { OnOk result (WalkedTo V.after falls_back Part.Stated (data_of home.entry) (V.seen visitor.old) (V.seen visitor.new) 0 0x110000) }
+    ensures { OnOk result (WalkedTo V.after falls_back Part.Stated (data_of home.entry)
+        (V.seen visitor.old) (V.seen visitor.new) 0 0x110000) }
 {
     let mut seen = VisitedEntries::new();
     let mut states = [BlockState::Unread; 0x10000];
@@ -405,7 +416,8 @@ pub fn visit_chars<V: Visit>(
     home: CollationData<'_>,
     falls_back: bool,
 ) -> Result<(), V::Refusal>
-    ensures { OnOk result (Walked V.after falls_back (data_of home.entry) (V.seen visitor.old) (V.seen visitor.new)) }
+    ensures { OnOk result (Walked V.after falls_back (data_of home.entry)
+        (V.seen visitor.old) (V.seen visitor.new)) }
 {
     visit_stated(visitor, home, falls_back)?;
     if visitor.passes_implicit() {

@@ -30,7 +30,8 @@ impl<'d> CodePointTable<'d> {
     pub fn new(blocks: &'d [u16], values: &'d [u32]) -> Result<CodePointTable<'d>, DataErrorKind>
         ensures accepts { IsOk result ↔ IsCodePointTable blocks.entry.now values.entry.now }
         ensures kind { IfErr result (FailsBlocks blocks.entry.now values.entry.now) }
-        ensures keeps { IfOk result (λ t. table_value t ≡ stored_value blocks.entry.now values.entry.now) }
+        ensures keeps { IfOk result
+            (λ t. table_value t ≡ stored_value blocks.entry.now values.entry.now) }
     {
         if blocks.len() != BLOCK_COUNT || values.len() % BLOCK_LEN != 0 {
             return Err(DataErrorKind::Length);

@@ -1,6 +1,6 @@
 //! The contexts of prefixes and contractions.
-ghost use Rattle.std.specs.Prelude.{◌≡◌, ◌↔◌, ◌<◌, ◌≤◌, ℕ, IsOk, IfOk, IfErr, IsTrue, All, length, take, drop, slice_index_or, slice_get, Some, []};
-ghost use Rattle.icu_data.specs.Data.{no_context};
+ghost use Rattle.std.specs.Prelude.{◌≡◌, ◌↔◌, ◌<◌, ◌≤◌, ℕ, IsOk, IfOk, IfErr, IsTrue, All, length, take, drop, slice_get, Some, []};
+ghost use Rattle.icu_data.specs.Data.{context_in};
 ghost use Rattle.icu_data.specs.Contexts.{row_of, rows_of, stored_contexts, HasRowsInside, HasCharsInside, HasRangesInside, is_before, ascend_from, has_ascending_rows, HasAscendingRows, IsContextTable, FailsContexts};
 
 use icu_entries::{CollationElement32, DataErrorKind};
@@ -89,7 +89,8 @@ pub(crate) fn chars_of(row: ContextRow, chars: &[char]) -> &[char]
 fn rows_of_context(context: Context, rows: &[ContextRow]) -> &[ContextRow]
     requires { HasRowsInside (length rows.now) context }
     ensures value { result.now ≡ take context.rows_len (drop context.rows_start rows.entry.now) }
-    ensures inside { (n : ℕ) → All (HasCharsInside n) rows.entry.now → All (HasCharsInside n) result.now }
+    ensures inside { (n : ℕ) → All (HasCharsInside n) rows.entry.now
+        → All (HasCharsInside n) result.now }
 {
     let start = context.rows_start as usize;
     &rows[start..start + context.rows_len as usize]
@@ -128,17 +129,22 @@ fn have_ascending_rows(contexts: &[Context], rows: &[ContextRow], chars: &[char]
 impl<'d> ContextTable<'d> {
     ghost use Rattle.icu_data.specs.StoredData.{contexts_of, found_context};
 
-    /// Borrows contexts, their rows, and the rows' characters. Refuses with `Index` if a range lies outside its list,
-    /// and with `Context` if in a context a row has no character, or the rows do not ascend by the numbers of their
-    /// characters, a beginning before the longer.
+    /// Borrows contexts, their rows, and the rows' characters. They are refused:
+    ///
+    /// - `Index`: a range lies outside its list.
+    /// - `Context`: in a context a row has no character, or the rows do not ascend by the numbers of their characters, a
+    ///   prefix of a list before the list.
     pub fn new(
         contexts: &'d [Context],
         rows: &'d [ContextRow],
         chars: &'d [char],
     ) -> Result<ContextTable<'d>, DataErrorKind>
-        ensures accepts { IsOk result ↔ IsContextTable contexts.entry.now rows.entry.now chars.entry.now }
-        ensures kind { IfErr result (FailsContexts contexts.entry.now rows.entry.now chars.entry.now) }
-        ensures keeps { IfOk result (λ t. contexts_of t ≡ stored_contexts contexts.entry.now rows.entry.now chars.entry.now) }
+        ensures accepts { IsOk result
+            ↔ IsContextTable contexts.entry.now rows.entry.now chars.entry.now }
+        ensures kind { IfErr result
+            (FailsContexts contexts.entry.now rows.entry.now chars.entry.now) }
+        ensures keeps { IfOk result (λ t.
+            contexts_of t ≡ stored_contexts contexts.entry.now rows.entry.now chars.entry.now) }
     {
         if !has_ranges_inside(contexts, rows, chars) {
             return Err(DataErrorKind::Index);
@@ -153,7 +159,8 @@ impl<'d> ContextTable<'d> {
     /// numbers of their characters.
     #[tactic(auto, using(crate::proofs::ContextLemmas::ascending_rows))]
     pub fn parts(self) -> (&'d [Context], &'d [ContextRow], &'d [char])
-        ensures value { stored_contexts result.0.now result.1.now result.2.now ≡ contexts_of self.entry }
+        ensures value { stored_contexts result.0.now result.1.now result.2.now
+            ≡ contexts_of self.entry }
         ensures table { IsContextTable result.0.now result.1.now result.2.now }
         ensures ascending { All (λ x. IsTrue (has_ascending_rows x)) (contexts_of self.entry) }
     {
@@ -167,7 +174,8 @@ impl<'d> ContextTable<'d> {
         chars: &'d [char],
     ) -> ContextTable<'d>
         requires { IsContextTable contexts.now rows.now chars.now }
-        ensures { contexts_of result ≡ stored_contexts contexts.entry.now rows.entry.now chars.entry.now }
+        ensures { contexts_of result
+            ≡ stored_contexts contexts.entry.now rows.entry.now chars.entry.now }
     {
         ContextTable {
             contexts,
@@ -198,7 +206,7 @@ impl<'d> ContextTable<'d> {
     #[tactic(auto, using(crate::proofs::ContextLemmas::ascending_rows))]
     pub fn get(self, index: usize) -> FoundContext<'d>
         requires { index < length (contexts_of self) }
-        ensures value { found_context result ≡ slice_index_or (contexts_of self.entry) index no_context }
+        ensures value { found_context result ≡ context_in (contexts_of self.entry) index }
         ensures ascending { IsTrue (has_ascending_rows (found_context result)) }
     {
         let context = self.contexts[index];
@@ -211,7 +219,7 @@ impl<'d> ContextTable<'d> {
 
     /// The context at an index, or an empty one where there is none.
     pub(crate) fn get_or_empty(self, index: usize) -> FoundContext<'d>
-        ensures { found_context result ≡ slice_index_or (contexts_of self.entry) index no_context }
+        ensures { found_context result ≡ context_in (contexts_of self.entry) index }
     {
         if index < self.contexts.len() {
             self.get(index)

@@ -5,7 +5,7 @@ ghost use Rattle.icu_data.specs.declared.context.ContextRow.{ContextRow};
 ghost use Rattle.icu_entries.specs.Entries.{kind_of};
 ghost use Rattle.icu_data.specs.Live.{context_entries};
 ghost use Rattle.icu_data.specs.Contexts.{row_of, rows_of, HasCharsInside};
-ghost use Rattle.icu_data.specs.DataConditions.{is_short};
+ghost use Rattle.icu_data.specs.DataConditions.{is_short, all_may_follow_prefix, all_may_follow_contraction};
 ghost use Rattle.icu_entries.specs.EntryConditions.{may_follow_prefix, may_follow_contraction};
 
 use crate::context::{ContextRow, FoundContext, chars_of};
@@ -33,7 +33,8 @@ fn may_follow_prefix(entry: u32) -> bool
 }
 
 fn all_may_follow_prefix(rows: &[ContextRow]) -> bool
-    ensures { result ≡ list_all (λ (row : ContextRow). may_follow_prefix (kind_of row.entry)) rows.now }
+    ensures { result
+        ≡ list_all (λ (row : ContextRow). may_follow_prefix (kind_of row.entry)) rows.now }
 {
     rows.iter().all(|row| may_follow_prefix(row.entry))
 }
@@ -47,7 +48,8 @@ fn may_follow_contraction(entry: u32) -> bool
 }
 
 fn all_may_follow_contraction(rows: &[ContextRow]) -> bool
-    ensures { result ≡ list_all (λ (row : ContextRow). may_follow_contraction (kind_of row.entry)) rows.now }
+    ensures { result
+        ≡ list_all (λ (row : ContextRow). may_follow_contraction (kind_of row.entry)) rows.now }
 {
     rows.iter().all(|row| may_follow_contraction(row.entry))
 }
@@ -65,14 +67,14 @@ impl<'d> FoundContext<'d> {
 
     /// Whether a prefix may lead to each of the entries.
     pub(crate) fn may_follow_prefix(self) -> bool
-        ensures { result ≡ list_all (λ f. may_follow_prefix (kind_of f)) (context_entries (found_context self.entry)) }
+        ensures { result ≡ all_may_follow_prefix (context_entries (found_context self.entry)) }
     {
         may_follow_prefix(self.default) && all_may_follow_prefix(self.rows)
     }
 
-    /// Whether a contraction may.
+    /// Whether a contraction may lead to each of the entries.
     pub(crate) fn may_follow_contraction(self) -> bool
-        ensures { result ≡ list_all (λ f. may_follow_contraction (kind_of f)) (context_entries (found_context self.entry)) }
+        ensures { result ≡ all_may_follow_contraction (context_entries (found_context self.entry)) }
     {
         may_follow_contraction(self.default) && all_may_follow_contraction(self.rows)
     }

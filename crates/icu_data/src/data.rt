@@ -1,14 +1,14 @@
 //! Roots and tailorings.
-ghost use Rattle.std.specs.Prelude.{◌≡◌, ◌+◌, ◌<◌, ◌≤◌, length, slice_index, slice_index_or, take, drop, map, IsTrue, All, IsOk, IfOk, IfErr, true, ◌↔◌, ◌∷◌, []};
+ghost use Rattle.std.specs.Prelude.{◌≡◌, ◌+◌, ◌<◌, ◌≤◌, length, slice_index, take, drop, map, IsTrue, All, IsOk, IfOk, IfErr, true, ◌↔◌, ◌∷◌, []};
 ghost use Rattle.icu_data.specs.Contexts.{has_ascending_rows};
-ghost use Rattle.icu_entries.specs.Elements.{element_of, end_element};
+ghost use Rattle.icu_entries.specs.Elements.{element_of};
 ghost use Rattle.std.specs.List.{list_all};
 ghost use Rattle.icu_entries.specs.Entries.{kind_of, is_self_contained, has_index, entry_index};
 ghost use Rattle.icu_entries.specs.Weights.{ordinal_of_weight, offset_compressible, offset_ordinal};
 ghost use Rattle.icu_data.specs.Final.{listed, final_elements};
 ghost use Rattle.icu_data.specs.DataConditions.{is_inside, fits_offset};
 ghost use Rattle.icu_data.specs.LiveConditions.{IsGoodData, FailsData};
-ghost use Rattle.icu_data.specs.Data.{homed, no_context, context_of, plain_of};
+ghost use Rattle.icu_data.specs.Data.{homed, context_in, context_of, data_element, plain_of};
 
 use crate::code_point_table::CodePointTable;
 use crate::context::{ContextTable, FoundContext};
@@ -47,21 +47,29 @@ impl<'d> CollationData<'d> {
         }
     }
 
-    /// Borrows a root or a tailoring, which may have fallback entries in its code point table. It is refused if an
-    /// entry that a text may come to fails a condition: with `Index` if what it refers to is not there, or a list has
-    /// no member; `Context` if a row of a prefix has not one character or two; `Chain` if it leads to an entry that it
-    /// may not lead to; `Digit` if a digit is above 9; `Tag` if its low byte, or that of a list's member, has no
-    /// meaning where it stands; `Element` if a character has no weight by its offset data, or an element is malformed,
-    /// or a weight has a lead byte that it may not have. Secondary weights may lead with 02.
+    /// Borrows a root or a tailoring, which may have fallback entries in its code point table. It is refused where an
+    /// entry that a text may come to fails a condition:
+    ///
+    /// - `Index`: what it refers to is not there, or a list has no member.
+    /// - `Context`: a row of a prefix has not one character or two.
+    /// - `Chain`: it leads to an entry that it may not lead to.
+    /// - `Digit`: a digit is above 9.
+    /// - `Tag`: its low byte, or that of a list's member, has no meaning where it stands.
+    /// - `Element`: no weight by its offset data, a malformed element, or a lead byte that no weight may have.
+    ///
+    /// Secondary weights may lead with 02.
     pub fn new(
         trie: CodePointTable<'d>,
         ces: &'d [u64],
         ce32s: &'d [u32],
         contexts: ContextTable<'d>,
     ) -> Result<CollationData<'d>, DataErrorKind>
-        ensures accepts { IsOk result ↔ IsGoodData true (data_by trie.entry ces.entry.now ce32s.entry.now contexts.entry) }
-        ensures kind { IfErr result (FailsData true (data_by trie.entry ces.entry.now ce32s.entry.now contexts.entry)) }
-        ensures keeps { IfOk result (λ d. data_of d ≡ data_by trie.entry ces.entry.now ce32s.entry.now contexts.entry) }
+        ensures accepts { IsOk result
+            ↔ IsGoodData true (data_by trie.entry ces.entry.now ce32s.entry.now contexts.entry) }
+        ensures kind { IfErr result
+            (FailsData true (data_by trie.entry ces.entry.now ce32s.entry.now contexts.entry)) }
+        ensures keeps { IfOk result
+            (λ d. data_of d ≡ data_by trie.entry ces.entry.now ce32s.entry.now contexts.entry) }
     {
         let data = CollationData::new_unchecked(trie, ces, ce32s, contexts);
         data.check()?;
@@ -105,7 +113,7 @@ impl<'d> CollationData<'d> {
         CollationElement32::new(self.trie.get(c))
     }
 
-    /// The same as its 32 bits.
+    /// The 32 bits of a character's entry.
     #[tactic(auto, unfolding(crate::specs::StoredData::data_of))]
     pub(crate) fn bits_for_char(self, c: char) -> u32
         ensures { result ≡ (data_of self.entry).value c }
@@ -144,7 +152,7 @@ impl<'d> CollationData<'d> {
     #[tactic(auto, unfolding(crate::specs::StoredData::data_of))]
     pub fn get_default(self, index: usize) -> CollationElement32
         requires { index < length (data_of self).contexts }
-        ensures { result ≡ (slice_index_or (data_of self.entry).contexts index no_context).default }
+        ensures { result ≡ (context_in (data_of self.entry).contexts index).default }
     {
         self.get_context(index).default()
     }
@@ -153,7 +161,7 @@ impl<'d> CollationData<'d> {
     #[tactic(auto, unfolding(crate::specs::StoredData::data_of))]
     pub fn get_context(self, index: usize) -> FoundContext<'d>
         requires { index < length (data_of self).contexts }
-        ensures value { found_context result ≡ slice_index_or (data_of self.entry).contexts index no_context }
+        ensures value { found_context result ≡ context_in (data_of self.entry).contexts index }
         ensures ascending { IsTrue (has_ascending_rows (found_context result)) }
     {
         self.contexts.get(index)
@@ -173,8 +181,9 @@ impl<'d> CollationData<'d> {
     pub(crate) fn offset_data(self, entry: CollationElement32) -> CollationElement
         requires offset { kind_of entry ≡ EntryKind.Offset }
         requires inside { IsTrue (is_inside (data_of self) entry) }
-        ensures taken { take 1 (drop (entry_index entry) (data_of self.entry).elements) ≡ result ∷ [] }
-        ensures value { result ≡ slice_index_or (data_of self.entry).elements (entry_index entry) end_element }
+        ensures taken { take 1 (drop (entry_index entry) (data_of self.entry).elements)
+            ≡ result ∷ [] }
+        ensures value { result ≡ data_element (data_of self.entry) entry }
     {
         CollationElement::new(self.ces[entry.index()])
     }
@@ -187,7 +196,8 @@ impl<'d> CollationData<'d> {
         requires inside { IsTrue (is_inside (data_of self) entry) }
         requires fits { IsTrue (fits_offset (data_of self) c entry) }
         ensures value { final_elements (homed (data_of self.entry) entry) c ≡ result ∷ [] }
-        ensures place { let d = slice_index_or (data_of self.entry).elements (entry_index entry) end_element in ordinal_of_weight (offset_compressible d) result.primary ≡ offset_ordinal d c }
+        ensures place { let d = data_element (data_of self.entry) entry in
+            ordinal_of_weight (offset_compressible d) result.primary ≡ offset_ordinal d c }
     {
         self.offset_data(entry).offset_element(c)
     }

@@ -1,12 +1,8 @@
 //! The conditions on one entry of a root or a tailoring.
 ghost use Rattle.std.specs.Prelude.{◌≡◌, Bool, IsTrue};
-ghost use Rattle.std.specs.List.{list_all};
 ghost use Rattle.icu_entries.specs.Entries.{kind_of};
-ghost use Rattle.icu_data.specs.Data.{homed};
-ghost use Rattle.icu_data.specs.Final.{final_elements};
-ghost use Rattle.icu_entries.specs.ElementConditions.{element_meets};
 ghost use Rattle.icu_data.specs.inner.Visitors.{all_meet};
-ghost use Rattle.icu_data.specs.LiveConditions.{first_failing};
+ghost use Rattle.icu_data.specs.LiveConditions.{elements_meet, first_failing};
 ghost use Rattle.icu_data.specs.StoredData.{data_of};
 ghost use Rattle.icu_data.specs.DataConditions.{is_inside, has_short_rows, leads_on, has_known_members, fits_offset, is_readable};
 
@@ -80,9 +76,12 @@ impl<'d> CollationData<'d> {
         requires inside { IsTrue (is_inside (data_of self) entry) }
         requires members { IsTrue (has_known_members (data_of self) entry) }
         requires offset { IsTrue (fits_offset (data_of self) c entry) }
-        ensures shapes { result.shapes ≡ list_all (element_meets ElementCondition.Shape) (final_elements (homed (data_of self.entry) entry) c) }
-        ensures leads { result.leads ≡ list_all (element_meets ElementCondition.Leads) (final_elements (homed (data_of self.entry) entry) c) }
-        ensures primaries { result.primaries ≡ list_all (element_meets ElementCondition.Primary) (final_elements (homed (data_of self.entry) entry) c) }
+        ensures shapes { result.shapes
+            ≡ elements_meet ElementCondition.Shape (data_of self.entry) c entry }
+        ensures leads { result.leads
+            ≡ elements_meet ElementCondition.Leads (data_of self.entry) c entry }
+        ensures primaries { result.primaries
+            ≡ elements_meet ElementCondition.Primary (data_of self.entry) c entry }
     {
         let mut visitor = ElementsMeet {
             shapes: true,

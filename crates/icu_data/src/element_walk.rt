@@ -22,7 +22,7 @@ pub trait VisitElement {
     /// What the visits so far came to.
     ghost seen: { Self → Seen };
 
-    /// What it is after one more element.
+    /// What visits came to after one more element.
     ghost after: { Seen → Element → Seen };
 
     /// Visits an element.
@@ -32,7 +32,8 @@ pub trait VisitElement {
 
 fn visit_entries<V: VisitElement>(visitor: &mut V, entries: &[u32]) -> Result<(), V::Refusal>
     requires { IsTrue (list_all is_self_contained entries.now) }
-    ensures { OnOk result (V.seen visitor.new ≡ fold V.after (V.seen visitor.old) (flat_map self_contained entries.now)) }
+    ensures { OnOk result (V.seen visitor.new
+        ≡ fold V.after (V.seen visitor.old) (flat_map self_contained entries.now)) }
 {
     for entry in entries {
         visitor.visit(CollationElement32::new(*entry).self_contained())?;
@@ -41,7 +42,8 @@ fn visit_entries<V: VisitElement>(visitor: &mut V, entries: &[u32]) -> Result<()
 }
 
 fn visit_listed<V: VisitElement>(visitor: &mut V, elements: &[u64]) -> Result<(), V::Refusal>
-    ensures { OnOk result (V.seen visitor.new ≡ fold V.after (V.seen visitor.old) (map element_of elements.now)) }
+    ensures { OnOk result (V.seen visitor.new
+        ≡ fold V.after (V.seen visitor.old) (map element_of elements.now)) }
 {
     for bits in elements {
         visitor.visit(CollationElement::new(*bits))?;
@@ -58,7 +60,8 @@ pub fn visit_elements<V: VisitElement>(
     entry: CollationElement32,
 ) -> Result<(), V::Refusal>
     requires { IsTrue (is_readable (data_of home) c entry) }
-    ensures { OnOk result (V.seen visitor.new ≡ fold V.after (V.seen visitor.old) (final_elements (homed (data_of home.entry) entry) c)) }
+    ensures { OnOk result (V.seen visitor.new
+        ≡ fold V.after (V.seen visitor.old) (final_elements (homed (data_of home.entry) entry) c)) }
 {
     match entry.kind() {
         EntryKind::Simple | EntryKind::LongPrimary | EntryKind::LongSecondary => {

@@ -26,9 +26,9 @@ pub enum LiveCondition {
     Offsets,
     /// The weights of the elements are well formed.
     Shapes,
-    /// Their secondary and tertiary weights have lead bytes that they may have.
+    /// The secondary and tertiary weights of the elements have lead bytes that they may have.
     Leads,
-    /// So have their primary weights.
+    /// The primary weights of the elements have lead bytes that they may have.
     Primaries,
 }
 
@@ -54,7 +54,7 @@ impl LiveCondition {
 impl Ranked for LiveCondition {
     ghost rank = { condition_rank };
 
-    /// Its index among the conditions.
+    /// The index of the condition among all.
     fn rank(self) -> u32
         ensures value { result ≡ condition_rank self }
         ensures bound { result < 256 }

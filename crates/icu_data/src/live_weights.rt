@@ -1,12 +1,12 @@
 //! The weights of the elements of live entries, collected.
-ghost use Rattle.std.specs.Prelude.{◌≡◌, ◌↔◌, ◌⊎◌, ℕ, Bool, true, false, Option, None, OnOk, IsTrue};
+ghost use Rattle.std.specs.Prelude.{◌≡◌, ◌↔◌, ℕ, Bool, true, false, Option, None, OnOk, IsTrue};
 ghost use Rattle.std.specs.List.{Contains};
 ghost use Rattle.std.specs.List.Sorted.{IsStrictlyIncreasing};
 ghost use Rattle.icu_entries.specs.Elements.{Element, of_primary};
 ghost use Rattle.icu_data.specs.Live.{live_from};
 ghost use Rattle.icu_data.specs.StoredData.{data_of};
 ghost use Rattle.icu_data.specs.DataConditions.{is_readable};
-ghost use Rattle.icu_data.specs.CollectedWeights.{is_stated, IsWeightAmong, IsLiveWeight};
+ghost use Rattle.icu_data.specs.CollectedWeights.{is_stated, IsWeightAmong, IsLiveWeight, Adds};
 ghost use Rattle.icu_data.specs.inner.Visitors.{holds, and_weight, collected, collected_at};
 
 use crate::block_walk::{goes_by_character, visit_chars};
@@ -90,9 +90,9 @@ fn is_stated(home: CollationData<'_>, c: char, entry: CollationElement32) -> boo
 /// A visitor that collects weights.
 #[derive(Drop)]
 pub struct Collector<'w, W> {
-    /// Which weights.
+    /// Which weights are collected.
     pub weigh: &'w W,
-    /// Those so far.
+    /// The weights so far.
     pub weights: Vec<u32>,
 }
 
@@ -198,7 +198,8 @@ pub fn collect_weights<W: Weigh>(
     home: CollationData<'_>,
     falls_back: bool,
 ) -> Result<(), AllocError>
-    ensures { OnOk result ((w : ℕ) → Contains weights.new.items w ↔ (Contains weights.old.items w ⊎ IsLiveWeight (W.weight weigh.now) falls_back (data_of home.entry) w)) }
+    ensures { OnOk result (Adds (IsLiveWeight (W.weight weigh.now) falls_back (data_of home.entry))
+        weights.old.items weights.new.items) }
 {
     let mut collector = Collector::over(weigh, weights);
     let outcome = visit_chars(&mut collector, home, falls_back);
@@ -206,7 +207,8 @@ pub fn collect_weights<W: Weigh>(
     outcome
 }
 
-/// The same of the entries that are live with a character from one entry on.
+/// Adds to a list the weights that are collected of the elements of the entries that are live with a character from one
+/// entry on, as `collect_weights` does.
 pub fn collect_weights_from<W: Weigh>(
     weights: &mut Vec<u32>,
     weigh: &W,
@@ -214,7 +216,10 @@ pub fn collect_weights_from<W: Weigh>(
     c: char,
     entry: CollationElement32,
 ) -> Result<(), AllocError>
-    ensures { OnOk result ((w : ℕ) → Contains weights.new.items w ↔ (Contains weights.old.items w ⊎ IsWeightAmong (W.weight weigh.now) (data_of home.entry) c (live_from (data_of home.entry) entry) w)) }
+    ensures { OnOk result (Adds
+        (IsWeightAmong (W.weight weigh.now) (data_of home.entry) c
+        (live_from (data_of home.entry) entry))
+        weights.old.items weights.new.items) }
 {
     let mut collector = Collector::over(weigh, weights);
     let outcome = visit_from(&mut collector, home, c, entry);

@@ -1,11 +1,11 @@
 //! The first violation of the entries that are live in a root or a tailoring, by a judge of each.
-ghost use Rattle.std.specs.Prelude.{◌≡◌, ◌≤◌, ◌<◌, ◌+◌, ◌↔◌, ◌⊎◌, ℕ, true, false, Option, IfSome, None, Some};
-ghost use Rattle.std.specs.List.{AllByRecursion};
+ghost use Rattle.std.specs.Prelude.{◌≡◌, ◌<◌, ◌↔◌, ◌⊎◌, ℕ, true, false, Option, IfSome, None, Some};
 ghost use Rattle.icu_entries.specs.Entries.{kind_of};
 ghost use Rattle.icu_data.specs.Data.{Data};
-ghost use Rattle.icu_data.specs.Live.{goes_by_character, live_from, live_at, EachLive};
+ghost use Rattle.icu_data.specs.Live.{live_from};
 ghost use Rattle.icu_data.specs.StoredData.{data_of};
-ghost use Rattle.icu_data.specs.Violations.{earlier, ComesFirst, IsViolationAmong, IsLiveViolation};
+ghost use Rattle.icu_data.specs.Violations.{earlier, ComesFirst, JudgesAlike, AreFreeOf, IsFreeOf, IsFirstAmong, IsFirstOfLive, IsViolationAmong, IsLiveViolation};
+ghost use Rattle.icu_data.specs.Walks.{EachOfBlock};
 ghost use Rattle.icu_data.specs.inner.Visitors.{judged};
 
 use crate::block_walk::visit_chars;
@@ -16,10 +16,10 @@ use std::convert::Infallible;
 
 /// A violation that has a rank among all that may be reported.
 pub trait Ranked: Copy {
-    /// Its rank.
+    /// The rank of a violation.
     ghost rank: { Self → ℕ };
 
-    /// Its rank: where several are found, the one with the least rank is reported.
+    /// The rank of the violation: where several are found, the one with the least rank is reported.
     fn rank(self) -> u32
         ensures { result ≡ rank self };
 }
@@ -43,12 +43,13 @@ pub trait Judge {
 
     /// The violation of an entry that doesn't go by its character is the same with each character.
     fn is_alike(&self)
-        ensures { (home : Data) (c d e : ℕ) → goes_by_character e ≡ false → violation self.now home c e ≡ violation self.now home d e };
+        ensures { JudgesAlike (violation self.now) };
 
     /// Whether no entry for an implicit weight (UTS #10, "Implicit Weights") has a violation, so that a walk may pass
     /// over the million characters that have one. `false` leaves that open.
     fn passes_implicit(&self) -> bool
-        ensures { result ≡ true → (home : Data) (c e : ℕ) → kind_of e ≡ EntryKind.Implicit → violation self.now home c e ≡ None }
+        ensures { result ≡ true → (home : Data) (c e : ℕ) → kind_of e ≡ EntryKind.Implicit
+            → violation self.now home c e ≡ None }
     {
         false
     }
@@ -56,7 +57,8 @@ pub trait Judge {
     /// Whether an entry has no violation with any of the 64 characters from one on, so that a walk may pass over them.
     /// `false` leaves that open.
     fn passes_run(&self, home: CollationData<'_>, first: char, entry: CollationElement32) -> bool
-        ensures { result ≡ true → (c : ℕ) → first ≤ c → c < first + 64 → violation self.now (data_of home.entry) c entry ≡ None }
+        ensures { result ≡ true
+            → EachOfBlock first (λ c. violation self.now (data_of home.entry) c entry ≡ None) }
     {
         false
     }
@@ -123,9 +125,13 @@ pub fn first_violation<J: Judge>(
     home: CollationData<'_>,
     falls_back: bool,
 ) -> Option<J::Violation>
-    ensures none { (result ≡ None) ↔ ((first ≡ None) × EachLive (λ c e. J.violation judge.now (data_of home.entry) c e ≡ None) falls_back (data_of home.entry)) }
-    ensures some { IfSome result (λ f. (first ≡ Some f) ⊎ IsLiveViolation (J.violation judge.now) falls_back (data_of home.entry) f) }
-    ensures least { IfSome result (λ f. ComesFirst J.Violation.rank f first × EachLive (λ c e. ComesFirst J.Violation.rank f (J.violation judge.now (data_of home.entry) c e)) falls_back (data_of home.entry)) }
+    ensures none { (result ≡ None)
+        ↔ ((first ≡ None) × IsFreeOf (J.violation judge.now) falls_back (data_of home.entry)) }
+    ensures some { IfSome result (λ f. (first ≡ Some f)
+        ⊎ IsLiveViolation (J.violation judge.now) falls_back (data_of home.entry) f) }
+    ensures least { IfSome result (λ f. ComesFirst J.Violation.rank f first
+        × IsFirstOfLive J.Violation.rank (J.violation judge.now) falls_back
+        (data_of home.entry) f) }
 {
     judge.is_alike();
     let mut visitor = FirstViolation { judge, first };
@@ -135,7 +141,8 @@ pub fn first_violation<J: Judge>(
     }
 }
 
-/// The same of the entries that are live with a character from one entry on.
+/// The violation with the least rank among one found before and those of the entries that are live with a character
+/// from one entry on.
 pub fn first_violation_from<J: Judge>(
     judge: &J,
     first: Option<J::Violation>,
@@ -143,9 +150,15 @@ pub fn first_violation_from<J: Judge>(
     c: char,
     entry: CollationElement32,
 ) -> Option<J::Violation>
-    ensures none { (result ≡ None) ↔ ((first ≡ None) × AllByRecursion (λ e. J.violation judge.now (data_of home.entry) c e ≡ None) (live_from (data_of home.entry) entry)) }
-    ensures some { IfSome result (λ f. (first ≡ Some f) ⊎ IsViolationAmong (J.violation judge.now) (data_of home.entry) c (live_from (data_of home.entry) entry) f) }
-    ensures least { IfSome result (λ f. ComesFirst J.Violation.rank f first × AllByRecursion (λ e. ComesFirst J.Violation.rank f (J.violation judge.now (data_of home.entry) c e)) (live_from (data_of home.entry) entry)) }
+    ensures none { (result ≡ None) ↔ ((first ≡ None)
+        × AreFreeOf (J.violation judge.now) (data_of home.entry) c
+        (live_from (data_of home.entry) entry)) }
+    ensures some { IfSome result (λ f. (first ≡ Some f)
+        ⊎ IsViolationAmong (J.violation judge.now) (data_of home.entry) c
+        (live_from (data_of home.entry) entry) f) }
+    ensures least { IfSome result (λ f. ComesFirst J.Violation.rank f first
+        × IsFirstAmong J.Violation.rank (J.violation judge.now) (data_of home.entry) c
+        (live_from (data_of home.entry) entry) f) }
 {
     let mut visitor = FirstViolation { judge, first };
     match visit_from(&mut visitor, home, c, entry) {

@@ -1,11 +1,11 @@
 //! A walk over the entries that are live with characters: one for all that is asked of them.
-ghost use Rattle.std.specs.Prelude.{◌≡◌, ◌≤◌, ◌<◌, ◌+◌, ℕ, true, false, IfOk, OnOk};
+ghost use Rattle.std.specs.Prelude.{◌≡◌, ◌<◌, ℕ, true, false, IfOk, OnOk};
 ghost use Rattle.std.specs.Char.{IsScalar};
 ghost use Rattle.icu_entries.specs.Entries.{kind_of};
 ghost use Rattle.icu_data.specs.Data.{Data};
 ghost use Rattle.icu_data.specs.Live.{live_digit, live_contraction, live_from};
 ghost use Rattle.icu_data.specs.StoredData.{data_of, found_context};
-ghost use Rattle.icu_data.specs.Walks.{after_all, after_run};
+ghost use Rattle.icu_data.specs.Walks.{after_lead, after_run, EachOfBlock};
 ghost use Rattle.icu_data.specs.inner.Visitors.{after_rows};
 
 use crate::context::FoundContext;
@@ -23,7 +23,7 @@ pub trait Visit {
     /// What the visits so far came to.
     ghost seen: { Self → Seen };
 
-    /// What it is after one more entry, by the entry's home, the character, and the entry.
+    /// What visits came to after one more entry, by the entry's home, the character, and the entry.
     ghost after: { Seen → Data → ℕ → ℕ → Seen };
 
     /// Visits an entry that is live with a character, in the entry's home.
@@ -33,12 +33,14 @@ pub trait Visit {
         c: char,
         entry: CollationElement32,
     ) -> Result<(), Self::Refusal>
-        ensures { OnOk result (seen self.new ≡ after (seen self.old) (data_of home.entry) c entry) };
+        ensures { OnOk result
+            (seen self.new ≡ after (seen self.old) (data_of home.entry) c entry) };
 
     /// Whether a visit of an entry for an implicit weight (UTS #10, "Implicit Weights") changes nothing, so that a walk
     /// may pass over the million characters that have one. `false` leaves that open.
     fn passes_implicit(&self) -> bool
-        ensures { result ≡ true → (home : Data) (c e : ℕ) → kind_of e ≡ EntryKind.Implicit → after (seen self.now) home c e ≡ seen self.now }
+        ensures { result ≡ true → (home : Data) (c e : ℕ) → kind_of e ≡ EntryKind.Implicit
+            → after (seen self.now) home c e ≡ seen self.now }
     {
         false
     }
@@ -46,7 +48,8 @@ pub trait Visit {
     /// Whether visits of an entry with any of the 64 characters from one on change nothing, so that a walk may pass
     /// over them. `false` leaves that open.
     fn passes_run(&self, home: CollationData<'_>, first: char, entry: CollationElement32) -> bool
-        ensures { result ≡ true → (c : ℕ) → first ≤ c → c < first + 64 → after (seen self.now) (data_of home.entry) c entry ≡ seen self.now }
+        ensures { result ≡ true → EachOfBlock first
+            (λ c. after (seen self.now) (data_of home.entry) c entry ≡ seen self.now) }
     {
         false
     }
@@ -59,8 +62,9 @@ pub trait Visit {
         first: char,
         entry: CollationElement32,
     ) -> Result<bool, Self::Refusal>
-        requires { (c : ℕ) → first ≤ c → c < first + 64 → IsScalar c }
-        ensures visits { IfOk result (λ done. done ≡ true → seen self.new ≡ after_run after (seen self.old) (data_of home.entry) first entry 64) }
+        requires { EachOfBlock first IsScalar }
+        ensures visits { IfOk result (λ done. done ≡ true
+            → seen self.new ≡ after_run after (seen self.old) (data_of home.entry) first entry 64) }
         ensures leaves { IfOk result (λ done. done ≡ false → seen self.new ≡ seen self.old) }
     {
         Ok(false)
@@ -74,7 +78,8 @@ fn visit_digit<V: Visit>(
     c: char,
     entry: CollationElement32,
 ) -> Result<(), V::Refusal>
-    ensures { OnOk result (V.seen visitor.new ≡ after_all V.after (V.seen visitor.old) (data_of home.entry) c (live_digit (data_of home.entry) entry)) }
+    ensures { OnOk result (V.seen visitor.new
+        ≡ after_lead V.after live_digit (data_of home.entry) c entry (V.seen visitor.old)) }
 {
     visitor.visit(home, c, entry)?;
     if entry.kind() == EntryKind::Digit {
@@ -89,7 +94,8 @@ fn visit_digit_rows<V: Visit>(
     c: char,
     context: FoundContext<'_>,
 ) -> Result<(), V::Refusal>
-    ensures { OnOk result (V.seen visitor.new ≡ after_rows V.after (live_digit (data_of home.entry)) (data_of home.entry) c (found_context context.entry).rows (V.seen visitor.old)) }
+    ensures { OnOk result (V.seen visitor.new ≡ after_rows V.after live_digit (data_of home.entry) c
+        (found_context context.entry).rows (V.seen visitor.old)) }
 {
     let rows = context.rows;
     for row in rows {
@@ -105,7 +111,8 @@ fn visit_contraction<V: Visit>(
     c: char,
     entry: CollationElement32,
 ) -> Result<(), V::Refusal>
-    ensures { OnOk result (V.seen visitor.new ≡ after_all V.after (V.seen visitor.old) (data_of home.entry) c (live_contraction (data_of home.entry) entry)) }
+    ensures { OnOk result (V.seen visitor.new
+        ≡ after_lead V.after live_contraction (data_of home.entry) c entry (V.seen visitor.old)) }
 {
     if entry.kind() == EntryKind::Contraction {
         visitor.visit(home, c, entry)?;
@@ -123,7 +130,9 @@ fn visit_contraction_rows<V: Visit>(
     c: char,
     context: FoundContext<'_>,
 ) -> Result<(), V::Refusal>
-    ensures { OnOk result (V.seen visitor.new ≡ after_rows V.after (live_contraction (data_of home.entry)) (data_of home.entry) c (found_context context.entry).rows (V.seen visitor.old)) }
+    ensures { OnOk result (V.seen visitor.new
+        ≡ after_rows V.after live_contraction (data_of home.entry) c
+        (found_context context.entry).rows (V.seen visitor.old)) }
 {
     let rows = context.rows;
     for row in rows {
@@ -140,7 +149,8 @@ pub fn visit_from<V: Visit>(
     c: char,
     entry: CollationElement32,
 ) -> Result<(), V::Refusal>
-    ensures { OnOk result (V.seen visitor.new ≡ after_all V.after (V.seen visitor.old) (data_of home.entry) c (live_from (data_of home.entry) entry)) }
+    ensures { OnOk result (V.seen visitor.new
+        ≡ after_lead V.after live_from (data_of home.entry) c entry (V.seen visitor.old)) }
 {
     if entry.kind() == EntryKind::Prefix {
         visitor.visit(home, c, entry)?;

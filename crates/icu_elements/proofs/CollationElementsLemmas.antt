@@ -7,14 +7,15 @@ use Rattle.std.specs.Iterator.{Count}
 use Rattle.unicode_normalization.specs.Decompositions.{CanDecompose}
 use Rattle.icu_entries.specs.Elements.{Element, end_element}
 use Rattle.icu_elements.specs.declared.element_reader.ElementReader.{ElementReader}
-use Rattle.icu_elements.specs.declared.reader.TextReading.{TextReading}
+use Rattle.icu_elements.specs.declared.text_reading.TextReading.{TextReading}
 use Rattle.icu_elements.specs.declared.reader.position.Position.{Position}
 use Rattle.icu_elements.specs.declared.collation_elements.Progress.TheVariants.{Reading as InProgress, Refused}
 use Rattle.icu_elements.specs.declared.collation_elements.CollationElements.{CollationElements}
 use Rattle.icu_elements.specs.TextElements.{Reading, elements_after}
 use Rattle.icu_elements.specs.CollationElements.{HasSource, IsLeftAt, StillGives, IsReadyAt, CanGive, first_of, rest_of}
 use Rattle.icu_elements.specs.ElementReaders.{elements_to_come}
-use Rattle.icu_elements.specs.inner.Positions.{reading_by_tables, consumed_last, unread_at, elements_left}
+use Rattle.icu_elements.specs.inner.Positions.{consumed_last, unread_at, elements_left}
+use Rattle.icu_elements.specs.Reading.{reading_of}
 use Rattle.icu_elements.specs.inner.ReadyElements.{ready_elements, IsFilled}
 use Rattle.icu_elements.proofs.StepLemmas.{elements_after_nil}
 
@@ -56,7 +57,7 @@ pub none_ready : (xs ys : List Element) → xs ≡ [] → drop 0 xs ++ ys ≡ ys
 none_ready xs ys none = rw none refl
 
 -- all elements are to come where none was read yet
-pub none_read : (r : ElementReader) (reading : Reading) (before text : List ℕ) → reading_by_tables r.reading ≡ reading → ready_elements r ≡ [] → consumed_last r.position ≡ before → unread_at r.position ≡ text
+pub none_read : (r : ElementReader) (reading : Reading) (before text : List ℕ) → reading_of r.reading ≡ reading → ready_elements r ≡ [] → consumed_last r.position ≡ before → unread_at r.position ≡ text
     → elements_to_come r ≡ elements_after reading before text
 unfolding elements_to_come
 none_read r reading before text same none last left =
@@ -79,8 +80,8 @@ first_ready r e inside is = drop_more r.ready.elements.items r.next e inside ∙
 pub none_left : (r : ElementReader) → IsFilled r → ready_elements r ≡ [] → elements_to_come r ≡ []
 unfolding elements_to_come
 none_left r filled none =
-    ap₂ (λ (l : List Element) (cs : List ℕ). l ++ elements_after (reading_by_tables r.reading) (consumed_last r.position) cs) none (filled none)
-    ∙ elements_after_nil (reading_by_tables r.reading) (consumed_last r.position)
+    ap₂ (λ (l : List Element) (cs : List ℕ). l ++ elements_after (reading_of r.reading) (consumed_last r.position) cs) none (filled none)
+    ∙ elements_after_nil (reading_of r.reading) (consumed_last r.position)
 
 -- where some were taken of those that stood ready, the others and those of the text are left
 pub others_left : (r s : ElementReader) (es : List Element) → ready_elements r ≡ es ++ ready_elements s → s.position ≡ r.position → s.reading ≡ r.reading → elements_to_come r ≡ es ++ elements_to_come s

@@ -1,3 +1,4 @@
+-- What short texts need unfolded so that `refl` computes their elements.
 use Rattle.unicode_normalization.proofs.Computing.{unicode_normalization}
 use Rattle.icu_entries.specs.Entries.{kind_of, self_contained}
 use Rattle.icu_entries.specs.Weights.{implicit_weight, ordinal_of, weight_at, offset_ordinal, offset_weight}

@@ -18,7 +18,7 @@ use Rattle.icu_data.specs.Live.{live_digit, live_contraction, live_from, EachLiv
 use Rattle.icu_data.proofs.ListLemmas.{weaker}
 use Rattle.icu_data.proofs.ViolationLemmas.{weaker_some}
 use Rattle.icu_matches.specs.Matches.{Match, match_of}
-use Rattle.icu_elements.specs.TextElements.{Reading, Step, is_silent_dot, continues_number, begins_with_mark, digit_of, number_elements, number_step, entry_step, diacritic_step, matched_step, step, consumed, last_two, elements_along, elements_after, elements_of}
+use Rattle.icu_elements.specs.TextElements.{Reading, Step, is_silent_dot, continues_number, begins_with_mark, digit_of_char, number_elements, number_step, entry_step, diacritic_step, matched_step, step, consumed, last_two, elements_along, elements_after, elements_of}
 use Rattle.icu_provider.specs.LiveTables.{jamo_entry, AllLive, HasDigits}
 use Rattle.icu_elements.specs.TextParts.{IsDecomposed, IsDecomposedText, AreDigits, HasGoodParts, EachPasses, PartsPass}
 use Rattle.icu_matches.proofs.ChoiceLemmas.{either, maybe, at_nil}
@@ -92,7 +92,7 @@ digit_from_run _ false small h s = cc
 decimal : (d : ℕ) → nat_le d 9 ≡ true → d < 10
 decimal d h = grind (arith, nat_tests)
 
-continues_number-decimal : (tables : Tables) → HasDigits tables → (x : ℕ) → continues_number tables x ≡ true → IsDecomposed x → digit_of tables x < 10
+continues_number-decimal : (tables : Tables) → HasDigits tables → (x : ℕ) → continues_number tables x ≡ true → IsDecomposed x → digit_of_char tables x < 10
 unfolding has_digit
 continues_number-decimal tables live x on read =
     let h = entry_of tables x in
@@ -117,10 +117,10 @@ module _ (G : List Element → Type 0) (reading : Reading) (parts : HasGoodParts
       let tables = reading.tables in
       let run = take_while (continues_number tables) m.rest in
       let alone : Step = record { elements = number_elements lead (digit_value m.entry ∷ []); suffix = m.suffix; rest = m.rest } in
-      let together : Step = record { elements = number_elements lead (digit_value m.entry ∷ map (digit_of tables) run); suffix = run; rest = drop (length run) m.rest } in
+      let together : Step = record { elements = number_elements lead (digit_value m.entry ∷ map (digit_of_char tables) run); suffix = run; rest = drop (length run) m.rest } in
       let by_itself : Gives G IsDecomposed alone = record { elements = good (digit_value m.entry ∷ []) (small, tt); rest = rest } in
-      let digits = all_run (continues_number tables) (digit_of tables) IsDecomposed (λ d. d < 10) (continues_number-decimal tables parts.digits) m.rest rest in
-      let with_run : Gives G IsDecomposed together = record { elements = good (digit_value m.entry ∷ map (digit_of tables) run) (small, digits); rest = all_drop IsDecomposed (length run) m.rest rest } in
+      let digits = all_run (continues_number tables) (digit_of_char tables) IsDecomposed (λ d. d < 10) (continues_number-decimal tables parts.digits) m.rest rest in
+      let with_run : Gives G IsDecomposed together = record { elements = good (digit_value m.entry ∷ map (digit_of_char tables) run) (small, digits); rest = all_drop IsDecomposed (length run) m.rest rest } in
       at_nil (Gives G IsDecomposed) m.suffix _ alone (either (Gives G IsDecomposed) (begins_with_mark m.rest) alone together by_itself with_run) by_itself
 
   entry_step-gives : (home : Data) (c : ℕ) (m : Match) → AllByRecursion (λ e. G (final_elements (homed home e) c)) (live_digit home m.entry) → IsTrue (has_digit m.entry) → IsDecomposedText m.rest → Gives G IsDecomposed (entry_step reading home c m)

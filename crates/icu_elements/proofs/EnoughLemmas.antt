@@ -16,7 +16,7 @@ use Rattle.icu_matches.specs.Matches.{Match, after_prefix, match_of}
 use Rattle.icu_matches.specs.MatchesAhead.{and_then, HasWholeMatch}
 use Rattle.icu_matches.proofs.ChoiceLemmas.{either_by, maybe_by, nil_by, digit_by}
 use Rattle.icu_matches.proofs.ReadAheadLemmas.{HasWholeMatch-other, HasWholeMatch-contraction, match_of-other, match_of-contraction, contracted-none, contracted-lone}
-use Rattle.icu_elements.specs.TextElements.{Reading, Step, is_diacritic_above, is_silent_dot, continues_number, digit_of, begins_with_mark, number_elements, number_step, entry_step, diacritic_step, matched_step, step, consumed, last_two, elements_after}
+use Rattle.icu_elements.specs.TextElements.{Reading, Step, is_diacritic_above, is_silent_dot, continues_number, digit_of_char, begins_with_mark, number_elements, number_step, entry_step, diacritic_step, matched_step, step, consumed, last_two, elements_after}
 use Rattle.icu_elements.specs.ReadAhead.{and_more, IsEnough, HasWholeStep}
 use Rattle.icu_elements.specs.inner.ReadsAhead.{has_run_end, IsRunRead, HasWholeContraction}
 use Rattle.icu_elements.proofs.StepLemmas.{elements_after_cons}
@@ -43,10 +43,10 @@ number_step-enough tables lead m left ends =
     let run = take_while (continues_number tables) m.rest in
     let fits : length run ≤ length m.rest = omega (arith, length-prefix_len (continues_number tables) m.rest, prefix_len-le-length (continues_number tables) m.rest) in
     let alone : List ℕ → Step = λ r. record { elements = number_elements lead (digit_value m.entry ∷ []); suffix = m.suffix; rest = r } in
-    let together : List ℕ → List ℕ → Step = λ run r. record { elements = number_elements lead (digit_value m.entry ∷ map (digit_of tables) run); suffix = run; rest = drop (length run) r } in
+    let together : List ℕ → List ℕ → Step = λ run r. record { elements = number_elements lead (digit_value m.entry ∷ map (digit_of_char tables) run); suffix = run; rest = drop (length run) r } in
     let whole = m.rest ++ left in
     let whole_run = take_while (continues_number tables) whole in
-    let leave : List ℕ → Step = λ r. record { elements = number_elements lead (digit_value m.entry ∷ map (digit_of tables) run); suffix = run; rest = r } in
+    let leave : List ℕ → Step = λ r. record { elements = number_elements lead (digit_value m.entry ∷ map (digit_of_char tables) run); suffix = run; rest = r } in
     nil_by (λ s. and_more s left) m.suffix _ _ (alone whole) (alone m.rest)
     (λ none.
     let stops = ends none in

@@ -12,6 +12,6 @@ pub mod StreamLemmas
 pub mod ReaderLemmas
 pub mod TakenDigitLemmas
 pub mod Computing
-pub mod WorkedTables
+pub mod WorkedReadings
 mod WorkedTexts
 mod WorkedLive

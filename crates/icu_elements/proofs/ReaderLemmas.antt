@@ -5,10 +5,11 @@ use Rattle.std.specs.List.{push}
 use Rattle.icu_entries.specs.Elements.{Element}
 use Rattle.icu_elements.specs.declared.reader.recent.RecentChars.{RecentChars}
 use Rattle.icu_elements.specs.declared.reader.position.Position.{Position}
-use Rattle.icu_elements.specs.declared.reader.TextReading.{TextReading}
+use Rattle.icu_elements.specs.declared.text_reading.TextReading.{TextReading}
 use Rattle.icu_elements.specs.TextElements.{Reading, step, last_two, elements_after}
 use Rattle.icu_elements.proofs.StepLemmas.{Rests-step, elements_after_cons, elements_after_nil}
-use Rattle.icu_elements.specs.inner.Positions.{recent_chars, reading_by_tables, consumed_last, unread_at, elements_left, IsStep}
+use Rattle.icu_elements.specs.inner.Positions.{recent_chars, consumed_last, unread_at, elements_left, IsStep}
+use Rattle.icu_elements.specs.Reading.{reading_of}
 
 -- ---- the characters consumed last
 
@@ -65,7 +66,7 @@ step_elements reading before c text whole es fs p is h =
 -- nothing has no elements
 pub none_unread : (reading : TextReading) (p : Position) → unread_at p ≡ [] → elements_left reading p ≡ []
 none_unread reading p none =
-    ap (elements_after (reading_by_tables reading) (consumed_last p)) none ∙ elements_after_nil (reading_by_tables reading) (consumed_last p)
+    ap (elements_after (reading_of reading) (consumed_last p)) none ∙ elements_after_nil (reading_of reading) (consumed_last p)
 
 -- it leaves fewer characters
 pub step_shorter : (reading : Reading) (before : List ℕ) (c : ℕ) (text whole : List ℕ) (es fs : List Element) (p : Position) → whole ≡ c ∷ text

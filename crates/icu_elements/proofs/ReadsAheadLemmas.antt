@@ -5,7 +5,7 @@ use Rattle.std.specs.List.{list_any}
 use Rattle.std.proofs.lemmas.Bool.{false≢true, or_left, or_right}
 use Rattle.unicode_normalization.specs.declared.decompose.Decompositions.{Decompositions}
 use Rattle.icu_elements.specs.inner.Iterating.{StillReads}
-use Rattle.icu_elements.specs.inner.ReadsAhead.{ReadsTo, ReadsOn, ReadsOne, IsBegun}
+use Rattle.icu_elements.specs.inner.ReadsAhead.{ReadsTo, ReadsMore, ReadsOne, IsBegun}
 
 no_tail : (xs ys : List ℕ) → [] ≡ xs ++ ys → ys ≡ []
 no_tail [] ys h = sym h
@@ -30,15 +30,15 @@ module _ {I : Type 0} (steps : I → Option ℕ → I → Type 0) where
   ReadsTo-none Is s text is = record { more = []; grown = sym (append-nil text); at = λ cs h. (cs, refl, h, inl is) }
 
   -- one character was read
-  pub ReadsOn-one : (old new : Decompositions I) (text longer : List ℕ) (c : ℕ) → longer ≡ text ++ c ∷ []
-      → ((cs : List ℕ) → StillReads steps old cs → (rest : List ℕ) × (cs ≡ c ∷ rest) × StillReads steps new rest) → ReadsOn steps old text new longer
-  ReadsOn-one old new text longer c pushed came = record {
+  pub ReadsMore-one : (old new : Decompositions I) (text longer : List ℕ) (c : ℕ) → longer ≡ text ++ c ∷ []
+      → ((cs : List ℕ) → StillReads steps old cs → (rest : List ℕ) × (cs ≡ c ∷ rest) × StillReads steps new rest) → ReadsMore steps old text new longer
+  ReadsMore-one old new text longer c pushed came = record {
     more = c ∷ [];
     grown = pushed;
     at = λ cs h. let next = came cs h in (next.0, next.1, next.2, inl tt);
   }
 
-  -- the same, of a weaker fact
+  -- where a fact implies a weaker one, so does reading on until it holds
   pub ReadsTo-weaker : (Is Was : List ℕ → Type 0) (old new : Decompositions I) (text longer : List ℕ) → (Was longer → Is longer) → ReadsTo steps Was old text new longer → ReadsTo steps Is old text new longer
   ReadsTo-weaker Is Was old new text longer f reads = record {
     more = reads.more;
@@ -76,7 +76,7 @@ module _ {I : Type 0} (steps : I → Option ℕ → I → Type 0) where
 pub one_came : {I : Type 0} (steps : I → Option ℕ → I → Type 0) (old new : Decompositions I) (text longer : List ℕ) (c : ℕ) → longer ≡ text ++ c ∷ []
     → ((cs : List ℕ) → StillReads steps old cs → (rest : List ℕ) × (cs ≡ c ∷ rest) × StillReads steps new rest) → ReadsOne steps (Some c) old text new longer
 one_came steps old new text longer c pushed came =
-    (ReadsTo-weaker steps (λ _. IsTrue true) (λ _. ⊤) old new text longer (λ _. refl) (ReadsOn-one steps old new text longer c pushed came), pushed)
+    (ReadsTo-weaker steps (λ _. IsTrue true) (λ _. ⊤) old new text longer (λ _. refl) (ReadsMore-one steps old new text longer c pushed came), pushed)
 
 pub none_came : {I : Type 0} (steps : I → Option ℕ → I → Type 0) (old new : Decompositions I) (text : List ℕ)
     → ((cs : List ℕ) → StillReads steps old cs → (cs ≡ []) × StillReads steps new []) → ReadsOne steps None old text new text
@@ -96,10 +96,10 @@ ReadsTo-longer steps Is old new text longer reads = omega (arith, ap length read
 -- ---- a loop that reads on
 
 -- the text is as it is to be
-pub so_far_is : {I : Type 0} (steps : I → Option ℕ → I → Type 0) (old now : Decompositions I) (text middle : List ℕ) (Is : List ℕ → Type 0) → ReadsOn steps old text now middle → Is middle → ReadsTo steps Is old text now middle
+pub so_far_is : {I : Type 0} (steps : I → Option ℕ → I → Type 0) (old now : Decompositions I) (text middle : List ℕ) (Is : List ℕ → Type 0) → ReadsMore steps old text now middle → Is middle → ReadsTo steps Is old text now middle
 so_far_is steps old now text middle Is so_far is = ReadsTo-weaker steps Is (λ _. ⊤) old now text middle (λ _. is) so_far
 
-module _ {I : Type 0} (steps : I → Option ℕ → I → Type 0) (old now new : Decompositions I) (text middle longer : List ℕ) (so_far : ReadsOn steps old text now middle) where
+module _ {I : Type 0} (steps : I → Option ℕ → I → Type 0) (old now new : Decompositions I) (text middle longer : List ℕ) (so_far : ReadsMore steps old text now middle) where
   -- it was read on to what it is to be
   pub so_far_to : (Is : List ℕ → Type 0) → ReadsTo steps Is now middle new longer → ReadsTo steps Is old text new longer
   so_far_to Is reads =
@@ -112,7 +112,7 @@ module _ {I : Type 0} (steps : I → Option ℕ → I → Type 0) (old now new :
       so_far_to Is (ReadsTo-weaker steps Is (λ _. IsTrue (is_some found)) now new middle longer (λ some. absurd (false≢true (sym (ap is_some none) ∙ some))) reads.0)
 
   -- one more came
-  pub so_far_more : (found : Option ℕ) → ReadsOne steps found now middle new longer → ReadsOn steps old text new longer
+  pub so_far_more : (found : Option ℕ) → ReadsOne steps found now middle new longer → ReadsMore steps old text new longer
   so_far_more found reads = so_far_to (λ _. ⊤) (ReadsTo-weaker steps (λ _. ⊤) (λ _. IsTrue (is_some found)) now new middle longer (λ _. tt) reads.0)
 
   -- one that passes came, behind so many

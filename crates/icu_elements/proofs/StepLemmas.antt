@@ -9,7 +9,7 @@ use Rattle.icu_data.specs.Data.{Row, Context, Data, HomedEntry, row_entry, longe
 use Rattle.icu_provider.specs.Tables.{Tables, entry_of, diacritic_of}
 use Rattle.unicode_normalization.specs.Order.{is_starter}
 use Rattle.icu_matches.specs.Matches.{Match, after_prefix, is_blocked, with_marks, contracted, match_from, match_of}
-use Rattle.icu_elements.specs.TextElements.{Reading, Step, continues_number, digit_of, number_elements, number_step, entry_step, matched_step, step, consumed, last_two, elements_along, elements_after}
+use Rattle.icu_elements.specs.TextElements.{Reading, Step, continues_number, digit_of_char, number_elements, number_step, entry_step, matched_step, step, consumed, last_two, elements_along, elements_after}
 use Rattle.icu_matches.proofs.ChoiceLemmas.{either, maybe_any, at_nil}
 
 -- ---- matches
@@ -61,7 +61,7 @@ unfolding number_step
 Rests-number_step tables lead m =
     let run = take_while (continues_number tables) m.rest in
     let alone : Step = record { elements = number_elements lead (digit_value m.entry ∷ []); suffix = m.suffix; rest = m.rest } in
-    let together : Step = record { elements = number_elements lead (digit_value m.entry ∷ map (digit_of tables) run); suffix = run; rest = drop (length run) m.rest } in
+    let together : Step = record { elements = number_elements lead (digit_value m.entry ∷ map (digit_of_char tables) run); suffix = run; rest = drop (length run) m.rest } in
     at_nil (Rests (length m.rest)) m.suffix _ alone (either (Rests (length m.rest)) _ alone together (record { fits = omega arith }) (record { fits = simp length-drop (omega arith) })) (record { fits = omega arith })
 
 Rests-entry_step : (reading : Reading) (home : Data) (c : ℕ) (m : Match) → Rests (length m.rest) (entry_step reading home c m)

@@ -5,12 +5,13 @@ use Rattle.std.proofs.Math.ListN.{drop_of_length-le}
 use Rattle.unicode_normalization.specs.declared.decompose.Decompositions.{Decompositions}
 use Rattle.icu_entries.specs.Elements.{Element, end_element}
 use Rattle.icu_elements.specs.declared.element_reader.ElementReader.{ElementReader}
-use Rattle.icu_elements.specs.declared.reader.TextReading.{TextReading}
+use Rattle.icu_elements.specs.declared.text_reading.TextReading.{TextReading}
 use Rattle.icu_elements.specs.declared.reader.position.Position.{Position}
 use Rattle.icu_elements.specs.CollationElements.{first_of, rest_of}
 use Rattle.icu_elements.specs.ReadAhead.{IsEnough, HasWholeStep}
 use Rattle.icu_elements.specs.TextElements.{Reading, step, consumed, last_two, elements_after, elements_of}
-use Rattle.icu_elements.specs.inner.Positions.{reading_by_tables, consumed_last, unread_at, IsStep}
+use Rattle.icu_elements.specs.inner.Positions.{consumed_last, unread_at, IsStep}
+use Rattle.icu_elements.specs.Reading.{reading_of}
 use Rattle.icu_elements.specs.inner.ReadsAhead.{ReadsTo, IsBegun}
 use Rattle.icu_elements.specs.inner.ReadyElements.{ready_elements}
 use Rattle.icu_elements.specs.inner.Streams.{elements_before, HasElements}
@@ -20,14 +21,14 @@ use Rattle.icu_elements.proofs.StepLemmas.{elements_after_nil}
 
 -- nothing was read yet
 pub fresh : (r : ElementReader) (left : List ℕ) → ready_elements r ≡ [] → consumed_last r.position ≡ [] → unread_at r.position ≡ []
-    → elements_of (reading_by_tables r.reading) left ≡ ready_elements r ++ elements_before r.reading r.position left
+    → elements_of (reading_of r.reading) left ≡ ready_elements r ++ elements_before r.reading r.position left
 fresh r left ready before unread =
     sym (ap (λ (l : List Element). l ++ elements_before r.reading r.position left) ready
-    ∙ ap₂ (λ (b t : List ℕ). elements_after (reading_by_tables r.reading) b (t ++ left)) before unread)
+    ∙ ap₂ (λ (b t : List ℕ). elements_after (reading_of r.reading) b (t ++ left)) before unread)
 
 pub fresh_by : (r : ElementReader) (reading : TextReading) (left : List ℕ) → r.reading ≡ reading → ready_elements r ≡ [] → consumed_last r.position ≡ [] → unread_at r.position ≡ []
-    → elements_of (reading_by_tables reading) left ≡ ready_elements r ++ elements_before r.reading r.position left
-fresh_by r reading left is ready before unread = ap (λ (t : TextReading). elements_of (reading_by_tables t) left) (sym is) ∙ fresh r left ready before unread
+    → elements_of (reading_of reading) left ≡ ready_elements r ++ elements_before r.reading r.position left
+fresh_by r reading left is ready before unread = ap (λ (t : TextReading). elements_of (reading_of t) left) (sym is) ∙ fresh r left ready before unread
 
 -- ---- a step
 
@@ -52,8 +53,8 @@ stepped reading before c text left whole es fs p is enough h =
 module _ {I : Type 0} (steps : I → Option ℕ → I → Type 0) (reading : TextReading) (old mid new : Decompositions I) (at : Position) (text : List ℕ) where
   -- a character came, so much more was read ahead, and a step was taken
   pub HasElements-step : (c : ℕ) (middle longer : List ℕ) (es fs : List Element) (p : Position) → ReadsTo steps IsBegun old (unread_at at) mid text → text ≡ c ∷ middle
-      → ReadsTo steps (HasWholeStep (reading_by_tables reading) (consumed_last at) c) mid middle new longer
-      → IsStep (step (reading_by_tables reading) (consumed_last at) c longer) c (consumed_last at) es fs p
+      → ReadsTo steps (HasWholeStep (reading_of reading) (consumed_last at) c) mid middle new longer
+      → IsStep (step (reading_of reading) (consumed_last at) c longer) c (consumed_last at) es fs p
       → (all : List Element) → HasElements steps reading old at es all → HasElements steps reading new p fs all
   HasElements-step c middle longer es fs p came split ahead stepped_on all h =
       let first = came.at h.left h.source in
@@ -71,8 +72,8 @@ module _ {I : Type 0} (steps : I → Option ℕ → I → Type 0) (reading : Tex
         source = second.2;
         elements =
             h.elements
-            ∙ stepped (reading_by_tables reading) (consumed_last at) c longer second.0 (unread_at at ++ h.left) es fs p whole
-            (enough_or_ended (reading_by_tables reading) (consumed_last at) c longer second.0 second.3) stepped_on;
+            ∙ stepped (reading_of reading) (consumed_last at) c longer second.0 (unread_at at ++ h.left) es fs p whole
+            (enough_or_ended (reading_of reading) (consumed_last at) c longer second.0 second.3) stepped_on;
       }
 
   nothing_left : (left : List ℕ) → text ≡ [] → IsBegun text ⊎ (left ≡ []) → left ≡ []
@@ -88,8 +89,8 @@ module _ {I : Type 0} (steps : I → Option ℕ → I → Type 0) (reading : Tex
       ap (λ (l : List ℕ). unread_at at ++ l) first.1
       ∙ sym (append_assoc (unread_at at) came.more first.0)
       ∙ ap₂ (λ (a b : List ℕ). a ++ b) (sym came.grown ∙ none) ended in
-      h.elements ∙ ap (λ (l : List ℕ). es ++ elements_after (reading_by_tables reading) (consumed_last at) l) nothing
-      ∙ ap (λ (l : List Element). es ++ l) (elements_after_nil (reading_by_tables reading) (consumed_last at)) ∙ append-nil es
+      h.elements ∙ ap (λ (l : List ℕ). es ++ elements_after (reading_of reading) (consumed_last at) l) nothing
+      ∙ ap (λ (l : List Element). es ++ l) (elements_after_nil (reading_of reading) (consumed_last at)) ∙ append-nil es
 
 -- ---- an element that stands ready
 

@@ -7,7 +7,7 @@ use Rattle.icu_entries.specs.Entries.{digit_value}
 use Rattle.icu_provider.specs.Tables.{Tables}
 use Rattle.icu_matches.specs.Matches.{Match}
 use Rattle.icu_elements.specs.declared.reader.position.Position.{Position}
-use Rattle.icu_elements.specs.TextElements.{is_digit_kind, continues_number, digit_of, last_two}
+use Rattle.icu_elements.specs.TextElements.{is_digit_kind, continues_number, digit_of_char, last_two}
 use Rattle.icu_elements.specs.inner.Positions.{consumed_last, unread_at}
 use Rattle.icu_elements.specs.inner.TakenDigits.{run_of, IsNoDigit, IsDigitTaken, IsRunTaken, stands_alone, IsNumberTaken}
 use Rattle.icu_elements.proofs.ReaderLemmas.{last_two-append, none_more}
@@ -50,10 +50,10 @@ no_digit tables p c d first h = record {
   before = refl;
 }
 
-pub digit_taken : (tables : Tables) (p q : Position) (c d : ℕ) → slice_get (unread_at p) 0 ≡ Some c → Some d ≡ (if continues_number tables c then Some (digit_of tables c) else None) → d < 10
+pub digit_taken : (tables : Tables) (p q : Position) (c d : ℕ) → slice_get (unread_at p) 0 ≡ Some c → Some d ≡ (if continues_number tables c then Some (digit_of_char tables c) else None) → d < 10
     → unread_at q ≡ drop 1 (unread_at p) → consumed_last q ≡ last_two (consumed_last p) (c ∷ []) → IsDigitTaken tables d p q
 digit_taken tables p q c d first h decimal rest before =
-    let on = continuing (continues_number tables c) (digit_of tables c) d h in
+    let on = continuing (continues_number tables c) (digit_of_char tables c) d h in
     record {
       char = c;
       taken = first_char (unread_at p) c first ∙ ap (λ (l : List ℕ). c ∷ l) (sym rest);
@@ -70,7 +70,7 @@ fewer tables d old new t =
 
 -- what reading on from here comes to is what reading on from there came to
 pub record ComesTo (tables : Tables) (here : Position) (ds : List ℕ) (there : Position) (es : List ℕ) : Type 0 where
-  pub digits : ds ++ map (digit_of tables) (run_of tables (unread_at here)) ≡ es ++ map (digit_of tables) (run_of tables (unread_at there))
+  pub digits : ds ++ map (digit_of_char tables) (run_of tables (unread_at here)) ≡ es ++ map (digit_of_char tables) (run_of tables (unread_at there))
   pub rest : drop (length (run_of tables (unread_at here))) (unread_at here) ≡ drop (length (run_of tables (unread_at there))) (unread_at there)
   pub before : last_two (consumed_last here) (run_of tables (unread_at here)) ≡ last_two (consumed_last there) (run_of tables (unread_at there))
 
@@ -88,9 +88,9 @@ module _ (tables : Tables) (old new there : Position) (before_run start : List �
       let more : run_of tables (unread_at old) ≡ t.char ∷ run = ap (run_of tables) t.taken ∙ run_goes_on tables t.char (unread_at new) t.continues in
       record {
         digits =
-            append_assoc before_run (d ∷ []) (map (digit_of tables) run)
-            ∙ ap (λ x. before_run ++ x ∷ map (digit_of tables) run) t.digit
-            ∙ ap (λ (l : List ℕ). before_run ++ map (digit_of tables) l) (sym more)
+            append_assoc before_run (d ∷ []) (map (digit_of_char tables) run)
+            ∙ ap (λ x. before_run ++ x ∷ map (digit_of_char tables) run) t.digit
+            ∙ ap (λ (l : List ℕ). before_run ++ map (digit_of_char tables) l) (sym more)
             ∙ h.digits;
         rest = dropped t.char (unread_at new) (unread_at old) run _ t.taken more ∙ h.rest;
         before =
@@ -103,7 +103,7 @@ module _ (tables : Tables) (old new there : Position) (before_run start : List �
   -- none is left
   pub IsRunTaken-end : IsNoDigit tables old new → IsRunTaken tables there start new before_run
   IsRunTaken-end n =
-      let none : List ℕ → List ℕ = λ l. before_run ++ map (digit_of tables) l in
+      let none : List ℕ → List ℕ = λ l. before_run ++ map (digit_of_char tables) l in
       record {
         digits = sym (append-nil before_run) ∙ ap none (sym n.run) ∙ h.digits;
         rest = n.unread ∙ ap (λ (l : List ℕ). drop (length l) (unread_at old)) (sym n.run) ∙ h.rest;
@@ -125,7 +125,7 @@ module _ (tables : Tables) (c : ℕ) (m : Match) (old new : Position) (ds : List
   taken_together mid together rest before t =
       let run : List ℕ → List ℕ = run_of tables in
       record {
-        digits = rw together (t.digits ∙ ap (λ l. digit_value m.entry ∷ map (digit_of tables) (run l)) rest);
+        digits = rw together (t.digits ∙ ap (λ l. digit_value m.entry ∷ map (digit_of_char tables) (run l)) rest);
         rest = rw together (t.rest ∙ ap (λ l. drop (length (run l)) l) rest);
         before =
             rw together (t.before ∙ ap (λ l. last_two (consumed_last mid) (run l)) rest ∙ ap (λ l. last_two l (run m.rest)) before

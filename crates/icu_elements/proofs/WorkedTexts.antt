@@ -5,7 +5,7 @@ use Rattle.unicode_normalization.specs.Forms.{nfd}
 use Rattle.icu_entries.specs.Elements.{Element, of_primary, of_secondary}
 use Rattle.icu_elements.specs.TextElements.{Reading, non_numeric_reading, elements_of}
 use Rattle.icu_elements.proofs.Computing.{icu_elements}
-use Rattle.icu_elements.proofs.WorkedTables.{mini, sharp_s, kana, offsets, long_jamo, ring, hinted_ring, two_marks, prefixed, letter_before_prefix, numeric, lithuanian}
+use Rattle.icu_elements.proofs.WorkedReadings.{mini, sharp_s, kana, offsets, long_jamo, ring, hinted_ring, two_marks, prefixed, letter_before_prefix, numeric, lithuanian}
 
 abbrev elements_in : Reading → List ℕ → List Element
 elements_in reading text = elements_of reading (nfd text)
@@ -25,7 +25,7 @@ composed_acute : elements_in (non_numeric_reading mini) (0xE1 ∷ []) ≡ letter
 unfolding icu_elements
 composed_acute = refl
 
--- the same, decomposed
+-- the text in canonical decomposition
 decomposed_acute : elements_in (non_numeric_reading mini) (97 ∷ 0x301 ∷ []) ≡ letter 0x61100000 ∷ diacritic 0x4700 ∷ []
 unfolding icu_elements
 decomposed_acute = refl

@@ -22,6 +22,7 @@ IsLeftAt Refused steps s es = es ≡ []
 unfoldable pub StillGives : {I : Type 0} → (I → Option ℕ → I → Type 0) → CollationElements I → List Element → Type 0
 StillGives steps s es = IsLeftAt s.progress steps s es
 
+-- its source may be called, or none is needed after an allocation failed
 abbrev pub IsReadyAt : {I : Type 0} → Progress → (I → Type 0) → (I → Count) → CollationElements I → Type 0
 IsReadyAt Reading can left s = CanDecompose can left s.source
 IsReadyAt Refused can left s = ⊤

@@ -29,10 +29,12 @@ pub record Step : Type 0 where
   pub suffix : List ℕ
   pub rest : List ℕ
 
+-- the kind of a digit's entry
 abbrev pub is_digit_kind : EntryKind → Bool
 is_digit_kind Digit = true
 is_digit_kind _ = false
 
+-- a text that begins with a grave, an acute or a tilde
 abbrev pub is_diacritic_above : List ℕ → Bool
 is_diacritic_above [] = false
 is_diacritic_above (c ∷ cs) = c == 0x300 || c == 0x301 || c == 0x303
@@ -45,12 +47,14 @@ is_silent_dot lithuanian c text = lithuanian && c == 0x307 && is_diacritic_above
 abbrev pub continues_number : Tables → ℕ → Bool
 continues_number tables c = not (is_some (diacritic_of tables c)) && is_digit_kind (kind_of (entry_of tables c).entry)
 
+-- a text that begins with a character of another class than 0
 abbrev pub begins_with_mark : List ℕ → Bool
 begins_with_mark [] = false
 begins_with_mark (c ∷ cs) = is_nonstarter c
 
-abbrev pub digit_of : Tables → ℕ → ℕ
-digit_of tables c = digit_value (entry_of tables c).entry
+-- the digit that a character has by its own entry
+abbrev pub digit_of_char : Tables → ℕ → ℕ
+digit_of_char tables c = digit_value (entry_of tables c).entry
 
 -- the elements of a run of digits
 abbrev pub number_elements : ℕ → List ℕ → List Element
@@ -63,7 +67,7 @@ number_step tables lead m =
     let run = take_while (continues_number tables) m.rest in
     let alone : Step = record { elements = number_elements lead (digit_value m.entry ∷ []); suffix = m.suffix; rest = m.rest } in
     let together : Step = record {
-      elements = number_elements lead (digit_value m.entry ∷ map (digit_of tables) run);
+      elements = number_elements lead (digit_value m.entry ∷ map (digit_of_char tables) run);
       suffix = run;
       rest = drop (length run) m.rest;
     } in
@@ -96,7 +100,7 @@ matched_step reading c text m =
       | None ↦ entry_step reading (entry_of reading.tables c).home c m
     ]
 
--- the same, after the characters that were consumed, nearest first
+-- what a character gives before a text, after the characters that were consumed, nearest first
 abbrev pub step : Reading → List ℕ → ℕ → List ℕ → Step
 step reading before c text = matched_step reading c text (match_of (entry_of reading.tables c) before text)
 

@@ -8,9 +8,8 @@ ghost use Rattle.unicode_normalization.specs.Forms.{nfd};
 ghost use Rattle.unicode_normalization.specs.Iter.{Spells};
 
 use crate::element_reader::ElementReader;
-use crate::element_tables::ElementTables;
-use crate::reader::TextReading;
 use crate::reader::stream::stream_step;
+use crate::text_reading::TextReading;
 use icu_entries::CollationElement;
 use std::alloc::AllocError;
 use unicode_normalization::Decompositions;
@@ -39,28 +38,14 @@ impl<'d, I: Iterator<Item = char> + Drop> CollationElements<'d, I> {
     ghost use Rattle.icu_elements.specs.CollationElements.{first_of, rest_of};
     ghost use Rattle.icu_elements.specs.inner.ReadyElements.{ready_elements};
 
-    /// Reads the text that `delegate` spells, by these tables. `numeric_primary` is the lead byte of
-    /// numbers, where digits are read as numbers. With `lithuanian_dot_above`, U+0307 before a
-    /// diacritic above is silent. Does not allocate.
-    pub fn new(
-        delegate: I,
-        tables: ElementTables<'d>,
-        numeric_primary: Option<u8>,
-        lithuanian_dot_above: bool,
-    ) -> CollationElements<'d, I>
-        ensures text { let reading =
-            reading_of tables.entry numeric_primary lithuanian_dot_above in
-            (cs : List ℕ) → Spells I.next_gives delegate cs
-            → StillGives I.next_gives result (elements_of reading (nfd cs)) }
+    /// Reads the text that `delegate` spells. Does not allocate.
+    pub fn new(delegate: I, reading: TextReading<'d>) -> CollationElements<'d, I>
+        ensures text { (cs : List ℕ) → Spells I.next_gives delegate cs
+            → StillGives I.next_gives result (elements_of (reading_of reading.entry) (nfd cs)) }
         ensures ready { I.can_next delegate → IsFinite (I.remaining delegate)
             → CanGive I.can_next I.remaining result }
     {
-        let alloc = tables.allocator();
-        let reading = TextReading {
-            tables,
-            numeric_primary,
-            lithuanian_dot_above,
-        };
+        let alloc = reading.tables.allocator();
         CollationElements {
             source: Decompositions::new_canonical(alloc, delegate),
             reader: ElementReader::at_start(reading, Vec::new(alloc)),

@@ -3,10 +3,9 @@
 ghost use Rattle.std.specs.Prelude.{◌≡◌, [], ◌++◌, None, option_to_list, IfOk, OnOk};
 
 use crate::element_list::ElementList;
-use crate::element_tables::ElementTables;
-use crate::reader::TextReading;
 use crate::reader::position::Position;
 use crate::reader::step::read_step;
+use crate::text_reading::TextReading;
 use icu_entries::CollationElement;
 use std::alloc::AllocError;
 
@@ -23,55 +22,36 @@ impl<'d> ElementReader<'d> {
     ghost use Rattle.icu_elements.specs.TextElements.{elements_of, elements_after, last_two};
     ghost use Rattle.icu_elements.specs.Reading.{reading_of};
     ghost use Rattle.icu_elements.specs.ElementReaders.{elements_to_come};
-    ghost use Rattle.icu_elements.specs.inner.Positions.{reading_by_tables, consumed_last, unread_at};
+    ghost use Rattle.icu_elements.specs.inner.Positions.{consumed_last, unread_at};
     ghost use Rattle.icu_elements.specs.inner.ReadyElements.{ready_elements, IsFilled};
 
-    /// Reads a text in canonical decomposition (UAX #15), by these tables. `numeric_primary` is the
-    /// lead byte of numbers, where digits are read as numbers. With `lithuanian_dot_above`, U+0307
-    /// before a diacritic above is silent. Does not allocate.
-    pub fn new(
-        text: Vec<char>,
-        tables: ElementTables<'d>,
-        numeric_primary: Option<u8>,
-        lithuanian_dot_above: bool,
-    ) -> ElementReader<'d>
-        ensures { elements_to_come result ≡ elements_of
-            (reading_of tables.entry numeric_primary lithuanian_dot_above) text.items }
+    /// Reads a text in canonical decomposition (UAX #15). Does not allocate.
+    pub fn new(text: Vec<char>, reading: TextReading<'d>) -> ElementReader<'d>
+        ensures { elements_to_come result ≡ elements_of (reading_of reading.entry) text.items }
     {
-        ElementReader::after(&[], text, tables, numeric_primary, lithuanian_dot_above)
+        ElementReader::at_start(reading, text)
     }
 
-    /// The same of a text that comes after other characters. `before` has them in the order of the text, decomposed:
-    /// the last two are enough, since prefixes look no further back (UTS #35 part 5, "Context-Sensitive Mappings").
-    /// Does not allocate.
-    pub fn after(
-        before: &[char],
-        text: Vec<char>,
-        tables: ElementTables<'d>,
-        numeric_primary: Option<u8>,
-        lithuanian_dot_above: bool,
-    ) -> ElementReader<'d>
-        ensures { elements_to_come result ≡ elements_after
-            (reading_of tables.entry numeric_primary lithuanian_dot_above) (last_two [] before.now) text.items }
+    /// Reads a text in canonical decomposition that comes after other characters. `before` has them in the order of the
+    /// text, decomposed: the last two are enough, since prefixes look no further back (UTS #35 part 5,
+    /// "Context-Sensitive Mappings"). Does not allocate.
+    pub fn after(before: &[char], text: Vec<char>, reading: TextReading<'d>) -> ElementReader<'d>
+        ensures { elements_to_come result
+            ≡ elements_after (reading_of reading.entry) (last_two [] before.now) text.items }
     {
-        let reading = TextReading {
-            tables,
-            numeric_primary,
-            lithuanian_dot_above,
-        };
         let mut reader = ElementReader::at_start(reading, text);
         reader.position.recent.push_all(before);
         reader
     }
 
-    /// The same, by what says how texts are read.
+    /// A reader that has read nothing yet of a text, with nothing before it.
     pub(crate) fn at_start(reading: TextReading<'d>, text: Vec<char>) -> ElementReader<'d>
         ensures reading { result.reading ≡ reading.entry }
         ensures ready { ready_elements result ≡ [] }
         ensures before { consumed_last result.position ≡ [] }
         ensures unread { unread_at result.position ≡ text.items }
         ensures elements { elements_to_come result
-            ≡ elements_of (reading_by_tables reading.entry) text.items }
+            ≡ elements_of (reading_of reading.entry) text.items }
     {
         let alloc = reading.tables.allocator();
         ElementReader {

@@ -11,6 +11,7 @@ ghost use Rattle.icu_matches.specs.GoodEntries.{IsGoodFrom};
 use icu_checks::CheckedTables;
 use icu_data::CollationData;
 use icu_entries::{CollationElement32, EntryKind};
+use icu_provider::jamo::{JAMO_BASE, JAMO_COUNT};
 use std::alloc::Global;
 
 /// The tables that elements are read from: root, tailoring, jamo and diacritics, checked together.
@@ -28,7 +29,7 @@ pub(crate) struct HomedEntry<'d> {
 
 impl<'d> ElementTables<'d> {
     ghost use Rattle.icu_elements.specs.Reading.{element_tables};
-    ghost use Rattle.icu_elements.specs.TextElements.{continues_number, digit_of};
+    ghost use Rattle.icu_elements.specs.TextElements.{continues_number, digit_of_char};
 
     /// The tables of a collator, borrowed without a second check. Does not allocate.
     #[inline(always)]
@@ -58,11 +59,11 @@ impl<'d> ElementTables<'d> {
         }
     }
 
-    /// The entry of a character, with its home: that of a conjoining jamo by their table, whose home is the root, else
-    /// the tailoring's, and where there is none, or it is fallback, the root's (UTS #35 part 5, "Collation
-    /// Tailorings").
+    /// The entry of a character, with its home: of a conjoining jamo by the table of jamo, whose home is the root; else
+    /// the tailoring's; where there is none, or it is fallback, the root's (UTS #35 part 5, "Collation Tailorings").
     pub(crate) fn entry(self, c: char) -> HomedEntry<'d>
-        ensures value { entry_of (element_tables self.entry) c ≡ homed (data_of result.home) result.ce32 }
+        ensures value { entry_of (element_tables self.entry) c
+            ≡ homed (data_of result.home) result.ce32 }
         ensures good { IsGoodFrom (data_of result.home) c result.ce32 }
     {
         self.found(c)
@@ -78,7 +79,8 @@ impl<'d> ElementTables<'d> {
     /// The digit of a character that goes on a number: no diacritic, and its own entry is a digit's.
     #[tactic(auto, using(crate::proofs::TakenDigitLemmas::other_kind))]
     pub(crate) fn digit(self, c: char) -> Option<u8>
-        ensures value { result ≡ (if continues_number (element_tables self.entry) c then Some (digit_of (element_tables self.entry) c) else None) }
+        ensures value { let tables = element_tables self.entry in
+            result ≡ (if continues_number tables c then Some (digit_of_char tables c) else None) }
         ensures decimal { IfSome result (λ d. d < 10) }
     {
         if self.diacritic(c).is_some() {
@@ -96,16 +98,16 @@ impl<'d> ElementTables<'d> {
         ensures { entry_of (element_tables self.entry) c ≡ homed (data_of result.home) result.ce32 }
     {
         let code = c as usize;
-        if code >= 0x1100 && code < 0x1200 {
+        if code >= JAMO_BASE as usize && code < JAMO_BASE as usize + JAMO_COUNT {
             let jamo = self.tables.jamo();
             return HomedEntry {
                 home: self.tables.root(),
-                ce32: CollationElement32::new(jamo.ce32s()[code - 0x1100]),
+                ce32: CollationElement32::new(jamo.ce32s()[code - JAMO_BASE as usize]),
             };
         }
         if let Some(tailoring) = self.tables.tailoring() {
             let tailored = tailoring.ce32_for_char(c);
-            if tailored != CollationElement32::new(0xC0) {
+            if !tailored.is_fallback() {
                 return HomedEntry {
                     home: tailoring,
                     ce32: tailored,

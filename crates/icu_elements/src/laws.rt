@@ -9,7 +9,7 @@ pub fn texts_decompose()
     ensures { TextsDecompose }
 {}
 
-/// What holds of each part of a text's elements, and of two lists one after the other where it holds of both, holds of
+/// A property that holds of each part of a text's elements, and of two lists together where it holds of both, holds of
 /// the elements of each decomposed text. The parts are the elements of each live entry, of each diacritic, and of each
 /// number (UTS #10, "Produce Collation Element Arrays").
 pub fn good_parts_make_good_texts()

@@ -10,6 +10,7 @@ pub mod laws;
 pub mod look_up;
 pub mod read;
 mod reader;
+pub mod text_reading;
 pub mod whole;
 
 pub use collation_elements::CollationElements;
@@ -17,4 +18,5 @@ pub use element_reader::ElementReader;
 pub use element_tables::ElementTables;
 pub use icu_entries::{CollationElement, CollationElement32, NonPrimary, Tag};
 pub use read::decomposed_text;
+pub use text_reading::TextReading;
 pub use whole::all_elements;

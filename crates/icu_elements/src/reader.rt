@@ -4,38 +4,29 @@
 
 ghost use Rattle.std.specs.Prelude.{◌≡◌, IfOk};
 ghost use Rattle.icu_elements.specs.TextElements.{elements_of};
-ghost use Rattle.icu_elements.specs.inner.Positions.{reading_by_tables};
+ghost use Rattle.icu_elements.specs.Reading.{reading_of};
 
 mod ahead;
-mod digits;
-mod entries;
+mod entry_step;
 pub(crate) mod position;
 pub(crate) mod recent;
 pub(crate) mod step;
 pub(crate) mod stream;
+mod taken_digits;
 
 use crate::element_list::ElementList;
-use crate::element_tables::ElementTables;
 use crate::reader::position::Position;
 use crate::reader::step::read_step;
+use crate::text_reading::TextReading;
 use icu_entries::CollationElement;
 use std::alloc::AllocError;
-
-/// How a text is read: the tables, the lead byte of numbers where digits are read as numbers, and whether U+0307 before
-/// a diacritic above is silent.
-#[derive(Debug, Clone, Copy)]
-pub(crate) struct TextReading<'d> {
-    pub(crate) tables: ElementTables<'d>,
-    pub(crate) numeric_primary: Option<u8>,
-    pub(crate) lithuanian_dot_above: bool,
-}
 
 /// The elements of a decomposed text.
 pub(crate) fn read_text(
     reading: TextReading<'_>,
     text: Vec<char>,
 ) -> Result<Vec<CollationElement>, AllocError>
-    ensures { IfOk result (λ es. es.items ≡ elements_of (reading_by_tables reading.entry) text.items) }
+    ensures { IfOk result (λ es. es.items ≡ elements_of (reading_of reading.entry) text.items) }
 {
     let mut list = ElementList {
         elements: Vec::new(reading.tables.allocator()),

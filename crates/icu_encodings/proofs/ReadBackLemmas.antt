@@ -23,7 +23,7 @@ scalar_alone c h = grind (arith, nat_tests)
 one_unit : (c : ℕ) → c < 0x1_0000 → encode_utf16 c ≡ c ∷ []
 one_unit c h = grind (arith, nat_tests)
 
--- one of two units
+-- a character of two units
 two_units : (c : ℕ) → 0x1_0000 ≤ c → encode_utf16 c ≡ (0xD800 + (c - 0x1_0000) / 0x400) ∷ (0xDC00 + (c - 0x1_0000) % 0x400) ∷ []
 two_units c h = grind (arith, nat_tests)
 

@@ -69,7 +69,7 @@ same_front xs ys xs_left ys_left h =
     omega (arith, ap length h.1 ∙ length-append h.0 xs_left, ap length h.2 ∙ length-append h.0 ys_left) in
     head_taken xs h.0 xs_left h.1 ∙ sym (ap (λ k. take k ys) n ∙ head_taken ys h.0 ys_left h.2)
 
--- and so are fewer
+-- where so many first units are the same, so are fewer
 pub same_shorter : (n m : ℕ) (xs ys : List ℕ) → n ≤ m → take m xs ≡ take m ys → take n xs ≡ take n ys
 same_shorter n m xs ys le e = sym (take-take n m xs le) ∙ ap (take n) e ∙ take-take n m ys le
 
@@ -129,7 +129,7 @@ utf8_first_two b c bs low high at_least at_most =
     lossy_chars-step all (omega arith)
     ∙ ap (λ d. or_replacement d.char ∷ utf8_text (drop d.size all)) value
 
--- one of three, whose second byte may stand after the first
+-- a character of three bytes, whose second byte may stand after the first
 pub utf8_first_three : (b c d : ℕ) (bs : List ℕ) → 0xE0 ≤ b → b ≤ 0xEF → second b c ≡ true → 0x80 ≤ d → d ≤ 0xBF → utf8_text (b ∷ c ∷ d ∷ bs) ≡ code_of_3 b c d ∷ utf8_text bs
 utf8_first_three b c d bs low high second_fits at_least at_most =
     let all = b ∷ c ∷ d ∷ bs in
@@ -139,7 +139,7 @@ utf8_first_three b c d bs low high second_fits at_least at_most =
     lossy_chars-step all (omega arith)
     ∙ ap (λ x. or_replacement x.char ∷ utf8_text (drop x.size all)) value
 
--- as any that continues does after most
+-- any byte that continues may stand after most first bytes
 pub second_of_most : (b c : ℕ) → 0xE1 ≤ b → b ≤ 0xEC → 0x80 ≤ c → c ≤ 0xBF → second b c ≡ true
 second_of_most b c low high at_least at_most =
     let e0 : (b == 0xE0) ≡ false = grind (arith, nat_tests) in
@@ -148,14 +148,14 @@ second_of_most b c low high at_least at_most =
     let f4 : (b == 0xF4) ≡ false = grind (arith, nat_tests) in
     let goes_on : continues c ≡ true = grind (arith, nat_tests) in rw (e0, ed, f0, f4) goes_on
 
--- and a lesser one after ED
+-- a byte that continues and is below A0 may stand after ED
 pub second_after_ed : (c : ℕ) → 0x80 ≤ c → c ≤ 0x9F → second 0xED c ≡ true
 second_after_ed c at_least at_most = grind (arith, nat_tests)
 
 whole_left : (n : ℕ) (bs : List ℕ) → n ≡ length bs → take n bs ≡ bs
 whole_left n bs is = ap (λ k. take k bs) is ∙ take_all (length bs) bs (omega arith)
 
--- so where a list begins
+-- a list that begins with a character of two bytes
 pub first_two : (bs : List ℕ) (b c d e x : ℕ) → 2 ≤ length bs → b ≡ get_or bs 0 d → c ≡ get_or bs 1 e → 0xC2 ≤ b → b ≤ 0xDF → 0x80 ≤ c → c ≤ 0xBF → x ≡ code_of_2 b c
     → utf8_text bs ≡ x ∷ utf8_text (take (length bs - 2) (drop 2 bs))
 first_two [] b c d e x long f s low high at_least at_most is = absurd (omega arith)

@@ -46,44 +46,44 @@ impl<'a, 'b> CommonUnits<Utf16Text<'b>> for Latin1Text<'a> {
 
 /// What follows the first byte of two lists that both have it, and `None` where they have none in common.
 #[inline]
-fn after_common_byte<'a, 'b>(one: &'a [u8], other: &'b [u8]) -> Option<(&'a [u8], &'b [u8])>
-    ensures { MatchOption result (EndTogether one.entry.now other.entry.now)
-        (λ p. BeginAlike one.entry.now other.entry.now p.0.now p.1.now) }
+fn after_common_byte<'a, 'b>(left: &'a [u8], right: &'b [u8]) -> Option<(&'a [u8], &'b [u8])>
+    ensures { MatchOption result (EndTogether left.entry.now right.entry.now)
+        (λ p. BeginAlike left.entry.now right.entry.now p.0.now p.1.now) }
 {
-    let (unit, rest) = one.split_first()?;
-    let (other_unit, other_rest) = other.split_first()?;
-    if *unit == *other_unit {
-        Some((rest, other_rest))
+    let (left_unit, left_rest) = left.split_first()?;
+    let (right_unit, right_rest) = right.split_first()?;
+    if *left_unit == *right_unit {
+        Some((left_rest, right_rest))
     } else {
         None
     }
 }
 
-/// The same of units of 16 bits.
+/// What follows the first unit of 16 bits of two lists that both have it, and `None` where they have none in common.
 #[inline]
-fn after_common_unit<'a, 'b>(one: &'a [u16], other: &'b [u16]) -> Option<(&'a [u16], &'b [u16])>
-    ensures { MatchOption result (EndTogether one.entry.now other.entry.now)
-        (λ p. BeginAlike one.entry.now other.entry.now p.0.now p.1.now) }
+fn after_common_unit<'a, 'b>(left: &'a [u16], right: &'b [u16]) -> Option<(&'a [u16], &'b [u16])>
+    ensures { MatchOption result (EndTogether left.entry.now right.entry.now)
+        (λ p. BeginAlike left.entry.now right.entry.now p.0.now p.1.now) }
 {
-    let (unit, rest) = one.split_first()?;
-    let (other_unit, other_rest) = other.split_first()?;
-    if *unit == *other_unit {
-        Some((rest, other_rest))
+    let (left_unit, left_rest) = left.split_first()?;
+    let (right_unit, right_rest) = right.split_first()?;
+    if *left_unit == *right_unit {
+        Some((left_rest, right_rest))
     } else {
         None
     }
 }
 
-/// The same of bytes and units of 16 bits.
+/// What follows the first byte and the first unit of 16 bits that are the same number, and `None` where they aren't.
 #[inline]
-fn after_common_number<'a, 'b>(one: &'a [u8], other: &'b [u16]) -> Option<(&'a [u8], &'b [u16])>
-    ensures { MatchOption result (EndTogether one.entry.now other.entry.now)
-        (λ p. BeginAlike one.entry.now other.entry.now p.0.now p.1.now) }
+fn after_common_number<'a, 'b>(left: &'a [u8], right: &'b [u16]) -> Option<(&'a [u8], &'b [u16])>
+    ensures { MatchOption result (EndTogether left.entry.now right.entry.now)
+        (λ p. BeginAlike left.entry.now right.entry.now p.0.now p.1.now) }
 {
-    let (byte, rest) = one.split_first()?;
-    let (unit, other_rest) = other.split_first()?;
-    if u16::from(*byte) == *unit {
-        Some((rest, other_rest))
+    let (left_byte, left_rest) = left.split_first()?;
+    let (right_unit, right_rest) = right.split_first()?;
+    if u16::from(*left_byte) == *right_unit {
+        Some((left_rest, right_rest))
     } else {
         None
     }
@@ -94,28 +94,28 @@ fn after_common_number<'a, 'b>(one: &'a [u8], other: &'b [u16]) -> Option<(&'a [
 fn after_common_blocks<'a, 'b>(left: &'a [u8], right: &'b [u8]) -> (&'a [u8], &'b [u8])
     ensures { HaveHead left.entry.now right.entry.now result.0.now result.1.now }
 {
-    let mut one = left;
-    let mut other = right;
-    'wide: while let Some((block, rest)) = one.split_first_chunk::<64>() {
-        let Some((other_block, other_rest)) = other.split_first_chunk::<64>() else {
+    let mut left_rest = left;
+    let mut right_rest = right;
+    'wide: while let Some((left_block, left_next)) = left_rest.split_first_chunk::<64>() {
+        let Some((right_block, right_next)) = right_rest.split_first_chunk::<64>() else {
             break 'wide;
         };
-        if block != other_block {
+        if left_block != right_block {
             break 'wide;
         }
-        one = rest;
-        other = other_rest;
+        left_rest = left_next;
+        right_rest = right_next;
     }
-    (one, other)
+    (left_rest, right_rest)
 }
 
 /// How many first bytes two words have in common, found at once.
 #[inline(always)]
-fn common_in_word(one: &[u8; 8], other: &[u8; 8]) -> usize
+fn common_in_word(left: &[u8; 8], right: &[u8; 8]) -> usize
     ensures bound { result ≤ 8 }
-    ensures front { take result one.now ≡ take result other.now }
+    ensures front { take result left.now ≡ take result right.now }
 {
-    let differing = u8x8::from_array(*one).simd_ne(u8x8::from_array(*other));
+    let differing = u8x8::from_array(*left).simd_ne(u8x8::from_array(*right));
     let mask = differing.to_bitmask();
     if mask == 0 {
         return 8;
@@ -128,22 +128,22 @@ fn common_in_word(one: &[u8; 8], other: &[u8; 8]) -> usize
 fn after_common_words<'a, 'b>(left: &'a [u8], right: &'b [u8]) -> (&'a [u8], &'b [u8])
     ensures { HaveHead left.entry.now right.entry.now result.0.now result.1.now }
 {
-    let mut one = left;
-    let mut other = right;
-    'words: while let Some((word, _)) = one.split_first_chunk::<8>() {
-        let Some((other_word, _)) = other.split_first_chunk::<8>() else {
+    let mut left_rest = left;
+    let mut right_rest = right;
+    'words: while let Some((left_word, _)) = left_rest.split_first_chunk::<8>() {
+        let Some((right_word, _)) = right_rest.split_first_chunk::<8>() else {
             break 'words;
         };
-        let count = common_in_word(word, other_word);
-        let (_, rest) = one.split_at(count);
-        let (_, other_rest) = other.split_at(count);
+        let count = common_in_word(left_word, right_word);
+        let (_, left_next) = left_rest.split_at(count);
+        let (_, right_next) = right_rest.split_at(count);
         if count < 8 {
-            return (rest, other_rest);
+            return (left_next, right_next);
         }
-        one = rest;
-        other = other_rest;
+        left_rest = left_next;
+        right_rest = right_next;
     }
-    (one, other)
+    (left_rest, right_rest)
 }
 
 /// How many first bytes two lists have in common.
@@ -152,13 +152,13 @@ fn common_bytes(left: &[u8], right: &[u8]) -> usize
     ensures same { left.now ≡ right.now → result ≡ length left.now }
     ensures fronts { take result left.now ≡ take result right.now }
 {
-    let (one, other) = after_common_blocks(left, right);
-    let (mut one, mut other) = after_common_words(one, other);
-    'bytes: while let Some((rest, other_rest)) = after_common_byte(one, other) {
-        one = rest;
-        other = other_rest;
+    let (left_rest, right_rest) = after_common_blocks(left, right);
+    let (mut left_rest, mut right_rest) = after_common_words(left_rest, right_rest);
+    'bytes: while let Some((left_next, right_next)) = after_common_byte(left_rest, right_rest) {
+        left_rest = left_next;
+        right_rest = right_next;
     }
-    left.len() - one.len()
+    left.len() - left_rest.len()
 }
 
 /// How many first units of 16 bits two lists have in common.
@@ -167,36 +167,37 @@ fn common_units16(left: &[u16], right: &[u16]) -> usize
     ensures same { left.now ≡ right.now → result ≡ length left.now }
     ensures fronts { take result left.now ≡ take result right.now }
 {
-    let mut one = left;
-    let mut other = right;
-    'words: while let Some((word, rest)) = one.split_first_chunk::<4>() {
-        let Some((other_word, other_rest)) = other.split_first_chunk::<4>() else {
+    let mut left_rest = left;
+    let mut right_rest = right;
+    'words: while let Some((left_word, left_next)) = left_rest.split_first_chunk::<4>() {
+        let Some((right_word, right_next)) = right_rest.split_first_chunk::<4>() else {
             break 'words;
         };
-        if word != other_word {
+        if left_word != right_word {
             break 'words;
         }
-        one = rest;
-        other = other_rest;
+        left_rest = left_next;
+        right_rest = right_next;
     }
-    'units: while let Some((rest, other_rest)) = after_common_unit(one, other) {
-        one = rest;
-        other = other_rest;
+    'units: while let Some((left_next, right_next)) = after_common_unit(left_rest, right_rest) {
+        left_rest = left_next;
+        right_rest = right_next;
     }
-    left.len() - one.len()
+    left.len() - left_rest.len()
 }
 
 /// How many first bytes and units of 16 bits are the same numbers.
 #[inline]
 fn common_bytes_and_units(left: &[u8], right: &[u16]) -> usize
     ensures same { left.now ≡ right.now → result ≡ length left.now }
-    ensures heads { (n : ℕ) → n ≤ result → latin1_text (take n left.now) ≡ utf16_text (take n right.now) }
+    ensures heads { (n : ℕ) → n ≤ result
+        → latin1_text (take n left.now) ≡ utf16_text (take n right.now) }
 {
-    let mut one = left;
-    let mut other = right;
-    'units: while let Some((rest, other_rest)) = after_common_number(one, other) {
-        one = rest;
-        other = other_rest;
+    let mut left_rest = left;
+    let mut right_rest = right;
+    'units: while let Some((left_next, right_next)) = after_common_number(left_rest, right_rest) {
+        left_rest = left_next;
+        right_rest = right_next;
     }
-    left.len() - one.len()
+    left.len() - left_rest.len()
 }

@@ -17,10 +17,10 @@ use std::marker::Model;
 /// A text in some encoding. What follows its first character is such a text again, so it can be read as often as need
 /// be.
 pub trait EncodedText: Copy {
-    /// Its characters.
+    /// The characters of a text.
     ghost text: { Self → List ℕ };
 
-    /// Its units, as numbers: bytes, or units of 16 bits.
+    /// The units of a text, as numbers: bytes, or units of 16 bits.
     ghost units: { Self → List ℕ };
 
     /// The characters of its first units alone, as many as are given.
@@ -152,7 +152,8 @@ fn split_first_two(bytes: &[u8]) -> Option<(char, &[u8])>
     Some((c, rest))
 }
 
-/// The same of one of three bytes, of which the first is one from E1 to ED, as it is in most letters.
+/// The first character of UTF-8 that begins with a well-formed one of three bytes, of which the first is one from E1 to
+/// ED, as it is in most letters.
 #[inline(always)]
 fn split_first_three(bytes: &[u8]) -> Option<(char, &[u8])>
     ensures { IfSome result (λ p. utf8_text bytes.now ≡ p.0 ∷ utf8_text p.1.now) }
@@ -170,7 +171,8 @@ fn split_first_three(bytes: &[u8]) -> Option<(char, &[u8])>
 /// The first character of UTF-8 and the bytes after it.
 #[inline(always)]
 fn split_first_decoded(bytes: &[u8]) -> Option<(char, &[u8])>
-    ensures { MatchOption result (utf8_text bytes.now ≡ []) (λ p. utf8_text bytes.now ≡ p.0 ∷ utf8_text p.1.now) }
+    ensures { MatchOption result (utf8_text bytes.now ≡ [])
+        (λ p. utf8_text bytes.now ≡ p.0 ∷ utf8_text p.1.now) }
 {
     if let Some(found) = split_first_two(bytes) {
         return Some(found);
@@ -181,10 +183,11 @@ fn split_first_decoded(bytes: &[u8]) -> Option<(char, &[u8])>
     split_first_piece(bytes)
 }
 
-/// The same of any bytes, which are decoded.
+/// The first character of any bytes, which are decoded, and the bytes after it.
 #[inline(never)]
 fn split_first_piece(bytes: &[u8]) -> Option<(char, &[u8])>
-    ensures { MatchOption result (utf8_text bytes.now ≡ []) (λ p. utf8_text bytes.now ≡ p.0 ∷ utf8_text p.1.now) }
+    ensures { MatchOption result (utf8_text bytes.now ≡ [])
+        (λ p. utf8_text bytes.now ≡ p.0 ∷ utf8_text p.1.now) }
 {
     if bytes.is_empty() {
         return None;

@@ -7,10 +7,11 @@ use Rattle.icu_entries.specs.declared.element_conditions.ElementCondition.{Eleme
 use Rattle.icu_entries.specs.declared.element_conditions.ElementCondition.TheVariants.{Shape, Leads, Primary}
 use Rattle.icu_entries.specs.Elements.{Element, common, case_mask, tertiary_mask}
 
--- the bytes of a weight of 32 bits, and of one of 16, the highest first
+-- the bytes of a weight of 32 bits, the highest first
 abbrev pub four_bytes : ℕ → List ℕ
 four_bytes = to_be_bytes w32
 
+-- the bytes of a weight of 16 bits, the highest first
 abbrev pub two_bytes : ℕ → List ℕ
 two_bytes = to_be_bytes w16
 
@@ -24,6 +25,7 @@ unfoldable pub ends_at_zero : List ℕ → Bool
 ends_at_zero [] = true
 ends_at_zero (b ∷ bytes) = may_precede b bytes && ends_at_zero bytes
 
+-- the tertiary weight: the lower half without case and quaternary bits
 abbrev pub tertiary_of : Element → ℕ
 tertiary_of e = bit_and e.lower tertiary_mask
 
@@ -39,6 +41,7 @@ has_weights_below e = (e.primary == 0 || not (e.secondary == 0)) && (e.secondary
 abbrev pub has_lower_half : Element → Bool
 has_lower_half e = (not (tertiary_of e == 0) || e.lower == 0) && not (bit_and e.lower case_mask == case_mask)
 
+-- the weights are whole and go together (UTS #10, "Well-Formedness of Collation Element Tables")
 unfoldable pub has_shape : Element → Bool
 has_shape e = has_whole_weights e && has_weights_below e && has_lower_half e
 
@@ -48,10 +51,12 @@ unfoldable pub has_secondary_lead : Bool → ℕ → Bool
 has_secondary_lead forward s =
     s == 0 || s == common || (forward && s / 256 == 2) || s / 256 == 3 || s / 256 == 4 || nat_le 0x46 (s / 256)
 
+-- a tertiary weight is none, the common one, or has a lead byte beside the common one's
 unfoldable pub has_tertiary_lead : ℕ → Bool
 has_tertiary_lead t =
     t == 0 || t == common || (nat_le 2 (t / 256) && nat_le (t / 256) 4) || (nat_le 6 (t / 256) && nat_le (t / 256) 0x3F)
 
+-- secondary and tertiary weight have lead bytes that sort keys leave them
 abbrev pub has_leads : Bool → Element → Bool
 has_leads forward e = has_secondary_lead forward e.secondary && has_tertiary_lead (tertiary_of e)
 
@@ -60,6 +65,7 @@ has_leads forward e = has_secondary_lead forward e.secondary && has_tertiary_lea
 abbrev pub separator_primary : ℕ
 separator_primary = 0x02000000
 
+-- the element of U+FFFE
 abbrev pub is_separator : Element → Bool
 is_separator e = e.primary == separator_primary && e.secondary == common && e.lower == common
 

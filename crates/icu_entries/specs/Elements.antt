@@ -3,6 +3,7 @@
 -- the quaternary in bits 7 and 6.
 use Rattle.std.specs.Prelude.{ℕ, ◌+◌, ◌*◌, ◌/◌, ◌%◌, ◌^◌}
 
+-- a collation element
 pub record Element : Type 0 where
   pub primary : ℕ
   pub secondary : ℕ
@@ -13,17 +14,19 @@ pub record NonPrimaryWeights : Type 0 where
   pub secondary : ℕ
   pub lower : ℕ
 
--- the element of 64 bits, and back
+-- the element of 64 bits
 abbrev pub element_of : ℕ → Element
 element_of bits = record { primary = bits / 2 ^ 32; secondary = bits / 2 ^ 16 % 2 ^ 16; lower = bits % 2 ^ 16 }
 
+-- the 64 bits of an element
 abbrev pub bits_of : Element → ℕ
 bits_of e = e.primary * 2 ^ 32 + e.secondary * 2 ^ 16 + e.lower
 
--- the same of the 32 bits beside the primary weight
+-- what 32 bits say of the weights beside the primary one
 abbrev pub non_primary_of : ℕ → NonPrimaryWeights
 non_primary_of bits = record { secondary = bits / 2 ^ 16; lower = bits % 2 ^ 16 }
 
+-- these 32 bits
 abbrev pub non_primary_bits : NonPrimaryWeights → ℕ
 non_primary_bits w = w.secondary * 2 ^ 16 + w.lower
 
@@ -47,12 +50,14 @@ of_secondary s = record { primary = 0; secondary = s; lower = common }
 abbrev pub end_element : Element
 end_element = record { primary = 1; secondary = 0x100; lower = 0x100 }
 
--- the fields of a lower half
+-- the case bits of a lower half
 abbrev pub case_mask : ℕ
 case_mask = 0xC000
 
+-- the tertiary weight of a lower half
 abbrev pub tertiary_mask : ℕ
 tertiary_mask = 0x3F3F
 
+-- the quaternary bits of a lower half
 abbrev pub quaternary_mask : ℕ
 quaternary_mask = 0xC0

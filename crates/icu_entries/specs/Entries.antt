@@ -5,13 +5,15 @@ pub use Rattle.icu_entries.specs.declared.entry.EntryKind.TheVariants.{Simple, F
 use Rattle.icu_entries.specs.declared.entry.Tag as tags
 use Rattle.icu_entries.specs.Elements.{Element, of_primary}
 
--- the entry of a tailoring for which the root's stands, and the least low byte of an entry that isn't simple
+-- the entry of a tailoring for which the root's stands
 abbrev pub fallback_entry : ℕ
 fallback_entry = 0xC0
 
+-- the least low byte of an entry that isn't simple
 abbrev pub special_low_byte : ℕ
 special_low_byte = 0xC0
 
+-- the byte that says what an entry is
 abbrev pub low_byte : ℕ → ℕ
 low_byte e = e % 256
 
@@ -63,7 +65,7 @@ long_secondary_element e = record { primary = 0; secondary = e / 0x10000; lower 
 unfoldable pub is_self_contained : ℕ → Bool
 is_self_contained e = elim (kind_of e) [ Simple ↦ true | LongPrimary ↦ true | LongSecondary ↦ true | _ ↦ false ]
 
--- that element; any other entry has none
+-- the element of an entry that is one by itself; none of any other entry
 unfoldable pub self_contained : ℕ → List Element
 self_contained e =
     elim (kind_of e) [
@@ -104,7 +106,8 @@ simple_or_long_primary e =
     else if low_byte e == 0xC1 then Some (long_primary_element e)
     else None
 
--- the same, and that of an entry from C0 on whose four lowest bits are those of C2
+-- the element of a simple entry, of a long primary one, or of an entry from C0 on whose four lowest bits are those of
+-- C2
 abbrev pub self_contained_by_tag : ℕ → Option Element
 self_contained_by_tag e =
     if nat_lt (low_byte e) special_low_byte then Some (simple_element e)
@@ -112,12 +115,13 @@ self_contained_by_tag e =
     else if e % 16 == 2 then Some (long_secondary_element e)
     else None
 
--- what the calls that read a part of an entry ask of it
+-- entries of this kind have the length of a list
 abbrev pub names_list : EntryKind → Bool
 names_list Expansion32 = true
 names_list Expansion = true
 names_list _ = false
 
+-- entries of this kind refer to something by its index
 abbrev pub has_index : EntryKind → Bool
 has_index Expansion32 = true
 has_index Expansion = true

@@ -8,11 +8,12 @@ use Rattle.icu_entries.specs.Weights.{least_second_byte, second_bytes, lead_at, 
 abbrev pub is_listed : ℕ → ℕ → Bool
 is_listed e len = nat_lt 0 (list_length e) && nat_le (entry_index e + list_length e) len
 
--- what a prefix may lead to, and a contraction
+-- a prefix may lead to entries of this kind
 abbrev pub may_follow_prefix : EntryKind → Bool
 may_follow_prefix Prefix = false
 may_follow_prefix _ = true
 
+-- a contraction may lead to entries of this kind
 abbrev pub may_follow_contraction : EntryKind → Bool
 may_follow_contraction Prefix = false
 may_follow_contraction Contraction = false
@@ -35,6 +36,7 @@ is_three_byte_weight compressible p =
     && nat_le 2 (p / 0x100 % 256)
     && p % 256 == 0
 
+-- the character has a weight by these data of an offset
 unfoldable pub has_offset_weight : Element → ℕ → Bool
 has_offset_weight d c =
     nat_le (offset_base d) c

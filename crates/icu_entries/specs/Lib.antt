@@ -3,3 +3,4 @@ pub mod Entries
 pub mod Weights
 pub mod ElementConditions
 pub mod EntryConditions
+pub mod EncodedEntries

@@ -12,10 +12,11 @@ unfoldable pub implicit_weight : ℕ → ℕ
 implicit_weight c =
     let n = c + 1 in weight 0xFE (4 + n / 4572 % 251) (2 + n / 18 % 254) (2 + 14 * (n % 18))
 
--- how many second bytes there are, and the least; a lead byte whose weights compress keeps some of them free
+-- how many second bytes there are: a lead byte whose weights compress keeps some of them free
 abbrev pub second_bytes : Bool → ℕ
 second_bytes compressible = if compressible then 251 else 254
 
+-- the least second byte
 abbrev pub least_second_byte : Bool → ℕ
 least_second_byte compressible = if compressible then 4 else 2
 
@@ -24,13 +25,15 @@ unfoldable pub ordinal_of : Bool → ℕ → ℕ → ℕ → ℕ
 ordinal_of compressible b1 b2 b3 =
     (b1 * second_bytes compressible + b2 - least_second_byte compressible) * 254 + b3 - 2
 
--- the bytes of the weight with an ordinal
+-- the lead byte of the weight with an ordinal
 abbrev pub lead_at : Bool → ℕ → ℕ
 lead_at compressible place = place / 254 / second_bytes compressible
 
+-- its second byte
 abbrev pub second_at : Bool → ℕ → ℕ
 second_at compressible place = place / 254 % second_bytes compressible + least_second_byte compressible
 
+-- its third byte
 abbrev pub third_at : ℕ → ℕ
 third_at place = place % 254 + 2
 
@@ -44,12 +47,15 @@ weight_at compressible place = weight (lead_at compressible place) (second_at co
 abbrev pub offset_data : Element → ℕ
 offset_data d = d.secondary * 0x10000 + d.lower
 
+-- the character from which the data count
 abbrev pub offset_base : Element → ℕ
 offset_base d = offset_data d / 256
 
+-- whether the lead byte of the weights compresses
 abbrev pub offset_compressible : Element → Bool
 offset_compressible d = offset_data d / 128 % 2 == 1
 
+-- how many ordinals it is from one character's weight to the next one's
 abbrev pub offset_step : Element → ℕ
 offset_step d = offset_data d % 128
 
@@ -57,11 +63,14 @@ offset_step d = offset_data d % 128
 abbrev pub ordinal_of_weight : Bool → ℕ → ℕ
 ordinal_of_weight compressible p = ordinal_of compressible (p / 0x1000000) (p / 0x10000 % 256) (p / 0x100 % 256)
 
+-- the ordinal of a character's weight
 unfoldable pub offset_ordinal : Element → ℕ → ℕ
 offset_ordinal d c = ordinal_of_weight (offset_compressible d) d.primary + (c - offset_base d) * offset_step d
 
+-- a character's weight
 unfoldable pub offset_weight : Element → ℕ → ℕ
 offset_weight d c = weight_at (offset_compressible d) (offset_ordinal d c)
 
+-- a character's element: that weight, with common weights below
 abbrev pub offset_element : Element → ℕ → Element
 offset_element d c = of_primary (offset_weight d c)

@@ -1,6 +1,7 @@
 //! Collation elements (UTS #10, "Collation Weights, Elements, and Keys").
 ghost use Rattle.std.specs.Prelude.{◌≡◌, ◌≤◌, ◌⊎◌, ◌↔◌, IsTrue, bit_or};
-ghost use Rattle.icu_entries.specs.Elements.{element_of, of_primary, of_secondary, end_element, non_primary, non_primary_bits};
+ghost use Rattle.icu_entries.specs.Elements.{bits_of, element_of, of_primary, of_secondary, end_element, non_primary, non_primary_bits};
+ghost use Rattle.icu_entries.specs.EncodedEntries.{of_weights};
 ghost use Rattle.icu_entries.specs.Weights.{implicit_weight};
 
 use crate::non_primary::NonPrimary;
@@ -52,8 +53,9 @@ impl CollationElement {
         }
     }
 
-    pub(crate) fn from_weights(primary: u32, secondary: u16, lower: u16) -> Self
-        ensures { result ≡ record { primary = primary; secondary = secondary; lower = lower } }
+    /// The element of these weights: case, tertiary weight and quaternary bits are the lower half.
+    pub fn from_weights(primary: u32, secondary: u16, lower: u16) -> Self
+        ensures { result ≡ of_weights primary secondary lower }
     {
         CollationElement {
             primary,
@@ -89,6 +91,14 @@ impl CollationElement {
         CollationElement::new_from_primary(0xFE00_0000 + second * 0x10000 + third * 0x100 + fourth)
     }
 
+    /// The 64 bits: `new` of them gives the element.
+    pub fn bits(self) -> u64
+        ensures value { result ≡ bits_of self }
+        ensures back { element_of result ≡ self }
+    {
+        (u64::from(self.primary) << 32) + (u64::from(self.secondary) << 16) + u64::from(self.lower)
+    }
+
     /// The primary weight alone.
     pub fn clone_with_non_primary_zeroed(self) -> Self
         ensures { result ≡ record { primary = self.primary; secondary = 0; lower = 0 } }
@@ -118,7 +128,7 @@ impl CollationElement {
     }
 
     /// The lower half: case, tertiary weight and quaternary bits.
-    pub(crate) fn lower(self) -> u16
+    pub fn lower(self) -> u16
         ensures { result ≡ self.lower }
     {
         self.lower

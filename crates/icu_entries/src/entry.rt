@@ -8,6 +8,9 @@ use std::marker::Model;
 /// The entry of a tailoring for which the root's stands.
 pub const FALLBACK_CE32: u32 = 0xC0;
 
+/// The entry of a character whose weight follows from its number.
+pub const IMPLICIT_CE32: u32 = 0xCF;
+
 /// The least low byte of an entry that isn't simple.
 const SPECIAL_CE32_LOW_BYTE: u32 = 0xC0;
 
@@ -104,11 +107,22 @@ impl CollationElement32 {
 
     /// The entry of four bytes, least byte first.
     pub fn new_from_ule(ule: [u8; 4]) -> Self
-        ensures { result ≡ slice_index ule 0 + slice_index ule 1 * 256 + slice_index ule 2 * 256 ^ 2 + slice_index ule 3 * 256 ^ 3 }
+        ensures { result
+            ≡ slice_index ule 0
+            + slice_index ule 1 * 256
+            + slice_index ule 2 * 256 ^ 2
+            + slice_index ule 3 * 256 ^ 3 }
     {
         CollationElement32 {
             bits: u32::from_le_bytes(ule),
         }
+    }
+
+    /// The 32 bits.
+    pub fn bits(self) -> u32
+        ensures { result ≡ self }
+    {
+        self.bits
     }
 
     /// What the entry is.

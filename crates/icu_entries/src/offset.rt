@@ -1,6 +1,7 @@
 //! Weights of three bytes that are counted from another one.
 ghost use Rattle.std.specs.Prelude.{◌≡◌, ◌<◌, IsTrue};
 ghost use Rattle.icu_entries.specs.Weights.{second_bytes, least_second_byte, lead_at, weight_at, offset_base, offset_compressible, offset_step, ordinal_of_weight, offset_ordinal, offset_weight, offset_element};
+ghost use Rattle.icu_entries.specs.EncodedEntries.{offset_of};
 ghost use Rattle.icu_entries.specs.EntryConditions.{is_three_byte_weight, has_offset_weight};
 
 use crate::element::CollationElement;
@@ -58,6 +59,21 @@ fn weight_at(compressible: bool, ordinal: u32) -> u32
 }
 
 impl CollationElement {
+    /// The data of an offset: a primary weight of three bytes, the character that has it, whether its lead byte
+    /// compresses, and how many weights it is from one character's to the next one's.
+    pub fn offset_data(primary: u32, base: char, compressible: bool, step: u8) -> Self
+        requires { step < 128 }
+        ensures value { result ≡ offset_of primary base compressible step }
+        ensures primary { result.primary ≡ primary }
+        ensures base { offset_base result ≡ base }
+        ensures compressible { offset_compressible result ≡ compressible }
+        ensures step { offset_step result ≡ step }
+    {
+        let compresses = if compressible { 0x80 } else { 0 };
+        let data = base as u32 * 0x100 + compresses + u32::from(step);
+        CollationElement::from_weights(primary, (data >> 16) as u16, (data & 0xffff) as u16)
+    }
+
     /// The character that offset data count from.
     fn offset_base(self) -> u32
         ensures { result ≡ offset_base self }
@@ -103,7 +119,8 @@ impl CollationElement {
     pub fn offset_element(self, c: char) -> CollationElement
         requires { IsTrue (has_offset_weight self c) }
         ensures value { result ≡ offset_element self c }
-        ensures place { ordinal_of_weight (offset_compressible self) result.primary ≡ offset_ordinal self c }
+        ensures place { ordinal_of_weight (offset_compressible self) result.primary
+            ≡ offset_ordinal self c }
     {
         let compressible = self.offset_compressible();
         CollationElement::new_from_primary(weight_at(compressible, self.offset_ordinal(c)))

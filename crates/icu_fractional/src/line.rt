@@ -54,7 +54,9 @@ fn before_comment(line: &str) -> &str
 /// What stands behind a `[` with which a text begins.
 #[tactic(auto, using(std::proofs::lemmas::Str::Pattern::strip_prefix_char))]
 fn behind_bracket(text: &str) -> Option<&str>
-    ensures { MatchOption result ((rest : List ℕ) → text.now ≢ 91 ∷ rest) (λ rest. text.now ≡ 91 ∷ rest.now) }
+    ensures { MatchOption result
+        ((rest : List ℕ) → text.now ≢ 91 ∷ rest)
+        (λ rest. text.now ≡ 91 ∷ rest.now) }
 {
     text.strip_prefix('[')
 }
@@ -62,7 +64,9 @@ fn behind_bracket(text: &str) -> Option<&str>
 /// What stands before a `]` with which a text ends.
 #[tactic(auto, using(std::proofs::lemmas::Str::Pattern::strip_suffix_char))]
 fn before_bracket(text: &str) -> Option<&str>
-    ensures { MatchOption result ((front : List ℕ) → text.now ≢ front ++ 93 ∷ []) (λ front. text.now ≡ front.now ++ 93 ∷ []) }
+    ensures { MatchOption result
+        ((front : List ℕ) → text.now ≢ front ++ 93 ∷ [])
+        (λ front. text.now ≡ front.now ++ 93 ∷ []) }
 {
     text.strip_suffix(']')
 }

@@ -10,7 +10,7 @@ use Rattle.std.specs.Ordering.{is_gt, is_lt, ordering_reverse}
 use Rattle.std.specs.declared.cmp.Ordering.{Ordering}
 use Rattle.std.specs.declared.cmp.Ordering.TheVariants.{Less, Equal, Greater}
 use Rattle.icu_levels.specs.ListOrder.{list_order}
-use Rattle.icu_index.specs.Listings.{inserted, listed, IsStablySorted}
+use Rattle.icu_index.specs.Listings.{inserted, listing_of, IsStablySorted}
 use Rattle.icu_data.proofs.ListLemmas.{weaker}
 
 -- an order by keys is total, with ties
@@ -29,7 +29,7 @@ folded_more f sorted (x ∷ xs) name = folded_more f (f sorted x) xs name
 
 -- one name more is inserted last
 pub listed_more : (order : List ℕ → List ℕ → Ordering) (names : List (List ℕ)) (name : List ℕ)
-    → listed order (names ++ name ∷ []) ≡ inserted order name (listed order names)
+    → listing_of order (names ++ name ∷ []) ≡ inserted order name (listing_of order names)
 listed_more order names name = folded_more (λ sorted n. inserted order n sorted) [] names name
 
 turned : (r : Ordering) → is_lt (ordering_reverse r) ≡ is_gt r
@@ -175,8 +175,8 @@ module _ (order : List ℕ → List ℕ → Ordering) (total : IsTotalOrder orde
       subst (λ xs. IsInOrder xs (fold (λ ys n. inserted order n ys) (inserted order name sorted) names)) (append_assoc before (name ∷ []) names)
       (in_turn names (before ++ name ∷ []) (inserted order name sorted) (one_more before sorted name is))
 
-  pub sorts : (names : List (List ℕ)) → IsStablySorted order names (listed order names)
+  pub sorts : (names : List (List ℕ)) → IsStablySorted order names (listing_of order names)
   sorts names =
       let none : IsInOrder [] [] = record { permutation = IsPermutation-refl []; rises = tt; stable = λ z. refl } in
       let is = in_turn names [] [] none in
-      record { permutation = is.permutation; ascends = rises_sorted (listed order names) is.rises; stable = is.stable }
+      record { permutation = is.permutation; ascends = rises_sorted (listing_of order names) is.rises; stable = is.stable }

@@ -23,8 +23,8 @@ abbrev pub equal_names : (List ℕ → List ℕ → Ordering) → List ℕ → L
 equal_names order name names = filter (λ x. is_eq (order x name)) names
 
 -- the listing of names that were inserted one after another, the first into a listing of none
-abbrev pub listed : (List ℕ → List ℕ → Ordering) → List (List ℕ) → List (List ℕ)
-listed order names = fold (λ sorted name. inserted order name sorted) [] names
+abbrev pub listing_of : (List ℕ → List ℕ → Ordering) → List (List ℕ) → List (List ℕ)
+listing_of order names = fold (λ sorted name. inserted order name sorted) [] names
 
 -- the same names in order, equal ones as they stood
 pub record IsStablySorted (order : List ℕ → List ℕ → Ordering) (names sorted : List (List ℕ)) : Type 0 where
@@ -36,4 +36,4 @@ pub record IsStablySorted (order : List ℕ → List ℕ → Ordering) (names so
 abbrev pub InsertsSort : Type 0
 InsertsSort =
     (c : Collation) (names : List (List ℕ)) → IsGoodTables c.tables
-    → IsStablySorted (name_order c) names (listed (name_order c) names)
+    → IsStablySorted (name_order c) names (listing_of (name_order c) names)

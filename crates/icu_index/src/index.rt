@@ -66,7 +66,8 @@ impl<'a> NameIndex<'a> {
     /// Fails where an allocation does, or where there are as many names as a `usize` counts, and leaves the index as it
     /// was.
     pub fn insert(&mut self, name: &[u8]) -> Result<(), AllocError>
-        ensures ok { OnOk result (listing self.new ≡ inserted (index_order self.old) name.now (listing self.old)) }
+        ensures ok { OnOk result
+            (listing self.new ≡ inserted (index_order self.old) name.now (listing self.old)) }
         ensures err { OnErr result (listing self.new ≡ listing self.old) }
         ensures full { length (listing self.old) ≡ usize.MAX → IsErr result }
 
@@ -109,7 +110,8 @@ impl<'a> NameIndex<'a> {
     /// The names that compare Equal to a name, in the order of insertion. The name need not be one of the index. Fails
     /// only where an allocation does.
     pub fn equal_to(&self, name: &[u8]) -> Result<&[Vec<u8>], AllocError>
-        ensures { IfOk result (λ names. map (λ n. n.items) names.now ≡ equal_names (index_order self.now) name.now (listing self.now)) }
+        ensures { IfOk result (λ names. map (λ n. n.items) names.now
+            ≡ equal_names (index_order self.now) name.now (listing self.now)) }
     {
         self.collator.has_good_tables();
         let key = name_key(self.alloc, &self.collator, name)?;

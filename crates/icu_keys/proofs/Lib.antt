@@ -4,10 +4,10 @@ pub mod LevelWriting
 pub mod QuaternaryLemmas
 pub mod IdenticalSteps
 pub mod CaseSteps
-pub mod SegmentLemmas
+pub mod ReversedSegments
 pub mod KeyWriting
 pub mod HeldLemmas
 pub mod PrimarySteps
 pub mod CommonSteps
 pub mod WeightSteps
-pub mod FormWeights
+pub mod MovedTertiaries

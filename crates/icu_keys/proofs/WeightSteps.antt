@@ -1,6 +1,7 @@
 -- Weights, a byte at a time.
 use Rattle.std.proofs.Common.{◌≡◌, ◌≢◌, ℕ, zero, suc, ◌*◌, ◌/◌, ◌%◌, ◌<◌, ◌^◌, List, [], ◌∷◌, ◌++◌, refl, ap, ◌∙◌, arith, length, div-add-mod', zero-mul, Result}
 use Rattle.icu_levels.specs.WeightBytes.{before_nonzero, weight_bytes}
+use Rattle.icu_keys.specs.Sinks.{SinkEffects}
 use Rattle.icu_keys.specs.Writes.{Writes, WriteFails}
 use Rattle.icu_keys.proofs.Writing.{fails_front, fails_one, writes_after, writes_same}
 
@@ -28,18 +29,18 @@ weight_step (suc k) w h =
 pub weight_last : (w : ℕ) → w ≢ 0 → weight_bytes 1 w ≡ w ∷ []
 weight_last w h = weight_step 0 w h ∙ ap (λ d. d ∷ []) (omega arith)
 
-module _ {X St E : Type 0} (took : X → St → List ℕ → X → St → Type 0) (refused : X → St → List ℕ → E → X → St → Type 0) where
+module _ {X St F E : Type 0} (effects : SinkEffects X St F E) where
   -- a weight whose first byte failed, or was written
-  pub weight_fails : (x y : X) (s t : St) (k w : ℕ) (e : E) → w ≢ 0 → took x s [] x s → refused x s (w / 256 ^ k ∷ []) e y t
-      → WriteFails took refused x s (weight_bytes (suc k) w) e y t
+  pub weight_fails : (x y : X) (s t : St) (k w : ℕ) (e : E) → w ≢ 0 → effects.took x s [] x s → effects.refused x s (w / 256 ^ k ∷ []) e y t
+      → WriteFails effects x s (weight_bytes (suc k) w) e y t
   weight_fails x y s t k w e h n f =
-      rw (weight_step k w h) (fails_front took refused x y s t (w / 256 ^ k ∷ []) (weight_bytes k (w % 256 ^ k)) e
-      (fails_one took refused x y s t (w / 256 ^ k ∷ []) e n f))
+      rw (weight_step k w h) (fails_front effects x y s t (w / 256 ^ k ∷ []) (weight_bytes k (w % 256 ^ k)) e
+      (fails_one effects x y s t (w / 256 ^ k ∷ []) e n f))
 
   pub weight_written : {O : Type 0} (x y z : X) (s t u : St) (k w : ℕ) (r : Result O E)
-      → ((y z : X) (t u : St) (b c : List ℕ) → took x s b y t → took y t c z u → took x s (b ++ c) z u) → w ≢ 0
-      → took x s (w / 256 ^ k ∷ []) y t → Writes took refused y t (weight_bytes k (w % 256 ^ k)) r z u
-      → Writes took refused x s (weight_bytes (suc k) w) r z u
+      → ((y z : X) (t u : St) (b c : List ℕ) → effects.took x s b y t → effects.took y t c z u → effects.took x s (b ++ c) z u) → w ≢ 0
+      → effects.took x s (w / 256 ^ k ∷ []) y t → Writes effects y t (weight_bytes k (w % 256 ^ k)) r z u
+      → Writes effects x s (weight_bytes (suc k) w) r z u
   weight_written x y z s t u k w r both h p q =
-      writes_same took refused x z s u (weight_bytes (suc k) w) ((w / 256 ^ k ∷ []) ++ weight_bytes k (w % 256 ^ k)) r (weight_step k w h)
-      (writes_after took refused x y z s t u (w / 256 ^ k ∷ []) (weight_bytes k (w % 256 ^ k)) r both p q)
+      writes_same effects x z s u (weight_bytes (suc k) w) ((w / 256 ^ k ∷ []) ++ weight_bytes k (w % 256 ^ k)) r (weight_step k w h)
+      (writes_after effects x y z s t u (w / 256 ^ k ∷ []) (weight_bytes k (w % 256 ^ k)) r both p q)

@@ -6,11 +6,11 @@ use Rattle.icu_levels.specs.declared.run_bytes.TheConstants.{SECONDARY_RUNS}
 use Rattle.icu_levels.specs.declared.forms.CaseForm.{CaseForm}
 use Rattle.icu_levels.specs.declared.forms.TertiaryForm.{TertiaryForm}
 use Rattle.icu_keys.specs.WriterRests.{secondary_rest, backward_rest, case_rest, case_form_of, tertiary_rest, tertiary_form_of, quaternary_rest}
-use Rattle.icu_keys.specs.declared.held.secondaries.HeldSecondaries.{HeldSecondaries}
-use Rattle.icu_keys.specs.declared.held.backward.HeldSegments.{HeldSegments}
-use Rattle.icu_keys.specs.declared.held.cases.HeldCases.{HeldCases}
-use Rattle.icu_keys.specs.declared.held.tertiaries.HeldTertiaries.{HeldTertiaries}
-use Rattle.icu_keys.specs.declared.held.quaternaries.HeldQuaternaries.{HeldQuaternaries}
+use Rattle.icu_keys.specs.declared.held_secondaries.HeldSecondaries.{HeldSecondaries}
+use Rattle.icu_keys.specs.declared.held_segments.HeldSegments.{HeldSegments}
+use Rattle.icu_keys.specs.declared.held_cases.HeldCases.{HeldCases}
+use Rattle.icu_keys.specs.declared.held_tertiaries.HeldTertiaries.{HeldTertiaries}
+use Rattle.icu_keys.specs.declared.held_quaternaries.HeldQuaternaries.{HeldQuaternaries}
 
 -- further secondaries, after the common ones that are counted
 abbrev pub held_secondaries : HeldSecondaries → List ℕ → List ℕ
@@ -20,18 +20,20 @@ held_secondaries l ws = l.bytes.items ++ secondary_rest l.writer (replicate l.co
 abbrev pub held_segments : HeldSegments → List ℕ × List (List ℕ) → List ℕ
 held_segments l rest = l.bytes.items ++ backward_rest l.writer rest
 
--- The form of the level, and further ranks: nothing is written where all before them is common and all of them is
+-- the form of the case level that is held
 abbrev pub held_case_form : HeldCases → CaseForm
 held_case_form l = case_form_of l.writer
 
+-- further ranks: nothing is written where all before them is common and all of them is
 abbrev pub held_cases : HeldCases → List ℕ → List ℕ
 held_cases l ranks =
     if l.vanishes && is_only (case_runs (held_case_form l)).common ranks then [] else l.bytes.items ++ case_rest l.writer ranks
 
--- the form of the level, and further tertiaries as it has them, after the common ones that are counted
+-- the form of the tertiary level that is held
 abbrev pub held_tertiary_form : HeldTertiaries → TertiaryForm
 held_tertiary_form l = tertiary_form_of l.writer
 
+-- further tertiaries as the form has them, after the common ones that are counted
 abbrev pub held_tertiaries : HeldTertiaries → List ℕ → List ℕ
 held_tertiaries l ws =
     l.bytes.items ++ tertiary_rest l.writer (replicate l.commons (tertiary_runs (held_tertiary_form l)).common ++ ws)

@@ -18,7 +18,7 @@ pub record SliceTakes (old : List ℕ) (at : ℕ) (bytes : List ℕ) (new : List
   pub fits : at + length bytes ≤ length old → new ≡ put_over old at bytes
   pub begins : TakesBeginning (λ front. HasRoom old at front × (new ≡ put_over old at front)) bytes
 
--- the same of a slice, which is never longer than the greatest `usize`
+-- what is handed to a slice, which is never longer than the greatest `usize`
 abbrev pub SliceTook : List ℕ → ℕ → List ℕ → List ℕ → ℕ → Type 0
 SliceTook old at bytes new next = length old < 2 ^ 64 → SliceTakes old at bytes new next
 

@@ -36,17 +36,19 @@ segment_so_far w = w.segment.items
 abbrev pub backward_rest : BackwardWriter → List ℕ × List (List ℕ) → List ℕ
 backward_rest w rest = secondary_level (reverse (segment_so_far w ++ rest.0)) ++ further_segments (map reverse rest.1)
 
--- the form that is written, and further ranks: a nibble that waits comes before theirs
+-- the form of the case level that is written
 abbrev pub case_form_of : CaseWriter → CaseForm
 case_form_of w = w.form
 
+-- further ranks: a nibble that waits comes before theirs
 abbrev pub case_rest : CaseWriter → List ℕ → List ℕ
 case_rest w ranks = packed (option_to_list w.nibbles.held ++ level_bytes (case_runs w.form) (case_nibble w.form) w.run.length ranks)
 
--- the form that is written, and further tertiaries as it has them
+-- the form of the tertiary level that is written
 abbrev pub tertiary_form_of : TertiaryWriter → TertiaryForm
 tertiary_form_of w = w.form
 
+-- further tertiaries, as the form has them
 abbrev pub tertiary_rest : TertiaryWriter → List ℕ → List ℕ
 tertiary_rest w = level_bytes (tertiary_runs w.form) (tertiary_bytes w.form) w.run.length
 

@@ -22,7 +22,7 @@ pub(crate) fn write_segment<S: CollationKeySink>(
 ) -> Result<(), S::Error>
     requires { S.is_sound sink.old state.old }
     ensures sound { S.is_sound sink.new state.new }
-    ensures bytes { Writes S.took S.refused sink.old state.old
+    ensures bytes { Writes S.effects sink.old state.old
         (secondary_level (reverse weights.now)) result sink.new state.new }
 {
     let mut writer = SecondaryWriter::new();
@@ -76,7 +76,7 @@ impl BackwardWriter {
     ) -> Result<(), S::Error>
         requires { S.is_sound sink.old state.old }
         ensures sound { S.is_sound sink.new state.new }
-        ensures bytes { Feeds S.took S.refused sink.old state.old
+        ensures bytes { Feeds S.effects sink.old state.old
             (λ rest. backward_rest self.old ([], rest.0 ∷ rest.1)) (backward_rest self.new)
             result sink.new state.new }
     {
@@ -93,7 +93,7 @@ impl BackwardWriter {
     ) -> Result<(), S::Error>
         requires { S.is_sound sink.old state.old }
         ensures sound { S.is_sound sink.new state.new }
-        ensures bytes { Writes S.took S.refused sink.old state.old (backward_rest self ([], []))
+        ensures bytes { Writes S.effects sink.old state.old (backward_rest self ([], []))
             result sink.new state.new }
     {
         let last = self.segment;

@@ -98,7 +98,7 @@ impl CaseWriter {
         requires { S.is_sound sink.old state.old }
         ensures sound { S.is_sound sink.new state.new }
         ensures form { case_form_of self.new ≡ case_form_of self.old }
-        ensures bytes { Feeds S.took S.refused sink.old state.old
+        ensures bytes { Feeds S.effects sink.old state.old
             (λ ranks. case_rest self.old (rank_of (case_form_of self.old) case ∷ ranks))
             (case_rest self.new) result sink.new state.new }
     {
@@ -125,7 +125,7 @@ impl CaseWriter {
     ) -> Result<(), S::Error>
         requires { S.is_sound sink.old state.old }
         ensures sound { S.is_sound sink.new state.new }
-        ensures bytes { Writes S.took S.refused sink.old state.old (case_rest self [])
+        ensures bytes { Writes S.effects sink.old state.old (case_rest self [])
             result sink.new state.new }
     {
         let runs = runs_of(self.form);

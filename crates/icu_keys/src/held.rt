@@ -1,4 +1,4 @@
-//! Levels that are held until their end, each as a list of its bytes.
+//! What levels share that are held until their end, each as a list of its bytes.
 //!
 //! A key's primaries go straight to the caller's sink, since their level comes first. Each later level is fed beside
 //! them and held until all before it are written.
@@ -7,12 +7,6 @@ ghost use Rattle.icu_keys.specs.Writes.{Writes};
 
 use crate::sink::CollationKeySink;
 use smallvec::SmallVec;
-
-pub mod backward;
-pub mod cases;
-pub mod quaternaries;
-pub mod secondaries;
-pub mod tertiaries;
 
 /// How many bytes of a level are kept inline.
 pub const INLINE: usize = 32;
@@ -26,7 +20,7 @@ pub(crate) fn write_held<S: CollationKeySink>(
 ) -> Result<(), S::Error>
     requires { S.is_sound sink.old state.old }
     ensures sound { S.is_sound sink.new state.new }
-    ensures bytes { Writes S.took S.refused sink.old state.old bytes.now.items
+    ensures bytes { Writes S.effects sink.old state.old bytes.now.items
         result sink.new state.new }
 {
     if bytes.is_empty() {

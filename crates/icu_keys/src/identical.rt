@@ -55,7 +55,7 @@ impl IdenticalWriter {
     ) -> Result<(), S::Error>
         requires { S.is_sound sink.old state.old }
         ensures sound { S.is_sound sink.new state.new }
-        ensures bytes { Feeds S.took S.refused sink.old state.old
+        ensures bytes { Feeds S.effects sink.old state.old
             (λ cs. identical_rest self.old (character ∷ cs)) (identical_rest self.new)
             result sink.new state.new }
     {

@@ -1,6 +1,6 @@
 //! Lists as sinks: a key is appended to what they hold. A refused write changes nothing.
 
-ghost use Rattle.std.specs.Prelude.{◌≡◌, ◌++◌, IsOk};
+ghost use Rattle.icu_keys.specs.Sinks.{list_effects};
 ghost use Rattle.icu_keys.specs.ListSinkLaws.{appended_nothing, appended_both, refused_beginning};
 
 use crate::sink::CollationKeySink;
@@ -18,11 +18,9 @@ impl CollationKeySink for Vec<u8> {
 
     ghost is_sound = { λ _ _. Unit {0} };
 
-    ghost took = { λ x _ b y _. y.items ≡ x.items ++ b };
+    ghost effects = { list_effects (λ v. v.items) };
 
-    ghost refused = { λ x _ _ _ y _. y.items ≡ x.items };
-
-    ghost finished = { λ x _ r y. IsOk r × (y ≡ x) };
+    ghost begins_default = { λ _ _. tt };
 
     ghost starts_sound = { λ _ _ _. tt };
 
@@ -57,11 +55,9 @@ impl<const N: usize> CollationKeySink for SmallVec<u8, N> {
 
     ghost is_sound = { λ _ _. Unit {0} };
 
-    ghost took = { λ x _ b y _. y.items ≡ x.items ++ b };
+    ghost effects = { list_effects (λ v. v.items) };
 
-    ghost refused = { λ x _ _ _ y _. y.items ≡ x.items };
-
-    ghost finished = { λ x _ r y. IsOk r × (y ≡ x) };
+    ghost begins_default = { λ _ _. tt };
 
     ghost starts_sound = { λ _ _ _. tt };
 
@@ -96,11 +92,9 @@ impl CollationKeySink for VecDeque<u8> {
 
     ghost is_sound = { λ _ _. Unit {0} };
 
-    ghost took = { λ x _ b y _. y.items ≡ x.items ++ b };
+    ghost effects = { list_effects (λ v. v.items) };
 
-    ghost refused = { λ x _ _ _ y _. y.items ≡ x.items };
-
-    ghost finished = { λ x _ r y. IsOk r × (y ≡ x) };
+    ghost begins_default = { λ _ _. tt };
 
     ghost starts_sound = { λ _ _ _. tt };
 

@@ -39,7 +39,7 @@ impl Nibbles {
         }
     }
 
-    /// The same, where there is a nibble.
+    /// Takes a nibble, where there is one, and returns the byte that it completes, if it does.
     pub fn add_optional(&mut self, nibble: Option<u8>) -> Option<u8>
         requires { ForSome nibble (λ n. n < 16) }
         ensures { (ns : List ℕ) →

@@ -19,7 +19,7 @@ pub fn write_opened<S: CollationKeySink>(
 ) -> Result<(), S::Error>
     requires { S.is_sound sink.old state.old }
     ensures sound { S.is_sound sink.new state.new }
-    ensures bytes { Writes S.took S.refused sink.old state.old (part_bytes (opened bytes.now))
+    ensures bytes { Writes S.effects sink.old state.old (part_bytes (opened bytes.now))
         result sink.new state.new }
 {
     sink.write_byte(state, LEVEL)?;
@@ -34,7 +34,7 @@ pub fn write_closed<S: CollationKeySink>(
 ) -> Result<(), S::Error>
     requires { S.is_sound sink.old state.old }
     ensures sound { S.is_sound sink.new state.new }
-    ensures bytes { Writes S.took S.refused sink.old state.old (part_bytes (closed bytes.now))
+    ensures bytes { Writes S.effects sink.old state.old (part_bytes (closed bytes.now))
         result sink.new state.new }
 {
     write_opened(sink, state, bytes)?;
@@ -50,8 +50,8 @@ pub fn end_key<S: CollationKeySink>(
     requires { S.is_sound sink.old state }
     ensures memory { IfErr result (λ error. error ≡ SortKeyError.NoMemory → IsErr written) }
     ensures key { (x : S) (s : S.State) (bytes : List ℕ) → S.State.is_default s →
-        KeyWrites S.took S.refused x s bytes written sink.old state →
-        WritesKey S.took S.refused S.finished S.State.is_default x bytes result sink.new }
+        KeyWrites S.effects x s bytes written sink.old state →
+        WritesKey S.effects x bytes result sink.new }
 {
     match written {
         Ok(()) => match sink.finish(state) {

@@ -52,7 +52,8 @@ fn lead_to_drop<C: PrimaryCompression>(compression: &C, weight: u32, reordered: 
 
 /// The lead of a reordered primary as it is written: not of 0, which has no bytes.
 fn written_lead(primary: u32) -> Option<u8>
-    ensures { weight_bytes 4 primary ≡ option_to_list result ++ weight_bytes 3 (below_lead primary) }
+    ensures { weight_bytes 4 primary
+        ≡ option_to_list result ++ weight_bytes 3 (below_lead primary) }
 {
     if primary == 0 {
         None
@@ -71,7 +72,7 @@ fn write_lead<S: CollationKeySink>(
 ) -> Result<(), S::Error>
     requires { S.is_sound sink.old state.old }
     ensures sound { S.is_sound sink.new state.new }
-    ensures bytes { Feeds S.took S.refused sink.old state.old
+    ensures bytes { Feeds S.effects sink.old state.old
         (λ (_ : Unit {0}). primary_bytes dropped primary) (λ _. weight_bytes 3 (below_lead primary))
         result sink.new state.new }
 {
@@ -97,7 +98,7 @@ fn write_primary<S: CollationKeySink>(
 ) -> Result<(), S::Error>
     requires { S.is_sound sink.old state.old }
     ensures sound { S.is_sound sink.new state.new }
-    ensures bytes { Writes S.took S.refused sink.old state.old (primary_bytes dropped primary)
+    ensures bytes { Writes S.effects sink.old state.old (primary_bytes dropped primary)
         result sink.new state.new }
 {
     write_lead(sink, state, dropped, primary)?;
@@ -135,7 +136,7 @@ impl PrimaryWriter {
     ) -> Result<(), S::Error>
         requires { S.is_sound sink.old state.old }
         ensures sound { S.is_sound sink.new state.new }
-        ensures bytes { Feeds S.took S.refused sink.old state.old
+        ensures bytes { Feeds S.effects sink.old state.old
             (λ ws. primary_rest (C.compression compression.now) self.old (weight ∷ ws))
             (primary_rest (C.compression compression.now) self.new) result sink.new state.new }
     {

@@ -75,7 +75,7 @@ impl QuaternaryWriter {
         requires sound { S.is_sound sink.old state.old }
         requires bits { weight_of weight ≤ 2 ^ 32 + 3 }
         ensures sound { S.is_sound sink.new state.new }
-        ensures bytes { Feeds S.took S.refused sink.old state.old
+        ensures bytes { Feeds S.effects sink.old state.old
             (λ ws. quaternary_rest self.old (weight_of weight ∷ ws)) (quaternary_rest self.new)
             result sink.new state.new }
     {
@@ -106,7 +106,7 @@ impl QuaternaryWriter {
     ) -> Result<(), S::Error>
         requires { S.is_sound sink.old state.old }
         ensures sound { S.is_sound sink.new state.new }
-        ensures bytes { Writes S.took S.refused sink.old state.old (quaternary_rest self [])
+        ensures bytes { Writes S.effects sink.old state.old (quaternary_rest self [])
             result sink.new state.new }
     {
         self.run.write_end(&QUATERNARY_RUNS, sink, state)

@@ -81,7 +81,7 @@ impl Run {
         requires bounded { self.old.length ≤ runs.now.count }
         ensures sound { S.is_sound sink.new state.new }
         ensures bounded { self.new.length ≤ runs.now.count }
-        ensures bytes { (spell : ℕ → List ℕ) → Feeds S.took S.refused sink.old state.old
+        ensures bytes { (spell : ℕ → List ℕ) → Feeds S.effects sink.old state.old
             (λ ws. level_bytes runs.now spell self.old.length (runs.now.common ∷ ws))
             (level_bytes runs.now spell self.new.length) result sink.new state.new }
     {
@@ -103,8 +103,9 @@ impl Run {
         requires bounded { self.old.length ≤ runs.now.count }
         ensures sound { S.is_sound sink.new state.new }
         ensures bounded { self.new.length ≤ runs.now.count }
-        ensures bytes { (spell : ℕ → List ℕ) → Feeds S.took S.refused sink.old state.old
-            (λ ws. level_bytes runs.now spell self.old.length (replicate more runs.now.common ++ ws))
+        ensures bytes { (spell : ℕ → List ℕ) → Feeds S.effects sink.old state.old
+            (λ ws. level_bytes runs.now spell self.old.length
+            (replicate more runs.now.common ++ ws))
             (level_bytes runs.now spell self.new.length) result sink.new state.new }
     {
         let room = runs.count - self.length;
@@ -115,7 +116,7 @@ impl Run {
         self.write_full_counts(runs, sink, state, more)
     }
 
-    /// The same, where the run becomes longer than a full count.
+    /// Writes what `more` common weights decide, where they make the run longer than a full count.
     #[cold]
     #[inline(never)]
     fn write_full_counts<S: CollationKeySink>(
@@ -130,8 +131,9 @@ impl Run {
         requires bounded { self.old.length ≤ runs.now.count }
         ensures sound { S.is_sound sink.new state.new }
         ensures bounded { self.new.length ≤ runs.now.count }
-        ensures bytes { (spell : ℕ → List ℕ) → Feeds S.took S.refused sink.old state.old
-            (λ ws. level_bytes runs.now spell self.old.length (replicate more runs.now.common ++ ws))
+        ensures bytes { (spell : ℕ → List ℕ) → Feeds S.effects sink.old state.old
+            (λ ws. level_bytes runs.now spell self.old.length
+            (replicate more runs.now.common ++ ws))
             (level_bytes runs.now spell self.new.length) result sink.new state.new }
     {
         let full = u64::from(runs.count);
@@ -161,7 +163,7 @@ impl Run {
         ensures sound { S.is_sound sink.new state.new }
         ensures bounded { self.new.length ≤ runs.now.count }
         ensures bytes { (spell : ℕ → List ℕ) → spell weight ≡ weight_bytes 2 spelled →
-            Feeds S.took S.refused sink.old state.old
+            Feeds S.effects sink.old state.old
             (λ ws. level_bytes runs.now spell self.old.length (weight ∷ ws))
             (level_bytes runs.now spell self.new.length) result sink.new state.new }
     {
@@ -189,7 +191,7 @@ impl Run {
         ensures bounded { self.new.length ≤ runs.now.count }
         ensures bytes { (spell : ℕ → List ℕ) →
             spell weight ≡ option_to_list first ++ weight_bytes 4 spelled →
-            Feeds S.took S.refused sink.old state.old
+            Feeds S.effects sink.old state.old
             (λ ws. level_bytes runs.now spell self.old.length (weight ∷ ws))
             (level_bytes runs.now spell self.new.length) result sink.new state.new }
     {
@@ -208,7 +210,7 @@ impl Run {
         requires runs { AreRunBytes runs.now }
         requires bounded { self.length ≤ runs.now.count }
         ensures sound { S.is_sound sink.new state.new }
-        ensures bytes { (spell : ℕ → List ℕ) → Writes S.took S.refused sink.old state.old
+        ensures bytes { (spell : ℕ → List ℕ) → Writes S.effects sink.old state.old
             (level_bytes runs.now spell self.length []) result sink.new state.new }
     {
         let last = self.end(runs, true);

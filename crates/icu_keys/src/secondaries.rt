@@ -40,7 +40,7 @@ impl SecondaryWriter {
     ) -> Result<(), S::Error>
         requires { S.is_sound sink.old state.old }
         ensures sound { S.is_sound sink.new state.new }
-        ensures bytes { Feeds S.took S.refused sink.old state.old
+        ensures bytes { Feeds S.effects sink.old state.old
             (λ ws. secondary_rest self.old (weight ∷ ws)) (secondary_rest self.new)
             result sink.new state.new }
     {
@@ -63,7 +63,7 @@ impl SecondaryWriter {
     ) -> Result<(), S::Error>
         requires { S.is_sound sink.old state.old }
         ensures sound { S.is_sound sink.new state.new }
-        ensures bytes { Feeds S.took S.refused sink.old state.old
+        ensures bytes { Feeds S.effects sink.old state.old
             (λ ws. secondary_rest self.old (replicate more SECONDARY_RUNS.common ++ ws))
             (secondary_rest self.new) result sink.new state.new }
     {
@@ -78,7 +78,7 @@ impl SecondaryWriter {
     ) -> Result<(), S::Error>
         requires { S.is_sound sink.old state.old }
         ensures sound { S.is_sound sink.new state.new }
-        ensures bytes { Writes S.took S.refused sink.old state.old (secondary_rest self [])
+        ensures bytes { Writes S.effects sink.old state.old (secondary_rest self [])
             result sink.new state.new }
     {
         self.run.write_end(&SECONDARY_RUNS, sink, state)
@@ -93,8 +93,9 @@ impl SecondaryWriter {
     ) -> Result<(), S::Error>
         requires { S.is_sound sink.old state.old }
         ensures sound { S.is_sound sink.new state.new }
-        ensures bytes { Writes S.took S.refused sink.old state.old
-            (secondary_rest self (replicate more SECONDARY_RUNS.common ++ [])) result sink.new state.new }
+        ensures bytes { Writes S.effects sink.old state.old
+            (secondary_rest self (replicate more SECONDARY_RUNS.common ++ []))
+            result sink.new state.new }
     {
         self.push_commons(sink, state, more)?;
         self.close(sink, state)

@@ -1,7 +1,7 @@
 //! Where the bytes of a sort key go.
 
 ghost use Rattle.std.specs.Prelude.{◌≡◌, ℕ, List, [], ◌∷◌, ◌++◌, MatchResult, Result};
-ghost use Rattle.icu_keys.specs.Sinks.{TakesBeginning};
+ghost use Rattle.icu_keys.specs.Sinks.{SinkEffects, TakesBeginning};
 
 /// What takes the bytes of a sort key.
 ///
@@ -21,30 +21,24 @@ pub trait CollationKeySink {
     /// The sink and its state may be written to.
     ghost is_sound: { Self → Self.State → Type 0 };
 
-    /// A sink with its state took these bytes, and became this sink with this state.
-    ghost took: { Self → Self.State → List ℕ → Self → Self.State → Type 0 };
-
-    /// A write of these bytes returned this error, and left this sink with this state.
-    ghost refused: { Self → Self.State → List ℕ → Self.Error → Self → Self.State → Type 0 };
-
-    /// What `finish` returns, and the sink that it leaves.
-    ghost finished: { Self → Self.State → Result Self.Output Self.Error → Self → Type 0 };
+    /// What writes and `finish` do to the sink, and which states a key begins with.
+    ghost effects: { SinkEffects Self Self.State Self.Output Self.Error };
 
     /// Takes the bytes of `buf`: all of them, or a beginning and an error.
     fn write(&mut self, state: &mut Self::State, buf: &[u8]) -> Result<(), Self::Error>
         requires { is_sound self.old state.old }
         ensures sound { is_sound self.new state.new }
         ensures outcome { MatchResult result
-            (λ _. took self.old state.old buf.now self.new state.new)
-            (λ e. refused self.old state.old buf.now e self.new state.new) };
+            (λ _. effects.took self.old state.old buf.now self.new state.new)
+            (λ e. effects.refused self.old state.old buf.now e self.new state.new) };
 
     /// Takes one byte, as `write` of it alone.
     fn write_byte(&mut self, state: &mut Self::State, byte: u8) -> Result<(), Self::Error>
         requires { is_sound self.old state.old }
         ensures sound { is_sound self.new state.new }
         ensures outcome { MatchResult result
-            (λ _. took self.old state.old (byte ∷ []) self.new state.new)
-            (λ e. refused self.old state.old (byte ∷ []) e self.new state.new) }
+            (λ _. effects.took self.old state.old (byte ∷ []) self.new state.new)
+            (λ e. effects.refused self.old state.old (byte ∷ []) e self.new state.new) }
     {
         self.write(state, &[byte])
     }
@@ -52,17 +46,22 @@ pub trait CollationKeySink {
     /// Ends the key.
     fn finish(&mut self, state: Self::State) -> Result<Self::Output, Self::Error>
         requires { is_sound self.old state }
-        ensures { finished self.old state result self.new };
+        ensures { effects.finished self.old state result self.new };
 
-    /// The state that a key begins with is sound, whatever the sink holds.
+    /// A key begins with the default state.
+    ghost begins_default: { (s : Self.State) → Self.State.is_default s → effects.begins s };
+
+    /// The default state is sound, whatever the sink holds.
     ghost starts_sound: { (x : Self) (s : Self.State) → Self.State.is_default s → is_sound x s };
 
     /// Nothing is taken where nothing changes.
-    ghost took_nothing: { (x : Self) (s : Self.State) → is_sound x s → took x s [] x s };
+    ghost took_nothing: { (x : Self) (s : Self.State) → is_sound x s → effects.took x s [] x s };
 
     /// Bytes that are taken one after another are taken.
-    ghost took_both: { (x y z : Self) (s t u : Self.State) (b c : List ℕ) → is_sound x s → took x s b y t → took y t c z u → took x s (b ++ c) z u };
+    ghost took_both: { (x y z : Self) (s t u : Self.State) (b c : List ℕ) → is_sound x s
+        → effects.took x s b y t → effects.took y t c z u → effects.took x s (b ++ c) z u };
 
     /// A refused write took a beginning of what it was handed.
-    ghost refused_took: { (x y : Self) (s t : Self.State) (b : List ℕ) (e : Self.Error) → is_sound x s → refused x s b e y t → TakesBeginning (λ c. took x s c y t) b };
+    ghost refused_took: { (x y : Self) (s t : Self.State) (b : List ℕ) (e : Self.Error) → is_sound x s
+        → effects.refused x s b e y t → TakesBeginning (λ c. effects.took x s c y t) b };
 }

@@ -35,11 +35,14 @@ impl CollationKeySink for &mut [u8] {
 
     ghost is_sound = { λ _ s. s < 2 ^ 64 };
 
-    ghost took = { λ x s b y t. SliceTook x.now s b y.now t × (y.ghost_name ≡ x.ghost_name) };
+    ghost effects = { record {
+      took = λ x s b y t. SliceTook x.now s b y.now t × (y.ghost_name ≡ x.ghost_name);
+      refused = λ _ _ _ _ _ _. ⊥;
+      finished = λ x s r y. (r ≡ slice_finish x.now s) × (y.now ≡ x.now) × (y.ghost_name ≡ x.ghost_name);
+      begins = λ s. s ≡ 0;
+    } };
 
-    ghost refused = { λ _ _ _ _ _ _. ⊥ };
-
-    ghost finished = { λ x s r y. (r ≡ slice_finish x.now s) × (y.now ≡ x.now) × (y.ghost_name ≡ x.ghost_name) };
+    ghost begins_default = { λ _ d. d };
 
     ghost starts_sound = { λ _ s d. Prim.omega arith };
 

@@ -98,7 +98,7 @@ impl TertiaryWriter {
         requires fits { moved_tertiary (tertiary_form_of self.old) weight < 2 ^ 16 }
         ensures sound { S.is_sound sink.new state.new }
         ensures form { tertiary_form_of self.new ≡ tertiary_form_of self.old }
-        ensures bytes { Feeds S.took S.refused sink.old state.old
+        ensures bytes { Feeds S.effects sink.old state.old
             (λ ws. tertiary_rest self.old (weight ∷ ws)) (tertiary_rest self.new)
             result sink.new state.new }
     {
@@ -123,8 +123,9 @@ impl TertiaryWriter {
         requires { S.is_sound sink.old state.old }
         ensures sound { S.is_sound sink.new state.new }
         ensures form { tertiary_form_of self.new ≡ tertiary_form_of self.old }
-        ensures bytes { Feeds S.took S.refused sink.old state.old
-            (λ ws. tertiary_rest self.old (replicate more (tertiary_runs (tertiary_form_of self.old)).common ++ ws))
+        ensures bytes { Feeds S.effects sink.old state.old
+            (λ ws. tertiary_rest self.old
+            (replicate more (tertiary_runs (tertiary_form_of self.old)).common ++ ws))
             (tertiary_rest self.new) result sink.new state.new }
     {
         let runs = runs_of(self.form);
@@ -139,7 +140,7 @@ impl TertiaryWriter {
     ) -> Result<(), S::Error>
         requires { S.is_sound sink.old state.old }
         ensures sound { S.is_sound sink.new state.new }
-        ensures bytes { Writes S.took S.refused sink.old state.old (tertiary_rest self [])
+        ensures bytes { Writes S.effects sink.old state.old (tertiary_rest self [])
             result sink.new state.new }
     {
         let runs = runs_of(self.form);
@@ -155,8 +156,9 @@ impl TertiaryWriter {
     ) -> Result<(), S::Error>
         requires { S.is_sound sink.old state.old }
         ensures sound { S.is_sound sink.new state.new }
-        ensures bytes { Writes S.took S.refused sink.old state.old
-            (tertiary_rest self (replicate more (tertiary_runs (tertiary_form_of self)).common ++ []))
+        ensures bytes { Writes S.effects sink.old state.old
+            (tertiary_rest self
+            (replicate more (tertiary_runs (tertiary_form_of self)).common ++ []))
             result sink.new state.new }
     {
         self.push_commons(sink, state, more)?;

@@ -13,8 +13,8 @@ ghost use Rattle.icu_keys.specs.WriterRests.{primary_rest};
 ghost use Rattle.icu_keys.specs.Writes.{Writes, Feeds};
 
 use crate::error::SortKeyError;
-use crate::held::secondaries::HeldSecondaries;
-use crate::held::tertiaries::HeldTertiaries;
+use crate::held_secondaries::HeldSecondaries;
+use crate::held_tertiaries::HeldTertiaries;
 use crate::primaries::{PrimaryCompression, PrimaryWriter};
 use crate::sink::CollationKeySink;
 use crate::tertiaries::common_of;
@@ -36,7 +36,7 @@ fn push_primary<S: CollationKeySink, C: PrimaryCompression>(
 ) -> Result<(), S::Error>
     requires { S.is_sound sink.old state.old }
     ensures sound { S.is_sound sink.new state.new }
-    ensures bytes { Feeds S.took S.refused sink.old state.old
+    ensures bytes { Feeds S.effects sink.old state.old
         (λ ws. primary_rest (C.compression compression.now) writer.old (weight_before weight ws))
         (primary_rest (C.compression compression.now) writer.new) result sink.new state.new }
 {
@@ -99,9 +99,11 @@ fn push_held(
     requires fits { moved_tertiary form tertiary < 2 ^ 16 }
     ensures form { held_tertiary_form tertiaries.new ≡ held_tertiary_form tertiaries.old }
     ensures secondaries { OnOk result ((ws : List ℕ) →
-        held_secondaries secondaries.old (weight_before secondary ws) ≡ held_secondaries secondaries.new ws) }
+        held_secondaries secondaries.old (weight_before secondary ws)
+        ≡ held_secondaries secondaries.new ws) }
     ensures tertiaries { OnOk result ((ws : List ℕ) →
-        held_tertiaries tertiaries.old (weight_before tertiary ws) ≡ held_tertiaries tertiaries.new ws) }
+        held_tertiaries tertiaries.old (weight_before tertiary ws)
+        ≡ held_tertiaries tertiaries.new ws) }
 {
     let counted = u64::from(secondaries.commons()) + u64::from(tertiaries.commons());
     let are_common = both(secondary, tertiary)
@@ -161,7 +163,7 @@ impl ThreeLevelWriter {
     ///
     /// A tertiary below 4000, as one without case bits is, fits in each form.
     #[inline(always)]
-    #[tactic(auto, using(crate::proofs::FormWeights::small_fits))]
+    #[tactic(auto, using(crate::proofs::MovedTertiaries::small_fits))]
     pub fn push<S: CollationKeySink, C: PrimaryCompression>(
         &mut self,
         sink: &mut S,
@@ -175,7 +177,7 @@ impl ThreeLevelWriter {
         requires fits { tertiary < 0x4000 }
         ensures sound { S.is_sound sink.new state.new }
         ensures form { three_levels_form self.new ≡ three_levels_form self.old }
-        ensures bytes { KeyFeeds S.took S.refused sink.old state.old
+        ensures bytes { KeyFeeds S.effects sink.old state.old
             (λ (lists : ThreeLists). three_levels_rest (C.compression compression.now) self.old
             (element_before primary secondary tertiary lists))
             (three_levels_rest (C.compression compression.now) self.new) result sink.new state.new }
@@ -184,8 +186,9 @@ impl ThreeLevelWriter {
         self.push_in_form(sink, state, compression, form, primary, secondary, tertiary)
     }
 
-    /// The same with a tertiary as the writer's form has it, which may have case bits. Weights of a form fit its moved
-    /// leads. The form is given by the caller, so that it need not be asked for at each element.
+    /// Writes what the weights of the next element decide, with a tertiary as the writer's form has it, which may have
+    /// case bits. Weights of a form fit its moved leads. The form is given by the caller, so that it need not be asked
+    /// for at each element. After an error, discard the writer.
     #[inline(always)]
     pub fn push_in_form<S: CollationKeySink, C: PrimaryCompression>(
         &mut self,
@@ -202,7 +205,7 @@ impl ThreeLevelWriter {
         requires fits { moved_tertiary form tertiary < 2 ^ 16 }
         ensures sound { S.is_sound sink.new state.new }
         ensures form { three_levels_form self.new ≡ three_levels_form self.old }
-        ensures bytes { KeyFeeds S.took S.refused sink.old state.old
+        ensures bytes { KeyFeeds S.effects sink.old state.old
             (λ (lists : ThreeLists). three_levels_rest (C.compression compression.now) self.old
             (element_before primary secondary tertiary lists))
             (three_levels_rest (C.compression compression.now) self.new) result sink.new state.new }
@@ -225,8 +228,9 @@ impl ThreeLevelWriter {
     ) -> Result<(), S::Error>
         requires { S.is_sound sink.old state.old }
         ensures sound { S.is_sound sink.new state.new }
-        ensures bytes { (c : Compression) → Writes S.took S.refused sink.old state.old
-            (three_levels_rest c self.now (record { primaries = []; secondaries = []; tertiaries = [] }))
+        ensures bytes { (c : Compression) → Writes S.effects sink.old state.old
+            (three_levels_rest c self.now
+            (record { primaries = []; secondaries = []; tertiaries = [] }))
             result sink.new state.new }
     {
         self.secondaries.write_closed(sink, state)?;

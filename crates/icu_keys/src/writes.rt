@@ -18,7 +18,7 @@ pub(crate) fn write_optional<S: CollationKeySink>(
 ) -> Result<(), S::Error>
     requires { S.is_sound sink.old state.old }
     ensures sound { S.is_sound sink.new state.new }
-    ensures bytes { Writes S.took S.refused sink.old state.old (option_to_list byte)
+    ensures bytes { Writes S.effects sink.old state.old (option_to_list byte)
         result sink.new state.new }
 {
     match byte {
@@ -37,7 +37,7 @@ pub(crate) fn write_both<S: CollationKeySink>(
 ) -> Result<(), S::Error>
     requires { S.is_sound sink.old state.old }
     ensures sound { S.is_sound sink.new state.new }
-    ensures bytes { Writes S.took S.refused sink.old state.old
+    ensures bytes { Writes S.effects sink.old state.old
         (option_to_list first ++ option_to_list second) result sink.new state.new }
 {
     write_optional(sink, state, first)?;
@@ -53,7 +53,7 @@ fn write_one<S: CollationKeySink>(
 ) -> Result<(), S::Error>
     requires { S.is_sound sink.old state.old }
     ensures sound { S.is_sound sink.new state.new }
-    ensures bytes { Writes S.took S.refused sink.old state.old (weight_bytes 1 weight)
+    ensures bytes { Writes S.effects sink.old state.old (weight_bytes 1 weight)
         result sink.new state.new }
 {
     if weight == 0 {
@@ -72,7 +72,7 @@ fn write_two<S: CollationKeySink>(
 ) -> Result<(), S::Error>
     requires { S.is_sound sink.old state.old }
     ensures sound { S.is_sound sink.new state.new }
-    ensures bytes { Writes S.took S.refused sink.old state.old (weight_bytes 2 weight)
+    ensures bytes { Writes S.effects sink.old state.old (weight_bytes 2 weight)
         result sink.new state.new }
 {
     if weight == 0 {
@@ -92,7 +92,7 @@ pub(crate) fn write_three<S: CollationKeySink>(
     requires sound { S.is_sound sink.old state.old }
     requires fits { weight < 2 ^ 24 }
     ensures sound { S.is_sound sink.new state.new }
-    ensures bytes { Writes S.took S.refused sink.old state.old (weight_bytes 3 weight)
+    ensures bytes { Writes S.effects sink.old state.old (weight_bytes 3 weight)
         result sink.new state.new }
 {
     if weight == 0 {
@@ -111,7 +111,7 @@ fn write_four<S: CollationKeySink>(
 ) -> Result<(), S::Error>
     requires { S.is_sound sink.old state.old }
     ensures sound { S.is_sound sink.new state.new }
-    ensures bytes { Writes S.took S.refused sink.old state.old (weight_bytes 4 weight)
+    ensures bytes { Writes S.effects sink.old state.old (weight_bytes 4 weight)
         result sink.new state.new }
 {
     if weight == 0 {
@@ -131,7 +131,7 @@ pub(crate) fn write_short_after<S: CollationKeySink>(
 ) -> Result<(), S::Error>
     requires { S.is_sound sink.old state.old }
     ensures sound { S.is_sound sink.new state.new }
-    ensures bytes { Writes S.took S.refused sink.old state.old
+    ensures bytes { Writes S.effects sink.old state.old
         (option_to_list byte ++ weight_bytes 2 weight) result sink.new state.new }
 {
     write_optional(sink, state, byte)?;
@@ -149,7 +149,7 @@ pub(crate) fn write_long_after<S: CollationKeySink>(
 ) -> Result<(), S::Error>
     requires { S.is_sound sink.old state.old }
     ensures sound { S.is_sound sink.new state.new }
-    ensures bytes { Writes S.took S.refused sink.old state.old
+    ensures bytes { Writes S.effects sink.old state.old
         ((option_to_list first ++ option_to_list second) ++ weight_bytes 4 weight)
         result sink.new state.new }
 {

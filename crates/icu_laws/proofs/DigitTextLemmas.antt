@@ -14,7 +14,7 @@ use Rattle.icu_data.proofs.ListLemmas.{of_member}
 use Rattle.icu_provider.specs.LiveTables.{IsLive}
 use Rattle.icu_provider.specs.Tables.{Tables, entry_of, diacritic_of}
 use Rattle.icu_matches.specs.Matches.{Match, after_prefix, match_from, match_of}
-use Rattle.icu_elements.specs.TextElements.{Reading, Step, is_digit_kind, continues_number, begins_with_mark, digit_of, number_elements, number_step, entry_step, matched_step, step, consumed, last_two, elements_after, elements_of}
+use Rattle.icu_elements.specs.TextElements.{Reading, Step, is_digit_kind, continues_number, begins_with_mark, digit_of_char, number_elements, number_step, entry_step, matched_step, step, consumed, last_two, elements_after, elements_of}
 use Rattle.icu_elements.specs.TextParts.{AreDigits, IsDecomposed}
 use Rattle.icu_elements.specs.inner.Readable.{AreReadable}
 use Rattle.icu_elements.proofs.ReadableLemmas.{entry_of-is_live, decimal_among, itself}
@@ -74,7 +74,7 @@ no_mark tables (c ∷ cs) all = ap not all.0.starter
 module _ (tables : Tables) (lead entry : ℕ) (cs : List ℕ) (all : AllByRecursion (IsDigitCharacter tables) cs) where
   abbrev whole_step : Step
   whole_step = record {
-    elements = number_elements lead (digit_value entry ∷ map (digit_of tables) cs);
+    elements = number_elements lead (digit_value entry ∷ map (digit_of_char tables) cs);
     suffix = cs;
     rest = [];
   }
@@ -83,7 +83,7 @@ module _ (tables : Tables) (lead entry : ℕ) (cs : List ℕ) (all : AllByRecurs
   unfolding number_step
   whole_number =
       let together : List ℕ → Step = λ run. record {
-        elements = number_elements lead (digit_value entry ∷ map (digit_of tables) run);
+        elements = number_elements lead (digit_value entry ∷ map (digit_of_char tables) run);
         suffix = run;
         rest = drop (length run) cs;
       } in
@@ -96,7 +96,7 @@ module _ (reading : Reading) (lead : ℕ) (numeric : reading.numeric ≡ Some le
 
   entry_gives : (home : Data) (c entry : ℕ) (cs : List ℕ) → kind_of entry ≡ Digit → AllByRecursion (IsDigitCharacter reading.tables) cs
       → entry_step reading home c (record { entry = entry; suffix = []; rest = cs })
-      ≡ record { elements = number_elements lead (digit_value entry ∷ map (digit_of reading.tables) cs); suffix = cs; rest = [] }
+      ≡ record { elements = number_elements lead (digit_value entry ∷ map (digit_of_char reading.tables) cs); suffix = cs; rest = [] }
   unfolding entry_step
   entry_gives home c entry cs is digits =
       let m : Match = record { entry = entry; suffix = []; rest = cs } in
@@ -105,7 +105,7 @@ module _ (reading : Reading) (lead : ℕ) (numeric : reading.numeric ≡ Some le
 
   first_step : (c : ℕ) (cs : List ℕ) → AllByRecursion (IsDigitCharacter reading.tables) (c ∷ cs)
       → step reading [] c cs ≡ record {
-        elements = number_elements lead (map (digit_of reading.tables) (c ∷ cs));
+        elements = number_elements lead (map (digit_of_char reading.tables) (c ∷ cs));
         suffix = cs;
         rest = [];
       }
@@ -118,19 +118,19 @@ module _ (reading : Reading) (lead : ℕ) (numeric : reading.numeric ≡ Some le
 
   -- the elements of a text of digits are those of one number
   pub digits_give : (text : List ℕ) → 0 < length text → AllByRecursion (IsDigitCharacter reading.tables) text
-      → elements_of reading text ≡ number_elements lead (map (digit_of reading.tables) text)
+      → elements_of reading text ≡ number_elements lead (map (digit_of_char reading.tables) text)
   digits_give [] some digits = absurd (omega arith)
   digits_give (c ∷ cs) some digits =
       let ended : Step → List Element = λ s. s.elements ++ elements_after reading (last_two [] (consumed c s)) s.rest in
       elements_after_cons reading [] c cs
       ∙ (ap ended (first_step c cs digits)
-      ∙ (ap (λ es. number_elements lead (map (digit_of reading.tables) (c ∷ cs)) ++ es) (elements_after_nil reading (last_two [] (c ∷ cs)))
-      ∙ append-nil (number_elements lead (map (digit_of reading.tables) (c ∷ cs)))))
+      ∙ (ap (λ es. number_elements lead (map (digit_of_char reading.tables) (c ∷ cs)) ++ es) (elements_after_nil reading (last_two [] (c ∷ cs)))
+      ∙ append-nil (number_elements lead (map (digit_of_char reading.tables) (c ∷ cs)))))
 
 -- ---- digits are decimal, by tables that meet the conditions
 
 module _ (tables : Tables) (readable : AreReadable tables) where
-  digit_decimal : (c : ℕ) → IsScalar c → IsTrue (continues_number tables c) → digit_of tables c < 10
+  digit_decimal : (c : ℕ) → IsScalar c → IsTrue (continues_number tables c) → digit_of_char tables c < 10
   digit_decimal c scalar on =
       let h = entry_of tables c in
       let live = entry_of-is_live tables c scalar in
@@ -139,6 +139,6 @@ module _ (tables : Tables) (readable : AreReadable tables) where
       (λ condition e among. readable.each condition h.home c e (of_member (IsLive tables h.home c) (live_from h.home h.entry) e live among))
       (itself h.home h.entry) is.1
 
-  pub digits_decimal : (cs : List ℕ) → AllByRecursion IsDecomposed cs → AllByRecursion (IsDigitCharacter tables) cs → AreDigits (map (digit_of tables) cs)
+  pub digits_decimal : (cs : List ℕ) → AllByRecursion IsDecomposed cs → AllByRecursion (IsDigitCharacter tables) cs → AreDigits (map (digit_of_char tables) cs)
   digits_decimal [] read all = tt
   digits_decimal (c ∷ cs) read all = (digit_decimal c read.0.scalar all.0.continues, digits_decimal cs read.1 all.1)

@@ -12,8 +12,8 @@ use Rattle.icu_levels.proofs.KeepLemmas.{both_tie}
 use Rattle.icu_levels.proofs.SameKeys.{all_tie}
 use Rattle.icu_levels.proofs.OwnOrder.{own_secondaries, own_cases, own_tertiaries, own_quaternaries}
 use Rattle.icu_levels.proofs.IdenticalOrder.{same_from_ranks}
-use Rattle.icu_order.specs.Collations.{Collation}
-use Rattle.icu_order.specs.Forms.{compression_of, form_by, is_identical}
+use Rattle.icu_weighting.specs.Collations.{Collation}
+use Rattle.icu_weighting.specs.Forms.{compression_of, form_by, is_identical}
 use Rattle.icu_order.specs.TextOrder.{lists_by, text_order, text_key}
 
 -- ---- a text ties with itself, whatever its characters where they don't count

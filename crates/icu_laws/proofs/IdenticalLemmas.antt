@@ -14,7 +14,7 @@ use Rattle.icu_checks.specs.GoodTables.{IsGoodTables}
 use Rattle.icu_elements.specs.TextElementLaws.{IsText}
 use Rattle.icu_elements.specs.TextParts.{IsDecomposed}
 use Rattle.icu_elements.proofs.DecomposedLemmas.{IsDecomposedText-nfd}
-use Rattle.icu_order.specs.Collations.{Collation}
+use Rattle.icu_weighting.specs.Collations.{Collation}
 use Rattle.icu_order.specs.TextOrder.{text_order, text_key}
 use Rattle.icu_order.proofs.TextOrders.{equal_keys}
 use Rattle.icu_laws.specs.IdenticalLaws.{decomposed_order}

@@ -17,14 +17,14 @@ use Rattle.icu_levels.proofs.ReorderedNumbers.{moved_runs_by_value}
 use Rattle.icu_entries.specs.Elements.{Element, of_primary}
 use Rattle.icu_provider.specs.CollatorTables.{reorder}
 use Rattle.icu_checks.specs.GoodTables.{IsGoodTables}
-use Rattle.icu_elements.specs.TextElements.{digit_of, elements_of, number_elements}
+use Rattle.icu_elements.specs.TextElements.{digit_of_char, elements_of, number_elements}
 use Rattle.icu_elements.specs.TextElementLaws.{IsText}
 use Rattle.icu_elements.proofs.DecomposedLemmas.{IsDecomposedText-nfd}
 use Rattle.icu_elements.proofs.ReadableLemmas.{good_readable}
-use Rattle.icu_order.specs.Collations.{Collation}
-use Rattle.icu_order.specs.Forms.{compression_of, form_by, is_identical}
-use Rattle.icu_order.specs.Handled.{handled, stayed_elements}
-use Rattle.icu_order.specs.Levels.{weights, primaries, level_lists}
+use Rattle.icu_weighting.specs.Collations.{Collation}
+use Rattle.icu_weighting.specs.Forms.{compression_of, form_by, is_identical}
+use Rattle.icu_weighting.specs.Handled.{handled, stayed_elements}
+use Rattle.icu_weighting.specs.Levels.{weights, primaries, level_lists}
 use Rattle.icu_order.specs.LiveWeights.{IsLivePrimary}
 use Rattle.icu_order.specs.TextOrder.{reading_by, handled_elements, lists_by, text_order}
 use Rattle.icu_order.proofs.NumberLists.{number_all, run_leads}
@@ -126,7 +126,7 @@ module _ (collation : Collation) (good : IsGoodTables collation.tables) where
     elements = digits_give (reading_by collation) numeric (numbers_on settings.numeric numeric on) (nfd t) is.some is.characters;
     short = record {
       digits = digits_decimal all.tables (good_readable all good) (nfd t) (IsDecomposedText-nfd t text) is.characters;
-      some = subst (λ n. 0 < n) (sym (length-map (nfd t) (digit_of all.tables))) is.some;
+      some = subst (λ n. 0 < n) (sym (length-map (nfd t) (digit_of_char all.tables))) is.some;
       short = is.short;
     };
   }

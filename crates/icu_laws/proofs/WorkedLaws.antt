@@ -9,7 +9,7 @@ use Rattle.icu_levels.specs.Tertiaries.{tertiary_level}
 use Rattle.icu_levels.specs.declared.forms.QuaternaryForm.TheVariants.{MayShift, Unshifted}
 use Rattle.icu_levels.specs.declared.forms.TertiaryForm.TheVariants.{WithoutCase}
 use Rattle.icu_elements.specs.TextElements.{elements_of, number_elements}
-use Rattle.icu_order.specs.Collations.{Collation}
+use Rattle.icu_weighting.specs.Collations.{Collation}
 use Rattle.icu_order.specs.TextOrder.{reading_by, text_order}
 use Rattle.icu_order.proofs.Computing.{icu_order}
 use Rattle.icu_order.proofs.WorkedSettings.{numeric_at, case_level_at, plain_at, mini}

@@ -9,7 +9,7 @@ use Rattle.icu_levels.specs.Keys.{Determines}
 use Rattle.icu_levels.specs.ListOrder.{list_order}
 use Rattle.icu_checks.specs.GoodTables.{IsGoodTables}
 use Rattle.icu_elements.specs.TextElementLaws.{IsText}
-use Rattle.icu_order.specs.Collations.{Collation}
+use Rattle.icu_weighting.specs.Collations.{Collation}
 use Rattle.icu_order.specs.TextOrder.{text_order, text_key}
 use Rattle.icu_laws.specs.OrderLaws.{AreEquivalent}
 

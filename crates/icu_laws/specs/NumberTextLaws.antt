@@ -5,7 +5,7 @@ use Rattle.icu_options.specs.declared.settings.Strength.TheVariants.{Identical}
 use Rattle.icu_levels.specs.Numbers.{value_of}
 use Rattle.icu_checks.specs.GoodTables.{IsGoodTables}
 use Rattle.icu_elements.specs.TextElementLaws.{IsText}
-use Rattle.icu_order.specs.Collations.{Collation}
+use Rattle.icu_weighting.specs.Collations.{Collation}
 use Rattle.icu_order.specs.TextOrder.{text_order}
 use Rattle.icu_laws.specs.NumberTexts.{IsNumberText, IsDigitText, digits_in}
 

@@ -7,8 +7,8 @@ use Rattle.icu_levels.specs.Numbers.{without_first_zeros, longest_number}
 use Rattle.icu_levels.specs.NumberLaws.{IsShortRun}
 use Rattle.icu_provider.specs.Tables.{Tables}
 use Rattle.icu_provider.specs.CollatorTables.{CollatorTables}
-use Rattle.icu_elements.specs.TextElements.{continues_number, digit_of, number_elements, elements_of}
-use Rattle.icu_order.specs.Collations.{Collation}
+use Rattle.icu_elements.specs.TextElements.{continues_number, digit_of_char, number_elements, elements_of}
+use Rattle.icu_weighting.specs.Collations.{Collation}
 use Rattle.icu_order.specs.TextOrder.{reading_by}
 
 -- The text has the elements of one number and no others: of that with these digits, at most 254 after their first zeros
@@ -23,7 +23,7 @@ pub record IsDigitCharacter (tables : Tables) (c : ℕ) : Type 0 where
 
 -- the digits of a text of digits
 abbrev pub digits_in : CollatorTables → List ℕ → List ℕ
-digits_in all text = map (digit_of all.tables) (nfd text)
+digits_in all text = map (digit_of_char all.tables) (nfd text)
 
 -- a text of digits alone, at most 254 after its first zeros
 pub record IsDigitText (all : CollatorTables) (text : List ℕ) : Type 0 where

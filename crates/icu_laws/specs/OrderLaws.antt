@@ -7,7 +7,7 @@ use Rattle.icu_options.specs.declared.settings.Strength.{Strength}
 use Rattle.icu_options.specs.declared.settings.Strength.TheVariants.{Primary, Secondary, Tertiary, Quaternary, Identical}
 use Rattle.icu_checks.specs.GoodTables.{IsGoodTables}
 use Rattle.icu_elements.specs.TextElementLaws.{IsText}
-use Rattle.icu_order.specs.Collations.{Collation}
+use Rattle.icu_weighting.specs.Collations.{Collation}
 use Rattle.icu_order.specs.TextOrder.{text_order, text_key}
 
 -- ---- a total order with ties
@@ -22,6 +22,7 @@ pub record IsOrderOfTexts (c : Collation) : Type 0 where
   pub equal : (t u v : List ℕ) → IsText t → IsText u → IsText v
       → text_order c t u ≡ Equal → text_order c t v ≡ text_order c u v
 
+-- good tables order texts, whatever the settings
 abbrev pub TextsAreOrdered : Type 0
 TextsAreOrdered = (c : Collation) → IsGoodTables c.tables → IsOrderOfTexts c
 
@@ -31,14 +32,17 @@ TextsAreOrdered = (c : Collation) → IsGoodTables c.tables → IsOrderOfTexts c
 abbrev pub AreEquivalent : List ℕ → List ℕ → Type 0
 AreEquivalent t u = nfd t ≡ nfd u
 
+-- canonically equivalent texts are equal
 abbrev pub EquivalentTextsAreEqual : Type 0
 EquivalentTextsAreEqual = (c : Collation) (t u : List ℕ) → AreEquivalent t u → text_order c t u ≡ Equal
 
+-- canonically equivalent texts have one key
 abbrev pub EquivalentTextsHaveOneKey : Type 0
 EquivalentTextsHaveOneKey = (c : Collation) (t u : List ℕ) → AreEquivalent t u → text_key c t ≡ text_key c u
 
 -- ---- strengths
 
+-- where a strength stands among the five
 abbrev pub strength_rank : Strength → ℕ
 strength_rank Primary = 0
 strength_rank Secondary = 1
@@ -46,6 +50,7 @@ strength_rank Tertiary = 2
 strength_rank Quaternary = 3
 strength_rank Identical = 4
 
+-- a collation with another strength
 abbrev pub with_strength : Collation → Strength → Collation
 with_strength c s = record c { settings = record c.settings { strength = s } }
 

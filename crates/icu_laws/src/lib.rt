@@ -37,8 +37,8 @@ pub fn identical_level_determines_texts()
     ensures key { IdenticalKeysDetermineTexts }
 {}
 
-/// Without a case level and with all else the same, texts that differ at a strength keep their order at each higher one
-/// (UTS #35 part 5, "Setting Options" on strength).
+/// Two texts that differ at a strength keep their order at each higher one, without a case level and with all other
+/// settings the same (UTS #35 part 5, "Setting Options" on strength).
 pub fn strength_keeps_order()
     ensures { StrengthKeepsOrder }
 {}
@@ -69,12 +69,8 @@ pub fn common_weights_add_few_bytes()
 /// a list holds what it held and then the key, and a slice the key at its front. So two such calls for one text gave
 /// the same bytes.
 pub fn sinks_hold_one_key<const N: usize>()
-    ensures vector { HoldsKeyAfter ⟦<Vec<u8> as CollationKeySink>⟧.took ⟦<Vec<u8> as CollationKeySink>⟧.refused
-        ⟦<Vec<u8> as CollationKeySink>⟧.finished ⟦<() as Default>⟧.is_default (λ v. v.items) }
-    ensures inline { HoldsKeyAfter ⟦<SmallVec<u8, N> as CollationKeySink>⟧.took ⟦<SmallVec<u8, N> as CollationKeySink>⟧.refused
-        ⟦<SmallVec<u8, N> as CollationKeySink>⟧.finished ⟦<() as Default>⟧.is_default (λ v. v.items) }
-    ensures deque { HoldsKeyAfter ⟦<VecDeque<u8> as CollationKeySink>⟧.took ⟦<VecDeque<u8> as CollationKeySink>⟧.refused
-        ⟦<VecDeque<u8> as CollationKeySink>⟧.finished ⟦<() as Default>⟧.is_default (λ v. v.items) }
-    ensures slice { HoldsKeyInFront ⟦<&'static mut [u8] as CollationKeySink>⟧.took ⟦<&'static mut [u8] as CollationKeySink>⟧.refused
-        ⟦<&'static mut [u8] as CollationKeySink>⟧.finished ⟦<usize as Default>⟧.is_default (λ s. s.now) }
+    ensures vector { HoldsKeyAfter ⟦<Vec<u8> as CollationKeySink>⟧.effects (λ v. v.items) }
+    ensures inline { HoldsKeyAfter ⟦<SmallVec<u8, N> as CollationKeySink>⟧.effects (λ v. v.items) }
+    ensures deque { HoldsKeyAfter ⟦<VecDeque<u8> as CollationKeySink>⟧.effects (λ v. v.items) }
+    ensures slice { HoldsKeyInFront ⟦<&'static mut [u8] as CollationKeySink>⟧.effects (λ s. s.now) }
 {}

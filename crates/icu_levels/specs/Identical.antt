@@ -8,9 +8,11 @@ use Rattle.std.specs.Prelude.{ℕ, ◌+◌, ◌-◌, ◌*◌, ◌/◌, ◌%◌, 
 abbrev pub last_tail : ℕ → ℕ
 last_tail e = 3 + e % 253
 
+-- the tail of the second place from the end
 abbrev pub middle_tail : ℕ → ℕ
 middle_tail e = 3 + e / 253 % 253
 
+-- the tail of the third place from the end
 abbrev pub first_tail : ℕ → ℕ
 first_tail e = 3 + e / 253 / 253 % 253
 

@@ -28,23 +28,28 @@ KeysKeepOrder live =
     → AreWeights c f live → AreLists f live t → AreLists f live u → AreParallel c f t u
     → list_order (key_bytes c f t) (key_bytes c f u) ≡ levels_order c f t u
 
+-- two texts have the same secondaries, or segments of them, where the key has the level
 abbrev pub SameSecondaries : Option SecondaryForm → LevelLists → LevelLists → Type 0
 SameSecondaries None t u = Unit {0}
 SameSecondaries (Some Forward) t u = t.secondaries ≡ u.secondaries
 SameSecondaries (Some Backward) t u = t.segments ≡ u.segments
 
+-- two texts have the same cases, where the key has the level
 abbrev pub SameCases : Option CaseForm → LevelLists → LevelLists → Type 0
 SameCases None t u = Unit {0}
 SameCases (Some form) t u = t.cases ≡ u.cases
 
+-- two texts have the same tertiaries, where the key has the level
 abbrev pub SameTertiaries : Option TertiaryForm → LevelLists → LevelLists → Type 0
 SameTertiaries None t u = Unit {0}
 SameTertiaries (Some form) t u = t.tertiaries ≡ u.tertiaries
 
+-- two texts have the same quaternaries, where the key has the level
 abbrev pub SameQuaternaries : Option QuaternaryForm → LevelLists → LevelLists → Type 0
 SameQuaternaries None t u = Unit {0}
 SameQuaternaries (Some form) t u = t.quaternaries ≡ u.quaternaries
 
+-- two texts have the same characters, where the key has the level
 abbrev pub SameCharacters : Bool → LevelLists → LevelLists → Type 0
 SameCharacters false t u = Unit {0}
 SameCharacters true t u = t.characters ≡ u.characters

@@ -22,15 +22,18 @@ pub record LiveWeights : Type 1 where
   pub shifted_primary : ℕ → Type 0
   pub numeric : ℕ
 
+-- secondaries that may occur are as the level asks in its direction, where the key has it
 abbrev pub SecondaryWeights : Option SecondaryForm → (ℕ → Type 0) → Type 0
 SecondaryWeights None IsLive = Unit {0}
 SecondaryWeights (Some Forward) IsLive = AreSecondaries forward_least IsLive
 SecondaryWeights (Some Backward) IsLive = AreSecondaries backward_least IsLive
 
+-- tertiaries that may occur are as the level asks in its form, where the key has it
 abbrev pub TertiaryWeights : Option TertiaryForm → (ℕ → Type 0) → Type 0
 TertiaryWeights None IsLive = Unit {0}
 TertiaryWeights (Some form) IsLive = AreTertiaries form IsLive
 
+-- shifted primaries that may occur are as the quaternary level asks in its form, where the key has it
 abbrev pub QuaternaryWeights : Option QuaternaryForm → (ℕ → Type 0) → Type 0
 QuaternaryWeights None IsLive = Unit {0}
 QuaternaryWeights (Some MayShift) IsLive = AreShifted IsLive
@@ -43,15 +46,18 @@ pub record AreWeights (c : Compression) (f : KeyForm) (live : LiveWeights) : Typ
   pub tertiaries : TertiaryWeights f.tertiary live.tertiary
   pub quaternaries : QuaternaryWeights f.quaternary live.shifted_primary
 
+-- the secondaries of a text may occur, and a backward level has a segment at least
 abbrev pub SecondaryMembers : Option SecondaryForm → (ℕ → Type 0) → LevelLists → Type 0
 SecondaryMembers None IsLive t = Unit {0}
 SecondaryMembers (Some Forward) IsLive t = AllByRecursion IsLive t.secondaries
 SecondaryMembers (Some Backward) IsLive t = (0 < length t.segments) × AllByRecursion (AllByRecursion IsLive) t.segments
 
+-- the tertiaries of a text may occur
 abbrev pub TertiaryMembers : Option TertiaryForm → (ℕ → Type 0) → LevelLists → Type 0
 TertiaryMembers None IsLive t = Unit {0}
 TertiaryMembers (Some form) IsLive t = AllByRecursion IsLive t.tertiaries
 
+-- the quaternaries of a text may occur, in the form of the level
 abbrev pub QuaternaryMembers : Option QuaternaryForm → (ℕ → Type 0) → LevelLists → Type 0
 QuaternaryMembers None IsLive t = Unit {0}
 QuaternaryMembers (Some MayShift) IsLive t = AllByRecursion (IsQuaternary IsLive) t.quaternaries

@@ -26,11 +26,13 @@ pub data LevelPart : Type 0 where
   opened : List ℕ → LevelPart
   closed : List ℕ → LevelPart
 
+-- the bytes of a level, with those that open and close it
 abbrev pub part_bytes : LevelPart → List ℕ
 part_bytes absent = []
 part_bytes (opened bs) = 1 ∷ bs
 part_bytes (closed bs) = 1 ∷ (bs ++ 1 ∷ [])
 
+-- the bytes of levels one after another
 abbrev pub parts_bytes : List LevelPart → List ℕ
 parts_bytes [] = []
 parts_bytes (p ∷ ps) = part_bytes p ++ parts_bytes ps
@@ -81,27 +83,33 @@ pub record LevelLists : Type 0 where
   pub quaternaries : List ℕ
   pub characters : List ℕ
 
+-- the secondary level of a key, from the lists of its text
 abbrev pub secondary_part : Option SecondaryForm → LevelLists → LevelPart
 secondary_part None t = absent
 secondary_part (Some Forward) t = closed (secondary_level t.secondaries)
 secondary_part (Some Backward) t = closed (backward_level t.segments)
 
+-- the case level of a key
 abbrev pub case_part : Option CaseForm → LevelLists → LevelPart
 case_part None t = absent
 case_part (Some form) t = opened (case_level form t.cases)
 
+-- the tertiary level of a key
 abbrev pub tertiary_part : Option TertiaryForm → LevelLists → LevelPart
 tertiary_part None t = absent
 tertiary_part (Some form) t = closed (tertiary_level form t.tertiaries)
 
+-- the quaternary level of a key
 abbrev pub quaternary_part : Option QuaternaryForm → LevelLists → LevelPart
 quaternary_part None t = absent
 quaternary_part (Some form) t = closed (quaternary_level form t.quaternaries)
 
+-- the identical level of a key
 abbrev pub identical_part : Bool → LevelLists → LevelPart
 identical_part false t = absent
 identical_part true t = opened (identical_level t.characters)
 
+-- the levels of a key after the primary one, in their order
 abbrev pub later_parts : KeyForm → LevelLists → List LevelPart
 later_parts f t =
     secondary_part f.secondary t ∷ case_part f.cases t ∷ tertiary_part f.tertiary t ∷ quaternary_part f.quaternary t
@@ -113,26 +121,32 @@ key_bytes c f t = primary_level c 0 t.primaries ++ parts_bytes (later_parts f t)
 
 -- ---- the order that keys are to keep: the lists in turn
 
+-- the order of two texts by their primaries, reordered
 abbrev pub primaries_order : Compression → LevelLists → LevelLists → Ordering
 primaries_order c t u = list_order (map c.reorder t.primaries) (map c.reorder u.primaries)
 
+-- the order of two texts by their secondaries, from the front or segment by segment, where they count
 abbrev pub secondaries_order : Option SecondaryForm → LevelLists → LevelLists → Ordering
 secondaries_order None t u = Equal
 secondaries_order (Some Forward) t u = list_order t.secondaries u.secondaries
 secondaries_order (Some Backward) t u = segments_order t.segments u.segments
 
+-- the order of two texts by their cases, where they count
 abbrev pub cases_order : Option CaseForm → LevelLists → LevelLists → Ordering
 cases_order None t u = Equal
 cases_order (Some form) t u = list_order t.cases u.cases
 
+-- the order of two texts by their tertiaries, where they count
 abbrev pub tertiaries_order : Option TertiaryForm → LevelLists → LevelLists → Ordering
 tertiaries_order None t u = Equal
 tertiaries_order (Some form) t u = list_order t.tertiaries u.tertiaries
 
+-- the order of two texts by their quaternaries, where they count
 abbrev pub quaternaries_order : Option QuaternaryForm → LevelLists → LevelLists → Ordering
 quaternaries_order None t u = Equal
 quaternaries_order (Some form) t u = list_order t.quaternaries u.quaternaries
 
+-- the order of two texts by their characters, U+FFFE lowest, where they count
 abbrev pub characters_order : Bool → LevelLists → LevelLists → Ordering
 characters_order false t u = Equal
 characters_order true t u = list_order (map identical_rank t.characters) (map identical_rank u.characters)

@@ -46,6 +46,7 @@ PrimariesKeepOrder IsLive =
     → (vs ws : List ℕ) → IsPrimaryList numeric IsLive false vs → IsPrimaryList numeric IsLive false ws
     → KeepOrder (primary_level c 0 vs) (primary_level c 0 ws) (map c.reorder vs) (map c.reorder ws)
 
+-- the secondary level from the front
 abbrev pub SecondariesKeepOrder : (ℕ → Type 0) → Type 0
 SecondariesKeepOrder IsLive =
     AreSecondaries forward_least IsLive
@@ -78,6 +79,7 @@ CaseKeepsTertiaries IsLive =
     (form : TertiaryForm) → AreTertiaries WithoutCase IsLive
     → AreTertiaries form (IsCasedTertiary form IsLive)
 
+-- the tertiary level, in each of its forms
 abbrev pub TertiariesKeepOrder : (ℕ → Type 0) → Type 0
 TertiariesKeepOrder IsLive =
     (form : TertiaryForm) → AreTertiaries form IsLive

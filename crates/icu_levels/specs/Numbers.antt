@@ -59,9 +59,11 @@ abbrev pub value_after : ℕ → List ℕ → ℕ
 value_after v [] = v
 value_after v (d ∷ ds) = value_after (10 * v + d) ds
 
+-- the value of decimal digits, the highest first
 abbrev pub value_of : List ℕ → ℕ
 value_of ds = value_after 0 ds
 
+-- digits from the first on that isn't zero
 abbrev pub without_first_zeros : List ℕ → List ℕ
 without_first_zeros [] = []
 without_first_zeros (zero ∷ ds) = without_first_zeros ds
@@ -80,5 +82,6 @@ run_weights_by (f ∷ fs) numeric (d ∷ ds) =
     number_weights numeric (value_of (take longest_number (without_first_zeros (d ∷ ds))))
     ++ run_weights_by fs numeric (drop longest_number (without_first_zeros (d ∷ ds)))
 
+-- the primaries of a run of digits of any length
 abbrev pub run_weights : ℕ → List ℕ → List ℕ
 run_weights numeric ds = run_weights_by ds numeric ds

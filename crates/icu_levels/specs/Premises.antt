@@ -19,18 +19,21 @@ pub record AreSecondaries (least : ℕ) (IsLive : ℕ → Type 0) : Type 0 where
   pub leads : (w : ℕ) → IsLive w → (w ≡ 0x500) ⊎ (((least ≤ w / 256) × (w / 256 ≤ 4)) ⊎ (0x46 ≤ w / 256))
   pub prefix_free : IsPrefixFree (weight_bytes 2) IsLive
 
+-- the least lead of secondaries that are written from the front
 abbrev pub forward_least : ℕ
 forward_least = 2
 
+-- the least lead of secondaries of a backward level
 abbrev pub backward_least : ℕ
 backward_least = 3
 
--- the leads of tertiaries as a form has them
+-- the least lead of tertiaries as a form has them
 abbrev pub least_tertiary_lead : TertiaryForm → ℕ
 least_tertiary_lead WithoutCase = 0x02
 least_tertiary_lead LowerFirst = 0x02
 least_tertiary_lead UpperFirst = 0x42
 
+-- the greatest lead of tertiaries as a form has them
 abbrev pub greatest_tertiary_lead : TertiaryForm → ℕ
 greatest_tertiary_lead WithoutCase = 0x3F
 greatest_tertiary_lead LowerFirst = 0xBF

@@ -31,8 +31,8 @@ level_bytes r spell n [] = run_before_less r n
 level_bytes r spell n (w ∷ ws) =
     if w == r.common then level_bytes r spell (suc n) ws else run_before r n w ++ (spell w ++ level_bytes r spell 0 ws)
 
--- Of the weights that may occur, those below the common one begin between the byte that ends a list and the low
--- byte, those above it begin above the high byte, and of two that are not common the lesser precedes
+-- Weights below the common one begin between the byte that ends a list and the low byte. Those above it begin above
+-- the high byte. Of two other weights the lesser precedes.
 pub record IsSpelling (r : RunBytes) (end : ℕ) (spell : ℕ → List ℕ) (IsLive : ℕ → Type 0) : Type 0 where
   pub end_below : end < r.low
   pub below : (w : ℕ) → IsLive w → w < r.common → IsOver end (spell w) × IsUnder r.low (spell w)

@@ -13,12 +13,13 @@ tertiary_runs WithoutCase = TERTIARY_RUNS
 tertiary_runs LowerFirst = LOWER_FIRST_TERTIARY_RUNS
 tertiary_runs UpperFirst = UPPER_FIRST_TERTIARY_RUNS
 
--- by how much leads above that of the common weight go up, and leads below it go down
+-- by how much leads above that of the common weight go up
 abbrev pub raised_above : TertiaryForm → ℕ
 raised_above WithoutCase = 0xC000
 raised_above LowerFirst = 0x4000
 raised_above UpperFirst = 0
 
+-- by how much leads below that of the common weight go down
 abbrev pub lowered_below : TertiaryForm → ℕ
 lowered_below WithoutCase = 0
 lowered_below LowerFirst = 0
@@ -31,8 +32,10 @@ moved_tertiary form w =
     if nat_lt ((tertiary_runs form).common / 256) (w / 256) then w + raised_above form
     else (if nat_lt (w / 256) ((tertiary_runs form).common / 256) then w - lowered_below form else w)
 
+-- the bytes of a tertiary that is not common, in a form
 abbrev pub tertiary_bytes : TertiaryForm → ℕ → List ℕ
 tertiary_bytes form w = weight_bytes 2 (moved_tertiary form w)
 
+-- the bytes of the tertiary level, in a form
 abbrev pub tertiary_level : TertiaryForm → List ℕ → List ℕ
 tertiary_level form = level_bytes (tertiary_runs form) (tertiary_bytes form) 0

@@ -19,8 +19,8 @@ pub fn runs_are_short()
     ensures quaternary { RunsAreShort QUATERNARY_RUNS 113 }
 {}
 
-/// Levels that count runs of their common weight keep the order of their lists, for all run bytes whose two kinds of
-/// run meet in the middle byte alone and each spelling that stays clear of the runs and is prefix free.
+/// A level keeps the order of its lists if the two kinds of run meet in the middle byte alone, and if the bytes of all
+/// other weights stay clear of the runs and are prefix free.
 pub fn runs_keep_order<W: LevelWeights>()
     ensures { RunsKeepOrder W.is_live }
 {}

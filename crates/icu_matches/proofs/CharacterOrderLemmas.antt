@@ -8,7 +8,7 @@ use Rattle.std.proofs.lemmas.Bool.{and_parts, and_from, eqb-true, eq-eqb, le-ltb
 use Rattle.std.proofs.lemmas.Cmp.{nat_list_cmp_total}
 use Rattle.std.proofs.lemmas.Map.Text.{is_eq-slice_cmp}
 use Rattle.icu_data.specs.Contexts.{is_before}
-use Rattle.icu_matches.specs.inner.Beginnings.{common}
+use Rattle.icu_matches.specs.inner.Beginnings.{common_beginning}
 
 -- ---- the order
 
@@ -85,8 +85,8 @@ shorter_before (x ∷ xs) (y ∷ ys) (z ∷ zs) h k b =
 
 -- a row that begins the text, and doesn't come after another row that doesn't come after the text, begins what these
 -- have in common
-pub begins_common : (row text other : List ℕ) → starts_with nat_eq text other ≡ true → is_before row other ≡ false → is_before text row ≡ false → starts_with nat_eq (common row text) other ≡ true
-unfolding common
+pub begins_common : (row text other : List ℕ) → starts_with nat_eq text other ≡ true → is_before row other ≡ false → is_before text row ≡ false → starts_with nat_eq (common_beginning row text) other ≡ true
+unfolding common_beginning
 begins_common row text [] h k b = refl
 begins_common row [] (z ∷ zs) h k b = cc
 begins_common [] (x ∷ xs) (z ∷ zs) h k b = cc
@@ -98,19 +98,19 @@ begins_common (y ∷ ys) (x ∷ xs) (z ∷ zs) h k b =
     let f : y ≡ z = e ∙ sym q.0 in
     let first : is_before ys zs ≡ false = sym (same_head z ys zs) ∙ subst (λ w. is_before (w ∷ ys) (z ∷ zs) ≡ false) f k in
     let second : is_before xs ys ≡ false = sym (same_head x xs ys) ∙ subst (λ w. is_before (x ∷ xs) (w ∷ ys) ≡ false) e b in
-    let rest : starts_with nat_eq (common ys xs) zs ≡ true = begins_common ys xs zs q.1 first second in
+    let rest : starts_with nat_eq (common_beginning ys xs) zs ≡ true = begins_common ys xs zs q.1 first second in
     rw (eq-eqb y x e) (and_from _ _ (eq-eqb z x q.0) rest)
 
 -- one that begins what a row and a text have in common begins the text
-pub begins_whole : (row text other : List ℕ) → starts_with nat_eq (common row text) other ≡ true → starts_with nat_eq text other ≡ true
-unfolding common
+pub begins_whole : (row text other : List ℕ) → starts_with nat_eq (common_beginning row text) other ≡ true → starts_with nat_eq text other ≡ true
+unfolding common_beginning
 begins_whole row text [] h = refl
 begins_whole [] text (z ∷ zs) h = cc
 begins_whole (y ∷ ys) [] (z ∷ zs) h = cc
 begins_whole (y ∷ ys) (x ∷ xs) (z ∷ zs) h = elim (cases_Bool (nat_eq y x)) [
   | inl e ↦
-      let k : starts_with nat_eq (x ∷ common ys xs) (z ∷ zs) ≡ true = rw e at h in
-      let parts = and_parts (nat_eq z x) (starts_with nat_eq (common ys xs) zs) k in
+      let k : starts_with nat_eq (x ∷ common_beginning ys xs) (z ∷ zs) ≡ true = rw e at h in
+      let parts = and_parts (nat_eq z x) (starts_with nat_eq (common_beginning ys xs) zs) k in
       and_from _ _ parts.0 (begins_whole ys xs zs parts.1)
   | inr e ↦
       let k : starts_with nat_eq [] (z ∷ zs) ≡ true = rw e at h in
@@ -118,8 +118,8 @@ begins_whole (y ∷ ys) (x ∷ xs) (z ∷ zs) h = elim (cases_Bool (nat_eq y x))
 ]
 
 -- that is shorter than the text, where the row doesn't come after it and doesn't begin it
-pub common_shorter : (row text : List ℕ) → is_before text row ≡ false → starts_with nat_eq text row ≡ false → length (common row text) < length text
-unfolding common
+pub common_shorter : (row text : List ℕ) → is_before text row ≡ false → starts_with nat_eq text row ≡ false → length (common_beginning row text) < length text
+unfolding common_beginning
 common_shorter [] text b h = cc
 common_shorter (y ∷ ys) [] b h = cc
 common_shorter (y ∷ ys) (x ∷ xs) b h = elim (cases_Bool (nat_eq y x)) [

@@ -11,7 +11,7 @@ pub maybe : {A B : Type 0} (Q : A → Type 0) (P : B → Type 0) (o : Option A) 
 maybe Q P (Some x) f y h p q = p x h
 maybe Q P None f y h p q = q
 
--- the same, where nothing need be known of the value
+-- what holds of both cases of an option's choice holds of it, where nothing need be known of the value
 pub maybe_any : {A B : Type 0} (P : B → Type 0) (o : Option A) (f : A → B) (y : B) → ((x : A) → P (f x)) → P y → P (elim o as (λ _. B) [ Some x ↦ f x | None ↦ y ])
 maybe_any P (Some x) f y p q = p x
 maybe_any P None f y p q = q

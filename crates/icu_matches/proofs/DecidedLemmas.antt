@@ -7,7 +7,7 @@ use Rattle.std.proofs.lemmas.Option.{slice_get_within, slice_get_cases}
 use Rattle.icu_data.specs.Contexts.{is_before, ascend_from}
 use Rattle.icu_data.specs.Data.{Row}
 use Rattle.icu_matches.specs.MatchesAhead.{is_decided, are_decided}
-use Rattle.icu_matches.specs.inner.Rows.{IsSplit}
+use Rattle.icu_matches.specs.inner.Rows.{SplitsRows}
 use Rattle.icu_matches.proofs.CharacterOrderLemmas.{before_trans, not_before_back, not_before_itself, same_head, not_before_head}
 use Rattle.icu_matches.proofs.RowLemmas.{same_row, ascending_at}
 
@@ -30,7 +30,7 @@ goes_on-after (y ∷ ys) (c ∷ cs) h =
     let parts = heads y c ys cs h in
     subst (λ z. is_before (c ∷ cs) (z ∷ ys) ≡ true) (sym parts.0) (same_head c cs ys ∙ goes_on-after ys cs parts.1)
 
--- one that comes after a text that begins it goes on
+-- a row that comes after a text that begins it goes on
 begun-goes_on : (row text : List ℕ) → starts_with nat_eq row text ≡ true → is_before text row ≡ true → is_decided row text ≡ false
 unfolding is_decided
 begun-goes_on [] [] h k = cc
@@ -82,7 +82,7 @@ otherwise : (b : Bool) → (b ≡ false → true ≡ false) → b ≡ true
 otherwise true f = refl
 otherwise false f = sym (f refl)
 
-module _ (rows : List Row) (text : List ℕ) (ascend : ascend_from [] rows ≡ true) (count : ℕ) (split : IsSplit rows text count) where
+module _ (rows : List Row) (text : List ℕ) (ascend : ascend_from [] rows ≡ true) (count : ℕ) (split : SplitsRows rows text count) where
   -- a row that doesn't come after the text is decided
   decided_up_to : (k : ℕ) (r : Row) → slice_get rows k ≡ Some r → k < count → is_decided r.chars text ≡ true
   decided_up_to k r is less =
@@ -108,7 +108,7 @@ module _ (rows : List Row) (text : List ℕ) (ascend : ascend_from [] rows ≡ t
       all_decided rows text (λ k r is. decided_up_to k r is (omega (arith, all, slice_get_within rows k r is)))
 
   module _ (next : Row) (at : slice_get rows count ≡ Some next) where
-    -- one goes on where the first row after the text begins with it
+    -- a row goes on where the first row after the text begins with it
     pub next_goes_on : starts_with nat_eq next.chars text ≡ true → are_decided rows text ≡ false
     next_goes_on begins =
         one_undecided rows text count next at (begun-goes_on next.chars text begins (split.above count next (omega arith) at))
@@ -123,7 +123,7 @@ module _ (rows : List Row) (text : List ℕ) (ascend : ascend_from [] rows ≡ t
           not_before_back next.chars r.chars (ascending_at [] rows count k next r ascend above at is)
     ]
 
-    -- and else none does
+    -- no row goes on where the first row after the text doesn't begin with it
     pub next_decides : starts_with nat_eq next.chars text ≡ false → are_decided rows text ≡ true
     next_decides differs =
         all_decided rows text (λ k r is.

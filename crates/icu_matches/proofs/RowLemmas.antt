@@ -6,8 +6,8 @@ use Rattle.std.proofs.lemmas.Bool.{and_parts, and_from, cases_Bool, cases_eq, ca
 use Rattle.icu_data.proofs.CollectedWeightLemmas.{same_bool}
 use Rattle.icu_data.specs.Contexts.{is_before, ascend_from}
 use Rattle.icu_data.specs.Data.{Row, row_entry, is_longer, better, longest_from}
-use Rattle.icu_matches.specs.inner.Beginnings.{common}
-use Rattle.icu_matches.specs.inner.Rows.{IsUpTo, ComeAfter, IsSplit}
+use Rattle.icu_matches.specs.inner.Beginnings.{common_beginning}
+use Rattle.icu_matches.specs.inner.Rows.{IsUpTo, ComeAfter, SplitsRows}
 use Rattle.icu_matches.proofs.CharacterOrderLemmas.{before_trans, not_before_back, not_before_itself, before_differs, same_lists, beginning_not_after, shorter_before, begins_common, begins_whole}
 
 -- ---- a row by its index
@@ -106,10 +106,10 @@ same_longest best (x ∷ xs) text cut h =
     rw (h zero x refl) (same_longest (better best x cut) xs text cut (λ k r is. h (suc k) r is))
 
 -- where all rows come after the text, none begins it
-pub longest_none : (rows : List Row) (text : List ℕ) → IsSplit rows text 0 → longest_from None rows text ≡ None
+pub longest_none : (rows : List Row) (text : List ℕ) → SplitsRows rows text 0 → longest_from None rows text ≡ None
 longest_none rows text split = none_better None rows text (λ k r is. begins_not text r.chars (split.above k r (omega arith) is))
 
-module _ (rows : List Row) (text : List ℕ) (ascend : ascend_from [] rows ≡ true) (count : ℕ) (split : IsSplit rows text count) (i : ℕ) (next : i + 1 ≡ count) (row : Row) (at : slice_get rows i ≡ Some row) where
+module _ (rows : List Row) (text : List ℕ) (ascend : ascend_from [] rows ≡ true) (count : ℕ) (split : SplitsRows rows text count) (i : ℕ) (next : i + 1 ≡ count) (row : Row) (at : slice_get rows i ≡ Some row) where
   -- the last row that doesn't come after the text is the longest one, where it begins the text
   pub longest_found : starts_with nat_eq text row.chars ≡ true → longest_from None rows text ≡ Some row
   longest_found b =
@@ -127,15 +127,15 @@ module _ (rows : List Row) (text : List ℕ) (ascend : ascend_from [] rows ≡ t
         not_before_back r.chars row.chars (ascending_at [] rows k i r row ascend below is at)
   ]
 
-  begins_cut : (k : ℕ) (r : Row) → slice_get rows k ≡ Some r → starts_with nat_eq text r.chars ≡ true → starts_with nat_eq (common row.chars text) r.chars ≡ true
+  begins_cut : (k : ℕ) (r : Row) → slice_get rows k ≡ Some r → starts_with nat_eq text r.chars ≡ true → starts_with nat_eq (common_beginning row.chars text) r.chars ≡ true
   begins_cut k r is b = elim (cases_lt k count) [
     | inl less ↦ begins_common row.chars text r.chars b (not_after_row k r is less) (split.last i row next at)
     | inr more ↦ absurd (false≢true (sym (begins_not text r.chars (split.above k r more is)) ∙ b))
   ]
 
-  -- else the longest one begins what that row and the text have in common
-  pub longest_cut : longest_from None rows text ≡ longest_from None rows (common row.chars text)
-  longest_cut = same_longest None rows text (common row.chars text)
+  -- where the last row doesn't begin the text, the longest that does begins what that row and the text have in common
+  pub longest_cut : longest_from None rows text ≡ longest_from None rows (common_beginning row.chars text)
+  longest_cut = same_longest None rows text (common_beginning row.chars text)
       (λ k r is. same_bool _ _ (begins_cut k r is) (begins_whole row.chars text r.chars))
 
 -- ---- the row with given characters
@@ -163,13 +163,13 @@ differs_since xs ys f = elim (cases_Bool (bytes_eq xs ys)) [
   | inr e ↦ e
 ]
 
-pub entry_none : (rows : List Row) (wanted : List ℕ) → IsSplit rows wanted 0 → row_entry rows wanted ≡ None
+pub entry_none : (rows : List Row) (wanted : List ℕ) → SplitsRows rows wanted 0 → row_entry rows wanted ≡ None
 entry_none rows wanted split = row_entry_none rows wanted (λ k r is. differs_after k r is)
   where
     differs_after : (k : ℕ) (r : Row) → slice_get rows k ≡ Some r → bytes_eq r.chars wanted ≡ false
     differs_after k r is = differs_since r.chars wanted (λ e. false≢true (sym (not_before_itself wanted) ∙ subst (λ (l : List ℕ). is_before wanted l ≡ true) e (split.above k r (omega arith) is)))
 
-module _ (rows : List Row) (wanted : List ℕ) (ascend : ascend_from [] rows ≡ true) (count : ℕ) (split : IsSplit rows wanted count) (i : ℕ) (next : i + 1 ≡ count) (row : Row) (at : slice_get rows i ≡ Some row) where
+module _ (rows : List Row) (wanted : List ℕ) (ascend : ascend_from [] rows ≡ true) (count : ℕ) (split : SplitsRows rows wanted count) (i : ℕ) (next : i + 1 ≡ count) (row : Row) (at : slice_get rows i ≡ Some row) where
   -- the last row that doesn't come after the characters has them
   pub entry_found : bytes_eq row.chars wanted ≡ true → row_entry rows wanted ≡ Some row.entry
   entry_found b =
@@ -185,6 +185,6 @@ module _ (rows : List Row) (wanted : List ℕ) (ascend : ascend_from [] rows ≡
     | inr (inr more) ↦ differs_since r.chars wanted (λ e. false≢true (sym (not_before_itself wanted) ∙ subst (λ (l : List ℕ). is_before wanted l ≡ true) e (split.above k r (omega (arith, more, next)) is)))
   ]
 
-  -- or none does
+  -- no row has the characters that are wanted where the last one up to them doesn't
   pub entry_none_there : bytes_eq row.chars wanted ≡ false → row_entry rows wanted ≡ None
   entry_none_there n = row_entry_none rows wanted (differs_otherwise n)

@@ -15,18 +15,20 @@ pub record Match : Type 0 where
   pub rest : List ℕ
 
 -- a prefix entry becomes that of the longest row that begins the context, nearest character first, or the default
+-- (UTS #35 part 5, "Context-Sensitive Mappings")
 unfoldable pub after_prefix : HomedEntry → List ℕ → ℕ
 after_prefix h before =
     let context = context_of h in
     let chosen : ℕ = elim (longest_row context.rows before) [ Some row ↦ row.entry | None ↦ context.default ] in
     elim (kind_of h.entry) [ Prefix ↦ chosen | _ ↦ h.entry ]
 
--- a mark is blocked by one that was passed over and whose combining class isn't below its own
+-- a mark is blocked by one that was passed over and whose combining class isn't below its own (UTS #10, "Produce
+-- Collation Element Arrays")
 unfoldable pub is_blocked : List ℕ → ℕ → Bool
 is_blocked passed m = list_any (λ p. nat_le (class_of m) (class_of p)) passed
 
 -- Each mark up to the next starter in turn joins the suffix, where it isn't blocked and the suffix with it is a row;
--- else it is passed over.
+-- else it is passed over (UTS #10, "Produce Collation Element Arrays").
 unfoldable pub with_marks : List Row → ℕ → List ℕ → List ℕ → List ℕ → Match
 with_marks rows entry suffix passed [] = record { entry = entry; suffix = suffix; rest = passed }
 with_marks rows entry suffix passed (m ∷ ms) =

@@ -22,7 +22,7 @@ is_decided [] text = true
 is_decided (y ∷ ys) [] = false
 is_decided (y ∷ ys) (c ∷ cs) = not (nat_eq y c) || is_decided ys cs
 
--- nor with which row
+-- what follows the text doesn't decide which of these rows it begins with
 abbrev pub are_decided : List Row → List ℕ → Bool
 are_decided rows text = list_all (λ row. is_decided row.chars text) rows
 

@@ -1,13 +1,14 @@
 //! Prefixes and contractions.
 
-ghost use Rattle.std.specs.Prelude.{◌≡◌, ◌<◌, IsTrue, IfOk, length};
+ghost use Rattle.std.specs.Prelude.{◌≡◌, IsTrue, IfOk};
 ghost use Rattle.icu_data.specs.Contexts.{has_ascending_rows};
 ghost use Rattle.icu_data.specs.Data.{homed};
 ghost use Rattle.icu_data.specs.StoredData.{data_of, found_context};
-ghost use Rattle.icu_entries.specs.Entries.{kind_of, entry_index};
+ghost use Rattle.icu_entries.specs.Entries.{kind_of};
+ghost use Rattle.icu_matches.specs.GoodEntries.{HasContext};
 ghost use Rattle.icu_matches.specs.Matches.{after_prefix, contracted};
-ghost use Rattle.icu_matches.specs.Texts.{unread};
-ghost use Rattle.icu_matches.specs.inner.Joining.{match_left, match_on};
+ghost use Rattle.icu_matches.specs.Texts.{unread, match_left};
+ghost use Rattle.icu_matches.specs.inner.Joining.{match_on};
 
 use crate::marks::join_marks;
 use crate::matched::Matched;
@@ -25,7 +26,7 @@ pub fn after_prefix(
     ce32: CollationElement32,
     before: &[char],
 ) -> CollationElement32
-    requires { kind_of ce32 ≡ EntryKind.Prefix → entry_index ce32 < length (data_of home).contexts }
+    requires { kind_of ce32 ≡ EntryKind.Prefix → HasContext (data_of home) ce32 }
     ensures { result ≡ after_prefix (homed (data_of home.entry) ce32) before.now }
 {
     match ce32.kind() {
@@ -48,7 +49,8 @@ fn begin_match(
     text: &mut Text,
 ) -> Result<Matched, AllocError>
     requires { IsTrue (has_ascending_rows (found_context context)) }
-    ensures { IfOk result (λ m. match_on (found_context context.entry).rows m 0 (unread text.new) ≡ contracted (found_context context.entry) (unread text.old)) }
+    ensures { IfOk result (λ m. match_on (found_context context.entry).rows m 0 (unread text.new)
+        ≡ contracted (found_context context.entry) (unread text.old)) }
 {
     match find_longest(context, text.as_slice()) {
         Some(index) => {
@@ -74,7 +76,8 @@ pub(crate) fn contract(
     text: &mut Text,
 ) -> Result<Matched, AllocError>
     requires { IsTrue (has_ascending_rows (found_context context)) }
-    ensures { IfOk result (λ m. match_left m text.new ≡ contracted (found_context context.entry) (unread text.old)) }
+    ensures { IfOk result (λ m.
+        match_left m text.new ≡ contracted (found_context context.entry) (unread text.old)) }
 {
     let mut matched = begin_match(alloc, context, text)?;
     join_marks(context, text, &mut matched)?;

@@ -3,8 +3,8 @@
 ghost use Rattle.std.specs.Prelude.{◌≡◌, IsTrue, IfOk, OnOk};
 ghost use Rattle.icu_data.specs.Contexts.{has_ascending_rows};
 ghost use Rattle.icu_data.specs.StoredData.{found_context};
-ghost use Rattle.icu_matches.specs.Texts.{unread};
-ghost use Rattle.icu_matches.specs.inner.Joining.{match_left, match_on, Joins};
+ghost use Rattle.icu_matches.specs.Texts.{unread, match_left};
+ghost use Rattle.icu_matches.specs.inner.Joining.{match_on, Joins};
 
 use crate::matched::Matched;
 use crate::rows::find_row;
@@ -44,7 +44,8 @@ pub(crate) fn join_marks(
     matched: &mut Matched,
 ) -> Result<(), AllocError>
     requires { IsTrue (has_ascending_rows (found_context context)) }
-    ensures { OnOk result (match_left matched.new text.new ≡ match_on (found_context context.entry).rows matched.old 0 (unread text.old)) }
+    ensures { OnOk result (match_left matched.new text.new
+        ≡ match_on (found_context context.entry).rows matched.old 0 (unread text.old)) }
 {
     let mut passed = 0;
     let mut greatest = 0;

@@ -1,13 +1,12 @@
 //! The match of an entry.
 
-ghost use Rattle.std.specs.Prelude.{◌≡◌, ◌<◌, IfOk, length};
+ghost use Rattle.std.specs.Prelude.{◌≡◌, IfOk};
 ghost use Rattle.icu_data.specs.Data.{homed};
 ghost use Rattle.icu_data.specs.StoredData.{data_of};
-ghost use Rattle.icu_matches.specs.GoodEntries.{IsGoodFrom, IsGoodMatch};
-ghost use Rattle.icu_entries.specs.Entries.{kind_of, entry_index};
+ghost use Rattle.icu_matches.specs.GoodEntries.{HasContext, IsGoodFrom, IsGoodMatch};
+ghost use Rattle.icu_entries.specs.Entries.{kind_of};
 ghost use Rattle.icu_matches.specs.Matches.{match_from, match_of};
-ghost use Rattle.icu_matches.specs.Texts.{unread};
-ghost use Rattle.icu_matches.specs.inner.Joining.{match_left};
+ghost use Rattle.icu_matches.specs.Texts.{unread, match_left};
 
 use crate::contexts::{after_prefix, contract};
 use crate::text::Text;
@@ -32,8 +31,9 @@ fn found(
     ce32: CollationElement32,
     text: &mut Text,
 ) -> Result<Matched, AllocError>
-    requires { kind_of ce32 ≡ EntryKind.Contraction → entry_index ce32 < length (data_of home).contexts }
-    ensures { IfOk result (λ m. match_left m text.new ≡ match_from (data_of home.entry) ce32 (unread text.old)) }
+    requires { kind_of ce32 ≡ EntryKind.Contraction → HasContext (data_of home) ce32 }
+    ensures { IfOk result (λ m.
+        match_left m text.new ≡ match_from (data_of home.entry) ce32 (unread text.old)) }
 {
     match ce32.kind() {
         EntryKind::Contraction => contract(alloc, home.get_context(ce32.index()), text),
@@ -45,11 +45,12 @@ fn found(
 }
 
 /// The match of a character's entry, after the characters that were consumed, nearest first, and before a decomposed
-/// text, from which the characters that the match consumes are taken out. A prefix entry becomes the entry of its
-/// longest row that begins what was consumed, or its default. A contraction then takes its longest row that begins the
-/// text, or none, and after it each mark up to the next starter that isn't blocked and makes a row of what was taken
-/// (UTS #10, "Produce Collation Element Arrays"; UTS #35 part 5, "Context-Sensitive Mappings"). Hint bits of the entry
-/// decide nothing. If an allocation fails, nothing is said of the text.
+/// text, from which the characters that the match consumes are taken out.
+///
+/// A prefix comes first (UTS #35 part 5, "Context-Sensitive Mappings"): its entry becomes that of its longest row that
+/// begins what was consumed, or its default. Then a contraction takes its longest row that begins the text, or none.
+/// Then each mark up to the next starter joins, if it isn't blocked and makes a row of what was taken (UTS #10,
+/// "Produce Collation Element Arrays"). Hint bits of the entry decide nothing. If an allocation fails, nothing is said of the text.
 pub fn find_match(
     alloc: Global,
     home: CollationData<'_>,
@@ -59,7 +60,8 @@ pub fn find_match(
     text: &mut Text,
 ) -> Result<Matched, AllocError>
     requires { IsGoodFrom (data_of home) c ce32 }
-    ensures value { IfOk result (λ m. record { entry = m.ce32; suffix = m.suffix.items; rest = unread text.new } ≡ match_of (homed (data_of home.entry) ce32) before.now (unread text.old)) }
+    ensures value { IfOk result (λ m. match_left m text.new
+        ≡ match_of (homed (data_of home.entry) ce32) before.now (unread text.old)) }
     ensures good { IfOk result (λ m. IsGoodMatch (data_of home.entry) c m.ce32) }
 {
     found(alloc, home, after_prefix(home, ce32, before), text)

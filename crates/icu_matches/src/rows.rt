@@ -6,8 +6,8 @@ ghost use Rattle.icu_data.specs.Contexts.{has_ascending_rows, is_before};
 ghost use Rattle.icu_data.specs.Data.{row_entry, longest_row};
 ghost use Rattle.icu_data.specs.StoredData.{found_context};
 ghost use Rattle.icu_matches.specs.MatchesAhead.{are_decided};
-ghost use Rattle.icu_matches.specs.inner.Beginnings.{common};
-ghost use Rattle.icu_matches.specs.inner.Rows.{IsSplit, row_at};
+ghost use Rattle.icu_matches.specs.inner.Beginnings.{common_beginning};
+ghost use Rattle.icu_matches.specs.inner.Rows.{SplitsRows, row_at};
 
 use icu_data::FoundContext;
 use icu_entries::CollationElement32;
@@ -21,7 +21,7 @@ fn comes_after(row: &[char], text: &[char]) -> bool
 /// How many rows don't come after the text.
 fn rows_up_to(context: FoundContext<'_>, text: &[char]) -> usize
     requires { IsTrue (has_ascending_rows (found_context context)) }
-    ensures { IsSplit (found_context context.entry).rows text.now result }
+    ensures { SplitsRows (found_context context.entry).rows text.now result }
 {
     let mut low = 0;
     let mut high = context.len();
@@ -56,7 +56,7 @@ pub(crate) fn find_row(context: FoundContext<'_>, wanted: &[char]) -> Option<Col
 /// How many characters a row and a text have in common at their beginnings.
 fn common_len(row: &[char], text: &[char]) -> usize
     ensures inside { result ≤ length text.now }
-    ensures common { take result text.now ≡ common row.now text.now }
+    ensures common { take result text.now ≡ common_beginning row.now text.now }
 {
     let end = row.len().min(text.len());
     for index in 0..end {
@@ -67,11 +67,12 @@ fn common_len(row: &[char], text: &[char]) -> usize
     end
 }
 
-/// The index of the longest row that begins the text. Where the last row that doesn't come after the text doesn't begin
-/// it, each row that does begins that row too, so it begins what the two have in common.
+/// The index of the longest row that begins the text. Say the last row that does not come after the text does not begin
+/// it. Then each row that begins the text begins that row too, so it begins the common prefix of the two.
 pub fn find_longest(context: FoundContext<'_>, text: &[char]) -> Option<usize>
     requires { IsTrue (has_ascending_rows (found_context context)) }
-    ensures value { longest_row (found_context context.entry).rows text.now ≡ row_at (found_context context.entry).rows result }
+    ensures value { longest_row (found_context context.entry).rows text.now
+        ≡ row_at (found_context context.entry).rows result }
     ensures inside { IfSome result (λ i. i < length (found_context context.entry).rows) }
 {
     let mut cut = text;

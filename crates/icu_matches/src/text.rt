@@ -88,7 +88,8 @@ impl Text {
     pub fn remove(&mut self, index: usize) -> char
         requires { index < length (unread self.old) }
         ensures value { slice_get (unread self.old) index ≡ Some result }
-        ensures rest { unread self.new ≡ take index (unread self.old) ++ drop (index + 1) (unread self.old) }
+        ensures rest { unread self.new
+            ≡ take index (unread self.old) ++ drop (index + 1) (unread self.old) }
     {
         let at = self.next + index;
         let c = self.chars[at];
@@ -97,12 +98,13 @@ impl Text {
         c
     }
 
-    /// One more character comes after those that are still to be read. Room of those that were read is used again once
-    /// they are as many as the others, so that the text takes up to twice the room of what is still to be read. If an
-    /// allocation fails, what is still to be read is as it was.
+    /// One more character comes after those that are still to be read. The room of characters that were read is used
+    /// again once they are as many as those to come. So a text takes at most twice the room of what is still to be read.
+    /// If an allocation fails, what is still to be read is as it was.
     #[tactic(auto, unfolding(crate::specs::Texts::unread))]
     pub fn push(&mut self, c: char) -> Result<(), AllocError>
-        ensures { unread self.new ≡ (if is_ok result then unread self.old ++ c ∷ [] else unread self.old) }
+        ensures { unread self.new
+            ≡ (if is_ok result then unread self.old ++ c ∷ [] else unread self.old) }
     {
         if self.next >= self.chars.len() - self.next {
             self.drop_read();

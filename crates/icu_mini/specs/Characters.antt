@@ -1,12 +1,17 @@
 -- Characters with their entries, and those of Mini.
 use Rattle.std.specs.Prelude.{ℕ, ◌+◌, ◌*◌, List, [], ◌∷◌, ◌++◌, map}
 use Rattle.std.specs.List.{range_with_len}
+use Rattle.icu_data.specs.Data.{Data}
 use Rattle.icu_owned_data.specs.Building.{with_entries}
 
 -- the characters of the list have the entries that it gives them, the last one of several, and others what they had
 unfoldable pub with_characters : List (ℕ × ℕ) → (ℕ → ℕ) → ℕ → ℕ
 with_characters [] value = value
 with_characters (x ∷ xs) value = with_characters xs (with_entries x.0 x.0 x.1 value)
+
+-- a root or a tailoring where they have them
+abbrev pub with_characters_in : Data → List (ℕ × ℕ) → Data
+with_characters_in d characters = record d { value = with_characters characters d.value }
 
 -- so many characters from one on, the first with this entry, and each next one with so much more
 abbrev pub rising : ℕ → ℕ → ℕ → ℕ → List (ℕ × ℕ)

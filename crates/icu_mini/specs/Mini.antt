@@ -1,12 +1,17 @@
 -- The test table Mini. It is made for tests: space, '-' and '.', digits and the letters a to z have weights of their
 -- own, and every other character has an implicit weight.
-use Rattle.std.specs.Prelude.{◌≡◌, ℕ, List, [], ◌∷◌, ◌++◌, Option, Some, None, map}
+use Rattle.std.specs.Prelude.{◌≡◌, ℕ, List, [], ◌∷◌, ◌++◌, Option, Some, None}
 use Rattle.std.specs.Option.{option_map}
 use Rattle.icu_owned_data.specs.Building.{SaysOfCharacters}
 use Rattle.icu_data.specs.Data.{Context, Data}
 use Rattle.icu_owned_data.specs.OwnedData.{vectors_data}
 use Rattle.icu_owned_data.specs.declared.data_vectors.DataVectors.{DataVectors}
-use Rattle.icu_entries.specs.Elements.{element_of}
+use Rattle.icu_entries.specs.Elements.{Element}
+use Rattle.icu_entries.specs.Entries.{fallback_entry}
+use Rattle.icu_entries.specs.EncodedEntries.{implicit_entry, common_entry}
+use Rattle.icu_options.specs.declared.settings.MaxVariable.TheVariants as groups
+use Rattle.icu_provider.specs.MetadataFields.{metadata_bits, plain_fields}
+use Rattle.icu_provider.specs.declared.metadata.MetadataFields.{MetadataFields}
 use Rattle.icu_provider.specs.Reorderings.{Reordering}
 use Rattle.icu_provider.specs.SpecialPrimaries.{SpecialPrimaries}
 use Rattle.icu_provider.specs.Tables.{Tables}
@@ -49,29 +54,21 @@ pub record Holds (contents : Contents) (m : Mini) : Type 0 where
   pub metadata : m.metadata.bits ≡ contents.metadata
   pub reordering : option_map reordering_held m.reordering ≡ contents.reordering
 
--- the entry of a character that has none of its own: its implicit weight
-abbrev pub implicit_entry : ℕ
-implicit_entry = 0xCF
-
--- the entry of a character that a tailoring leaves to the root
-abbrev pub fallback_entry : ℕ
-fallback_entry = 0xC0
-
 -- Mini's root, where these characters too have entries of their own, with these elements, and with these entries after
 -- those of the digits
-abbrev pub mini_root : List (ℕ × ℕ) → List ℕ → List ℕ → Data
+abbrev pub mini_root : List (ℕ × ℕ) → List Element → List ℕ → Data
 mini_root characters elements entries = record {
   value = with_characters characters (with_characters mini_characters (λ c. implicit_entry));
-  elements = map element_of elements;
-  entries = run 0x14100505 0x40000 10 ++ entries;
+  elements = elements;
+  entries = run (common_entry 0x1410) 0x40000 10 ++ entries;
   contexts = [];
 }
 
 -- a tailoring of these characters, with these elements and contexts
-abbrev pub mini_tailoring : List (ℕ × ℕ) → List ℕ → List Context → Data
+abbrev pub mini_tailoring : List (ℕ × ℕ) → List Element → List Context → Data
 mini_tailoring characters elements contexts = record {
   value = with_characters characters (λ c. fallback_entry);
-  elements = map element_of elements;
+  elements = elements;
   entries = [];
   contexts = contexts;
 }
@@ -80,15 +77,19 @@ mini_tailoring characters elements contexts = record {
 abbrev pub special_with : ℕ → ℕ → SpecialPrimaries
 special_with currency numeric = record { last = 0x0400 ∷ 0x0600 ∷ 0x0900 ∷ currency ∷ []; numeric = numeric }
 
+-- what the metadata says: the last variable group is punctuation
+abbrev pub mini_fields : MetadataFields
+mini_fields = plain_fields groups.Punctuation
+
 -- Mini with this root
 abbrev pub mini_with : Data → Contents
 mini_with root = record {
   root = root;
   tailoring = None;
-  jamo = run 0x65100505 0x10000 128 ++ run 0x66100505 0x10000 128;
+  jamo = run (common_entry 0x6510) 0x10000 128 ++ run (common_entry 0x6610) 0x10000 128;
   diacritics = run 0x4600 0x100 79;
   special = special_with 0x0E00 0x0F;
-  metadata = 0x01;
+  metadata = metadata_bits mini_fields;
   reordering = None;
 }
 
@@ -96,5 +97,6 @@ mini_with root = record {
 abbrev pub mini : Contents
 mini = mini_with (mini_root [] [] [])
 
+-- these are the tables of Mini
 abbrev pub IsMini : Mini → Type 0
 IsMini = Holds mini

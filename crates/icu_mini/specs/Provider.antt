@@ -7,27 +7,14 @@ use Rattle.icu_entries.specs.declared.error.DataTable.{DataTable}
 use Rattle.icu_entries.specs.declared.error.DataTable.TheVariants as tables
 use Rattle.icu_provider.specs.Diacritics.{IsDiacritics, FailsDiacritics}
 use Rattle.icu_provider.specs.Jamo.{IsJamo, FailsJamo}
-use Rattle.icu_provider.specs.Loads.{Loads, answer}
 use Rattle.icu_provider.specs.SpecialPrimaries.{IsSpecialPrimaries, FailsSpecial}
 use Rattle.icu_provider.specs.StoredTables.{diacritics_of, jamo_of, reordering_of, special_of}
 use Rattle.icu_data.specs.StoredData.{data_of}
 use Rattle.icu_mini.specs.declared.mini.Mini.{Mini}
-use Rattle.icu_mini.specs.declared.provider.MiniProvider.{MiniProvider}
+use Rattle.icu_provider.specs.declared.fixed_provider.FixedLoads.{FixedLoads}
 use Rattle.icu_mini.specs.Mini.{special_held}
 use Rattle.icu_mini.specs.ReorderingData.{reordering_held, HasAllLeads}
 use Rattle.icu_owned_data.specs.OwnedData.{vectors_data, MayBeData, FailsVectors}
-
--- the locale and the type don't matter
-abbrev pub loads_of : MiniProvider → Loads
-loads_of p = record {
-  root = answer data_of p.root;
-  jamo = answer jamo_of p.jamo;
-  special = answer special_of p.special;
-  metadata = λ r. answer (λ m. m.bits) p.metadata;
-  tailoring = λ r. answer data_of p.tailoring;
-  reordering = λ r. answer reordering_of p.reordering;
-  diacritics = λ r. answer diacritics_of p.diacritics;
-}
 
 -- the refusal names the table, and a kind of which this holds
 abbrev pub Names : DataTable → (DataErrorKind → Type 0) → DataError → Type 0
@@ -40,13 +27,13 @@ pub record IsLoaded {T A : Type 0} (says : T → A) (held : A) (Accepted : Type 
   pub holds : IfOk r (λ t. says t ≡ held)
   pub refuses : IfErr r Refused
 
--- the same of a table that there may be: where there is none, it is absent
+-- a table that there may be is returned so where there is one; where there is none, it is absent
 abbrev pub IsLoadedIfAny : {T D A : Type 0} → (T → A) → (D → A) → DataTable → (D → Type 0) → (D → DataErrorKind → Type 0) → Option D → Result T DataError → Type 0
 IsLoadedIfAny says held table Accepted Fails None r = IfErr r (Names table (λ k. k ≡ kinds.Absent)) × (IsOk r → ⊥)
 IsLoadedIfAny says held table Accepted Fails (Some d) r = IsLoaded says (held d) (Accepted d) (Names table (Fails d)) r
 
 -- what a provider of Mini's tables returns
-pub record LoadsMini (m : Mini) (p : MiniProvider) : Type 0 where
+pub record LoadsMini (m : Mini) (p : FixedLoads) : Type 0 where
   pub root : IsLoaded data_of (vectors_data m.root) (MayBeData m.root) (Names tables.Root (FailsVectors m.root)) p.root
   pub jamo : IsLoaded jamo_of m.jamo.items (IsJamo m.jamo.items) (Names tables.Jamo (FailsJamo m.jamo.items)) p.jamo
   pub special : IsLoaded special_of (special_held m) (IsSpecialPrimaries m.last_primaries.items m.numeric_primary)

@@ -3,6 +3,7 @@ use Rattle.std.specs.Prelude.{◌≡◌, length}
 use Rattle.icu_provider.specs.Reorderings.{Reordering}
 use Rattle.icu_mini.specs.declared.reordering_data.ReorderingData.{ReorderingData}
 
+-- the reordering that the vectors say
 abbrev pub reordering_held : ReorderingData → Reordering
 reordering_held r = record { limit = r.min_high_no_reorder; leads = r.reorder_table.items; ranges = r.reorder_ranges.items }
 

@@ -3,34 +3,36 @@ ghost use Rattle.std.specs.Prelude.{◌≡◌, ◌++◌, ◌+◌, ◌*◌, ◌^�
 ghost use Rattle.icu_owned_data.specs.AddedContexts.{given_context};
 ghost use Rattle.icu_owned_data.specs.Building.{SaysOfCharacters};
 ghost use Rattle.icu_owned_data.specs.OwnedData.{vectors_data};
+ghost use Rattle.icu_entries.specs.EncodedEntries.{common_entry};
 ghost use Rattle.icu_mini.specs.Characters.{run};
 ghost use Rattle.icu_mini.specs.Mini.{mini_root, mini_tailoring};
 
-use crate::mini_characters::{mini_characters, set_characters};
+use crate::mini_characters::{plain_digits, set_characters, set_mini_characters};
+use icu_entries::{CollationElement, CollationElement32};
 use icu_owned_data::{DataBuilder, DataVectors};
+use icu_provider::diacritics::OPTIMIZED_DIACRITICS_MAX_COUNT;
 use std::alloc::{AllocError, Global};
 
-/// The entry of a character whose weight follows from its number.
-const IMPLICIT_CE32: u32 = 0xCF;
-
-/// The entry of a tailoring for a character that it leaves to the root.
-const FALLBACK_CE32: u32 = 0xC0;
+/// How much a simple entry rises where its primary weight does by one in the second byte.
+const PRIMARY_STEP: u32 = 1 << 16;
 
 /// Mini's root, where these characters too have entries of their own, with these elements, and with these entries after
 /// those of the digits.
 pub(crate) fn root(
     alloc: Global,
-    characters: &[(char, u32)],
-    elements: &[u64],
-    entries: &[u32],
+    characters: &[(char, CollationElement32)],
+    elements: &[CollationElement],
+    entries: &[CollationElement32],
 ) -> Result<DataVectors, AllocError>
-    ensures { IfOk result (λ v. SaysOfCharacters (mini_root characters.now elements.now entries.now) (vectors_data v)) }
+    ensures { IfOk result (λ v. SaysOfCharacters
+        (mini_root characters.now elements.now entries.now)
+        (vectors_data v)) }
 {
-    let mut builder = DataBuilder::new(alloc, IMPLICIT_CE32)?;
-    set_characters(&mut builder, mini_characters());
+    let mut builder = DataBuilder::new(alloc, CollationElement32::implicit())?;
+    set_mini_characters(&mut builder);
     set_characters(&mut builder, characters);
     builder.add_elements(elements)?;
-    builder.add_entries(run(alloc, 0x1410_0505, 0x4_0000, 10)?.as_slice())?;
+    builder.add_entries(&plain_digits())?;
     builder.add_entries(entries)?;
     builder.build()
 }
@@ -38,12 +40,14 @@ pub(crate) fn root(
 /// A tailoring of these characters, with these elements, without contexts.
 pub(crate) fn tailoring(
     alloc: Global,
-    characters: &[(char, u32)],
-    elements: &[u64],
+    characters: &[(char, CollationElement32)],
+    elements: &[CollationElement],
 ) -> Result<DataVectors, AllocError>
-    ensures { IfOk result (λ v. SaysOfCharacters (mini_tailoring characters.now elements.now []) (vectors_data v)) }
+    ensures { IfOk result (λ v. SaysOfCharacters
+        (mini_tailoring characters.now elements.now [])
+        (vectors_data v)) }
 {
-    let mut builder = DataBuilder::new(alloc, FALLBACK_CE32)?;
+    let mut builder = DataBuilder::new(alloc, CollationElement32::fallback())?;
     set_characters(&mut builder, characters);
     builder.add_elements(elements)?;
     builder.build()
@@ -53,13 +57,15 @@ pub(crate) fn tailoring(
 pub(crate) fn in_context(
     alloc: Global,
     c: char,
-    entry: u32,
-    default: u32,
-    rows: &[(&[char], u32)],
+    entry: CollationElement32,
+    default: CollationElement32,
+    rows: &[(&[char], CollationElement32)],
 ) -> Result<DataVectors, AllocError>
-    ensures { IfOk result (λ v. SaysOfCharacters (mini_tailoring ((c, entry) ∷ []) [] (given_context default rows.now ∷ [])) (vectors_data v)) }
+    ensures { IfOk result (λ v. SaysOfCharacters
+        (mini_tailoring ((c, entry) ∷ []) [] (given_context default rows.now ∷ []))
+        (vectors_data v)) }
 {
-    let mut builder = DataBuilder::new(alloc, FALLBACK_CE32)?;
+    let mut builder = DataBuilder::new(alloc, CollationElement32::fallback())?;
     set_characters(&mut builder, &[(c, entry)]);
     builder.add_context(default, rows)?;
     builder.build()
@@ -80,10 +86,13 @@ pub(crate) fn run(alloc: Global, first: u32, step: u32, count: u32) -> Result<Ve
 
 /// The entries of the jamo: the lead byte is 65 for the first half, 66 for the second.
 pub(crate) fn jamo(alloc: Global) -> Result<Vec<u32>, AllocError>
-    ensures { IfOk result (λ v. v.items ≡ run 0x65100505 0x10000 128 ++ run 0x66100505 0x10000 128) }
+    ensures { IfOk result (λ v. v.items
+        ≡ run (common_entry 0x6510) 0x10000 128 ++ run (common_entry 0x6610) 0x10000 128) }
 {
-    let mut entries = run(alloc, 0x6510_0505, 0x1_0000, 128)?;
-    entries.extend_from_slice(run(alloc, 0x6610_0505, 0x1_0000, 128)?.as_slice())?;
+    let first = CollationElement32::common(0x6510).bits();
+    let second = CollationElement32::common(0x6610).bits();
+    let mut entries = run(alloc, first, PRIMARY_STEP, 128)?;
+    entries.extend_from_slice(run(alloc, second, PRIMARY_STEP, 128)?.as_slice())?;
     Ok(entries)
 }
 
@@ -93,7 +102,7 @@ pub(crate) fn diacritics(alloc: Global) -> Result<Vec<u16>, AllocError>
     ensures { IfOk result (λ v. v.items ≡ run 0x4600 0x100 79) }
 {
     let mut weights = Vec::new(alloc);
-    for i in 0..79u16 {
+    for i in 0..OPTIMIZED_DIACRITICS_MAX_COUNT as u16 {
         weights.push(0x4600 + 0x100 * i)?;
     }
     Ok(weights)

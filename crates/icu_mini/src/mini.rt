@@ -11,11 +11,12 @@ ghost use Rattle.icu_provider.specs.StoredTables.{diacritics_of, jamo_of, reorde
 use crate::ingredients::{diacritics, jamo, root};
 use crate::reordering_data::ReorderingData;
 use icu_data::CollationData;
-use icu_entries::DataErrorKind;
+use icu_entries::{CollationElement, CollationElement32, DataErrorKind};
+use icu_options::MaxVariable;
 use icu_owned_data::DataVectors;
 use icu_provider::{
     CollationDiacritics, CollationJamo, CollationMetadata, CollationReordering,
-    CollationSpecialPrimaries,
+    CollationSpecialPrimaries, MetadataFields,
 };
 use std::alloc::{AllocError, Global};
 
@@ -57,11 +58,12 @@ impl Mini {
     /// those of the digits.
     pub(crate) fn with_root(
         alloc: Global,
-        characters: &[(char, u32)],
-        elements: &[u64],
-        entries: &[u32],
+        characters: &[(char, CollationElement32)],
+        elements: &[CollationElement],
+        entries: &[CollationElement32],
     ) -> Result<Mini, AllocError>
-        ensures { IfOk result (Holds (mini_with (mini_root characters.now elements.now entries.now))) }
+        ensures { IfOk result (Holds
+            (mini_with (mini_root characters.now elements.now entries.now))) }
     {
         Ok(Mini {
             root: root(alloc, characters, elements, entries)?,
@@ -70,7 +72,7 @@ impl Mini {
             diacritics: diacritics(alloc)?,
             last_primaries: Vec::from_slice(alloc, &[0x0400, 0x0600, 0x0900, 0x0E00])?,
             numeric_primary: 0x0F,
-            metadata: CollationMetadata { bits: 0x01 },
+            metadata: CollationMetadata::new(MetadataFields::new(MaxVariable::Punctuation)),
             reordering: None,
         })
     }
@@ -88,7 +90,8 @@ impl Mini {
     pub fn load_tailoring(&self) -> Result<Option<CollationData<'_>>, DataErrorKind>
         ensures accepts { IsOk result ↔ IfSome self.now.tailoring MayBeData }
         ensures kind { IfErr result (λ k. IfSome self.now.tailoring (λ d. FailsVectors d k)) }
-        ensures holds { IfOk result (λ d. option_map data_of d ≡ option_map vectors_data self.now.tailoring) }
+        ensures holds { IfOk result (λ d. option_map data_of d
+            ≡ option_map vectors_data self.now.tailoring) }
     {
         match &self.tailoring {
             None => Ok(None),
@@ -116,8 +119,10 @@ impl Mini {
 
     /// The special primary weights as a collator takes them, or the kind of a condition that they fail.
     pub fn load_special_primaries(&self) -> Result<CollationSpecialPrimaries<'_>, DataErrorKind>
-        ensures accepts { IsOk result ↔ IsSpecialPrimaries self.now.last_primaries.items self.now.numeric_primary }
-        ensures kind { IfErr result (FailsSpecial self.now.last_primaries.items self.now.numeric_primary) }
+        ensures accepts { IsOk result
+            ↔ IsSpecialPrimaries self.now.last_primaries.items self.now.numeric_primary }
+        ensures kind { IfErr result
+            (FailsSpecial self.now.last_primaries.items self.now.numeric_primary) }
         ensures holds { IfOk result (λ s. special_of s ≡ special_held self.now) }
     {
         CollationSpecialPrimaries::new(self.last_primaries.as_slice(), self.numeric_primary)
@@ -127,7 +132,8 @@ impl Mini {
     pub fn load_reordering(&self) -> Result<Option<CollationReordering<'_>>, DataErrorKind>
         ensures accepts { IsOk result ↔ IfSome self.now.reordering HasAllLeads }
         ensures kind { IfErr result (λ k. k ≡ DataErrorKind.Length) }
-        ensures holds { IfOk result (λ r. option_map reordering_of r ≡ option_map reordering_held self.now.reordering) }
+        ensures holds { IfOk result (λ r. option_map reordering_of r
+            ≡ option_map reordering_held self.now.reordering) }
     {
         match &self.reordering {
             None => Ok(None),

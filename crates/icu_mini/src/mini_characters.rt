@@ -1,14 +1,17 @@
 //! The characters of Mini.
 ghost use Rattle.std.specs.Prelude.{◌≡◌};
 ghost use Rattle.icu_owned_data.specs.Building.{built_data};
-ghost use Rattle.icu_mini.specs.Characters.{mini_characters, with_characters};
+ghost use Rattle.icu_mini.specs.Characters.{mini_characters, run, with_characters_in};
+ghost use Rattle.icu_entries.specs.EncodedEntries.{common_entry};
 
+use icu_entries::CollationElement32;
 use icu_owned_data::DataBuilder;
 
 /// Mini's characters that have entries of their own: ignored, the separator of merged texts, the replacement character;
-/// space, "-", "."; digits, each with its value and the index of its plain entry; letters, and a circled "A".
+/// space, "-", "."; digits, each with its value and the index of its plain entry; letters, and a circled "A". Entries
+/// stand as their bits, since a static can't call the encoder.
 #[rattlefmt::skip]
-pub(crate) static MINI_CHARACTERS: [(char, u32); 69] = [
+static MINI_CHARACTERS: [(char, u32); 69] = [
     ('\0', 0x0000_0000), ('\u{FFFE}', 0x0200_0505), ('\u{FFFD}', 0xFFFD_0505),
     (' ', 0x0310_0505), ('-', 0x0410_0505), ('.', 0x0420_0505),
     ('0', 0x0000_00CA), ('1', 0x0000_21CA), ('2', 0x0000_42CA), ('3', 0x0000_63CA),
@@ -32,17 +35,52 @@ pub(crate) static MINI_CHARACTERS: [(char, u32); 69] = [
 ];
 
 /// Mini's characters with their entries.
-pub(crate) fn mini_characters() -> &'static [(char, u32)]
+fn mini_characters() -> &'static [(char, u32)]
     ensures { result.now ≡ mini_characters }
 {
     &MINI_CHARACTERS
 }
 
 /// Gives characters their entries, one after another.
-pub(crate) fn set_characters(builder: &mut DataBuilder, characters: &[(char, u32)])
-    ensures { built_data builder.new ≡ record (built_data builder.old) { value = with_characters characters.now (built_data builder.old).value } }
+pub(crate) fn set_characters(builder: &mut DataBuilder, characters: &[(char, CollationElement32)])
+    ensures { built_data builder.new ≡ with_characters_in (built_data builder.old) characters.now }
 {
     for (c, entry) in characters {
         builder.set_entry(*c, *entry);
     }
+}
+
+/// Gives Mini's characters their entries.
+pub(crate) fn set_mini_characters(builder: &mut DataBuilder)
+    ensures { built_data builder.new ≡ with_characters_in (built_data builder.old) mini_characters }
+{
+    set_stored(builder, mini_characters());
+}
+
+/// Gives characters their entries, which stand as their bits, one after another.
+fn set_stored(builder: &mut DataBuilder, characters: &[(char, u32)])
+    ensures { built_data builder.new ≡ with_characters_in (built_data builder.old) characters.now }
+{
+    for (c, entry) in characters {
+        builder.set_entry(*c, CollationElement32::new(*entry));
+    }
+}
+
+/// The entries that digits have where numbers are compared as text.
+#[tactic(auto, unfolding(crate::specs::Characters::run))]
+pub(crate) fn plain_digits() -> [CollationElement32; 10]
+    ensures { result ≡ run (common_entry 0x1410) 0x40000 10 }
+{
+    [
+        CollationElement32::common(0x1410),
+        CollationElement32::common(0x1414),
+        CollationElement32::common(0x1418),
+        CollationElement32::common(0x141C),
+        CollationElement32::common(0x1420),
+        CollationElement32::common(0x1424),
+        CollationElement32::common(0x1428),
+        CollationElement32::common(0x142C),
+        CollationElement32::common(0x1430),
+        CollationElement32::common(0x1434),
+    ]
 }

@@ -11,69 +11,8 @@ use crate::mini::Mini;
 use icu_data::CollationData;
 use icu_entries::{DataError, DataErrorKind, DataTable};
 use icu_provider::{
-    CollationDiacritics, CollationJamo, CollationMetadata, CollationProvider, CollationReordering,
-    CollationSpecialPrimaries, DataRequest,
+    CollationDiacritics, CollationJamo, CollationReordering, CollationSpecialPrimaries, FixedLoads,
 };
-
-/// A provider that returns the same tables for every locale and type. The fields are public, so that a test may have it
-/// refuse a table, or return another one.
-#[derive(Debug, Clone, Copy)]
-pub struct MiniProvider<'m> {
-    /// The root.
-    pub root: Result<CollationData<'m>, DataError>,
-    /// The entries of the jamo.
-    pub jamo: Result<CollationJamo<'m>, DataError>,
-    /// The special primary weights.
-    pub special: Result<CollationSpecialPrimaries<'m>, DataError>,
-    /// Which tables there are, and the settings.
-    pub metadata: Result<CollationMetadata, DataError>,
-    /// The tailoring.
-    pub tailoring: Result<CollationData<'m>, DataError>,
-    /// The reordering.
-    pub reordering: Result<CollationReordering<'m>, DataError>,
-    /// The secondary weights of the diacritics.
-    pub diacritics: Result<CollationDiacritics<'m>, DataError>,
-}
-
-impl<'m> CollationProvider for MiniProvider<'m> {
-    ghost use Rattle.icu_mini.specs.Provider.{loads_of};
-
-    ghost loads = { loads_of };
-
-    fn load_root(&self) -> Result<CollationData<'_>, DataError> {
-        self.root
-    }
-
-    fn load_jamo(&self) -> Result<CollationJamo<'_>, DataError> {
-        self.jamo
-    }
-
-    fn load_special_primaries(&self) -> Result<CollationSpecialPrimaries<'_>, DataError> {
-        self.special
-    }
-
-    fn load_metadata(&self, _request: DataRequest<'_>) -> Result<CollationMetadata, DataError> {
-        self.metadata
-    }
-
-    fn load_tailoring(&self, _request: DataRequest<'_>) -> Result<CollationData<'_>, DataError> {
-        self.tailoring
-    }
-
-    fn load_reordering(
-        &self,
-        _request: DataRequest<'_>,
-    ) -> Result<CollationReordering<'_>, DataError> {
-        self.reordering
-    }
-
-    fn load_diacritics(
-        &self,
-        _request: DataRequest<'_>,
-    ) -> Result<CollationDiacritics<'_>, DataError> {
-        self.diacritics
-    }
-}
 
 /// The refusal of a table.
 fn refusal(table: DataTable, kind: DataErrorKind) -> DataError
@@ -89,10 +28,10 @@ impl Mini {
 
     /// A provider of these tables, for every locale and type. A table that fails a condition of its own is refused with
     /// the kind of one; a tailoring and a reordering that there isn't are `Absent`.
-    pub fn provider(&self) -> MiniProvider<'_>
+    pub fn provider(&self) -> FixedLoads<'_>
         ensures { LoadsMini self.now result }
     {
-        MiniProvider {
+        FixedLoads {
             root: self.named_root(),
             jamo: self.named_jamo(),
             special: self.named_special_primaries(),
@@ -104,7 +43,10 @@ impl Mini {
     }
 
     fn named_root(&self) -> Result<CollationData<'_>, DataError>
-        ensures { IsLoaded data_of (vectors_data self.now.root) (MayBeData self.now.root) (Names DataTable.Root (FailsVectors self.now.root)) result }
+        ensures { IsLoaded data_of (vectors_data self.now.root)
+            (MayBeData self.now.root)
+            (Names DataTable.Root (FailsVectors self.now.root))
+            result }
     {
         match self.load_root() {
             Ok(root) => Ok(root),
@@ -113,7 +55,10 @@ impl Mini {
     }
 
     fn named_jamo(&self) -> Result<CollationJamo<'_>, DataError>
-        ensures { IsLoaded jamo_of self.now.jamo.items (IsJamo self.now.jamo.items) (Names DataTable.Jamo (FailsJamo self.now.jamo.items)) result }
+        ensures { IsLoaded jamo_of self.now.jamo.items
+            (IsJamo self.now.jamo.items)
+            (Names DataTable.Jamo (FailsJamo self.now.jamo.items))
+            result }
     {
         match self.load_jamo() {
             Ok(jamo) => Ok(jamo),
@@ -122,8 +67,11 @@ impl Mini {
     }
 
     fn named_special_primaries(&self) -> Result<CollationSpecialPrimaries<'_>, DataError>
-        ensures { IsLoaded special_of (special_held self.now) (IsSpecialPrimaries self.now.last_primaries.items self.now.numeric_primary)
-            (Names DataTable.SpecialPrimaries (FailsSpecial self.now.last_primaries.items self.now.numeric_primary)) result }
+        ensures { IsLoaded special_of (special_held self.now)
+            (IsSpecialPrimaries self.now.last_primaries.items self.now.numeric_primary)
+            (Names DataTable.SpecialPrimaries
+                (FailsSpecial self.now.last_primaries.items self.now.numeric_primary))
+            result }
     {
         match self.load_special_primaries() {
             Ok(special) => Ok(special),
@@ -132,7 +80,8 @@ impl Mini {
     }
 
     fn named_tailoring(&self) -> Result<CollationData<'_>, DataError>
-        ensures { IsLoadedIfAny data_of vectors_data DataTable.Tailoring MayBeData FailsVectors self.now.tailoring result }
+        ensures { IsLoadedIfAny data_of vectors_data DataTable.Tailoring
+            MayBeData FailsVectors self.now.tailoring result }
     {
         let Some(tailoring) = &self.tailoring else {
             return Err(refusal(DataTable::Tailoring, DataErrorKind::Absent));
@@ -144,7 +93,8 @@ impl Mini {
     }
 
     fn named_reordering(&self) -> Result<CollationReordering<'_>, DataError>
-        ensures { IsLoadedIfAny reordering_of reordering_held DataTable.Reordering HasAllLeads (λ r k. k ≡ DataErrorKind.Length) self.now.reordering result }
+        ensures { IsLoadedIfAny reordering_of reordering_held DataTable.Reordering
+            HasAllLeads (λ r k. k ≡ DataErrorKind.Length) self.now.reordering result }
     {
         let Some(reordering) = &self.reordering else {
             return Err(refusal(DataTable::Reordering, DataErrorKind::Absent));
@@ -156,7 +106,10 @@ impl Mini {
     }
 
     fn named_diacritics(&self) -> Result<CollationDiacritics<'_>, DataError>
-        ensures { IsLoaded diacritics_of self.now.diacritics.items (IsDiacritics self.now.diacritics.items) (Names DataTable.Diacritics (FailsDiacritics self.now.diacritics.items)) result }
+        ensures { IsLoaded diacritics_of self.now.diacritics.items
+            (IsDiacritics self.now.diacritics.items)
+            (Names DataTable.Diacritics (FailsDiacritics self.now.diacritics.items))
+            result }
     {
         match self.load_diacritics() {
             Ok(diacritics) => Ok(diacritics),

@@ -1,21 +1,35 @@
 //! The variants of Mini, each with one thing that Mini lacks.
-ghost use Rattle.std.specs.Prelude.{◌≡◌, ◌∷◌, [], IfOk, replicate, slice_set};
+ghost use Rattle.std.specs.Prelude.{◌≡◌, true, ◌∷◌, [], IfOk, replicate, slice_set};
 ghost use Rattle.icu_owned_data.specs.AddedContexts.{given_context};
+ghost use Rattle.icu_provider.specs.MetadataFields.{metadata_bits};
 ghost use Rattle.icu_mini.specs.Characters.{run};
+ghost use Rattle.icu_mini.specs.Mini.{mini_fields};
 
 use crate::ingredients::{all_leads, in_context, tailoring};
 use crate::mini::Mini;
 use crate::reordering_data::ReorderingData;
+use icu_entries::element::COMMON_WEIGHT16;
+use icu_entries::{CollationElement, CollationElement32};
+use icu_options::MaxVariable;
+use icu_provider::{CollationMetadata, MetadataFields};
 use std::alloc::{AllocError, Global};
 
-/// The entry of a character that is looked up with those before it, by context 0.
-const PREFIX_CE32: u32 = 0xC8;
+/// What the metadata of Mini says.
+fn fields() -> MetadataFields
+    ensures { result ≡ mini_fields }
+{
+    MetadataFields::new(MaxVariable::Punctuation)
+}
 
-/// The entry of a character that is looked up with those after it, by context 0.
-const CONTRACTION_CE32: u32 = 0xC9;
-
-/// The metadata of a tailored variant: the last variable group is punctuation, as Mini's.
-const TAILORED: u32 = 0x09;
+/// The metadata of a tailored variant.
+fn tailored() -> CollationMetadata
+    ensures { result.bits ≡ metadata_bits (record mini_fields { tailored = true }) }
+{
+    CollationMetadata::new(MetadataFields {
+        tailored: true,
+        ..fields()
+    })
+}
 
 impl Mini {
     ghost use Rattle.icu_mini.specs.Mini.{Holds};
@@ -25,20 +39,24 @@ impl Mini {
     fn in_context(
         alloc: Global,
         c: char,
-        entry: u32,
-        default: u32,
-        rows: &[(&[char], u32)],
+        entry: CollationElement32,
+        default: CollationElement32,
+        rows: &[(&[char], CollationElement32)],
     ) -> Result<Mini, AllocError>
-        ensures { IfOk result (Holds (variants.in_context c entry (given_context default rows.now))) }
+        ensures { IfOk result (Holds
+            (variants.in_context c entry (given_context default rows.now))) }
     {
         let mut mini = Mini::new(alloc)?;
         mini.tailoring = Some(in_context(alloc, c, entry, default, rows)?);
-        mini.metadata.bits = TAILORED;
+        mini.metadata = tailored();
         Ok(mini)
     }
 
     /// Mini where these characters too have entries of their own.
-    fn with_more(alloc: Global, characters: &[(char, u32)]) -> Result<Mini, AllocError>
+    fn with_more(
+        alloc: Global,
+        characters: &[(char, CollationElement32)],
+    ) -> Result<Mini, AllocError>
         ensures { IfOk result (Holds (variants.with_more characters.now)) }
     {
         Mini::with_root(alloc, characters, &[], &[])
@@ -49,7 +67,10 @@ impl Mini {
         ensures { IfOk result (Holds variants.mini_backward) }
     {
         let mut mini = Mini::new(alloc)?;
-        mini.metadata.bits = 0x81;
+        mini.metadata = CollationMetadata::new(MetadataFields {
+            backward_second_level: true,
+            ..fields()
+        });
         Ok(mini)
     }
 
@@ -58,7 +79,10 @@ impl Mini {
         ensures { IfOk result (Holds variants.mini_lithuanian) }
     {
         let mut mini = Mini::new(alloc)?;
-        mini.metadata.bits = 0x41;
+        mini.metadata = CollationMetadata::new(MetadataFields {
+            lithuanian_dot_above: true,
+            ..fields()
+        });
         Ok(mini)
     }
 
@@ -69,9 +93,9 @@ impl Mini {
         Mini::in_context(
             alloc,
             'a',
-            CONTRACTION_CE32,
-            0x6110_0505,
-            &[(&['\u{30A}'], 0x6210_0505)],
+            CollationElement32::contraction(0),
+            CollationElement32::common(0x6110),
+            &[(&['\u{30A}'], CollationElement32::common(0x6210))],
         )
     }
 
@@ -82,9 +106,9 @@ impl Mini {
         Mini::in_context(
             alloc,
             'l',
-            CONTRACTION_CE32,
-            0x613C_0505,
-            &[(&['l'], 0x613E_0505)],
+            CollationElement32::contraction(0),
+            CollationElement32::common(0x613C),
+            &[(&['l'], CollationElement32::common(0x613E))],
         )
     }
 
@@ -95,9 +119,9 @@ impl Mini {
         Mini::in_context(
             alloc,
             'b',
-            PREFIX_CE32,
-            0x6114_0505,
-            &[(&['a'], 0x6112_0505)],
+            CollationElement32::prefix(0),
+            CollationElement32::common(0x6114),
+            &[(&['a'], CollationElement32::common(0x6112))],
         )
     }
 
@@ -108,11 +132,11 @@ impl Mini {
         Mini::in_context(
             alloc,
             'a',
-            CONTRACTION_CE32,
-            0x6110_0505,
+            CollationElement32::contraction(0),
+            CollationElement32::common(0x6110),
             &[
-                (&['\u{30A}'], 0x6210_0505),
-                (&['\u{323}', '\u{30A}'], 0x6230_0505),
+                (&['\u{30A}'], CollationElement32::common(0x6210)),
+                (&['\u{323}', '\u{30A}'], CollationElement32::common(0x6230)),
             ],
         )
     }
@@ -124,9 +148,9 @@ impl Mini {
         Mini::in_context(
             alloc,
             'c',
-            PREFIX_CE32,
-            0x6118_0505,
-            &[(&['b', 'a'], 0x611E_0505)],
+            CollationElement32::prefix(0),
+            CollationElement32::common(0x6118),
+            &[(&['b', 'a'], CollationElement32::common(0x611E))],
         )
     }
 
@@ -135,10 +159,14 @@ impl Mini {
     pub fn with_offsets(alloc: Global) -> Result<Mini, AllocError>
         ensures { IfOk result (Holds variants.mini_offset) }
     {
-        let characters = [('\u{3B1}', 0xCE), ('\u{3B2}', 0xCE)];
+        let characters = [
+            ('\u{3B1}', CollationElement32::offset(0)),
+            ('\u{3B2}', CollationElement32::offset(0)),
+        ];
         let mut mini = Mini::new(alloc)?;
-        mini.tailoring = Some(tailoring(alloc, &characters, &[0x7010_FE00_0003_B184])?);
-        mini.metadata.bits = TAILORED;
+        let data = CollationElement::offset_data(0x7010_FE00, '\u{3B1}', true, 4);
+        mini.tailoring = Some(tailoring(alloc, &characters, &[data])?);
+        mini.metadata = tailored();
         Ok(mini)
     }
 
@@ -152,7 +180,11 @@ impl Mini {
             reorder_table: swapped_leads(alloc)?,
             reorder_ranges: Vec::new(alloc),
         });
-        mini.metadata.bits = 0x29;
+        mini.metadata = CollationMetadata::new(MetadataFields {
+            tailored: true,
+            reordering: true,
+            ..fields()
+        });
         Ok(mini)
     }
 
@@ -166,7 +198,10 @@ impl Mini {
             reorder_table: split_leads(alloc)?,
             reorder_ranges: Vec::from_slice(alloc, &[0x6140_002F])?,
         });
-        mini.metadata.bits = 0x21;
+        mini.metadata = CollationMetadata::new(MetadataFields {
+            reordering: true,
+            ..fields()
+        });
         Ok(mini)
     }
 
@@ -175,8 +210,12 @@ impl Mini {
     pub fn with_sharp_s(alloc: Global) -> Result<Mini, AllocError>
         ensures { IfOk result (Holds variants.mini_sharp_s) }
     {
-        let characters = [('ß', 0x0001_42C5)];
-        Mini::with_root(alloc, &characters, &[], &[0x6158_0505, 0x6158_0506])
+        let characters = [('ß', CollationElement32::entry_list(10, 2))];
+        let entries = [
+            CollationElement32::common(0x6158),
+            CollationElement32::simple(0x6158, 0x05, 0x06),
+        ];
+        Mini::with_root(alloc, &characters, &[], &entries)
     }
 
     /// Mini where the jamo U+1100 is a list of two entries of the root.
@@ -184,8 +223,12 @@ impl Mini {
     pub fn with_jamo_list(alloc: Global) -> Result<Mini, AllocError>
         ensures { IfOk result (Holds variants.mini_jamo_list) }
     {
-        let mut mini = Mini::with_root(alloc, &[], &[], &[0x6510_0505, 0x6690_0505])?;
-        mini.jamo[0] = 0x0001_42C5;
+        let entries = [
+            CollationElement32::common(0x6510),
+            CollationElement32::common(0x6690),
+        ];
+        let mut mini = Mini::with_root(alloc, &[], &[], &entries)?;
+        mini.jamo[0] = CollationElement32::entry_list(10, 2).bits();
         Ok(mini)
     }
 
@@ -193,8 +236,14 @@ impl Mini {
     pub fn with_kana(alloc: Global) -> Result<Mini, AllocError>
         ensures { IfOk result (Holds variants.mini_kana) }
     {
-        let characters = [('\u{3042}', 0x0000_01C6), ('\u{30A2}', 0x0000_21C6)];
-        let elements = [0x6710_0000_0500_0500, 0x6710_0000_0500_0540];
+        let characters = [
+            ('\u{3042}', CollationElement32::element_list(0, 1)),
+            ('\u{30A2}', CollationElement32::element_list(1, 1)),
+        ];
+        let elements = [
+            CollationElement::new_from_primary(0x6710_0000),
+            CollationElement::from_weights(0x6710_0000, COMMON_WEIGHT16, 0x0540),
+        ];
         Mini::with_root(alloc, &characters, &elements, &[])
     }
 
@@ -202,7 +251,7 @@ impl Mini {
     pub fn with_high_currency(alloc: Global) -> Result<Mini, AllocError>
         ensures { IfOk result (Holds variants.mini_high_currency) }
     {
-        let mut mini = Mini::with_more(alloc, &[('$', 0x1E10_0505)])?;
+        let mut mini = Mini::with_more(alloc, &[('$', CollationElement32::common(0x1E10))])?;
         mini.last_primaries[3] = 0x2000;
         mini.numeric_primary = 0x30;
         Ok(mini)
@@ -212,20 +261,24 @@ impl Mini {
     pub fn with_secondary_alone(alloc: Global) -> Result<Mini, AllocError>
         ensures { IfOk result (Holds variants.mini_secondary_alone) }
     {
-        Mini::with_more(alloc, &[('\u{34F}', 0x9600_05C2)])
+        Mini::with_more(
+            alloc,
+            &[('\u{34F}', CollationElement32::long_secondary(0x9600, 0x05))],
+        )
     }
 
     /// Mini where U+0001 has a tertiary weight and no other.
     pub fn with_tertiary_alone(alloc: Global) -> Result<Mini, AllocError>
         ensures { IfOk result (Holds variants.mini_tertiary_alone) }
     {
-        Mini::with_more(alloc, &[('\u{1}', 0x0000_00BF)])
+        Mini::with_more(alloc, &[('\u{1}', CollationElement32::simple(0, 0, 0xBF))])
     }
 }
 
 /// 61 and 62 change places, and every other lead byte has a 0.
 fn swapped_leads(alloc: Global) -> Result<Vec<u8>, AllocError>
-    ensures { IfOk result (λ v. v.items ≡ slice_set (slice_set (replicate 256 0) 0x61 0x62) 0x62 0x61) }
+    ensures { IfOk result (λ v. v.items
+        ≡ slice_set (slice_set (replicate 256 0) 0x61 0x62) 0x62 0x61) }
 {
     let mut leads = Vec::from_slice(alloc, &[0u8; 256])?;
     leads[0x61] = 0x62;

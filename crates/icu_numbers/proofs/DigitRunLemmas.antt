@@ -2,7 +2,7 @@
 use Rattle.std.proofs.Common.{◌≡◌, ℕ, zero, suc, ◌+◌, ◌-◌, ◌*◌, ◌%◌, ◌^◌, ◌<◌, ◌≤◌, List, [], ◌∷◌, ◌++◌, All, length, get_or, take, drop, refl, sym, ap, ap₂, ◌∙◌, subst, append_assoc, arith, lit<, length-take, length-drop}
 use Rattle.std.proofs.lemmas.List.{take_all}
 use Rattle.std.proofs.lemmas.List.Elements.{All-from_recursion, recursion_from_All, All-take, All-drop}
-use Rattle.icu_numbers.specs.inner.Pairs.{IsSplit}
+use Rattle.icu_numbers.specs.inner.Pairs.{IsFirstPair}
 use Rattle.std.proofs.Math.Nat.{pow-suc, pow-zero, pow-le-pow_right, mul-le-mul_right}
 use Rattle.icu_levels.proofs.DigitRuns.{no_zeros_digits}
 use Rattle.icu_levels.specs.Numbers.{number_weights, value_after, value_of, without_first_zeros, longest_number, run_weights_by, run_weights}
@@ -84,14 +84,14 @@ some_digits (d ∷ ds) some = omega arith
 
 -- an odd number of digits
 pub odd_split : (ds : List ℕ) → All (λ d. d < 10) ds → without_first_zeros ds ≡ ds → 0 < length ds → length ds % 2 ≡ 1
-    → IsSplit ds (get_or ds 0 0) (take (length ds - 1) (drop 1 ds))
+    → IsFirstPair ds (get_or ds 0 0) (take (length ds - 1) (drop 1 ds))
 odd_split [] a first some odd = absurd (omega arith)
 odd_split (zero ∷ ds) a first some odd = absurd (no_zero ds first)
 odd_split (suc d ∷ ds) a first some odd =
     let by = recursion_from_All (λ d. d < 10) (suc d ∷ ds) a in
     let e : 10 * 0 + suc d ≡ suc d = omega arith in
     let count : length (suc d ∷ ds) - 1 ≡ length ds = omega arith in
-    subst (IsSplit (suc d ∷ ds) (suc d)) (sym (ap (λ n. take n ds) count ∙ take_all (length ds) ds (omega arith)))
+    subst (IsFirstPair (suc d ∷ ds) (suc d)) (sym (ap (λ n. take n ds) count ∙ take_all (length ds) ds (omega arith)))
     (record {
       value = ap (λ v. value_after v ds) e;
       pair = omega (arith, by.0);
@@ -103,7 +103,7 @@ odd_split (suc d ∷ ds) a first some odd =
 
 -- an even number of digits
 pub even_split : (ds : List ℕ) → All (λ d. d < 10) ds → without_first_zeros ds ≡ ds → 0 < length ds → (length ds % 2 ≡ 1 → ⊥)
-    → IsSplit ds (10 * get_or ds 0 0 + get_or ds 1 0) (take (length ds - 2) (drop 2 ds))
+    → IsFirstPair ds (10 * get_or ds 0 0 + get_or ds 1 0) (take (length ds - 2) (drop 2 ds))
 even_split [] a first some even = absurd (omega arith)
 even_split (zero ∷ ds) a first some even = absurd (no_zero ds first)
 even_split (suc d ∷ []) a first some even = absurd (even refl)
@@ -112,7 +112,7 @@ even_split (suc d ∷ (e ∷ ds)) a first some even =
     let f : 10 * (10 * 0 + suc d) + e ≡ 10 * suc d + e = omega arith in
     let count : length (suc d ∷ (e ∷ ds)) - 2 ≡ length ds = omega arith in
     let other : length (suc d ∷ (e ∷ ds)) % 2 ≡ 1 → ⊥ = even in
-    subst (IsSplit (suc d ∷ (e ∷ ds)) (10 * suc d + e)) (sym (ap (λ n. take n ds) count ∙ take_all (length ds) ds (omega arith)))
+    subst (IsFirstPair (suc d ∷ (e ∷ ds)) (10 * suc d + e)) (sym (ap (λ n. take n ds) count ∙ take_all (length ds) ds (omega arith)))
     (record {
       value = ap (λ v. value_after v ds) f;
       pair = omega (arith, by.0, by.1.0);

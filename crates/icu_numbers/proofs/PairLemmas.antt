@@ -10,7 +10,7 @@ use Rattle.icu_levels.specs.Numbers.{in_threes, pair_count, pair_bytes, great_by
 use Rattle.icu_levels.proofs.DigitsFromTheEnd.{digits_last}
 use Rattle.icu_levels.proofs.TrimmedLemmas.{zero_dropped, kept_whole, at_end}
 use Rattle.icu_levels.proofs.PrecedesLemmas.{nonzero_first}
-use Rattle.icu_numbers.specs.inner.Pairs.{in_twos, IsSplit}
+use Rattle.icu_numbers.specs.inner.Pairs.{in_twos, IsFirstPair}
 
 -- two digits more at the end make one pair more
 digits_more : (k v p : ℕ) → p < 100 → v < 100 ^ k → digits 100 (suc k) (100 * v + p) ≡ digits 100 k v ++ p ∷ []
@@ -49,7 +49,7 @@ pairs_digits n p ds even small under =
 
 -- ---- how many pairs
 
--- one pair more, where there may be more
+-- a number that goes on with a pair has one pair more, where there may be more
 count_more : (most v p : ℕ) → 0 < v → p < 100 → pair_count (suc most) (100 * v + p) ≡ suc (pair_count most v)
 unfolding pair_count
 count_more most v p some small =
@@ -94,7 +94,7 @@ great_bytes_alike n m v w ps e f g =
     let count : 128 + suc m ≡ 129 + m = omega arith in
     ap (λ k. great_bytes k v) e ∙ ap (great_bytes (suc m)) f ∙ ap (λ qs. (128 + suc m) ∷ pair_bytes qs) g ∙ ap (λ b. b ∷ pair_bytes ps) count
 
-pub great_bytes_spelled : (ds : List ℕ) (first : ℕ) (others kept : List ℕ) → IsSplit ds first others → length ds ≤ longest_number
+pub great_bytes_spelled : (ds : List ℕ) (first : ℕ) (others kept : List ℕ) → IsFirstPair ds first others → length ds ≤ longest_number
     → in_twos kept ≡ without_last_zeros (in_twos others)
     → great_bytes (pair_count 127 (value_of ds)) (value_of ds) ≡ (129 + length others / 2) ∷ pair_bytes (first ∷ in_twos kept)
 great_bytes_spelled ds first others kept split fits e =

@@ -41,7 +41,8 @@ fn one_weight(lead: u8, value: u32) -> u32
 fn one_weight_value(digits: &[u8]) -> Option<u32>
     requires decimal { All (λ d. d < 10) digits.now }
     requires first { without_first_zeros digits.now ≡ digits.now }
-    ensures { MatchOption result (1042490 ≤ value_of digits.now) (λ v. (v ≡ value_of digits.now) × (v < 1042490)) }
+    ensures { MatchOption result (1042490 ≤ value_of digits.now)
+        (λ v. (v ≡ value_of digits.now) × (v < 1042490)) }
 {
     if digits.len() > 7 {
         return None;
@@ -60,7 +61,8 @@ pub fn push_number(
     requires decimal { All (λ d. d < 10) digits.now }
     requires first { without_first_zeros digits.now ≡ digits.now }
     requires fits { length digits.now ≤ longest_number }
-    ensures { OnOk result (weights.new.items ≡ weights.old.items ++ number_weights lead (value_of digits.now)) }
+    ensures { OnOk result
+        (weights.new.items ≡ weights.old.items ++ number_weights lead (value_of digits.now)) }
 {
     match one_weight_value(digits) {
         Some(value) => Ok(weights.push(one_weight(lead, value))?),

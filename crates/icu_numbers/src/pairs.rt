@@ -3,7 +3,7 @@
 ghost use Rattle.std.specs.Prelude.{◌≡◌, ◌<◌, ◌≤◌, ◌+◌, ◌*◌, ◌%◌, ◌∷◌, ◌++◌, length, All, IfOk, OnOk};
 ghost use Rattle.icu_levels.specs.WeightBytes.{without_last_zeros};
 ghost use Rattle.icu_levels.specs.Numbers.{pair_bytes, pair_count, great_bytes, value_of, value_after, without_first_zeros, longest_number};
-ghost use Rattle.icu_numbers.specs.inner.Pairs.{in_twos, IsSplit};
+ghost use Rattle.icu_numbers.specs.inner.Pairs.{in_twos, IsFirstPair};
 
 use std::alloc::{AllocError, Global};
 
@@ -13,7 +13,7 @@ fn first_pair(digits: &[u8]) -> (u8, &[u8])
     requires decimal { All (λ d. d < 10) digits.now }
     requires first { without_first_zeros digits.now ≡ digits.now }
     requires some { 0 < length digits.now }
-    ensures { IsSplit digits.now result.0 result.1.now }
+    ensures { IsFirstPair digits.now result.0 result.1.now }
 {
     if digits.len() % 2 == 1 {
         (digits[0], &digits[1..])
@@ -43,7 +43,8 @@ fn without_last_pairs(digits: &[u8]) -> &[u8]
 fn push_pairs(bytes: &mut Vec<u8>, first: u8, digits: &[u8]) -> Result<(), AllocError>
     requires decimal { All (λ d. d < 10) digits.now }
     requires first { first < 100 }
-    ensures { OnOk result (bytes.new.items ≡ bytes.old.items ++ pair_bytes (first ∷ in_twos digits.now)) }
+    ensures { OnOk result
+        (bytes.new.items ≡ bytes.old.items ++ pair_bytes (first ∷ in_twos digits.now)) }
 {
     let mut pair = first;
     let mut left = digits;
@@ -62,7 +63,8 @@ pub fn great_bytes(alloc: Global, digits: &[u8]) -> Result<Vec<u8>, AllocError>
     requires first { without_first_zeros digits.now ≡ digits.now }
     requires some { 0 < length digits.now }
     requires fits { length digits.now ≤ longest_number }
-    ensures { IfOk result (λ bytes. bytes.items ≡ great_bytes (pair_count 127 (value_of digits.now)) (value_of digits.now)) }
+    ensures { IfOk result (λ bytes. bytes.items
+        ≡ great_bytes (pair_count 127 (value_of digits.now)) (value_of digits.now)) }
 {
     let (first, others) = first_pair(digits);
     let mut bytes = Vec::new(alloc);

@@ -86,7 +86,7 @@ values_merged options preferences metadata =
     )
     refl
 
--- and so are the flags
+-- the flags are merged from the three sources
 pub flags_merged : (options : CollatorOptions) (preferences : CollatorPreferences)
     (metadata : MetadataSettings)
     → flags_of (steps_merged options preferences metadata) ≡ merged_flags options preferences

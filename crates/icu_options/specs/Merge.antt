@@ -21,7 +21,7 @@ settings_of_metadata metadata =
 
 -- Each setting by the first source that sets it. Metadata always sets the last variable group,
 -- alternate handling and case first, and it alone the backward second level. A strength, a case
--- level and a numeric order that the caller does not set are Tertiary, off and off.
+-- level and a numeric order that the caller does not set are Tertiary, off and off (UTS #35 part 5, "Setting Options").
 abbrev pub merge : CollatorOptions → CollatorPreferences → MetadataSettings → Settings
 merge options preferences metadata =
     record {

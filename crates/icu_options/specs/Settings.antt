@@ -7,7 +7,7 @@ use Rattle.icu_options.specs.declared.settings.AlternateHandling.{AlternateHandl
 use Rattle.icu_options.specs.declared.settings.CollationCaseFirst.{CollationCaseFirst}
 use Rattle.icu_options.specs.declared.settings.CollationCaseFirst.TheVariants.{False, Lower, Upper}
 
--- the settings of a collator
+-- the settings of a collator (UTS #35 part 5, "Setting Options")
 pub record Settings : Type 0 where
   pub strength : Strength
   pub max_variable : MaxVariable

@@ -20,11 +20,11 @@ pub enum Strength {
 /// How variable elements, such as spaces, are weighted (UTS #10, "Variable Weighting").
 #[derive(Debug, Clone, Copy, PartialEq, Eq, PartialOrd, Ord)]
 pub enum AlternateHandling {
-    /// They count as other elements do.
+    /// Variable elements count as other elements do.
     NonIgnorable,
-    /// They count at the quaternary level alone.
+    /// Variable elements count at the quaternary level alone.
     Shifted,
-    /// They count at the identical level alone. Metadata never says so: only a caller's options do.
+    /// Variable elements count at the identical level alone. Metadata never says so: only a caller's options do.
     Blanked,
 }
 

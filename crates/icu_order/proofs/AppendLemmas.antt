@@ -7,9 +7,9 @@ use Rattle.icu_entries.specs.ElementConditions.{separator_primary, tertiary_of}
 use Rattle.icu_levels.specs.declared.forms.CaseForm.{CaseForm}
 use Rattle.icu_levels.specs.declared.forms.TertiaryForm.{TertiaryForm}
 use Rattle.icu_levels.specs.declared.forms.SecondaryForm.{SecondaryForm}
-use Rattle.icu_order.specs.Handled.{HandledElement, stayed, shifted_primary, handled, handled_variable, is_variable, stayed_elements}
+use Rattle.icu_weighting.specs.Handled.{HandledElement, stayed, shifted_primary, handled, handled_variable, is_variable, stayed_elements}
 use Rattle.icu_order.specs.TextCuts.{begins_with_primary}
-use Rattle.icu_order.specs.Levels.{weights, cases_in, case_reads, case_rank, tertiaries_in, masked_tertiary, tertiary_in, quaternaries, quaternary_weight}
+use Rattle.icu_weighting.specs.Levels.{weights, cases_in, case_reads, case_rank, tertiaries_in, masked_tertiary, tertiary_in, quaternaries, quaternary_weight}
 use Rattle.icu_data.proofs.ViolationLemmas.{not_true}
 
 -- a choice, and then more

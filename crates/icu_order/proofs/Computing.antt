@@ -1,8 +1,9 @@
+-- What has to be opened to compute the keys and the orders of worked rows.
 use Rattle.icu_provider.specs.Reorderings.{moved, reordered}
 use Rattle.icu_provider.specs.SpecialPrimaries.{is_compressible}
 use Rattle.icu_elements.proofs.Computing.{icu_elements}
-use Rattle.icu_order.specs.Handled.{handled}
-use Rattle.icu_order.specs.Levels.{weights, parted, quaternaries}
+use Rattle.icu_weighting.specs.Handled.{handled}
+use Rattle.icu_weighting.specs.Levels.{weights, parted, quaternaries}
 use Rattle.icu_order.specs.TextOrder.{lists_by, text_order, text_key}
 
 -- `unfolding icu_order` lets `refl` compute the keys and the order of short texts

@@ -5,8 +5,8 @@ use Rattle.std.proofs.lemmas.Bool.{eqb-true}
 use Rattle.std.specs.List.{AllByRecursion}
 use Rattle.icu_entries.specs.Elements.{Element}
 use Rattle.icu_entries.specs.ElementConditions.{separator_primary, tertiary_of}
-use Rattle.icu_order.specs.Handled.{HandledElement, stayed, shifted_primary, stayed_elements}
-use Rattle.icu_order.specs.Levels.{weights, secondary_of, parted, segments, quaternary_weight, quaternaries}
+use Rattle.icu_weighting.specs.Handled.{HandledElement, stayed, shifted_primary, stayed_elements}
+use Rattle.icu_weighting.specs.Levels.{weights, secondary_of, parted, segments, quaternary_weight, quaternaries}
 use Rattle.icu_order.proofs.HandledLemmas.{by_test, HoldsOf}
 
 -- two ifs on one test

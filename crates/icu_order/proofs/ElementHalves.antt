@@ -14,11 +14,11 @@ use Rattle.icu_entries.specs.Elements.{Element, of_primary, case_mask, tertiary_
 use Rattle.icu_entries.specs.ElementConditions.{separator_primary, tertiary_of, has_shape, has_whole_weights, has_weights_below, has_lower_half, has_primary_lead}
 use Rattle.icu_provider.specs.CollatorTables.{CollatorTables}
 use Rattle.icu_checks.specs.declared.condition.Condition.TheVariants as conditions
-use Rattle.icu_checks.specs.declared.condition.ElementCondition.TheVariants.{Width}
+use Rattle.icu_checks.specs.declared.condition.LiveElementCondition.TheVariants.{Width}
 use Rattle.icu_checks.specs.GoodTables.{IsGoodTables}
 use Rattle.icu_elements.specs.LiveTexts.{IsLiveElement}
-use Rattle.icu_order.specs.Handled.{is_variable}
-use Rattle.icu_order.specs.Levels.{secondary_of, case_rank, cased_mask, masked_tertiary, tertiary_in, quaternary_weight}
+use Rattle.icu_weighting.specs.Handled.{is_variable}
+use Rattle.icu_weighting.specs.Levels.{secondary_of, case_rank, cased_mask, masked_tertiary, tertiary_in, quaternary_weight}
 use Rattle.icu_order.specs.LiveWeights.{IsLivePrimary, IsLiveSecondary, IsLiveTertiary}
 use Rattle.icu_order.proofs.LiveElementLemmas.{live-shape, live-primary_lead, other_part}
 use Rattle.icu_order.proofs.TertiaryWeights.{case_bits, cased_low}

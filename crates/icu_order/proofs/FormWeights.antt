@@ -10,7 +10,7 @@ use Rattle.icu_levels.specs.declared.forms.QuaternaryForm.TheVariants.{MayShift,
 use Rattle.icu_levels.specs.declared.forms.KeyForm.{KeyForm}
 use Rattle.icu_provider.specs.CollatorTables.{CollatorTables, is_forward}
 use Rattle.icu_checks.specs.GoodTables.{IsGoodTables}
-use Rattle.icu_order.specs.Forms.{compression_of}
+use Rattle.icu_weighting.specs.Forms.{compression_of}
 use Rattle.icu_order.specs.LiveWeights.{IsLiveSecondary, IsShiftedPrimary, IsLiveTertiary, IsTertiaryOf, live_weights}
 use Rattle.icu_order.proofs.PrimaryWeights.{live_primaries, live_shifted}
 use Rattle.icu_order.proofs.SecondaryWeights.{live_secondaries}

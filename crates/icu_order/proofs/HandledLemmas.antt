@@ -5,8 +5,8 @@ use Rattle.std.specs.List.{AllByRecursion}
 use Rattle.icu_options.specs.declared.settings.AlternateHandling.{AlternateHandling}
 use Rattle.icu_options.specs.declared.settings.AlternateHandling.TheVariants.{NonIgnorable, Shifted, Blanked}
 use Rattle.icu_entries.specs.Elements.{Element}
-use Rattle.icu_order.specs.Handled.{HandledElement, stayed, shifted_primary, is_variable, handled_variable, handled, stayed_elements}
-use Rattle.icu_order.specs.Levels.{weights}
+use Rattle.icu_weighting.specs.Handled.{HandledElement, stayed, shifted_primary, is_variable, handled_variable, handled, stayed_elements}
+use Rattle.icu_weighting.specs.Levels.{weights}
 
 -- what holds of each branch, where its test came out so
 pub by_test : {X : Type 0} (C : X → Type 0) (b : Bool) (x y : X) → (b ≡ true → C x) → (b ≡ false → C y) → C (if b then x else y)

@@ -11,10 +11,10 @@ use Rattle.icu_levels.proofs.ReorderedNumbers.{live_stands}
 use Rattle.icu_entries.specs.Elements.{Element, of_primary}
 use Rattle.icu_checks.specs.GoodTables.{IsGoodTables}
 use Rattle.icu_elements.specs.TextParts.{AreDigits}
-use Rattle.icu_order.specs.Collations.{Collation}
-use Rattle.icu_order.specs.Handled.{HandledElement, is_variable, handled, stayed_elements}
-use Rattle.icu_order.specs.Levels.{weights, primaries}
-use Rattle.icu_order.specs.Forms.{compression_of, last_variable_by}
+use Rattle.icu_weighting.specs.Collations.{Collation}
+use Rattle.icu_weighting.specs.Handled.{HandledElement, is_variable, handled, stayed_elements}
+use Rattle.icu_weighting.specs.Levels.{weights, primaries}
+use Rattle.icu_weighting.specs.Forms.{compression_of, last_variable_by}
 use Rattle.icu_order.specs.TextOrder.{handled_elements}
 use Rattle.icu_order.specs.LiveWeights.{IsLivePrimary}
 use Rattle.icu_order.proofs.HandledLemmas.{by_test, none_stayed}

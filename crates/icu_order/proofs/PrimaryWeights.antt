@@ -12,7 +12,7 @@ use Rattle.icu_entries.specs.ElementConditions.{has_primary_lead, separator_prim
 use Rattle.icu_provider.specs.Reorderings.{Reordering, lead_byte}
 use Rattle.icu_provider.specs.SpecialPrimaries.{is_compressible}
 use Rattle.icu_checks.specs.declared.condition.Condition.TheVariants as conditions
-use Rattle.icu_checks.specs.declared.condition.ElementCondition.TheVariants.{Width, MiddleLead, NumericLead, SharedLead, SecondByte}
+use Rattle.icu_checks.specs.declared.condition.LiveElementCondition.TheVariants.{Width, MiddleLead, NumericLead, SharedLead, SecondByte}
 use Rattle.icu_checks.specs.declared.condition.PairCondition.TheVariants.{Primaries, Compression}
 use Rattle.icu_checks.specs.declared.condition.LeadCondition.TheVariants as leads
 use Rattle.icu_provider.specs.CollatorTables.{CollatorTables, reorder_by, reorder, new_lead}
@@ -20,8 +20,8 @@ use Rattle.icu_weights.specs.Leads.{is_middle}
 use Rattle.icu_checks.specs.ElementConditions.{primary_meets, implicit_lead, is_apart, has_second_byte}
 use Rattle.icu_checks.specs.GoodTables.{IsReordering, IsGoodTables}
 use Rattle.icu_weights.proofs.LeadLemmas.{reordered-rest, reordered-bound}
-use Rattle.icu_order.specs.Levels.{primary_of}
-use Rattle.icu_order.specs.Forms.{compression_of}
+use Rattle.icu_weighting.specs.Levels.{primary_of}
+use Rattle.icu_weighting.specs.Forms.{compression_of}
 use Rattle.icu_order.specs.LiveWeights.{IsLivePrimary, IsShiftedPrimary}
 use Rattle.icu_order.proofs.LiveElementLemmas.{live-primary_lead, implied, where_some}
 

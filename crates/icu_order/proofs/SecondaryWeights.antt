@@ -7,12 +7,12 @@ use Rattle.icu_levels.specs.Premises.{AreSecondaries, IsPrefixFree}
 use Rattle.icu_levels.proofs.MovedWeights.{begins_lead}
 use Rattle.icu_entries.specs.ElementConditions.{has_secondary_lead, has_tertiary_lead, tertiary_of}
 use Rattle.icu_checks.specs.declared.condition.Condition.TheVariants as conditions
-use Rattle.icu_checks.specs.declared.condition.ElementCondition.TheVariants.{Width, BackwardLead}
+use Rattle.icu_checks.specs.declared.condition.LiveElementCondition.TheVariants.{Width, BackwardLead}
 use Rattle.icu_checks.specs.declared.condition.PairCondition.TheVariants.{Secondaries}
 use Rattle.icu_provider.specs.CollatorTables.{CollatorTables, is_forward}
 use Rattle.icu_checks.specs.GoodTables.{IsGoodTables}
-use Rattle.icu_order.specs.Levels.{secondary_of}
-use Rattle.icu_order.specs.LiveWeights.{IsLiveWeight, IsLiveSecondary, least_secondary_lead}
+use Rattle.icu_weighting.specs.Levels.{secondary_of}
+use Rattle.icu_order.specs.LiveWeights.{IsLevelWeight, IsLiveSecondary, least_secondary_lead}
 use Rattle.icu_order.proofs.LiveElementLemmas.{live-leads}
 
 -- the leads of secondaries, from the least one on
@@ -40,7 +40,7 @@ from_least false s h (inr (inr high)) = inr (inr high)
 module _ (all : CollatorTables) (good : IsGoodTables all) where
   -- of live elements
   abbrev OfElement : ℕ → Type 0
-  OfElement = IsLiveWeight secondary_of secondary_of all
+  OfElement = IsLevelWeight secondary_of secondary_of all
 
   element_lead : (s : ℕ) → OfElement s → HasLead (least_secondary_lead all) s
   element_lead s w =

@@ -10,8 +10,8 @@ use Rattle.icu_options.specs.declared.settings.MaxVariable.TheVariants.{Space, P
 use Rattle.icu_provider.specs.SpecialPrimaries.{IsSpecialPrimaries, ends_below, group_index, last_primary}
 use Rattle.icu_provider.specs.CollatorTables.{CollatorTables}
 use Rattle.icu_checks.specs.GoodTables.{IsGoodTables}
-use Rattle.icu_order.specs.Collations.{Collation}
-use Rattle.icu_order.specs.Forms.{last_variable, last_variable_by}
+use Rattle.icu_weighting.specs.Collations.{Collation}
+use Rattle.icu_weighting.specs.Forms.{last_variable, last_variable_by}
 
 numeric_bounds : (last : List ℕ) (n : ℕ) → IsSpecialPrimaries last n → (3 ≤ n) × (n < 256)
 numeric_bounds last n special =

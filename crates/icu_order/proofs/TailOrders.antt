@@ -7,10 +7,10 @@ use Rattle.icu_provider.specs.CollatorTables.{reorder}
 use Rattle.icu_elements.specs.TextElements.{Reading, elements_of, elements_after, elements_along}
 use Rattle.icu_cuts.proofs.NfdLemmas.{nfd-nil, nfd-append}
 use Rattle.icu_cuts.proofs.CutLemmas.{safe_cut}
-use Rattle.icu_order.specs.Collations.{Collation}
-use Rattle.icu_order.specs.Forms.{form_by, last_variable_by, compression_of}
-use Rattle.icu_order.specs.Handled.{stayed_elements}
-use Rattle.icu_order.specs.Levels.{weights, primary_of, secondary_of, cases_in, tertiaries_in, quaternaries}
+use Rattle.icu_weighting.specs.Collations.{Collation}
+use Rattle.icu_weighting.specs.Forms.{form_by, last_variable_by, compression_of}
+use Rattle.icu_weighting.specs.Handled.{stayed_elements}
+use Rattle.icu_weighting.specs.Levels.{weights, primary_of, secondary_of, cases_in, tertiaries_in, quaternaries}
 use Rattle.icu_order.specs.TextOrder.{reading_by, handled_by, handled_elements, lists_by, text_order}
 use Rattle.icu_order.specs.TextCuts.{begins_with_primary, IsTail, CommonBeginningsDoNotCount}
 use Rattle.icu_order.proofs.AppendLemmas.{weights-append, cases_in-append, tertiaries_in-append, quaternaries-append, stayed_elements-append, handled-fronted}

@@ -17,14 +17,14 @@ use Rattle.icu_entries.specs.declared.error.DataTable.{DataTable}
 use Rattle.icu_entries.specs.Elements.{Element, common, case_mask, tertiary_mask}
 use Rattle.icu_entries.specs.ElementConditions.{has_shape, has_whole_weights, has_weights_below, has_lower_half, has_secondary_lead, has_tertiary_lead, tertiary_of}
 use Rattle.icu_checks.specs.declared.condition.Condition.TheVariants as conditions
-use Rattle.icu_checks.specs.declared.condition.ElementCondition.TheVariants.{Width, TertiaryElement}
+use Rattle.icu_checks.specs.declared.condition.LiveElementCondition.TheVariants.{Width, TertiaryElement}
 use Rattle.icu_checks.specs.declared.condition.PairCondition.TheVariants.{Tertiaries}
 use Rattle.icu_provider.specs.CollatorTables.{CollatorTables}
 use Rattle.icu_checks.specs.ElementConditions.{is_tertiary_element, is_high_tertiary_element, upper_case}
 use Rattle.icu_checks.specs.LiveElements.{IsElementBy}
 use Rattle.icu_checks.specs.GoodTables.{IsGoodTables}
-use Rattle.icu_order.specs.Levels.{cased_mask, masked_tertiary, tertiary_in}
-use Rattle.icu_order.specs.LiveWeights.{IsLiveWeight, IsLiveTertiary}
+use Rattle.icu_weighting.specs.Levels.{cased_mask, masked_tertiary, tertiary_in}
+use Rattle.icu_order.specs.LiveWeights.{IsLevelWeight, IsLiveTertiary}
 use Rattle.icu_order.proofs.LiveElementLemmas.{live-shape, live-leads, other_part, implied}
 
 -- ---- bits of a lower half
@@ -119,7 +119,7 @@ cased_parts l small h apart some = (
 module _ (all : CollatorTables) (good : IsGoodTables all) where
   -- of live elements
   abbrev OfElement : TertiaryForm → ℕ → Type 0
-  OfElement form = IsLiveWeight (masked_tertiary form) (tertiary_in form) all
+  OfElement form = IsLevelWeight (masked_tertiary form) (tertiary_in form) all
 
   plain_lead : (t : ℕ) → OfElement WithoutCase t → (2 ≤ t / 256) × ((t / 256 ≤ 0x3F) × (t ≢ 0x500 → t / 256 ≢ 5))
   plain_lead t w =

@@ -18,8 +18,8 @@ use Rattle.icu_entries.specs.ElementConditions.{separator_primary, tertiary_of}
 use Rattle.icu_data.proofs.ListLemmas.{all_append}
 use Rattle.icu_provider.specs.CollatorTables.{CollatorTables, reorder}
 use Rattle.icu_checks.specs.GoodTables.{IsGoodTables}
-use Rattle.icu_order.specs.Handled.{HandledElement, stayed, shifted_primary, stayed_elements}
-use Rattle.icu_order.specs.Levels.{primaries, secondary_of, parted, segments, case_reads, case_rank, cases_in, masked_tertiary, tertiary_in, tertiaries_in, quaternaries, level_lists}
+use Rattle.icu_weighting.specs.Handled.{HandledElement, stayed, shifted_primary, stayed_elements}
+use Rattle.icu_weighting.specs.Levels.{primaries, secondary_of, parted, segments, case_reads, case_rank, cases_in, masked_tertiary, tertiary_in, tertiaries_in, quaternaries, level_lists}
 use Rattle.icu_order.specs.LiveWeights.{IsLivePrimary, IsShiftedPrimary, IsLiveSecondary, IsLiveTertiary, IsTertiaryOf, live_weights}
 use Rattle.icu_order.proofs.HandledLemmas.{by_test, HoldsOf, stayed_hold, weights_hold}
 use Rattle.icu_order.proofs.TextSources.{IsSource}

@@ -27,9 +27,9 @@ use Rattle.icu_checks.specs.GoodTables.{IsGoodTables}
 use Rattle.icu_elements.specs.TextElements.{elements_of}
 use Rattle.icu_elements.specs.TextParts.{IsDecomposed}
 use Rattle.icu_elements.proofs.DecomposedLemmas.{IsDecomposedText-nfd}
-use Rattle.icu_order.specs.Collations.{Collation}
-use Rattle.icu_order.specs.Handled.{is_variable, handled}
-use Rattle.icu_order.specs.Forms.{compression_of, direction, secondary_form, tertiary_form, quaternary_form, handling_form, form_by, last_variable, last_variable_by}
+use Rattle.icu_weighting.specs.Collations.{Collation}
+use Rattle.icu_weighting.specs.Handled.{is_variable, handled}
+use Rattle.icu_weighting.specs.Forms.{compression_of, direction, secondary_form, tertiary_form, quaternary_form, handling_form, form_by, last_variable, last_variable_by}
 use Rattle.icu_order.specs.TextOrder.{reading_by, handled_by, lists_by, text_order, text_key}
 use Rattle.icu_order.specs.LiveWeights.{IsLivePrimary, live_weights}
 use Rattle.icu_order.specs.TextOrderLaws.{LevelsKeep}

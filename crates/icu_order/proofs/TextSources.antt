@@ -21,7 +21,7 @@ use Rattle.icu_elements.proofs.ReadableLemmas.{good_readable, readable_digits}
 use Rattle.icu_elements.proofs.ElementSourceLemmas.{all_contained, all_live}
 use Rattle.icu_elements.proofs.LiveTextLemmas.{live_entry, good_tables_live}
 use Rattle.icu_elements.proofs.DecomposedLemmas.{IsDecomposedText-nfd}
-use Rattle.icu_order.specs.Collations.{Collation}
+use Rattle.icu_weighting.specs.Collations.{Collation}
 use Rattle.icu_order.specs.TextOrder.{reading_by}
 use Rattle.icu_order.specs.LiveWeights.{IsLivePrimary}
 use Rattle.icu_order.proofs.SpecialBounds.{numeric_low}

@@ -18,9 +18,9 @@ use Rattle.icu_entries.specs.ElementConditions.{tertiary_of}
 use Rattle.icu_data.proofs.ListLemmas.{weaker}
 use Rattle.icu_provider.specs.CollatorTables.{CollatorTables, reorder}
 use Rattle.icu_checks.specs.GoodTables.{IsGoodTables}
-use Rattle.icu_order.specs.Handled.{HandledElement, stayed_elements}
-use Rattle.icu_order.specs.Levels.{weights, primary_of, primaries, secondary_of, secondaries, segments, case_reads, case_rank, cases_in, masked_tertiary, tertiary_in, tertiaries, tertiaries_in, quaternaries, level_lists}
-use Rattle.icu_order.specs.Forms.{compression_of}
+use Rattle.icu_weighting.specs.Handled.{HandledElement, stayed_elements}
+use Rattle.icu_weighting.specs.Levels.{weights, primary_of, primaries, secondary_of, secondaries, segments, case_reads, case_rank, cases_in, masked_tertiary, tertiary_in, tertiaries, tertiaries_in, quaternaries, level_lists}
+use Rattle.icu_weighting.specs.Forms.{compression_of}
 use Rattle.icu_order.specs.LiveWeights.{IsLivePrimary}
 use Rattle.icu_order.proofs.HandledLemmas.{HoldsOf, stayed_hold}
 use Rattle.icu_order.proofs.CountLemmas.{as_many, alike_many, ReadAlike, PartsWithSecondary, total, segments_count, quaternaries_many}

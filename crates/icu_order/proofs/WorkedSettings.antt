@@ -11,8 +11,8 @@ use Rattle.icu_entries.specs.Elements.{Element, element_of}
 use Rattle.icu_data.specs.Data.{Context}
 use Rattle.icu_provider.specs.Tables.{Tables}
 use Rattle.icu_provider.specs.CollatorTables.{CollatorTables}
-use Rattle.icu_elements.proofs.WorkedTables.{mini as mini_tables, ring, offsets}
-use Rattle.icu_order.specs.Collations.{Collation}
+use Rattle.icu_elements.proofs.WorkedReadings.{mini as mini_tables, ring, offsets}
+use Rattle.icu_weighting.specs.Collations.{Collation}
 
 -- ---- settings, with tables
 

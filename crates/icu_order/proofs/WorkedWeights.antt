@@ -4,7 +4,7 @@ use Rattle.icu_levels.specs.declared.forms.TertiaryForm.TheVariants.{WithoutCase
 use Rattle.icu_entries.specs.declared.error.DataTable.TheVariants.{Diacritics}
 use Rattle.icu_entries.specs.Elements.{Element, of_secondary}
 use Rattle.icu_provider.specs.CollatorTables.{CollatorTables}
-use Rattle.icu_order.specs.Levels.{tertiary_in}
+use Rattle.icu_weighting.specs.Levels.{tertiary_in}
 use Rattle.icu_order.specs.LiveWeights.{least_secondary_lead, IsLiveSecondary}
 
 -- a letter, a capital with a quaternary, one of mixed case, and an element with a tertiary alone

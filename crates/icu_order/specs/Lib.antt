@@ -1,7 +1,8 @@
-pub mod Handled
-pub mod Levels
-pub mod Collations
-pub mod Forms
+-- What the order is defined by, handed on: the collation, variable weighting, the lists of the levels and their forms.
+pub use Rattle.icu_weighting.specs.Collations
+pub use Rattle.icu_weighting.specs.Handled
+pub use Rattle.icu_weighting.specs.Levels
+pub use Rattle.icu_weighting.specs.Forms
 pub mod TextOrder
 pub mod LiveWeights
 pub mod TextOrderLaws

@@ -12,12 +12,12 @@ use Rattle.icu_entries.specs.Elements.{Element, common}
 use Rattle.icu_provider.specs.CollatorTables.{CollatorTables, is_forward, reorder}
 use Rattle.icu_checks.specs.LiveElements.{IsElementBy}
 use Rattle.icu_checks.specs.GoodTables.{IsGoodTables}
-use Rattle.icu_order.specs.Levels.{primary_of, secondary_of, masked_tertiary, tertiary_in}
-use Rattle.icu_order.specs.Forms.{compression_of}
+use Rattle.icu_weighting.specs.Levels.{primary_of, secondary_of, masked_tertiary, tertiary_in}
+use Rattle.icu_weighting.specs.Forms.{compression_of}
 
 -- An element is live by one of the tables, what a level reads of it isn't 0, and the weight is what the level has for
 -- it
-pub record IsLiveWeight (reads has : Element → ℕ) (all : CollatorTables) (w : ℕ) : Type 0 where
+pub record IsLevelWeight (reads has : Element → ℕ) (all : CollatorTables) (w : ℕ) : Type 0 where
   pub table : DataTable
   pub element : Element
   pub live : IsElementBy table all.tables element
@@ -28,17 +28,17 @@ pub record IsLiveWeight (reads has : Element → ℕ) (all : CollatorTables) (w 
 
 -- before reordering
 abbrev pub IsLivePrimary : CollatorTables → ℕ → Type 0
-IsLivePrimary all = IsLiveWeight primary_of primary_of all
+IsLivePrimary all = IsLevelWeight primary_of primary_of all
 
 -- after it, as the quaternary level has the primary of a variable element that is shifted
 abbrev pub IsShiftedPrimary : CollatorTables → ℕ → Type 0
-IsShiftedPrimary all = IsLiveWeight primary_of (λ x. reorder all x.primary) all
+IsShiftedPrimary all = IsLevelWeight primary_of (λ x. reorder all x.primary) all
 
 -- ---- secondaries
 
 -- the common one, which numbers have, and those of live elements
 abbrev pub IsLiveSecondary : CollatorTables → ℕ → Type 0
-IsLiveSecondary all s = (s ≡ common) ⊎ IsLiveWeight secondary_of secondary_of all s
+IsLiveSecondary all s = (s ≡ common) ⊎ IsLevelWeight secondary_of secondary_of all s
 
 -- the least lead of a secondary: the backward level keeps 02 for itself
 abbrev pub least_secondary_lead : CollatorTables → ℕ
@@ -49,7 +49,7 @@ least_secondary_lead all = if is_forward all then forward_least else backward_le
 -- the common one, which numbers have, and those of live elements
 abbrev pub IsLiveTertiary : CollatorTables → TertiaryForm → ℕ → Type 0
 IsLiveTertiary all form t =
-    (t ≡ (tertiary_runs form).common) ⊎ IsLiveWeight (masked_tertiary form) (tertiary_in form) all t
+    (t ≡ (tertiary_runs form).common) ⊎ IsLevelWeight (masked_tertiary form) (tertiary_in form) all t
 
 -- ---- all levels
 

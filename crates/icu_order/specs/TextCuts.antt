@@ -7,8 +7,8 @@ use Rattle.icu_levels.specs.CommonBeginnings.{ReadsForward}
 use Rattle.icu_entries.specs.Elements.{Element}
 use Rattle.icu_elements.specs.TextElements.{elements_of}
 use Rattle.icu_cuts.specs.Cuts.{IsSafe}
-use Rattle.icu_order.specs.Collations.{Collation}
-use Rattle.icu_order.specs.Forms.{form_by, last_variable_by}
+use Rattle.icu_weighting.specs.Collations.{Collation}
+use Rattle.icu_weighting.specs.Forms.{form_by, last_variable_by}
 use Rattle.icu_order.specs.TextOrder.{reading_by, text_order}
 
 -- the first element, if there is one, has a primary

@@ -8,10 +8,10 @@ use Rattle.icu_provider.specs.Metadata.{is_lithuanian}
 use Rattle.icu_provider.specs.CollatorTables.{reorder}
 use Rattle.icu_elements.specs.TextElements.{Reading, elements_of}
 use Rattle.icu_elements.specs.LiveTexts.{collator_reading}
-use Rattle.icu_order.specs.Collations.{Collation}
-use Rattle.icu_order.specs.Handled.{HandledElement, handled}
-use Rattle.icu_order.specs.Levels.{level_lists}
-use Rattle.icu_order.specs.Forms.{compression_of, form_by, last_variable_by}
+use Rattle.icu_weighting.specs.Collations.{Collation}
+use Rattle.icu_weighting.specs.Handled.{HandledElement, handled}
+use Rattle.icu_weighting.specs.Levels.{level_lists}
+use Rattle.icu_weighting.specs.Forms.{compression_of, form_by, last_variable_by}
 
 -- how texts are read: digits as numbers where the settings say so, and silent dots where the metadata does
 abbrev pub reading_by : Collation → Reading

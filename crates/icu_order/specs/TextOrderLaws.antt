@@ -11,8 +11,8 @@ use Rattle.icu_levels.specs.KeyLaws.{SameSecondaries, SameCases, SameTertiaries,
 use Rattle.icu_levels.specs.declared.forms.KeyForm.{KeyForm}
 use Rattle.icu_checks.specs.GoodTables.{IsGoodTables}
 use Rattle.icu_elements.specs.TextElementLaws.{IsText}
-use Rattle.icu_order.specs.Collations.{Collation}
-use Rattle.icu_order.specs.Forms.{compression_of, form_by}
+use Rattle.icu_weighting.specs.Collations.{Collation}
+use Rattle.icu_weighting.specs.Forms.{compression_of, form_by}
 use Rattle.icu_order.specs.TextOrder.{lists_by, text_order, text_key}
 
 -- what holds of any two texts, by each collation whose tables meet the conditions
@@ -59,6 +59,7 @@ pub record LevelsKeep (c : Compression) (f : KeyForm) (t u : LevelLists) : Type 
       → LevelKeeps (identical_part f.identical t) (identical_part f.identical u) (characters_order f.identical t u)
       (SameCharacters f.identical t u)
 
+-- each level of a key keeps the order of texts, where all earlier levels tie
 abbrev pub LevelsKeepTextOrder : Type 0
 LevelsKeepTextOrder =
     OfTexts (λ c t u. LevelsKeep (compression_of c.tables) (form_by c)

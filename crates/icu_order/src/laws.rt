@@ -4,9 +4,8 @@ ghost use Rattle.icu_order.specs.LiveWeights.{GoodTablesServeLevels};
 ghost use Rattle.icu_order.specs.TextCuts.{CommonBeginningsDoNotCount};
 ghost use Rattle.icu_order.specs.TextOrderLaws.{EqualTextsHaveOneKey, KeysDetermineTextLists, KeysKeepTextOrder, LevelsKeepTextOrder};
 
-/// The weights that tables give which meet the conditions on all tables of a collator are as the order theorem of sort
-/// keys asks, for keys of each form (UTS #10, "Form Sort Keys"; UTS #35 part 5, "Collation Reordering" and "Case
-/// Parameters").
+/// Good tables give weights as the order theorem of keys asks, for keys of each form (UTS #10, "Form Sort Keys"; UTS #35
+/// part 5, "Collation Reordering" and "Case Parameters").
 ///
 /// Weights of one level are prefix free (UTS #10, "Large Weight Values"): primaries after reordering, tertiaries with
 /// case bits and without. Leads stand clear of the bytes that keys keep for themselves. Reordering changes leads alone,

@@ -1,6 +1,6 @@
 -- What a root or a tailoring says that is being put together.
 use Rattle.std.specs.Prelude.{◌≡◌, ℕ, ◌<◌, ◌&&◌, nat_le, List, [], ◌∷◌, ◌++◌, map, slice_index_or, if◌then◌else◌}
-use Rattle.icu_entries.specs.Elements.{element_of}
+use Rattle.icu_entries.specs.Elements.{Element, element_of}
 use Rattle.icu_owned_data.specs.declared.data_builder.DataBuilder.{DataBuilder}
 use Rattle.icu_data.specs.CodePointTables.{code_point_count}
 use Rattle.icu_data.specs.Contexts.{stored_contexts}
@@ -14,17 +14,19 @@ empty_data others = record { value = λ c. others; elements = []; entries = []; 
 abbrev pub with_entries : ℕ → ℕ → ℕ → (ℕ → ℕ) → ℕ → ℕ
 with_entries first last entry value c = if nat_le first c && nat_le c last then entry else value c
 
--- the same, with these entries set
+-- a root or a tailoring where these characters have this entry
 abbrev pub set_in : Data → ℕ → ℕ → ℕ → Data
 set_in d first last entry = record d { value = with_entries first last entry d.value }
 
--- with more elements, by their bits, with more entries, and with one more context
-abbrev pub and_elements : Data → List ℕ → Data
-and_elements d bits = record d { elements = d.elements ++ map element_of bits }
+-- with more elements
+abbrev pub and_elements : Data → List Element → Data
+and_elements d es = record d { elements = d.elements ++ es }
 
+-- with more entries to which entries refer
 abbrev pub and_entries : Data → List ℕ → Data
 and_entries d es = record d { entries = d.entries ++ es }
 
+-- with one more context
 abbrev pub and_context : Data → Context → Data
 and_context d x = record d { contexts = d.contexts ++ x ∷ [] }
 

@@ -9,6 +9,7 @@ use Rattle.icu_data.specs.Contexts.{IsContextTable, FailsContexts, stored_contex
 use Rattle.icu_data.specs.LiveConditions.{IsGoodData, FailsData}
 use Rattle.icu_data.specs.Data.{Data}
 
+-- what the lists say as they stand
 unfoldable pub vectors_data : DataVectors → Data
 vectors_data v =
     record {
@@ -18,6 +19,7 @@ vectors_data v =
       contexts = stored_contexts v.contexts.items v.rows.items v.chars.items;
     }
 
+-- what the lists of a table say that has passed its checks
 unfoldable pub owned_data : OwnedData → Data
 owned_data o = vectors_data o.vectors
 

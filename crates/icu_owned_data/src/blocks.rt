@@ -16,8 +16,10 @@ pub(crate) struct Blocks {
 /// The number of a block among these values.
 fn find_block(values: &[u32], block: &[u32]) -> Option<usize>
     requires { length block.now ≡ 64 }
-    ensures found { IfSome result (λ n. (64 * n + 64 ≤ length values.now) × (block_at values.now n ≡ block.now)) }
-    ensures none { IfNone result ((n : ℕ) → 64 * n + 64 ≤ length values.now → block_at values.now n ≢ block.now) }
+    ensures found { IfSome result (λ n. (64 * n + 64 ≤ length values.now)
+        × (block_at values.now n ≡ block.now)) }
+    ensures none { IfNone result ((n : ℕ) → 64 * n + 64 ≤ length values.now
+        → block_at values.now n ≢ block.now) }
 {
     for number in 0..values.len() / BLOCK_LEN {
         let start = number * BLOCK_LEN;
@@ -47,7 +49,8 @@ fn block_number(values: &mut Vec<u32>, block: &[u32]) -> Result<u16, AllocError>
 pub(crate) fn blocks_of(alloc: Global, entries: &[u32]) -> Result<Blocks, AllocError>
     requires { length entries.now ≡ 0x110000 }
     ensures table { IfOk result (λ t. IsCodePointTable t.blocks.items t.values.items) }
-    ensures entries { IfOk result (λ t. (c d : ℕ) → c < 0x110000 → stored_value t.blocks.items t.values.items c ≡ slice_index_or entries.now c d) }
+    ensures entries { IfOk result (λ t. (c d : ℕ) → c < 0x110000
+        → stored_value t.blocks.items t.values.items c ≡ slice_index_or entries.now c d) }
     ensures distinct { IfOk result (λ t. HasDistinctBlocks t.values.items) }
 {
     let mut values = Vec::new(alloc);

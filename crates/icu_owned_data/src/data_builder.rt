@@ -10,15 +10,16 @@ use crate::blocks::{Blocks, blocks_of};
 use crate::data_vectors::DataVectors;
 use icu_data::code_point_table::CODE_POINT_COUNT;
 use icu_data::{Context, ContextRow};
+use icu_entries::{CollationElement, CollationElement32};
 use std::alloc::{AllocError, Global};
 
-/// Builds a root or a tailoring: begun with one entry for all characters, it is given the entries of others one by one
-/// or by ranges, in any order, of which the last one counts; and the lists and contexts that entries refer to. It takes
-/// four bytes a code point while it builds. `build` stores blocks of 64 equal entries once.
+/// Builds a root or a tailoring. It begins with one entry for all characters. Entries of others are given one by one or
+/// by ranges, in any order; the last one counts. Lists and contexts that entries refer to are given too. It takes four
+/// bytes a code point while it builds. `build` stores blocks of 64 equal entries once.
 #[derive(Debug, Drop)]
 pub struct DataBuilder {
     alloc: Global,
-    others: u32,
+    others: CollationElement32,
     characters: Vec<u32>,
     ces: Vec<u64>,
     ce32s: Vec<u32>,
@@ -29,27 +30,60 @@ pub struct DataBuilder {
     ghost inside: { HasRangesInside contexts.items rows.items chars.items },
 }
 
+/// Appends the bits of elements. An `Err` leaves all as it was.
+fn push_elements(ces: &mut Vec<u64>, elements: &[CollationElement]) -> Result<(), AllocError>
+    ensures adds { OnOk result (map element_of ces.new.items
+        ≡ map element_of ces.old.items ++ elements.now) }
+    ensures err { OnErr result (ces.new.items ≡ ces.old.items) }
+{
+    let count = ces.len();
+    for element in elements {
+        if ces.push(element.bits()).is_err() {
+            ces.truncate(count);
+            return Err(AllocError);
+        }
+    }
+    Ok(())
+}
+
+/// Appends the bits of entries. An `Err` leaves all as it was.
+fn push_entries(ce32s: &mut Vec<u32>, entries: &[CollationElement32]) -> Result<(), AllocError>
+    ensures adds { OnOk result (ce32s.new.items ≡ ce32s.old.items ++ entries.now) }
+    ensures err { OnErr result (ce32s.new.items ≡ ce32s.old.items) }
+{
+    let count = ce32s.len();
+    for entry in entries {
+        if ce32s.push(entry.bits()).is_err() {
+            ce32s.truncate(count);
+            return Err(AllocError);
+        }
+    }
+    Ok(())
+}
+
 /// So many entries, all the same.
-fn filled(alloc: Global, entry: u32, count: usize) -> Result<Vec<u32>, AllocError>
+fn filled(alloc: Global, entry: CollationElement32, count: usize) -> Result<Vec<u32>, AllocError>
     ensures len { IfOk result (λ v. length v.items ≡ count) }
     ensures entries { IfOk result (λ v. (k : ℕ) → slice_index_or v.items k entry ≡ entry) }
 {
     let mut entries = Vec::new(alloc);
-    entries.resize(count, entry)?;
+    entries.resize(count, entry.bits())?;
     Ok(entries)
 }
 
 /// Sets the entries from one index to another, both included.
-fn fill(entries: &mut Vec<u32>, first: usize, last: usize, entry: u32)
+fn fill(entries: &mut Vec<u32>, first: usize, last: usize, entry: CollationElement32)
     requires order { first ≤ last }
     requires inside { last < length entries.old.items }
     ensures len { length entries.new.items ≡ length entries.old.items }
     ensures set { (k d : ℕ) → first ≤ k → k ≤ last → slice_index_or entries.new.items k d ≡ entry }
-    ensures below { (k d : ℕ) → k < first → slice_index_or entries.new.items k d ≡ slice_index_or entries.old.items k d }
-    ensures above { (k d : ℕ) → last < k → slice_index_or entries.new.items k d ≡ slice_index_or entries.old.items k d }
+    ensures below { (k d : ℕ) → k < first
+        → slice_index_or entries.new.items k d ≡ slice_index_or entries.old.items k d }
+    ensures above { (k d : ℕ) → last < k
+        → slice_index_or entries.new.items k d ≡ slice_index_or entries.old.items k d }
 {
     for index in first..last + 1 {
-        entries[index] = entry;
+        entries[index] = entry.bits();
     }
 }
 
@@ -59,7 +93,7 @@ impl DataBuilder {
 
     /// A root or a tailoring in which all characters have one entry, without lists and contexts.
     #[tactic(auto, unfolding(crate::specs::Building::built_data))]
-    pub fn new(alloc: Global, others: u32) -> Result<DataBuilder, AllocError>
+    pub fn new(alloc: Global, others: CollationElement32) -> Result<DataBuilder, AllocError>
         ensures { IfOk result (λ b. built_data b ≡ empty_data others) }
     {
         Ok(DataBuilder {
@@ -76,7 +110,7 @@ impl DataBuilder {
 
     /// Gives a character another entry, and no other character.
     #[tactic(auto, unfolding(crate::specs::Building::built_data))]
-    pub fn set_entry(&mut self, c: char, entry: u32)
+    pub fn set_entry(&mut self, c: char, entry: CollationElement32)
         ensures { built_data self.new ≡ set_in (built_data self.old) c c entry }
     {
         self.set_entries(c, c, entry);
@@ -85,7 +119,7 @@ impl DataBuilder {
     /// Gives the characters from `first` to `last`, both included, another entry, and no other character. There are
     /// none if `last` is below `first`.
     #[tactic(auto, unfolding(crate::specs::Building::built_data))]
-    pub fn set_entries(&mut self, first: char, last: char, entry: u32)
+    pub fn set_entries(&mut self, first: char, last: char, entry: CollationElement32)
         ensures { built_data self.new ≡ set_in (built_data self.old) first last entry }
     {
         if first <= last {
@@ -93,27 +127,29 @@ impl DataBuilder {
         }
     }
 
-    /// Adds elements, by their bits, and returns the index of the first. An `Err` leaves all as it was.
+    /// Adds elements, and returns the index of the first. An `Err` leaves all as it was.
     #[tactic(auto, unfolding(crate::specs::Building::built_data))]
-    pub fn add_elements(&mut self, elements: &[u64]) -> Result<usize, AllocError>
+    pub fn add_elements(&mut self, elements: &[CollationElement]) -> Result<usize, AllocError>
         ensures index { IfOk result (λ i. i ≡ length (built_data self.old).elements) }
-        ensures adds { OnOk result (built_data self.new ≡ and_elements (built_data self.old) elements.now) }
+        ensures adds { OnOk result (built_data self.new
+            ≡ and_elements (built_data self.old) elements.now) }
         ensures err { OnErr result (built_data self.new ≡ built_data self.old) }
     {
         let index = self.ces.len();
-        self.ces.extend_from_slice(elements)?;
+        push_elements(&mut self.ces, elements)?;
         Ok(index)
     }
 
     /// Adds entries to those that entries refer to, and returns the index of the first. An `Err` leaves all as it was.
     #[tactic(auto, unfolding(crate::specs::Building::built_data))]
-    pub fn add_entries(&mut self, entries: &[u32]) -> Result<usize, AllocError>
+    pub fn add_entries(&mut self, entries: &[CollationElement32]) -> Result<usize, AllocError>
         ensures index { IfOk result (λ i. i ≡ length (built_data self.old).entries) }
-        ensures adds { OnOk result (built_data self.new ≡ and_entries (built_data self.old) entries.now) }
+        ensures adds { OnOk result (built_data self.new
+            ≡ and_entries (built_data self.old) entries.now) }
         ensures err { OnErr result (built_data self.new ≡ built_data self.old) }
     {
         let index = self.ce32s.len();
-        self.ce32s.extend_from_slice(entries)?;
+        push_entries(&mut self.ce32s, entries)?;
         Ok(index)
     }
 
@@ -123,11 +159,12 @@ impl DataBuilder {
     #[tactic(auto, unfolding(crate::specs::Building::built_data))]
     pub fn add_context(
         &mut self,
-        default: u32,
-        rows: &[(&[char], u32)],
+        default: CollationElement32,
+        rows: &[(&[char], CollationElement32)],
     ) -> Result<usize, AllocError>
         ensures index { IfOk result (λ i. i ≡ length (built_data self.old).contexts) }
-        ensures adds { OnOk result (built_data self.new ≡ and_context (built_data self.old) (given_context default rows.entry.now)) }
+        ensures adds { OnOk result (built_data self.new
+            ≡ and_context (built_data self.old) (given_context default rows.entry.now)) }
         ensures err { OnErr result (built_data self.new ≡ built_data self.old) }
     {
         let index = self.contexts.len();

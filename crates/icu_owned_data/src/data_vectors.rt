@@ -61,7 +61,8 @@ impl DataVectors {
     fn copy(alloc: Global, source: CollationData<'_>) -> Result<DataVectors, AllocError>
         ensures says { IfOk result (λ v. vectors_data v ≡ data_of source.entry) }
         ensures table { IfOk result (λ v. IsCodePointTable v.blocks.items v.values.items) }
-        ensures contexts { IfOk result (λ v. IsContextTable v.contexts.items v.rows.items v.chars.items) }
+        ensures contexts { IfOk result (λ v.
+            IsContextTable v.contexts.items v.rows.items v.chars.items) }
     {
         let (trie, ces, ce32s, contexts) = source.parts();
         let (blocks, values) = trie.parts();

@@ -1,2 +1,3 @@
 pub mod SpecialLemmas
 mod WorkedTables
+pub mod MetadataLemmas

@@ -21,6 +21,7 @@ abbrev pub reorder_by : Option Reordering → ℕ → ℕ
 reorder_by None p = p
 reorder_by (Some r) p = reordered r p
 
+-- a primary weight as these tables compare it
 abbrev pub reorder : CollatorTables → ℕ → ℕ
 reorder all p = reorder_by all.reordering p
 

@@ -13,6 +13,7 @@ is_replaced_index i = i == 0x40 || i == 0x41 || i == 0x43 || i == 0x44
 unfoldable pub is_diacritic_weight : Bool → ℕ → Bool
 is_diacritic_weight forward s = not (s == 0) && has_shape (of_secondary s) && has_leads forward (of_secondary s)
 
+-- each weight is one that a diacritic may have, but for the four that are never read
 abbrev pub HasDiacriticWeights : Bool → List ℕ → Type 0
 HasDiacriticWeights forward secondaries =
     (i : ℕ) → i < length secondaries → IsTrue (is_replaced_index i || is_diacritic_weight forward (slice_index secondaries i))

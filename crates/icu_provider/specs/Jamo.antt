@@ -14,6 +14,7 @@ pub record IsJamo (entries : List ℕ) : Type 0 where
   pub digits : All (λ e. IsTrue (has_digit e)) entries
   pub known : All (λ e. IsTrue (has_known_byte e)) entries
 
+-- a condition of this kind fails
 abbrev pub FailsJamo : List ℕ → DataErrorKind → Type 0
 FailsJamo entries kinds.Length = ¬ (length entries ≡ jamo_count)
 FailsJamo entries kinds.Digit = ¬ (All (λ e. IsTrue (has_digit e)) entries)

@@ -5,8 +5,10 @@ pub mod Jamo
 pub mod Reorderings
 pub mod SpecialPrimaries
 pub mod Metadata
+pub mod MetadataFields
 pub mod Requests
 pub mod Loads
+pub mod FixedLoads
 pub mod StoredTables
 pub mod CollatorTables
 pub mod LoadedTables

@@ -22,13 +22,15 @@ pub record AllLive (P : Data → ℕ → ℕ → Type 0) (tables : Tables) : Typ
 abbrev pub HasDigits : Tables → Type 0
 HasDigits tables = AllLive (λ home c e. IsTrue (has_digit e)) tables
 
--- an entry that is live with a character by the root, by the table of jamo, and by the tailoring
+-- an entry that is live with a character by the root
 abbrev pub IsLiveInRoot : Tables → Data → ℕ → ℕ → Type 0
 IsLiveInRoot tables home c e = (home ≡ tables.root) × IsScalar c × Contains (live_at false home c) e
 
+-- an entry that is live with a character by the table of jamo
 abbrev pub IsLiveInJamo : Tables → Data → ℕ → ℕ → Type 0
 IsLiveInJamo tables home c e = (home ≡ tables.root) × IsTrue (is_jamo c) × Contains (live_from home (jamo_entry tables c)) e
 
+-- an entry that is live with a character by the tailoring
 abbrev pub IsLiveInTailoring : Tables → Data → ℕ → ℕ → Type 0
 IsLiveInTailoring tables home c e = (tables.tailoring ≡ Some home) × IsScalar c × Contains (live_at true home c) e
 

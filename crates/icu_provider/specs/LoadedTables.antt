@@ -7,9 +7,9 @@ use Rattle.icu_provider.specs.Requests.{Request, empty_request, without_type}
 use Rattle.icu_provider.specs.CollatorTables.{CollatorTables}
 
 -- the first refusal, or what comes after the first result
-abbrev pub and_then : {A B : Type 0} → Result A DataError → (A → Result B DataError) → Result B DataError
-and_then (Ok x) next = next x
-and_then (Err e) next = Err e
+abbrev pub then_load : {A B : Type 0} → Result A DataError → (A → Result B DataError) → Result B DataError
+then_load (Ok x) next = next x
+then_load (Err e) next = Err e
 
 -- the second result, where the first one is a refusal
 abbrev pub or_else : {A : Type 0} → Result A DataError → Result A DataError → Result A DataError
@@ -36,13 +36,13 @@ diacritics_request bits r = if has_tailored_diacritics bits then r else empty_re
 -- all tables, or the first refusal that no further request mends
 unfoldable pub loaded_tables : Loads → Request → Result CollatorTables DataError
 loaded_tables loads r =
-    and_then loads.root (λ root.
-    and_then loads.jamo (λ jamo.
-    and_then loads.special (λ special.
-    and_then (typed_first loads.metadata r) (λ bits.
-    and_then (if_named (is_tailored bits) (typed_first loads.tailoring r)) (λ tailoring.
-    and_then (if_named (has_reordering bits) (typed_first loads.reordering r)) (λ reordering.
-    and_then (loads.diacritics (diacritics_request bits r)) (λ diacritics.
+    then_load loads.root (λ root.
+    then_load loads.jamo (λ jamo.
+    then_load loads.special (λ special.
+    then_load (typed_first loads.metadata r) (λ bits.
+    then_load (if_named (is_tailored bits) (typed_first loads.tailoring r)) (λ tailoring.
+    then_load (if_named (has_reordering bits) (typed_first loads.reordering r)) (λ reordering.
+    then_load (loads.diacritics (diacritics_request bits r)) (λ diacritics.
     Ok (record {
       tables = record { root = root; tailoring = tailoring; jamo = jamo; diacritics = diacritics };
       special = special;

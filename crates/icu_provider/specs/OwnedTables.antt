@@ -10,20 +10,23 @@ use Rattle.icu_provider.specs.CollatorTables.{CollatorTables}
 use Rattle.icu_provider.specs.Reorderings.{Reordering}
 use Rattle.icu_provider.specs.SpecialPrimaries.{SpecialPrimaries}
 
--- the entries of jamo, the secondary weights of diacritics, a reordering, the special primary weights
+-- the entries of jamo
 unfoldable pub owned_jamo : OwnedJamo → List ℕ
 owned_jamo o = o.ce32s.items
 
+-- the secondary weights of diacritics
 unfoldable pub owned_diacritics : OwnedDiacritics → List ℕ
 owned_diacritics o = o.secondaries.items
 
+-- a reordering
 unfoldable pub owned_reordering : OwnedReordering → Reordering
 owned_reordering o = record { limit = o.min_high_no_reorder; leads = o.reorder_table.items; ranges = o.reorder_ranges.items }
 
+-- the special primary weights
 unfoldable pub owned_special : OwnedSpecialPrimaries → SpecialPrimaries
 owned_special o = record { last = o.last_primaries.items; numeric = o.numeric_primary }
 
--- all of them together
+-- all seven tables together
 unfoldable pub owned_tables : OwnedTables → CollatorTables
 owned_tables o = record {
   tables = record {

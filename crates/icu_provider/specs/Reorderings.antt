@@ -9,6 +9,7 @@ pub record Reordering : Type 0 where
   pub leads : List ℕ
   pub ranges : List ℕ
 
+-- the highest byte of a primary weight
 abbrev pub lead_byte : ℕ → ℕ
 lead_byte p = p / 0x1000000
 
@@ -28,6 +29,7 @@ moved ranges p =
       | None ↦ p
     ]
 
+-- The weight as it is compared: with the new lead byte, or, under a zero, as it stands or moved. Weights 0 and 1 stay.
 unfoldable pub reordered : Reordering → ℕ → ℕ
 reordered r p =
     if not (slice_index r.leads (lead_byte p) == 0) then with_lead (slice_index r.leads (lead_byte p)) p

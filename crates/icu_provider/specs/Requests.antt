@@ -12,12 +12,14 @@ pub record Request : Type 0 where
   pub locale : List ℕ
   pub collation_type : Option (List ℕ)
 
+-- what a request says
 abbrev pub request_of : DataRequest → Request
 request_of r = record { locale = r.locale.now; collation_type = option_map (λ t. t.now) r.collation_type }
 
--- for the root, and for the locale alone
+-- for the root
 abbrev pub empty_request : Request
 empty_request = record { locale = []; collation_type = None }
 
+-- for the locale alone
 abbrev pub without_type : Request → Request
 without_type r = record { locale = r.locale; collation_type = None }

@@ -13,6 +13,7 @@ pub record SpecialPrimaries : Type 0 where
   pub last : List ℕ
   pub numeric : ℕ
 
+-- the place of a group among the four
 abbrev pub group_index : MaxVariable → ℕ
 group_index Space = 0
 group_index Punctuation = 1
@@ -29,17 +30,20 @@ is_compressible special b =
     if length special.last == 20 then has_bit (b % 16) (slice_index special.last (4 + b / 16))
     else (nat_le 0x61 b && nat_le b 0x80) || b == 0xFE
 
--- numbers have a lead byte of their own, and the variable groups end below it
+-- a lead byte that numbers may have
 abbrev pub is_numeric_lead : ℕ → Bool
 is_numeric_lead n = nat_le 3 n && nat_le n 0xFD
 
+-- a group has an end, which is not above the lead byte of numbers
 abbrev pub ends_below : ℕ → ℕ → Bool
 ends_below n p = nat_le 1 p && nat_le p (256 * n)
 
+-- numbers have a lead byte of their own, and the variable groups end below it
 pub record HasGroupEnds (last : List ℕ) (n : ℕ) : Type 0 where
   pub numeric : IsTrue (is_numeric_lead n)
   pub ends : All (λ p. IsTrue (ends_below n p)) (take 4 last)
 
+-- four ends of groups, or more numbers
 pub record IsSpecialPrimaries (last : List ℕ) (n : ℕ) : Type 0 where
   pub count : 4 ≤ length last
   pub group_ends : HasGroupEnds last n

@@ -7,15 +7,18 @@ use Rattle.icu_provider.specs.declared.special_primaries.CollationSpecialPrimari
 use Rattle.icu_provider.specs.Reorderings.{Reordering}
 use Rattle.icu_provider.specs.SpecialPrimaries.{SpecialPrimaries}
 
--- the secondary weights of diacritics, the entries of jamo, a reordering, the special primary weights
+-- the secondary weights of diacritics
 abbrev pub diacritics_of : CollationDiacritics → List ℕ
 diacritics_of d = d.secondaries.now
 
+-- the entries of jamo
 abbrev pub jamo_of : CollationJamo → List ℕ
 jamo_of j = j.ce32s.now
 
+-- a reordering
 abbrev pub reordering_of : CollationReordering → Reordering
 reordering_of r = record { limit = r.min_high_no_reorder; leads = r.reorder_table.now; ranges = r.reorder_ranges.now }
 
+-- the special primary weights
 abbrev pub special_of : CollationSpecialPrimaries → SpecialPrimaries
 special_of s = record { last = s.last_primaries.now; numeric = s.numeric_primary }

@@ -10,6 +10,7 @@ use Rattle.icu_provider.specs.StoredTables.{jamo_of, diacritics_of, special_of, 
 use Rattle.icu_provider.specs.CollatorTables.{CollatorTables}
 use Rattle.icu_provider.specs.Loads.{Loads}
 
+-- what seven borrowed tables say
 unfoldable pub tables_in : TableSet → CollatorTables
 tables_in s = record {
   tables = record {

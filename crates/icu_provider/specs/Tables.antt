@@ -11,13 +11,15 @@ pub record Tables : Type 0 where
   pub jamo : List ℕ
   pub diacritics : List ℕ
 
--- the first conjoining jamo and the first character after them; they have a table of their own
+-- the first conjoining jamo
 abbrev pub jamo_base : ℕ
 jamo_base = 0x1100
 
+-- the first character after the conjoining jamo
 abbrev pub jamo_limit : ℕ
 jamo_limit = 0x1200
 
+-- a conjoining jamo, which has a table of its own
 abbrev pub is_jamo : ℕ → Bool
 is_jamo c = nat_le jamo_base c && nat_lt c jamo_limit
 

@@ -34,10 +34,13 @@ fn is_diacritic_weight(secondary: u16) -> bool
 impl<'d> CollationDiacritics<'d> {
     ghost use Rattle.icu_provider.specs.StoredTables.{diacritics_of};
 
-    /// Borrows the secondary weights. Refuses with `Length` if there are more than 79, and with `Element` if a weight
-    /// is 0, has a nonzero byte after a zero byte, or has a lead byte that secondary weights may not have (they may
-    /// have 02 to 04, 46 to FF, and 05 in 0500). The weights of U+0340, U+0341, U+0343 and U+0344 are free, since no
-    /// canonical decomposition has these characters.
+    /// Borrows the secondary weights. They are refused:
+    ///
+    /// - `Length`: there are more than 79.
+    /// - `Element`: a weight is 0, has a nonzero byte after a zero byte, or has a lead byte that secondary weights may
+    ///   not have (they may have 02 to 04, 46 to FF, and 05 in 0500).
+    ///
+    /// The weights of U+0340, U+0341, U+0343 and U+0344 are free, since no canonical decomposition has these characters.
     pub fn new(secondaries: &'d [u16]) -> Result<CollationDiacritics<'d>, DataErrorKind>
         ensures accepts { IsOk result ↔ IsDiacritics secondaries.entry.now }
         ensures kind { IfErr result (FailsDiacritics secondaries.entry.now) }
@@ -81,6 +84,20 @@ pub struct OwnedDiacritics {
 impl OwnedDiacritics {
     ghost use Rattle.icu_provider.specs.StoredTables.{diacritics_of};
     ghost use Rattle.icu_provider.specs.OwnedTables.{owned_diacritics};
+
+    /// Takes the weights, or refuses them with the kind of a condition that they fail, as `CollationDiacritics::new`
+    /// does. What is refused is dropped.
+    #[tactic(auto, unfolding(crate::specs::OwnedTables::owned_diacritics))]
+    pub fn new(secondaries: Vec<u16>) -> Result<OwnedDiacritics, DataErrorKind>
+        ensures accepts { IsOk result ↔ IsDiacritics secondaries.items }
+        ensures kind { IfErr result (FailsDiacritics secondaries.items) }
+        ensures keeps { IfOk result (λ o. owned_diacritics o ≡ secondaries.items) }
+    {
+        match CollationDiacritics::new(secondaries.as_slice()) {
+            Ok(_) => Ok(OwnedDiacritics { secondaries }),
+            Err(kind) => Err(kind),
+        }
+    }
 
     /// Copies the weights.
     #[tactic(auto, unfolding(crate::specs::OwnedTables::owned_diacritics))]

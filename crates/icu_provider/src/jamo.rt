@@ -5,6 +5,9 @@ ghost use Rattle.icu_provider.specs.Jamo.{IsJamo, FailsJamo};
 use icu_entries::{CollationElement32, DataErrorKind};
 use std::alloc::{AllocError, Global};
 
+/// The first conjoining jamo.
+pub const JAMO_BASE: u32 = 0x1100;
+
 /// How many conjoining jamo there are.
 pub const JAMO_COUNT: usize = 256;
 
@@ -70,6 +73,20 @@ pub struct OwnedJamo {
 impl OwnedJamo {
     ghost use Rattle.icu_provider.specs.StoredTables.{jamo_of};
     ghost use Rattle.icu_provider.specs.OwnedTables.{owned_jamo};
+
+    /// Takes the entries, or refuses them with the kind of a condition that they fail, as `CollationJamo::new` does.
+    /// What is refused is dropped.
+    #[tactic(auto, unfolding(crate::specs::OwnedTables::owned_jamo))]
+    pub fn new(ce32s: Vec<u32>) -> Result<OwnedJamo, DataErrorKind>
+        ensures accepts { IsOk result ↔ IsJamo ce32s.items }
+        ensures kind { IfErr result (FailsJamo ce32s.items) }
+        ensures keeps { IfOk result (λ o. owned_jamo o ≡ ce32s.items) }
+    {
+        match CollationJamo::new(ce32s.as_slice()) {
+            Ok(_) => Ok(OwnedJamo { ce32s }),
+            Err(kind) => Err(kind),
+        }
+    }
 
     /// Copies the entries.
     #[tactic(auto, unfolding(crate::specs::OwnedTables::owned_jamo))]

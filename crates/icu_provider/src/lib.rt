@@ -2,6 +2,7 @@
 #![tactic(auto)]
 
 pub mod diacritics;
+pub mod fixed_provider;
 pub mod jamo;
 pub mod loads;
 pub mod metadata;
@@ -12,9 +13,10 @@ pub mod special_primaries;
 pub mod table_set;
 
 pub use diacritics::{CollationDiacritics, OwnedDiacritics};
+pub use fixed_provider::{FixedLoads, FixedProvider};
 pub use jamo::{CollationJamo, OwnedJamo};
 pub use loads::load_tables;
-pub use metadata::CollationMetadata;
+pub use metadata::{CollationMetadata, MetadataFields};
 pub use provider::CollationProvider;
 pub use reordering::{CollationReordering, OwnedReordering};
 pub use request::DataRequest;

@@ -32,7 +32,8 @@ fn load_metadata<P: CollationProvider>(
     provider: &P,
     request: DataRequest<'_>,
 ) -> Result<CollationMetadata, DataError>
-    ensures { answer (λ m. m.bits) result ≡ typed_first (P.loads provider.now).metadata (request_of request.entry) }
+    ensures { answer (λ m. m.bits) result
+        ≡ typed_first (P.loads provider.now).metadata (request_of request.entry) }
 {
     match provider.load_metadata(request) {
         Err(_) if request.collation_type.is_some() => {
@@ -47,7 +48,8 @@ fn load_tailoring<'p, P: CollationProvider>(
     provider: &'p P,
     request: DataRequest<'_>,
 ) -> Result<CollationData<'p>, DataError>
-    ensures { answer data_of result ≡ typed_first (P.loads provider.now).tailoring (request_of request.entry) }
+    ensures { answer data_of result
+        ≡ typed_first (P.loads provider.now).tailoring (request_of request.entry) }
 {
     match provider.load_tailoring(request) {
         Err(_) if request.collation_type.is_some() => {
@@ -62,7 +64,8 @@ fn load_reordering<'p, P: CollationProvider>(
     provider: &'p P,
     request: DataRequest<'_>,
 ) -> Result<CollationReordering<'p>, DataError>
-    ensures { answer reordering_of result ≡ typed_first (P.loads provider.now).reordering (request_of request.entry) }
+    ensures { answer reordering_of result
+        ≡ typed_first (P.loads provider.now).reordering (request_of request.entry) }
 {
     match provider.load_reordering(request) {
         Err(_) if request.collation_type.is_some() => {
@@ -78,7 +81,8 @@ fn named_tailoring<'p, P: CollationProvider>(
     request: DataRequest<'_>,
     metadata: CollationMetadata,
 ) -> Result<Option<CollationData<'p>>, DataError>
-    ensures { answer (option_map data_of) result ≡ if_named (is_tailored metadata.bits) (typed_first (P.loads provider.now).tailoring (request_of request.entry)) }
+    ensures { answer (option_map data_of) result ≡ if_named (is_tailored metadata.bits)
+        (typed_first (P.loads provider.now).tailoring (request_of request.entry)) }
 {
     if !metadata.tailored() {
         return Ok(None);
@@ -92,7 +96,8 @@ fn named_reordering<'p, P: CollationProvider>(
     request: DataRequest<'_>,
     metadata: CollationMetadata,
 ) -> Result<Option<CollationReordering<'p>>, DataError>
-    ensures { answer (option_map reordering_of) result ≡ if_named (has_reordering metadata.bits) (typed_first (P.loads provider.now).reordering (request_of request.entry)) }
+    ensures { answer (option_map reordering_of) result ≡ if_named (has_reordering metadata.bits)
+        (typed_first (P.loads provider.now).reordering (request_of request.entry)) }
 {
     if !metadata.reordering() {
         return Ok(None);
@@ -106,7 +111,8 @@ fn load_diacritics<'p, P: CollationProvider>(
     request: DataRequest<'_>,
     metadata: CollationMetadata,
 ) -> Result<CollationDiacritics<'p>, DataError>
-    ensures { answer diacritics_of result ≡ (P.loads provider.now).diacritics (diacritics_request metadata.bits (request_of request.entry)) }
+    ensures { answer diacritics_of result ≡ (P.loads provider.now).diacritics
+        (diacritics_request metadata.bits (request_of request.entry)) }
 {
     if metadata.tailored_diacritics() {
         provider.load_diacritics(request)
@@ -129,7 +135,10 @@ pub fn load_tables<'p, P: CollationProvider>(
     locale: &str,
     collation_type: Option<&str>,
 ) -> Result<TableSet<'p>, DataError>
-    ensures { answer tables_in result ≡ loaded_tables (P.loads provider.now) (record { locale = locale.now; collation_type = option_map (λ t. t.now) collation_type.entry }) }
+    ensures { answer tables_in result ≡ loaded_tables (P.loads provider.now) (record {
+      locale = locale.now;
+      collation_type = option_map (λ t. t.now) collation_type.entry;
+    }) }
 {
     let request = DataRequest {
         locale,

@@ -43,7 +43,8 @@ pub trait CollationProvider {
     /// The metadata of a collation: which of the following tables it has, and its settings. It is asked for by locale
     /// and type, and, where a type is refused, by the locale alone.
     fn load_metadata(&self, request: DataRequest<'_>) -> Result<CollationMetadata, DataError>
-        ensures { answer (λ m. m.bits) result ≡ (loads self.now).metadata (request_of request.entry) };
+        ensures { answer (λ m. m.bits) result
+            ≡ (loads self.now).metadata (request_of request.entry) };
 
     /// The tailoring of a collation: the entries of the characters that differ from the root's, and the entry of
     /// fallback for the others. It is asked for only where the metadata says that there is one, by locale and type,
@@ -58,7 +59,8 @@ pub trait CollationProvider {
         &self,
         request: DataRequest<'_>,
     ) -> Result<CollationReordering<'_>, DataError>
-        ensures { answer reordering_of result ≡ (loads self.now).reordering (request_of request.entry) };
+        ensures { answer reordering_of result
+            ≡ (loads self.now).reordering (request_of request.entry) };
 
     /// The secondary weights of U+0300 and the characters after it, one for each: 79, or fewer where the collation has
     /// diacritics of its own. These are asked for by locale and type, once; where the metadata says that there are
@@ -67,5 +69,6 @@ pub trait CollationProvider {
         &self,
         request: DataRequest<'_>,
     ) -> Result<CollationDiacritics<'_>, DataError>
-        ensures { answer diacritics_of result ≡ (loads self.now).diacritics (request_of request.entry) };
+        ensures { answer diacritics_of result
+            ≡ (loads self.now).diacritics (request_of request.entry) };
 }

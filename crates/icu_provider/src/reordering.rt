@@ -77,7 +77,11 @@ impl<'d> CollationReordering<'d> {
     ) -> Result<CollationReordering<'d>, DataErrorKind>
         ensures accepts { IsOk result ↔ (length reorder_table.entry.now ≡ 256) }
         ensures kind { IfErr result (λ k. k ≡ DataErrorKind.Length) }
-        ensures keeps { IfOk result (λ r. reordering_of r ≡ record { limit = min_high_no_reorder; leads = reorder_table.entry.now; ranges = reorder_ranges.entry.now }) }
+        ensures keeps { IfOk result (λ r. reordering_of r ≡ record {
+          limit = min_high_no_reorder;
+          leads = reorder_table.entry.now;
+          ranges = reorder_ranges.entry.now;
+        }) }
     {
         if reorder_table.len() != LEAD_COUNT {
             return Err(DataErrorKind::Length);
@@ -92,7 +96,11 @@ impl<'d> CollationReordering<'d> {
         reorder_ranges: &'d [u32],
     ) -> CollationReordering<'d>
         requires { length reorder_table.now ≡ 256 }
-        ensures { reordering_of result ≡ record { limit = min_high_no_reorder; leads = reorder_table.entry.now; ranges = reorder_ranges.entry.now } }
+        ensures { reordering_of result ≡ record {
+          limit = min_high_no_reorder;
+          leads = reorder_table.entry.now;
+          ranges = reorder_ranges.entry.now;
+        } }
     {
         CollationReordering {
             min_high_no_reorder,
@@ -103,7 +111,8 @@ impl<'d> CollationReordering<'d> {
 
     /// The limit from which on weights stay, the 256 new lead bytes, and the ranges, as `new` takes them.
     pub fn parts(self) -> (u32, &'d [u8], &'d [u32])
-        ensures value { record { limit = result.0; leads = result.1.now; ranges = result.2.now } ≡ reordering_of self.entry }
+        ensures value { record { limit = result.0; leads = result.1.now; ranges = result.2.now }
+            ≡ reordering_of self.entry }
         ensures whole { length result.1.now ≡ 256 }
     {
         (

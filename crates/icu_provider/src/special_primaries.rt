@@ -58,16 +58,19 @@ impl<'d> CollationSpecialPrimaries<'d> {
     ghost use Rattle.icu_provider.specs.StoredTables.{special_of};
 
     /// Borrows the numbers: the two highest bytes of the first primary weight after each of the four variable groups,
-    /// and then, if there are 20 in all, bits for the compressible lead bytes. Refuses with `Length` if there are fewer
-    /// than four, and with `SpecialPrimary` if the numeric lead is not 03 to FD, or one of the first four numbers is 0
-    /// or above 256 times it.
+    /// and then, if there are 20 in all, bits for the compressible lead bytes. They are refused:
+    ///
+    /// - `Length`: there are fewer than four.
+    /// - `SpecialPrimary`: the numeric lead is not 03 to FD, or one of the first four numbers is 0 or above 256 times it.
     pub fn new(
         last_primaries: &'d [u16],
         numeric_primary: u8,
     ) -> Result<CollationSpecialPrimaries<'d>, DataErrorKind>
-        ensures accepts { IsOk result ↔ IsSpecialPrimaries last_primaries.entry.now numeric_primary }
+        ensures accepts { IsOk result
+            ↔ IsSpecialPrimaries last_primaries.entry.now numeric_primary }
         ensures kind { IfErr result (FailsSpecial last_primaries.entry.now numeric_primary) }
-        ensures keeps { IfOk result (λ s. special_of s ≡ record { last = last_primaries.entry.now; numeric = numeric_primary }) }
+        ensures keeps { IfOk result (λ s. special_of s
+            ≡ record { last = last_primaries.entry.now; numeric = numeric_primary }) }
     {
         if last_primaries.len() < 4 {
             return Err(DataErrorKind::Length);
@@ -84,7 +87,8 @@ impl<'d> CollationSpecialPrimaries<'d> {
         numeric_primary: u8,
     ) -> CollationSpecialPrimaries<'d>
         requires { IsSpecialPrimaries last_primaries.now numeric_primary }
-        ensures { special_of result ≡ record { last = last_primaries.entry.now; numeric = numeric_primary } }
+        ensures { special_of result
+            ≡ record { last = last_primaries.entry.now; numeric = numeric_primary } }
     {
         CollationSpecialPrimaries {
             last_primaries,
@@ -143,6 +147,27 @@ pub struct OwnedSpecialPrimaries {
 impl OwnedSpecialPrimaries {
     ghost use Rattle.icu_provider.specs.StoredTables.{special_of};
     ghost use Rattle.icu_provider.specs.OwnedTables.{owned_special};
+
+    /// Takes the numbers, or refuses them with the kind of a condition that they fail, as
+    /// `CollationSpecialPrimaries::new` does. What is refused is dropped.
+    #[tactic(auto, unfolding(crate::specs::OwnedTables::owned_special))]
+    pub fn new(
+        last_primaries: Vec<u16>,
+        numeric_primary: u8,
+    ) -> Result<OwnedSpecialPrimaries, DataErrorKind>
+        ensures accepts { IsOk result ↔ IsSpecialPrimaries last_primaries.items numeric_primary }
+        ensures kind { IfErr result (FailsSpecial last_primaries.items numeric_primary) }
+        ensures keeps { IfOk result (λ o.
+            owned_special o ≡ record { last = last_primaries.items; numeric = numeric_primary }) }
+    {
+        match CollationSpecialPrimaries::new(last_primaries.as_slice(), numeric_primary) {
+            Ok(_) => Ok(OwnedSpecialPrimaries {
+                last_primaries,
+                numeric_primary,
+            }),
+            Err(kind) => Err(kind),
+        }
+    }
 
     /// Copies the numbers.
     #[tactic(auto, unfolding(crate::specs::OwnedTables::owned_special))]

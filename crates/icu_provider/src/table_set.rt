@@ -5,14 +5,14 @@ ghost use Rattle.icu_data.specs.StoredData.{data_of};
 ghost use Rattle.icu_provider.specs.CollatorTables.{is_forward, reorder, new_lead};
 ghost use Rattle.icu_provider.specs.OwnedTables.{owned_reordering, owned_tables};
 ghost use Rattle.icu_provider.specs.StoredTables.{reordering_of};
-ghost use Rattle.icu_provider.specs.TableSets.{tables_in, loads_of};
+ghost use Rattle.icu_provider.specs.TableSets.{loads_of, or_absent, tables_in};
+ghost use Rattle.icu_provider.specs.FixedLoads.{AreLoads};
 
 use crate::diacritics::{CollationDiacritics, OwnedDiacritics};
+use crate::fixed_provider::{FixedLoads, FixedProvider};
 use crate::jamo::{CollationJamo, OwnedJamo};
 use crate::metadata::CollationMetadata;
-use crate::provider::CollationProvider;
 use crate::reordering::{CollationReordering, OwnedReordering, lead_byte};
-use crate::request::DataRequest;
 use crate::special_primaries::{CollationSpecialPrimaries, OwnedSpecialPrimaries};
 use icu_data::CollationData;
 use icu_entries::{DataError, DataErrorKind, DataTable};
@@ -84,12 +84,42 @@ impl<'d> TableSet<'d> {
     {
         lead_byte(self.reorder(u32::from(lead) << 24))
     }
+
+    /// What each load returns: these tables, and `Absent` for a tailoring or a reordering that there isn't.
+    #[tactic(auto, unfolding(crate::specs::TableSets::tables_in))]
+    fn each_load(self) -> FixedLoads<'d>
+        ensures { AreLoads (loads_of (tables_in self.entry)) result }
+    {
+        FixedLoads {
+            root: Ok(self.root),
+            jamo: Ok(self.jamo),
+            special: Ok(self.special),
+            metadata: Ok(self.metadata),
+            tailoring: or_absent(DataTable::Tailoring, self.tailoring),
+            reordering: or_absent(DataTable::Reordering, self.reordering),
+            diacritics: Ok(self.diacritics),
+        }
+    }
+}
+
+/// The table, or that there is none.
+fn or_absent<T>(table: DataTable, found: Option<T>) -> Result<T, DataError>
+    ensures { result ≡ or_absent table found }
+{
+    match found {
+        Some(found) => Ok(found),
+        None => Err(DataError {
+            table,
+            kind: DataErrorKind::Absent,
+        }),
+    }
 }
 
 /// The copy, or an error for the table: out of memory.
 fn or_no_memory<T>(table: DataTable, copy: Result<T, AllocError>) -> Result<T, DataError>
     ensures copy { IfOk result (λ t. copy ≡ Ok t) }
-    ensures memory { IfErr result (λ e. e ≡ record { table = table; kind = DataErrorKind.NoMemory }) }
+    ensures memory { IfErr result (λ e.
+        e ≡ record { table = table; kind = DataErrorKind.NoMemory }) }
 {
     match copy {
         Ok(copy) => Ok(copy),
@@ -116,7 +146,8 @@ fn copy_reordering(
     alloc: Global,
     reordering: Option<CollationReordering<'_>>,
 ) -> Result<Option<OwnedReordering>, AllocError>
-    ensures { IfOk result (λ o. option_map owned_reordering o ≡ option_map reordering_of reordering.entry) }
+    ensures { IfOk result (λ o. option_map owned_reordering o
+        ≡ option_map reordering_of reordering.entry) }
 {
     match reordering {
         Some(reordering) => Ok(Some(OwnedReordering::copy(alloc, reordering)?)),
@@ -177,55 +208,18 @@ impl OwnedTables {
     }
 }
 
-/// The table, or that there is none.
-fn or_absent<T>(table: DataTable, found: Option<T>) -> Result<T, DataError>
-    ensures found { IfOk result (λ t. found ≡ Some t) }
-    ensures absent { IfErr result (λ e. (found ≡ None) × (e ≡ record { table = table; kind = DataErrorKind.Absent })) }
-{
-    match found {
-        Some(found) => Ok(found),
-        None => Err(DataError {
-            table,
-            kind: DataErrorKind::Absent,
-        }),
+impl<'d> FixedProvider for TableSet<'d> {
+    ghost fixed = { λ s. loads_of (tables_in s) };
+
+    fn loads(&self) -> FixedLoads<'_> {
+        self.each_load()
     }
 }
 
-impl<'d> CollationProvider for TableSet<'d> {
-    ghost loads = { λ s. loads_of (tables_in s) };
+impl FixedProvider for OwnedTables {
+    ghost fixed = { λ o. loads_of (owned_tables o) };
 
-    #[tactic(auto, unfolding(crate::specs::TableSets::tables_in))]
-    fn load_root(&self) -> Result<CollationData<'_>, DataError> {
-        Ok(self.root)
-    }
-
-    #[tactic(auto, unfolding(crate::specs::TableSets::tables_in))]
-    fn load_jamo(&self) -> Result<CollationJamo<'_>, DataError> {
-        Ok(self.jamo)
-    }
-
-    #[tactic(auto, unfolding(crate::specs::TableSets::tables_in))]
-    fn load_special_primaries(&self) -> Result<CollationSpecialPrimaries<'_>, DataError> {
-        Ok(self.special)
-    }
-
-    #[tactic(auto, unfolding(crate::specs::TableSets::tables_in))]
-    fn load_metadata(&self, _: DataRequest<'_>) -> Result<CollationMetadata, DataError> {
-        Ok(self.metadata)
-    }
-
-    #[tactic(auto, unfolding(crate::specs::TableSets::tables_in))]
-    fn load_tailoring(&self, _: DataRequest<'_>) -> Result<CollationData<'_>, DataError> {
-        or_absent(DataTable::Tailoring, self.tailoring)
-    }
-
-    #[tactic(auto, unfolding(crate::specs::TableSets::tables_in))]
-    fn load_reordering(&self, _: DataRequest<'_>) -> Result<CollationReordering<'_>, DataError> {
-        or_absent(DataTable::Reordering, self.reordering)
-    }
-
-    #[tactic(auto, unfolding(crate::specs::TableSets::tables_in))]
-    fn load_diacritics(&self, _: DataRequest<'_>) -> Result<CollationDiacritics<'_>, DataError> {
-        Ok(self.diacritics)
+    fn loads(&self) -> FixedLoads<'_> {
+        self.as_set().each_load()
     }
 }

@@ -10,7 +10,7 @@ use Rattle.icu_elements.specs.TextElements.{Reading, continues_number}
 use Rattle.icu_cuts.specs.Alone.{elements_of_char, is_alone}
 use Rattle.icu_cuts.specs.Cuts.{IsSafe, is_named, is_named_by_tailoring, has_prefix}
 use Rattle.icu_shortcuts.specs.SafeTables.{IsSafeBefore}
-use Rattle.icu_shortcuts.specs.Letters.{BeginsWithStarter, IsLetter, IsNumberDigit, IsMarkedStarter, LeadsWith, StandsAlone}
+use Rattle.icu_shortcuts.specs.Letters.{BeginsWithStarter, IsLetter, IsNumberDigit, IsMarkedStarter, HasLeadingPrimary, StandsAlone}
 use Rattle.icu_shortcuts.specs.KeptLetters.{KeptLetter, begins_with, is_marked_starter, is_safe_place, starts_safely, starts_with_primary, starts_with_starter}
 use Rattle.icu_shortcuts.specs.declared.letter_facts.Letter.{Letter}
 
@@ -119,7 +119,7 @@ module _ (reading : Reading) (c : ℕ) where
   safely_from (d ∷ ds) e h = record { first = d; more = ds; decomposes = e; safe = safe_from reading d h }
 
   element_leads : (p d : ℕ) (ds : List ℕ) (es : List Element) → decompose Nfd c ≡ d ∷ ds → is_starter d ≡ true → is_alone reading d ≡ true
-      → elements_of_char reading.tables d ≡ es → begins_with p es ≡ true → LeadsWith reading c p
+      → elements_of_char reading.tables d ≡ es → begins_with p es ≡ true → HasLeadingPrimary reading c p
   element_leads p d ds [] e s a f h = cc
   element_leads p d ds (x ∷ xs) e s a f h = record {
     first = d;
@@ -133,7 +133,7 @@ module _ (reading : Reading) (c : ℕ) where
     leading = eqb-true x.primary p h;
   }
 
-  leads_from : (p : ℕ) (ds : List ℕ) → decompose Nfd c ≡ ds → starts_with_primary reading p ds ≡ true → LeadsWith reading c p
+  leads_from : (p : ℕ) (ds : List ℕ) → decompose Nfd c ≡ ds → starts_with_primary reading p ds ≡ true → HasLeadingPrimary reading c p
   unfolding starts_with_primary
   leads_from p [] e h = cc
   leads_from p (d ∷ ds) e h =

@@ -4,4 +4,4 @@ mod DigitEntryLemmas
 mod FewLemmas
 pub mod KeptLemmas
 pub mod SyllableLemmas
-pub mod BaseLemmas
+pub mod KeptBaseLemmas

@@ -22,19 +22,22 @@ abbrev pub begins_with : ℕ → List Element → Bool
 begins_with p [] = false
 begins_with p (e ∷ es) = e.primary == p
 
--- the same of the first character of a decomposition
+-- a decomposition begins with a starter
 unfoldable pub starts_with_starter : List ℕ → Bool
 starts_with_starter [] = false
 starts_with_starter (d ∷ ds) = is_starter d
 
+-- it begins with a character before which a text may be cut
 unfoldable pub starts_safely : Reading → List ℕ → Bool
 starts_safely reading [] = false
 starts_safely reading (d ∷ ds) = is_safe_place reading d
 
+-- it begins with a starter that stands alone, whose elements begin with this primary
 unfoldable pub starts_with_primary : Reading → ℕ → List ℕ → Bool
 starts_with_primary reading p [] = false
 starts_with_primary reading p (d ∷ ds) = is_starter d && (is_alone reading d && begins_with p (elements_of_char reading.tables d))
 
+-- it is a starter, and then marks in order up to this class
 unfoldable pub is_marked_starter : ℕ → List ℕ → Bool
 is_marked_starter class [] = false
 is_marked_starter class (d ∷ ds) = is_starter d && rises_to 0 ds class

@@ -7,7 +7,7 @@ use Rattle.unicode_normalization.specs.Decompose.{decompose}
 use Rattle.unicode_normalization.specs.Forms.{nfd}
 use Rattle.unicode_normalization.specs.Order.{is_starter, is_nonstarter}
 use Rattle.icu_entries.specs.Elements.{Element}
-use Rattle.icu_elements.specs.TextElements.{Reading, continues_number, digit_of, elements_after}
+use Rattle.icu_elements.specs.TextElements.{Reading, continues_number, digit_of_char, elements_after}
 use Rattle.icu_cuts.specs.Alone.{elements_by_char, elements_of_char, is_alone}
 use Rattle.icu_shortcuts.specs.SafeTables.{IsSafeBefore}
 use Rattle.icu_shortcuts.specs.declared.letter_facts.Letter.{Letter}
@@ -55,7 +55,7 @@ pub record BeginsWithStarter (c : ℕ) : Type 0 where
   pub starter : is_starter first ≡ true
 
 -- the decomposition begins with a starter that stands alone, whose elements begin with this primary weight
-pub record LeadsWith (reading : Reading) (c : ℕ) (primary : ℕ) : Type 0 where
+pub record HasLeadingPrimary (reading : Reading) (c : ℕ) (primary : ℕ) : Type 0 where
   pub first : ℕ
   pub more : List ℕ
   pub element : Element
@@ -74,7 +74,7 @@ pub record IsBase (reading : Reading) (c : ℕ) (l : Letter) : Type 0 where
 pub record IsNumberDigit (reading : Reading) (c digit : ℕ) : Type 0 where
   pub low : c < 0xC0
   pub continues : continues_number reading.tables c ≡ true
-  pub value : digit_of reading.tables c ≡ digit
+  pub value : digit_of_char reading.tables c ≡ digit
   pub decimal : digit < 10
 
 -- what is known of a character is so
@@ -86,4 +86,4 @@ pub record IsLetter (reading : Reading) (c : ℕ) (l : Letter) : Type 0 where
   pub digit : IfSome l.digit (λ d. IsNumberDigit reading c d)
   pub begins : IsTrue l.begins_with_starter → BeginsWithStarter c
   pub safe : IsTrue l.is_safe → IsSafeBefore reading c
-  pub leads : l.leading_primary ≢ 0 → LeadsWith reading c l.leading_primary
+  pub leads : l.leading_primary ≢ 0 → HasLeadingPrimary reading c l.leading_primary

@@ -5,6 +5,7 @@ use Rattle.icu_cuts.specs.Cuts.{is_named, is_named_by_tailoring}
 use Rattle.icu_shortcuts.specs.declared.named.NamedCharacters.{NamedCharacters}
 use Rattle.icu_shortcuts.specs.RowCharacters.{has_character}
 
+-- the list has the character
 unfoldable pub may_name : NamedCharacters → ℕ → Bool
 may_name n x = has_character x n.chars.items
 

@@ -4,6 +4,7 @@ use Rattle.std.specs.List.{list_any}
 use Rattle.icu_data.specs.Data.{Data}
 use Rattle.icu_cuts.specs.Cuts.{is_named, is_named_by_tailoring}
 
+-- a list has the character
 abbrev pub has_character : ℕ → List ℕ → Bool
 has_character x chars = list_any (λ c. c == x) chars
 
@@ -11,10 +12,11 @@ has_character x chars = list_any (λ c. c == x) chars
 abbrev pub Ascends : List ℕ → Type 0
 Ascends xs = (i j : ℕ) → i ≤ j → j < length xs → slice_index xs i ≤ slice_index xs j
 
--- what a list doesn't have no row of the root or the tailoring names
+-- what a list doesn't have no row of a root or a tailoring names
 abbrev pub HasRowCharacters : List ℕ → Data → Type 0
 HasRowCharacters chars home = (x : ℕ) → has_character x chars ≡ false → is_named x home ≡ false
 
+-- what it doesn't have no row of the tailoring names, where there is one
 abbrev pub HasTailoringCharacters : List ℕ → Option Data → Type 0
 HasTailoringCharacters chars tailoring = (x : ℕ) → has_character x chars ≡ false → is_named_by_tailoring x tailoring ≡ false
 

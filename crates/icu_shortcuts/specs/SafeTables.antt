@@ -16,4 +16,4 @@ pub record IsSafeBefore (reading : Reading) (c : ℕ) : Type 0 where
 
 -- how the texts are read that may be cut
 unfoldable pub safe_reading : SafePlaces → Reading
-safe_reading s = reading_of s.tables s.numeric_primary s.lithuanian_dot_above
+safe_reading s = reading_of s.reading

@@ -22,7 +22,7 @@ use icu_entries::{CollationElement, CollationElement32, EntryKind};
 fn is_dot(places: &SafePlaces<'_>, c: char) -> bool
     ensures { result ≡ is_dot (safe_reading places.now) c }
 {
-    places.lithuanian_dot_above && c == '\u{307}'
+    places.reading.lithuanian_dot_above && c == '\u{307}'
 }
 
 /// These elements and those of a digit's plain entry. None where digits are read as numbers, or there is a fourth.
@@ -36,7 +36,8 @@ fn with_digit(
     requires is_digit { kind_of ce32 ≡ Digit }
     requires good { IsGoodFrom (data_of home) c ce32 }
     ensures letter { IfSome result (λ _. is_some numeric_primary ≡ false) }
-    ensures elements { IfSome result (λ more. few_elements more ≡ few_elements few ++ final_elements (homed (data_of home.entry) (plain_of (data_of home.entry) ce32)) c) }
+    ensures elements { IfSome result (λ more. few_elements more ≡ few_elements few
+        ++ final_elements (homed (data_of home.entry) (plain_of (data_of home.entry) ce32)) c) }
 {
     match numeric_primary {
         Some(_) => None,
@@ -55,7 +56,8 @@ fn with_entry(
 ) -> Option<FewElements>
     requires { IsGoodFrom (data_of home) c ce32 }
     ensures stands { IfSome result (λ _. looks_at_nothing numeric_primary (kind_of ce32) ≡ true) }
-    ensures elements { IfSome result (λ more. few_elements more ≡ few_elements few ++ final_elements (plain_entry (homed (data_of home.entry) ce32)) c) }
+    ensures elements { IfSome result (λ more. few_elements more ≡ few_elements few
+        ++ final_elements (plain_entry (homed (data_of home.entry) ce32)) c) }
 {
     match ce32.kind() {
         EntryKind::Prefix | EntryKind::Contraction => None,
@@ -69,16 +71,17 @@ fn with_entry(
 #[tactic(auto, unfolding(crate::specs::SafeTables::safe_reading, icu_cuts::specs::Alone::elements_of_char))]
 pub(crate) fn with_char(places: &SafePlaces<'_>, c: char, few: FewElements) -> Option<FewElements>
     ensures stands { IfSome result (λ _. is_alone (safe_reading places.now) c ≡ true) }
-    ensures elements { IfSome result (λ more. few_elements more ≡ few_elements few ++ elements_of_char (safe_reading places.now).tables c) }
+    ensures elements { IfSome result (λ more. few_elements more ≡ few_elements few
+        ++ elements_of_char (safe_reading places.now).tables c) }
 {
     if is_dot(places, c) {
         return None;
     }
-    if let Some(secondary) = places.tables.secondary_of_diacritic(c) {
+    if let Some(secondary) = places.reading.tables.secondary_of_diacritic(c) {
         return few.with_element(CollationElement::new_from_secondary(secondary));
     }
-    let (home, ce32) = places.tables.homed_entry(c);
-    with_entry(places.numeric_primary, home, c, ce32, few)
+    let (home, ce32) = places.reading.tables.homed_entry(c);
+    with_entry(places.reading.numeric_primary, home, c, ce32, few)
 }
 
 /// These elements and those of several characters, each of which stands alone.
@@ -87,8 +90,10 @@ pub(crate) fn with_chars(
     chars: &[char],
     few: FewElements,
 ) -> Option<FewElements>
-    ensures stand { IfSome result (λ _. list_all (is_alone (safe_reading places.now)) chars.now ≡ true) }
-    ensures elements { IfSome result (λ more. few_elements more ≡ few_elements few ++ elements_by_char (safe_reading places.now).tables chars.now) }
+    ensures stand { IfSome result (λ _. list_all (is_alone (safe_reading places.now)) chars.now
+        ≡ true) }
+    ensures elements { IfSome result (λ more. few_elements more ≡ few_elements few
+        ++ elements_by_char (safe_reading places.now).tables chars.now) }
 {
     let mut found = few;
     for c in chars {

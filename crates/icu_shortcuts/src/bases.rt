@@ -11,7 +11,7 @@ ghost use Rattle.icu_shortcuts.specs.inner.FewElements.{few_elements};
 ghost use Rattle.icu_shortcuts.specs.Letters.{IsLetter};
 ghost use Rattle.icu_shortcuts.specs.SafeTables.{safe_reading};
 
-use crate::digits::digit_at;
+use crate::digit_values::digit_at;
 use crate::few_elements::FewElements;
 use crate::letter_facts::{Letter, LetterKind};
 use crate::read_letter::{letter_of, with_elements};
@@ -25,7 +25,8 @@ use unicode_normalization::slice::extend_nfd;
 
 /// The elements that a reader still gives. None where there is a fourth.
 fn few_left(reader: &mut ElementReader<'_>) -> Result<Option<FewElements>, AllocError>
-    ensures { IfOk result (λ found. IfSome found (λ few. few_elements few ≡ elements_to_come reader.old)) }
+    ensures { IfOk result (λ found. IfSome found (λ few.
+        few_elements few ≡ elements_to_come reader.old)) }
 {
     let mut few = FewElements::new();
     'elements: for _ in 0..4u8 {
@@ -47,25 +48,22 @@ fn elements_of_one(
     places: &SafePlaces<'_>,
     c: char,
 ) -> Result<Option<FewElements>, AllocError>
-    ensures { IfOk result (λ found. IfSome found (λ few. few_elements few ≡ elements_of (safe_reading places.now) (nfd (c ∷ [])))) }
+    ensures { IfOk result (λ found. IfSome found (λ few. few_elements few
+        ≡ elements_of (safe_reading places.now) (nfd (c ∷ [])))) }
 {
     let mut text = Vec::new(alloc);
     extend_nfd(&mut text, &[c])?;
-    let mut reader = ElementReader::new(
-        text,
-        places.tables,
-        places.numeric_primary,
-        places.lithuanian_dot_above,
-    );
+    let mut reader = ElementReader::new(text, places.reading);
     few_left(&mut reader)
 }
 
 /// Whether a character's entry has contractions.
 #[tactic(auto, unfolding(crate::specs::SafeTables::safe_reading))]
 fn begins_contractions(places: &SafePlaces<'_>, c: char) -> bool
-    ensures { IsTrue result → kind_of (entry_of (safe_reading places.now).tables c).entry ≡ Contraction }
+    ensures { IsTrue result → kind_of (entry_of (safe_reading places.now).tables c).entry
+        ≡ Contraction }
 {
-    match places.tables.kind(c) {
+    match places.reading.tables.kind(c) {
         EntryKind::Contraction => true,
         _ => false,
     }
@@ -76,7 +74,9 @@ fn begins_contractions(places: &SafePlaces<'_>, c: char) -> bool
 #[tactic(auto, unfolding(crate::specs::SafeTables::safe_reading))]
 fn is_base(places: &SafePlaces<'_>, c: char, letter: &Letter) -> bool
     requires { IsLetter (safe_reading places.now) c letter.now }
-    ensures { IsTrue result → (before : List ℕ) → elements_after (safe_reading places.now) before (nfd (c ∷ [])) ≡ elements_of (safe_reading places.now) (nfd (c ∷ [])) }
+    ensures { IsTrue result → (before : List ℕ)
+        → elements_after (safe_reading places.now) before (nfd (c ∷ []))
+        ≡ elements_of (safe_reading places.now) (nfd (c ∷ [])) }
 {
     let mut room = [c; 3];
     match decomposition(c, Form::Nfd, &mut room) {

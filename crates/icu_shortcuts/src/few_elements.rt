@@ -80,7 +80,8 @@ impl FewElements {
         ce32: CollationElement32,
     ) -> Option<FewElements>
         requires { IsTrue (is_readable (data_of home) c ce32) }
-        ensures { IfSome result (λ more. few_elements more ≡ few_elements self ++ final_elements (homed (data_of home.entry) ce32) c) }
+        ensures { IfSome result (λ more. few_elements more ≡ few_elements self
+            ++ final_elements (homed (data_of home.entry) ce32) c) }
     {
         let mut few = self;
         match visit_elements(&mut few, home, c, ce32) {

@@ -42,7 +42,8 @@ impl Letters {
     /// What is known of a character, or none outside of U+0000 to U+037F, U+1100 to U+11FF and U+1E00 to U+1EFF.
     #[inline(always)]
     pub fn get(&self, c: char) -> Option<&Letter>
-        ensures known { (reading : Reading) → AreLetters reading self.now → IfSome result (λ l. IsLetter reading c l.now) }
+        ensures known { (reading : Reading) → AreLetters reading self.now
+            → IfSome result (λ l. IsLetter reading c l.now) }
         ensures kept { is_some result ≡ is_kept c }
     {
         let code = c as usize;
@@ -67,7 +68,8 @@ fn letters_from(
 ) -> Result<Vec<Letter>, AllocError>
     requires { first + count ≤ 0xD800 }
     ensures count { IfOk result (λ letters. length letters.items ≡ count) }
-    ensures letters { IfOk result (λ letters. AreLettersFrom (safe_reading places.entry) first letters.items) }
+    ensures letters { IfOk result (λ letters. AreLettersFrom (safe_reading places.entry) first
+        letters.items) }
 {
     let mut letters: Vec<Letter> = Vec::with_capacity(alloc, count as usize)?;
     for code in first..first + count {
@@ -96,7 +98,8 @@ fn push_letter_at(
     code: u32,
 ) -> Result<(), AllocError>
     requires { code < 0xD800 }
-    ensures { OnOk result (IsOneMore (safe_reading places.entry) code letters.old.items letters.new.items) }
+    ensures { OnOk result (IsOneMore (safe_reading places.entry) code letters.old.items
+        letters.new.items) }
 {
     let letter = letter_at(alloc, places, code)?;
     letters.extend_from_slice(&[letter])

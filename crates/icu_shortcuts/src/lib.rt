@@ -4,7 +4,7 @@
 
 mod alone;
 mod bases;
-mod digits;
+mod digit_values;
 mod few_elements;
 pub mod letter_facts;
 pub mod letter_table;

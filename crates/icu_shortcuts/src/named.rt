@@ -49,13 +49,14 @@ fn push_named(chars: &mut Vec<char>, table: CollationData<'_>) -> Result<(), All
     chars.extend_from_slice(row_chars)
 }
 
-/// The same of a tailoring, where there is one.
+/// Appends the characters of all rows of a tailoring, where there is one.
 fn push_named_by_tailoring(
     chars: &mut Vec<char>,
     tailoring: Option<CollationData<'_>>,
 ) -> Result<(), AllocError>
     ensures keeps { OnOk result (KeepsCharacters chars.old.items chars.new.items) }
-    ensures rows { OnOk result (HasTailoringCharacters chars.new.items (option_map data_of tailoring.entry)) }
+    ensures rows { OnOk result (HasTailoringCharacters chars.new.items
+        (option_map data_of tailoring.entry)) }
 {
     match tailoring {
         Some(table) => push_named(chars, table),

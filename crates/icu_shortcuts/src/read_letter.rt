@@ -23,7 +23,8 @@ use unicode_normalization::char::{canonical_combining_class, decomposition};
 /// The primary weight of the first element of a starter whose elements these are, or 0 where it has none.
 fn leading_primary(places: &SafePlaces<'_>, first: char, few: &FewElements) -> u32
     requires alone { is_alone (safe_reading places.now) first ≡ true }
-    requires elements { few_elements few.now ≡ elements_of_char (safe_reading places.now).tables first }
+    requires elements { few_elements few.now
+        ≡ elements_of_char (safe_reading places.now).tables first }
     ensures { result ≢ 0 → LeadsBy (safe_reading places.now) first result }
 {
     if canonical_combining_class(first) == 0 && few.count > 0 {
@@ -52,7 +53,7 @@ fn outline(places: &SafePlaces<'_>, first: char, leading_primary: u32) -> Letter
     }
 }
 
-/// The same of a character that stands alone, with its elements, its kind and its class.
+/// What is known of a character that stands alone, by its outline, its elements, its kind and its class.
 #[inline(always)]
 #[tactic(auto, unfolding(crate::specs::inner::FewElements::few_elements))]
 pub(crate) fn with_elements(known: Letter, all: FewElements, shape: (LetterKind, u8)) -> Letter
@@ -62,7 +63,8 @@ pub(crate) fn with_elements(known: Letter, all: FewElements, shape: (LetterKind,
     ensures safe { result.is_safe ≡ known.is_safe }
     ensures begins { result.begins_with_starter ≡ known.begins_with_starter }
     ensures leads { result.leading_primary ≡ known.leading_primary }
-    ensures first { (reading : Reading) (first : ℕ) → IsOutline reading first known → IsOutline reading first result }
+    ensures first { (reading : Reading) (first : ℕ) → IsOutline reading first known
+        → IsOutline reading first result }
 {
     Letter {
         elements: [all.elements[0], all.elements[1], all.elements[2]],

@@ -7,7 +7,7 @@ ghost use Rattle.icu_cuts.specs.Cuts.{IsSafe, has_prefix};
 ghost use Rattle.icu_shortcuts.specs.Named.{NamesAll};
 
 use crate::named::NamedCharacters;
-use icu_elements::ElementTables;
+use icu_elements::TextReading;
 use icu_entries::EntryKind;
 use unicode_normalization::Form;
 use unicode_normalization::char::{canonical_combining_class, decomposition};
@@ -15,34 +15,32 @@ use unicode_normalization::char::{canonical_combining_class, decomposition};
 /// What says before which characters a text may be cut, so that what follows is read as if it stood alone.
 #[derive(Debug, Clone, Copy)]
 pub struct SafePlaces<'d> {
-    pub(crate) tables: ElementTables<'d>,
-    pub(crate) numeric_primary: Option<u8>,
-    pub(crate) lithuanian_dot_above: bool,
+    pub(crate) reading: TextReading<'d>,
     named: &'d NamedCharacters,
-    ghost names: { NamesAll named.now (element_tables tables) },
+    ghost names: { NamesAll named.now (element_tables reading.tables) },
 }
 
 impl<'d> SafePlaces<'d> {
     ghost use Rattle.icu_shortcuts.specs.SafeTables.{IsSafeBefore, safe_reading};
 
-    /// The safe places of texts that are read by these tables, whose rows name no other characters than these.
-    /// `numeric_primary` is the lead byte of numbers, where digits are read as numbers. Does not allocate.
+    /// The safe places of texts that are read so, by tables whose rows name no other characters than these. Does not
+    /// allocate.
+    #[inline(always)]
     #[tactic(auto, unfolding(crate::specs::SafeTables::safe_reading))]
-    pub fn new(
-        tables: ElementTables<'d>,
-        numeric_primary: Option<u8>,
-        lithuanian_dot_above: bool,
-        named: &'d NamedCharacters,
-    ) -> SafePlaces<'d>
-        requires { NamesAll named.now (element_tables tables) }
-        ensures { safe_reading result ≡ reading_of tables.entry numeric_primary lithuanian_dot_above }
+    pub fn new(reading: TextReading<'d>, named: &'d NamedCharacters) -> SafePlaces<'d>
+        requires { NamesAll named.now (element_tables reading.tables) }
+        ensures { safe_reading result ≡ reading_of reading.entry }
     {
-        SafePlaces {
-            tables,
-            numeric_primary,
-            lithuanian_dot_above,
-            named,
-        }
+        SafePlaces { reading, named }
+    }
+
+    /// How the texts are read.
+    #[inline(always)]
+    #[tactic(auto, unfolding(crate::specs::SafeTables::safe_reading))]
+    pub fn reading(&self) -> TextReading<'d>
+        ensures { reading_of result ≡ safe_reading self.now }
+    {
+        self.reading
     }
 
     /// Whether a text may be cut before this character. It may where the first character of its canonical decomposition
@@ -57,7 +55,7 @@ impl<'d> SafePlaces<'d> {
         }
     }
 
-    /// The same of a character of a decomposed text.
+    /// Whether a decomposed text may be cut before this character. False says nothing.
     #[tactic(auto, unfolding(crate::specs::SafeTables::safe_reading))]
     pub(crate) fn is_safe_first(&self, c: char) -> bool
         ensures { IsTrue result → IsSafe (safe_reading self.now) c }
@@ -66,13 +64,15 @@ impl<'d> SafePlaces<'d> {
     }
 
     /// Whether a character's entry looks at what stands before, or may go on a number.
+    #[tactic(auto, unfolding(crate::specs::SafeTables::safe_reading))]
     fn looks_around(&self, c: char) -> bool
-        ensures prefix { result ≡ false → has_prefix (element_tables self.now.tables) c ≡ false }
-        ensures number { result ≡ false → (is_some self.now.numeric_primary && continues_number (element_tables self.now.tables) c) ≡ false }
+        ensures prefix { result ≡ false → has_prefix (safe_reading self.now).tables c ≡ false }
+        ensures number { let reading = safe_reading self.now in result ≡ false
+            → (is_some reading.numeric && continues_number reading.tables c) ≡ false }
     {
-        match self.tables.kind(c) {
+        match self.reading.tables.kind(c) {
             EntryKind::Prefix => true,
-            EntryKind::Digit => self.numeric_primary.is_some(),
+            EntryKind::Digit => self.reading.numeric_primary.is_some(),
             _ => false,
         }
     }

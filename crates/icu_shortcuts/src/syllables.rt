@@ -26,9 +26,10 @@ const N_COUNT: u32 = 588;
 /// How many of these have one vowel: one without a trailing consonant, and one with each.
 const T_COUNT: u32 = 28;
 
-/// The first vowel, and what stands for no trailing consonant, counted from the first jamo, U+1100, on.
+/// The first vowel, counted from the first jamo, U+1100, on.
 const VOWELS: u32 = 0x61;
 
+/// What stands for no trailing consonant, counted from U+1100 on.
 const TRAILING: u32 = 0xA7;
 
 /// Which syllable a character is, counted from the first one on.
@@ -56,7 +57,8 @@ fn only_element(letter: &Letter) -> CollationElement
 /// What is known of a syllable that decomposes to two jamo.
 #[inline(always)]
 fn of_two(leading: &Letter, vowel: &Letter) -> Letter
-    ensures { (reading : Reading) (c l v : ℕ) → IsOwnLetter reading l leading.now → IsOwnLetter reading v vowel.now
+    ensures { (reading : Reading) (c l v : ℕ) → IsOwnLetter reading l leading.now
+        → IsOwnLetter reading v vowel.now
         → decompose Nfd c ≡ l ∷ v ∷ [] → IsLetter reading c result }
 {
     let few = FewElements {
@@ -70,11 +72,13 @@ fn of_two(leading: &Letter, vowel: &Letter) -> Letter
     with_elements(*leading, few, (LetterKind::Starters, 0))
 }
 
-/// The same of one that decomposes to three.
+/// What is known of a syllable that decomposes to three jamo.
 #[inline(always)]
 fn of_three(leading: &Letter, vowel: &Letter, trailing: &Letter) -> Letter
-    ensures { (reading : Reading) (c l v t : ℕ) → IsOwnLetter reading l leading.now → IsOwnLetter reading v vowel.now
-        → IsOwnLetter reading t trailing.now → decompose Nfd c ≡ l ∷ v ∷ t ∷ [] → IsLetter reading c result }
+    ensures { (reading : Reading) (c l v t : ℕ) → IsOwnLetter reading l leading.now
+        → IsOwnLetter reading v vowel.now
+        → IsOwnLetter reading t trailing.now → decompose Nfd c ≡ l ∷ v ∷ t ∷ []
+        → IsLetter reading c result }
 {
     let few = FewElements {
         elements: [
@@ -93,7 +97,8 @@ impl Letters {
     #[inline]
     fn jamo(&self, number: u32) -> Option<&Letter>
         requires { number < 0x100 }
-        ensures { IfSome result (λ l. (reading : Reading) → AreLetters reading self.now → IsOwnLetter reading (0x1100 + number) l.now) }
+        ensures { IfSome result (λ l. (reading : Reading) → AreLetters reading self.now
+            → IsOwnLetter reading (0x1100 + number) l.now) }
     {
         let letter = &self.jamo[number as usize];
         match letter.kind {
@@ -105,7 +110,8 @@ impl Letters {
     /// What is known of a Hangul syllable, where each of its jamo has one element wherever it stands.
     #[inline]
     pub fn syllable(&self, c: char) -> Option<Letter>
-        ensures { IfSome result (λ l. (reading : Reading) → AreLetters reading self.now → IsLetter reading c l) }
+        ensures { IfSome result (λ l. (reading : Reading) → AreLetters reading self.now
+            → IsLetter reading c l) }
     {
         let number = syllable_number(c)?;
         let leading = self.jamo(number / N_COUNT)?;

@@ -8,14 +8,14 @@ use Rattle.icu_data.proofs.ListLemmas.{weaker}
 use Rattle.icu_checks.specs.GoodTables.{IsGoodTables}
 use Rattle.icu_elements.specs.TextElements.{elements_of}
 use Rattle.icu_elements.specs.TextElementLaws.{IsText}
-use Rattle.icu_order.specs.Collations.{Collation}
-use Rattle.icu_order.specs.Forms.{last_variable_by}
-use Rattle.icu_order.specs.Handled.{HandledElement, stayed, shifted_primary}
+use Rattle.icu_weighting.specs.Collations.{Collation}
+use Rattle.icu_weighting.specs.Forms.{last_variable_by}
+use Rattle.icu_weighting.specs.Handled.{HandledElement, stayed, shifted_primary}
 use Rattle.icu_order.specs.TextOrder.{reading_by, handled_by}
 use Rattle.icu_order.proofs.ElementHalves.{has_rank}
 use Rattle.icu_order.proofs.HandledLemmas.{HoldsOf, handled_hold}
 use Rattle.icu_order.proofs.TextSources.{IsSource, text_sources}
-use Rattle.icu_text_keys.specs.HandledSources.{HasCase}
+use Rattle.icu_weighting.specs.HandledSources.{HasCase}
 
 module _ (collation : Collation) (good : IsGoodTables collation.tables) where
   open collation use {tables as all, settings}

@@ -1,12 +1,13 @@
 -- A key whose elements come one at a time.
 use Rattle.std.proofs.Common.{◌≡◌, ℕ, List, [], ◌∷◌, Option, Some, None, Err, refl, sym, subst}
+use Rattle.icu_keys.specs.Sinks.{SinkEffects}
 use Rattle.icu_keys.specs.declared.error.SortKeyError.{SortKeyError}
 use Rattle.icu_keys.specs.declared.error.SortKeyError.TheVariants.{NoMemory}
 use Rattle.icu_keys.specs.KeyWrites.{KeyWrites}
 use Rattle.icu_keys.proofs.Writing.{Owes}
-use Rattle.icu_order.specs.Handled.{HandledElement}
-use Rattle.icu_text_keys.specs.declared.handled.Handled.{Handled}
-use Rattle.icu_text_keys.specs.HandledSources.{GivesNext, handled_as}
+use Rattle.icu_weighting.specs.Handled.{HandledElement}
+use Rattle.icu_weighting.specs.declared.handled_element.Handled.{Handled}
+use Rattle.icu_weighting.specs.HandledSources.{GivesNext, handled_as}
 
 pub one_given : (before after : List HandledElement) (o : Option Handled) (h : Handled) → o ≡ Some h → GivesNext before o after → before ≡ handled_as h ∷ after
 one_given before after o h e w = subst (λ (o : Option Handled). GivesNext before o after) e w
@@ -16,7 +17,7 @@ none_given before after None n w = w
 none_given before after (Some h) n w = elim (n h refl) [ ]
 
 -- a key that ran out of memory between two elements
-pub stopped : {X St E : Type 0} (took : X → St → List ℕ → X → St → Type 0) (refused : X → St → List ℕ → E → X → St → Type 0)
-    (x y : X) (s t : St) (whole rest : List ℕ) (e : SortKeyError E) → e ≡ NoMemory → Owes took x s whole rest y t → KeyWrites {O = Unit {0}} took refused x s whole (Err e) y t
-stopped took refused x y s t whole rest e m o =
-    subst (λ e. KeyWrites {O = Unit {0}} took refused x s whole (Err e) y t) (sym m) (record { front = o.front; rest = rest; splits = o.splits; taken = o.taken })
+pub stopped : {X St F E : Type 0} (effects : SinkEffects X St F E)
+    (x y : X) (s t : St) (whole rest : List ℕ) (e : SortKeyError E) → e ≡ NoMemory → Owes effects x s whole rest y t → KeyWrites {O = Unit {0}} effects x s whole (Err e) y t
+stopped effects x y s t whole rest e m o =
+    subst (λ e. KeyWrites {O = Unit {0}} effects x s whole (Err e) y t) (sym m) (record { front = o.front; rest = rest; splits = o.splits; taken = o.taken })

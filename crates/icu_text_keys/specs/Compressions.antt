@@ -6,6 +6,7 @@ use Rattle.icu_provider.specs.SpecialPrimaries.{is_compressible}
 use Rattle.icu_provider.specs.StoredTables.{special_of, reordering_of}
 use Rattle.icu_text_keys.specs.declared.compression.TableCompression.{TableCompression}
 
+-- how primaries are written by a reordering and the leads that are compressible
 abbrev pub table_compression : TableCompression → Compression
 table_compression t = record {
   reorder = reorder_by (option_map reordering_of t.reordering);

@@ -3,8 +3,8 @@ use Rattle.std.specs.Prelude.{ℕ, List, ◌++◌}
 use Rattle.icu_levels.specs.Primaries.{Compression}
 use Rattle.icu_levels.specs.Keys.{parts_bytes}
 use Rattle.icu_keys.specs.WriterRests.{primary_rest}
-use Rattle.icu_order.specs.Handled.{HandledElement, stayed_elements}
-use Rattle.icu_order.specs.Levels.{primaries}
+use Rattle.icu_weighting.specs.Handled.{HandledElement, stayed_elements}
+use Rattle.icu_weighting.specs.Levels.{primaries}
 use Rattle.icu_text_keys.specs.LevelRests.{levels_left}
 use Rattle.icu_text_keys.specs.declared.writer.KeyWriter.{KeyWriter}
 

@@ -5,26 +5,28 @@ use Rattle.icu_levels.specs.Keys.{LevelPart, absent, opened, closed}
 use Rattle.icu_levels.specs.declared.forms.SecondaryForm.{SecondaryForm}
 use Rattle.icu_entries.specs.Elements.{Element}
 use Rattle.icu_keys.specs.HeldRests.{held_secondaries, held_segments, held_cases, held_case_form, held_tertiaries, held_tertiary_form, held_quaternaries}
-use Rattle.icu_keys.specs.declared.held.secondaries.HeldSecondaries.{HeldSecondaries}
-use Rattle.icu_keys.specs.declared.held.backward.HeldSegments.{HeldSegments}
-use Rattle.icu_keys.specs.declared.held.cases.HeldCases.{HeldCases}
-use Rattle.icu_keys.specs.declared.held.tertiaries.HeldTertiaries.{HeldTertiaries}
-use Rattle.icu_keys.specs.declared.held.quaternaries.HeldQuaternaries.{HeldQuaternaries}
-use Rattle.icu_order.specs.Handled.{HandledElement, stayed_elements}
-use Rattle.icu_order.specs.Levels.{secondaries, parted, weights, case_reads, case_rank, tertiaries, quaternaries}
+use Rattle.icu_keys.specs.declared.held_secondaries.HeldSecondaries.{HeldSecondaries}
+use Rattle.icu_keys.specs.declared.held_segments.HeldSegments.{HeldSegments}
+use Rattle.icu_keys.specs.declared.held_cases.HeldCases.{HeldCases}
+use Rattle.icu_keys.specs.declared.held_tertiaries.HeldTertiaries.{HeldTertiaries}
+use Rattle.icu_keys.specs.declared.held_quaternaries.HeldQuaternaries.{HeldQuaternaries}
+use Rattle.icu_weighting.specs.Handled.{HandledElement, stayed_elements}
+use Rattle.icu_weighting.specs.Levels.{secondaries, parted, weights, case_reads, case_rank, tertiaries, quaternaries}
 use Rattle.icu_text_keys.specs.declared.later_levels.LaterLevels.{LaterLevels}
 use Rattle.icu_text_keys.specs.declared.level.SecondaryLevel.{SecondaryLevel}
 use Rattle.icu_text_keys.specs.declared.level.SecondaryLevel.TheVariants.{Absent, Forward, Backward}
 use Rattle.icu_text_keys.specs.declared.finished_levels.LevelBytes.{LevelBytes}
 use Rattle.icu_text_keys.specs.declared.finished_levels.LevelBytes.TheVariants.{NoLevel, Opened, Closed}
 
--- further elements
+-- a level of secondaries from the front, given the further elements
 abbrev pub forward_left : HeldSecondaries → List Element → List ℕ
 forward_left l es = held_secondaries l (secondaries es)
 
+-- a backward level, given the further elements
 abbrev pub segments_left : HeldSegments → List Element → List ℕ
 segments_left l es = held_segments l (parted es)
 
+-- the secondary level, given the further elements
 abbrev pub secondaries_left : SecondaryLevel → List Element → LevelPart
 secondaries_left Absent es = absent
 secondaries_left (Forward l) es = closed (forward_left l es)

@@ -4,9 +4,9 @@ use Rattle.std.specs.List.{AllByRecursion}
 use Rattle.unicode_normalization.specs.Forms.{nfd}
 use Rattle.icu_checks.specs.GoodTables.{IsGoodTables}
 use Rattle.icu_elements.specs.TextElementLaws.{IsText}
-use Rattle.icu_order.specs.Collations.{Collation}
+use Rattle.icu_weighting.specs.Collations.{Collation}
 use Rattle.icu_order.specs.TextOrder.{handled_by}
-use Rattle.icu_text_keys.specs.HandledSources.{HasCase}
+use Rattle.icu_weighting.specs.HandledSources.{HasCase}
 
 -- of any text, by each collation whose tables meet the conditions
 abbrev pub TextsHaveCase : Type 0

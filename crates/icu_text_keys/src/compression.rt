@@ -2,11 +2,12 @@
 
 ghost use Rattle.std.specs.Prelude.{◌≡◌};
 ghost use Rattle.icu_checks.specs.Checked.{checked_tables};
-ghost use Rattle.icu_order.specs.Forms.{compression_of};
+ghost use Rattle.icu_weighting.specs.Forms.{compression_of};
 
 use icu_checks::CheckedTables;
 use icu_keys::primaries::PrimaryCompression;
 use icu_provider::{CollationReordering, CollationSpecialPrimaries};
+use icu_weighting::element_weights::reordered;
 
 /// How the primaries of a collator are written: by its reordering, if it has one, and by the leads that its special
 /// primaries name compressible (UTS #35 part 5, "Collation Reordering").
@@ -36,10 +37,7 @@ impl<'d> PrimaryCompression for TableCompression<'d> {
     ghost compression = { table_compression };
 
     fn reorder(&self, primary: u32) -> u32 {
-        match self.reordering {
-            Some(reordering) => reordering.reorder(primary),
-            None => primary,
-        }
+        reordered(self.reordering, primary)
     }
 
     fn is_compressible(&self, lead: u8) -> bool {

@@ -34,7 +34,7 @@ fn write_part<S: CollationKeySink>(
 ) -> Result<(), S::Error>
     requires { S.is_sound sink.old state.old }
     ensures sound { S.is_sound sink.new state.new }
-    ensures bytes { Writes S.took S.refused sink.old state.old (part_bytes (part_of part.now))
+    ensures bytes { Writes S.effects sink.old state.old (part_bytes (part_of part.now))
         result sink.new state.new }
 {
     match part {
@@ -52,7 +52,7 @@ fn write_parts<S: CollationKeySink>(
 ) -> Result<(), S::Error>
     requires { S.is_sound sink.old state.old }
     ensures sound { S.is_sound sink.new state.new }
-    ensures bytes { Writes S.took S.refused sink.old state.old (parts_bytes (map part_of parts.now))
+    ensures bytes { Writes S.effects sink.old state.old (parts_bytes (map part_of parts.now))
         result sink.new state.new }
 {
     for part in parts {
@@ -69,7 +69,7 @@ fn write_characters<S: CollationKeySink>(
 ) -> Result<(), S::Error>
     requires { S.is_sound sink.old state.old }
     ensures sound { S.is_sound sink.new state.new }
-    ensures bytes { Writes S.took S.refused sink.old state.old (identical_level characters.now)
+    ensures bytes { Writes S.effects sink.old state.old (identical_level characters.now)
         result sink.new state.new }
 {
     let mut writer = IdenticalWriter::new();
@@ -88,7 +88,7 @@ fn write_identical<S: CollationKeySink>(
 ) -> Result<(), S::Error>
     requires { S.is_sound sink.old state.old }
     ensures sound { S.is_sound sink.new state.new }
-    ensures bytes { Writes S.took S.refused sink.old state.old
+    ensures bytes { Writes S.effects sink.old state.old
         (part_bytes (characters_left identical characters.now)) result sink.new state.new }
 {
     if !identical {
@@ -108,8 +108,9 @@ pub(crate) fn write_later<S: CollationKeySink>(
 ) -> Result<(), S::Error>
     requires { S.is_sound sink.old state.old }
     ensures sound { S.is_sound sink.new state.new }
-    ensures bytes { Writes S.took S.refused sink.old state.old
-        (parts_bytes (map part_of parts.now) ++ part_bytes (characters_left identical characters.now))
+    ensures bytes { Writes S.effects sink.old state.old
+        (parts_bytes (map part_of parts.now)
+        ++ part_bytes (characters_left identical characters.now))
         result sink.new state.new }
 {
     write_parts(sink, state, parts)?;

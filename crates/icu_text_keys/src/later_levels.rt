@@ -2,8 +2,8 @@
 
 ghost use Rattle.std.specs.Prelude.{◌≡◌, ◌<◌, ℕ, List, [], ◌∷◌, ◌++◌, Option, map, OnOk, IfOk};
 ghost use Rattle.icu_levels.specs.Keys.{secondary_part, case_part, tertiary_part, quaternary_part, identical_part, later_parts, parts_bytes};
-ghost use Rattle.icu_order.specs.Handled.{HandledElement, stayed, shifted_primary, stayed_elements};
-ghost use Rattle.icu_order.specs.Levels.{level_lists};
+ghost use Rattle.icu_weighting.specs.Handled.{HandledElement, stayed, shifted_primary, stayed_elements};
+ghost use Rattle.icu_weighting.specs.Levels.{level_lists};
 ghost use Rattle.icu_text_keys.specs.LevelRests.{secondaries_left, cases_left, tertiaries_left, quaternaries_left, characters_left, part_of};
 
 use crate::finished_levels::{LevelBytes, write_later};
@@ -11,11 +11,11 @@ use crate::level::{
     SecondaryLevel, push_case, push_quaternary, push_secondary, push_shifted, push_tertiary,
 };
 use icu_entries::CollationElement;
-use icu_keys::held::backward::HeldSegments;
-use icu_keys::held::cases::HeldCases;
-use icu_keys::held::quaternaries::HeldQuaternaries;
-use icu_keys::held::secondaries::HeldSecondaries;
-use icu_keys::held::tertiaries::HeldTertiaries;
+use icu_keys::held_cases::HeldCases;
+use icu_keys::held_quaternaries::HeldQuaternaries;
+use icu_keys::held_secondaries::HeldSecondaries;
+use icu_keys::held_segments::HeldSegments;
+use icu_keys::held_tertiaries::HeldTertiaries;
 use icu_keys::primaries::PrimaryCompression;
 use icu_keys::{CollationKeySink, SortKeyError};
 use icu_levels::forms::{KeyForm, SecondaryForm};
@@ -71,7 +71,7 @@ fn new_quaternary(alloc: Global, form: KeyForm) -> Option<HeldQuaternaries>
 }
 
 /// The bytes of the secondary level.
-#[tactic(auto, unfolding(icu_order::specs::Levels::weights, icu_order::specs::Levels::parted))]
+#[tactic(auto, unfolding(icu_weighting::specs::Levels::weights, icu_weighting::specs::Levels::parted))]
 fn finish_secondary(level: SecondaryLevel) -> Result<LevelBytes, AllocError>
     ensures { IfOk result (λ bytes. part_of bytes ≡ secondaries_left level []) }
 {
@@ -83,7 +83,7 @@ fn finish_secondary(level: SecondaryLevel) -> Result<LevelBytes, AllocError>
 }
 
 /// The bytes of the case level.
-#[tactic(auto, unfolding(icu_order::specs::Levels::weights))]
+#[tactic(auto, unfolding(icu_weighting::specs::Levels::weights))]
 fn finish_cases(level: Option<HeldCases>) -> Result<LevelBytes, AllocError>
     ensures { (before : Option SecondaryForm) →
         IfOk result (λ bytes. part_of bytes ≡ cases_left before level []) }
@@ -95,7 +95,7 @@ fn finish_cases(level: Option<HeldCases>) -> Result<LevelBytes, AllocError>
 }
 
 /// The bytes of the tertiary level.
-#[tactic(auto, unfolding(icu_order::specs::Levels::weights))]
+#[tactic(auto, unfolding(icu_weighting::specs::Levels::weights))]
 fn finish_tertiary(level: Option<HeldTertiaries>) -> Result<LevelBytes, AllocError>
     ensures { IfOk result (λ bytes. part_of bytes ≡ tertiaries_left level []) }
 {
@@ -106,7 +106,7 @@ fn finish_tertiary(level: Option<HeldTertiaries>) -> Result<LevelBytes, AllocErr
 }
 
 /// The bytes of the quaternary level.
-#[tactic(auto, unfolding(icu_order::specs::Levels::quaternaries))]
+#[tactic(auto, unfolding(icu_weighting::specs::Levels::quaternaries))]
 fn finish_quaternary(level: Option<HeldQuaternaries>) -> Result<LevelBytes, AllocError>
     ensures { (reorder : ℕ → ℕ) →
         IfOk result (λ bytes. part_of bytes ≡ quaternaries_left reorder level []) }
@@ -151,7 +151,8 @@ impl LaterLevels {
     pub(crate) fn push_stayed(&mut self, element: CollationElement) -> Result<(), AllocError>
         requires { element.lower < 0xC000 }
         ensures { OnOk result ((reorder : ℕ → ℕ) (cs : List ℕ) (hs : List HandledElement) →
-            levels_left reorder self.old cs (stayed element ∷ hs) ≡ levels_left reorder self.new cs hs) }
+            levels_left reorder self.old cs (stayed element ∷ hs)
+            ≡ levels_left reorder self.new cs hs) }
     {
         push_secondary(&mut self.secondary, element)?;
         push_case(&mut self.cases, self.before, element)?;
@@ -166,7 +167,8 @@ impl LaterLevels {
         primary: u32,
     ) -> Result<(), AllocError>
         ensures { OnOk result ((cs : List ℕ) (hs : List HandledElement) →
-            levels_left (C.compression compression.now).reorder self.old cs (shifted_primary primary ∷ hs)
+            levels_left (C.compression compression.now).reorder self.old cs
+            (shifted_primary primary ∷ hs)
             ≡ levels_left (C.compression compression.now).reorder self.new cs hs) }
     {
         push_shifted(&mut self.quaternary, compression, primary)
@@ -175,7 +177,8 @@ impl LaterLevels {
     /// The bytes of the levels before the identical one.
     fn finish(self) -> Result<[LevelBytes; 4], AllocError>
         ensures { (reorder : ℕ → ℕ) (cs : List ℕ) → IfOk result (λ parts.
-            map part_of parts ++ (characters_left self.identical cs ∷ []) ≡ levels_left reorder self cs []) }
+            map part_of parts ++ (characters_left self.identical cs ∷ [])
+            ≡ levels_left reorder self cs []) }
     {
         Ok([
             finish_secondary(self.secondary)?,
@@ -194,7 +197,7 @@ impl LaterLevels {
     ) -> Result<(), SortKeyError<S::Error>>
         requires { S.is_sound sink.old state.old }
         ensures sound { S.is_sound sink.new state.new }
-        ensures bytes { (reorder : ℕ → ℕ) → KeyWrites S.took S.refused sink.old state.old
+        ensures bytes { (reorder : ℕ → ℕ) → KeyWrites S.effects sink.old state.old
             (parts_bytes (levels_left reorder self characters.now [])) result sink.new state.new }
     {
         let identical = self.identical;

@@ -6,19 +6,16 @@
 #![tactic(auto)]
 
 pub mod compression;
-pub mod element_weights;
 pub mod finished_levels;
-pub mod form;
-pub mod handled;
 pub mod later_levels;
 pub mod laws;
 mod level;
+mod next_element;
 mod three_level_key;
 pub mod whole_key;
 pub mod writer;
+mod written_weights;
 
 pub use compression::TableCompression;
-pub use form::key_form;
-pub use handled::{Handled, HandledSource};
 pub use whole_key::write_key;
 pub use writer::KeyWriter;

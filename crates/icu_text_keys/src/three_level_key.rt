@@ -6,24 +6,26 @@ ghost use Rattle.icu_levels.specs.Keys.{key_bytes};
 ghost use Rattle.icu_levels.specs.Primaries.{Compression};
 ghost use Rattle.icu_keys.specs.KeyWrites.{KeyWrites, KeyFeeds};
 ghost use Rattle.icu_keys.specs.ThreeLevels.{three_levels_form};
-ghost use Rattle.icu_order.specs.Handled.{HandledElement, stayed};
-ghost use Rattle.icu_order.specs.Levels.{level_lists};
-ghost use Rattle.icu_text_keys.specs.HandledSources.{HasCase, handled_as};
+ghost use Rattle.icu_weighting.specs.Handled.{HandledElement, stayed};
+ghost use Rattle.icu_weighting.specs.Levels.{level_lists};
+ghost use Rattle.icu_weighting.specs.HandledSources.{HasCase, handled_as};
 ghost use Rattle.icu_text_keys.specs.inner.ThreeLevelKeys.{form_of_three_levels, three_levels_left};
 
-use crate::element_weights::tertiary_or_none;
-use crate::handled::{Handled, HandledSource, next_element};
+use crate::next_element::next_element;
+use crate::written_weights::tertiary_or_none;
 use icu_entries::CollationElement;
 use icu_keys::primaries::PrimaryCompression;
 use icu_keys::three_levels::ThreeLevelWriter;
 use icu_keys::{CollationKeySink, SortKeyError};
 use icu_levels::forms::{KeyForm, SecondaryForm, TertiaryForm};
+use icu_weighting::{Handled, HandledSource};
 use std::alloc::Global;
 
 /// The form of the tertiaries, where a key has the primary level, secondaries from the front, tertiaries, and no other
 /// level.
 pub(crate) fn three_level_tertiaries(form: KeyForm) -> Option<TertiaryForm>
-    ensures { (tertiary : TertiaryForm) → (result ≡ Some tertiary) ↔ (form ≡ form_of_three_levels tertiary) }
+    ensures { (tertiary : TertiaryForm) → (result ≡ Some tertiary)
+        ↔ (form ≡ form_of_three_levels tertiary) }
 {
     match form {
         KeyForm {
@@ -52,8 +54,9 @@ fn push_stayed<S: CollationKeySink, C: PrimaryCompression>(
     requires case { element.lower < 0xC000 }
     ensures sound { S.is_sound sink.new state.new }
     ensures form { three_levels_form writer.new ≡ form }
-    ensures bytes { KeyFeeds S.took S.refused sink.old state.old
-        (λ (hs : List HandledElement). three_levels_left (C.compression compression.now) writer.old (stayed element ∷ hs))
+    ensures bytes { KeyFeeds S.effects sink.old state.old
+        (λ (hs : List HandledElement). three_levels_left (C.compression compression.now) writer.old
+        (stayed element ∷ hs))
         (three_levels_left (C.compression compression.now) writer.new) result sink.new state.new }
 {
     writer.push_in_form(
@@ -83,8 +86,9 @@ fn push_handled<S: CollationKeySink, C: PrimaryCompression>(
     requires case { HasCase (handled_as element) }
     ensures sound { S.is_sound sink.new state.new }
     ensures form { three_levels_form writer.new ≡ form }
-    ensures bytes { KeyFeeds S.took S.refused sink.old state.old
-        (λ (hs : List HandledElement). three_levels_left (C.compression compression.now) writer.old (handled_as element ∷ hs))
+    ensures bytes { KeyFeeds S.effects sink.old state.old
+        (λ (hs : List HandledElement). three_levels_left (C.compression compression.now) writer.old
+        (handled_as element ∷ hs))
         (three_levels_left (C.compression compression.now) writer.new) result sink.new state.new }
 {
     match element {
@@ -94,7 +98,7 @@ fn push_handled<S: CollationKeySink, C: PrimaryCompression>(
 }
 
 /// Writes the rest of a key, as its elements end here.
-#[tactic(auto, unfolding(icu_order::specs::Levels::weights))]
+#[tactic(auto, unfolding(icu_weighting::specs::Levels::weights))]
 fn close_levels<S: CollationKeySink>(
     writer: &ThreeLevelWriter,
     sink: &mut S,
@@ -102,7 +106,7 @@ fn close_levels<S: CollationKeySink>(
 ) -> Result<(), SortKeyError<S::Error>>
     requires { S.is_sound sink.old state.old }
     ensures sound { S.is_sound sink.new state.new }
-    ensures bytes { (c : Compression) → KeyWrites S.took S.refused sink.old state.old
+    ensures bytes { (c : Compression) → KeyWrites S.effects sink.old state.old
         (three_levels_left c writer.now []) result sink.new state.new }
 {
     match writer.close(sink, state) {
@@ -125,7 +129,7 @@ fn write_rest<S: CollationKeySink, C: PrimaryCompression, H: HandledSource>(
     requires form { three_levels_form writer ≡ form }
     requires cases { AllByRecursion HasCase (H.handled_left elements.old) }
     ensures sound { S.is_sound sink.new state.new }
-    ensures bytes { KeyWrites S.took S.refused sink.old state.old
+    ensures bytes { KeyWrites S.effects sink.old state.old
         (three_levels_left (C.compression compression.now) writer (H.handled_left elements.old))
         result sink.new state.new }
 {
@@ -148,9 +152,10 @@ fn write_in_form<S: CollationKeySink, C: PrimaryCompression, H: HandledSource>(
     requires sound { S.is_sound sink.old state.old }
     requires cases { AllByRecursion HasCase (H.handled_left elements.old) }
     ensures sound { S.is_sound sink.new state.new }
-    ensures bytes { (cs : List ℕ) → KeyWrites S.took S.refused sink.old state.old
+    ensures bytes { (cs : List ℕ) → KeyWrites S.effects sink.old state.old
         (key_bytes (C.compression compression.now) (form_of_three_levels form)
-        (level_lists (C.compression compression.now).reorder (form_of_three_levels form) (H.handled_left elements.old) cs))
+        (level_lists (C.compression compression.now).reorder (form_of_three_levels form)
+        (H.handled_left elements.old) cs))
         result sink.new state.new }
 {
     let writer = ThreeLevelWriter::with_form(alloc, form);
@@ -170,9 +175,10 @@ pub(crate) fn write_three_levels<S: CollationKeySink, C: PrimaryCompression, H: 
     requires sound { S.is_sound sink.old state.old }
     requires cases { AllByRecursion HasCase (H.handled_left elements.old) }
     ensures sound { S.is_sound sink.new state.new }
-    ensures bytes { (cs : List ℕ) → KeyWrites S.took S.refused sink.old state.old
+    ensures bytes { (cs : List ℕ) → KeyWrites S.effects sink.old state.old
         (key_bytes (C.compression compression.now) (form_of_three_levels form)
-        (level_lists (C.compression compression.now).reorder (form_of_three_levels form) (H.handled_left elements.old) cs))
+        (level_lists (C.compression compression.now).reorder (form_of_three_levels form)
+        (H.handled_left elements.old) cs))
         result sink.new state.new }
 {
     match form {

@@ -4,17 +4,18 @@ ghost use Rattle.std.specs.Prelude.{List};
 ghost use Rattle.std.specs.List.{AllByRecursion};
 ghost use Rattle.icu_levels.specs.Keys.{key_bytes};
 ghost use Rattle.icu_keys.specs.KeyWrites.{KeyWrites, WritesKey};
-ghost use Rattle.icu_order.specs.Levels.{level_lists};
-ghost use Rattle.icu_text_keys.specs.HandledSources.{HasCase};
+ghost use Rattle.icu_weighting.specs.Levels.{level_lists};
+ghost use Rattle.icu_weighting.specs.HandledSources.{HasCase};
 ghost use Rattle.icu_text_keys.specs.KeyRests.{key_rest};
 
-use crate::handled::{HandledSource, next_element};
+use crate::next_element::next_element;
 use crate::three_level_key::{three_level_tertiaries, write_three_levels};
 use crate::writer::KeyWriter;
 use icu_keys::parts::end_key;
 use icu_keys::primaries::PrimaryCompression;
 use icu_keys::{CollationKeySink, SortKeyError};
 use icu_levels::forms::KeyForm;
+use icu_weighting::HandledSource;
 use std::alloc::Global;
 
 /// Writes the rest of a key, of the elements that are still to come.
@@ -29,8 +30,9 @@ fn write_elements<S: CollationKeySink, C: PrimaryCompression, H: HandledSource>(
     requires sound { S.is_sound sink.old state.old }
     requires cases { AllByRecursion HasCase (H.handled_left elements.old) }
     ensures sound { S.is_sound sink.new state.new }
-    ensures bytes { KeyWrites S.took S.refused sink.old state.old
-        (key_rest (C.compression compression.now) writer characters.now (H.handled_left elements.old))
+    ensures bytes { KeyWrites S.effects sink.old state.old
+        (key_rest (C.compression compression.now) writer characters.now
+        (H.handled_left elements.old))
         result sink.new state.new }
 {
     'writing: while let Some(element) = next_element(elements)? {
@@ -53,9 +55,10 @@ fn write_levels<S: CollationKeySink, C: PrimaryCompression, H: HandledSource>(
     requires sound { S.is_sound sink.old state.old }
     requires cases { AllByRecursion HasCase (H.handled_left elements.old) }
     ensures sound { S.is_sound sink.new state.new }
-    ensures bytes { KeyWrites S.took S.refused sink.old state.old
+    ensures bytes { KeyWrites S.effects sink.old state.old
         (key_bytes (C.compression compression.now) form
-        (level_lists (C.compression compression.now).reorder form (H.handled_left elements.old) characters.now))
+        (level_lists (C.compression compression.now).reorder form
+        (H.handled_left elements.old) characters.now))
         result sink.new state.new }
 {
     match three_level_tertiaries(form) {
@@ -86,9 +89,10 @@ pub fn write_key<S: CollationKeySink, C: PrimaryCompression, H: HandledSource>(
     characters: &[char],
 ) -> Result<S::Output, SortKeyError<S::Error>>
     requires { AllByRecursion HasCase (H.handled_left elements.old) }
-    ensures { WritesKey S.took S.refused S.finished S.State.is_default sink.old
+    ensures { WritesKey S.effects sink.old
         (key_bytes (C.compression compression.now) form
-        (level_lists (C.compression compression.now).reorder form (H.handled_left elements.old) characters.now))
+        (level_lists (C.compression compression.now).reorder form
+        (H.handled_left elements.old) characters.now))
         result sink.new }
 {
     let mut state = S::State::default();

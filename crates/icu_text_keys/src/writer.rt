@@ -7,20 +7,20 @@ ghost use Rattle.icu_entries.specs.Elements.{Element};
 ghost use Rattle.icu_keys.specs.KeyWrites.{KeyWrites, KeyFeeds};
 ghost use Rattle.icu_keys.specs.WriterRests.{primary_rest};
 ghost use Rattle.icu_keys.specs.Writes.{Feeds};
-ghost use Rattle.icu_order.specs.Handled.{HandledElement, stayed, shifted_primary};
-ghost use Rattle.icu_order.specs.Levels.{level_lists, primaries};
-ghost use Rattle.icu_text_keys.specs.HandledSources.{HasCase, handled_as};
+ghost use Rattle.icu_weighting.specs.Handled.{HandledElement, stayed, shifted_primary};
+ghost use Rattle.icu_weighting.specs.Levels.{level_lists, primaries};
+ghost use Rattle.icu_weighting.specs.HandledSources.{HasCase, handled_as};
 
-use crate::handled::Handled;
 use crate::later_levels::LaterLevels;
 use icu_entries::CollationElement;
 use icu_keys::primaries::{PrimaryCompression, PrimaryWriter};
 use icu_keys::{CollationKeySink, SortKeyError};
 use icu_levels::forms::KeyForm;
+use icu_weighting::Handled;
 use std::alloc::Global;
 
 /// Writes the primary of an element, where it has one. An error is the sink's own.
-#[tactic(auto, unfolding(icu_order::specs::Levels::weights))]
+#[tactic(auto, unfolding(icu_weighting::specs::Levels::weights))]
 fn push_primary<S: CollationKeySink, C: PrimaryCompression>(
     writer: &mut PrimaryWriter,
     sink: &mut S,
@@ -30,8 +30,9 @@ fn push_primary<S: CollationKeySink, C: PrimaryCompression>(
 ) -> Result<(), S::Error>
     requires { S.is_sound sink.old state.old }
     ensures sound { S.is_sound sink.new state.new }
-    ensures bytes { Feeds S.took S.refused sink.old state.old
-        (λ (es : List Element). primary_rest (C.compression compression.now) writer.old (primaries (element ∷ es)))
+    ensures bytes { Feeds S.effects sink.old state.old
+        (λ (es : List Element). primary_rest (C.compression compression.now) writer.old
+        (primaries (element ∷ es)))
         (λ es. primary_rest (C.compression compression.now) writer.new (primaries es))
         result sink.new state.new }
 {
@@ -77,8 +78,9 @@ impl KeyWriter {
         requires sound { S.is_sound sink.old state.old }
         requires case { element.lower < 0xC000 }
         ensures sound { S.is_sound sink.new state.new }
-        ensures bytes { (cs : List ℕ) → KeyFeeds S.took S.refused sink.old state.old
-            (λ (hs : List HandledElement). key_rest (C.compression compression.now) self.old cs (stayed element ∷ hs))
+        ensures bytes { (cs : List ℕ) → KeyFeeds S.effects sink.old state.old
+            (λ (hs : List HandledElement). key_rest (C.compression compression.now) self.old cs
+            (stayed element ∷ hs))
             (key_rest (C.compression compression.now) self.new cs) result sink.new state.new }
     {
         if let Err(error) = push_primary(&mut self.primaries, sink, state, compression, element) {
@@ -101,8 +103,9 @@ impl KeyWriter {
     ) -> Result<(), SortKeyError<S::Error>>
         requires { S.is_sound sink.old state.old }
         ensures sound { S.is_sound sink.new state.new }
-        ensures bytes { (cs : List ℕ) → KeyFeeds S.took S.refused sink.old state.old
-            (λ (hs : List HandledElement). key_rest (C.compression compression.now) self.old cs (shifted_primary primary ∷ hs))
+        ensures bytes { (cs : List ℕ) → KeyFeeds S.effects sink.old state.old
+            (λ (hs : List HandledElement). key_rest (C.compression compression.now) self.old cs
+            (shifted_primary primary ∷ hs))
             (key_rest (C.compression compression.now) self.new cs) result sink.new state.new }
     {
         match self.levels.push_shifted(compression, primary) {
@@ -122,8 +125,9 @@ impl KeyWriter {
         requires sound { S.is_sound sink.old state.old }
         requires case { HasCase (handled_as element) }
         ensures sound { S.is_sound sink.new state.new }
-        ensures bytes { (cs : List ℕ) → KeyFeeds S.took S.refused sink.old state.old
-            (λ (hs : List HandledElement). key_rest (C.compression compression.now) self.old cs (handled_as element ∷ hs))
+        ensures bytes { (cs : List ℕ) → KeyFeeds S.effects sink.old state.old
+            (λ (hs : List HandledElement). key_rest (C.compression compression.now) self.old cs
+            (handled_as element ∷ hs))
             (key_rest (C.compression compression.now) self.new cs) result sink.new state.new }
     {
         match element {
@@ -134,7 +138,7 @@ impl KeyWriter {
 
     /// Writes the rest of the key, given all characters of the decomposed text, which count at the identical level
     /// alone.
-    #[tactic(auto, unfolding(icu_order::specs::Levels::weights))]
+    #[tactic(auto, unfolding(icu_weighting::specs::Levels::weights))]
     pub fn close<S: CollationKeySink>(
         self,
         sink: &mut S,
@@ -143,7 +147,7 @@ impl KeyWriter {
     ) -> Result<(), SortKeyError<S::Error>>
         requires { S.is_sound sink.old state.old }
         ensures sound { S.is_sound sink.new state.new }
-        ensures bytes { (c : Compression) → KeyWrites S.took S.refused sink.old state.old
+        ensures bytes { (c : Compression) → KeyWrites S.effects sink.old state.old
             (key_rest c self characters.now []) result sink.new state.new }
     {
         self.levels.write(sink, state, characters)

@@ -25,13 +25,15 @@ pub record CompressApart (ps : List ℕ) (special : SpecialPrimaries) (r : Reord
   pub is_compressed : compresses special compressed ≡ true
   pub is_other : compresses special other ≡ false
 
--- the weight comes to lead l, and has a compressible lead or another
+-- the weight comes to lead l, and has a compressible lead
 abbrev pub compressed_at : SpecialPrimaries → Reordering → ℕ → ℕ → Bool
 compressed_at special r l p = (reordered_lead r p == l) && compresses special p
 
+-- the weight comes to lead l, and has a lead that is not compressible
 abbrev pub other_at : SpecialPrimaries → Reordering → ℕ → ℕ → Bool
 other_at special r l p = (reordered_lead r p == l) && not (compresses special p)
 
+-- the mark of lead l, false beyond the end
 abbrev pub mark_of : List Bool → ℕ → Bool
 mark_of marks l = slice_index_or marks l false
 

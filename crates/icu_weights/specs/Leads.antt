@@ -14,6 +14,7 @@ TakesLead r b d = (p : ℕ) → p < 2 ^ 32 → lead_byte p ≡ b → reordered_l
 abbrev pub TakesBlock : Reordering → ℕ → ℕ → Type 0
 TakesBlock r h d = (p : ℕ) → p < 2 ^ 32 → p / 0x10000 ≡ h → reordered_lead r p ≡ d
 
--- the lead bytes between the separator's, 02, and that of weights above all others, FF (section 1.3 "Root Collation")
+-- the lead bytes between the separator's, 02, and that of weights above all others, FF (UTS #35 part 5, "Root
+-- Collation")
 abbrev pub is_middle : ℕ → Bool
 is_middle lead = nat_le 3 lead && nat_le lead 0xFE

@@ -15,7 +15,8 @@ struct LeadMarks {
 
 /// Marks a lead byte if weights come to it.
 fn mark(marks: &mut [bool; 256], lead: u8, comes: bool)
-    ensures { (l : ℕ) → l < 256 → mark_of marks.new l ≡ (mark_of marks.old l || ((lead == l) && comes)) }
+    ensures { (l : ℕ) → l < 256 → mark_of marks.new l
+        ≡ (mark_of marks.old l || ((lead == l) && comes)) }
 {
     if comes {
         marks[usize::from(lead)] = true;
@@ -28,9 +29,12 @@ fn lead_marks(
     special: CollationSpecialPrimaries<'_>,
     reordering: CollationReordering<'_>,
 ) -> LeadMarks
-    ensures compressed { Marks (compressed_at (special_of special.entry) (reordering_of reordering.entry)) primaries.now result.compressed }
-    ensures other { Marks (other_at (special_of special.entry) (reordering_of reordering.entry)) primaries.now result.other }
-    ensures bytes { All (λ p. reordered_lead (reordering_of reordering.entry) p < 256) primaries.now }
+    ensures compressed { Marks (compressed_at (special_of special.entry)
+        (reordering_of reordering.entry)) primaries.now result.compressed }
+    ensures other { Marks (other_at (special_of special.entry) (reordering_of reordering.entry))
+        primaries.now result.other }
+    ensures bytes { All
+        (λ p. reordered_lead (reordering_of reordering.entry) p < 256) primaries.now }
 {
     let mut compressed = [false; 256];
     let mut other = [false; 256];
@@ -63,8 +67,10 @@ pub fn compress_alike(
     special: CollationSpecialPrimaries<'_>,
     reordering: CollationReordering<'_>,
 ) -> bool
-    ensures alike { IsTrue result ↔ CompressAlike primaries.now (special_of special.entry) (reordering_of reordering.entry) }
-    ensures apart { result ≡ false → CompressApart primaries.now (special_of special.entry) (reordering_of reordering.entry) }
+    ensures alike { IsTrue result ↔ CompressAlike primaries.now (special_of special.entry)
+        (reordering_of reordering.entry) }
+    ensures apart { result ≡ false → CompressApart primaries.now (special_of special.entry)
+        (reordering_of reordering.entry) }
 {
     let marks = lead_marks(primaries, special, reordering);
     !have_common_mark(&marks.compressed, &marks.other)

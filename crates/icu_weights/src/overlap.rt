@@ -21,7 +21,8 @@ use std::alloc::AllocError;
 /// Reordering leaves weights in four bytes.
 #[tactic(auto, using(crate::proofs::LeadLemmas::reordered_fits))]
 fn stays_in_range(reordering: Option<CollationReordering<'_>>)
-    ensures { (p : ℕ) → p < 2 ^ 32 → reorder_by (option_map reordering_of reordering.entry) p < 2 ^ 32 }
+    ensures { (p : ℕ) → p < 2 ^ 32
+        → reorder_by (option_map reordering_of reordering.entry) p < 2 ^ 32 }
 {
     if let Some(reordering) = reordering {
         reordering.has_bytes();
@@ -81,7 +82,8 @@ fn sort_reordered(
     reordering: Option<CollationReordering<'_>>,
 ) -> Result<(), AllocError>
     ensures permutation { IsPermutation weights.old.items weights.new.items }
-    ensures ascending { OnOk result (IsNonDecreasingBy (reorder_by (option_map reordering_of reordering.entry)) weights.new.items) }
+    ensures ascending { OnOk result (IsNonDecreasingBy
+        (reorder_by (option_map reordering_of reordering.entry)) weights.new.items) }
 {
     weights.sort_by_key(|weight| reorder_by(reordering, *weight))?;
     Ok(())
@@ -90,9 +92,14 @@ fn sort_reordered(
 /// The first index whose weight begins the next one, once they are reordered.
 fn overlapping_index(weights: &[u32], reordering: Option<CollationReordering<'_>>) -> Option<usize>
     requires { IsNonDecreasingBy (reorder_by (option_map reordering_of reordering)) weights.now }
-    ensures none { IsNone result → (i j : ℕ) → i < length weights.now → j < length weights.now → i ≢ j → ¬ (IsBeginning (written_bytes (option_map reordering_of reordering.entry) (slice_index weights.now i)) (written_bytes (option_map reordering_of reordering.entry) (slice_index weights.now j))) }
+    ensures none { IsNone result → (i j : ℕ) → i < length weights.now → j < length weights.now
+        → i ≢ j
+        → ¬ (IsBeginning
+        (written_bytes (option_map reordering_of reordering.entry) (slice_index weights.now i))
+        (written_bytes (option_map reordering_of reordering.entry) (slice_index weights.now j))) }
     ensures within { IfSome result (λ k. k + 1 < length weights.now) }
-    ensures begins { IfSome result (NeighbourBegins (written_bytes (option_map reordering_of reordering.entry)) weights.now) }
+    ensures begins { IfSome result (NeighbourBegins
+        (written_bytes (option_map reordering_of reordering.entry)) weights.now) }
 {
     stays_in_range(reordering);
     for next in 1..weights.len() {
@@ -112,8 +119,13 @@ pub fn first_overlap(
     reordering: Option<CollationReordering<'_>>,
 ) -> Result<Option<Overlap>, AllocError>
     requires { IsStrictlyIncreasing weights.old.items }
-    ensures free { IfOk result (λ found. IsNone found → IsPrefixFree (written_bytes (option_map reordering_of reordering.entry)) (Contains weights.old.items)) }
-    ensures overlaps { IfOk result (λ found. IfSome found (λ o. Overlaps (written_bytes (option_map reordering_of reordering.entry)) weights.old.items o.first o.second)) }
+    ensures free { IfOk result (λ found.
+        IsNone found → IsPrefixFree
+        (written_bytes (option_map reordering_of reordering.entry)) (Contains weights.old.items)) }
+    ensures overlaps { IfOk result (λ found.
+        IfSome found (λ o. Overlaps
+        (written_bytes (option_map reordering_of reordering.entry))
+        weights.old.items o.first o.second)) }
 {
     sort_reordered(weights, reordering)?;
     match overlapping_index(weights.as_slice(), reordering) {
@@ -130,7 +142,8 @@ fn overlapping_neighbours(
     weights: &[u32],
     reordering: Option<CollationReordering<'_>>,
 ) -> Option<Overlap>
-    ensures { IfSome result (λ o. Overlaps (written_bytes (option_map reordering_of reordering.entry)) weights.now o.first o.second) }
+    ensures { IfSome result (λ o. Overlaps
+        (written_bytes (option_map reordering_of reordering.entry)) weights.now o.first o.second) }
 {
     for next in 1..weights.len() {
         let (first, second) = (weights[next - 1], weights[next]);
@@ -160,7 +173,10 @@ pub fn first_common_overlap(
     reordering: Option<CollationReordering<'_>>,
 ) -> Result<Option<Overlap>, AllocError>
     ensures members { (w : ℕ) → Contains weights.new.items w ↔ Contains weights.old.items w }
-    ensures overlaps { IfOk result (λ found. IfSome found (λ o. Overlaps (written_bytes (option_map reordering_of reordering.entry)) weights.old.items o.first o.second)) }
+    ensures overlaps { IfOk result (λ found.
+        IfSome found (λ o. Overlaps
+        (written_bytes (option_map reordering_of reordering.entry))
+        weights.old.items o.first o.second)) }
 {
     sort_reordered(weights, reordering)?;
     sort_by_lead(weights)?;

@@ -3,7 +3,7 @@
 
 ghost use Rattle.std.specs.Prelude.{◌≡◌, map, IfOk};
 ghost use Rattle.icu_comparison.specs.Collators.{collation_kept};
-ghost use Rattle.icu_index.specs.Listings.{listed, name_order};
+ghost use Rattle.icu_index.specs.Listings.{listing_of, name_order};
 ghost use Rattle.icu_index.specs.NameIndexes.{index_collation, listing};
 
 use icu_collator::index::NameIndex;
@@ -18,7 +18,7 @@ use std::process::ExitCode;
 
 /// Why the names aren't printed in order.
 #[derive(Debug, Drop)]
-enum Fault {
+enum Error {
     /// Memory ran out. Nothing was changed, so the same call may be made again once there is more.
     NoMemory,
     /// The tables don't meet a condition, which the error names: they have to be mended, and no further call helps.
@@ -27,29 +27,29 @@ enum Fault {
     Output(io::Error),
 }
 
-impl From<AllocError> for Fault {
-    fn from(_: AllocError) -> Fault {
-        Fault::NoMemory
+impl From<AllocError> for Error {
+    fn from(_: AllocError) -> Error {
+        Error::NoMemory
     }
 }
 
-impl From<DataError> for Fault {
-    fn from(error: DataError) -> Fault {
+impl From<DataError> for Error {
+    fn from(error: DataError) -> Error {
         match error.kind {
-            DataErrorKind::NoMemory => Fault::NoMemory,
-            _ => Fault::Tables(error),
+            DataErrorKind::NoMemory => Error::NoMemory,
+            _ => Error::Tables(error),
         }
     }
 }
 
-impl From<io::Error> for Fault {
-    fn from(error: io::Error) -> Fault {
-        Fault::Output(error)
+impl From<io::Error> for Error {
+    fn from(error: io::Error) -> Error {
+        Error::Output(error)
     }
 }
 
 /// A collator by Mini's tables. The provider may be of the caller's own: its tables are checked, and copied.
-fn collator(alloc: Global) -> Result<Collator, Fault> {
+fn collator(alloc: Global) -> Result<Collator, Error> {
     let mini = Mini::new(alloc)?;
     let options = CollatorOptions {
         strength: Some(Strength::Tertiary),
@@ -70,7 +70,7 @@ fn index<'c>(
     names: &[&str],
 ) -> Result<NameIndex<'c>, AllocError>
     ensures { IfOk result (λ index. listing index
-        ≡ listed (name_order (collation_kept collator.now)) (map (λ n. n.now) names.now)) }
+        ≡ listing_of (name_order (collation_kept collator.now)) (map (λ n. n.now) names.now)) }
 {
     let mut index = NameIndex::new(alloc, collator);
     for name in names {
@@ -79,7 +79,7 @@ fn index<'c>(
     Ok(index)
 }
 
-fn print_names(rt: &HostRuntime) -> Result<(), Fault> {
+fn print_names(rt: &HostRuntime) -> Result<(), Error> {
     let collator = collator(rt.alloc())?;
     let names = ["Zoë", "Émile", "emil", "Zoe", "Bo", "Emil"];
     let mut output = rt.stdout();

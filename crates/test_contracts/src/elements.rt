@@ -1,6 +1,6 @@
 //! The elements of a text.
 
-ghost use Rattle.std.specs.Prelude.{◌≡◌, ℕ, List, false, None, IsErr, IfOk, OnErr};
+ghost use Rattle.std.specs.Prelude.{◌≡◌, ℕ, List, IsErr, IfOk, OnErr};
 ghost use Rattle.std.specs.Iterator.{IsFinite};
 ghost use Rattle.unicode_normalization.specs.Forms.{nfd};
 ghost use Rattle.unicode_normalization.specs.Iter.{Spells};
@@ -11,22 +11,23 @@ ghost use Rattle.icu_elements.specs.ElementReaders.{elements_to_come};
 ghost use Rattle.icu_elements.specs.CollationElements.{StillGives, CanGive, IsRefused, first_of, rest_of};
 
 use icu_elements::{
-    CollationElement, CollationElements, ElementReader, ElementTables, decomposed_text,
+    CollationElement, CollationElements, ElementReader, TextReading, decomposed_text,
 };
 use std::alloc::AllocError;
 
 /// A reader of the text that an iterator spells, decomposed: `decomposed_text`, and then `ElementReader::new`.
 pub fn reader<'d, I: Iterator<Item = char> + Drop>(
-    tables: ElementTables<'d>,
+    reading: TextReading<'d>,
     delegate: I,
 ) -> Result<ElementReader<'d>, AllocError>
     requires can { I.can_next delegate }
     requires ends { IsFinite (I.remaining delegate) }
     ensures { (cs : List ℕ) → Spells I.next_gives delegate cs
-        → IfOk result (λ reader. elements_to_come reader ≡ elements_of (reading_of tables.entry None false) (nfd cs)) }
+        → IfOk result (λ reader. elements_to_come reader
+        ≡ elements_of (reading_of reading.entry) (nfd cs)) }
 {
-    let text = decomposed_text(tables.allocator(), delegate)?;
-    Ok(ElementReader::new(text, tables, None, false))
+    let text = decomposed_text(reading.tables.allocator(), delegate)?;
+    Ok(ElementReader::new(text, reading))
 }
 
 /// As `CollationElements::next`. A wrong body may go on with `again`, another reading.

@@ -15,7 +15,8 @@ use std::cmp::Ordering;
 
 /// As `compare`.
 pub fn order(collator: &Collator, left: &str, right: &str) -> Result<Ordering, AllocError>
-    ensures order { IfOk result (λ o. o ≡ text_order (collation_kept collator.now) (chars left.now) (chars right.now)) }
+    ensures order { IfOk result (λ o.
+        o ≡ text_order (collation_kept collator.now) (chars left.now) (chars right.now)) }
     ensures same { left.now ≡ right.now → result ≡ Ok Ordering.Equal }
 {
     let order = collator.as_borrowed().compare(left, right)?;
@@ -28,7 +29,7 @@ pub fn key<S: CollationKeySink>(
     text: &str,
     sink: &mut S,
 ) -> Result<S::Output, SortKeyError<S::Error>>
-    ensures { WritesKey S.took S.refused S.finished S.State.is_default sink.old
+    ensures { WritesKey S.effects sink.old
         (text_key (collation_kept collator.now) (chars text.now)) result sink.new }
 {
     collator.as_borrowed().write_sort_key_to(text, sink)
@@ -36,7 +37,8 @@ pub fn key<S: CollationKeySink>(
 
 /// As `NameIndex::insert`.
 pub fn insert(index: &mut NameIndex<'_>, name: &[u8]) -> Result<(), AllocError>
-    ensures ok { OnOk result (listing index.new ≡ inserted (index_order index.old) name.now (listing index.old)) }
+    ensures ok { OnOk result
+        (listing index.new ≡ inserted (index_order index.old) name.now (listing index.old)) }
     ensures err { OnErr result (listing index.new ≡ listing index.old) }
 {
     index.insert(name)

@@ -5,21 +5,22 @@ ghost use Rattle.icu_provider.specs.TableSets.{tables_in};
 ghost use Rattle.icu_checks.specs.Checked.{checked_tables};
 ghost use Rattle.icu_checks.specs.GoodTables.{IsGoodTables, IsTrueRefusal};
 ghost use Rattle.icu_order.specs.Forms.{form_by};
-ghost use Rattle.icu_text_keys.specs.CheckedCollations.{collation_of};
+ghost use Rattle.icu_weighting.specs.CheckedCollations.{collation_of};
 
 use icu_checks::CheckedTables;
 use icu_entries::{DataError, DataErrorKind};
 use icu_levels::forms::KeyForm;
 use icu_options::CollatorOptionsBitField;
 use icu_provider::TableSet;
-use icu_text_keys::key_form;
+use icu_weighting::key_form;
 use std::alloc::Global;
 
 /// As `CheckedTables::from_set`.
 pub fn checked(alloc: Global, tables: TableSet<'_>) -> Result<CheckedTables, DataError>
     ensures good { IsOk result → IsGoodTables (tables_in tables.entry) }
     ensures refusal { IfErr result (IsTrueRefusal (tables_in tables.entry)) }
-    ensures exact { IfErr result (λ e. (e.kind ≡ DataErrorKind.NoMemory → ⊥) → IsGoodTables (tables_in tables.entry) → ⊥) }
+    ensures exact { IfErr result (λ e. (e.kind ≡ DataErrorKind.NoMemory → ⊥)
+        → IsGoodTables (tables_in tables.entry) → ⊥) }
     ensures keeps { IfOk result (λ t. checked_tables t ≡ tables_in tables.entry) }
 {
     match CheckedTables::from_set(alloc, tables) {

@@ -4,5 +4,6 @@ use Rattle.icu_checks.specs.Checked.{checked_tables}
 use Rattle.icu_checks.specs.declared.checked.CheckedTables.{CheckedTables}
 use Rattle.icu_elements.specs.TextElements.{Reading}
 
+-- how texts are read by these tables, a lead byte of numbers, and the rule for Lithuanian
 abbrev pub reading_with : CheckedTables → Option ℕ → Bool → Reading
 reading_with t numeric lithuanian = record { tables = (checked_tables t).tables; numeric = numeric; lithuanian = lithuanian }

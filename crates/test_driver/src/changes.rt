@@ -7,7 +7,7 @@ use crate::requests::set_refused;
 use crate::settings::named_settings;
 use crate::state::State;
 use crate::tables::{base, copied, set};
-use crate::texts::{Text, bytes_of};
+use crate::texts::{WrittenText, bytes_of};
 use icu_mini::mini::Mini;
 use std::alloc::Global;
 use std::fs;
@@ -94,7 +94,7 @@ fn take_root(alloc: Global, state: &mut State, file: CldrFile) -> Result<String,
 
 /// Reads a file whose bytes are a text.
 fn read_text(alloc: Global, state: &mut State, text: &str) -> Result<String, Fault> {
-    let text = Text::read(alloc, text)?;
+    let text = WrittenText::read(alloc, text)?;
     take_root(alloc, state, read_cldr(alloc, bytes_of(&text)?)?)
 }
 

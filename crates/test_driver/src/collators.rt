@@ -76,7 +76,7 @@ fn loaded(mini: &Mini) -> Result<TableSet<'_>, DataError> {
     })
 }
 
-/// These tables, each checked by its constructor and then all together.
+/// Mini's tables, each checked by its constructor and then all together.
 pub(crate) fn checked(alloc: Global, mini: &Mini) -> Result<CheckedTables, DataError> {
     CheckedTables::from_set(alloc, loaded(mini)?)
 }

@@ -1,27 +1,31 @@
 //! The order of two texts.
 use crate::fault::Fault;
-use crate::texts::{Text, two};
+use crate::texts::{WrittenText, two};
 use icu_comparison::Collator;
 use std::alloc::{AllocError, Global};
 use std::cmp::Ordering;
 
 /// The order of two texts, by the call for their encodings, if there is one.
-fn order(collator: &Collator, left: &Text, right: &Text) -> Option<Result<Ordering, AllocError>> {
+fn order(
+    collator: &Collator,
+    left: &WrittenText,
+    right: &WrittenText,
+) -> Option<Result<Ordering, AllocError>> {
     let borrowed = collator.as_borrowed();
     match (left, right) {
-        (Text::Characters(left), Text::Characters(right)) => {
+        (WrittenText::Characters(left), WrittenText::Characters(right)) => {
             Some(borrowed.compare(left.as_str(), right.as_str()))
         }
-        (Text::Utf8(left), Text::Utf8(right)) => {
+        (WrittenText::Utf8(left), WrittenText::Utf8(right)) => {
             Some(borrowed.compare_utf8(left.as_slice(), right.as_slice()))
         }
-        (Text::Utf16(left), Text::Utf16(right)) => {
+        (WrittenText::Utf16(left), WrittenText::Utf16(right)) => {
             Some(borrowed.compare_utf16(left.as_slice(), right.as_slice()))
         }
-        (Text::Latin1(left), Text::Latin1(right)) => {
+        (WrittenText::Latin1(left), WrittenText::Latin1(right)) => {
             Some(borrowed.compare_latin1(left.as_slice(), right.as_slice()))
         }
-        (Text::Latin1(left), Text::Utf16(right)) => {
+        (WrittenText::Latin1(left), WrittenText::Utf16(right)) => {
             Some(borrowed.compare_latin1_utf16(left.as_slice(), right.as_slice()))
         }
         _ => None,
@@ -31,8 +35,8 @@ fn order(collator: &Collator, left: &Text, right: &Text) -> Option<Result<Orderi
 /// What so many comparisons return, if all return the same.
 fn order_of_times(
     collator: &Collator,
-    left: &Text,
-    right: &Text,
+    left: &WrittenText,
+    right: &WrittenText,
     times: u64,
 ) -> Result<Option<Ordering>, Fault> {
     let mut first = None;
@@ -46,12 +50,12 @@ fn order_of_times(
     Ok(first)
 }
 
-fn has_call(left: &Text, right: &Text) -> bool {
+fn has_call(left: &WrittenText, right: &WrittenText) -> bool {
     match (left, right) {
-        (Text::Characters(_), Text::Characters(_))
-        | (Text::Utf8(_), Text::Utf8(_))
-        | (Text::Utf16(_), Text::Utf16(_))
-        | (Text::Latin1(_), Text::Latin1(_) | Text::Utf16(_)) => true,
+        (WrittenText::Characters(_), WrittenText::Characters(_))
+        | (WrittenText::Utf8(_), WrittenText::Utf8(_))
+        | (WrittenText::Utf16(_), WrittenText::Utf16(_))
+        | (WrittenText::Latin1(_), WrittenText::Latin1(_) | WrittenText::Utf16(_)) => true,
         _ => false,
     }
 }

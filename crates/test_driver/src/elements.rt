@@ -4,7 +4,7 @@ ghost use Rattle.icu_elements.specs.CollationElements.{CanGive};
 use crate::fault::Fault;
 use crate::numbers::{Item, size, written};
 use crate::readers::Reader;
-use crate::texts::{Text, characters_of, several};
+use crate::texts::{WrittenText, characters_of, several};
 use icu_cursor::ElementCursor;
 use icu_elements::{CollationElements, all_elements};
 use icu_encodings::{EncodedText, Latin1Text, Utf8Text, Utf16Text};
@@ -27,12 +27,7 @@ impl Item for CollationElement {
 
 /// All elements of a text at once.
 fn at_once(reader: &Reader, text: &str) -> Result<Vec<CollationElement>, AllocError> {
-    all_elements(
-        reader.tables(),
-        text.chars(),
-        reader.numeric_primary,
-        reader.lithuanian_dot_above,
-    )
+    all_elements(reader.reading(), text.chars())
 }
 
 /// As many elements as are asked for.
@@ -57,12 +52,7 @@ fn one_by_one(
     text: &str,
     count: usize,
 ) -> Result<Vec<CollationElement>, AllocError> {
-    let elements = CollationElements::new(
-        text.chars(),
-        reader.tables(),
-        reader.numeric_primary,
-        reader.lithuanian_dot_above,
-    );
+    let elements = CollationElements::new(text.chars(), reader.reading());
     let mut read = first_elements(alloc, elements, count.saturating_add(2))?;
     let end = CollationElement::default();
     if let [.., last, end_again] = read.as_slice() {
@@ -95,26 +85,26 @@ fn by_cursor<T: EncodedText>(
 fn by_cursor_of(
     alloc: Global,
     reader: &Reader,
-    text: &Text,
+    text: &WrittenText,
 ) -> Result<Vec<CollationElement>, Fault> {
     match text {
-        Text::Utf8(bytes) => Ok(by_cursor(alloc, reader, Utf8Text(bytes.as_slice()))?),
-        Text::Utf16(units) => Ok(by_cursor(alloc, reader, Utf16Text(units.as_slice()))?),
-        Text::Latin1(bytes) => Ok(by_cursor(alloc, reader, Latin1Text(bytes.as_slice()))?),
-        Text::Characters(_) => Err(Fault::Unread),
+        WrittenText::Utf8(bytes) => Ok(by_cursor(alloc, reader, Utf8Text(bytes.as_slice()))?),
+        WrittenText::Utf16(units) => Ok(by_cursor(alloc, reader, Utf16Text(units.as_slice()))?),
+        WrittenText::Latin1(bytes) => Ok(by_cursor(alloc, reader, Latin1Text(bytes.as_slice()))?),
+        WrittenText::Characters(_) => Err(Fault::Unread),
     }
 }
 
 /// The elements of a text at once.
 pub(crate) fn whole(alloc: Global, reader: &Reader, text: &str) -> Result<String, Fault> {
-    let text = Text::read(alloc, text)?;
+    let text = WrittenText::read(alloc, text)?;
     let elements = at_once(reader, characters_of(&text)?)?;
     Ok(written(alloc, elements.as_slice())?)
 }
 
 /// The elements of a text one by one.
 pub(crate) fn next(alloc: Global, reader: &Reader, text: &str) -> Result<String, Fault> {
-    let text = Text::read(alloc, text)?;
+    let text = WrittenText::read(alloc, text)?;
     let text = characters_of(&text)?;
     let count = at_once(reader, text)?.len();
     let elements = one_by_one(alloc, reader, text, count)?;
@@ -123,7 +113,7 @@ pub(crate) fn next(alloc: Global, reader: &Reader, text: &str) -> Result<String,
 
 /// The elements of a text by a cursor.
 pub(crate) fn cursor(alloc: Global, reader: &Reader, text: &str) -> Result<String, Fault> {
-    let elements = by_cursor_of(alloc, reader, &Text::read(alloc, text)?)?;
+    let elements = by_cursor_of(alloc, reader, &WrittenText::read(alloc, text)?)?;
     Ok(written(alloc, elements.as_slice())?)
 }
 
@@ -145,9 +135,9 @@ impl Readings {
     }
 
     /// Adds what a text is read as: characters at once and one by one, another by a cursor.
-    fn read(&mut self, reader: &Reader, text: &Text) -> Result<(), Fault> {
+    fn read(&mut self, reader: &Reader, text: &WrittenText) -> Result<(), Fault> {
         match text {
-            Text::Characters(text) => {
+            WrittenText::Characters(text) => {
                 let list = at_once(reader, text.as_str())?;
                 let others = one_by_one(self.alloc, reader, text.as_str(), list.len())?;
                 self.add(list)?;
@@ -196,20 +186,15 @@ fn count_taken(
         count.set(count.get().wrapping_add(1));
         c
     });
-    let iterator = CollationElements::new(
-        delegate,
-        reader.tables(),
-        reader.numeric_primary,
-        reader.lithuanian_dot_above,
-    );
+    let iterator = CollationElements::new(delegate, reader.reading());
     first_elements(alloc, iterator, elements)?;
     Ok(count.get())
 }
 
-/// The same, by the number of elements and the text.
+/// How many characters are taken for the first elements of a text, by the number of elements and the text.
 pub(crate) fn taken(alloc: Global, reader: &Reader, question: &str) -> Result<String, Fault> {
     let (elements, text) = question.split_once(' ').ok_or(Fault::Unread)?;
-    let text = Text::read(alloc, text)?;
+    let text = WrittenText::read(alloc, text)?;
     let count = count_taken(alloc, reader, characters_of(&text)?, size(elements)?)?;
     Ok(written(alloc, &[count])?)
 }

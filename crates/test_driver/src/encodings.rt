@@ -4,7 +4,7 @@ ghost use Rattle.std.specs.Iterator.{IsFinite};
 
 use crate::fault::Fault;
 use crate::numbers::{size, written};
-use crate::texts::{Text, two};
+use crate::texts::{WrittenText, two};
 use icu_encodings::{
     Characters, CommonUnits, EncodedText, Latin1Chars, Latin1Text, Utf8Text, Utf16Chars, Utf16Text,
     utf8_chars,
@@ -13,20 +13,20 @@ use std::alloc::{AllocError, Global};
 
 /// The characters of a text, in whatever way it is read.
 pub(crate) fn characters(alloc: Global, text: &str) -> Result<String, Fault> {
-    match &Text::read(alloc, text)? {
-        Text::Utf8(bytes) => {
+    match &WrittenText::read(alloc, text)? {
+        WrittenText::Utf8(bytes) => {
             let bytes = bytes.as_slice();
             Ok(read_in_each_way(alloc, utf8_chars(bytes), Utf8Text(bytes))?)
         }
-        Text::Utf16(units) => {
+        WrittenText::Utf16(units) => {
             let units = units.as_slice();
             Ok(read_in_each_way(alloc, Utf16Chars::new(units), Utf16Text(units))?)
         }
-        Text::Latin1(bytes) => {
+        WrittenText::Latin1(bytes) => {
             let bytes = bytes.as_slice();
             Ok(read_in_each_way(alloc, bytes.latin1_chars(), Latin1Text(bytes))?)
         }
-        Text::Characters(_) => Err(Fault::Unread),
+        WrittenText::Characters(_) => Err(Fault::Unread),
     }
 }
 
@@ -85,7 +85,7 @@ fn reads_back_as<I: DoubleEndedIterator<Item = char> + Drop>(
 
 /// What is asked of the front of a text.
 #[derive(Clone, Copy)]
-pub(crate) enum Front {
+pub(crate) enum FrontPart {
     /// The first character.
     First,
     /// The first character, where it is ASCII.
@@ -95,30 +95,34 @@ pub(crate) enum Front {
 }
 
 /// What stands at the front of a text, and what follows it.
-pub(crate) fn at_front(alloc: Global, front: Front, text: &str) -> Result<String, Fault> {
-    match &Text::read(alloc, text)? {
-        Text::Utf8(bytes) => Ok(taken_apart(alloc, front, Utf8Text(bytes.as_slice()))?),
-        Text::Utf16(units) => Ok(taken_apart(alloc, front, Utf16Text(units.as_slice()))?),
-        Text::Latin1(bytes) => Ok(taken_apart(alloc, front, Latin1Text(bytes.as_slice()))?),
-        Text::Characters(_) => Err(Fault::Unread),
+pub(crate) fn at_front(alloc: Global, front: FrontPart, text: &str) -> Result<String, Fault> {
+    match &WrittenText::read(alloc, text)? {
+        WrittenText::Utf8(bytes) => Ok(taken_apart(alloc, front, Utf8Text(bytes.as_slice()))?),
+        WrittenText::Utf16(units) => Ok(taken_apart(alloc, front, Utf16Text(units.as_slice()))?),
+        WrittenText::Latin1(bytes) => Ok(taken_apart(alloc, front, Latin1Text(bytes.as_slice()))?),
+        WrittenText::Characters(_) => Err(Fault::Unread),
     }
 }
 
 /// What follows so many units of a text, by the number and the text.
 pub(crate) fn after(alloc: Global, question: &str) -> Result<String, Fault> {
     let (at, text) = question.split_once(' ').ok_or(Fault::Unread)?;
-    at_front(alloc, Front::After(size(at)?), text)
+    at_front(alloc, FrontPart::After(size(at)?), text)
 }
 
 /// The first character of a text and what follows it, or what follows a number of units.
-fn taken_apart<T: EncodedText>(alloc: Global, front: Front, text: T) -> Result<String, AllocError> {
+fn taken_apart<T: EncodedText>(
+    alloc: Global,
+    front: FrontPart,
+    text: T,
+) -> Result<String, AllocError> {
     let found = match front {
-        Front::First => text.split_first_char(),
-        Front::Ascii => match text.split_first_ascii() {
+        FrontPart::First => text.split_first_char(),
+        FrontPart::Ascii => match text.split_first_ascii() {
             Some((byte, rest)) => Some((char::from(byte), rest)),
             None => None,
         },
-        Front::After(at) => {
+        FrontPart::After(at) => {
             return match text.split_at(at) {
                 Some(rest) => rest_of(alloc, rest),
                 None => String::from_str(alloc, "no cut"),
@@ -143,18 +147,18 @@ fn rest_of<T: EncodedText>(alloc: Global, rest: T) -> Result<String, AllocError>
 }
 
 /// How many first units two texts have in common, where their encodings can be compared so.
-fn common_units(left: &Text, right: &Text) -> Option<usize> {
+fn common_units(left: &WrittenText, right: &WrittenText) -> Option<usize> {
     match (left, right) {
-        (Text::Utf8(left), Text::Utf8(right)) => {
+        (WrittenText::Utf8(left), WrittenText::Utf8(right)) => {
             Some(Utf8Text(left.as_slice()).common_units(Utf8Text(right.as_slice())))
         }
-        (Text::Utf16(left), Text::Utf16(right)) => {
+        (WrittenText::Utf16(left), WrittenText::Utf16(right)) => {
             Some(Utf16Text(left.as_slice()).common_units(Utf16Text(right.as_slice())))
         }
-        (Text::Latin1(left), Text::Latin1(right)) => {
+        (WrittenText::Latin1(left), WrittenText::Latin1(right)) => {
             Some(Latin1Text(left.as_slice()).common_units(Latin1Text(right.as_slice())))
         }
-        (Text::Latin1(left), Text::Utf16(right)) => {
+        (WrittenText::Latin1(left), WrittenText::Utf16(right)) => {
             Some(Latin1Text(left.as_slice()).common_units(Utf16Text(right.as_slice())))
         }
         _ => None,

@@ -1,22 +1,22 @@
 //! Sort keys.
 use crate::fault::Fault;
 use crate::numbers::{size, written};
-use crate::texts::Text;
+use crate::texts::WrittenText;
 use icu_comparison::{CollationKeySink, Collator, SortKeyError, TooSmall};
 use std::alloc::{AllocError, Global};
 
 /// Writes the key of a text into a sink, by the call for its encoding. None writes keys of Latin-1.
 pub(crate) fn write<S: CollationKeySink>(
     collator: &Collator,
-    text: &Text,
+    text: &WrittenText,
     sink: &mut S,
 ) -> Option<Result<S::Output, SortKeyError<S::Error>>> {
     let borrowed = collator.as_borrowed();
     match text {
-        Text::Characters(text) => Some(borrowed.write_sort_key_to(text.as_str(), sink)),
-        Text::Utf8(bytes) => Some(borrowed.write_sort_key_utf8_to(bytes.as_slice(), sink)),
-        Text::Utf16(units) => Some(borrowed.write_sort_key_utf16_to(units.as_slice(), sink)),
-        Text::Latin1(_) => None,
+        WrittenText::Characters(text) => Some(borrowed.write_sort_key_to(text.as_str(), sink)),
+        WrittenText::Utf8(bytes) => Some(borrowed.write_sort_key_utf8_to(bytes.as_slice(), sink)),
+        WrittenText::Utf16(units) => Some(borrowed.write_sort_key_utf16_to(units.as_slice(), sink)),
+        WrittenText::Latin1(_) => None,
     }
 }
 
@@ -29,7 +29,7 @@ pub(crate) fn no_call(alloc: Global) -> Result<String, Fault> {
 pub(crate) fn key_of(
     alloc: Global,
     collator: &Collator,
-    text: &Text,
+    text: &WrittenText,
 ) -> Result<Option<Vec<u8>>, AllocError> {
     let mut key = Vec::new(alloc);
     match write(collator, text, &mut key) {
@@ -41,7 +41,7 @@ pub(crate) fn key_of(
 
 /// The key of a text.
 pub(crate) fn key(alloc: Global, collator: &Collator, text: &str) -> Result<String, Fault> {
-    match key_of(alloc, collator, &Text::read(alloc, text)?)? {
+    match key_of(alloc, collator, &WrittenText::read(alloc, text)?)? {
         Some(key) => Ok(written(alloc, key.as_slice())?),
         None => no_call(alloc),
     }
@@ -55,7 +55,11 @@ enum Fit {
     NoCall,
 }
 
-fn write_into(collator: &Collator, text: &Text, bytes: &mut [u8]) -> Result<Fit, AllocError> {
+fn write_into(
+    collator: &Collator,
+    text: &WrittenText,
+    bytes: &mut [u8],
+) -> Result<Fit, AllocError> {
     let mut slice = bytes;
     match write(collator, text, &mut slice) {
         Some(Ok(length)) => Ok(Fit::Whole(length)),
@@ -68,7 +72,7 @@ fn write_into(collator: &Collator, text: &Text, bytes: &mut [u8]) -> Result<Fit,
 /// What the last of so many calls returned, if all returned the same.
 fn write_times(
     collator: &Collator,
-    text: &Text,
+    text: &WrittenText,
     bytes: &mut [u8],
     times: u64,
 ) -> Result<Option<Fit>, AllocError> {
@@ -89,7 +93,7 @@ pub(crate) fn slice(
     times: u64,
 ) -> Result<String, Fault> {
     let (length, text) = question.split_once(' ').ok_or(Fault::Unread)?;
-    let text = Text::read(alloc, text)?;
+    let text = WrittenText::read(alloc, text)?;
     let mut bytes = vec![in alloc; 0x7Fu8; size(length)?]?;
     let fit = write_times(collator, &text, bytes.as_mut_slice(), times)?;
     let bytes = written(alloc, bytes.as_slice())?;

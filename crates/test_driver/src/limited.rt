@@ -6,7 +6,7 @@ ghost use Rattle.icu_keys.specs.ListSinkLaws.{appended_nothing, appended_both};
 use crate::fault::Fault;
 use crate::keys::{no_call, write};
 use crate::numbers::{size, written};
-use crate::texts::Text;
+use crate::texts::WrittenText;
 use icu_comparison::{CollationKeySink, Collator, SortKeyError};
 use std::alloc::Global;
 
@@ -36,11 +36,14 @@ impl CollationKeySink for Limited {
 
     ghost is_sound = { λ _ _. Unit {0} };
 
-    ghost took = { λ x _ b y _. y.taken.items ≡ x.taken.items ++ b };
+    ghost effects = { record {
+      took = λ x _ b y _. y.taken.items ≡ x.taken.items ++ b;
+      refused = λ x _ b _ y _. TakesBeginning (λ c. y.taken.items ≡ x.taken.items ++ c) b;
+      finished = λ x _ r y. y ≡ x;
+      begins = λ _. Unit {0};
+    } };
 
-    ghost refused = { λ x _ b _ y _. TakesBeginning (λ c. y.taken.items ≡ x.taken.items ++ c) b };
-
-    ghost finished = { λ x _ r y. y ≡ x };
+    ghost begins_default = { λ _ _. tt };
 
     ghost starts_sound = { λ _ _ _. tt };
 
@@ -95,7 +98,7 @@ pub(crate) fn into_limited(
     question: &str,
 ) -> Result<String, Fault> {
     let (mut sink, text) = sink(alloc, question)?;
-    let text = Text::read(alloc, text)?;
+    let text = WrittenText::read(alloc, text)?;
     let returned = match write(collator, &text, &mut sink) {
         Some(Ok(())) => "ok",
         Some(Err(SortKeyError::Sink(SinkFault::Full))) => "Full",

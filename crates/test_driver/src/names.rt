@@ -1,7 +1,7 @@
 //! An index of names.
 use crate::fault::Fault;
 use crate::numbers::written;
-use crate::texts::{Text, bytes_of, several};
+use crate::texts::{WrittenText, bytes_of, several};
 use icu_comparison::Collator;
 use icu_index::NameIndex;
 use std::alloc::{AllocError, Global};
@@ -34,7 +34,7 @@ fn listing(alloc: Global, index: &NameIndex<'_>) -> Result<String, AllocError> {
 fn index_at_once<'c>(
     alloc: Global,
     collator: &'c Collator,
-    names: &[Text],
+    names: &[WrittenText],
 ) -> Result<NameIndex<'c>, Fault> {
     let mut index = NameIndex::new(alloc, collator);
     for name in names {
@@ -48,7 +48,7 @@ fn index_at_once<'c>(
 fn is_listing_of(
     alloc: Global,
     collator: &Collator,
-    names: &[Text],
+    names: &[WrittenText],
     listed: &str,
 ) -> Result<bool, Fault> {
     let index = index_at_once(alloc, collator, names)?;
@@ -61,7 +61,7 @@ fn is_listing_of(
 fn index<'c>(
     alloc: Global,
     collator: &'c Collator,
-    names: &[Text],
+    names: &[WrittenText],
 ) -> Result<Option<NameIndex<'c>>, Fault> {
     let mut index = NameIndex::new(alloc, collator);
     let mut count = 0usize;
@@ -106,7 +106,7 @@ fn equal_names(alloc: Global, index: &NameIndex<'_>, name: &[u8]) -> Result<Stri
     format!(in alloc; "{:X} : {text}", names.len())
 }
 
-/// Those that are equal to the first name, of an index of the others.
+/// The names that are equal to the first one, of an index of the others.
 pub(crate) fn equals(alloc: Global, collator: &Collator, names: &str) -> Result<String, Fault> {
     let names = several(alloc, names)?;
     let (name, names) = names.as_slice().split_first().ok_or(Fault::Unread)?;

@@ -3,7 +3,7 @@ use crate::changes::{CHANGES, change};
 use crate::collators::{alone, check, checked, kept, printed, together};
 use crate::comparisons::compare;
 use crate::elements::{all_readings, cursor, next, taken, whole};
-use crate::encodings::{Front, after, at_front, characters, common};
+use crate::encodings::{FrontPart, after, at_front, characters, common};
 use crate::fault::Fault;
 use crate::keys::{key, slice};
 use crate::letters::letter;
@@ -61,8 +61,8 @@ fn other_answer(alloc: Global, state: &State, question: &str, rest: &str) -> Res
         }
         "absent" => Ok(state.absent.as_ref().ok_or(Fault::Unread)?.clone()?),
         "characters" => characters(alloc, rest),
-        "first" => at_front(alloc, Front::First, rest),
-        "ascii" => at_front(alloc, Front::Ascii, rest),
+        "first" => at_front(alloc, FrontPart::First, rest),
+        "ascii" => at_front(alloc, FrontPart::Ascii, rest),
         "after" => after(alloc, rest),
         "common" => common(alloc, rest),
         "line" => line_of(alloc, rest),

@@ -1,6 +1,7 @@
 //! What texts are read by.
 ghost use Rattle.std.specs.Prelude.{◌≡◌, IfOk};
 ghost use Rattle.icu_checks.specs.Checked.{checked_tables};
+ghost use Rattle.icu_elements.specs.Reading.{element_tables, reading_of};
 ghost use Rattle.icu_shortcuts.specs.LetterTables.{AreLetters};
 ghost use Rattle.icu_shortcuts.specs.Named.{NamesAll};
 ghost use Rattle.icu_shortcuts.specs.SafeTables.{safe_reading};
@@ -8,7 +9,7 @@ ghost use Rattle.test_driver.specs.Readers.{reading_with};
 
 use icu_checks::CheckedTables;
 use icu_cursor::CursorTables;
-use icu_elements::ElementTables;
+use icu_elements::{ElementTables, TextReading};
 use icu_shortcuts::{Letters, NamedCharacters, SafePlaces};
 use std::alloc::{AllocError, Global};
 
@@ -25,6 +26,23 @@ pub(crate) struct Reader {
     ghost known: { AreLetters (reading_with tables numeric_primary lithuanian_dot_above) letters },
 }
 
+/// How texts are read.
+fn reading(
+    tables: &CheckedTables,
+    numeric_primary: Option<u8>,
+    lithuanian_dot_above: bool,
+) -> TextReading<'_>
+    ensures reading { reading_of result ≡ reading_with tables.now numeric_primary
+        lithuanian_dot_above }
+    ensures tables { element_tables result.tables ≡ (checked_tables tables.now).tables }
+{
+    TextReading {
+        tables: ElementTables::new(tables),
+        numeric_primary,
+        lithuanian_dot_above,
+    }
+}
+
 /// Before which characters texts may be cut that are read so.
 fn safe_places<'d>(
     tables: &'d CheckedTables,
@@ -35,8 +53,10 @@ fn safe_places<'d>(
     requires { NamesAll named.now (checked_tables tables.now).tables }
     ensures { safe_reading result ≡ reading_with tables.now numeric_primary lithuanian_dot_above }
 {
-    let tables = ElementTables::new(tables);
-    SafePlaces::new(tables, numeric_primary, lithuanian_dot_above, named)
+    SafePlaces::new(
+        reading(tables, numeric_primary, lithuanian_dot_above),
+        named,
+    )
 }
 
 /// What is kept of the letters of texts that are read so.
@@ -48,7 +68,8 @@ fn letters(
     lithuanian_dot_above: bool,
 ) -> Result<Letters, AllocError>
     requires { NamesAll named.now (checked_tables tables.now).tables }
-    ensures { IfOk result (λ l. AreLetters (reading_with tables.now numeric_primary lithuanian_dot_above) l) }
+    ensures { IfOk result (λ l. AreLetters (reading_with tables.now numeric_primary
+        lithuanian_dot_above) l) }
 {
     let places = safe_places(tables, named, numeric_primary, lithuanian_dot_above);
     Letters::new(alloc, places)
@@ -84,12 +105,20 @@ impl Reader {
         })
     }
 
-    pub(crate) fn tables(&self) -> ElementTables<'_> {
-        ElementTables::new(&self.tables)
+    /// How texts are read.
+    pub(crate) fn reading(&self) -> TextReading<'_> {
+        reading(
+            &self.tables,
+            self.numeric_primary,
+            self.lithuanian_dot_above,
+        )
     }
 
     /// Before which characters texts may be cut.
-    pub(crate) fn safe_places(&self) -> SafePlaces<'_> {
+    pub(crate) fn safe_places(&self) -> SafePlaces<'_>
+        ensures { safe_reading result
+            ≡ reading_with self.now.tables self.now.numeric_primary self.now.lithuanian_dot_above }
+    {
         safe_places(
             &self.tables,
             &self.named,
@@ -105,12 +134,6 @@ impl Reader {
 
     /// What a cursor reads by.
     pub(crate) fn cursor_tables(&self) -> CursorTables<'_> {
-        CursorTables::new(
-            ElementTables::new(&self.tables),
-            self.numeric_primary,
-            self.lithuanian_dot_above,
-            &self.named,
-            &self.letters,
-        )
+        CursorTables::new(self.safe_places(), &self.letters)
     }
 }

@@ -1,7 +1,7 @@
 //! What a provider is asked for, in which order, and what is made of its refusals.
 ghost use Rattle.std.specs.Prelude.{◌≡◌};
 ghost use Rattle.test_driver.specs.RequestedProvider.{by_request};
-ghost use Rattle.icu_mini.specs.Provider.{loads_of};
+ghost use Rattle.icu_provider.specs.FixedLoads.{fixed_loads};
 ghost use Rattle.icu_provider.specs.Requests.{request_of};
 
 use crate::collators::printed;
@@ -9,10 +9,9 @@ use crate::fault::Fault;
 use icu_data::CollationData;
 use icu_entries::{DataError, DataErrorKind, DataTable};
 use icu_mini::mini::Mini;
-use icu_mini::provider::MiniProvider;
 use icu_provider::{
     CollationDiacritics, CollationJamo, CollationMetadata, CollationProvider, CollationReordering,
-    CollationSpecialPrimaries, DataRequest, load_tables,
+    CollationSpecialPrimaries, DataRequest, FixedLoads, load_tables,
 };
 use std::alloc::{AllocError, Global};
 use std::cell::RefCell;
@@ -42,15 +41,16 @@ pub(crate) struct Refusing {
 /// down what it is asked for.
 #[derive(Drop)]
 struct ByRequest<'m> {
-    typed: MiniProvider<'m>,
-    local: MiniProvider<'m>,
-    empty: MiniProvider<'m>,
+    typed: FixedLoads<'m>,
+    local: FixedLoads<'m>,
+    empty: FixedLoads<'m>,
     asked: RefCell<Vec<Asked>>,
 }
 
 impl<'m> ByRequest<'m> {
-    fn provider_for(&self, request: DataRequest<'_>) -> MiniProvider<'m>
-        ensures { result ≡ by_request self.now.typed self.now.local self.now.empty (request_of request.entry) }
+    fn provider_for(&self, request: DataRequest<'_>) -> FixedLoads<'m>
+        ensures { result
+            ≡ by_request self.now.typed self.now.local self.now.empty (request_of request.entry) }
     {
         if request.collation_type.is_some() {
             self.typed
@@ -68,11 +68,11 @@ impl<'m> ByRequest<'m> {
         }
     }
 
-    /// The requests, one after the other.
+    /// The requests, one after the other; `?` while one is written down, which no question comes to.
     fn requests(&self, alloc: Global) -> Result<String, AllocError> {
         match self.asked.try_borrow() {
             Ok(asked) => print_requests(alloc, asked.as_slice()),
-            Err(_) => Err(AllocError),
+            Err(_) => Ok(String::from_str(alloc, "?")?),
         }
     }
 
@@ -88,13 +88,13 @@ impl<'m> ByRequest<'m> {
 
 impl<'m> CollationProvider for ByRequest<'m> {
     ghost loads = { λ p. record {
-      root = (loads_of p.empty).root;
-      jamo = (loads_of p.empty).jamo;
-      special = (loads_of p.empty).special;
-      metadata = λ r. (loads_of (by_request p.typed p.local p.empty r)).metadata r;
-      tailoring = λ r. (loads_of (by_request p.typed p.local p.empty r)).tailoring r;
-      reordering = λ r. (loads_of (by_request p.typed p.local p.empty r)).reordering r;
-      diacritics = λ r. (loads_of (by_request p.typed p.local p.empty r)).diacritics r;
+      root = (fixed_loads p.empty).root;
+      jamo = (fixed_loads p.empty).jamo;
+      special = (fixed_loads p.empty).special;
+      metadata = λ r. (fixed_loads (by_request p.typed p.local p.empty r)).metadata r;
+      tailoring = λ r. (fixed_loads (by_request p.typed p.local p.empty r)).tailoring r;
+      reordering = λ r. (fixed_loads (by_request p.typed p.local p.empty r)).reordering r;
+      diacritics = λ r. (fixed_loads (by_request p.typed p.local p.empty r)).diacritics r;
     } };
 
     fn load_root(&self) -> Result<CollationData<'_>, DataError> {
@@ -140,7 +140,7 @@ impl<'m> CollationProvider for ByRequest<'m> {
 }
 
 /// Has a provider refuse the table that the error names.
-fn refuse(provider: &mut MiniProvider<'_>, error: DataError) {
+fn refuse(provider: &mut FixedLoads<'_>, error: DataError) {
     match error.table {
         DataTable::Root => provider.root = Err(error),
         DataTable::Jamo => provider.jamo = Err(error),
@@ -153,12 +153,12 @@ fn refuse(provider: &mut MiniProvider<'_>, error: DataError) {
 }
 
 /// A provider of tables, the root as tailoring too where there is none.
-fn tailored(mini: &Mini) -> MiniProvider<'_> {
+fn tailored(mini: &Mini) -> FixedLoads<'_> {
     let provider = mini.provider();
     if mini.tailoring.is_some() {
         return provider;
     }
-    MiniProvider {
+    FixedLoads {
         tailoring: provider.root,
         ..provider
     }

@@ -2,7 +2,7 @@
 use crate::fault::Fault;
 use crate::keys::{key_of, no_call, write};
 use crate::numbers::written;
-use crate::texts::Text;
+use crate::texts::WrittenText;
 use icu_comparison::{CollationKeySink, Collator};
 use smallvec::SmallVec;
 use std::alloc::{AllocError, Global};
@@ -17,7 +17,7 @@ const SINGLE_BYTES: usize = 40;
 /// What fills a list: the key of a text, which is this, or bytes.
 #[derive(Clone, Copy)]
 enum Filling<'f> {
-    Key(&'f Collator, &'f Text, &'f [u8]),
+    Key(&'f Collator, &'f WrittenText, &'f [u8]),
     Bytes,
 }
 
@@ -106,7 +106,7 @@ fn in_list(alloc: Global, kind: &str, filling: Filling<'_>) -> Result<String, Fa
 /// A list of a kind with the key of a text.
 pub(crate) fn list(alloc: Global, collator: &Collator, question: &str) -> Result<String, Fault> {
     let (kind, text) = question.split_once(' ').ok_or(Fault::Unread)?;
-    let text = Text::read(alloc, text)?;
+    let text = WrittenText::read(alloc, text)?;
     match key_of(alloc, collator, &text)? {
         Some(key) => {
             let filling = Filling::Key(collator, &text, key.as_slice());

@@ -25,7 +25,7 @@ pub(crate) struct State {
 }
 
 impl State {
-    /// These tables alone.
+    /// A state with these tables alone.
     pub(crate) fn new(alloc: Global, mini: Mini) -> State {
         State {
             mini,

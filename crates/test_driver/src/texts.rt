@@ -5,16 +5,16 @@ use std::alloc::Global;
 
 /// A text in an encoding.
 #[derive(Drop)]
-pub(crate) enum Text {
+pub(crate) enum WrittenText {
     Characters(String),
     Utf8(Vec<u8>),
     Utf16(Vec<u16>),
     Latin1(Vec<u8>),
 }
 
-impl Text {
+impl WrittenText {
     /// The text that a question writes: the name of an encoding, and its units.
-    pub(crate) fn read(alloc: Global, written: &str) -> Result<Text, Fault> {
+    pub(crate) fn read(alloc: Global, written: &str) -> Result<WrittenText, Fault> {
         let written = written.trim();
         let (encoding, units) = written.split_once(' ').unwrap_or((written, ""));
         let units = numbers(alloc, units)?;
@@ -22,12 +22,12 @@ impl Text {
     }
 }
 
-fn of_units(alloc: Global, encoding: &str, units: &[u64]) -> Result<Text, Fault> {
+fn of_units(alloc: Global, encoding: &str, units: &[u64]) -> Result<WrittenText, Fault> {
     match encoding {
-        "c" => Ok(Text::Characters(characters(alloc, units)?)),
-        "8" => Ok(Text::Utf8(list(alloc, units)?)),
-        "16" => Ok(Text::Utf16(list(alloc, units)?)),
-        "1" => Ok(Text::Latin1(list(alloc, units)?)),
+        "c" => Ok(WrittenText::Characters(characters(alloc, units)?)),
+        "8" => Ok(WrittenText::Utf8(list(alloc, units)?)),
+        "16" => Ok(WrittenText::Utf16(list(alloc, units)?)),
+        "1" => Ok(WrittenText::Latin1(list(alloc, units)?)),
         _ => Err(Fault::Unread),
     }
 }
@@ -41,33 +41,36 @@ fn characters(alloc: Global, units: &[u64]) -> Result<String, Fault> {
 }
 
 /// Two texts, with a comma between.
-pub(crate) fn two(alloc: Global, written: &str) -> Result<(Text, Text), Fault> {
+pub(crate) fn two(alloc: Global, written: &str) -> Result<(WrittenText, WrittenText), Fault> {
     let (left, right) = written.split_once(',').ok_or(Fault::Unread)?;
-    Ok((Text::read(alloc, left)?, Text::read(alloc, right)?))
+    Ok((
+        WrittenText::read(alloc, left)?,
+        WrittenText::read(alloc, right)?,
+    ))
 }
 
 /// Texts, with commas between.
-pub(crate) fn several(alloc: Global, written: &str) -> Result<Vec<Text>, Fault> {
+pub(crate) fn several(alloc: Global, written: &str) -> Result<Vec<WrittenText>, Fault> {
     let mut texts = Vec::new(alloc);
     for written in written.split(',') {
-        texts.push(Text::read(alloc, written)?)?;
+        texts.push(WrittenText::read(alloc, written)?)?;
     }
     Ok(texts)
 }
 
 /// The characters of a text that is written so.
-pub(crate) fn characters_of(text: &Text) -> Result<&str, Fault> {
+pub(crate) fn characters_of(text: &WrittenText) -> Result<&str, Fault> {
     match text {
-        Text::Characters(text) => Ok(text.as_str()),
+        WrittenText::Characters(text) => Ok(text.as_str()),
         _ => Err(Fault::Unread),
     }
 }
 
 /// The bytes of a text in UTF-8.
-pub(crate) fn bytes_of(text: &Text) -> Result<&[u8], Fault> {
+pub(crate) fn bytes_of(text: &WrittenText) -> Result<&[u8], Fault> {
     match text {
-        Text::Characters(text) => Ok(text.as_str().as_bytes()),
-        Text::Utf8(bytes) => Ok(bytes.as_slice()),
+        WrittenText::Characters(text) => Ok(text.as_str().as_bytes()),
+        WrittenText::Utf8(bytes) => Ok(bytes.as_slice()),
         _ => Err(Fault::Unread),
     }
 }

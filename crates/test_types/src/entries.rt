@@ -26,6 +26,45 @@ fn entries_have_their_elements(rt: HostRuntime) {
 }
 
 #[test]
+fn entries_are_made_of_what_they_say(rt: HostRuntime) {
+    for (entry, bits) in [
+        (CollationElement32::common(0x6110), 0x6110_0505u32),
+        (CollationElement32::simple(0x6110, 0x05, 0x9C), 0x6110_059C),
+        (CollationElement32::long_primary(0x7010_FE00), 0x7010_FEC1),
+        (
+            CollationElement32::long_secondary(0x9600, 0x05),
+            0x9600_05C2,
+        ),
+        (CollationElement32::entry_list(10, 2), 0x0001_42C5),
+        (CollationElement32::element_list(1, 1), 0x0000_21C6),
+        (CollationElement32::prefix(2), 0x0000_40C8),
+        (CollationElement32::contraction(3), 0x0000_60C9),
+        (CollationElement32::digit_with_plain(9, 9), 0x0001_29CA),
+        (CollationElement32::offset(1), 0x0000_20CE),
+        (CollationElement32::fallback(), 0xC0),
+        (CollationElement32::implicit(), 0xCF),
+    ] {
+        assert!(rt; entry.bits() == bits, "{bits:X}");
+    }
+}
+
+#[test]
+fn elements_have_entries_where_one_fits(rt: HostRuntime) {
+    for (element, bits) in [
+        (0x6110_0000_0500_9C00u64, Some(0x6110_059Cu32)),
+        (0x7010_FE00_0500_0500, Some(0x7010_FEC1)),
+        (0x9612_0500, Some(0x9612_05C2)),
+        (0x7010_FE02_0500_0500, None),
+        (0x6110_0000_0500_C000, None),
+    ] {
+        let entry = CollationElement32::from_element(CollationElement::new(element));
+        assert!(rt; entry.map(|entry| entry.bits()) == bits, "{element:X}");
+    }
+    let data = CollationElement::offset_data(0x7010_FE00, '\u{3B1}', true, 4);
+    assert_eq!(rt; data.bits(), 0x7010_FE00_0003_B184);
+}
+
+#[test]
 fn simple_entries_and_long_primaries_have_elements(rt: HostRuntime) {
     let letter = CollationElement32::new(0x6110_0505).to_ce_simple_or_long_primary();
     let mark = CollationElement32::new(0x9600_05C2).to_ce_simple_or_long_primary();

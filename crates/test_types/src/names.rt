@@ -25,7 +25,7 @@ mod provider_names {
         CheckedTables, CodePointTable, CollationData, CollationDiacritics, CollationJamo,
         CollationMetadata, CollationProvider, CollationReordering, CollationSpecialPrimaries,
         Context, ContextRow, ContextTable, DataError, DataErrorKind, DataRequest, DataTable,
-        TableSet, load_tables,
+        FixedLoads, FixedProvider, OwnedTables, TableSet, load_tables,
     };
 }
 
@@ -36,7 +36,7 @@ mod element_names {
     };
     use icu_collator::elements::{
         CollationElement, CollationElement32, CollationElements, ElementReader, ElementTables,
-        NonPrimary, Tag, all_elements, decomposed_text,
+        NonPrimary, Tag, TextReading, all_elements, decomposed_text,
     };
 }
 

@@ -1,10 +1,11 @@
 -- What the parts of the check find where there is no violation.
 use Rattle.icu_checks.specs.declared.condition.LeadCondition.{LeadCondition}
-use Rattle.icu_checks.specs.declared.check.weights.Level.TheVariants.{Secondary, Tertiary}
+use Rattle.icu_checks.specs.declared.check.weights.ComparedLevel.TheVariants.{Secondary, Tertiary}
 use Rattle.icu_provider.specs.CollatorTables.{CollatorTables}
 use Rattle.icu_checks.specs.LeadConditions.{LeadMeets}
 use Rattle.icu_checks.specs.inner.PairViolations.{TertiaryElementsAreHigh, LevelIsFree, PrimariesAreFree}
 
+-- lead bytes meet each condition on them
 abbrev pub LeadsMeet : CollatorTables → Type 0
 LeadsMeet all = (condition : LeadCondition) → LeadMeets condition all
 

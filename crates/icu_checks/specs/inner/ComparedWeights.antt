@@ -1,5 +1,5 @@
 -- The weights of live elements that are compared with one another, and how they stand in four bytes.
-use Rattle.std.specs.Prelude.{ℕ, ◌≡◌, ◌↔◌, ◌⊎◌, ◌<◌, ◌+◌, ◌*◌, ◌^◌, false, ◌||◌, ◌==◌, List, slice_index, Option, Some, None, IsTrue, if◌then◌else◌}
+use Rattle.std.specs.Prelude.{ℕ, ◌≡◌, ◌<◌, ◌+◌, ◌*◌, ◌^◌, false, ◌||◌, ◌==◌, slice_index, Option, Some, None, IsTrue, if◌then◌else◌}
 use Rattle.std.specs.List.{Contains}
 use Rattle.icu_entries.specs.declared.error.DataTable.{DataTable}
 use Rattle.icu_entries.specs.declared.error.DataTable.TheVariants.{Diacritics}
@@ -9,6 +9,7 @@ use Rattle.icu_entries.specs.ElementConditions.{tertiary_of}
 use Rattle.icu_data.specs.Final.{final_elements}
 use Rattle.icu_data.specs.Live.{live_from}
 use Rattle.icu_data.specs.CollectedWeights.{is_stated, IsWeightAmong}
+pub use Rattle.icu_data.specs.CollectedWeights.{Adds}
 use Rattle.icu_data.specs.Data.{Data, homed}
 use Rattle.icu_provider.specs.Tables.{Tables}
 use Rattle.icu_checks.specs.declared.check.weights.WeightList.{WeightList}
@@ -22,19 +23,21 @@ use Rattle.icu_checks.specs.LiveElements.{IsLiveBy, IsOfLiveDiacritic}
 abbrev pub left_aligned : ℕ → Option ℕ
 left_aligned w = if w == 0 || w == common then None else Some (w * 2 ^ 16)
 
+-- a primary weight, where it is one
 abbrev pub nonzero : ℕ → Option ℕ
 nonzero p = if p == 0 then None else Some p
 
+-- a tertiary weight that is neither zero nor the common one
 abbrev pub uncommon : ℕ → Option ℕ
 uncommon t = if t == 0 || t == common then None else Some t
 
 -- the weight of an element that is compared
-unfoldable pub weight_at : WeightList → Element → Option ℕ
-weight_at Primaries x = nonzero x.primary
-weight_at Secondaries x = left_aligned x.secondary
-weight_at Tertiaries x = left_aligned (tertiary_of x)
-weight_at TertiaryElements x = if is_tertiary_element x then Some (tertiary_of x) else None
-weight_at WithSecondary x = if x.secondary == 0 then None else uncommon (tertiary_of x)
+unfoldable pub compared_weight : WeightList → Element → Option ℕ
+compared_weight Primaries x = nonzero x.primary
+compared_weight Secondaries x = left_aligned x.secondary
+compared_weight Tertiaries x = left_aligned (tertiary_of x)
+compared_weight TertiaryElements x = if is_tertiary_element x then Some (tertiary_of x) else None
+compared_weight WithSecondary x = if x.secondary == 0 then None else uncommon (tertiary_of x)
 
 -- an element that a table states for an entry that is live by it
 pub record IsReadOfEntry (table : DataTable) (tables : Tables) (x : Element) : Type 0 where
@@ -45,6 +48,7 @@ pub record IsReadOfEntry (table : DataTable) (tables : Tables) (x : Element) : T
   pub stated : IsTrue (is_stated home char entry)
   pub member : Contains (final_elements (homed home entry) char) x
 
+-- an element that is live by the table, or that of a diacritic
 abbrev pub IsReadBy : DataTable → Tables → Element → Type 0
 IsReadBy Diacritics tables x = IsOfLiveDiacritic tables.diacritics x
 IsReadBy table tables x = IsReadOfEntry table tables x
@@ -53,13 +57,9 @@ IsReadBy table tables x = IsReadOfEntry table tables x
 pub record IsWeightBy (list : WeightList) (table : DataTable) (tables : Tables) (w : ℕ) : Type 0 where
   pub x : Element
   pub read : IsReadBy table tables x
-  pub weighs : weight_at list x ≡ Some w
+  pub weighs : compared_weight list x ≡ Some w
 
 -- ---- the weights that a list comes to hold
-
--- a list holds what it held, and what is P
-abbrev pub Adds : (ℕ → Type 0) → List ℕ → List ℕ → Type 0
-Adds P old new = (w : ℕ) → Contains new w ↔ (Contains old w ⊎ P w)
 
 -- the weight is P at a place before the n-th
 pub record IsBelow (P : ℕ → ℕ → Type 0) (n w : ℕ) : Type 0 where
@@ -70,9 +70,9 @@ pub record IsBelow (P : ℕ → ℕ → Type 0) (n w : ℕ) : Type 0 where
 -- a weight of what is live with the conjoining jamo at a place of the jamo table
 abbrev pub IsJamoWeight : WeightList → CollatorTables → ℕ → ℕ → Type 0
 IsJamoWeight list all place w =
-    IsWeightAmong (weight_at list) all.tables.root (0x1100 + place) (live_from all.tables.root (slice_index all.tables.jamo place)) w
+    IsWeightAmong (compared_weight list) all.tables.root (0x1100 + place) (live_from all.tables.root (slice_index all.tables.jamo place)) w
 
 -- the weight of the diacritic at a place
 pub record IsDiacriticWeight (list : WeightList) (all : CollatorTables) (place w : ℕ) : Type 0 where
   pub kept : is_replaced_index place ≡ false
-  pub weighs : weight_at list (of_secondary (slice_index all.tables.diacritics place)) ≡ Some w
+  pub weighs : compared_weight list (of_secondary (slice_index all.tables.diacritics place)) ≡ Some w

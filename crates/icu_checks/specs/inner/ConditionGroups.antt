@@ -6,31 +6,31 @@ use Rattle.icu_checks.specs.declared.condition.Condition.{Condition}
 use Rattle.icu_checks.specs.declared.condition.Condition.TheVariants as conditions
 use Rattle.icu_checks.specs.declared.condition.ConditionGroup.{ConditionGroup}
 use Rattle.icu_checks.specs.declared.condition.ConditionGroup.TheVariants.{Counts, Indices, PrefixRows, Chains, Digits, Bytes, Offsets, Shapes, Leads, TertiaryElements, Overlaps, Primaries, KeptLeads, OwnLeads, ReorderedLeads, Compression}
-use Rattle.icu_checks.specs.declared.condition.ElementCondition.{ElementCondition}
-use Rattle.icu_checks.specs.declared.condition.ElementCondition.TheVariants as of_element
+use Rattle.icu_checks.specs.declared.condition.LiveElementCondition.{LiveElementCondition}
+use Rattle.icu_checks.specs.declared.condition.LiveElementCondition.TheVariants as of_element
 use Rattle.icu_checks.specs.declared.condition.PairCondition.{PairCondition}
 use Rattle.icu_checks.specs.declared.condition.PairCondition.TheVariants as of_pair
 use Rattle.icu_checks.specs.declared.condition.LeadCondition.{LeadCondition}
 use Rattle.icu_checks.specs.declared.condition.LeadCondition.TheVariants as of_lead
 
 -- the groups in their order
-abbrev pub group_index : ConditionGroup → ℕ
-group_index Counts = 0
-group_index Indices = 1
-group_index PrefixRows = 2
-group_index Chains = 3
-group_index Digits = 4
-group_index Bytes = 5
-group_index Offsets = 6
-group_index Shapes = 7
-group_index Leads = 8
-group_index TertiaryElements = 9
-group_index Overlaps = 10
-group_index Primaries = 11
-group_index KeptLeads = 12
-group_index OwnLeads = 13
-group_index ReorderedLeads = 14
-group_index Compression = 15
+abbrev pub group_place : ConditionGroup → ℕ
+group_place Counts = 0
+group_place Indices = 1
+group_place PrefixRows = 2
+group_place Chains = 3
+group_place Digits = 4
+group_place Bytes = 5
+group_place Offsets = 6
+group_place Shapes = 7
+group_place Leads = 8
+group_place TertiaryElements = 9
+group_place Overlaps = 10
+group_place Primaries = 11
+group_place KeptLeads = 12
+group_place OwnLeads = 13
+group_place ReorderedLeads = 14
+group_place Compression = 15
 
 -- the group of each condition
 abbrev pub group_of_entry : LiveCondition → ConditionGroup
@@ -44,7 +44,8 @@ group_of_entry of_entry.Shapes = Shapes
 group_of_entry of_entry.Leads = Leads
 group_of_entry of_entry.Primaries = Primaries
 
-abbrev pub group_of_element : ElementCondition → ConditionGroup
+-- the group of a condition on elements
+abbrev pub group_of_element : LiveElementCondition → ConditionGroup
 group_of_element of_element.Width = Shapes
 group_of_element of_element.BackwardLead = Leads
 group_of_element of_element.TertiaryElement = TertiaryElements
@@ -54,6 +55,7 @@ group_of_element of_element.NumericLead = OwnLeads
 group_of_element of_element.SharedLead = ReorderedLeads
 group_of_element of_element.SecondByte = Compression
 
+-- the group of a condition on two elements
 abbrev pub group_of_pair : PairCondition → ConditionGroup
 group_of_pair of_pair.TertiaryElementWeights = TertiaryElements
 group_of_pair of_pair.Primaries = Overlaps
@@ -61,6 +63,7 @@ group_of_pair of_pair.Secondaries = Overlaps
 group_of_pair of_pair.Tertiaries = Overlaps
 group_of_pair of_pair.Compression = Compression
 
+-- the group of a condition on lead bytes
 abbrev pub group_of_lead : LeadCondition → ConditionGroup
 group_of_lead of_lead.Separator = KeptLeads
 group_of_lead of_lead.HighLead = KeptLeads
@@ -69,6 +72,7 @@ group_of_lead of_lead.NumericLead = ReorderedLeads
 group_of_lead of_lead.LeadsApart = ReorderedLeads
 group_of_lead of_lead.NumericWhole = Compression
 
+-- the group of any condition
 abbrev pub group_of : Condition → ConditionGroup
 group_of conditions.DiacriticCount = Counts
 group_of (conditions.Entry condition) = group_of_entry condition

@@ -14,33 +14,35 @@ use Rattle.icu_data.specs.DataConditions.{avoids_diacritics, is_readable}
 use Rattle.icu_data.specs.Violations.{earlier}
 use Rattle.icu_data.specs.LiveConditions.{first_failing}
 use Rattle.icu_checks.specs.declared.condition.Condition.TheVariants as conditions
-use Rattle.icu_checks.specs.declared.condition.ElementCondition.{ElementCondition}
+use Rattle.icu_checks.specs.declared.condition.LiveElementCondition.{LiveElementCondition}
 use Rattle.icu_checks.specs.declared.violation.Violation.{Violation}
 use Rattle.icu_provider.specs.Reorderings.{Reordering, lead_byte}
 use Rattle.icu_provider.specs.CollatorTables.{CollatorTables, reorder_by}
-use Rattle.icu_checks.specs.ElementConditions.{element_meets, element_conditions}
+use Rattle.icu_checks.specs.ElementConditions.{live_element_meets, element_conditions}
 use Rattle.icu_checks.specs.GoodTables.{later, table_of_element, EachEntry, EachElement, EntryMeets, HasPlainRows}
 use Rattle.icu_checks.specs.inner.Violations.{violation_rank}
 
 -- a condition on an element of a table, as a violation
-abbrev pub of_element : DataTable → ElementCondition → Violation
+abbrev pub of_element : DataTable → LiveElementCondition → Violation
 of_element table condition = record { condition = conditions.Element condition; table = later table (table_of_element condition) }
 
 -- the first condition that an element fails
-unfoldable pub first_failing_element : CollatorTables → Element → Option ElementCondition
-first_failing_element all x = find (λ condition. not (element_meets condition all x)) element_conditions
+unfoldable pub first_failing_element : CollatorTables → Element → Option LiveElementCondition
+first_failing_element all x = find (λ condition. not (live_element_meets condition all x)) element_conditions
 
 -- implicit weights fail none
 abbrev pub ImplicitPasses : CollatorTables → Type 0
 ImplicitPasses all = (c : ℕ) → first_failing_element all (of_primary (implicit_weight c)) ≡ None
 
 -- a reordering takes all primary weights with a lead byte to one
-abbrev pub TakesWhole : Option Reordering → ℕ → Type 0
-TakesWhole r b = (p q : ℕ) → lead_byte p ≡ b → lead_byte q ≡ b → lead_byte (reorder_by r p) ≡ lead_byte (reorder_by r q)
+abbrev pub KeepsLeadTogether : Option Reordering → ℕ → Type 0
+KeepsLeadTogether r b = (p q : ℕ) → lead_byte p ≡ b → lead_byte q ≡ b → lead_byte (reorder_by r p) ≡ lead_byte (reorder_by r q)
 
+-- the first condition that an element of a table fails, as a violation
 abbrev pub element_violation : CollatorTables → DataTable → Element → Option Violation
 element_violation all table x = option_map (of_element table) (first_failing_element all x)
 
+-- the first violation so far, after one element more
 abbrev pub after_element : CollatorTables → DataTable → Option Violation → Element → Option Violation
 after_element all table best x = earlier violation_rank best (element_violation all table x)
 
@@ -56,6 +58,7 @@ elements_violation all table home c e = fold (after_element all table) None (fin
 abbrev pub of_entry : DataTable → LiveCondition → Violation
 of_entry table condition = record { condition = conditions.Entry condition; table = table }
 
+-- a row of a prefix that has a diacritic, as a violation
 abbrev pub rows_violation : CollatorTables → Data → ℕ → Option Violation
 rows_violation all home e =
     if avoids_diacritics (length all.tables.diacritics) home e then None
@@ -75,14 +78,14 @@ JamoPasses all i =
 -- the element of the diacritic at this place, if decomposed texts have it, meets the conditions on elements
 abbrev pub DiacriticMeets : CollatorTables → ℕ → Type 0
 DiacriticMeets all i =
-    is_replaced_index i ≡ false → (condition : ElementCondition)
-    → IsTrue (element_meets condition all (of_secondary (slice_index all.tables.diacritics i)))
+    is_replaced_index i ≡ false → (condition : LiveElementCondition)
+    → IsTrue (live_element_meets condition all (of_secondary (slice_index all.tables.diacritics i)))
 
 -- what is live by a table meets the conditions on entries, and on elements
 pub record MeetsIn (table : DataTable) (all : CollatorTables) : Type 0 where
   pub entries : (condition : LiveCondition) → EachEntry (EntryMeets condition) table all
   pub rows : EachEntry (HasPlainRows all) table all
-  pub elements : (condition : ElementCondition) → EachElement (λ x. IsTrue (element_meets condition all x)) table all
+  pub elements : (condition : LiveElementCondition) → EachElement (λ x. IsTrue (live_element_meets condition all x)) table all
 
 -- what is live by any table does
 pub record LiveMeets (all : CollatorTables) : Type 0 where

@@ -8,13 +8,14 @@ use Rattle.icu_entries.specs.Weights.{implicit_weight}
 use Rattle.icu_data.specs.Data.{Data}
 use Rattle.icu_provider.specs.Tables.{Tables}
 use Rattle.icu_checks.specs.declared.check.implicit_overlaps.ImplicitClash.{ImplicitClash}
-use Rattle.icu_checks.specs.declared.check.weights.Level.TheVariants.{Primary}
+use Rattle.icu_checks.specs.declared.check.weights.ComparedLevel.TheVariants.{Primary}
 use Rattle.icu_checks.specs.declared.check.weights.WeightList.TheVariants.{Primaries}
 use Rattle.icu_provider.specs.CollatorTables.{CollatorTables}
 use Rattle.icu_checks.specs.LiveElements.{IsLiveBy}
 use Rattle.icu_checks.specs.inner.ComparedLevels.{bytes_at}
 use Rattle.icu_checks.specs.inner.PairViolations.{IsListedWeight}
 
+-- an entry for implicit weights
 unfoldable pub is_for_implicit : ℕ → Bool
 is_for_implicit e = elim (kind_of e) [ Implicit ↦ true | _ ↦ false ]
 

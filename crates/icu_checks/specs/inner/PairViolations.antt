@@ -9,8 +9,8 @@ use Rattle.icu_provider.specs.SpecialPrimaries.{is_compressible}
 use Rattle.icu_provider.specs.Tables.{Tables}
 use Rattle.icu_checks.specs.declared.violation.Violation.{Violation}
 use Rattle.icu_checks.specs.declared.check.tertiary_violations.LowPair.{LowPair}
-use Rattle.icu_checks.specs.declared.check.weights.Level.{Level}
-use Rattle.icu_checks.specs.declared.check.weights.Level.TheVariants as levels
+use Rattle.icu_checks.specs.declared.check.weights.ComparedLevel.{ComparedLevel}
+use Rattle.icu_checks.specs.declared.check.weights.ComparedLevel.TheVariants as levels
 use Rattle.icu_checks.specs.declared.check.weights.WeightList.{WeightList}
 use Rattle.icu_checks.specs.declared.check.weights.WeightList.TheVariants.{Primaries, TertiaryElements, WithSecondary}
 use Rattle.icu_provider.specs.CollatorTables.{CollatorTables, reorder}
@@ -45,24 +45,24 @@ pub record HoldsLevel (list : WeightList) (tables : Tables) (ws : List ℕ) : Ty
 -- ---- overlaps
 
 -- none of these weights of a level begins another
-abbrev pub AreFree : Level → CollatorTables → List ℕ → Type 0
+abbrev pub AreFree : ComparedLevel → CollatorTables → List ℕ → Type 0
 AreFree level all ws = IsPrefixFree (bytes_at level all) (Contains ws)
 
 -- none of all its weights does
-pub record LevelIsFree (level : Level) (all : CollatorTables) : Type 0 where
+pub record LevelIsFree (level : ComparedLevel) (all : CollatorTables) : Type 0 where
   pub weights : List ℕ
   pub all_held : HoldsAll (list_of level) all.tables weights
   pub free : AreFree level all weights
 
 -- two weights of a level of which the first begins the second
-pub record AreClashing (level : Level) (all : CollatorTables) (v w : ℕ) : Type 0 where
+pub record AreClashing (level : ComparedLevel) (all : CollatorTables) (v w : ℕ) : Type 0 where
   pub first : IsListedWeight (list_of level) all.tables v
   pub second : IsListedWeight (list_of level) all.tables w
   pub different : v ≢ w
   pub begins : IsBeginning (bytes_at level all v) (bytes_at level all w)
 
 -- the table by which they are named, if these are theirs
-abbrev pub IsClashTable : Level → DataTable → DataTable → ℕ → ℕ → DataTable → Type 0
+abbrev pub IsClashTable : ComparedLevel → DataTable → DataTable → ℕ → ℕ → DataTable → Type 0
 IsClashTable levels.Primary first second v w table = IsOverlapTable first second v w table
 IsClashTable _ first second v w table = table ≡ later first second
 
@@ -88,8 +88,8 @@ TertiaryElementsAreHigh tables =
 -- ---- primary weights
 
 -- of these primary weights, those that share a lead byte after reordering compress alike
-abbrev pub AreAlike : CollatorTables → List ℕ → Type 0
-AreAlike all ws =
+abbrev pub ListCompressesAlike : CollatorTables → List ℕ → Type 0
+ListCompressesAlike all ws =
     (v w : ℕ) → Contains ws v → Contains ws w → lead_byte (reorder all v) ≡ lead_byte (reorder all w)
     → is_compressible all.special (lead_byte v) ≡ is_compressible all.special (lead_byte w)
 
@@ -98,4 +98,4 @@ pub record PrimariesAreFree (all : CollatorTables) : Type 0 where
   pub weights : List ℕ
   pub all_held : HoldsAll Primaries all.tables weights
   pub free : AreFree levels.Primary all weights
-  pub alike : AreAlike all weights
+  pub alike : ListCompressesAlike all weights

@@ -17,7 +17,9 @@ fn collect_root(
     list: WeightList,
     weights: &mut Vec<u32>,
 ) -> Result<(), AllocError>
-    ensures { OnOk result (Adds (IsWeightBy list DataTable.Root (tables_in tables.entry).tables) weights.old.items weights.new.items) }
+    ensures { OnOk result (Adds
+        (IsWeightBy list DataTable.Root (tables_in tables.entry).tables)
+        weights.old.items weights.new.items) }
 {
     collect_weights(weights, &list, tables.root, false)
 }
@@ -27,7 +29,9 @@ fn collect_tailoring(
     list: WeightList,
     weights: &mut Vec<u32>,
 ) -> Result<(), AllocError>
-    ensures { OnOk result (Adds (IsWeightBy list DataTable.Tailoring (tables_in tables.entry).tables) weights.old.items weights.new.items) }
+    ensures { OnOk result (Adds
+        (IsWeightBy list DataTable.Tailoring (tables_in tables.entry).tables)
+        weights.old.items weights.new.items) }
 {
     match tables.tailoring {
         Some(tailoring) => collect_weights(weights, &list, tailoring, true),
@@ -45,7 +49,9 @@ fn collect_of_jamo(
 ) -> Result<(), AllocError>
     requires inside { place < 256 }
     requires entry { entry ≡ slice_index (jamo_of tables.jamo) place }
-    ensures { OnOk result (Adds (IsJamoWeight list (tables_in tables.entry) place) weights.old.items weights.new.items) }
+    ensures { OnOk result (Adds
+        (IsJamoWeight list (tables_in tables.entry) place)
+        weights.old.items weights.new.items) }
 {
     match jamo_char(place) {
         Some(c) => collect_weights_from(weights, &list, tables.root, c, entry),
@@ -58,7 +64,9 @@ fn collect_jamo(
     list: WeightList,
     weights: &mut Vec<u32>,
 ) -> Result<(), AllocError>
-    ensures { OnOk result (Adds (IsWeightBy list DataTable.Jamo (tables_in tables.entry).tables) weights.old.items weights.new.items) }
+    ensures { OnOk result (Adds
+        (IsWeightBy list DataTable.Jamo (tables_in tables.entry).tables)
+        weights.old.items weights.new.items) }
 {
     for (place, entry) in tables.jamo.ce32s().iter().enumerate() {
         collect_of_jamo(
@@ -81,7 +89,9 @@ fn collect_diacritic(
     weights: &mut Vec<u32>,
 ) -> Result<(), AllocError>
     requires secondary { secondary ≡ slice_index (diacritics_of tables.diacritics) place }
-    ensures { OnOk result (Adds (IsDiacriticWeight list (tables_in tables.entry) place) weights.old.items weights.new.items) }
+    ensures { OnOk result (Adds
+        (IsDiacriticWeight list (tables_in tables.entry) place)
+        weights.old.items weights.new.items) }
 {
     if is_replaced_index(place) {
         return Ok(());
@@ -97,7 +107,9 @@ fn collect_diacritics(
     list: WeightList,
     weights: &mut Vec<u32>,
 ) -> Result<(), AllocError>
-    ensures { OnOk result (Adds (IsWeightBy list DataTable.Diacritics (tables_in tables.entry).tables) weights.old.items weights.new.items) }
+    ensures { OnOk result (Adds
+        (IsWeightBy list DataTable.Diacritics (tables_in tables.entry).tables)
+        weights.old.items weights.new.items) }
 {
     for (place, secondary) in tables.diacritics.secondaries().iter().enumerate() {
         collect_diacritic(tables, list, place, *secondary, weights)?;
@@ -112,7 +124,9 @@ pub(crate) fn collect(
     table: DataTable,
     weights: &mut Vec<u32>,
 ) -> Result<(), AllocError>
-    ensures { OnOk result (Adds (IsWeightBy list table (tables_in tables.entry).tables) weights.old.items weights.new.items) }
+    ensures { OnOk result (Adds
+        (IsWeightBy list table (tables_in tables.entry).tables)
+        weights.old.items weights.new.items) }
 {
     match table {
         DataTable::Root => collect_root(tables, list, weights),

@@ -2,10 +2,10 @@ ghost use Rattle.std.specs.Prelude.{◌≡◌};
 ghost use Rattle.icu_entries.specs.Elements.{Element};
 ghost use Rattle.icu_weights.specs.Leads.{is_middle};
 ghost use Rattle.icu_provider.specs.TableSets.{tables_in};
-ghost use Rattle.icu_checks.specs.ElementConditions.{is_tertiary_element, is_high_tertiary_element, has_low_bytes, has_second_byte, primary_meets, element_meets};
+ghost use Rattle.icu_checks.specs.ElementConditions.{is_tertiary_element, is_high_tertiary_element, has_low_bytes, has_second_byte, primary_meets, live_element_meets};
 
 use crate::check::lookups::is_apart;
-use crate::condition::ElementCondition;
+use crate::condition::LiveElementCondition;
 use icu_entries::CollationElement;
 use icu_provider::TableSet;
 use icu_provider::reordering::lead_byte;
@@ -41,7 +41,7 @@ fn has_second_byte(primary: u32) -> bool
     second >= 4 && second <= 0xFE
 }
 
-impl ElementCondition {
+impl LiveElementCondition {
     /// Whether a nonzero primary weight meets the condition.
     #[tactic(auto, unfolding(icu_provider::specs::TableSets::tables_in))]
     fn primary_meets(self, tables: TableSet<'_>, primary: u32) -> bool
@@ -49,34 +49,34 @@ impl ElementCondition {
     {
         let lead = lead_byte(primary);
         match self {
-            ElementCondition::MiddleLead => {
+            LiveElementCondition::MiddleLead => {
                 !is_middle(lead) || is_middle(lead_byte(tables.reorder(primary)))
             }
-            ElementCondition::ImplicitLength => lead != IMPLICIT_LEAD || has_low_bytes(primary),
-            ElementCondition::NumericLead => lead != tables.special.numeric_primary(),
-            ElementCondition::SharedLead => {
+            LiveElementCondition::ImplicitLength => lead != IMPLICIT_LEAD || has_low_bytes(primary),
+            LiveElementCondition::NumericLead => lead != tables.special.numeric_primary(),
+            LiveElementCondition::SharedLead => {
                 is_apart(tables, IMPLICIT_LEAD, primary)
                     && is_apart(tables, tables.special.numeric_primary(), primary)
             }
-            ElementCondition::SecondByte => {
+            LiveElementCondition::SecondByte => {
                 !tables.special.is_compressible(lead) || has_second_byte(primary)
             }
-            ElementCondition::Width
-            | ElementCondition::BackwardLead
-            | ElementCondition::TertiaryElement => true,
+            LiveElementCondition::Width
+            | LiveElementCondition::BackwardLead
+            | LiveElementCondition::TertiaryElement => true,
         }
     }
 
     /// Whether the element meets the condition.
     pub(crate) fn holds(self, tables: TableSet<'_>, element: CollationElement) -> bool
-        ensures { result ≡ element_meets self (tables_in tables.entry) element }
+        ensures { result ≡ live_element_meets self (tables_in tables.entry) element }
     {
         match self {
-            ElementCondition::Width => true,
-            ElementCondition::BackwardLead => {
+            LiveElementCondition::Width => true,
+            LiveElementCondition::BackwardLead => {
                 tables.is_forward() || element.secondary() >> 8 != 2
             }
-            ElementCondition::TertiaryElement => !is_tertiary_element(element)
+            LiveElementCondition::TertiaryElement => !is_tertiary_element(element)
                 || is_high_tertiary_element(element),
             _ => element.primary() == 0 || self.primary_meets(tables, element.primary()),
         }

@@ -8,14 +8,14 @@ ghost use Rattle.icu_data.specs.LiveConditions.{first_failing};
 ghost use Rattle.icu_data.specs.StoredData.{data_of};
 ghost use Rattle.icu_provider.specs.CollatorTables.{CollatorTables};
 ghost use Rattle.icu_provider.specs.TableSets.{tables_in};
-ghost use Rattle.icu_checks.specs.inner.EntryViolations.{first_failing_element, element_violation, after_element, judged_element, elements_violation, rows_violation, entry_violation, ImplicitPasses, TakesWhole};
+ghost use Rattle.icu_checks.specs.inner.EntryViolations.{first_failing_element, element_violation, after_element, judged_element, elements_violation, rows_violation, entry_violation, ImplicitPasses, KeepsLeadTogether};
 
 use crate::check::lead_conditions::numeric_lead;
-use crate::condition::{Condition, ElementCondition, LeadCondition};
+use crate::condition::{Condition, LeadCondition, LiveElementCondition};
 use crate::violation::{Violation, later};
 use icu_data::CollationData;
 use icu_data::element_walk::{VisitElement, visit_elements};
-use icu_data::live_condition::{EntryJudge as OwnJudge, LiveCondition};
+use icu_data::live_condition::{EntryJudge, LiveCondition};
 use icu_data::violation::{Judge, earlier};
 use icu_entries::{CollationElement, CollationElement32, DataTable, EntryKind};
 use icu_provider::TableSet;
@@ -27,25 +27,25 @@ use std::convert::Infallible;
 fn first_failing_element(
     tables: TableSet<'_>,
     element: CollationElement,
-) -> Option<ElementCondition>
+) -> Option<LiveElementCondition>
     ensures { result ≡ first_failing_element (tables_in tables.entry) element }
 {
-    if !ElementCondition::Width.holds(tables, element) {
-        Some(ElementCondition::Width)
-    } else if !ElementCondition::BackwardLead.holds(tables, element) {
-        Some(ElementCondition::BackwardLead)
-    } else if !ElementCondition::TertiaryElement.holds(tables, element) {
-        Some(ElementCondition::TertiaryElement)
-    } else if !ElementCondition::MiddleLead.holds(tables, element) {
-        Some(ElementCondition::MiddleLead)
-    } else if !ElementCondition::ImplicitLength.holds(tables, element) {
-        Some(ElementCondition::ImplicitLength)
-    } else if !ElementCondition::NumericLead.holds(tables, element) {
-        Some(ElementCondition::NumericLead)
-    } else if !ElementCondition::SharedLead.holds(tables, element) {
-        Some(ElementCondition::SharedLead)
-    } else if !ElementCondition::SecondByte.holds(tables, element) {
-        Some(ElementCondition::SecondByte)
+    if !LiveElementCondition::Width.holds(tables, element) {
+        Some(LiveElementCondition::Width)
+    } else if !LiveElementCondition::BackwardLead.holds(tables, element) {
+        Some(LiveElementCondition::BackwardLead)
+    } else if !LiveElementCondition::TertiaryElement.holds(tables, element) {
+        Some(LiveElementCondition::TertiaryElement)
+    } else if !LiveElementCondition::MiddleLead.holds(tables, element) {
+        Some(LiveElementCondition::MiddleLead)
+    } else if !LiveElementCondition::ImplicitLength.holds(tables, element) {
+        Some(LiveElementCondition::ImplicitLength)
+    } else if !LiveElementCondition::NumericLead.holds(tables, element) {
+        Some(LiveElementCondition::NumericLead)
+    } else if !LiveElementCondition::SharedLead.holds(tables, element) {
+        Some(LiveElementCondition::SharedLead)
+    } else if !LiveElementCondition::SecondByte.holds(tables, element) {
+        Some(LiveElementCondition::SecondByte)
     } else {
         None
     }
@@ -71,7 +71,7 @@ pub(crate) fn element_violation(
 /// Whether the reordering takes all primary weights with a lead byte to one lead byte, as far as one look shows it.
 #[tactic(auto, using(crate::proofs::RunLemmas::kept_whole, crate::proofs::RunLemmas::replaced_whole, crate::proofs::RunLemmas::stays_whole), unfolding(icu_provider::specs::TableSets::tables_in))]
 fn takes_whole(tables: TableSet<'_>, lead: u8) -> bool
-    ensures { result ≡ true → TakesWhole (tables_in tables.entry).reordering lead }
+    ensures { result ≡ true → KeepsLeadTogether (tables_in tables.entry).reordering lead }
 {
     match tables.reordering {
         Some(reordering) => {
@@ -89,7 +89,8 @@ fn takes_whole(tables: TableSet<'_>, lead: u8) -> bool
 /// lead byte, the two show what holds of those between them.
 #[tactic(auto, using(crate::proofs::RunLemmas::between_passes))]
 fn passes_between(tables: TableSet<'_>, least: u32, greatest: u32) -> bool
-    ensures { result ≡ true → (p : ℕ) → least ≤ p → p ≤ greatest → first_failing_element (tables_in tables.entry) (of_primary p) ≡ None }
+    ensures { result ≡ true → (p : ℕ) → least ≤ p → p ≤ greatest
+        → first_failing_element (tables_in tables.entry) (of_primary p) ≡ None }
 {
     if least == 0 || least % 256 != 0 || lead_byte(least) != lead_byte(greatest) {
         return false;
@@ -142,7 +143,8 @@ fn elements_violation(
     entry: CollationElement32,
 ) -> Option<Violation>
     requires { IsTrue (is_readable (data_of home) c entry) }
-    ensures { result ≡ elements_violation (tables_in tables.entry) table (data_of home.entry) c entry }
+    ensures { result
+        ≡ elements_violation (tables_in tables.entry) table (data_of home.entry) c entry }
 {
     let mut visitor = FirstElementViolation {
         tables,
@@ -177,14 +179,15 @@ fn rows_violation(
 /// The first violation of an entry that fails a condition on its own.
 #[tactic(auto, unfolding(crate::specs::inner::EntryViolations::entry_violation))]
 fn violation_beside(
-    judge: &EntryJudge<'_>,
+    judge: &TablesJudge<'_>,
     condition: LiveCondition,
     home: CollationData<'_>,
     c: char,
     entry: CollationElement32,
 ) -> Option<Violation>
     requires { first_failing (data_of home) c entry ≡ Some condition }
-    ensures { result ≡ entry_violation (tables_in judge.now.tables) judge.now.table (data_of home.entry) c entry }
+    ensures { result ≡ entry_violation (tables_in judge.now.tables) judge.now.table
+        (data_of home.entry) c entry }
 {
     let own = Violation {
         condition: Condition::Entry(condition),
@@ -202,7 +205,7 @@ fn violation_beside(
 /// What finds the violations of the entries that are live in a table, by all tables of a collator. Entries for implicit
 /// weights, a million of them, are passed over where reordering leaves these weights a lead byte of their own.
 #[derive(Drop)]
-pub(crate) struct EntryJudge<'d> {
+pub(crate) struct TablesJudge<'d> {
     pub(crate) tables: TableSet<'d>,
     pub(crate) table: DataTable,
     pub(crate) implicit_passes: bool,
@@ -219,7 +222,7 @@ pub(crate) fn implicit_passes(tables: TableSet<'_>) -> bool
     LeadCondition::ImplicitLead.holds(tables) && LeadCondition::LeadsApart.holds(tables)
 }
 
-impl<'d> Judge for EntryJudge<'d> {
+impl<'d> Judge for TablesJudge<'d> {
     type Violation = Violation;
 
     ghost violation = { λ j home c e. entry_violation (tables_in j.tables) j.table home c e };
@@ -249,7 +252,7 @@ impl<'d> Judge for EntryJudge<'d> {
 
     /// The weights of the characters rise, so those of the first and the last show what holds of each.
     fn passes_run(&self, home: CollationData<'_>, first: char, entry: CollationElement32) -> bool {
-        if !OwnJudge.passes_run(home, first, entry) {
+        if !EntryJudge.passes_run(home, first, entry) {
             return false;
         }
         match (entry.kind(), char::from_u32(first as u32 + 63)) {

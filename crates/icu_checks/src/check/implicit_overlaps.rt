@@ -16,7 +16,7 @@ use crate::check::element_conditions::IMPLICIT_LEAD;
 use crate::check::implicit_chars::{ImplicitChars, chars_beside, second_byte};
 use crate::check::overlap_tables::{clash_table, table_of};
 use crate::check::overlap_violations::LIVE_TABLES;
-use crate::check::weights::{Level, WeightList};
+use crate::check::weights::{ComparedLevel, WeightList};
 use crate::condition::{Condition, LeadCondition, PairCondition};
 use crate::violation::Violation;
 use icu_data::CollationData;
@@ -299,7 +299,7 @@ fn clash_violation(
     };
     Ok(Violation {
         condition: Condition::Pair(PairCondition::Primaries),
-        table: clash_table(Level::Primary, own, clash.table, overlap),
+        table: clash_table(ComparedLevel::Primary, own, clash.table, overlap),
     })
 }
 

@@ -4,7 +4,7 @@ ghost use Rattle.icu_provider.specs.SpecialPrimaries.{is_compressible};
 ghost use Rattle.icu_provider.specs.StoredTables.{reordering_of};
 ghost use Rattle.icu_provider.specs.CollatorTables.{new_lead};
 ghost use Rattle.icu_provider.specs.TableSets.{tables_in};
-ghost use Rattle.icu_checks.specs.LeadConditions.{TakesLeadBy, TakesLead, TakesTogether, LeadMeets};
+ghost use Rattle.icu_checks.specs.LeadConditions.{LeadGoesToBy, LeadGoesTo, TakesTogether, LeadMeets};
 
 use crate::check::element_conditions::IMPLICIT_LEAD;
 use crate::condition::LeadCondition;
@@ -18,7 +18,7 @@ const SEPARATOR: u32 = 0x0200_0000;
 #[tactic(auto, using(crate::proofs::LeadMeetings::kept_leads))]
 fn takes_lead_by(reordering: Option<CollationReordering<'_>>, from: u8, to: u8) -> bool
     requires { 1 ≤ from }
-    ensures { IsTrue result ↔ TakesLeadBy (option_map reordering_of reordering.entry) from to }
+    ensures { IsTrue result ↔ LeadGoesToBy (option_map reordering_of reordering.entry) from to }
 {
     match reordering {
         Some(reordering) => takes_lead(reordering, from, to),
@@ -29,7 +29,7 @@ fn takes_lead_by(reordering: Option<CollationReordering<'_>>, from: u8, to: u8) 
 #[tactic(auto, unfolding(icu_provider::specs::TableSets::tables_in))]
 fn takes_lead_in(tables: TableSet<'_>, from: u8, to: u8) -> bool
     requires { 1 ≤ from }
-    ensures { IsTrue result ↔ TakesLead (tables_in tables.entry) from to }
+    ensures { IsTrue result ↔ LeadGoesTo (tables_in tables.entry) from to }
 {
     takes_lead_by(tables.reordering, from, to)
 }

@@ -4,7 +4,7 @@ ghost use Rattle.std.specs.List.Sorted.{IsStrictlyIncreasing};
 ghost use Rattle.icu_data.specs.CollectedWeights.{IsLiveWeight};
 ghost use Rattle.icu_data.specs.StoredData.{data_of};
 ghost use Rattle.icu_provider.specs.TableSets.{tables_in};
-ghost use Rattle.icu_checks.specs.inner.ComparedWeights.{weight_at, Adds};
+ghost use Rattle.icu_checks.specs.inner.ComparedWeights.{compared_weight, Adds};
 ghost use Rattle.icu_checks.specs.inner.ListedWeights.{HasNone, AreSame, AddsEach, HasSame, HoldsEach};
 
 use crate::check::collecting::collect;
@@ -72,11 +72,21 @@ fn collect_home(
     home: CollationData<'_>,
     falls_back: bool,
 ) -> Result<(), AllocError>
-    ensures primaries { OnOk result (Adds (IsLiveWeight (weight_at WeightList.Primaries) falls_back (data_of home.entry)) lists.old.primaries.items lists.new.primaries.items) }
-    ensures secondaries { OnOk result (Adds (IsLiveWeight (weight_at WeightList.Secondaries) falls_back (data_of home.entry)) lists.old.secondaries.items lists.new.secondaries.items) }
-    ensures tertiaries { OnOk result (Adds (IsLiveWeight (weight_at WeightList.Tertiaries) falls_back (data_of home.entry)) lists.old.tertiaries.items lists.new.tertiaries.items) }
-    ensures tertiary_elements { OnOk result (Adds (IsLiveWeight (weight_at WeightList.TertiaryElements) falls_back (data_of home.entry)) lists.old.tertiary_elements.items lists.new.tertiary_elements.items) }
-    ensures with_secondary { OnOk result (Adds (IsLiveWeight (weight_at WeightList.WithSecondary) falls_back (data_of home.entry)) lists.old.with_secondary.items lists.new.with_secondary.items) }
+    ensures primaries { OnOk result (Adds
+        (IsLiveWeight (compared_weight WeightList.Primaries) falls_back (data_of home.entry))
+        lists.old.primaries.items lists.new.primaries.items) }
+    ensures secondaries { OnOk result (Adds
+        (IsLiveWeight (compared_weight WeightList.Secondaries) falls_back (data_of home.entry))
+        lists.old.secondaries.items lists.new.secondaries.items) }
+    ensures tertiaries { OnOk result (Adds
+        (IsLiveWeight (compared_weight WeightList.Tertiaries) falls_back (data_of home.entry))
+        lists.old.tertiaries.items lists.new.tertiaries.items) }
+    ensures tertiary_elements { OnOk result (Adds
+        (IsLiveWeight (compared_weight WeightList.TertiaryElements) falls_back (data_of home.entry))
+        lists.old.tertiary_elements.items lists.new.tertiary_elements.items) }
+    ensures with_secondary { OnOk result (Adds
+        (IsLiveWeight (compared_weight WeightList.WithSecondary) falls_back (data_of home.entry))
+        lists.old.with_secondary.items lists.new.with_secondary.items) }
 {
     collect_weights(
         &mut lists.primaries,
@@ -107,13 +117,15 @@ fn collect_home(
 }
 
 fn collect_root(tables: TableSet<'_>, lists: &mut ListedWeights) -> Result<(), AllocError>
-    ensures { OnOk result (AddsEach DataTable.Root (tables_in tables.entry).tables lists.old lists.new) }
+    ensures { OnOk result (AddsEach DataTable.Root (tables_in tables.entry).tables
+        lists.old lists.new) }
 {
     collect_home(lists, tables.root, false)
 }
 
 fn collect_tailoring(tables: TableSet<'_>, lists: &mut ListedWeights) -> Result<(), AllocError>
-    ensures { OnOk result (AddsEach DataTable.Tailoring (tables_in tables.entry).tables lists.old lists.new) }
+    ensures { OnOk result (AddsEach DataTable.Tailoring (tables_in tables.entry).tables
+        lists.old lists.new) }
 {
     match tables.tailoring {
         Some(tailoring) => collect_home(lists, tailoring, true),

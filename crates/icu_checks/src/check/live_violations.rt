@@ -5,7 +5,7 @@ ghost use Rattle.icu_provider.specs.TableSets.{tables_in};
 ghost use Rattle.icu_checks.specs.inner.Violations.{IsTrueViolation};
 ghost use Rattle.icu_checks.specs.inner.EntryViolations.{JamoPasses, MeetsIn, DiacriticMeets, LiveMeets};
 
-use crate::check::entry_judge::{EntryJudge, element_violation, implicit_passes};
+use crate::check::entry_judge::{TablesJudge, element_violation, implicit_passes};
 use crate::check::lookups::jamo_char;
 use crate::violation::Violation;
 use icu_data::violation::{earlier, first_violation, first_violation_from};
@@ -17,7 +17,7 @@ fn root_violation(tables: TableSet<'_>) -> Option<Violation>
     ensures none { result ≡ None → MeetsIn DataTable.Root (tables_in tables.entry) }
     ensures some { IfSome result (IsTrueViolation (tables_in tables.entry)) }
 {
-    let judge = EntryJudge {
+    let judge = TablesJudge {
         tables,
         table: DataTable::Root,
         implicit_passes: implicit_passes(tables),
@@ -31,7 +31,7 @@ fn tailoring_violation(tables: TableSet<'_>) -> Option<Violation>
 {
     match tables.tailoring {
         Some(tailoring) => {
-            let judge = EntryJudge {
+            let judge = TablesJudge {
                 tables,
                 table: DataTable::Tailoring,
                 implicit_passes: implicit_passes(tables),
@@ -53,7 +53,7 @@ fn violation_of_jamo(
     ensures none { result ≡ None → JamoPasses (tables_in tables.entry) place }
     ensures some { IfSome result (IsTrueViolation (tables_in tables.entry)) }
 {
-    let judge = EntryJudge {
+    let judge = TablesJudge {
         tables,
         table: DataTable::Jamo,
         // of one entry and those that it leads to, there is nothing to pass over

@@ -4,6 +4,7 @@ ghost use Rattle.icu_provider.specs.TableSets.{tables_in};
 ghost use Rattle.icu_checks.specs.ElementConditions.{is_apart};
 
 use icu_provider::TableSet;
+use icu_provider::jamo::JAMO_BASE;
 use icu_provider::reordering::lead_byte;
 
 /// The character with an index in the jamo table.
@@ -11,7 +12,7 @@ pub(crate) fn jamo_char(index: usize) -> Option<char>
     requires { index < 256 }
     ensures { result ≡ Some (0x1100 + index) }
 {
-    char::from_u32(0x1100 + index as u32)
+    char::from_u32(JAMO_BASE + index as u32)
 }
 
 /// Whether a weight has this lead byte, or isn't reordered to where the weights with it are.

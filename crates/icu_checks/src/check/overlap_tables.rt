@@ -7,7 +7,7 @@ ghost use Rattle.icu_checks.specs.inner.ComparedWeights.{IsWeightBy};
 ghost use Rattle.icu_checks.specs.inner.PairViolations.{IsListedWeight, AreClashing, IsClashTable};
 
 use crate::check::collecting::collect;
-use crate::check::weights::{Level, WeightList};
+use crate::check::weights::{ComparedLevel, WeightList};
 use crate::condition::Condition;
 use crate::violation::{Violation, later};
 use icu_entries::DataTable;
@@ -24,7 +24,8 @@ fn has_weight(
     table: DataTable,
     weight: u32,
 ) -> Result<bool, AllocError>
-    ensures { IfOk result (λ found. IsTrue found ↔ IsWeightBy list table (tables_in tables.entry).tables weight) }
+    ensures { IfOk result (λ found. IsTrue found
+        ↔ IsWeightBy list table (tables_in tables.entry).tables weight) }
 {
     let mut weights = Vec::new(alloc);
     collect(tables, list, table, &mut weights)?;
@@ -55,7 +56,7 @@ pub(crate) fn table_of(
 /// The table by which an overlap is named whose weights are live by two tables: the later one, but the reordering where
 /// they are primary weights that overlap only by it.
 pub(crate) fn clash_table(
-    level: Level,
+    level: ComparedLevel,
     first: DataTable,
     second: DataTable,
     overlap: Overlap,
@@ -63,14 +64,14 @@ pub(crate) fn clash_table(
     ensures { IsClashTable level first second overlap.first overlap.second result }
 {
     match level {
-        Level::Primary => {
+        ComparedLevel::Primary => {
             if are_overlapping(overlap.first, overlap.second) {
                 later(first, second)
             } else {
                 DataTable::Reordering
             }
         }
-        Level::Secondary | Level::Tertiary => later(first, second),
+        ComparedLevel::Secondary | ComparedLevel::Tertiary => later(first, second),
     }
 }
 
@@ -78,7 +79,7 @@ pub(crate) fn clash_table(
 pub(crate) fn clash_violation(
     alloc: Global,
     tables: TableSet<'_>,
-    level: Level,
+    level: ComparedLevel,
     overlap: Overlap,
 ) -> Result<Violation, AllocError>
     requires { AreClashing level (tables_in tables) overlap.first overlap.second }

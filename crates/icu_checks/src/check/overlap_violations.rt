@@ -8,7 +8,7 @@ ghost use Rattle.icu_checks.specs.inner.PairViolations.{HoldsLevel, AreFree, Are
 
 use crate::check::collecting::collect;
 use crate::check::overlap_tables::clash_violation;
-use crate::check::weights::Level;
+use crate::check::weights::ComparedLevel;
 use crate::violation::Violation;
 use icu_data::live_weights::sort_and_dedup;
 use icu_entries::DataTable;
@@ -29,7 +29,7 @@ pub(crate) const LIVE_TABLES: [DataTable; 4] = [
 fn named_overlap(
     alloc: Global,
     tables: TableSet<'_>,
-    level: Level,
+    level: ComparedLevel,
     overlap: Overlap,
 ) -> Result<Violation, AllocError>
     requires { AreClashing level (tables_in tables) overlap.first overlap.second }
@@ -50,12 +50,13 @@ fn named_overlap(
 pub(crate) fn overlap_violation(
     alloc: Global,
     tables: TableSet<'_>,
-    level: Level,
+    level: ComparedLevel,
     weights: &mut Vec<u32>,
 ) -> Result<Option<Violation>, AllocError>
     requires ascending { IsStrictlyIncreasing weights.old.items }
     requires weights { HoldsLevel (list_of level) (tables_in tables).tables weights.old.items }
-    ensures { IfOk result (IsOutcome (tables_in tables.entry) (AreFree level (tables_in tables.entry) weights.old.items)) }
+    ensures { IfOk result (IsOutcome (tables_in tables.entry)
+        (AreFree level (tables_in tables.entry) weights.old.items)) }
 {
     match first_overlap(weights, level.reordering(tables))? {
         Some(overlap) => Ok(Some(named_overlap(alloc, tables, level, overlap)?)),
@@ -67,12 +68,13 @@ pub(crate) fn overlap_violation(
 pub(crate) fn level_violation(
     alloc: Global,
     tables: TableSet<'_>,
-    level: Level,
+    level: ComparedLevel,
     weights: &mut Vec<u32>,
 ) -> Result<Option<Violation>, AllocError>
     requires ascending { IsStrictlyIncreasing weights.old.items }
     requires weights { HoldsLevel (list_of level) (tables_in tables).tables weights.old.items }
-    ensures { IfOk result (IsOutcome (tables_in tables.entry) (LevelIsFree level (tables_in tables.entry))) }
+    ensures { IfOk result (IsOutcome (tables_in tables.entry)
+        (LevelIsFree level (tables_in tables.entry))) }
 {
     overlap_violation(alloc, tables, level, weights)
 }

@@ -4,11 +4,11 @@ ghost use Rattle.std.specs.List.Sorted.{IsStrictlyIncreasing};
 ghost use Rattle.icu_provider.specs.TableSets.{tables_in};
 ghost use Rattle.icu_checks.specs.inner.Violations.{IsTrueViolation};
 ghost use Rattle.icu_checks.specs.declared.check.weights.WeightList.{WeightList};
-ghost use Rattle.icu_checks.specs.inner.PairViolations.{HoldsLevel, AreAlike, PrimariesAreFree, IsOutcome};
+ghost use Rattle.icu_checks.specs.inner.PairViolations.{HoldsLevel, ListCompressesAlike, PrimariesAreFree, IsOutcome};
 
 use crate::check::implicit_overlaps::implicit_violation;
 use crate::check::overlap_violations::overlap_violation;
-use crate::check::weights::Level;
+use crate::check::weights::ComparedLevel;
 use crate::condition::{Condition, PairCondition};
 use crate::violation::Violation;
 use icu_data::violation::earlier;
@@ -20,7 +20,7 @@ use std::alloc::{AllocError, Global};
 /// The violation of weights that share a lead byte after reordering and don't compress alike.
 fn compression_violation(tables: TableSet<'_>, weights: &[u32]) -> Option<Violation>
     requires { HoldsLevel WeightList.Primaries (tables_in tables).tables weights.now }
-    ensures none { result ≡ None → AreAlike (tables_in tables.entry) weights.now }
+    ensures none { result ≡ None → ListCompressesAlike (tables_in tables.entry) weights.now }
     ensures some { IfSome result (IsTrueViolation (tables_in tables.entry)) }
 {
     match tables.reordering {
@@ -46,10 +46,11 @@ pub(crate) fn primary_violation(
 ) -> Result<Option<Violation>, AllocError>
     requires ascending { IsStrictlyIncreasing weights.old.items }
     requires weights { HoldsLevel WeightList.Primaries (tables_in tables).tables weights.old.items }
-    ensures { IfOk result (IsOutcome (tables_in tables.entry) (PrimariesAreFree (tables_in tables.entry))) }
+    ensures { IfOk result (IsOutcome (tables_in tables.entry)
+        (PrimariesAreFree (tables_in tables.entry))) }
 {
     let unlike = compression_violation(tables, weights);
     let implicit = implicit_violation(alloc, tables, weights)?;
-    let overlap = overlap_violation(alloc, tables, Level::Primary, weights)?;
+    let overlap = overlap_violation(alloc, tables, ComparedLevel::Primary, weights)?;
     Ok(earlier(earlier(overlap, implicit), unlike))
 }

@@ -25,7 +25,8 @@ pub(crate) struct LowPair {
 
 /// The least of the weights alone and the greatest of those beside another, if the first isn't above the second.
 fn first_low(alone: &[u32], beside: &[u32]) -> Option<LowPair>
-    ensures none { result ≡ None → (x y : ℕ) → Contains alone.now x → Contains beside.now y → y < x }
+    ensures none { result ≡ None → (x y : ℕ) → Contains alone.now x → Contains beside.now y
+        → y < x }
     ensures some { IfSome result (AreTooLow alone.now beside.now) }
 {
     let (Some(alone), Some(beside)) = (least(alone), greatest(beside)) else {
@@ -81,7 +82,8 @@ pub(crate) fn tertiary_violation(
 ) -> Result<Option<Violation>, AllocError>
     requires alone { HoldsLevel WeightList.TertiaryElements (tables_in tables).tables alone.now }
     requires beside { HoldsLevel WeightList.WithSecondary (tables_in tables).tables beside.now }
-    ensures { IfOk result (IsOutcome (tables_in tables.entry) (TertiaryElementsAreHigh (tables_in tables.entry).tables)) }
+    ensures { IfOk result (IsOutcome (tables_in tables.entry)
+        (TertiaryElementsAreHigh (tables_in tables.entry).tables)) }
 {
     match first_low(alone, beside) {
         Some(pair) => Ok(Some(named_pair(alloc, tables, pair)?)),

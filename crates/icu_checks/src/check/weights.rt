@@ -13,7 +13,7 @@ use icu_provider::{CollationReordering, TableSet};
 
 /// A level of weights, none of which may begin another.
 #[derive(Clone, Copy)]
-pub enum Level {
+pub enum ComparedLevel {
     /// Primary weights.
     Primary,
     /// Secondary weights.
@@ -37,15 +37,15 @@ pub enum WeightList {
     WithSecondary,
 }
 
-impl Level {
+impl ComparedLevel {
     /// Its weights.
     pub(crate) fn list(self) -> WeightList
         ensures { result ≡ list_of self }
     {
         match self {
-            Level::Primary => WeightList::Primaries,
-            Level::Secondary => WeightList::Secondaries,
-            Level::Tertiary => WeightList::Tertiaries,
+            ComparedLevel::Primary => WeightList::Primaries,
+            ComparedLevel::Secondary => WeightList::Secondaries,
+            ComparedLevel::Tertiary => WeightList::Tertiaries,
         }
     }
 
@@ -54,9 +54,9 @@ impl Level {
         ensures { result ≡ overlap_condition self }
     {
         match self {
-            Level::Primary => PairCondition::Primaries,
-            Level::Secondary => PairCondition::Secondaries,
-            Level::Tertiary => PairCondition::Tertiaries,
+            ComparedLevel::Primary => PairCondition::Primaries,
+            ComparedLevel::Secondary => PairCondition::Secondaries,
+            ComparedLevel::Tertiary => PairCondition::Tertiaries,
         }
     }
 
@@ -66,8 +66,8 @@ impl Level {
         ensures { option_map reordering_of result ≡ reordering_at self (tables_in tables.entry) }
     {
         match self {
-            Level::Primary => tables.reordering,
-            Level::Secondary | Level::Tertiary => None,
+            ComparedLevel::Primary => tables.reordering,
+            ComparedLevel::Secondary | ComparedLevel::Tertiary => None,
         }
     }
 }
@@ -102,11 +102,11 @@ fn uncommon(tertiary: u16) -> Option<u32>
 }
 
 impl Weigh for WeightList {
-    ghost use Rattle.icu_checks.specs.inner.ComparedWeights.{weight_at};
+    ghost use Rattle.icu_checks.specs.inner.ComparedWeights.{compared_weight};
 
-    ghost weight = { λ list x. weight_at list x };
+    ghost weight = { λ list x. compared_weight list x };
 
-    #[tactic(auto, unfolding(crate::specs::inner::ComparedWeights::weight_at))]
+    #[tactic(auto, unfolding(crate::specs::inner::ComparedWeights::compared_weight))]
     fn weight(&self, element: CollationElement) -> Option<u32> {
         let tertiary = element.non_primary().tertiary();
         match self {
@@ -130,7 +130,7 @@ impl Weigh for WeightList {
         }
     }
 
-    #[tactic(auto, unfolding(crate::specs::inner::ComparedWeights::weight_at))]
+    #[tactic(auto, unfolding(crate::specs::inner::ComparedWeights::compared_weight))]
     fn weighs_primaries(&self) -> bool {
         match self {
             WeightList::Primaries => true,

@@ -6,8 +6,8 @@ use Rattle.icu_levels.specs.ListOrder.{list_order}
 use Rattle.icu_levels.specs.Keys.{LevelLists, secondaries_order, cases_order, tertiaries_order, quaternaries_order}
 use Rattle.icu_levels.specs.declared.forms.KeyForm.{KeyForm}
 use Rattle.icu_provider.specs.CollatorTables.{reorder}
-use Rattle.icu_order.specs.Collations.{Collation}
-use Rattle.icu_order.specs.Forms.{form_by}
+use Rattle.icu_weighting.specs.Collations.{Collation}
+use Rattle.icu_weighting.specs.Forms.{form_by}
 use Rattle.icu_order.specs.TextOrder.{lists_by}
 
 -- the levels in turn between the primary and the identical one
@@ -23,7 +23,7 @@ unfoldable pub before_characters : (ℕ → ℕ) → KeyForm → LevelLists → 
 before_characters reorder form t u =
     ordering_then (list_order (map reorder t.primaries) (map reorder u.primaries)) (after_primaries form t u)
 
--- the same of two decomposed texts, by a collation
+-- the order of two decomposed texts on all levels but the identical one, by a collation
 unfoldable pub elements_order : Collation → List ℕ → List ℕ → Ordering
 elements_order c t u =
     before_characters (reorder c.tables) (form_by c) (lists_by c t) (lists_by c u)

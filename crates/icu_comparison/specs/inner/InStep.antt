@@ -7,9 +7,9 @@ use Rattle.icu_levels.specs.ListOrder.{list_order}
 use Rattle.icu_levels.specs.declared.forms.KeyForm.{KeyForm}
 use Rattle.icu_levels.specs.declared.forms.SecondaryForm.TheVariants.{Forward}
 use Rattle.icu_levels.specs.declared.forms.TertiaryForm.{TertiaryForm}
-use Rattle.icu_order.specs.Handled.{HandledElement}
-use Rattle.icu_text_keys.specs.declared.handled.Handled.{Handled}
-use Rattle.icu_text_keys.specs.HandledSources.{handled_as}
+use Rattle.icu_weighting.specs.Handled.{HandledElement}
+use Rattle.icu_weighting.specs.declared.handled_element.Handled.{Handled}
+use Rattle.icu_weighting.specs.HandledSources.{handled_as}
 use Rattle.icu_comparison.specs.declared.forward_levels.Level.{Level}
 use Rattle.icu_comparison.specs.declared.forward_levels.Level.TheVariants.{Secondary, Tertiary}
 use Rattle.icu_comparison.specs.inner.LevelWeights.{weight_in, level_weights}
@@ -23,7 +23,7 @@ from_first (Some h) hs = handled_as h ∷ hs
 unfoldable pub order_on : Level → List HandledElement → List HandledElement → Ordering
 order_on level hs ks = list_order (level_weights level hs) (level_weights level ks)
 
--- the same of two lists from these elements on
+-- the order on a level of two lists from these elements on
 abbrev pub order_from : Level → Option Handled → Option Handled → List HandledElement → List HandledElement → Ordering
 order_from level one other hs ks = order_on level (from_first one hs) (from_first other ks)
 
@@ -51,7 +51,7 @@ pub record StepsBy (levels : ThreeLevels) (one other : Handled) (third : Orderin
   pub on_third : (hs ks : List HandledElement) → order_on levels.third (handled_as one ∷ hs) (handled_as other ∷ ks)
       ≡ ordering_then third (order_on levels.third hs ks)
 
--- the same of elements that two sources gave, which gave one each
+-- two sources gave one element each, and those step so
 abbrev pub StepBoth : ThreeLevels → Option Handled → Option Handled → Ordering → Type 0
 StepBoth levels None other third = ⊥
 StepBoth levels (Some one) None third = ⊥

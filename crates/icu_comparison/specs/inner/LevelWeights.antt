@@ -4,8 +4,8 @@ use Rattle.icu_entries.specs.Elements.{Element}
 use Rattle.icu_entries.specs.ElementConditions.{tertiary_of}
 use Rattle.icu_provider.specs.CollatorTables.{reorder_by}
 use Rattle.icu_provider.specs.StoredTables.{reordering_of}
-use Rattle.icu_order.specs.Handled.{HandledElement, stayed, shifted_primary}
-use Rattle.icu_order.specs.Levels.{primary_of, secondary_of, case_reads, case_rank, masked_tertiary, tertiary_in, quaternary_weight}
+use Rattle.icu_weighting.specs.Handled.{HandledElement, stayed, shifted_primary}
+use Rattle.icu_weighting.specs.Levels.{primary_of, secondary_of, case_reads, case_rank, masked_tertiary, tertiary_in, quaternary_weight}
 use Rattle.icu_comparison.specs.declared.forward_levels.Level.{Level}
 use Rattle.icu_comparison.specs.declared.forward_levels.Level.TheVariants.{Primary, Secondary, Case, Tertiary, Quaternary}
 
@@ -14,20 +14,21 @@ abbrev pub read_as : ℕ → ℕ → Option ℕ
 read_as read weight = if read == 0 then None else Some weight
 
 -- what a level has for an element that stayed
-abbrev pub weight_of : Level → Element → Option ℕ
-weight_of (Primary reordering) x = read_as (primary_of x) (reorder_by (option_map reordering_of reordering) x.primary)
-weight_of Secondary x = read_as (secondary_of x) (secondary_of x)
-weight_of (Case before form) x = read_as (case_reads before x) (case_rank form x)
-weight_of (Tertiary form) x = read_as (masked_tertiary form x) (tertiary_in form x)
-weight_of (Quaternary reordering) x = read_as (tertiary_of x) (quaternary_weight x)
+abbrev pub weight_of_stayed : Level → Element → Option ℕ
+weight_of_stayed (Primary reordering) x = read_as (primary_of x) (reorder_by (option_map reordering_of reordering) x.primary)
+weight_of_stayed Secondary x = read_as (secondary_of x) (secondary_of x)
+weight_of_stayed (Case before form) x = read_as (case_reads before x) (case_rank form x)
+weight_of_stayed (Tertiary form) x = read_as (masked_tertiary form x) (tertiary_in form x)
+weight_of_stayed (Quaternary reordering) x = read_as (tertiary_of x) (quaternary_weight x)
 
 -- what it has for one that is shifted
 abbrev pub weight_of_shifted : Level → ℕ → Option ℕ
 weight_of_shifted (Quaternary reordering) p = Some (reorder_by (option_map reordering_of reordering) p)
 weight_of_shifted _ p = None
 
+-- what a level has for an element as it was handled
 abbrev pub weight_in : Level → HandledElement → Option ℕ
-weight_in level (stayed x) = weight_of level x
+weight_in level (stayed x) = weight_of_stayed level x
 weight_in level (shifted_primary p) = weight_of_shifted level p
 
 -- the weights of a text

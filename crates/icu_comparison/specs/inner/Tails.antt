@@ -9,10 +9,10 @@ use Rattle.icu_levels.specs.ListOrder.{list_order}
 use Rattle.icu_elements.specs.TextElements.{elements_of}
 use Rattle.icu_cursor.specs.declared.letter_cursor.LetterCursor.{LetterCursor}
 use Rattle.icu_cursor.specs.LetterCursors.{letters_give}
-use Rattle.icu_order.specs.Collations.{Collation}
-use Rattle.icu_order.specs.Forms.{last_variable_by}
-use Rattle.icu_order.specs.Handled.{handled, stayed_elements}
-use Rattle.icu_order.specs.Levels.{primaries}
+use Rattle.icu_weighting.specs.Collations.{Collation}
+use Rattle.icu_weighting.specs.Forms.{last_variable_by}
+use Rattle.icu_weighting.specs.Handled.{handled, stayed_elements}
+use Rattle.icu_weighting.specs.Levels.{primaries}
 use Rattle.icu_order.specs.TextOrder.{reading_by}
 
 -- a list begins with this number, which isn't 0, or is empty where it is

@@ -3,7 +3,7 @@ use Rattle.std.specs.Prelude.{◌≡◌, ℕ, true, nat_lt, List, ◌∷◌, ◌
 use Rattle.std.specs.List.{list_all}
 use Rattle.unicode_normalization.specs.Forms.{nfd}
 use Rattle.icu_entries.specs.Elements.{Element, of_primary}
-use Rattle.icu_elements.specs.TextElements.{Reading, continues_number, digit_of, elements_after}
+use Rattle.icu_elements.specs.TextElements.{Reading, continues_number, digit_of_char, elements_after}
 use Rattle.icu_shortcuts.specs.Letters.{IsNumberDigit}
 use Rattle.icu_cursor.specs.declared.digit_run.NumberElements.{NumberElements}
 use Rattle.icu_cursor.specs.inner.Places.{BeginsSafely}
@@ -13,18 +13,18 @@ unfoldable pub number_left : NumberElements → List Element
 number_left n = map of_primary (drop n.next n.weights.items)
 
 -- a digit of this value was taken off a text
-pub record IsDigitTaken (reading : Reading) (text rest : List ℕ) (digit : ℕ) : Type 0 where
+pub record BeginsWithDigit (reading : Reading) (text rest : List ℕ) (digit : ℕ) : Type 0 where
   pub char : ℕ
   pub parts : text ≡ char ∷ rest
   pub is : IsNumberDigit reading char digit
 
 -- a text begins with digits below U+00C0, whose values were appended
-pub record IsRun (reading : Reading) (text rest old new : List ℕ) : Type 0 where
+pub record IsDigitRun (reading : Reading) (text rest old new : List ℕ) : Type 0 where
   pub chars : List ℕ
   pub parts : text ≡ chars ++ rest
   pub low : list_all (λ c. nat_lt c 0xC0) chars ≡ true
   pub continues : list_all (continues_number reading.tables) chars ≡ true
-  pub values : new ≡ old ++ map (digit_of reading.tables) chars
+  pub values : new ≡ old ++ map (digit_of_char reading.tables) chars
 
 -- a text begins with a piece that has these elements, and what follows it begins safely
 pub record IsNumberPiece (reading : Reading) (text rest : List ℕ) (es : List Element) : Type 0 where

@@ -18,7 +18,7 @@ abbrev pub begun_gives : Piece → List Element
 begun_gives (Text r) = elements_to_come r.value
 begun_gives (Number n) = number_left n
 
--- the same, if there is one
+-- what a piece still gives, if there is one
 abbrev pub piece_gives : Option Piece → List Element
 piece_gives None = []
 piece_gives (Some p) = begun_gives p

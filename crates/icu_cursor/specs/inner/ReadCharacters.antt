@@ -11,5 +11,5 @@ letters_read older None = []
 letters_read older (Some last) = option_to_list older ++ last ∷ []
 
 -- the last two that they decompose to, nearest first
-unfoldable pub context_of : RecentLetters → List ℕ
-context_of r = last_two [] (flat_map (decompose Nfd) (letters_read r.older r.last))
+unfoldable pub context_read : RecentLetters → List ℕ
+context_read r = last_two [] (flat_map (decompose Nfd) (letters_read r.older r.last))

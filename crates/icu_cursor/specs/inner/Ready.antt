@@ -5,6 +5,7 @@ use Rattle.icu_cursor.specs.declared.letter_elements.LetterElements.{LetterEleme
 use Rattle.icu_cursor.specs.declared.piece.Piece.{Piece}
 use Rattle.icu_cursor.specs.inner.Pieces.{piece_gives}
 
+-- the elements of a letter that were not given yet
 unfoldable pub elements_ready : LetterElements → List Element
 elements_ready l = drop l.next (take l.count l.elements)
 

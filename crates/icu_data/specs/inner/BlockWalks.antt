@@ -1,5 +1,5 @@
 -- How a walk goes on from block to block.
-use Rattle.std.specs.Prelude.{ℕ, ◌≡◌, ◌+◌, ◌*◌, ◌<◌, ◌≤◌, Bool, true, false, List, slice_index_or, ⊤}
+use Rattle.std.specs.Prelude.{ℕ, ◌≡◌, ◌*◌, ◌<◌, ◌≤◌, ◌⊎◌, Bool, true, false, List, slice_index_or, ⊤}
 use Rattle.std.specs.Char.{IsScalar}
 use Rattle.std.specs.List.{AllByRecursion, Contains}
 use Rattle.icu_entries.specs.declared.entry.EntryKind.TheVariants.{Offset, Implicit as ImplicitKind}
@@ -13,7 +13,7 @@ use Rattle.icu_data.specs.declared.data.CollationData.{CollationData}
 use Rattle.icu_data.specs.Data.{Data}
 use Rattle.icu_data.specs.Live.{leads_to_character}
 use Rattle.icu_data.specs.StoredData.{data_of, block_in}
-use Rattle.icu_data.specs.Walks.{after_chars, StandsFor}
+use Rattle.icu_data.specs.Walks.{after_chars, StandsFor, EachOfBlock}
 use Rattle.icu_data.specs.inner.VisitedEntries.{IsRemembered}
 
 -- a character with this entry is visited
@@ -34,6 +34,11 @@ pub record WalkedTo {V : Type 0} (after : V → Data → ℕ → ℕ → V) (fal
 abbrev pub AreShared : Data → VisitedEntries → Type 0
 AreShared home seen = (e : ℕ) → IsRemembered seen e → leads_to_character home e ≡ false
 
+-- at most this entry is remembered beside those that were, if it leads to none that goes by its character
+abbrev pub AddsShared : Data → VisitedEntries → VisitedEntries → ℕ → Type 0
+AddsShared home old new entry =
+    (e : ℕ) → IsRemembered new e → IsRemembered old e ⊎ ((e ≡ entry) × (leads_to_character home e ≡ false))
+
 -- one of these characters has the entry
 pub record IsVisited (home : Data) (cs : List ℕ) (e : ℕ) : Type 0 where
   pub char : ℕ
@@ -42,18 +47,23 @@ pub record IsVisited (home : Data) (cs : List ℕ) (e : ℕ) : Type 0 where
 
 -- a visitor went up to a code point, but for implicit weights, and the entries that are remembered were visited on the
 -- way
-pub record Holds {V : Type 0} (after : V → Data → ℕ → ℕ → V) (falls_back : Bool) (home : Data) (seen : VisitedEntries) (old new : V) (end : ℕ) : Type 0 where
+pub record HasWalked {V : Type 0} (after : V → Data → ℕ → ℕ → V) (falls_back : Bool) (home : Data) (seen : VisitedEntries) (old new : V) (end : ℕ) : Type 0 where
   pub walked : WalkedTo after falls_back Stated home old new 0 end
   pub visited : (e : ℕ) → IsRemembered seen e → IsVisited home walked.chars e
 
+-- a visitor that went up to a code point has gone on to another one, and what is remembered with it
+abbrev pub WalksOn : {V : Type 0} → (V → Data → ℕ → ℕ → V) → Bool → Data → VisitedEntries → VisitedEntries → V → V → ℕ → ℕ → Type 0
+WalksOn {V} after falls_back home seen more old new from end =
+    (start : V) → HasWalked after falls_back home seen start old from → HasWalked after falls_back home more start new end
+
 -- of the 64 code points from this one on, no character leads to an entry that goes by it, but for implicit weights
 abbrev pub IsShared : Data → ℕ → Type 0
-IsShared home first = (c : ℕ) → first ≤ c → c < first + 64 → IsScalar c → is_wanted ByCharacter home (home.value c) ≡ false
+IsShared home first = EachOfBlock first (λ c. IsScalar c → is_wanted ByCharacter home (home.value c) ≡ false)
 
 -- the 64 code points from this one on, as far as they are characters, have this offset entry
 pub record IsRun (home : Data) (first entry : ℕ) : Type 0 where
   pub offset : kind_of entry ≡ Offset
-  pub same : (c : ℕ) → first ≤ c → c < first + 64 → IsScalar c → home.value c ≡ entry
+  pub same : EachOfBlock first (λ c. IsScalar c → home.value c ≡ entry)
 
 -- what the state of a block says of its values, by the code points that read it
 abbrev pub IsState : Data → ℕ → BlockState → Type 0
@@ -69,11 +79,13 @@ pub record IsRead (d : CollationData) (n b : ℕ) (state : BlockState) : Type 0 
   pub reads : block_in d index ≡ b
   pub is : IsState (data_of d) (64 * index) state
 
--- the same, if it was read
+-- the state of a block is true of its values: where it says that they were visited, 64 code points before the n-th read
+-- the block
 abbrev pub HasState : CollationData → ℕ → ℕ → BlockState → Type 0
 HasState d n b Unread = ⊤
 HasState d n b Visited = IsRead d n b Visited
 HasState d n b Shared = IsRead d n b Shared
 
+-- the states of all blocks are true of their values
 abbrev pub AreStates : CollationData → ℕ → List BlockState → Type 0
 AreStates d n states = (b : ℕ) → b < 0x10000 → HasState d n b (slice_index_or states b Unread)

@@ -4,27 +4,25 @@ use Rattle.icu_entries.specs.Elements.{Element}
 use Rattle.icu_matches.specs.Texts.{unread}
 use Rattle.icu_elements.specs.declared.reader.recent.RecentChars.{RecentChars}
 use Rattle.icu_elements.specs.declared.reader.position.Position.{Position}
-use Rattle.icu_elements.specs.declared.reader.TextReading.{TextReading}
+use Rattle.icu_elements.specs.declared.text_reading.TextReading.{TextReading}
 use Rattle.icu_elements.specs.Reading.{reading_of}
-use Rattle.icu_elements.specs.TextElements.{Reading, Step, last_two, consumed, elements_after}
+use Rattle.icu_elements.specs.TextElements.{Step, last_two, consumed, elements_after}
 
 -- the last characters that were consumed, nearest first
 unfoldable pub recent_chars : RecentChars → List ℕ
 recent_chars r = take r.len r.chars
 
--- how a text is read
-abbrev pub reading_by_tables : TextReading → Reading
-reading_by_tables r = reading_of r.tables r.numeric_primary r.lithuanian_dot_above
-
+-- the characters that were consumed last, nearest first
 abbrev pub consumed_last : Position → List ℕ
 consumed_last p = recent_chars p.recent
 
+-- the text that is left
 abbrev pub unread_at : Position → List ℕ
 unread_at p = unread p.text
 
 -- the elements of the text that is left
 abbrev pub elements_left : TextReading → Position → List Element
-elements_left reading p = elements_after (reading_by_tables reading) (consumed_last p) (unread_at p)
+elements_left reading p = elements_after (reading_of reading) (consumed_last p) (unread_at p)
 
 -- A step at a character was taken: its elements came after those that there were, what it consumes was consumed, and
 -- what it leaves is left.

@@ -19,8 +19,8 @@ pub record ReadsTo {I : Type 0} (steps : I → Option ℕ → I → Type 0) (Is 
   pub at : (cs : List ℕ) → StillReads steps old cs → (left : List ℕ) × (cs ≡ more ++ left) × StillReads steps new left × (Is longer ⊎ (left ≡ []))
 
 -- some more came
-abbrev pub ReadsOn : {I : Type 0} → (I → Option ℕ → I → Type 0) → Decompositions I → List ℕ → Decompositions I → List ℕ → Type 0
-ReadsOn steps = ReadsTo steps (λ _. ⊤)
+abbrev pub ReadsMore : {I : Type 0} → (I → Option ℕ → I → Type 0) → Decompositions I → List ℕ → Decompositions I → List ℕ → Type 0
+ReadsMore steps = ReadsTo steps (λ _. ⊤)
 
 -- one came, or all did
 abbrev pub ReadsOne : {I : Type 0} → (I → Option ℕ → I → Type 0) → Option ℕ → Decompositions I → List ℕ → Decompositions I → List ℕ → Type 0

@@ -4,15 +4,16 @@ use Rattle.std.specs.Iterator.{Count}
 use Rattle.unicode_normalization.specs.Decompositions.{decompositions_size}
 use Rattle.unicode_normalization.specs.declared.decompose.Decompositions.{Decompositions}
 use Rattle.icu_entries.specs.Elements.{Element}
-use Rattle.icu_elements.specs.declared.reader.TextReading.{TextReading}
+use Rattle.icu_elements.specs.declared.text_reading.TextReading.{TextReading}
 use Rattle.icu_elements.specs.declared.reader.position.Position.{Position}
 use Rattle.icu_elements.specs.TextElements.{elements_after}
 use Rattle.icu_elements.specs.inner.Iterating.{StillReads}
-use Rattle.icu_elements.specs.inner.Positions.{reading_by_tables, consumed_last, unread_at}
+use Rattle.icu_elements.specs.inner.Positions.{consumed_last, unread_at}
+use Rattle.icu_elements.specs.Reading.{reading_of}
 
 -- the elements of the text that is left, and of what comes after it
 abbrev pub elements_before : TextReading → Position → List ℕ → List Element
-elements_before reading p left = elements_after (reading_by_tables reading) (consumed_last p) (unread_at p ++ left)
+elements_before reading p left = elements_after (reading_of reading) (consumed_last p) (unread_at p ++ left)
 
 -- these elements come, and then those of the text that is left and of what its source has
 pub record HasElements {I : Type 0} (steps : I → Option ℕ → I → Type 0) (reading : TextReading) (from : Decompositions I) (p : Position) (ready all : List Element) : Type 0 where

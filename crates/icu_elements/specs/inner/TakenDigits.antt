@@ -6,9 +6,10 @@ use Rattle.icu_matches.specs.Matches.{Match}
 use Rattle.icu_matches.specs.declared.matched.Matched.{Matched}
 use Rattle.icu_elements.specs.declared.reader.position.Position.{Position}
 use Rattle.icu_data.specs.Data.{Data, plain_of}
-use Rattle.icu_elements.specs.TextElements.{Reading, Step, continues_number, begins_with_mark, digit_of, last_two, number_step, final_step}
+use Rattle.icu_elements.specs.TextElements.{Reading, Step, continues_number, begins_with_mark, digit_of_char, last_two, number_step, final_step}
 use Rattle.icu_elements.specs.inner.Positions.{consumed_last, unread_at}
 
+-- the run of digits that a text begins with
 abbrev pub run_of : Tables → List ℕ → List ℕ
 run_of tables text = take_while (continues_number tables) text
 
@@ -27,13 +28,13 @@ pub record IsDigitTaken (tables : Tables) (d : ℕ) (old new : Position) : Type 
   pub char : ℕ
   pub taken : unread_at old ≡ char ∷ unread_at new
   pub continues : continues_number tables char ≡ true
-  pub digit : d ≡ digit_of tables char
+  pub digit : d ≡ digit_of_char tables char
   pub decimal : d < 10
   pub before : consumed_last new ≡ last_two (consumed_last old) (char ∷ [])
 
 -- a run of digits was taken, and the digits were appended
 pub record IsRunTaken (tables : Tables) (old : Position) (es : List ℕ) (new : Position) (ds : List ℕ) : Type 0 where
-  pub digits : ds ≡ es ++ map (digit_of tables) (run_of tables (unread_at old))
+  pub digits : ds ≡ es ++ map (digit_of_char tables) (run_of tables (unread_at old))
   pub rest : unread_at new ≡ drop (length (run_of tables (unread_at old))) (unread_at old)
   pub before : consumed_last new ≡ last_two (consumed_last old) (run_of tables (unread_at old))
 
@@ -47,7 +48,7 @@ number_run tables m = if stands_alone m then [] else run_of tables m.rest
 
 -- the characters of a number were taken, at a digit with this match
 pub record IsNumberTaken (tables : Tables) (c : ℕ) (m : Match) (old new : Position) (ds : List ℕ) : Type 0 where
-  pub digits : ds ≡ digit_value m.entry ∷ map (digit_of tables) (number_run tables m)
+  pub digits : ds ≡ digit_value m.entry ∷ map (digit_of_char tables) (number_run tables m)
   pub rest : unread_at new ≡ drop (length (number_run tables m)) m.rest
   pub before : consumed_last new ≡ last_two (consumed_last old) (c ∷ (m.suffix ++ number_run tables m))
 

@@ -7,9 +7,9 @@ ghost use Rattle.icu_data.specs.StoredData.{found_context};
 ghost use Rattle.icu_entries.specs.Entries.{kind_of};
 ghost use Rattle.icu_elements.specs.ReadAhead.{HasWholeStep};
 ghost use Rattle.icu_elements.specs.TextElements.{is_digit_kind};
-ghost use Rattle.icu_elements.specs.inner.Positions.{reading_by_tables, recent_chars};
+ghost use Rattle.icu_elements.specs.inner.Positions.{recent_chars};
 ghost use Rattle.icu_elements.specs.inner.ReadsAhead.{ReadsTo, ReadsOne, IsBegun, has_run_end, IsRunRead, IsMatchRead, HasWholeContraction, IsDotRead};
-ghost use Rattle.icu_elements.specs.Reading.{element_tables};
+ghost use Rattle.icu_elements.specs.Reading.{element_tables, reading_of};
 ghost use Rattle.icu_data.specs.Data.{longest_row};
 ghost use Rattle.icu_matches.specs.MatchesAhead.{are_decided, row_length};
 ghost use Rattle.icu_matches.specs.Texts.{unread};
@@ -17,8 +17,8 @@ ghost use Rattle.unicode_normalization.specs.Decompositions.{CanDecompose, decom
 ghost use Rattle.unicode_normalization.specs.Order.{is_starter};
 
 use crate::element_tables::ElementTables;
-use crate::reader::TextReading;
 use crate::reader::recent::RecentChars;
+use crate::text_reading::TextReading;
 use icu_data::FoundContext;
 use icu_entries::{CollationElement32, EntryKind};
 use icu_matches::{Text, after_prefix, find_longest, row_goes_on};
@@ -33,9 +33,13 @@ fn read_one<I: Iterator<Item = char> + Drop>(
 ) -> Result<Option<char>, AllocError>
     requires { CanDecompose I.can_next I.remaining source.old }
     ensures ready { OnOk result (CanDecompose I.can_next I.remaining source.new) }
-    ensures text { IfOk result (λ found. ReadsOne I.next_gives found source.old (unread text.old) source.new (unread text.new)) }
-    ensures size { OnOk result (decompositions_size I.remaining source.new + length (unread text.new) ≤ decompositions_size I.remaining source.old + length (unread text.old)) }
-    ensures shorter { IfOk result (λ found. is_some found ≡ true → decompositions_size I.remaining source.new < decompositions_size I.remaining source.old) }
+    ensures text { IfOk result (λ found. ReadsOne I.next_gives found
+        source.old (unread text.old) source.new (unread text.new)) }
+    ensures size { OnOk result
+        (decompositions_size I.remaining source.new + length (unread text.new)
+        ≤ decompositions_size I.remaining source.old + length (unread text.old)) }
+    ensures shorter { IfOk result (λ found. is_some found ≡ true
+        → decompositions_size I.remaining source.new < decompositions_size I.remaining source.old) }
 {
     match source.next() {
         None => Ok(None),
@@ -54,8 +58,11 @@ pub(crate) fn read_first<I: Iterator<Item = char> + Drop>(
 ) -> Result<(), AllocError>
     requires { CanDecompose I.can_next I.remaining source.old }
     ensures ready { OnOk result (CanDecompose I.can_next I.remaining source.new) }
-    ensures text { OnOk result (ReadsTo I.next_gives (IsBegun) source.old (unread text.old) source.new (unread text.new)) }
-    ensures size { OnOk result (decompositions_size I.remaining source.new + length (unread text.new) ≤ decompositions_size I.remaining source.old + length (unread text.old)) }
+    ensures text { OnOk result (ReadsTo I.next_gives IsBegun
+        source.old (unread text.old) source.new (unread text.new)) }
+    ensures size { OnOk result
+        (decompositions_size I.remaining source.new + length (unread text.new)
+        ≤ decompositions_size I.remaining source.old + length (unread text.old)) }
 {
     if !text.is_empty() {
         return Ok(());
@@ -79,8 +86,12 @@ fn read_run<I: Iterator<Item = char> + Drop>(
 ) -> Result<(), AllocError>
     requires { CanDecompose I.can_next I.remaining source.old }
     ensures ready { OnOk result (CanDecompose I.can_next I.remaining source.new) }
-    ensures text { OnOk result (ReadsTo I.next_gives (λ l. has_run_end (element_tables tables.entry) l ≡ true) source.old (unread text.old) source.new (unread text.new)) }
-    ensures size { OnOk result (decompositions_size I.remaining source.new + length (unread text.new) ≤ decompositions_size I.remaining source.old + length (unread text.old)) }
+    ensures text { OnOk result (ReadsTo I.next_gives
+        (λ l. has_run_end (element_tables tables.entry) l ≡ true)
+        source.old (unread text.old) source.new (unread text.new)) }
+    ensures size { OnOk result
+        (decompositions_size I.remaining source.new + length (unread text.new)
+        ≤ decompositions_size I.remaining source.old + length (unread text.old)) }
 {
     if has_run_end(tables, text.as_slice()) {
         return Ok(());
@@ -109,8 +120,11 @@ fn read_starter<I: Iterator<Item = char> + Drop>(
     requires can { CanDecompose I.can_next I.remaining source.old }
     requires inside { from ≤ length (unread text.old) }
     ensures ready { OnOk result (CanDecompose I.can_next I.remaining source.new) }
-    ensures text { OnOk result (ReadsTo I.next_gives (λ l. list_any is_starter (drop from l) ≡ true) source.old (unread text.old) source.new (unread text.new)) }
-    ensures size { OnOk result (decompositions_size I.remaining source.new + length (unread text.new) ≤ decompositions_size I.remaining source.old + length (unread text.old)) }
+    ensures text { OnOk result (ReadsTo I.next_gives (λ l. list_any is_starter (drop from l) ≡ true)
+        source.old (unread text.old) source.new (unread text.new)) }
+    ensures size { OnOk result
+        (decompositions_size I.remaining source.new + length (unread text.new)
+        ≤ decompositions_size I.remaining source.old + length (unread text.old)) }
 {
     if has_starter(&text.as_slice()[from..]) {
         return Ok(());
@@ -132,8 +146,12 @@ fn read_rows<I: Iterator<Item = char> + Drop>(
     requires can { CanDecompose I.can_next I.remaining source.old }
     requires ascending { IsTrue (has_ascending_rows (found_context context)) }
     ensures ready { OnOk result (CanDecompose I.can_next I.remaining source.new) }
-    ensures text { OnOk result (ReadsTo I.next_gives (λ l. are_decided (found_context context.entry).rows l ≡ true) source.old (unread text.old) source.new (unread text.new)) }
-    ensures size { OnOk result (decompositions_size I.remaining source.new + length (unread text.new) ≤ decompositions_size I.remaining source.old + length (unread text.old)) }
+    ensures text { OnOk result (ReadsTo I.next_gives
+        (λ l. are_decided (found_context context.entry).rows l ≡ true)
+        source.old (unread text.old) source.new (unread text.new)) }
+    ensures size { OnOk result
+        (decompositions_size I.remaining source.new + length (unread text.new)
+        ≤ decompositions_size I.remaining source.old + length (unread text.old)) }
 {
     'rows: while row_goes_on(context, text.as_slice()) {
         if read_one(source, text)?.is_none() {
@@ -146,7 +164,8 @@ fn read_rows<I: Iterator<Item = char> + Drop>(
 /// How many characters the longest row takes that begins a text.
 fn longest_len(context: FoundContext<'_>, text: &Text) -> usize
     requires { IsTrue (has_ascending_rows (found_context context)) }
-    ensures longest { result ≡ row_length (longest_row (found_context context.entry).rows (unread text.now)) }
+    ensures longest { result ≡ row_length (longest_row (found_context context.entry).rows
+        (unread text.now)) }
     ensures inside { result ≤ length (unread text.now) }
 {
     match find_longest(context, text.as_slice()) {
@@ -165,8 +184,12 @@ fn read_match<I: Iterator<Item = char> + Drop>(
     requires can { CanDecompose I.can_next I.remaining source.old }
     requires ascending { IsTrue (has_ascending_rows (found_context context)) }
     ensures ready { OnOk result (CanDecompose I.can_next I.remaining source.new) }
-    ensures text { IfOk result (λ taken. ReadsTo I.next_gives (IsMatchRead (found_context context.entry) taken) source.old (unread text.old) source.new (unread text.new)) }
-    ensures size { OnOk result (decompositions_size I.remaining source.new + length (unread text.new) ≤ decompositions_size I.remaining source.old + length (unread text.old)) }
+    ensures text { IfOk result (λ taken.
+        ReadsTo I.next_gives (IsMatchRead (found_context context.entry) taken)
+        source.old (unread text.old) source.new (unread text.new)) }
+    ensures size { OnOk result
+        (decompositions_size I.remaining source.new + length (unread text.new)
+        ≤ decompositions_size I.remaining source.old + length (unread text.old)) }
 {
     read_rows(context, source, text)?;
     let taken = longest_len(context, text);
@@ -190,8 +213,11 @@ fn read_number<I: Iterator<Item = char> + Drop>(
 ) -> Result<(), AllocError>
     requires { CanDecompose I.can_next I.remaining source.old }
     ensures ready { OnOk result (CanDecompose I.can_next I.remaining source.new) }
-    ensures text { OnOk result (ReadsTo I.next_gives (IsRunRead (reading_by_tables reading.entry) ce32) source.old (unread text.old) source.new (unread text.new)) }
-    ensures size { OnOk result (decompositions_size I.remaining source.new + length (unread text.new) ≤ decompositions_size I.remaining source.old + length (unread text.old)) }
+    ensures text { OnOk result (ReadsTo I.next_gives (IsRunRead (reading_of reading.entry) ce32)
+        source.old (unread text.old) source.new (unread text.new)) }
+    ensures size { OnOk result
+        (decompositions_size I.remaining source.new + length (unread text.new)
+        ≤ decompositions_size I.remaining source.old + length (unread text.old)) }
 {
     if !begins_number(reading, ce32) {
         return Ok(());
@@ -209,8 +235,11 @@ fn read_contraction<I: Iterator<Item = char> + Drop>(
     requires can { CanDecompose I.can_next I.remaining source.old }
     requires ascending { IsTrue (has_ascending_rows (found_context context)) }
     ensures ready { OnOk result (CanDecompose I.can_next I.remaining source.new) }
-    ensures text { OnOk result (ReadsTo I.next_gives (HasWholeContraction (reading_by_tables reading.entry) (found_context context.entry)) source.old (unread text.old) source.new (unread text.new)) }
-    ensures size { OnOk result (decompositions_size I.remaining source.new + length (unread text.new) ≤ decompositions_size I.remaining source.old + length (unread text.old)) }
+    ensures text { OnOk result (ReadsTo I.next_gives (HasWholeContraction (reading_of reading.entry)
+        (found_context context.entry)) source.old (unread text.old) source.new (unread text.new)) }
+    ensures size { OnOk result
+        (decompositions_size I.remaining source.new + length (unread text.new)
+        ≤ decompositions_size I.remaining source.old + length (unread text.old)) }
 {
     let taken = read_match(context, source, text)?;
     if taken > 0 {
@@ -228,8 +257,11 @@ fn read_dot<I: Iterator<Item = char> + Drop>(
 ) -> Result<(), AllocError>
     requires { CanDecompose I.can_next I.remaining source.old }
     ensures ready { OnOk result (CanDecompose I.can_next I.remaining source.new) }
-    ensures text { OnOk result (ReadsTo I.next_gives (IsDotRead (reading_by_tables reading.entry) c) source.old (unread text.old) source.new (unread text.new)) }
-    ensures size { OnOk result (decompositions_size I.remaining source.new + length (unread text.new) ≤ decompositions_size I.remaining source.old + length (unread text.old)) }
+    ensures text { OnOk result (ReadsTo I.next_gives (IsDotRead (reading_of reading.entry) c)
+        source.old (unread text.old) source.new (unread text.new)) }
+    ensures size { OnOk result
+        (decompositions_size I.remaining source.new + length (unread text.new)
+        ≤ decompositions_size I.remaining source.old + length (unread text.old)) }
 {
     if reading.lithuanian_dot_above && c == '\u{307}' {
         return read_first(source, text);
@@ -247,8 +279,11 @@ pub(crate) fn read_ahead<I: Iterator<Item = char> + Drop>(
 ) -> Result<(), AllocError>
     requires { CanDecompose I.can_next I.remaining source.old }
     ensures ready { OnOk result (CanDecompose I.can_next I.remaining source.new) }
-    ensures text { OnOk result (ReadsTo I.next_gives (HasWholeStep (reading_by_tables reading.entry) (recent_chars recent) c) source.old (unread text.old) source.new (unread text.new)) }
-    ensures size { OnOk result (decompositions_size I.remaining source.new + length (unread text.new) ≤ decompositions_size I.remaining source.old + length (unread text.old)) }
+    ensures text { OnOk result (ReadsTo I.next_gives (HasWholeStep (reading_of reading.entry)
+        (recent_chars recent) c) source.old (unread text.old) source.new (unread text.new)) }
+    ensures size { OnOk result
+        (decompositions_size I.remaining source.new + length (unread text.new)
+        ≤ decompositions_size I.remaining source.old + length (unread text.old)) }
 {
     if reading.tables.diacritic(c).is_some() {
         return read_dot(reading, c, source, text);

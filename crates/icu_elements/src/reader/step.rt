@@ -2,13 +2,14 @@
 
 ghost use Rattle.std.specs.Prelude.{◌≡◌, ◌<◌, ◌++◌, [], length, IfOk, OnOk, MatchBool};
 ghost use Rattle.icu_elements.specs.TextElements.{is_silent_dot, diacritic_step, step};
-ghost use Rattle.icu_elements.specs.inner.Positions.{IsStep, reading_by_tables, consumed_last, unread_at, elements_left};
+ghost use Rattle.icu_elements.specs.inner.Positions.{IsStep, consumed_last, unread_at, elements_left};
+ghost use Rattle.icu_elements.specs.Reading.{reading_of};
 ghost use Rattle.icu_matches.specs.Texts.{unread};
 
 use crate::element_list::ElementList;
-use crate::reader::TextReading;
-use crate::reader::entries::read_entry;
+use crate::reader::entry_step::read_entry;
 use crate::reader::position::Position;
+use crate::text_reading::TextReading;
 use icu_entries::CollationElement;
 use icu_matches::{Text, find_match};
 use std::alloc::AllocError;
@@ -30,7 +31,8 @@ fn read_diacritic(
     secondary: u16,
     list: &mut ElementList,
 ) -> Result<(), AllocError>
-    ensures { OnOk result (IsStep (diacritic_step (reading_by_tables reading.entry) secondary c (unread_at at.old))
+    ensures { OnOk result (IsStep (diacritic_step (reading_of reading.entry) secondary c
+        (unread_at at.old))
         c (consumed_last at.old) list.old.elements.items list.new.elements.items at.new) }
 {
     at.recent.push(c);
@@ -50,7 +52,8 @@ pub(crate) fn read_char(
     c: char,
     list: &mut ElementList,
 ) -> Result<(), AllocError>
-    ensures { OnOk result (IsStep (step (reading_by_tables reading.entry) (consumed_last at.old) c (unread_at at.old))
+    ensures { OnOk result (IsStep (step (reading_of reading.entry) (consumed_last at.old) c
+        (unread_at at.old))
         c (consumed_last at.old) list.old.elements.items list.new.elements.items at.new) }
 {
     let tables = reading.tables;

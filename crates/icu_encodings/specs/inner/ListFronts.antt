@@ -1,11 +1,11 @@
 -- Two lists from their fronts.
 use Rattle.std.specs.Prelude.{◌≡◌, ℕ, List, [], ◌∷◌, ◌++◌}
 
--- both begin with one number, and these follow it
+-- two lists begin with one number, and these lists follow it
 abbrev pub BeginAlike : (xs ys xs_rest ys_rest : List ℕ) → Type 0
 BeginAlike xs ys xs_rest ys_rest = (x : ℕ) × (xs ≡ x ∷ xs_rest) × (ys ≡ x ∷ ys_rest)
 
--- the same lists are empty
+-- two lists that are equal are empty
 abbrev pub EndTogether : List ℕ → List ℕ → Type 0
 EndTogether xs ys = xs ≡ ys → xs ≡ []
 

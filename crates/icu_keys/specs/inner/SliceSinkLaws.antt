@@ -30,6 +30,7 @@ put_both xs b c s h =
     sums : length (b ++ c) ≡ length b + length c → s + length b + length c ≡ s + length (b ++ c)
     sums e = omega arith
 
+-- a slice takes nothing where nothing changes
 pub slice_nothing : (xs : List ℕ) (s : ℕ) → s < 2 ^ 64 → SliceTook xs s [] xs s
 slice_nothing xs s h l = record {
   moves = omega arith;
@@ -76,6 +77,7 @@ both_past xs ys zs b c s t u l past p long sum q = record {
     none (inl r) = let a = p.moves in let e : q.begins.front ≡ [] = nil_from_length q.begins.front (omega arith) in ap (put_over ys t) e ∙ put_nothing ys t
     none (inr e) = ap (put_over ys t) e ∙ put_nothing ys t
 
+-- what a slice takes one after another it takes
 pub slice_both : (xs ys zs b c : List ℕ) (s t u : ℕ) → s < 2 ^ 64 → SliceTook xs s b ys t → SliceTook ys t c zs u → SliceTook xs s (b ++ c) zs u
 slice_both xs ys zs b c s t u h p q l = by (cases_lt (length xs) (s + length b))
   where

@@ -3,18 +3,12 @@ use Rattle.std.specs.Prelude.{◌≡◌, ℕ, Bool, true, false, List, [], ◌�
 use Rattle.ucd_normal.specs.CanonicalCombiningClass.{canonical_combining_class as class_of}
 use Rattle.icu_data.specs.Data.{Row, row_entry}
 use Rattle.icu_matches.specs.Matches.{Match, with_marks}
-use Rattle.icu_matches.specs.Texts.{unread}
 use Rattle.icu_matches.specs.declared.matched.Matched.{Matched}
-use Rattle.icu_matches.specs.declared.text.Text.{Text}
 
 -- the greatest combining class of these characters
 unfoldable pub greatest_class : List ℕ → ℕ
 greatest_class [] = 0
 greatest_class (m ∷ ms) = max (class_of m) (greatest_class ms)
-
--- the match, where it takes no more and leaves this text
-abbrev pub match_left : Matched → Text → Match
-match_left m text = record { entry = m.ce32; suffix = m.suffix.items; rest = unread text }
 
 -- the match that it becomes by the marks of this text, of which so many were passed over
 abbrev pub match_on : List Row → Matched → ℕ → List ℕ → Match

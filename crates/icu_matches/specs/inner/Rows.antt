@@ -12,7 +12,7 @@ abbrev pub ComeAfter : List Row → List ℕ → ℕ → Type 0
 ComeAfter rows text count = (k : ℕ) (row : Row) → count ≤ k → slice_get rows k ≡ Some row → is_before text row.chars ≡ true
 
 -- so many rows don't come after the text, and the others do
-pub record IsSplit (rows : List Row) (text : List ℕ) (count : ℕ) : Type 0 where
+pub record SplitsRows (rows : List Row) (text : List ℕ) (count : ℕ) : Type 0 where
   pub inside : count ≤ length rows
   pub last : IsUpTo rows text count
   pub above : ComeAfter rows text count

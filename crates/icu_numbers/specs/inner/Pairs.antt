@@ -9,7 +9,7 @@ in_twos (d ∷ []) = []
 in_twos (d ∷ (e ∷ ds)) = (10 * d + e) ∷ in_twos ds
 
 -- digits are a first pair and an even number of others
-pub record IsSplit (digits : List ℕ) (first : ℕ) (others : List ℕ) : Type 0 where
+pub record IsFirstPair (digits : List ℕ) (first : ℕ) (others : List ℕ) : Type 0 where
   pub value : value_of digits ≡ value_after first others
   pub pair : first < 100
   pub some : 0 < first

@@ -7,8 +7,8 @@ use Rattle.icu_levels.specs.declared.forms.TertiaryForm.{TertiaryForm}
 use Rattle.icu_keys.specs.ThreeLevels.{three_levels_form, three_levels_rest}
 use Rattle.icu_keys.specs.ThreeLists.{ThreeLists}
 use Rattle.icu_keys.specs.declared.three_levels.ThreeLevelWriter.{ThreeLevelWriter}
-use Rattle.icu_order.specs.Handled.{HandledElement, stayed_elements}
-use Rattle.icu_order.specs.Levels.{primaries, secondaries, tertiaries}
+use Rattle.icu_weighting.specs.Handled.{HandledElement, stayed_elements}
+use Rattle.icu_weighting.specs.Levels.{primaries, secondaries, tertiaries}
 
 -- the form of such a key, by that of its tertiaries
 abbrev pub form_of_three_levels : TertiaryForm → KeyForm

@@ -5,7 +5,7 @@ use Rattle.icu_entries.specs.declared.error.DataErrorKind.TheVariants.{NoMemory}
 use Rattle.icu_provider.specs.CollatorTables.{CollatorTables}
 use Rattle.icu_checks.specs.GoodTables.{IsGoodTables}
 use Rattle.icu_provider.specs.LoadedTables.{loaded_tables}
-use Rattle.icu_mini.specs.Provider.{loads_of}
+use Rattle.icu_provider.specs.FixedLoads.{fixed_loads}
 use Rattle.icu_options.specs.declared.options.CollatorOptions.{CollatorOptions}
 use Rattle.icu_comparison.specs.Collators.{collation_kept, request_in}
 use Rattle.collate.specs.Refusals.{IsForCause, mini_refuses}
@@ -38,7 +38,7 @@ returns-clause-refused c =
         request = request;
         mini = c.in_ok-mini.ensures;
         holds = c.provider.ensures;
-        fails = λ all loaded good. of_ok fails (loaded_tables (loads_of provider) request) all c.in-Err.ensures.exact loaded h.0 good;
+        fails = λ all loaded good. of_ok fails (loaded_tables (fixed_loads provider) request) all c.in-Err.ensures.exact loaded h.0 good;
       },
       h.1,
     )) _ c.refused.ensures

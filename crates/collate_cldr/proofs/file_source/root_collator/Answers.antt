@@ -1,13 +1,14 @@
 -- The collator has the tables of the root, and the chosen settings.
-use Rattle.icu_cldr.specs.Roots.{root_tables}
-use Rattle.icu_comparison.specs.Collators.{collation_kept, request_in}
-use Rattle.collate_cldr.proofs.RootLemmas.{chosen_merged, root_loaded}
+use Rattle.std.proofs.Common.{◌∙◌, subst, sym}
+use Rattle.icu_cldr.specs.Roots.{IsRoot, root_tables}
+use Rattle.icu_comparison.specs.Collators.{collation_kept}
+use Rattle.collate_cldr.proofs.RootLemmas.{chosen_merged}
 use Rattle.collate_cldr.proofs.file_source.root_collator.Goals as goal
 
 pub returns-in-Ok-clause-compares : goal.returns-in-Ok-clause-compares
 returns-in-Ok-clause-compares c =
     let kept = collation_kept c.in-Ok.collator in
-    let is = root_loaded (root_tables c.args.root.now) (request_in c.preferences.result) kept.tables c.requires c.in-Ok.ensures.keeps in
+    let is = subst IsRoot (sym (c.in-Ok.ensures.keeps ∙ c.into_tables-tables.ensures)) c.requires in
     record {
       root = is;
       settings = chosen_merged c.args.chosen c.args.strength kept c.options.result c.preferences.result is

@@ -1,7 +1,7 @@
 -- The lines that were cut are listed, and those that are listed are written.
 use Rattle.std.proofs.Common.{ap, ◌∙◌, subst, sym}
 use Rattle.icu_comparison.specs.Collators.{collation_kept}
-use Rattle.icu_index.specs.Listings.{IsStablySorted, listed, name_order}
+use Rattle.icu_index.specs.Listings.{IsStablySorted, listing_of, name_order}
 use Rattle.icu_index.specs.NameIndexes.{listing}
 use Rattle.collate_commands.specs.InputLines.{lines_of}
 use Rattle.collate_commands.specs.inner.Shown.{shown}
@@ -14,7 +14,7 @@ returns c =
     let bytes = c.args.bytes.now in
     let cut = ap shown c.as_slice.ensures.value ∙ c.in_ok-lines.ensures in
     let names = listing c.in_ok-index.index in
-    let listed_is = c.in_ok-index.ensures ∙ ap (λ ls. listed order ls) cut in
+    let listed_is = c.in_ok-index.ensures ∙ ap (λ ls. listing_of order ls) cut in
     record {
       lines = names;
       sorted = subst (λ ls. IsStablySorted order (lines_of bytes) ls) (sym listed_is) (c.inserts_sort.ensures collation (lines_of bytes) c.requires);

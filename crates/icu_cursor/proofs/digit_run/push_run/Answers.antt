@@ -1,7 +1,7 @@
 use Rattle.std.proofs.Common.{◌<◌, ℕ, List, All, sym, subst}
 use Rattle.std.proofs.lemmas.List.Elements.{All-push}
 use Rattle.icu_cursor.specs.Cursors.{cursor_reading}
-use Rattle.icu_cursor.specs.inner.NumberElements.{IsRun}
+use Rattle.icu_cursor.specs.inner.NumberElements.{IsDigitRun}
 use Rattle.icu_cursor.proofs.NumberLemmas.{run_begun, run_more}
 use Rattle.icu_cursor.proofs.digit_run.push_run.Goals as goal
 
@@ -19,6 +19,6 @@ digits-preserved g c =
     record {
       decimal = subst (All (λ (d : ℕ). d < 10)) pushed (All-push (λ (d : ℕ). d < 10) old d c.digits.invariant.decimal taken.is.decimal);
       run =
-          subst (λ (ds : List ℕ). IsRun reading (text c.args.text) (text c.take_digit.new.text) c.args.digits.now.items ds) pushed
+          subst (λ (ds : List ℕ). IsDigitRun reading (text c.args.text) (text c.take_digit.new.text) c.args.digits.now.items ds) pushed
           (run_more reading (text c.args.text) (text c.digits.rest) (text c.take_digit.new.text) c.args.digits.now.items old taken.char d c.digits.invariant.run taken.parts taken.is);
     }

@@ -1,4 +1,4 @@
-use Rattle.icu_cuts.proofs.DigitRunLemmas.{elements_after-digits}
+use Rattle.icu_cuts.proofs.NumberRunLemmas.{elements_after-digits}
 use Rattle.icu_cuts.proofs.laws.digit_runs_are_numbers.Goals as goal
 
 pub returns : goal.returns

@@ -1,6 +1,6 @@
 use Rattle.std.proofs.Common.{◌≡◌, ◌*◌, ◌+◌, subst, arith}
 use Rattle.icu_data.specs.StoredData.{data_of}
-use Rattle.icu_data.specs.inner.BlockWalks.{Holds}
+use Rattle.icu_data.specs.inner.BlockWalks.{HasWalked}
 use Rattle.icu_data.proofs.BlockWalkLemmas.{held_none, no_states}
 use Rattle.icu_data.proofs.block_walk.visit_stated.Goals as goal
 
@@ -16,6 +16,6 @@ loop-index-preserved g c =
     let next : 64 * c.loop-index.index + 64 ≡ 64 * (c.loop-index.index + 1) = omega arith in
     record {
       shared = c.in_ok-visit_index.ensures.shared;
-      walked = subst (Holds g.V.Visit.after c.args.falls_back (data_of c.args.home) _ _ _) next (c.in_ok-visit_index.ensures.visits _ c.loop-index.invariant.walked);
+      walked = subst (HasWalked g.V.Visit.after c.args.falls_back (data_of c.args.home) _ _ _) next (c.in_ok-visit_index.ensures.visits _ c.loop-index.invariant.walked);
       states = c.in_ok-visit_index.ensures.states;
     }

@@ -5,13 +5,13 @@ use Rattle.icu_encodings.proofs.common_units.after_common_blocks.Goals as goal
 
 pub wide-preserved : goal.wide-preserved
 wide-preserved c =
-    let one = c.wide.one.now in
-    let other = c.wide.other.now in
+    let left = c.wide.left_rest.now in
+    let right = c.wide.right_rest.now in
     let first = c.in-Some.ensures.cases in
     let second = c.in-Some-split_first_chunk.ensures.cases in
-    let word = c.in-Some.block.now in
-    let whole : one ≡ word ++ c.in-Some.rest.now = sym (take-append-drop 64 one) ∙ ap (λ w. w ++ drop 64 one) (sym first.0) ∙ ap (λ l. word ++ l) (sym first.1) in
-    let same : word ≡ c.in-Some-split_first_chunk.other_block.now = same_words _ _ (sym c.ne.ensures ∙ c.if-ne.false) in
-    let other_whole : other ≡ word ++ c.in-Some-split_first_chunk.other_rest.now =
-    sym (take-append-drop 64 other) ∙ ap (λ w. w ++ drop 64 other) (sym second.0 ∙ sym same) ∙ ap (λ l. word ++ l) (sym second.1) in
-    longer_head _ _ one other word _ _ c.wide.invariant whole other_whole
+    let word = c.in-Some.left_block.now in
+    let left_whole : left ≡ word ++ c.in-Some.left_next.now = sym (take-append-drop 64 left) ∙ ap (λ w. w ++ drop 64 left) (sym first.0) ∙ ap (λ l. word ++ l) (sym first.1) in
+    let same : word ≡ c.in-Some-split_first_chunk.right_block.now = same_words _ _ (sym c.ne.ensures ∙ c.if-ne.false) in
+    let right_whole : right ≡ word ++ c.in-Some-split_first_chunk.right_next.now =
+    sym (take-append-drop 64 right) ∙ ap (λ w. w ++ drop 64 right) (sym second.0 ∙ sym same) ∙ ap (λ l. word ++ l) (sym second.1) in
+    longer_head _ _ left right word _ _ c.wide.invariant left_whole right_whole

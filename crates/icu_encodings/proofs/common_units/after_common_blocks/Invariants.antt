@@ -4,7 +4,7 @@ use Rattle.icu_encodings.specs.inner.ListFronts.{HaveHead}
 use Rattle.icu_encodings.proofs.common_units.after_common_blocks.Given as goal
 
 abbrev pub invariant-wide : goal.invariant-wide
-invariant-wide l = HaveHead l.left l.right l.one l.other
+invariant-wide l = HaveHead l.left l.right l.left_rest l.right_rest
 
 abbrev pub decreases-wide : goal.decreases-wide
-decreases-wide l = length l.one
+decreases-wide l = length l.left_rest

@@ -7,12 +7,12 @@ pub words-preserved : goal.words-preserved
 words-preserved c =
     let count = c.common_in_word-count in
     head_on _ _ _ _ _ _ c.words.invariant
-    (word_head count.result c.words.one.now c.words.other.now _ _ _ _ c.in-Some.ensures.cases.0 c.in-Some-split_first_chunk.ensures.cases.0
+    (word_head count.result c.words.left_rest.now c.words.right_rest.now _ _ _ _ c.in-Some.ensures.cases.0 c.in-Some-split_first_chunk.ensures.cases.0
     count.ensures.bound count.ensures.front c.split_at.ensures.back c.split_at-in-Some.ensures.back)
 
 pub returns-then-count-lt8 : goal.returns-then-count-lt8
 returns-then-count-lt8 c =
     let count = c.common_in_word-count in
     head_on _ _ _ _ _ _ c.words.invariant
-    (word_head count.result c.words.one.now c.words.other.now _ _ _ _ c.in-Some.ensures.cases.0 c.in-Some-split_first_chunk.ensures.cases.0
+    (word_head count.result c.words.left_rest.now c.words.right_rest.now _ _ _ _ c.in-Some.ensures.cases.0 c.in-Some-split_first_chunk.ensures.cases.0
     count.ensures.bound count.ensures.front c.split_at.ensures.back c.split_at-in-Some.ensures.back)

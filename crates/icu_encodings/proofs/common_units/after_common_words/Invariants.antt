@@ -4,7 +4,7 @@ use Rattle.icu_encodings.specs.inner.ListFronts.{HaveHead}
 use Rattle.icu_encodings.proofs.common_units.after_common_words.Given as goal
 
 abbrev pub invariant-words : goal.invariant-words
-invariant-words l = HaveHead l.left l.right l.one l.other
+invariant-words l = HaveHead l.left l.right l.left_rest l.right_rest
 
 abbrev pub decreases-words : goal.decreases-words
-decreases-words l = length l.one
+decreases-words l = length l.left_rest

@@ -11,7 +11,7 @@ bytes-preserved c =
 pub returns-clause-same : goal.returns-clause-same
 returns-clause-same c = λ e.
     let empty = c.in_default.ensures (rest_alike _ _ _ _ c.bytes.invariant e) in
-    none_left c.args.left.now c.bytes.one.now empty
+    none_left c.args.left.now c.bytes.left_rest.now empty
 
 pub bytes-init : goal.bytes-init
 bytes-init c =

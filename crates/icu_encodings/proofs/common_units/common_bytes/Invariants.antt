@@ -4,7 +4,7 @@ use Rattle.icu_encodings.specs.inner.ListFronts.{HaveHead}
 use Rattle.icu_encodings.proofs.common_units.common_bytes.Given as goal
 
 abbrev pub invariant-bytes : goal.invariant-bytes
-invariant-bytes l = HaveHead l.left l.right l.one l.other
+invariant-bytes l = HaveHead l.left l.right l.left_rest l.right_rest
 
 abbrev pub decreases-bytes : goal.decreases-bytes
-decreases-bytes l = length l.one
+decreases-bytes l = length l.left_rest

@@ -15,4 +15,4 @@ returns-clause-heads c = λ n le. same_characters n _ c.args.left.now c.args.rig
 pub returns-clause-same : goal.returns-clause-same
 returns-clause-same c = λ e.
     let empty = c.in_default.ensures (rest_alike _ _ _ _ c.units.invariant e) in
-    none_left c.args.left.now c.units.one.now empty
+    none_left c.args.left.now c.units.left_rest.now empty

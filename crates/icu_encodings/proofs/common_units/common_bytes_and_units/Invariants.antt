@@ -4,7 +4,7 @@ use Rattle.icu_encodings.specs.inner.ListFronts.{HaveHead}
 use Rattle.icu_encodings.proofs.common_units.common_bytes_and_units.Given as goal
 
 abbrev pub invariant-units : goal.invariant-units
-invariant-units l = HaveHead l.left l.right l.one l.other
+invariant-units l = HaveHead l.left l.right l.left_rest l.right_rest
 
 abbrev pub decreases-units : goal.decreases-units
-decreases-units l = length l.one
+decreases-units l = length l.left_rest

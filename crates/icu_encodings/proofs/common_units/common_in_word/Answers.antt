@@ -4,7 +4,7 @@ use Rattle.icu_encodings.proofs.WordLemmas.{some_in_word, some_bound}
 use Rattle.icu_encodings.proofs.common_units.common_in_word.Goals as goal
 
 pub returns-clause-bound : goal.returns-clause-bound
-returns-clause-bound c = some_bound c.args.one.now c.args.other.now _ c.told-one c.told-other refl c.if-mask-eq0.false
+returns-clause-bound c = some_bound c.args.left.now c.args.right.now _ c.told-left c.told-right refl c.if-mask-eq0.false
 
 pub returns-clause-front : goal.returns-clause-front
-returns-clause-front c = some_in_word c.args.one.now c.args.other.now _ c.told-one c.told-other refl c.if-mask-eq0.false
+returns-clause-front c = some_in_word c.args.left.now c.args.right.now _ c.told-left c.told-right refl c.if-mask-eq0.false

@@ -5,16 +5,16 @@ use Rattle.icu_encodings.proofs.common_units.common_units16.Goals as goal
 
 pub words-preserved : goal.words-preserved
 words-preserved c =
-    let one = c.words.one.now in
-    let other = c.words.other.now in
+    let left = c.words.left_rest.now in
+    let right = c.words.right_rest.now in
     let first = c.in-Some.ensures.cases in
     let second = c.in-Some-split_first_chunk.ensures.cases in
-    let word = c.in-Some.word.now in
-    let whole : one ≡ word ++ c.in-Some.rest.now = sym (take-append-drop 4 one) ∙ ap (λ w. w ++ drop 4 one) (sym first.0) ∙ ap (λ l. word ++ l) (sym first.1) in
-    let same : word ≡ c.in-Some-split_first_chunk.other_word.now = same_words _ _ (sym c.ne.ensures ∙ c.if-ne.false) in
-    let other_whole : other ≡ word ++ c.in-Some-split_first_chunk.other_rest.now =
-    sym (take-append-drop 4 other) ∙ ap (λ w. w ++ drop 4 other) (sym second.0 ∙ sym same) ∙ ap (λ l. word ++ l) (sym second.1) in
-    longer_head _ _ one other word _ _ c.words.invariant whole other_whole
+    let word = c.in-Some.left_word.now in
+    let left_whole : left ≡ word ++ c.in-Some.left_next.now = sym (take-append-drop 4 left) ∙ ap (λ w. w ++ drop 4 left) (sym first.0) ∙ ap (λ l. word ++ l) (sym first.1) in
+    let same : word ≡ c.in-Some-split_first_chunk.right_word.now = same_words _ _ (sym c.ne.ensures ∙ c.if-ne.false) in
+    let right_whole : right ≡ word ++ c.in-Some-split_first_chunk.right_next.now =
+    sym (take-append-drop 4 right) ∙ ap (λ w. w ++ drop 4 right) (sym second.0 ∙ sym same) ∙ ap (λ l. word ++ l) (sym second.1) in
+    longer_head _ _ left right word _ _ c.words.invariant left_whole right_whole
 
 pub units-preserved : goal.units-preserved
 units-preserved c =
@@ -24,4 +24,4 @@ units-preserved c =
 pub returns-clause-same : goal.returns-clause-same
 returns-clause-same c = λ e.
     let empty = c.in_default-after_common_unit.ensures (rest_alike _ _ _ _ c.units.invariant e) in
-    none_left c.args.left.now c.units.one.now empty
+    none_left c.args.left.now c.units.left_rest.now empty

@@ -3,7 +3,7 @@ use Rattle.std.proofs.lemmas.List.{nil_from_length, length-take-le}
 use Rattle.std.proofs.lemmas.Result.{err_from_is_err_and}
 use Rattle.icu_levels.specs.Secondaries.{secondary_level}
 use Rattle.icu_keys.specs.WriterRests.{secondary_rest}
-use Rattle.icu_keys.proofs.SegmentLemmas.{reverse_last}
+use Rattle.icu_keys.proofs.ReversedSegments.{reverse_last}
 use Rattle.icu_keys.proofs.Writing.{Owes, owes_fed, owes_fails, owes_written}
 use Rattle.icu_keys.proofs.backward.write_segment.Goals as goal
 
@@ -15,8 +15,8 @@ returns-in_err-push-clause-bytes g c =
     let p = err_from_is_err_and c.from_residual.result c.from_residual.ensures.1 in
     let n : ℕ = length c.loop-left.left.now - 1 in
     let turned : reverse c.loop-left.left.now ≡ get_or c.loop-left.left.now n 0 ∷ reverse (take n c.loop-left.left.now) = reverse_last c.loop-left.left.now n (omega arith) in
-    let owes = subst (λ (l : List ℕ). Owes g.S.CollationKeySink.took c.args.sink.now c.args.state.now (secondary_level (reverse c.args.weights.now)) (secondary_rest c.loop-left.writer l) c.loop-left.sink c.loop-left.state) turned c.loop-left.invariant.owes in
-    rw (p.1, p.2) (owes_fails g.S.CollationKeySink.took g.S.CollationKeySink.refused _ _ _ _ _ _ _ _ _
+    let owes = subst (λ (l : List ℕ). Owes g.S.CollationKeySink.effects c.args.sink.now c.args.state.now (secondary_level (reverse c.args.weights.now)) (secondary_rest c.loop-left.writer l) c.loop-left.sink c.loop-left.state) turned c.loop-left.invariant.owes in
+    rw (p.1, p.2) (owes_fails g.S.CollationKeySink.effects _ _ _ _ _ _ _ _ _
     (λ y z t u b d. g.met.S.CollationKeySink.took_both _ y z _ t u b d c.requires)
     owes (c.in_err-push.ensures.bytes (reverse (take n c.loop-left.left.now))))
 
@@ -24,11 +24,11 @@ pub loop-left-preserved : goal.loop-left-preserved
 loop-left-preserved g c =
     let n : ℕ = length c.loop-left.left.now - 1 in
     let turned : reverse c.loop-left.left.now ≡ get_or c.loop-left.left.now n 0 ∷ reverse (take n c.loop-left.left.now) = reverse_last c.loop-left.left.now n (omega arith) in
-    let owes = subst (λ (l : List ℕ). Owes g.S.CollationKeySink.took c.args.sink.now c.args.state.now (secondary_level (reverse c.args.weights.now)) (secondary_rest c.loop-left.writer l) c.loop-left.sink c.loop-left.state) turned c.loop-left.invariant.owes in
+    let owes = subst (λ (l : List ℕ). Owes g.S.CollationKeySink.effects c.args.sink.now c.args.state.now (secondary_level (reverse c.args.weights.now)) (secondary_rest c.loop-left.writer l) c.loop-left.sink c.loop-left.state) turned c.loop-left.invariant.owes in
     record {
       sound = c.in_ok-push.ensures.sound;
       within = omega (arith, length-take-le n c.loop-left.left.now (omega arith), c.loop-left.invariant.within);
-      owes = owes_fed g.S.CollationKeySink.took g.S.CollationKeySink.refused _ _ _ _ _ _ _
+      owes = owes_fed g.S.CollationKeySink.effects _ _ _ _ _ _ _
           (λ ws. secondary_rest c.loop-left.writer (get_or c.loop-left.left.now n 0 ∷ ws)) (secondary_rest c.push.new.self) (reverse (take n c.loop-left.left.now))
           (λ y z t u b d. g.met.S.CollationKeySink.took_both _ y z _ t u b d c.requires)
           owes c.in_ok-push.ensures.bytes;
@@ -37,7 +37,7 @@ loop-left-preserved g c =
 pub returns-clause-bytes : goal.returns-clause-bytes
 returns-clause-bytes g c =
     let none : c.loop-left.left.now ≡ [] = nil_from_length c.loop-left.left.now (omega arith) in
-    let owes = subst (λ (l : List ℕ). Owes g.S.CollationKeySink.took c.args.sink.now c.args.state.now (secondary_level (reverse c.args.weights.now)) (secondary_rest c.loop-left.writer (reverse l)) c.loop-left.sink c.loop-left.state) none c.loop-left.invariant.owes in
-    owes_written g.S.CollationKeySink.took g.S.CollationKeySink.refused _ _ _ _ _ _ _ _ _
+    let owes = subst (λ (l : List ℕ). Owes g.S.CollationKeySink.effects c.args.sink.now c.args.state.now (secondary_level (reverse c.args.weights.now)) (secondary_rest c.loop-left.writer (reverse l)) c.loop-left.sink c.loop-left.state) none c.loop-left.invariant.owes in
+    owes_written g.S.CollationKeySink.effects _ _ _ _ _ _ _ _ _
     (λ y z t u b d. g.met.S.CollationKeySink.took_both _ y z _ t u b d c.requires)
     owes c.close.ensures.bytes

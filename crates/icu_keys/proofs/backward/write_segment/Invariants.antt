@@ -9,7 +9,7 @@ abbrev pub invariant-loop-left : goal.invariant-loop-left
 invariant-loop-left g l = record {
   sound : g.S.CollationKeySink.is_sound l.sink l.state;
   within : length l.left ≤ length l.weights;
-  owes : Owes g.S.CollationKeySink.took l.fn.sink l.fn.state (secondary_level (reverse l.weights)) (secondary_rest l.writer (reverse l.left)) l.sink l.state;
+  owes : Owes g.S.CollationKeySink.effects l.fn.sink l.fn.state (secondary_level (reverse l.weights)) (secondary_rest l.writer (reverse l.left)) l.sink l.state;
 }
 
 abbrev pub decreases-loop-left : goal.decreases-loop-left

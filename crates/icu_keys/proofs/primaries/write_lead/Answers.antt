@@ -13,6 +13,6 @@ returns-then-new-dropped-clause-bytes g c = record {
 
 pub returns-clause-bytes : goal.returns-clause-bytes
 returns-clause-bytes g c =
-    feeds_writes g.S.CollationKeySink.took g.S.CollationKeySink.refused _ _ _ _ (option_to_list c.change_of_lead.result ++ option_to_list c.written_lead.result) _ _ _
+    feeds_writes g.S.CollationKeySink.effects _ _ _ _ (option_to_list c.change_of_lead.result ++ option_to_list c.written_lead.result) _ _ _
     (λ _. other_lead_written c.args.dropped c.args.primary _ (option_to_list c.change_of_lead.result) (option_to_list c.written_lead.result) (omega arith) c.if-new-dropped.false c.change_of_lead.ensures c.written_lead.ensures)
     c.write_both.ensures.bytes

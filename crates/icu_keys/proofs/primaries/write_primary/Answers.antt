@@ -11,6 +11,6 @@ returns-in_err-write_lead-clause-bytes g c =
 
 pub returns-clause-bytes : goal.returns-clause-bytes
 returns-clause-bytes g c =
-    brings_written g.S.CollationKeySink.took g.S.CollationKeySink.refused _ _ _ _ _ _ (λ (_ : Unit {0}). primary_bytes c.args.dropped c.args.primary) (λ _. weight_bytes 3 (below_lead c.args.primary)) tt _
+    brings_written g.S.CollationKeySink.effects _ _ _ _ _ _ (λ (_ : Unit {0}). primary_bytes c.args.dropped c.args.primary) (λ _. weight_bytes 3 (below_lead c.args.primary)) tt _
     (λ y z t u b d. g.met.S.CollationKeySink.took_both _ y z _ t u b d c.requires)
     c.in_ok-write_lead.ensures.bytes c.write_three.ensures.bytes

@@ -7,5 +7,5 @@ returns-then-weight-eq0-clause-bytes g c = rw c.if-weight-eq0.true (g.met.S.Coll
 
 pub returns-else-weight-eq0-clause-bytes : goal.returns-else-weight-eq0-clause-bytes
 returns-else-weight-eq0-clause-bytes g c =
-    writes_same g.S.CollationKeySink.took g.S.CollationKeySink.refused _ _ _ _ _ _ _ (weight_last c.args.weight c.if-weight-eq0.false)
-    (writes_one g.S.CollationKeySink.took g.S.CollationKeySink.refused _ _ _ _ _ _ (g.met.S.CollationKeySink.took_nothing _ _ c.requires) c.write_byte.ensures.outcome)
+    writes_same g.S.CollationKeySink.effects _ _ _ _ _ _ _ (weight_last c.args.weight c.if-weight-eq0.false)
+    (writes_one g.S.CollationKeySink.effects _ _ _ _ _ _ (g.met.S.CollationKeySink.took_nothing _ _ c.requires) c.write_byte.ensures.outcome)

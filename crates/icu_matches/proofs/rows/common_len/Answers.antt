@@ -1,6 +1,6 @@
 use Rattle.std.proofs.Common.{◌≡◌, ℕ, List, length, take, ap, sym, ◌∙◌, inl, inr, rules, arith}
 use Rattle.std.proofs.lemmas.Bool.{cases_lt}
-use Rattle.icu_matches.specs.inner.Beginnings.{common}
+use Rattle.icu_matches.specs.inner.Beginnings.{common_beginning}
 use Rattle.icu_matches.proofs.CommonPartLemmas.{common_goes_on, common_stops, common_ends, common_ends_text}
 use Rattle.icu_matches.proofs.rows.common_len.Goals as goal
 
@@ -28,7 +28,7 @@ returns-clause-common c =
     let text : List ℕ = c.args.text.now in
     let i : ℕ = c.loop-index.index in
     let e : c.min-end.result ≡ i = omega (arith, c.loop-index-test.false, c.loop-index.auto.index-end) in
-    let whole : take i text ≡ common row text = elim (cases_lt (length row) (length text)) [
+    let whole : take i text ≡ common_beginning row text = elim (cases_lt (length row) (length text)) [
       | inl less ↦ sym (common_ends row text i (omega (arith, less, e, c.min-end.ensures))) ∙ c.loop-index.invariant
       | inr more ↦ sym (common_ends_text row text i (omega (arith, more, e, c.min-end.ensures))) ∙ c.loop-index.invariant
     ] in

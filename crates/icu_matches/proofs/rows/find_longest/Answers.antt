@@ -4,7 +4,7 @@ use Rattle.std.specs.List.{starts_with}
 use Rattle.icu_data.specs.StoredData.{found_context, found_row}
 use Rattle.icu_data.specs.Contexts.{is_before}
 use Rattle.icu_data.specs.Data.{Row, longest_row}
-use Rattle.icu_matches.specs.inner.Rows.{IsSplit}
+use Rattle.icu_matches.specs.inner.Rows.{SplitsRows}
 use Rattle.icu_matches.proofs.CharacterOrderLemmas.{common_shorter}
 use Rattle.icu_matches.proofs.RowLemmas.{longest_none, longest_found, longest_cut}
 use Rattle.icu_matches.proofs.rows.find_longest.Goals as goal
@@ -12,7 +12,7 @@ use Rattle.icu_matches.proofs.rows.find_longest.Goals as goal
 pub returns-then-count-eq0-clause-value : goal.returns-then-count-eq0-clause-value
 returns-then-count-eq0-clause-value c =
     let rows : List Row = (found_context c.args.context).rows in
-    let split : IsSplit rows c.cutting.cut.now 0 = subst (λ n. IsSplit rows c.cutting.cut.now n) c.if-count-eq0.true c.rows_up_to-count.ensures in
+    let split : SplitsRows rows c.cutting.cut.now 0 = subst (λ n. SplitsRows rows c.cutting.cut.now n) c.if-count-eq0.true c.rows_up_to-count.ensures in
     c.cutting.invariant ∙ longest_none rows c.cutting.cut.now split
 
 pub returns-then-starts_with-clause-value : goal.returns-then-starts_with-clause-value

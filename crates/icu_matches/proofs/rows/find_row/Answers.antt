@@ -1,14 +1,14 @@
 use Rattle.std.proofs.Common.{◌≡◌, ◌+◌, ◌-◌, true, false, ℕ, List, subst, sym, bytes_eq, rules, arith}
 use Rattle.icu_data.specs.StoredData.{found_context, found_row}
 use Rattle.icu_data.specs.Data.{Row}
-use Rattle.icu_matches.specs.inner.Rows.{IsSplit}
+use Rattle.icu_matches.specs.inner.Rows.{SplitsRows}
 use Rattle.icu_matches.proofs.RowLemmas.{entry_none, entry_found, entry_none_there}
 use Rattle.icu_matches.proofs.rows.find_row.Goals as goal
 
 pub returns-then-count-eq0 : goal.returns-then-count-eq0
 returns-then-count-eq0 c =
     let rows : List Row = (found_context c.args.context).rows in
-    let split : IsSplit rows c.args.wanted.now 0 = subst (λ n. IsSplit rows c.args.wanted.now n) c.if-count-eq0.true c.rows_up_to-count.ensures in
+    let split : SplitsRows rows c.args.wanted.now 0 = subst (λ n. SplitsRows rows c.args.wanted.now n) c.if-count-eq0.true c.rows_up_to-count.ensures in
     sym (entry_none rows c.args.wanted.now split)
 
 pub returns-then-eq : goal.returns-then-eq

@@ -1,7 +1,7 @@
 -- The one character, and the one context.
 use Rattle.std.proofs.Common.{◌++◌, ◌∷◌, [], ap, subst, ◌∙◌, IfOk}
 use Rattle.icu_owned_data.specs.AddedContexts.{given_context}
-use Rattle.icu_owned_data.specs.Building.{SaysOfCharacters}
+use Rattle.icu_owned_data.specs.Building.{SaysOfCharacters, empty_data}
 use Rattle.icu_data.specs.Data.{Context, Data}
 use Rattle.icu_owned_data.specs.OwnedData.{vectors_data}
 use Rattle.icu_mini.specs.Characters.{with_characters}
@@ -13,4 +13,4 @@ returns c =
     let context : Context = given_context c.args.default c.args.rows.now in
     let add : Data → Data = λ d. record d { contexts = d.contexts ++ context ∷ [] } in
     let says : Data → Type 0 = λ d. IfOk c.build.result (λ v. SaysOfCharacters d (vectors_data v)) in
-    subst says (c.in_ok-add_context.ensures.adds ∙ ap add (c.set_characters.ensures ∙ ap set c.in_ok-builder.ensures)) c.build.ensures.says
+    subst says (c.in_ok-add_context.ensures.adds ∙ ap add (c.set_characters.ensures ∙ ap set (c.in_ok-builder.ensures ∙ ap empty_data c.fallback.ensures.entry))) c.build.ensures.says

@@ -1,7 +1,7 @@
 use Rattle.std.proofs.Common.{ap, sym, ◌∙◌, ◌∷◌, []}
 use Rattle.icu_cuts.proofs.CutLemmas.{safe_start}
 use Rattle.icu_shortcuts.specs.SafeTables.{safe_reading}
-use Rattle.icu_shortcuts.proofs.BaseLemmas.{forgets_before, one_item}
+use Rattle.icu_shortcuts.proofs.KeptBaseLemmas.{forgets_before, one_item}
 use Rattle.icu_shortcuts.proofs.bases.is_base.Goals as goal
 
 pub returns-in-len1 : goal.returns-in-len1

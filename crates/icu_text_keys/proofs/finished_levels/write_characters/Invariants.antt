@@ -8,5 +8,5 @@ use Rattle.icu_text_keys.proofs.finished_levels.write_characters.Given as goal
 abbrev pub invariant-loop-character : goal.invariant-loop-character
 invariant-loop-character g l = record {
   sound : g.S.CollationKeySink.is_sound l.sink l.state;
-  owes : Owes g.S.CollationKeySink.took l.fn.sink l.fn.state (identical_level l.characters) (identical_rest l.writer (drop l.character-index l.characters)) l.sink l.state;
+  owes : Owes g.S.CollationKeySink.effects l.fn.sink l.fn.state (identical_level l.characters) (identical_rest l.writer (drop l.character-index l.characters)) l.sink l.state;
 }

@@ -8,10 +8,10 @@ use Rattle.icu_text_keys.proofs.finished_levels.write_later.Goals as goal
 pub returns-in_err-write_parts-clause-bytes : goal.returns-in_err-write_parts-clause-bytes
 returns-in_err-write_parts-clause-bytes g c =
     let p = err_from_is_err_and c.from_residual.result c.from_residual.ensures.1 in
-    rw (p.1, p.2) (fails_front g.S.CollationKeySink.took g.S.CollationKeySink.refused _ _ _ _ (parts_bytes (map part_of c.args.parts.now)) (part_bytes (characters_left c.args.identical c.args.characters.now)) _ c.in_err-write_parts.ensures.bytes)
+    rw (p.1, p.2) (fails_front g.S.CollationKeySink.effects _ _ _ _ (parts_bytes (map part_of c.args.parts.now)) (part_bytes (characters_left c.args.identical c.args.characters.now)) _ c.in_err-write_parts.ensures.bytes)
 
 pub returns-clause-bytes : goal.returns-clause-bytes
 returns-clause-bytes g c =
-    writes_after g.S.CollationKeySink.took g.S.CollationKeySink.refused _ _ _ _ _ _ (parts_bytes (map part_of c.args.parts.now)) (part_bytes (characters_left c.args.identical c.args.characters.now)) _
+    writes_after g.S.CollationKeySink.effects _ _ _ _ _ _ (parts_bytes (map part_of c.args.parts.now)) (part_bytes (characters_left c.args.identical c.args.characters.now)) _
     (λ y z t u b d. g.met.S.CollationKeySink.took_both _ y z _ t u b d c.requires)
     c.in_ok-write_parts.ensures.bytes c.write_identical.ensures.bytes

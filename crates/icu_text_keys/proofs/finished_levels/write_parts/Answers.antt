@@ -14,10 +14,10 @@ returns-in_err-write_part-clause-bytes g c =
     let rest : List LevelBytes = drop (c.loop-part.part-index + 1) c.args.parts.now in
     let opened : drop c.loop-part.part-index c.args.parts.now ≡ x ∷ rest =
     drop_more c.args.parts.now c.loop-part.part-index x c.loop-part-test.true ∙ ap (λ y. y ∷ rest) (sym c.part-item.is) in
-    let owes = subst (λ (l : List LevelBytes). Owes g.S.CollationKeySink.took c.args.sink.now c.args.state.now (parts_bytes (map part_of c.args.parts.now)) (parts_bytes (map part_of l)) c.loop-part.sink c.loop-part.state) opened c.loop-part.invariant.owes in
-    rw (p.1, p.2) (owes_fails g.S.CollationKeySink.took g.S.CollationKeySink.refused _ _ _ _ _ _ _ _ _
+    let owes = subst (λ (l : List LevelBytes). Owes g.S.CollationKeySink.effects c.args.sink.now c.args.state.now (parts_bytes (map part_of c.args.parts.now)) (parts_bytes (map part_of l)) c.loop-part.sink c.loop-part.state) opened c.loop-part.invariant.owes in
+    rw (p.1, p.2) (owes_fails g.S.CollationKeySink.effects _ _ _ _ _ _ _ _ _
     (λ y z t u b d. g.met.S.CollationKeySink.took_both _ y z _ t u b d c.requires) owes
-    (fails_front g.S.CollationKeySink.took g.S.CollationKeySink.refused _ _ _ _ (part_bytes (part_of x)) (parts_bytes (map part_of rest)) _ c.in_err-write_part.ensures.bytes))
+    (fails_front g.S.CollationKeySink.effects _ _ _ _ (part_bytes (part_of x)) (parts_bytes (map part_of rest)) _ c.in_err-write_part.ensures.bytes))
 
 pub loop-part-preserved : goal.loop-part-preserved
 loop-part-preserved g c =
@@ -25,10 +25,10 @@ loop-part-preserved g c =
     let rest : List LevelBytes = drop (c.loop-part.part-index + 1) c.args.parts.now in
     let opened : drop c.loop-part.part-index c.args.parts.now ≡ x ∷ rest =
     drop_more c.args.parts.now c.loop-part.part-index x c.loop-part-test.true ∙ ap (λ y. y ∷ rest) (sym c.part-item.is) in
-    let owes = subst (λ (l : List LevelBytes). Owes g.S.CollationKeySink.took c.args.sink.now c.args.state.now (parts_bytes (map part_of c.args.parts.now)) (parts_bytes (map part_of l)) c.loop-part.sink c.loop-part.state) opened c.loop-part.invariant.owes in
+    let owes = subst (λ (l : List LevelBytes). Owes g.S.CollationKeySink.effects c.args.sink.now c.args.state.now (parts_bytes (map part_of c.args.parts.now)) (parts_bytes (map part_of l)) c.loop-part.sink c.loop-part.state) opened c.loop-part.invariant.owes in
     record {
       sound = c.in_ok-write_part.ensures.sound;
-      owes = owes_fed g.S.CollationKeySink.took g.S.CollationKeySink.refused _ _ _ _ _ _ _ (λ (ps : List LevelPart). part_bytes (part_of x) ++ parts_bytes ps) (λ (ps : List LevelPart). parts_bytes ps) (map part_of rest)
+      owes = owes_fed g.S.CollationKeySink.effects _ _ _ _ _ _ _ (λ (ps : List LevelPart). part_bytes (part_of x) ++ parts_bytes ps) (λ (ps : List LevelPart). parts_bytes ps) (map part_of rest)
           (λ y z t u b d. g.met.S.CollationKeySink.took_both _ y z _ t u b d c.requires) owes
           (record { front = part_bytes (part_of x); taken = c.in_ok-write_part.ensures.bytes; leaves = λ ps. refl });
     }

@@ -8,5 +8,5 @@ use Rattle.icu_text_keys.proofs.finished_levels.write_parts.Given as goal
 abbrev pub invariant-loop-part : goal.invariant-loop-part
 invariant-loop-part g l = record {
   sound : g.S.CollationKeySink.is_sound l.sink l.state;
-  owes : Owes g.S.CollationKeySink.took l.fn.sink l.fn.state (parts_bytes (map part_of l.parts)) (parts_bytes (map part_of (drop l.part-index l.parts))) l.sink l.state;
+  owes : Owes g.S.CollationKeySink.effects l.fn.sink l.fn.state (parts_bytes (map part_of l.parts)) (parts_bytes (map part_of (drop l.part-index l.parts))) l.sink l.state;
 }

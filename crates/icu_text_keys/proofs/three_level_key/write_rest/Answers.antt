@@ -4,9 +4,9 @@ use Rattle.std.specs.List.{AllByRecursion}
 use Rattle.icu_levels.specs.Primaries.{Compression}
 use Rattle.icu_keys.proofs.Writing.{Owes, owes_fed}
 use Rattle.icu_keys.proofs.KeyWriting.{key_owed, feeds_stopped}
-use Rattle.icu_order.specs.Handled.{HandledElement}
-use Rattle.icu_text_keys.specs.declared.handled.Handled.{Handled}
-use Rattle.icu_text_keys.specs.HandledSources.{HasCase, handled_as}
+use Rattle.icu_weighting.specs.Handled.{HandledElement}
+use Rattle.icu_weighting.specs.declared.handled_element.Handled.{Handled}
+use Rattle.icu_weighting.specs.HandledSources.{HasCase, handled_as}
 use Rattle.icu_text_keys.specs.inner.ThreeLevelKeys.{three_levels_left}
 use Rattle.icu_text_keys.proofs.KeySourceLemmas.{one_given, none_given, stopped}
 use Rattle.icu_text_keys.proofs.three_level_key.write_rest.Goals as goal
@@ -14,7 +14,7 @@ use Rattle.icu_text_keys.proofs.three_level_key.write_rest.Goals as goal
 pub returns-in_err-element-clause-bytes : goal.returns-in_err-element-clause-bytes
 returns-in_err-element-clause-bytes g c =
     let p = err_from_is_err_and c.from_residual.result c.from_residual.ensures.1 in
-    rw (p.1, p.2) (stopped g.S.CollationKeySink.took g.S.CollationKeySink.refused _ _ _ _ _ _ _ c.in_err-element.ensures.memory c.writing.invariant.owes)
+    rw (p.1, p.2) (stopped g.S.CollationKeySink.effects _ _ _ _ _ _ _ c.in_err-element.ensures.memory c.writing.invariant.owes)
 
 pub writing-preserved : goal.writing-preserved
 writing-preserved g c =
@@ -22,13 +22,13 @@ writing-preserved g c =
     let x : Handled = c.in-Some.element in
     let rest : List HandledElement = g.H.HandledSource.handled_left c.next_element.new.elements in
     let opened : g.H.HandledSource.handled_left c.writing.elements ≡ handled_as x ∷ rest = one_given _ rest _ x c.in-Some.is c.in_ok-element.ensures.next in
-    let owes = subst (λ (l : List HandledElement). Owes g.S.CollationKeySink.took c.args.sink.now c.args.state.now (three_levels_left compression c.args.writer (g.H.HandledSource.handled_left c.args.elements.now)) (three_levels_left compression c.writing.writer l) c.writing.sink c.writing.state) opened c.writing.invariant.owes in
+    let owes = subst (λ (l : List HandledElement). Owes g.S.CollationKeySink.effects c.args.sink.now c.args.state.now (three_levels_left compression c.args.writer (g.H.HandledSource.handled_left c.args.elements.now)) (three_levels_left compression c.writing.writer l) c.writing.sink c.writing.state) opened c.writing.invariant.owes in
     let cases = subst (λ (l : List HandledElement). AllByRecursion HasCase l) opened c.writing.invariant.cases in
     record {
       sound = c.in_ok-push_handled.ensures.sound;
       form = c.in_ok-push_handled.ensures.form;
       cases = cases.1;
-      owes = owes_fed g.S.CollationKeySink.took g.S.CollationKeySink.refused _ _ _ _ _ _ _ (λ (hs : List HandledElement). three_levels_left compression c.writing.writer (handled_as x ∷ hs)) (three_levels_left compression c.push_handled.new.writer) rest
+      owes = owes_fed g.S.CollationKeySink.effects _ _ _ _ _ _ _ (λ (hs : List HandledElement). three_levels_left compression c.writing.writer (handled_as x ∷ hs)) (three_levels_left compression c.push_handled.new.writer) rest
           (λ y z t u b d. g.met.S.CollationKeySink.took_both _ y z _ t u b d c.requires.sound) owes c.in_ok-push_handled.ensures.bytes;
     }
 
@@ -39,15 +39,15 @@ returns-in_err-push_handled-clause-bytes g c =
     let x : Handled = c.in-Some.element in
     let rest : List HandledElement = g.H.HandledSource.handled_left c.next_element.new.elements in
     let opened : g.H.HandledSource.handled_left c.writing.elements ≡ handled_as x ∷ rest = one_given _ rest _ x c.in-Some.is c.in_ok-element.ensures.next in
-    let owes = subst (λ (l : List HandledElement). Owes g.S.CollationKeySink.took c.args.sink.now c.args.state.now (three_levels_left compression c.args.writer (g.H.HandledSource.handled_left c.args.elements.now)) (three_levels_left compression c.writing.writer l) c.writing.sink c.writing.state) opened c.writing.invariant.owes in
-    rw (p.1, p.2) (key_owed g.S.CollationKeySink.took g.S.CollationKeySink.refused {O = Unit {0}} _ _ _ _ _ _ _ _ (Err c.in_err-push_handled.field-0.0)
+    let owes = subst (λ (l : List HandledElement). Owes g.S.CollationKeySink.effects c.args.sink.now c.args.state.now (three_levels_left compression c.args.writer (g.H.HandledSource.handled_left c.args.elements.now)) (three_levels_left compression c.writing.writer l) c.writing.sink c.writing.state) opened c.writing.invariant.owes in
+    rw (p.1, p.2) (key_owed g.S.CollationKeySink.effects {O = Unit {0}} _ _ _ _ _ _ _ _ (Err c.in_err-push_handled.field-0.0)
     (λ y z t u b d. g.met.S.CollationKeySink.took_both _ y z _ t u b d c.requires.sound) owes
-    (feeds_stopped g.S.CollationKeySink.took g.S.CollationKeySink.refused (Unit {0}) _ _ _ _ (λ (hs : List HandledElement). three_levels_left compression c.writing.writer (handled_as x ∷ hs)) (three_levels_left compression c.push_handled.new.writer) rest c.in_err-push_handled.field-0.0 c.in_err-push_handled.ensures.bytes))
+    (feeds_stopped g.S.CollationKeySink.effects (Unit {0}) _ _ _ _ (λ (hs : List HandledElement). three_levels_left compression c.writing.writer (handled_as x ∷ hs)) (three_levels_left compression c.push_handled.new.writer) rest c.in_err-push_handled.field-0.0 c.in_err-push_handled.ensures.bytes))
 
 pub returns-clause-bytes : goal.returns-clause-bytes
 returns-clause-bytes g c =
     let compression : Compression = g.C.PrimaryCompression.compression c.args.compression.now in
     let none : g.H.HandledSource.handled_left c.writing.elements ≡ [] = none_given _ (g.H.HandledSource.handled_left c.next_element.new.elements) _ c.in_default.not-Some c.in_ok-element.ensures.next in
-    let owes = subst (λ (l : List HandledElement). Owes g.S.CollationKeySink.took c.args.sink.now c.args.state.now (three_levels_left compression c.args.writer (g.H.HandledSource.handled_left c.args.elements.now)) (three_levels_left compression c.writing.writer l) c.writing.sink c.writing.state) none c.writing.invariant.owes in
-    key_owed g.S.CollationKeySink.took g.S.CollationKeySink.refused _ _ _ _ _ _ _ _ _
+    let owes = subst (λ (l : List HandledElement). Owes g.S.CollationKeySink.effects c.args.sink.now c.args.state.now (three_levels_left compression c.args.writer (g.H.HandledSource.handled_left c.args.elements.now)) (three_levels_left compression c.writing.writer l) c.writing.sink c.writing.state) none c.writing.invariant.owes in
+    key_owed g.S.CollationKeySink.effects _ _ _ _ _ _ _ _ _
     (λ y z t u b d. g.met.S.CollationKeySink.took_both _ y z _ t u b d c.requires.sound) owes (c.close_levels.ensures.bytes compression)

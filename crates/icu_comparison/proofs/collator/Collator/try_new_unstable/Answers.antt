@@ -1,11 +1,6 @@
 -- The tables that the provider returned are those that were refused.
-use Rattle.std.proofs.Common.{◌≡◌, Result, Ok, Err, sym, subst, IfErr, IfOk, rules}
+use Rattle.std.proofs.Common.{◌≡◌, Result, Ok, Err, sym, subst, IfErr, IfOk}
 use Rattle.std.specs.Result.{IsErrAnd}
-use Rattle.icu_elements.specs.TextElements.{Reading}
-use Rattle.icu_checks.specs.Checked.{checked_tables}
-use Rattle.icu_shortcuts.specs.LetterTables.{AreLetters}
-use Rattle.icu_shortcuts.specs.Named.{NamesAll}
-use Rattle.icu_shortcuts.specs.SafeTables.{safe_reading}
 use Rattle.icu_entries.specs.declared.error.DataError.{DataError}
 use Rattle.icu_entries.specs.declared.error.DataErrorKind.TheVariants.{NoMemory}
 use Rattle.icu_provider.specs.CollatorTables.{CollatorTables}
@@ -24,20 +19,3 @@ returns-in_err-tables-clause-exact g c =
     handed_on c.from_residual-in_err-tables.result c.in_err-tables.field-0.0
     (λ e. IfOk (loaded_for (g.P.CollationProvider.loads c.args.provider.now) c.args.preferences) (λ (all : CollatorTables). (e.kind ≡ NoMemory → ⊥) → IsGoodTables all → ⊥))
     c.from_residual-in_err-tables.ensures.1 (rw loaded c.in_err-tables.ensures.exact)
-
--- what was kept is what was made
-kept : {T E : Type 0} (r : Result T E) (x : T) (P : T → Type 0) → r ≡ Ok x → IfOk r P → P x
-kept r x P e h = subst (λ r. IfOk r P) e h
-
-pub safe_places-places-requires : goal.safe_places-places-requires
-safe_places-places-requires g c =
-    kept c.new.result c.in_ok-named.named (λ n. NamesAll n (checked_tables c.in_ok-tables.tables).tables) c.in_ok-named.ensures.kept c.new.ensures
-
-pub invariant_of-result : goal.invariant_of-result
-invariant_of-result g c =
-    let letters = kept c.new-2.result c.in_ok-letters.letters (λ l. AreLetters (safe_reading c.safe_places-places.result) l) c.in_ok-letters.ensures.kept c.new-2.ensures in
-    record {
-      backward = search rules;
-      names = kept c.new.result c.in_ok-named.named (λ n. NamesAll n (checked_tables c.in_ok-tables.tables).tables) c.in_ok-named.ensures.kept c.new.ensures;
-      known = subst (λ (r : Reading). AreLetters r c.in_ok-letters.letters) c.safe_places-places.ensures letters;
-    }

@@ -2,8 +2,8 @@
 use Rattle.std.proofs.Common.{◌≡◌, ◌∙◌, ap, false}
 use Rattle.unicode_normalization.specs.Forms.{nfd}
 use Rattle.icu_levels.specs.ListOrder.{segments_order}
-use Rattle.icu_order.specs.Handled.{stayed_elements}
-use Rattle.icu_order.specs.Levels.{segments}
+use Rattle.icu_weighting.specs.Handled.{stayed_elements}
+use Rattle.icu_weighting.specs.Levels.{segments}
 use Rattle.icu_order.specs.TextOrder.{handled_elements, handled_by, lists_by}
 use Rattle.icu_comparison.specs.Collators.{collation_borrowed}
 use Rattle.icu_comparison.specs.HandledRests.{handled_rest}

@@ -1,7 +1,7 @@
 -- The weights of the level are the cases.
 use Rattle.std.proofs.Common.{◌≡◌, ◌∙◌, Ordering, Some, IfOk, subst, sym, ap}
 use Rattle.unicode_normalization.specs.Forms.{nfd}
-use Rattle.icu_order.specs.Forms.{form_by}
+use Rattle.icu_weighting.specs.Forms.{form_by}
 use Rattle.icu_comparison.specs.Collators.{collation_borrowed}
 use Rattle.icu_levels.specs.declared.forms.KeyForm.{KeyForm}
 use Rattle.icu_comparison.proofs.LevelLemmas.{cases_read}

@@ -4,7 +4,7 @@ use Rattle.unicode_normalization.specs.Forms.{nfd}
 use Rattle.icu_levels.specs.Keys.{secondaries_order}
 use Rattle.icu_levels.specs.declared.forms.KeyForm.{KeyForm}
 use Rattle.icu_levels.specs.declared.forms.SecondaryForm.TheVariants.{Forward}
-use Rattle.icu_order.specs.Forms.{form_by}
+use Rattle.icu_weighting.specs.Forms.{form_by}
 use Rattle.icu_order.specs.TextOrder.{lists_by}
 use Rattle.icu_comparison.specs.Collators.{collation_borrowed}
 use Rattle.icu_comparison.proofs.LevelLemmas.{secondaries_read}

@@ -2,7 +2,7 @@
 use Rattle.std.proofs.Common.{◌≡◌, ◌⊎◌, ◌∷◌, inl, inr, ⊎_elim, true}
 use Rattle.unicode_normalization.specs.Forms.{nfd}
 use Rattle.icu_elements.specs.TextElements.{elements_of}
-use Rattle.icu_order.specs.Forms.{last_variable_by}
+use Rattle.icu_weighting.specs.Forms.{last_variable_by}
 use Rattle.icu_order.specs.TextCuts.{begins_with_primary}
 use Rattle.icu_order.specs.TextOrder.{reading_by}
 use Rattle.icu_comparison.specs.Collators.{collation_borrowed}

@@ -3,8 +3,8 @@ use Rattle.std.proofs.Common.{List, ◌∙◌, map, sym, ap}
 use Rattle.unicode_normalization.specs.Forms.{nfd}
 use Rattle.icu_entries.specs.Elements.{Element}
 use Rattle.icu_elements.specs.TextElements.{Reading, elements_of}
-use Rattle.icu_order.specs.Forms.{last_variable_by}
-use Rattle.icu_order.specs.Handled.{stayed}
+use Rattle.icu_weighting.specs.Forms.{last_variable_by}
+use Rattle.icu_weighting.specs.Handled.{stayed}
 use Rattle.icu_order.specs.TextOrder.{reading_by}
 use Rattle.icu_comparison.specs.Collators.{collation_borrowed}
 use Rattle.icu_comparison.proofs.OrdersInTurn.{all_stay}

@@ -16,4 +16,4 @@ returns g c =
     let text = g.T.EncodedText.text c.args.text in
     let read = key_read (collation_borrowed c.args.self.now) text (nfd text) c.as_slice.result.now
     refl (λ on. c.as_slice.ensures.value ∙ c.in-Ok.ensures on) in
-    record { key = subst (λ (key : List ℕ). WritesKey g.S.CollationKeySink.took g.S.CollationKeySink.refused g.S.CollationKeySink.finished g.S.State.Default.is_default c.args.sink.now key c.write_with_characters.result c.write_with_characters.new.sink) read c.write_with_characters.ensures.key }
+    record { key = subst (λ (key : List ℕ). WritesKey g.S.CollationKeySink.effects c.args.sink.now key c.write_with_characters.result c.write_with_characters.new.sink) read c.write_with_characters.ensures.key }

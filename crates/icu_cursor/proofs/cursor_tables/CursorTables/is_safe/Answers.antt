@@ -1,6 +1,3 @@
-use Rattle.std.proofs.Common.{subst}
-use Rattle.icu_elements.specs.TextElements.{Reading}
-use Rattle.icu_shortcuts.specs.SafeTables.{IsSafeBefore}
 use Rattle.icu_cursor.specs.Cursors.{cursor_reading}
 use Rattle.icu_cursor.proofs.PieceLemmas.{may_be_cut}
 use Rattle.icu_cursor.proofs.cursor_tables.CursorTables.is_safe.Goals as goal
@@ -8,4 +5,4 @@ use Rattle.icu_cursor.proofs.cursor_tables.CursorTables.is_safe.Goals as goal
 pub returns-in-None : goal.returns-in-None
 unfolding cursor_reading
 returns-in-None c = λ safe.
-    may_be_cut (cursor_reading c.args.self.now) c.args.c (subst (λ (r : Reading). IsSafeBefore r c.args.c) c.args.self.now.places_by (c.is_safe.ensures safe))
+    may_be_cut (cursor_reading c.args.self.now) c.args.c (c.is_safe.ensures safe)

@@ -1,10 +1,10 @@
 use Rattle.std.proofs.Common.{ap, ◌∙◌}
 use Rattle.icu_elements.specs.TextElements.{last_two}
-use Rattle.icu_elements.specs.inner.Positions.{reading_by_tables}
+use Rattle.icu_elements.specs.Reading.{reading_of}
 use Rattle.icu_elements.proofs.CollationElementsLemmas.{none_read}
 use Rattle.icu_elements.proofs.element_reader.ElementReader.after.Goals as goal
 
 pub returns : goal.returns
 returns c =
     let start = c.at_start-reader.ensures in
-    none_read _ _ _ _ (ap reading_by_tables start.reading) start.ready (c.push_all.ensures ∙ ap (λ l. last_two l c.args.before.now) start.before) start.unread
+    none_read _ _ _ _ (ap reading_of start.reading) start.ready (c.push_all.ensures ∙ ap (λ l. last_two l c.args.before.now) start.before) start.unread

@@ -1,7 +1,7 @@
 use Rattle.std.proofs.Common.{ap₂, ◌∙◌}
 use Rattle.icu_elements.specs.ElementReaders.{elements_to_come}
 use Rattle.icu_elements.specs.TextElements.{elements_after}
-use Rattle.icu_elements.specs.inner.Positions.{reading_by_tables}
+use Rattle.icu_elements.specs.Reading.{reading_of}
 use Rattle.icu_elements.proofs.CollationElementsLemmas.{none_ready}
 use Rattle.icu_elements.proofs.element_reader.ElementReader.at_start.Goals as goal
 
@@ -9,4 +9,4 @@ pub returns-clause-elements : goal.returns-clause-elements
 unfolding elements_to_come
 returns-clause-elements c =
     none_ready _ _ c.new.ensures.items
-    ∙ ap₂ (elements_after (reading_by_tables c.args.reading)) c.at_start.ensures.before c.at_start.ensures.unread
+    ∙ ap₂ (elements_after (reading_of c.args.reading)) c.at_start.ensures.before c.at_start.ensures.unread

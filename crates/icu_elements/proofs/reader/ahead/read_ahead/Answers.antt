@@ -5,8 +5,8 @@ use Rattle.icu_data.specs.Data.{Data, no_context}
 use Rattle.icu_data.specs.StoredData.{data_of, found_context}
 use Rattle.icu_provider.specs.Tables.{diacritic_of}
 use Rattle.icu_matches.proofs.MatchLemmas.{prefix_inside, contraction_inside}
-use Rattle.icu_elements.specs.Reading.{element_tables}
-use Rattle.icu_elements.specs.inner.Positions.{reading_by_tables, recent_chars}
+use Rattle.icu_elements.specs.Reading.{element_tables, reading_of}
+use Rattle.icu_elements.specs.inner.Positions.{recent_chars}
 use Rattle.icu_elements.proofs.AheadLemmas.{HasWholeStep-by_dot, HasWholeStep-by_run, HasWholeStep-by_contraction}
 use Rattle.icu_elements.proofs.ReaderLemmas.{on_ok}
 use Rattle.icu_elements.proofs.ReadsAheadLemmas.{ReadsTo-weaker}
@@ -16,7 +16,7 @@ pub returns-then-is_some-clause-text : goal.returns-then-is_some-clause-text
 returns-then-is_some-clause-text g c =
     let there : is_some (diacritic_of (element_tables c.args.reading.tables) c.args.c) ≡ true = search rules in
     on_ok c.read_dot.result _ _
-    (λ reads. ReadsTo-weaker g.I.Iterator.next_gives _ _ _ _ _ _ (HasWholeStep-by_dot (reading_by_tables c.args.reading) (recent_chars c.args.recent) c.args.c _ there) reads)
+    (λ reads. ReadsTo-weaker g.I.Iterator.next_gives _ _ _ _ _ _ (HasWholeStep-by_dot (reading_of c.args.reading) (recent_chars c.args.recent) c.args.c _ there) reads)
     c.read_dot.ensures.text
 
 pub after_prefix-ce32-requires : goal.after_prefix-ce32-requires
@@ -37,7 +37,7 @@ returns-in-Contraction-clause-text g c =
     on_ok c.read_contraction.result _ _
     (λ reads.
     ReadsTo-weaker g.I.Iterator.next_gives _ _ _ _ _ _
-    (HasWholeStep-by_contraction (reading_by_tables c.args.reading) (recent_chars c.args.recent) c.args.c home c.entry-entry.result.ce32 c.after_prefix-ce32.result none c.entry-entry.ensures.value (search rules)
+    (HasWholeStep-by_contraction (reading_of c.args.reading) (recent_chars c.args.recent) c.args.c home c.entry-entry.result.ce32 c.after_prefix-ce32.result none c.entry-entry.ensures.value (search rules)
     (found_context c.get_context.result) is (c.get_context.ensures.value ∙ ap (λ n. slice_index_or home.contexts n no_context) c.index.ensures.value) c.get_context.ensures.ascending _) reads)
     c.read_contraction.ensures.text
 
@@ -51,7 +51,7 @@ returns-in_default g c =
           on_ok c.read_number.result _ _
           (λ reads.
           ReadsTo-weaker g.I.Iterator.next_gives _ _ _ _ _ _
-          (HasWholeStep-by_run (reading_by_tables c.args.reading) (recent_chars c.args.recent) c.args.c home c.entry-entry.result.ce32 c.after_prefix-ce32.result none c.entry-entry.ensures.value (search rules)
+          (HasWholeStep-by_run (reading_of c.args.reading) (recent_chars c.args.recent) c.args.c home c.entry-entry.result.ce32 c.after_prefix-ce32.result none c.entry-entry.ensures.value (search rules)
           (λ is. c.in_default.not-Contraction (c.kind.ensures ∙ is)) _) reads)
           c.read_number.ensures.text;
       size = c.read_number.ensures.size;

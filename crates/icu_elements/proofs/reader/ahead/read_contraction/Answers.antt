@@ -1,5 +1,5 @@
 use Rattle.icu_data.specs.StoredData.{found_context}
-use Rattle.icu_elements.specs.inner.Positions.{reading_by_tables}
+use Rattle.icu_elements.specs.Reading.{reading_of}
 use Rattle.icu_elements.proofs.AheadLemmas.{IsMatchRead-longer, HasWholeContraction-row, HasWholeContraction-run}
 use Rattle.icu_elements.proofs.ReaderLemmas.{on_ok}
 use Rattle.icu_elements.proofs.ReadsAheadLemmas.{ReadsTo-weaker, ReadsTo-then}
@@ -8,7 +8,7 @@ use Rattle.icu_elements.proofs.reader.ahead.read_contraction.Goals as goal
 pub returns-then-taken-gt0-clause-text : goal.returns-then-taken-gt0-clause-text
 returns-then-taken-gt0-clause-text g c =
     ReadsTo-weaker g.I.Iterator.next_gives _ _ _ _ _ _
-    (HasWholeContraction-row (reading_by_tables c.args.reading) (found_context c.args.context) c.in_ok-taken.taken _ c.if-taken-gt0.true)
+    (HasWholeContraction-row (reading_of c.args.reading) (found_context c.args.context) c.in_ok-taken.taken _ c.if-taken-gt0.true)
     c.in_ok-taken.ensures.text
 
 pub returns-clause-text : goal.returns-clause-text
@@ -17,6 +17,6 @@ returns-clause-text g c =
     let context = found_context c.args.context in
     on_ok c.read_number.result _ _
     (λ reads.
-    ReadsTo-weaker steps _ _ _ _ _ _ (HasWholeContraction-run (reading_by_tables c.args.reading) context c.in_ok-taken.taken _)
+    ReadsTo-weaker steps _ _ _ _ _ _ (HasWholeContraction-run (reading_of c.args.reading) context c.in_ok-taken.taken _)
     (ReadsTo-then steps _ _ _ _ _ _ _ _ (λ more. IsMatchRead-longer context c.in_ok-taken.taken _ more) c.in_ok-taken.ensures.text (rw c.default.ensures at reads)))
     c.read_number.ensures.text

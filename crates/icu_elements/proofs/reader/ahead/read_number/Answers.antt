@@ -1,5 +1,5 @@
 use Rattle.std.proofs.Common.{rules}
-use Rattle.icu_elements.specs.inner.Positions.{reading_by_tables}
+use Rattle.icu_elements.specs.Reading.{reading_of}
 use Rattle.icu_elements.proofs.AheadLemmas.{IsRunRead-none}
 use Rattle.icu_elements.proofs.ReaderLemmas.{on_ok}
 use Rattle.icu_elements.proofs.ReadsAheadLemmas.{ReadsTo-none, ReadsTo-weaker}
@@ -7,7 +7,7 @@ use Rattle.icu_elements.proofs.reader.ahead.read_number.Goals as goal
 
 pub returns-then-not-begins_number-clause-text : goal.returns-then-not-begins_number-clause-text
 returns-then-not-begins_number-clause-text g c =
-    ReadsTo-none g.I.Iterator.next_gives _ _ _ (IsRunRead-none (reading_by_tables c.args.reading) c.args.ce32 _ (search rules))
+    ReadsTo-none g.I.Iterator.next_gives _ _ _ (IsRunRead-none (reading_of c.args.reading) c.args.ce32 _ (search rules))
 
 pub returns-clause-text : goal.returns-clause-text
 returns-clause-text g c =

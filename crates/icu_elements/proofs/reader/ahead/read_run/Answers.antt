@@ -1,6 +1,6 @@
 use Rattle.std.proofs.Common.{◌≡◌, None, not, rules, arith}
 use Rattle.icu_elements.specs.Reading.{element_tables}
-use Rattle.icu_elements.specs.TextElements.{continues_number, digit_of}
+use Rattle.icu_elements.specs.TextElements.{continues_number, digit_of_char}
 use Rattle.icu_elements.proofs.ReadsAheadLemmas.{ReadsTo-none, so_far_found, so_far_all, so_far_more, no_digit_there}
 use Rattle.icu_elements.proofs.reader.ahead.read_run.Goals as goal
 
@@ -16,7 +16,7 @@ returns-then-is_none-clause-text g c =
     let tables = element_tables c.args.tables in
     let none : c.digit.result ≡ None = search rules in
     so_far_found g.I.Iterator.next_gives _ _ _ _ _ _ c.loop-c.invariant.reads (λ d. not (continues_number tables d)) 0 _ c.in-Some.c c.in-Some.is c.in_ok-c.ensures.text (omega arith)
-    (no_digit_there (continues_number tables c.in-Some.c) c.digit.result (digit_of tables c.in-Some.c) c.digit.ensures.value none)
+    (no_digit_there (continues_number tables c.in-Some.c) c.digit.result (digit_of_char tables c.in-Some.c) c.digit.ensures.value none)
 
 pub loop-c-preserved : goal.loop-c-preserved
 loop-c-preserved g c = record {

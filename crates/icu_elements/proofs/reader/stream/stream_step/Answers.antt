@@ -1,6 +1,7 @@
 use Rattle.std.proofs.Common.{length, ap, rules, arith}
 use Rattle.icu_matches.specs.Texts.{unread}
-use Rattle.icu_elements.specs.inner.Positions.{reading_by_tables, consumed_last}
+use Rattle.icu_elements.specs.inner.Positions.{consumed_last}
+use Rattle.icu_elements.specs.Reading.{reading_of}
 use Rattle.icu_elements.proofs.StepLemmas.{Rests-step}
 use Rattle.icu_elements.proofs.StreamLemmas.{HasElements-step, nothing_to_come}
 use Rattle.icu_elements.proofs.reader.stream.stream_step.Goals as goal
@@ -17,5 +18,5 @@ returns-in_ok-read_char-in-Some-clause-elements g c = λ all h.
 pub returns-in_ok-read_char-in-Some-clause-shorter : goal.returns-in_ok-read_char-in-Some-clause-shorter
 returns-in_ok-read_char-in-Some-clause-shorter g c = λ _.
     let rest = c.in_ok-read_char-in-Some.ensures.rest in
-    let fits = (Rests-step (reading_by_tables c.args.reading) (consumed_last c.args.at.now) c.in-Some.c (unread c.read_ahead.new.text)).fits in
+    let fits = (Rests-step (reading_of c.args.reading) (consumed_last c.args.at.now) c.in-Some.c (unread c.read_ahead.new.text)).fits in
     omega (arith, c.in_ok-read_first.ensures.size, c.in_ok-read_ahead-in-Some.ensures.size, ap length c.in-Some.ensures.taken, ap length rest, fits)

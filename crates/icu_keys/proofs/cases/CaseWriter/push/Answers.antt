@@ -10,7 +10,7 @@ returns-then-whole-runs-clause-bytes g c =
     let form = c.args.self.now.form in
     let n = c.args.self.now.run.length in
     let held = option_to_list c.args.self.now.nibbles.held in
-    feeds_writes g.S.CollationKeySink.took g.S.CollationKeySink.refused _ _ _ _ (option_to_list c.add_optional-byte.result) _ _ _
+    feeds_writes g.S.CollationKeySink.effects _ _ _ _ (option_to_list c.add_optional-byte.result) _ _ _
     (λ ranks. counted_case (case_runs form) c.runs_of-runs.result (case_nibble form) n c.count-due.new.self.length (rank_of form c.args.case) ranks
     held (option_to_list c.count-due.result) (option_to_list c.add_optional-byte.result) (option_to_list c.add_optional-byte.new.self.held)
     (sym c.runs_of-runs.ensures)
@@ -23,7 +23,7 @@ returns-else-whole-runs-clause-bytes g c =
     let form = c.args.self.now.form in
     let n = c.args.self.now.run.length in
     let held = option_to_list c.args.self.now.nibbles.held in
-    feeds_writes g.S.CollationKeySink.took g.S.CollationKeySink.refused _ _ _ _ (option_to_list c.add_optional-first.result ++ option_to_list c.add-second.result) _ _ _
+    feeds_writes g.S.CollationKeySink.effects _ _ _ _ (option_to_list c.add_optional-first.result ++ option_to_list c.add-second.result) _ _ _
     (λ ranks. other_case (case_runs form) c.runs_of-runs.result (case_nibble form) n c.end-last.new.self.length (rank_of form c.args.case) c.from-whole.result c.nibble.result ranks
     held (option_to_list c.end-last.result) (option_to_list c.add_optional-first.result) (option_to_list c.add_optional-first.new.self.held)
     (option_to_list c.add-second.result) (option_to_list c.add-second.new.self.held)

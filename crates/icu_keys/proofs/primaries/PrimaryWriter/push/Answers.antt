@@ -7,7 +7,7 @@ pub returns-clause-bytes : goal.returns-clause-bytes
 returns-clause-bytes g c =
     let rules = g.C.PrimaryCompression.compression c.args.compression.now in
     let d : ℕ = c.args.self.now.dropped in
-    feeds_writes g.S.CollationKeySink.took g.S.CollationKeySink.refused _ _ _ _ (primary_bytes d c.reorder-reordered.result) _ _ _
+    feeds_writes g.S.CollationKeySink.effects _ _ _ _ (primary_bytes d c.reorder-reordered.result) _ _ _
     (λ ws. sym (ap (λ r. primary_bytes d r ++ primary_level rules c.lead_to_drop-self.result ws) c.reorder-reordered.ensures
     ∙ ap (λ n. primary_bytes d (rules.reorder c.args.weight) ++ primary_level rules n ws) c.lead_to_drop-self.ensures))
     c.write_primary.ensures.bytes

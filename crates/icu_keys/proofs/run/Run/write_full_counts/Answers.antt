@@ -10,7 +10,7 @@ returns-in_err-write_byte-clause-bytes g c = λ spell.
     let p = err_from_is_err_and c.from_residual.result c.from_residual.ensures.1 in
     let runs = c.args.runs.now in
     let left : ℕ = c.loop-left.left - runs.count in
-    rw (p.1, p.2) (brings_fails g.S.CollationKeySink.took g.S.CollationKeySink.refused _ _ _ _ _ _ (runs.middle ∷ [])
+    rw (p.1, p.2) (brings_fails g.S.CollationKeySink.effects _ _ _ _ _ _ (runs.middle ∷ [])
     (λ ws. level_bytes runs spell c.args.self.now.length (replicate c.args.more runs.common ++ ws)) (level_bytes runs spell c.loop-left.left) (level_bytes runs spell left) _
     (c.loop-left.invariant.brings spell) c.in_err-write_byte.ensures.outcome
     (λ ws. full_taken runs spell c.loop-left.left left ws c.requires.runs.some (omega arith) (omega arith)))
@@ -22,7 +22,7 @@ loop-left-preserved g c =
     record {
       sound = c.in_ok-write_byte.ensures.sound;
       brings = λ spell.
-          brings_more g.S.CollationKeySink.took g.S.CollationKeySink.refused _ _ _ _ _ _ (runs.middle ∷ [])
+          brings_more g.S.CollationKeySink.effects _ _ _ _ _ _ (runs.middle ∷ [])
           (λ ws. level_bytes runs spell c.args.self.now.length (replicate c.args.more runs.common ++ ws)) (level_bytes runs spell c.loop-left.left) (level_bytes runs spell left)
           (λ y z t u b d. g.met.S.CollationKeySink.took_both _ y z _ t u b d c.requires.sound)
           (c.loop-left.invariant.brings spell) c.in_ok-write_byte.ensures.outcome

@@ -7,7 +7,7 @@ use Rattle.icu_keys.proofs.run.Run.write_full_counts.Given as goal
 abbrev pub invariant-loop-left : goal.invariant-loop-left
 invariant-loop-left g l = record {
   sound : g.S.CollationKeySink.is_sound l.sink l.state;
-  brings : (spell : ℕ → List ℕ) → Brings g.S.CollationKeySink.took l.fn.sink l.fn.state (λ ws. level_bytes l.runs spell l.self.length (replicate l.more l.runs.common ++ ws)) (level_bytes l.runs spell l.left) l.sink l.state;
+  brings : (spell : ℕ → List ℕ) → Brings g.S.CollationKeySink.effects l.fn.sink l.fn.state (λ ws. level_bytes l.runs spell l.self.length (replicate l.more l.runs.common ++ ws)) (level_bytes l.runs spell l.left) l.sink l.state;
 }
 
 abbrev pub decreases-loop-left : goal.decreases-loop-left

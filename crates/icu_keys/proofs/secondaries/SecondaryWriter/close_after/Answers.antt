@@ -12,6 +12,6 @@ returns-in_err-push_commons-clause-bytes g c =
 
 pub returns-clause-bytes : goal.returns-clause-bytes
 returns-clause-bytes g c =
-    brings_written g.S.CollationKeySink.took g.S.CollationKeySink.refused _ _ _ _ _ _ (λ ws. secondary_rest c.args.self (replicate c.args.more SECONDARY_RUNS.common ++ ws)) (secondary_rest c.push_commons.new.self) [] _
+    brings_written g.S.CollationKeySink.effects _ _ _ _ _ _ (λ ws. secondary_rest c.args.self (replicate c.args.more SECONDARY_RUNS.common ++ ws)) (secondary_rest c.push_commons.new.self) [] _
     (λ y z t u b d. g.met.S.CollationKeySink.took_both _ y z _ t u b d c.requires)
     c.in_ok-push_commons.ensures.bytes c.close.ensures.bytes

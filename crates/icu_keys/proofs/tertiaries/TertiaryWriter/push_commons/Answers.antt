@@ -6,6 +6,6 @@ use Rattle.icu_keys.proofs.tertiaries.TertiaryWriter.push_commons.Goals as goal
 pub returns-clause-bytes : goal.returns-clause-bytes
 returns-clause-bytes g c =
     let form = c.args.self.now.form in
-    feeds_commons g.S.CollationKeySink.took g.S.CollationKeySink.refused _ _ _ _ (tertiary_runs form) c.runs_of-runs.result (tertiary_bytes form) _ _ c.args.more _
+    feeds_commons g.S.CollationKeySink.effects _ _ _ _ (tertiary_runs form) c.runs_of-runs.result (tertiary_bytes form) _ _ c.args.more _
     (sym c.runs_of-runs.ensures)
     (c.write_commons.ensures.bytes (tertiary_bytes form))

@@ -8,13 +8,13 @@ use Rattle.icu_keys.proofs.three_levels.ThreeLevelWriter.close.Goals as goal
 pub returns-in_err-write_closed-clause-bytes : goal.returns-in_err-write_closed-clause-bytes
 returns-in_err-write_closed-clause-bytes g c = λ rules.
     let p = err_from_is_err_and c.from_residual.result c.from_residual.ensures.1 in
-    rw (p.1, p.2) (fails_front g.S.CollationKeySink.took g.S.CollationKeySink.refused _ _ _ _
+    rw (p.1, p.2) (fails_front g.S.CollationKeySink.effects _ _ _ _
     (part_bytes (closed (held_secondaries c.args.self.now.secondaries []))) (part_bytes (closed (held_tertiaries c.args.self.now.tertiaries []))) _
     c.in_err-write_closed.ensures.bytes)
 
 pub returns-clause-bytes : goal.returns-clause-bytes
 returns-clause-bytes g c = λ rules.
-    writes_after g.S.CollationKeySink.took g.S.CollationKeySink.refused _ _ _ _ _ _
+    writes_after g.S.CollationKeySink.effects _ _ _ _ _ _
     (part_bytes (closed (held_secondaries c.args.self.now.secondaries []))) (part_bytes (closed (held_tertiaries c.args.self.now.tertiaries []))) _
     (λ y z t u b d. g.met.S.CollationKeySink.took_both _ y z _ t u b d c.requires)
     c.in_ok-write_closed.ensures.bytes c.write_closed-2.ensures.bytes

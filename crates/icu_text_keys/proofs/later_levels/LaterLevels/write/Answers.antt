@@ -11,12 +11,12 @@ in_all ps qs q e = sym (parts_end ps q) ∙ ap (λ (l : List LevelPart). parts_b
 
 pub returns-in-Ok-write_later-clause-bytes : goal.returns-in-Ok-write_later-clause-bytes
 returns-in-Ok-write_later-clause-bytes g c = λ reorder.
-    subst (λ (l : List ℕ). g.S.CollationKeySink.took c.args.sink.now c.args.state.now l c.write_later.new.sink c.write_later.new.state)
+    subst (λ (l : List ℕ). (g.S.CollationKeySink.effects).took c.args.sink.now c.args.state.now l c.write_later.new.sink c.write_later.new.state)
     (in_all (map part_of c.in-Ok.parts) (levels_left reorder c.args.self c.args.characters.now []) (characters_left c.args.self.identical c.args.characters.now) (c.in-Ok.ensures reorder c.args.characters.now))
     c.in-Ok-write_later.ensures.bytes
 
 pub returns-in-Ok-clause-bytes : goal.returns-in-Ok-clause-bytes
 returns-in-Ok-clause-bytes g c = λ reorder.
-    subst (λ (l : List ℕ). WriteFails g.S.CollationKeySink.took g.S.CollationKeySink.refused c.args.sink.now c.args.state.now l c.in-Err-write_later.error c.write_later.new.sink c.write_later.new.state)
+    subst (λ (l : List ℕ). WriteFails g.S.CollationKeySink.effects c.args.sink.now c.args.state.now l c.in-Err-write_later.error c.write_later.new.sink c.write_later.new.state)
     (in_all (map part_of c.in-Ok.parts) (levels_left reorder c.args.self c.args.characters.now []) (characters_left c.args.self.identical c.args.characters.now) (c.in-Ok.ensures reorder c.args.characters.now))
     c.in-Err-write_later.ensures.bytes

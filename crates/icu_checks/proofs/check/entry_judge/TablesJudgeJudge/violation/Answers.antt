@@ -1,0 +1,17 @@
+use Rattle.std.proofs.Common.{sym, ap, ◌∙◌}
+use Rattle.icu_data.specs.StoredData.{data_of}
+use Rattle.icu_data.specs.Violations.{earlier}
+use Rattle.icu_provider.specs.TableSets.{tables_in}
+use Rattle.icu_checks.specs.inner.Violations.{violation_rank}
+use Rattle.icu_checks.specs.inner.EntryViolations.{rows_violation}
+use Rattle.icu_checks.proofs.EntryViolationLemmas.{without_own}
+use Rattle.icu_checks.proofs.check.entry_judge.TablesJudgeJudge.violation.Goals as goal
+
+pub returns-in-None : goal.returns-in-None
+returns-in-None c =
+    let all = tables_in c.args.self.now.tables in
+    let home = data_of c.args.home in
+    c.earlier.ensures
+    ∙ ap (λ rows. earlier violation_rank rows c.elements_violation.result) c.rows_violation.ensures
+    ∙ ap (earlier violation_rank (rows_violation all home c.args.entry)) c.elements_violation.ensures
+    ∙ sym (without_own all c.args.self.now.table home c.args.c c.args.entry (sym c.first_failing.ensures ∙ c.in-None.is))

@@ -1,0 +1,157 @@
+//! The tertiary level, held until its end.
+
+ghost use Rattle.std.specs.Prelude.{◌≡◌, ℕ, ◌<◌, ◌^◌, List, [], ◌∷◌, OnOk, IfOk};
+ghost use Rattle.icu_levels.specs.Tertiaries.{moved_tertiary, tertiary_level, tertiary_runs};
+ghost use Rattle.icu_levels.specs.Keys.{part_bytes, opened, closed};
+ghost use Rattle.icu_keys.specs.Writes.{Writes};
+
+use crate::held::{INLINE, write_held};
+use crate::parts::LEVEL;
+use crate::sink::CollationKeySink;
+use crate::tertiaries::{TertiaryWriter, common_of};
+use icu_levels::forms::TertiaryForm;
+use smallvec::SmallVec;
+use std::alloc::{AllocError, Global};
+
+/// The tertiary level of a text. Common weights are counted, and written with the weight that comes after them.
+#[derive(Drop)]
+pub struct HeldTertiaries {
+    writer: TertiaryWriter,
+    commons: u32,
+    bytes: SmallVec<u8, INLINE>,
+}
+
+impl HeldTertiaries {
+    ghost use Rattle.icu_keys.specs.HeldRests.{held_tertiaries, held_tertiary_form};
+
+    /// A level of this form, with no weight. It allocates nothing.
+    pub fn new(alloc: Global, form: TertiaryForm) -> Self
+        ensures form { held_tertiary_form result ≡ form }
+        ensures begins { (ws : List ℕ) → held_tertiaries result ws ≡ tertiary_level form ws }
+    {
+        HeldTertiaries {
+            writer: TertiaryWriter::new(form),
+            commons: 0,
+            bytes: SmallVec::new(alloc),
+        }
+    }
+
+    /// The form of the level.
+    pub fn form(&self) -> TertiaryForm
+        ensures { result ≡ held_tertiary_form self.now }
+    {
+        self.writer.form()
+    }
+
+    /// Adds the next weight, as the form has it. After an error, discard the level.
+    pub fn push(&mut self, weight: u16) -> Result<(), AllocError>
+        requires { moved_tertiary (held_tertiary_form self.old) weight < 2 ^ 16 }
+        ensures form { held_tertiary_form self.new ≡ held_tertiary_form self.old }
+        ensures bytes { OnOk result ((ws : List ℕ) →
+            held_tertiaries self.old (weight ∷ ws) ≡ held_tertiaries self.new ws) }
+    {
+        let form = self.form();
+        self.push_in_form(form, weight)
+    }
+
+    /// Adds the next weight, of a caller that knows the form, so that it need not be asked for at each weight.
+    #[inline(always)]
+    pub(crate) fn push_in_form(&mut self, form: TertiaryForm, weight: u16) -> Result<(), AllocError>
+        requires form { held_tertiary_form self.old ≡ form }
+        requires fits { moved_tertiary form weight < 2 ^ 16 }
+        ensures form { held_tertiary_form self.new ≡ held_tertiary_form self.old }
+        ensures bytes { OnOk result ((ws : List ℕ) →
+            held_tertiaries self.old (weight ∷ ws) ≡ held_tertiaries self.new ws) }
+    {
+        if weight == common_of(form) && self.commons < u32::MAX {
+            self.count_common();
+            return Ok(());
+        }
+        self.push_next(weight)
+    }
+
+    /// How many common weights are counted, and not written yet.
+    #[inline(always)]
+    pub(crate) fn commons(&self) -> u32
+        ensures { result ≡ self.now.commons }
+    {
+        self.commons
+    }
+
+    /// Adds a common weight.
+    #[inline(always)]
+    pub(crate) fn count_common(&mut self)
+        requires { self.old.commons < u32.MAX }
+        ensures form { held_tertiary_form self.new ≡ held_tertiary_form self.old }
+        ensures bytes { (ws : List ℕ) →
+            held_tertiaries self.old ((tertiary_runs (held_tertiary_form self.old)).common ∷ ws)
+            ≡ held_tertiaries self.new ws }
+    {
+        self.commons += 1;
+    }
+
+    /// Feeds the counted weights to the writer, and then the next one.
+    #[inline(always)]
+    fn push_next(&mut self, weight: u16) -> Result<(), AllocError>
+        requires { moved_tertiary (held_tertiary_form self.old) weight < 2 ^ 16 }
+        ensures form { held_tertiary_form self.new ≡ held_tertiary_form self.old }
+        ensures bytes { OnOk result ((ws : List ℕ) →
+            held_tertiaries self.old (weight ∷ ws) ≡ held_tertiaries self.new ws) }
+    {
+        self.writer
+            .push_commons(&mut self.bytes, &mut (), self.commons)?;
+        self.commons = 0;
+        self.writer.push(&mut self.bytes, &mut (), weight)
+    }
+
+    /// Ends the level, and returns its bytes.
+    pub fn finish(self) -> Result<SmallVec<u8, INLINE>, AllocError>
+        ensures { IfOk result (λ bytes. bytes.items ≡ held_tertiaries self []) }
+    {
+        let mut bytes = self.bytes;
+        self.writer.close_after(&mut bytes, &mut (), self.commons)?;
+        Ok(bytes)
+    }
+
+    /// Writes the level to a sink, as it ends here.
+    fn write<S: CollationKeySink>(&self, sink: &mut S, state: &mut S::State) -> Result<(), S::Error>
+        requires { S.is_sound sink.old state.old }
+        ensures sound { S.is_sound sink.new state.new }
+        ensures bytes { Writes S.effects sink.old state.old (held_tertiaries self.now [])
+            result sink.new state.new }
+    {
+        write_held(sink, state, &self.bytes)?;
+        self.writer.close_after(sink, state, self.commons)
+    }
+
+    /// Writes the level, as it ends here, after the byte that opens it.
+    fn write_opened<S: CollationKeySink>(
+        &self,
+        sink: &mut S,
+        state: &mut S::State,
+    ) -> Result<(), S::Error>
+        requires { S.is_sound sink.old state.old }
+        ensures sound { S.is_sound sink.new state.new }
+        ensures bytes { Writes S.effects sink.old state.old
+            (part_bytes (opened (held_tertiaries self.now []))) result sink.new state.new }
+    {
+        sink.write_byte(state, LEVEL)?;
+        self.write(sink, state)
+    }
+
+    /// Writes the level to a sink, as it ends here, between the bytes that open and close it. An error is the sink's
+    /// own.
+    pub fn write_closed<S: CollationKeySink>(
+        &self,
+        sink: &mut S,
+        state: &mut S::State,
+    ) -> Result<(), S::Error>
+        requires { S.is_sound sink.old state.old }
+        ensures sound { S.is_sound sink.new state.new }
+        ensures bytes { Writes S.effects sink.old state.old
+            (part_bytes (closed (held_tertiaries self.now []))) result sink.new state.new }
+    {
+        self.write_opened(sink, state)?;
+        sink.write_byte(state, LEVEL)
+    }
+}

@@ -1,0 +1,171 @@
+-- The elements of the small tables, and what the conditions on elements ask of them.
+use Rattle.std.proofs.Common.{◌≡◌, ◌≢◌, ◌⊎◌, ◌<◌, ◌/◌, ◌%◌, ◌^◌, ℕ, false, List, [], ◌∷◌, refl, sym, ap, subst, ◌∙◌, arith, inl, inr, IsTrue, ◌*◌, ◌≤◌, nat_eq}
+use Rattle.std.proofs.lemmas.Bool.{eqb-true}
+use Rattle.std.proofs.lemmas.Bool.Decides.{nat_tests}
+use Rattle.std.specs.List.{Contains, list_all}
+use Rattle.icu_entries.specs.Elements.{Element, common, of_primary, of_secondary}
+use Rattle.icu_entries.specs.ElementConditions.{tertiary_of}
+use Rattle.icu_entries.specs.Entries.{simple_element}
+use Rattle.icu_entries.specs.Weights.{implicit_weight}
+use Rattle.icu_data.specs.Data.{Data}
+use Rattle.icu_levels.specs.WeightBytes.{weight_bytes}
+use Rattle.icu_provider.specs.SpecialPrimaries.{is_compressible}
+use Rattle.icu_checks.specs.declared.condition.LiveElementCondition.{LiveElementCondition}
+use Rattle.icu_checks.specs.declared.condition.LiveElementCondition.TheVariants as of_element
+use Rattle.icu_checks.specs.declared.condition.PairCondition.{PairCondition}
+use Rattle.icu_checks.specs.declared.condition.PairCondition.TheVariants as of_pair
+use Rattle.icu_checks.specs.declared.condition.LeadCondition.{LeadCondition}
+use Rattle.icu_checks.specs.declared.condition.LeadCondition.TheVariants as of_lead
+use Rattle.icu_checks.specs.ElementConditions.{has_low_bytes, is_tertiary_element, live_element_meets}
+use Rattle.icu_checks.specs.LeadConditions.{LeadMeets}
+use Rattle.icu_checks.specs.PairConditions.{BeginsNot, PairMeets}
+use Rattle.icu_data.proofs.ListLemmas.{of_member}
+use Rattle.icu_checks.proofs.ComparedLevelLemmas.{passes}
+use Rattle.icu_checks.proofs.EntryViolationLemmas.{passes_element}
+use Rattle.icu_checks.proofs.ImplicitLemmas.{AreBytes, implicit_bytes, implicit_pass}
+use Rattle.icu_weights.specs.Leads.{is_middle}
+use Rattle.icu_weights.proofs.BeginningLemmas.{four_bytes_begin, one_byte_begins}
+use Rattle.icu_weights.proofs.WrittenWeightLemmas.{same_first}
+use Rattle.icu_small_tables.specs.SmallTables.{letter_a, letter_b, letter_a_grave, grave, IsLowLead, with_root}
+
+-- the elements that don't go by a character
+abbrev pub stated_elements : List Element
+stated_elements = simple_element letter_a ∷ simple_element letter_b ∷ simple_element letter_a_grave ∷ of_secondary grave ∷ []
+
+-- all elements: those, and one for each character
+pub data IsSmallElement (x : Element) : Type 0 where
+  stated : Contains stated_elements x → IsSmallElement x
+  implicit : (c : ℕ) → x ≡ of_primary (implicit_weight c) → IsSmallElement x
+
+-- ---- lead bytes
+
+lead_is : (b : ℕ) → b * 0x1000000 / 0x1000000 ≡ b
+lead_is b = omega arith
+
+module _ (n : ℕ) (low : IsLowLead n) (root : Data) where
+  middle : IsTrue (is_middle n)
+  middle = let least = low.low in let most = low.high in grind (arith, nat_tests, least, most)
+
+  whole : is_compressible (with_root n root).special n ≡ false
+  unfolding is_compressible
+  whole = let most = low.high in grind (arith, nat_tests, most)
+
+  apart : 0xFE ≡ n * 0x1000000 / 0x1000000 → ⊥
+  apart same = let most = low.high in let lead = lead_is n in omega (arith, same, lead, most)
+
+  pub lead_meets : (condition : LeadCondition) → LeadMeets condition (with_root n root)
+  lead_meets of_lead.Separator = refl
+  lead_meets of_lead.HighLead = λ p fits is. is
+  lead_meets of_lead.ImplicitLead = record { together = λ p fits is. is; middle = refl }
+  lead_meets of_lead.NumericLead = record {
+    together = λ p fits is. is ∙ sym (lead_is n);
+    middle = subst (λ b. IsTrue (is_middle b)) (sym (lead_is n)) middle;
+  }
+  lead_meets of_lead.LeadsApart = apart
+  lead_meets of_lead.NumericWhole = whole
+
+  -- ---- each element
+
+  no_letter : (b : ℕ) → 0x29 ≤ b → nat_eq b n ≡ false
+  no_letter b least = let most = low.high in grind (arith, nat_tests, most)
+
+  stated_meet : (condition : LiveElementCondition) → IsTrue (list_all (live_element_meets condition (with_root n root)) stated_elements)
+  unfolding is_compressible
+  stated_meet of_element.Width = refl
+  stated_meet of_element.BackwardLead = refl
+  stated_meet of_element.TertiaryElement = refl
+  stated_meet of_element.MiddleLead = refl
+  stated_meet of_element.ImplicitLength = refl
+  stated_meet of_element.NumericLead = rw (no_letter 0x29 (omega arith), no_letter 0x2A (omega arith), no_letter 0x2B (omega arith)) refl
+  stated_meet of_element.SharedLead = rw (lead_is n, no_letter 0x29 (omega arith), no_letter 0x2A (omega arith), no_letter 0x2B (omega arith)) refl
+  stated_meet of_element.SecondByte = refl
+
+  pub element_is_good : (condition : LiveElementCondition) (x : Element) → IsSmallElement x → IsTrue (live_element_meets condition (with_root n root) x)
+  element_is_good condition x (stated is) = passes (live_element_meets condition (with_root n root)) stated_elements x (stated_meet condition) is
+  element_is_good condition x (implicit c is) =
+      subst (λ y. IsTrue (live_element_meets condition (with_root n root) y)) (sym is)
+      (passes_element (with_root n root) (of_primary (implicit_weight c))
+      (implicit_pass (with_root n root) (lead_meets of_lead.ImplicitLead) (lead_meets of_lead.LeadsApart) (let most = low.high in omega (arith, most)) c) condition)
+
+-- ---- two elements: each weight is one byte, but for implicit ones, whose lead byte is theirs alone
+
+-- the primary weight is one byte below FE, or none
+record HasByte (p : ℕ) : Type 0 where
+  alone : p % 0x1000000 ≡ 0
+  below : p / 0x1000000 < 0xFE
+
+-- it is four bytes from FE on
+record HasFourBytes (p : ℕ) : Type 0 where
+  lead : p / 0x1000000 ≡ 0xFE
+  last : p % 256 ≢ 0
+
+record HasSmallWeights (x : Element) : Type 0 where
+  primary : HasByte x.primary ⊎ HasFourBytes x.primary
+  secondary : x.secondary % 256 ≡ 0
+  some : x.secondary ≢ 0
+  tertiary : tertiary_of x ≡ common
+
+one_byte : (x : Element) → HasByte x.primary → x.secondary % 256 ≡ 0 → x.secondary ≢ 0 → tertiary_of x ≡ common → HasSmallWeights x
+one_byte x byte secondary some tertiary = record { primary = inl byte; secondary = secondary; some = some; tertiary = tertiary }
+
+last_byte : (p : ℕ) → IsTrue (has_low_bytes p) → p % 256 ≢ 0
+last_byte p low zero = grind (arith, nat_tests)
+
+four_bytes : (p : ℕ) → AreBytes p → HasFourBytes p
+four_bytes p bytes = record { lead = bytes.lead; last = last_byte p bytes.low }
+
+small_weights : (x : Element) → IsSmallElement x → HasSmallWeights x
+small_weights x (stated is) =
+    of_member HasSmallWeights stated_elements x (
+      one_byte (simple_element letter_a) (record { alone = refl; below = omega arith }) refl (λ z. let h = z in omega arith) refl,
+      (
+        one_byte (simple_element letter_b) (record { alone = refl; below = omega arith }) refl (λ z. let h = z in omega arith) refl,
+        (
+          one_byte (simple_element letter_a_grave) (record { alone = refl; below = omega arith }) refl (λ z. let h = z in omega arith) refl,
+          (
+            one_byte (of_secondary grave) (record { alone = refl; below = omega arith }) refl (λ z. let h = z in omega arith) refl,
+            tt,
+          ),
+        ),
+      ),
+    ) is
+small_weights x (implicit c is) =
+    subst HasSmallWeights (sym is)
+    (record { primary = inr (four_bytes _ (implicit_bytes c)); secondary = refl; some = λ z. let h = z in omega arith; tertiary = refl })
+
+primaries_apart : (v w : ℕ) → HasByte v ⊎ HasFourBytes v → HasByte w ⊎ HasFourBytes w → BeginsNot (weight_bytes 4) v w
+primaries_apart v w (inl first) (inl second) some other differ begins =
+    let alone = first.alone in let below = first.below in let lone = second.alone in let under = second.below in
+    let lead = (one_byte_begins v w (omega arith) (omega arith) alone some).1 begins in
+    differ (same_leads v w (eqb-true _ _ lead) alone lone)
+  where
+    same_leads : (v w : ℕ) → v / 0x1000000 ≡ w / 0x1000000 → v % 0x1000000 ≡ 0 → w % 0x1000000 ≡ 0 → v ≡ w
+    same_leads v w lead alone lone = omega arith
+primaries_apart v w (inl first) (inr second) some other differ begins =
+    let alone = first.alone in let below = first.below in let high = second.lead in
+    let lead = eqb-true _ _ ((one_byte_begins v w (omega arith) (omega arith) alone some).1 begins) in
+    omega (arith, lead, below, high)
+primaries_apart v w (inr first) (inl second) some other differ begins =
+    let high = first.lead in let under = second.below in
+    differ (eqb-true v w ((four_bytes_begin v w (omega arith) (omega arith) first.last).1 begins))
+primaries_apart v w (inr first) (inr second) some other differ begins =
+    let high = first.lead in let lead = second.lead in
+    differ (eqb-true v w ((four_bytes_begin v w (omega arith) (omega arith) first.last).1 begins))
+
+secondaries_apart : (v w : ℕ) → v % 256 ≡ 0 → w % 256 ≡ 0 → BeginsNot (weight_bytes 2) v w
+secondaries_apart v w alone lone some other differ begins =
+    let lead : v / 256 ^ 1 ≡ w / 256 ^ 1 = same_first 1 v w (omega arith) begins in
+    differ (omega arith)
+
+not_alone : (x : Element) → x.secondary ≢ 0 → is_tertiary_element x ≡ false
+not_alone x some = grind (arith, nat_tests, some)
+
+pairs_meet : (n : ℕ) (root : Data) (condition : PairCondition) (x y : Element) → HasSmallWeights x → HasSmallWeights y → PairMeets condition (with_root n root) x y
+pairs_meet n root of_pair.TertiaryElementWeights x y first second = λ alone some. let none = not_alone x first.some in cc
+pairs_meet n root of_pair.Primaries x y first second = primaries_apart x.primary y.primary first.primary second.primary
+pairs_meet n root of_pair.Secondaries x y first second = secondaries_apart x.secondary y.secondary first.secondary second.secondary
+pairs_meet n root of_pair.Tertiaries x y first second = λ some other differ. absurd (differ (first.tertiary ∙ sym second.tertiary))
+pairs_meet n root of_pair.Compression x y first second = λ some other lead. ap (λ b. is_compressible (with_root n root).special b) lead
+
+pub pair_is_good : (n : ℕ) (root : Data) (condition : PairCondition) (x y : Element) → IsSmallElement x → IsSmallElement y → PairMeets condition (with_root n root) x y
+pair_is_good n root condition x y first second = pairs_meet n root condition x y (small_weights x first) (small_weights y second)

@@ -1,0 +1,2 @@
+pub mod SmallTables
+pub mod StoredRoot

@@ -1,0 +1,56 @@
+//! Small tables that meet all conditions on the tables of a collator: as definitions, and stored.
+#![tactic(auto)]
+
+ghost use Rattle.std.specs.Prelude.{◌≡◌, ℕ, IfOk, IfErr};
+ghost use Rattle.icu_checks.specs.Checked.{checked_tables};
+ghost use Rattle.icu_checks.specs.GoodTables.{IsGoodTables};
+ghost use Rattle.icu_provider.specs.CollatorTables.{CollatorTables};
+ghost use Rattle.icu_owned_data.specs.OwnedData.{owned_data};
+ghost use Rattle.icu_provider.specs.TableSets.{tables_in};
+ghost use Rattle.icu_small_tables.specs.SmallTables.{small_tables, with_root, AreSmallTables, IsLowLead};
+
+mod small_root;
+
+use icu_checks::CheckedTables;
+use icu_entries::{DataError, DataErrorKind};
+use icu_owned_data::OwnedData;
+use icu_provider::{
+    CollationDiacritics, CollationJamo, CollationMetadata, CollationSpecialPrimaries, TableSet,
+};
+use std::alloc::Global;
+
+/// The conditions on all tables of a collator can be met: the small tables meet them, and so do tables that say the
+/// same of characters. So what is proved of tables that meet them is proved of some.
+pub fn small_tables_are_good()
+    ensures good { (n : ℕ) → IsLowLead n → IsGoodTables (small_tables n) }
+    ensures same { (all : CollatorTables) → AreSmallTables all → IsGoodTables all }
+{}
+
+/// The entries of the jamo.
+static JAMO: [u32; 256] = [0xCF; 256];
+
+/// The small tables, with this root and this lead byte of numbers.
+#[tactic(auto, unfolding(icu_provider::specs::TableSets::tables_in))]
+fn set_with(root: &OwnedData, numeric: u8) -> TableSet<'_>
+    requires { IsLowLead numeric }
+    ensures { tables_in result ≡ with_root numeric (owned_data root.now) }
+{
+    TableSet {
+        root: root.as_data(),
+        jamo: CollationJamo::new_unchecked(&JAMO),
+        special: CollationSpecialPrimaries::new_unchecked(&[1, 1, 1, 1], numeric),
+        metadata: CollationMetadata { bits: 0x10 },
+        tailoring: None,
+        reordering: None,
+        diacritics: CollationDiacritics::new_unchecked(&[0x8800]),
+    }
+}
+
+/// The small tables, stored, checked and kept: they are accepted, unless an allocation fails.
+pub fn checked_small_tables(alloc: Global) -> Result<CheckedTables, DataError>
+    ensures memory { IfErr result (λ e. e.kind ≡ DataErrorKind.NoMemory) }
+    ensures says { IfOk result (λ t. AreSmallTables (checked_tables t)) }
+{
+    let root = small_root::root(alloc)?;
+    CheckedTables::from_set(alloc, set_with(&root, 0x10))
+}

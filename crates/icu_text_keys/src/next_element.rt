@@ -1,0 +1,22 @@
+//! Elements for a key, one at a time.
+
+ghost use Rattle.std.specs.Prelude.{◌≡◌, IfOk, IfErr};
+ghost use Rattle.icu_weighting.specs.HandledSources.{GivesNext};
+
+use icu_keys::SortKeyError;
+use icu_weighting::{Handled, HandledSource};
+
+/// The next element, with the error of a key.
+#[inline]
+pub(crate) fn next_element<H: HandledSource, E>(
+    elements: &mut H,
+) -> Result<Option<Handled>, SortKeyError<E>>
+    ensures next { IfOk result
+        (λ next. GivesNext (H.handled_left elements.old) next (H.handled_left elements.new)) }
+    ensures memory { IfErr result (λ error. error ≡ SortKeyError.NoMemory) }
+{
+    match elements.next_handled() {
+        Ok(next) => Ok(next),
+        Err(_) => Err(SortKeyError::NoMemory),
+    }
+}
