@@ -1,3 +1,3 @@
 pub mod MiniLemmas
 pub mod SettingLemmas
-pub mod RefusalLemmas
+pub mod CollatorErrorLemmas

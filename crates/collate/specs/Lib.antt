@@ -1,4 +1,4 @@
 pub mod Answers
-pub mod Faults
-pub mod Refusals
-pub mod ProgramRuns
+pub mod CollateLines
+pub mod MiniErrors
+pub mod MiniRuns

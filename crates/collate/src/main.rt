@@ -17,7 +17,7 @@ fn main(rt: HostRuntime) -> ExitCode {
             &mut rt.stdout(),
             &mut rt.stderr(),
         ),
-        Err(fault) => report(fault, wording(), &mut rt.stderr()),
+        Err(error) => report(error, wording(), &mut rt.stderr()),
     };
     ExitCode::from(status)
 }

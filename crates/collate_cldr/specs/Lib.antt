@@ -1,3 +1,3 @@
 pub mod Choices
-pub mod Faults
+pub mod CldrLines
 pub mod Files

@@ -1,13 +1,13 @@
 //! The tables of a file as a source of collators.
 ghost use Rattle.std.specs.Prelude.{◌≡◌, ◌++◌, ◌∷◌, [], codes, string_bytes, IfOk, IfErr};
 ghost use Rattle.icu_cldr.specs.Roots.{IsRoot, root_tables};
-ghost use Rattle.icu_checks.specs.GoodTables.{IsGoodTables};
+ghost use Rattle.icu_checks.specs.WellFormedTables.{IsWellFormedTables};
 ghost use Rattle.icu_comparison.specs.Collators.{collation_kept, tables_kept};
-ghost use Rattle.collate_commands.specs.Refusals.{IsRefusal};
+ghost use Rattle.collate_commands.specs.CollatorErrors.{IsCollatorError};
 ghost use Rattle.collate_cldr.specs.Files.{ComparesAs, IsLineOf};
 
 use crate::choice::Chosen;
-use collate_commands::{CollatorSource, ProgramFault};
+use collate_commands::{CollatorSource, ProgramError};
 use icu_cldr::{CldrRoot, ReadError, read_root};
 use icu_comparison::Collator;
 use icu_entries::{DataError, DataErrorKind};
@@ -33,7 +33,7 @@ impl<'a, R: Files + AllocGlobal> CollatorSource for FileSource<'a, R> {
 
     ghost refuses = { λ s strength line. IsLineOf s.file.now line };
 
-    fn collator(&self, alloc: Global, strength: Strength) -> Result<Collator, ProgramFault> {
+    fn collator(&self, alloc: Global, strength: Strength) -> Result<Collator, ProgramError> {
         let root = read_file(self.rt, self.file)?;
         root_collator(alloc, root, self.file, self.chosen, strength)
     }
@@ -51,40 +51,40 @@ fn line_of(alloc: Global, file: &str, what: &str) -> Result<String, AllocError>
     Ok(line)
 }
 
-/// A fault that says of a file what is wrong with it.
-fn refused(alloc: Global, file: &str, what: &str) -> ProgramFault
-    ensures { IsRefusal (IsLineOf file.now) result }
+/// An error that says of a file what is wrong with it.
+fn refused(alloc: Global, file: &str, what: &str) -> ProgramError
+    ensures { IsCollatorError (IsLineOf file.now) result }
 {
     match line_of(alloc, file, what) {
-        Ok(line) => ProgramFault::Refused(line),
-        Err(_) => ProgramFault::NoMemory,
+        Ok(line) => ProgramError::Refused(line),
+        Err(_) => ProgramError::NoMemory,
     }
 }
 
-/// A fault that says of a file what is wrong with it, by an error's own text.
-fn refused_by<E: Display>(alloc: Global, file: &str, error: &E) -> ProgramFault
-    ensures { IsRefusal (IsLineOf file.now) result }
+/// An error that says of a file what is wrong with it, by an error's own text.
+fn refused_by<E: Display>(alloc: Global, file: &str, error: &E) -> ProgramError
+    ensures { IsCollatorError (IsLineOf file.now) result }
 {
     match error.to_string(alloc) {
         Ok(what) => refused(alloc, file, what.as_str()),
-        Err(_) => ProgramFault::NoMemory,
+        Err(_) => ProgramError::NoMemory,
     }
 }
 
 /// Reads the tables of a file.
-fn read_file<R: Files + AllocGlobal>(rt: &R, file: &str) -> Result<CldrRoot, ProgramFault>
+fn read_file<R: Files + AllocGlobal>(rt: &R, file: &str) -> Result<CldrRoot, ProgramError>
     ensures root { IfOk result (λ root. IsRoot (root_tables root)) }
-    ensures refused { IfErr result (IsRefusal (IsLineOf file.now)) }
+    ensures refused { IfErr result (IsCollatorError (IsLineOf file.now)) }
 {
     let Ok(opened) = fs::open(rt, file) else {
         return Err(refused(rt.alloc(), file, "not opened"));
     };
     let Ok(reader) = BufReader::new(rt.alloc(), opened) else {
-        return Err(ProgramFault::NoMemory);
+        return Err(ProgramError::NoMemory);
     };
     match read_root(rt.alloc(), reader) {
         Ok(root) => Ok(root),
-        Err(ReadError::NoMemory) => Err(ProgramFault::NoMemory),
+        Err(ReadError::NoMemory) => Err(ProgramError::NoMemory),
         Err(error) => Err(refused_by(rt.alloc(), file, &error)),
     }
 }
@@ -96,11 +96,11 @@ fn root_collator(
     file: &str,
     chosen: Chosen,
     strength: Strength,
-) -> Result<Collator, ProgramFault>
+) -> Result<Collator, ProgramError>
     requires { IsRoot (root_tables root) }
     ensures compares { IfOk result (λ c. ComparesAs chosen strength (collation_kept c)) }
-    ensures good { IfOk result (λ c. IsGoodTables (tables_kept c)) }
-    ensures refused { IfErr result (IsRefusal (IsLineOf file.now)) }
+    ensures well_formed { IfOk result (λ c. IsWellFormedTables (tables_kept c)) }
+    ensures refused { IfErr result (IsCollatorError (IsLineOf file.now)) }
 {
     let tables = root.into_tables();
     match Collator::try_from_tables(
@@ -110,16 +110,16 @@ fn root_collator(
         chosen.options(strength),
     ) {
         Ok(collator) => Ok(collator),
-        Err(error) => Err(refusal_of(alloc, file, error)),
+        Err(error) => Err(error_of(alloc, file, error)),
     }
 }
 
-/// What a refusal of tables comes to.
-fn refusal_of(alloc: Global, file: &str, error: DataError) -> ProgramFault
-    ensures { IsRefusal (IsLineOf file.now) result }
+/// What an error of tables comes to.
+fn error_of(alloc: Global, file: &str, error: DataError) -> ProgramError
+    ensures { IsCollatorError (IsLineOf file.now) result }
 {
     match error.kind {
-        DataErrorKind::NoMemory => ProgramFault::NoMemory,
+        DataErrorKind::NoMemory => ProgramError::NoMemory,
         _ => refused_by(alloc, file, &error),
     }
 }

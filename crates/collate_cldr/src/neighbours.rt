@@ -1,5 +1,5 @@
 //! Whether lines are in order, as those of CLDR's test files should be.
-use collate_commands::ProgramFault;
+use collate_commands::ProgramError;
 use icu_comparison::Collator;
 use std::alloc::{AllocError, Global};
 use std::cmp::Ordering;
@@ -47,14 +47,14 @@ fn before_comment(line: &str) -> &str {
 }
 
 /// A text with its key.
-fn with_key(alloc: Global, collator: &Collator, text: String) -> Result<Keyed, ProgramFault> {
+fn with_key(alloc: Global, collator: &Collator, text: String) -> Result<Keyed, ProgramError> {
     let mut key = Vec::new(alloc);
     match collator
         .as_borrowed()
         .write_sort_key_to(text.as_str(), &mut key)
     {
         Ok(_) => Ok(Keyed { text, key }),
-        Err(_) => Err(ProgramFault::NoMemory),
+        Err(_) => Err(ProgramError::NoMemory),
     }
 }
 
@@ -75,7 +75,7 @@ impl Counts {
         collator: &Collator,
         left: &Keyed,
         right: &Keyed,
-    ) -> Result<(), ProgramFault> {
+    ) -> Result<(), ProgramError> {
         let order = collator
             .as_borrowed()
             .compare(left.text.as_str(), right.text.as_str())?;
@@ -91,10 +91,10 @@ impl Counts {
 }
 
 /// Why a line isn't had: an allocation failed, or a read did.
-fn unread(error: &io::Error) -> ProgramFault {
+fn unread(error: &io::Error) -> ProgramError {
     match error.kind() {
-        ErrorKind::OutOfMemory => ProgramFault::NoMemory,
-        _ => ProgramFault::ReadFailed,
+        ErrorKind::OutOfMemory => ProgramError::NoMemory,
+        _ => ProgramError::ReadFailed,
     }
 }
 
@@ -103,9 +103,9 @@ pub(crate) fn neighbours<R: Read + Drop>(
     alloc: Global,
     collator: &Collator,
     input: R,
-) -> Result<Counts, ProgramFault> {
+) -> Result<Counts, ProgramError> {
     let Ok(reader) = BufReader::new(alloc, input) else {
-        return Err(ProgramFault::NoMemory);
+        return Err(ProgramError::NoMemory);
     };
     let mut counts = Counts::new();
     let mut last: Option<Keyed> = None;

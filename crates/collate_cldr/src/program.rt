@@ -2,16 +2,16 @@
 ghost use Rattle.std.specs.Prelude.{◌≡◌, ◌≤◌, ◌↔◌, None, IfSome, map, string_bytes};
 ghost use Rattle.std.specs.Io.KnownBytes.{Keeps};
 ghost use Rattle.collate_commands.specs.Commands.{command_of};
-ghost use Rattle.collate_commands.specs.Faults.{lines_in};
+ghost use Rattle.collate_commands.specs.ProgramErrors.{lines_in};
 ghost use Rattle.collate_commands.specs.ProgramRuns.{PrintsAnswer, Fails};
 ghost use Rattle.collate_commands.specs.PartialWrites.{AppendsBeginning};
-ghost use Rattle.collate_cldr.specs.Faults.{cldr_lines, usage_text};
+ghost use Rattle.collate_cldr.specs.CldrLines.{cldr_lines, usage_text};
 ghost use Rattle.collate_cldr.specs.Files.{ComparesAs, IsLineOf};
 
 use crate::asked::{Asked, Request};
 use crate::file_source::FileSource;
 use crate::neighbours::{Counts, neighbours};
-use collate_commands::{CollatorSource, ProgramFault, Wording, report, strength_named};
+use collate_commands::{CollatorSource, ProgramError, Wording, report, strength_named};
 use icu_options::Strength;
 use std::io::{Read, Write};
 use std::rt::Files;
@@ -26,7 +26,7 @@ options: --numeric --shifted --blanked --case-level --case-first=off|lower|upper
          --max-variable=space|punctuation|symbol|currency | --help
 ";
 
-/// What the program says of its faults.
+/// What the program says of its errors.
 pub(crate) fn wording() -> Wording
     ensures { lines_in result ≡ cldr_lines }
 {
@@ -42,29 +42,29 @@ pub(crate) fn wording() -> Wording
 ///
 /// - 0: the answer stands on `output`, or the usage text where that was asked for.
 /// - 1: an allocation, a read of `input` or a write failed, or the file isn't there, isn't read or has tables that fail
-///   a condition. `faults` says which, and of the file where.
-/// - 2: the words are no command. `faults` says what commands there are.
+///   a condition. `errors` says which, and of the file where.
+/// - 2: the words are no command. `errors` says what commands there are.
 ///
-/// A failed write to `faults` changes no status.
+/// A failed write to `errors` changes no status.
 pub(crate) fn run<R: Files + AllocGlobal, I: Read + Drop, W: Write, E: Write>(
     rt: &R,
     words: &[String],
     mut input: I,
     output: &mut W,
-    faults: &mut E,
+    errors: &mut E,
 ) -> u8
     ensures { result ≤ 2 }
 {
     match Asked::parse(words) {
-        Some(Asked::Help) => status_of(print(USAGE, output), faults),
+        Some(Asked::Help) => status_of(print(USAGE, output), errors),
         Some(Asked::Over(request)) => match neighbours_asked(request.words) {
             Some(strength) => {
                 let printed = print_neighbours(rt, request, strength, input, output);
-                status_of(printed, faults)
+                status_of(printed, errors)
             }
-            None => run_command(rt, request, &mut input, output, faults),
+            None => run_command(rt, request, &mut input, output, errors),
         },
-        None => report(ProgramFault::WrongWords, wording(), faults),
+        None => report(ProgramError::WrongWords, wording(), errors),
     }
 }
 
@@ -74,13 +74,13 @@ fn run_command<R: Files + AllocGlobal, I: Read, W: Write, E: Write>(
     request: Request<'_>,
     input: &mut I,
     output: &mut W,
-    faults: &mut E,
+    errors: &mut E,
 ) -> u8
     ensures statuses { result ≤ 2 }
     ensures wrong_words { (result ≡ 2)
         ↔ (command_of (map string_bytes request.entry.words.now) ≡ None) }
     ensures usage { result ≡ 2
-        → AppendsBeginning (E.contents faults.old) (E.contents faults.new) usage_text }
+        → AppendsBeginning (E.contents errors.old) (E.contents errors.new) usage_text }
     ensures nothing { result ≡ 2 → Keeps (W.contents output.old) (W.contents output.new) }
 
     // The answer is by the tables of the file, with the chosen settings.
@@ -88,7 +88,7 @@ fn run_command<R: Files + AllocGlobal, I: Read, W: Write, E: Write>(
         (PrintsAnswer (ComparesAs request.entry.chosen)
         (I.remaining input.old) (I.remaining input.new)
         (W.contents output.old) (W.contents output.new)) }
-    ensures no_fault { result ≡ 0 → Keeps (E.contents faults.old) (E.contents faults.new) }
+    ensures no_error { result ≡ 0 → Keeps (E.contents errors.old) (E.contents errors.new) }
 
     // A file that isn't read, or whose tables are refused, is named.
     ensures refused { result ≡ 1 → IfSome (command_of (map string_bytes request.entry.words.now))
@@ -96,7 +96,7 @@ fn run_command<R: Files + AllocGlobal, I: Read, W: Write, E: Write>(
         (λ strength. IsLineOf request.entry.file.now)
         (I.remaining input.old) (I.remaining input.new)
         (W.contents output.old) (W.contents output.new)
-        (E.contents faults.old) (E.contents faults.new)) }
+        (E.contents errors.old) (E.contents errors.new)) }
 {
     let source = FileSource {
         rt,
@@ -110,7 +110,7 @@ fn run_command<R: Files + AllocGlobal, I: Read, W: Write, E: Write>(
         request.words,
         input,
         output,
-        faults,
+        errors,
     )
 }
 
@@ -129,7 +129,7 @@ fn print_neighbours<R: Files + AllocGlobal, I: Read + Drop, W: Write>(
     strength: Strength,
     input: I,
     output: &mut W,
-) -> Result<(), ProgramFault> {
+) -> Result<(), ProgramError> {
     let source = FileSource {
         rt,
         file: request.file,
@@ -140,7 +140,7 @@ fn print_neighbours<R: Files + AllocGlobal, I: Read + Drop, W: Write>(
 }
 
 /// Writes what was seen of lines to the output, and flushes it.
-fn print_counts<W: Write>(counts: Counts, output: &mut W) -> Result<(), ProgramFault> {
+fn print_counts<W: Write>(counts: Counts, output: &mut W) -> Result<(), ProgramError> {
     let Counts {
         pairs,
         greater,
@@ -152,25 +152,25 @@ fn print_counts<W: Write>(counts: Counts, output: &mut W) -> Result<(), ProgramF
         "{pairs} pairs, out of order by compare {greater}, by keys {greater_by_keys}; {passed_over} lines passed over"
     );
     if written.is_err() || output.flush().is_err() {
-        return Err(ProgramFault::WriteFailed);
+        return Err(ProgramError::WriteFailed);
     }
     Ok(())
 }
 
 /// Writes a text to the output, and flushes it.
-fn print<W: Write>(text: &str, output: &mut W) -> Result<(), ProgramFault> {
+fn print<W: Write>(text: &str, output: &mut W) -> Result<(), ProgramError> {
     if output.write_all(text.as_bytes()).is_err() || output.flush().is_err() {
-        return Err(ProgramFault::WriteFailed);
+        return Err(ProgramError::WriteFailed);
     }
     Ok(())
 }
 
 /// The status after something was to be printed: says on standard error what kept it from that.
-fn status_of<E: Write>(printed: Result<(), ProgramFault>, faults: &mut E) -> u8
+fn status_of<E: Write>(printed: Result<(), ProgramError>, errors: &mut E) -> u8
     ensures { result ≤ 2 }
 {
     match printed {
         Ok(()) => 0,
-        Err(fault) => report(fault, wording(), faults),
+        Err(error) => report(error, wording(), errors),
     }
 }

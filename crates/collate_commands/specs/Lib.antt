@@ -3,8 +3,8 @@ pub mod KeyText
 pub mod InputLines
 pub mod InputRead
 pub mod Answers
-pub mod Faults
-pub mod Refusals
+pub mod ProgramErrors
+pub mod CollatorErrors
 pub mod PartialWrites
 pub mod ProgramRuns
 pub mod inner

@@ -5,7 +5,7 @@ use Rattle.std.specs.Io.KnownBytes.{Keeps, Appends}
 use Rattle.icu_options.specs.declared.settings.Strength.{Strength}
 use Rattle.collate_commands.specs.Answers.{Compares, IsAnswer}
 use Rattle.collate_commands.specs.Commands.{Asked, strength_of}
-use Rattle.collate_commands.specs.Faults.{Lines}
+use Rattle.collate_commands.specs.ProgramErrors.{Lines}
 use Rattle.collate_commands.specs.InputRead.{ReadsFor, AsksForInput}
 use Rattle.collate_commands.specs.PartialWrites.{AppendsBeginning}
 
@@ -30,33 +30,33 @@ PrintsBeginning compares old_input new_input old new asked =
     × ReadsFor asked old_input new_input input × IsAnswer compares asked input output × AppendsBeginning old new output
 
 -- the run ran out of memory, and printed nothing
-pub record LacksMemory (lines : Lines) (old_output new_output old_faults new_faults : Known) : Type 0 where
+pub record LacksMemory (lines : Lines) (old_output new_output old_errors new_errors : Known) : Type 0 where
   pub nothing : Keeps old_output new_output
-  pub said : AppendsBeginning old_faults new_faults lines.no_memory
+  pub said : AppendsBeginning old_errors new_errors lines.no_memory
 
 -- the run stopped since no collator was to be had, and printed nothing
-pub record HasNoCollator (refuses : Refuses) (asked : Asked) (old_output new_output old_faults new_faults : Known) : Type 0 where
+pub record HasNoCollator (refuses : Refuses) (asked : Asked) (old_output new_output old_errors new_errors : Known) : Type 0 where
   pub line : List ℕ
   pub refused : refuses (strength_of asked) line
   pub nothing : Keeps old_output new_output
-  pub said : AppendsBeginning old_faults new_faults line
+  pub said : AppendsBeginning old_errors new_errors line
 
 -- the run stopped since a read of the input failed, which the command asks for, and printed nothing
-pub record FailsToRead (lines : Lines) (asked : Asked) (old_output new_output old_faults new_faults : Known) : Type 0 where
+pub record FailsToRead (lines : Lines) (asked : Asked) (old_output new_output old_errors new_errors : Known) : Type 0 where
   pub asks : AsksForInput asked
   pub nothing : Keeps old_output new_output
-  pub said : AppendsBeginning old_faults new_faults lines.read_failed
+  pub said : AppendsBeginning old_errors new_errors lines.read_failed
 
 -- the run stopped where a write of the answer failed
 pub record FailsToWrite (lines : Lines) (compares : Compares) (asked : Asked)
-    (old_input new_input old_output new_output old_faults new_faults : Known) : Type 0 where
+    (old_input new_input old_output new_output old_errors new_errors : Known) : Type 0 where
   pub beginning : PrintsBeginning compares old_input new_input old_output new_output asked
-  pub said : AppendsBeginning old_faults new_faults lines.write_failed
+  pub said : AppendsBeginning old_errors new_errors lines.write_failed
 
 -- a run that ends with status 1
 abbrev pub Fails : Lines → Compares → Refuses → Known → Known → Known → Known → Known → Known → Asked → Type 0
-Fails lines compares refuses old_input new_input old_output new_output old_faults new_faults asked =
-    LacksMemory lines old_output new_output old_faults new_faults
-    ⊎ (HasNoCollator refuses asked old_output new_output old_faults new_faults
-    ⊎ (FailsToRead lines asked old_output new_output old_faults new_faults
-    ⊎ FailsToWrite lines compares asked old_input new_input old_output new_output old_faults new_faults))
+Fails lines compares refuses old_input new_input old_output new_output old_errors new_errors asked =
+    LacksMemory lines old_output new_output old_errors new_errors
+    ⊎ (HasNoCollator refuses asked old_output new_output old_errors new_errors
+    ⊎ (FailsToRead lines asked old_output new_output old_errors new_errors
+    ⊎ FailsToWrite lines compares asked old_input new_input old_output new_output old_errors new_errors))

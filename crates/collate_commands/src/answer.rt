@@ -1,6 +1,6 @@
 //! The answer to a command, by a collator.
 ghost use Rattle.std.specs.Prelude.{◌≡◌, ℕ, List, IfOk, IfErr, ◌++◌, ◌∷◌, [], chars, map};
-ghost use Rattle.icu_checks.specs.GoodTables.{IsGoodTables};
+ghost use Rattle.icu_checks.specs.WellFormedTables.{IsWellFormedTables};
 ghost use Rattle.icu_comparison.specs.Collators.{collation_kept, tables_kept};
 ghost use Rattle.icu_index.specs.Listings.{listing_of, name_order};
 ghost use Rattle.icu_index.specs.NameIndexes.{index_collation, listing};
@@ -9,11 +9,11 @@ ghost use Rattle.collate_commands.specs.Answers.{IsAnswerBy, SortsLines, sign_of
 ghost use Rattle.collate_commands.specs.inner.Asked.{asked};
 ghost use Rattle.collate_commands.specs.InputLines.{lines_text};
 ghost use Rattle.collate_commands.specs.InputRead.{ReadsFor, TakesWhole};
-ghost use Rattle.collate_commands.specs.Refusals.{IsUnanswered, IsUnread};
+ghost use Rattle.collate_commands.specs.CollatorErrors.{IsUnanswered, IsUnread};
 ghost use Rattle.collate_commands.specs.inner.Shown.{shown};
 
 use crate::command::Command;
-use crate::fault::ProgramFault;
+use crate::program_error::ProgramError;
 use crate::key_line::key_line;
 use crate::lines::{lines, read_whole};
 use icu_comparison::Collator;
@@ -76,7 +76,7 @@ fn listing_text(alloc: Global, index: &NameIndex<'_>) -> Result<Vec<u8>, AllocEr
 
 /// The lines of a text, sorted.
 fn sorted_text(alloc: Global, collator: &Collator, bytes: &[u8]) -> Result<Vec<u8>, AllocError>
-    requires { IsGoodTables (tables_kept collator.now) }
+    requires { IsWellFormedTables (tables_kept collator.now) }
     ensures { IfOk result (λ output. SortsLines (name_order (collation_kept collator.now))
         bytes.now output.items) }
 {
@@ -88,9 +88,9 @@ fn sorted_text(alloc: Global, collator: &Collator, bytes: &[u8]) -> Result<Vec<u
 }
 
 /// The lines of the input, sorted.
-fn sort<R: Read>(alloc: Global, collator: &Collator, input: &mut R) -> Result<Vec<u8>, ProgramFault>
-    requires { IsGoodTables (tables_kept collator.now) }
-    ensures fault { IfErr result IsUnread }
+fn sort<R: Read>(alloc: Global, collator: &Collator, input: &mut R) -> Result<Vec<u8>, ProgramError>
+    requires { IsWellFormedTables (tables_kept collator.now) }
+    ensures error { IfErr result IsUnread }
     ensures answer { IfOk result (λ output. (bytes : List ℕ)
         × TakesWhole (R.remaining input.old) (R.remaining input.new) bytes
         × SortsLines (name_order (collation_kept collator.now)) bytes output.items) }
@@ -105,9 +105,9 @@ pub(crate) fn answer<R: Read>(
     collator: &Collator,
     command: Command<'_>,
     input: &mut R,
-) -> Result<Vec<u8>, ProgramFault>
-    requires { IsGoodTables (tables_kept collator.now) }
-    ensures fault { IfErr result (IsUnanswered (asked command.entry)) }
+) -> Result<Vec<u8>, ProgramError>
+    requires { IsWellFormedTables (tables_kept collator.now) }
+    ensures error { IfErr result (IsUnanswered (asked command.entry)) }
     ensures answer { IfOk result (λ output. (bytes : List ℕ)
         × ReadsFor (asked command.entry) (R.remaining input.old) (R.remaining input.new) bytes
         × IsAnswerBy (collation_kept collator.now) (asked command.entry) bytes output.items) }

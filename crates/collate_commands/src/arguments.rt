@@ -1,20 +1,20 @@
 //! What the system hands to a program: its arguments, and its input.
-use crate::fault::ProgramFault;
+use crate::program_error::ProgramError;
 use std::io::Read;
 use std::rt::Env;
 use std::{env, io};
 
 /// The words after the program's name. An argument that is not UTF-8 is no word of a command.
-pub fn words<R: Env + AllocGlobal>(rt: &R) -> Result<Vec<String>, ProgramFault> {
-    let arguments = env::args(rt).map_err(fault_of)?;
+pub fn words<R: Env + AllocGlobal>(rt: &R) -> Result<Vec<String>, ProgramError> {
+    let arguments = env::args(rt).map_err(error_of)?;
     Ok(arguments.skip(1).collect(rt.alloc())?)
 }
 
 /// What a failure to read the arguments is.
-fn fault_of(error: io::Error) -> ProgramFault {
+fn error_of(error: io::Error) -> ProgramError {
     match error.kind() {
-        io::ErrorKind::InvalidData => ProgramFault::WrongWords,
-        _ => ProgramFault::NoMemory,
+        io::ErrorKind::InvalidData => ProgramError::WrongWords,
+        _ => ProgramError::NoMemory,
     }
 }
 

@@ -5,7 +5,7 @@
 mod answer;
 pub mod arguments;
 mod command;
-pub mod fault;
+pub mod program_error;
 mod key_line;
 mod lines;
 pub mod program;
@@ -14,6 +14,6 @@ mod writing;
 
 pub use arguments::{Input, words};
 pub use command::strength_named;
-pub use fault::{ProgramFault, Wording};
+pub use program_error::{ProgramError, Wording};
 pub use program::{report, run};
 pub use source::CollatorSource;

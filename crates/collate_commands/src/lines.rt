@@ -4,24 +4,24 @@ ghost use Rattle.std.specs.Io.BufRead.{strip_last};
 ghost use Rattle.std.specs.List.{slice_split};
 ghost use Rattle.collate_commands.specs.InputLines.{lines_of};
 ghost use Rattle.collate_commands.specs.InputRead.{TakesWhole};
-ghost use Rattle.collate_commands.specs.Refusals.{IsUnread};
+ghost use Rattle.collate_commands.specs.CollatorErrors.{IsUnread};
 ghost use Rattle.collate_commands.specs.inner.Shown.{shown};
 
-use crate::fault::ProgramFault;
+use crate::program_error::ProgramError;
 use std::alloc::{AllocError, Global};
 use std::io::{ErrorKind, Read};
 
 /// Reads the input to its end.
-pub(crate) fn read_whole<R: Read>(alloc: Global, input: &mut R) -> Result<Vec<u8>, ProgramFault>
+pub(crate) fn read_whole<R: Read>(alloc: Global, input: &mut R) -> Result<Vec<u8>, ProgramError>
     ensures whole { IfOk result (λ bytes.
         TakesWhole (R.remaining input.old) (R.remaining input.new) bytes.items) }
-    ensures fault { IfErr result IsUnread }
+    ensures error { IfErr result IsUnread }
 {
     let mut bytes = Vec::new(alloc);
     match input.read_to_end(&mut bytes) {
         Ok(_) => Ok(bytes),
-        Err(e) if e.kind() == ErrorKind::OutOfMemory => Err(ProgramFault::NoMemory),
-        Err(_) => Err(ProgramFault::ReadFailed),
+        Err(e) if e.kind() == ErrorKind::OutOfMemory => Err(ProgramError::NoMemory),
+        Err(_) => Err(ProgramError::ReadFailed),
     }
 }
 

@@ -3,28 +3,28 @@ ghost use Rattle.std.specs.Prelude.{◌≡◌, ◌≤◌, ◌↔◌, None, IfSom
 ghost use Rattle.std.specs.Io.KnownBytes.{Keeps};
 ghost use Rattle.collate_commands.specs.inner.Asked.{asked};
 ghost use Rattle.collate_commands.specs.Commands.{command_of};
-ghost use Rattle.collate_commands.specs.Faults.{line_of, lines_in, status_of};
+ghost use Rattle.collate_commands.specs.ProgramErrors.{line_of, lines_in, status_of};
 ghost use Rattle.collate_commands.specs.ProgramRuns.{PrintsAnswer, Fails};
 ghost use Rattle.collate_commands.specs.PartialWrites.{AppendsBeginning};
 ghost use Rattle.collate_commands.specs.inner.Stops.{Stops};
 
 use crate::answer::answer;
 use crate::command::Command;
-use crate::fault::{ProgramFault, Wording};
+use crate::program_error::{ProgramError, Wording};
 use crate::source::CollatorSource;
 use crate::writing::write_text;
 use std::alloc::Global;
 use std::io::{Read, Write};
 
 /// Makes one run of a program over the words of its command, and returns the status that it ends with. Its collators
-/// come from `source`, and `wording` is what it says of faults.
+/// come from `source`, and `wording` is what it says of errors.
 ///
-/// - 0: the answer stands on `output`, and nothing on `faults`.
+/// - 0: the answer stands on `output`, and nothing on `errors`.
 /// - 1: an allocation failed, or no collator is to be had, or a read of `input` failed, and nothing stands on `output`;
-///   or a write to `output` failed, or its flush, and a beginning of the answer stands there. `faults` says which.
-/// - 2: the words are no command. `faults` says what commands there are.
+///   or a write to `output` failed, or its flush, and a beginning of the answer stands there. `errors` says which.
+/// - 2: the words are no command. `errors` says what commands there are.
 ///
-/// A failed write to `faults` changes no status. The command `sort` reads `input` to its end, and no other command
+/// A failed write to `errors` changes no status. The command `sort` reads `input` to its end, and no other command
 /// reads it.
 pub fn run<S: CollatorSource, R: Read, W: Write, E: Write>(
     alloc: Global,
@@ -33,29 +33,29 @@ pub fn run<S: CollatorSource, R: Read, W: Write, E: Write>(
     words: &[String],
     input: &mut R,
     output: &mut W,
-    faults: &mut E,
+    errors: &mut E,
 ) -> u8
     ensures statuses { result ≤ 2 }
     ensures wrong_words { (result ≡ 2) ↔ (command_of (map string_bytes words.now) ≡ None) }
-    ensures usage { result ≡ 2 → AppendsBeginning (E.contents faults.old) (E.contents faults.new)
+    ensures usage { result ≡ 2 → AppendsBeginning (E.contents errors.old) (E.contents errors.new)
         (lines_in wording).usage }
     ensures nothing { result ≡ 2 → Keeps (W.contents output.old) (W.contents output.new) }
     ensures answer { result ≡ 0 → IfSome (command_of (map string_bytes words.now))
         (PrintsAnswer (S.compares source.now) (R.remaining input.old) (R.remaining input.new)
         (W.contents output.old) (W.contents output.new)) }
-    ensures no_fault { result ≡ 0 → Keeps (E.contents faults.old) (E.contents faults.new) }
+    ensures no_error { result ≡ 0 → Keeps (E.contents errors.old) (E.contents errors.new) }
     ensures refused { result ≡ 1 → IfSome (command_of (map string_bytes words.now))
         (Fails (lines_in wording) (S.compares source.now) (S.refuses source.now)
         (R.remaining input.old) (R.remaining input.new)
         (W.contents output.old) (W.contents output.new)
-        (E.contents faults.old) (E.contents faults.new)) }
+        (E.contents errors.old) (E.contents errors.new)) }
 {
     let Some(command) = Command::parse(words) else {
-        return report(ProgramFault::WrongWords, wording, faults);
+        return report(ProgramError::WrongWords, wording, errors);
     };
     match print_answer(alloc, source, command, input, output) {
         Ok(()) => 0,
-        Err(fault) => report(fault, wording, faults),
+        Err(error) => report(error, wording, errors),
     }
 }
 
@@ -66,7 +66,7 @@ fn print_answer<S: CollatorSource, R: Read, W: Write>(
     command: Command<'_>,
     input: &mut R,
     output: &mut W,
-) -> Result<(), ProgramFault>
+) -> Result<(), ProgramError>
     ensures ok { OnOk result (PrintsAnswer (S.compares source.now)
         (R.remaining input.old) (R.remaining input.new)
         (W.contents output.old) (W.contents output.new) (asked command.entry)) }
@@ -78,17 +78,17 @@ fn print_answer<S: CollatorSource, R: Read, W: Write>(
     let line = answer(alloc, &collator, command, input)?;
     match write_text(output, line.as_slice()) {
         Ok(()) => Ok(()),
-        Err(_) => Err(ProgramFault::WriteFailed),
+        Err(_) => Err(ProgramError::WriteFailed),
     }
 }
 
 /// Writes to standard error what kept the program from printing an answer, and returns its status. That a write fails
 /// there changes nothing.
-pub fn report<E: Write>(fault: ProgramFault, wording: Wording, faults: &mut E) -> u8
-    ensures status { result ≡ status_of fault }
-    ensures said { AppendsBeginning (E.contents faults.old) (E.contents faults.new)
-        (line_of (lines_in wording) fault) }
+pub fn report<E: Write>(error: ProgramError, wording: Wording, errors: &mut E) -> u8
+    ensures status { result ≡ status_of error }
+    ensures said { AppendsBeginning (E.contents errors.old) (E.contents errors.new)
+        (line_of (lines_in wording) error) }
 {
-    let _ = write_text(faults, fault.line(wording).as_bytes());
-    fault.status()
+    let _ = write_text(errors, error.line(wording).as_bytes());
+    error.status()
 }

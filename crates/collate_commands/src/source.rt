@@ -1,12 +1,12 @@
 //! Where the collators of a program come from.
 ghost use Rattle.std.specs.Prelude.{IfOk, IfErr, ℕ, List};
-ghost use Rattle.icu_checks.specs.GoodTables.{IsGoodTables};
+ghost use Rattle.icu_checks.specs.WellFormedTables.{IsWellFormedTables};
 ghost use Rattle.icu_comparison.specs.Collators.{collation_kept, tables_kept};
 ghost use Rattle.icu_options.specs.declared.settings.Strength.{Strength};
 ghost use Rattle.icu_order.specs.Collations.{Collation};
-ghost use Rattle.collate_commands.specs.Refusals.{IsRefusal};
+ghost use Rattle.collate_commands.specs.CollatorErrors.{IsCollatorError};
 
-use crate::fault::ProgramFault;
+use crate::program_error::ProgramError;
 use icu_comparison::Collator;
 use icu_options::Strength;
 use std::alloc::Global;
@@ -25,8 +25,8 @@ pub trait CollatorSource {
     /// # Errors
     ///
     /// `NoMemory` where an allocation fails; `Refused`, with a line that says why, where the tables can't be had.
-    fn collator(&self, alloc: Global, strength: Strength) -> Result<Collator, ProgramFault>
+    fn collator(&self, alloc: Global, strength: Strength) -> Result<Collator, ProgramError>
         ensures compares { IfOk result (λ c. compares self.now strength (collation_kept c)) }
-        ensures good { IfOk result (λ c. IsGoodTables (tables_kept c)) }
-        ensures refused { IfErr result (IsRefusal (refuses self.now strength)) };
+        ensures well_formed { IfOk result (λ c. IsWellFormedTables (tables_kept c)) }
+        ensures refused { IfErr result (IsCollatorError (refuses self.now strength)) };
 }

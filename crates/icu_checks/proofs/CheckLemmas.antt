@@ -6,8 +6,8 @@ use Rattle.icu_checks.specs.declared.condition.PairCondition.TheVariants.{Tertia
 use Rattle.icu_checks.specs.declared.condition.LeadCondition.TheVariants.{Separator, HighLead, ImplicitLead, NumericLead, LeadsApart, NumericWhole}
 use Rattle.icu_provider.specs.CollatorTables.{CollatorTables}
 use Rattle.icu_checks.specs.LeadConditions.{LeadMeets}
-use Rattle.icu_checks.specs.inner.EntryViolations.{LiveMeets}
-use Rattle.icu_checks.specs.GoodTables.{AreTables, HasDiacriticCount, Meets, IsGoodTables}
+use Rattle.icu_checks.specs.inner.EntryViolations.{ReachableMeets}
+use Rattle.icu_checks.specs.WellFormedTables.{AreTables, HasDiacriticCount, Meets, IsWellFormedTables}
 use Rattle.icu_checks.specs.inner.Checks.{LeadsMeet, PairsMeet}
 use Rattle.icu_checks.proofs.ComparedLevelLemmas.{meets_in}
 use Rattle.icu_checks.proofs.LevelMeets.{tertiary_element_meet, secondaries_meet, tertiaries_meet}
@@ -21,21 +21,21 @@ leads_meet all a b c d e f NumericLead = d
 leads_meet all a b c d e f LeadsApart = e
 leads_meet all a b c d e f NumericWhole = f
 
-module _ (all : CollatorTables) (tables : AreTables all) (count : HasDiacriticCount all) (live : LiveMeets all) (leads : LeadsMeet all) (pairs : PairsMeet all) where
+module _ (all : CollatorTables) (tables : AreTables all) (count : HasDiacriticCount all) (reachable : ReachableMeets all) (leads : LeadsMeet all) (pairs : PairsMeet all) where
   pair_meets : (condition : PairCondition) → Meets (conditions.Pair condition) all
-  pair_meets TertiaryElementWeights = tertiary_element_meet all live tables pairs.tertiary_elements
-  pair_meets Secondaries = secondaries_meet all live tables pairs.secondaries.weights pairs.secondaries.all_held pairs.secondaries.free
-  pair_meets Tertiaries = tertiaries_meet all live tables pairs.tertiaries.weights pairs.tertiaries.all_held pairs.tertiaries.free
-  pair_meets Primaries = primaries_meet all live tables (leads ImplicitLead) (leads Separator) (leads HighLead) pairs.primaries.weights pairs.primaries.all_held pairs.primaries.free
-  pair_meets Compression = compression_meets all live tables (leads ImplicitLead) (leads Separator) (leads HighLead) pairs.primaries.weights pairs.primaries.all_held pairs.primaries.alike
+  pair_meets TertiaryElementWeights = tertiary_element_meet all reachable tables pairs.tertiary_elements
+  pair_meets Secondaries = secondaries_meet all reachable tables pairs.secondaries.weights pairs.secondaries.all_held pairs.secondaries.free
+  pair_meets Tertiaries = tertiaries_meet all reachable tables pairs.tertiaries.weights pairs.tertiaries.all_held pairs.tertiaries.free
+  pair_meets Primaries = primaries_meet all reachable tables (leads ImplicitLead) (leads Separator) (leads HighLead) pairs.primaries.weights pairs.primaries.all_held pairs.primaries.free
+  pair_meets Compression = compression_meets all reachable tables (leads ImplicitLead) (leads Separator) (leads HighLead) pairs.primaries.weights pairs.primaries.all_held pairs.primaries.alike
 
   each : (condition : Condition) → Meets condition all
   each conditions.DiacriticCount = count
-  each (conditions.Entry condition) = λ table. (meets_in all live table).entries condition
-  each conditions.PrefixRows = λ table. (meets_in all live table).rows
-  each (conditions.Element condition) = λ table. (meets_in all live table).elements condition
+  each (conditions.Entry condition) = λ table. (meets_in all reachable table).entries condition
+  each conditions.PrefixMappings = λ table. (meets_in all reachable table).mappings
+  each (conditions.Element condition) = λ table. (meets_in all reachable table).elements condition
   each (conditions.Pair condition) = pair_meets condition
   each (conditions.Lead condition) = leads condition
 
-  pub good_tables : IsGoodTables all
-  good_tables = record { tables = tables; each = each }
+  pub well_formed_tables : IsWellFormedTables all
+  well_formed_tables = record { tables = tables; each = each }

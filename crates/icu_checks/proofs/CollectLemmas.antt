@@ -12,8 +12,8 @@ use Rattle.icu_data.specs.CollectedWeights.{is_stated}
 use Rattle.icu_data.specs.Final.{final_elements}
 use Rattle.icu_data.specs.Data.{Data, homed}
 use Rattle.icu_provider.specs.Tables.{is_jamo}
-use Rattle.icu_data.specs.Live.{live_from, live_at}
-use Rattle.icu_data.specs.CollectedWeights.{IsWeightAmong, IsLiveWeight}
+use Rattle.icu_data.specs.Reachable.{reachable_from, reachable_at}
+use Rattle.icu_data.specs.CollectedWeights.{IsWeightAmong, IsReachableWeight}
 use Rattle.icu_provider.specs.Diacritics.{is_replaced_index}
 use Rattle.icu_data.specs.StoredData.{data_of}
 use Rattle.icu_provider.specs.StoredTables.{jamo_of, diacritics_of}
@@ -82,22 +82,22 @@ below_step P start old new n before now w = (
 -- ---- table by table
 
 module _ (list : WeightList) (all : CollatorTables) where
-  pub root_same : (w : ℕ) → IsLiveWeight (compared_weight list) false all.tables.root w ↔ IsWeightBy list Root all.tables w
+  pub root_same : (w : ℕ) → IsReachableWeight (compared_weight list) false all.tables.root w ↔ IsWeightBy list Root all.tables w
   root_same w = (
     λ is. record {
       x = is.among.x;
-      read = record { home = all.tables.root; char = is.c; entry = is.among.e; live = (refl, is.scalar, is.among.live); stated = is.among.stated; member = is.among.given };
+      read = record { home = all.tables.root; char = is.c; entry = is.among.e; reachable = (refl, is.scalar, is.among.reachable); stated = is.among.stated; member = is.among.given };
       weighs = is.among.weighs;
     },
     λ is. record {
       c = is.read.char;
-      scalar = is.read.live.1;
+      scalar = is.read.reachable.1;
       among = record {
         e = is.read.entry;
-        live = subst (λ h. Contains (live_at false h is.read.char) is.read.entry) is.read.live.0 is.read.live.2;
-        stated = subst (λ h. IsTrue (is_stated h is.read.char is.read.entry)) is.read.live.0 is.read.stated;
+        reachable = subst (λ h. Contains (reachable_at false h is.read.char) is.read.entry) is.read.reachable.0 is.read.reachable.2;
+        stated = subst (λ h. IsTrue (is_stated h is.read.char is.read.entry)) is.read.reachable.0 is.read.stated;
         x = is.x;
-        given = subst (λ h. Contains (final_elements (homed h is.read.entry) is.read.char) is.x) is.read.live.0 is.read.member;
+        given = subst (λ h. Contains (final_elements (homed h is.read.entry) is.read.char) is.x) is.read.reachable.0 is.read.member;
         weighs = is.weighs;
       };
     },
@@ -106,21 +106,21 @@ module _ (list : WeightList) (all : CollatorTables) where
   same_some : (a b : Data) → Some a ≡ Some b → a ≡ b
   same_some a b h = cc
 
-  pub tailoring_same : (t : Data) → all.tables.tailoring ≡ Some t → (w : ℕ) → IsLiveWeight (compared_weight list) true t w ↔ IsWeightBy list Tailoring all.tables w
+  pub tailoring_same : (t : Data) → all.tables.tailoring ≡ Some t → (w : ℕ) → IsReachableWeight (compared_weight list) true t w ↔ IsWeightBy list Tailoring all.tables w
   tailoring_same t found w = (
     λ is. record {
       x = is.among.x;
-      read = record { home = t; char = is.c; entry = is.among.e; live = (found, is.scalar, is.among.live); stated = is.among.stated; member = is.among.given };
+      read = record { home = t; char = is.c; entry = is.among.e; reachable = (found, is.scalar, is.among.reachable); stated = is.among.stated; member = is.among.given };
       weighs = is.among.weighs;
     },
     λ is.
-        let same : is.read.home ≡ t = same_some is.read.home t (sym is.read.live.0 ∙ found) in
+        let same : is.read.home ≡ t = same_some is.read.home t (sym is.read.reachable.0 ∙ found) in
         record {
           c = is.read.char;
-          scalar = is.read.live.1;
+          scalar = is.read.reachable.1;
           among = record {
             e = is.read.entry;
-            live = subst (λ h. Contains (live_at true h is.read.char) is.read.entry) same is.read.live.2;
+            reachable = subst (λ h. Contains (reachable_at true h is.read.char) is.read.entry) same is.read.reachable.2;
             stated = subst (λ h. IsTrue (is_stated h is.read.char is.read.entry)) same is.read.stated;
             x = is.x;
             given = subst (λ h. Contains (final_elements (homed h is.read.entry) is.read.char) is.x) same is.read.member;
@@ -133,7 +133,7 @@ module _ (list : WeightList) (all : CollatorTables) where
   none_some a h = cc
 
   pub no_tailoring : all.tables.tailoring ≡ None → (w : ℕ) → IsWeightBy list Tailoring all.tables w → ⊥
-  no_tailoring found w is = none_some is.read.home (sym found ∙ is.read.live.0)
+  no_tailoring found w is = none_some is.read.home (sym found ∙ is.read.reachable.0)
 
   place_back : (c : ℕ) → IsTrue (is_jamo c) → 0x1100 + (c - 0x1100) ≡ c
   place_back c is = grind (arith, nat_tests)
@@ -155,23 +155,23 @@ module _ (list : WeightList) (all : CollatorTables) where
         home = all.tables.root;
         char = 0x1100 + is.place;
         entry = is.is.e;
-        live = (refl, char_jamo is.place is.below, subst (λ i. Contains (live_from all.tables.root (slice_index all.tables.jamo i)) is.is.e) (sym (char_place is.place)) is.is.live);
+        reachable = (refl, char_jamo is.place is.below, subst (λ i. Contains (reachable_from all.tables.root (slice_index all.tables.jamo i)) is.is.e) (sym (char_place is.place)) is.is.reachable);
         stated = is.is.stated;
         member = is.is.given;
       };
       weighs = is.is.weighs;
     },
     λ is.
-        let back = place_back is.read.char is.read.live.1 in
+        let back = place_back is.read.char is.read.reachable.1 in
         record {
           place = is.read.char - 0x1100;
-          below = place_inside is.read.char is.read.live.1;
+          below = place_inside is.read.char is.read.reachable.1;
           is = record {
             e = is.read.entry;
-            live = subst (λ h. Contains (live_from h (slice_index all.tables.jamo (is.read.char - 0x1100))) is.read.entry) is.read.live.0 is.read.live.2;
-            stated = subst (λ c. IsTrue (is_stated all.tables.root c is.read.entry)) (sym back) (subst (λ h. IsTrue (is_stated h is.read.char is.read.entry)) is.read.live.0 is.read.stated);
+            reachable = subst (λ h. Contains (reachable_from h (slice_index all.tables.jamo (is.read.char - 0x1100))) is.read.entry) is.read.reachable.0 is.read.reachable.2;
+            stated = subst (λ c. IsTrue (is_stated all.tables.root c is.read.entry)) (sym back) (subst (λ h. IsTrue (is_stated h is.read.char is.read.entry)) is.read.reachable.0 is.read.stated);
             x = is.x;
-            given = subst (λ c. Contains (final_elements (homed all.tables.root is.read.entry) c) is.x) (sym back) (subst (λ h. Contains (final_elements (homed h is.read.entry) is.read.char) is.x) is.read.live.0 is.read.member);
+            given = subst (λ c. Contains (final_elements (homed all.tables.root is.read.entry) c) is.x) (sym back) (subst (λ h. Contains (final_elements (homed h is.read.entry) is.read.char) is.x) is.read.reachable.0 is.read.member);
             weighs = is.weighs;
           };
         },
@@ -192,13 +192,13 @@ module _ (list : WeightList) (all : CollatorTables) where
   )
 
   pub special_none : (w : ℕ) → IsWeightBy list SpecialPrimaries all.tables w → ⊥
-  special_none w is = is.read.live
+  special_none w is = is.read.reachable
 
   pub metadata_none : (w : ℕ) → IsWeightBy list Metadata all.tables w → ⊥
-  metadata_none w is = is.read.live
+  metadata_none w is = is.read.reachable
 
   pub reordering_none : (w : ℕ) → IsWeightBy list Reordering all.tables w → ⊥
-  reordering_none w is = is.read.live
+  reordering_none w is = is.read.reachable
 
 -- ---- as tables are returned
 
@@ -206,14 +206,14 @@ abbrev Found : (ℕ → Type 0) → List ℕ → List ℕ → Type 0
 Found P old new = (w : ℕ) → Contains new w ↔ (Contains old w ⊎ P w)
 
 module _ (s : TableSet) (list : WeightList) where
-  pub loaded_root : {X E : Type 0} (r : Result X E) (old new : List ℕ) → OnOk r (Found (IsLiveWeight (compared_weight list) false (data_of s.root)) old new) → OnOk r (Adds (IsWeightBy list Root (tables_in s).tables) old new)
+  pub loaded_root : {X E : Type 0} (r : Result X E) (old new : List ℕ) → OnOk r (Found (IsReachableWeight (compared_weight list) false (data_of s.root)) old new) → OnOk r (Adds (IsWeightBy list Root (tables_in s).tables) old new)
   unfolding tables_in
-  loaded_root r old new = on_ok _ _ (adds_same (IsLiveWeight (compared_weight list) false (data_of s.root)) (IsWeightBy list Root (tables_in s).tables) old new (root_same list (tables_in s))) r
+  loaded_root r old new = on_ok _ _ (adds_same (IsReachableWeight (compared_weight list) false (data_of s.root)) (IsWeightBy list Root (tables_in s).tables) old new (root_same list (tables_in s))) r
 
-  pub loaded_tailoring : (t : CollationData) → s.tailoring ≡ Some t → {X E : Type 0} (r : Result X E) (old new : List ℕ) → OnOk r (Found (IsLiveWeight (compared_weight list) true (data_of t)) old new) → OnOk r (Adds (IsWeightBy list Tailoring (tables_in s).tables) old new)
+  pub loaded_tailoring : (t : CollationData) → s.tailoring ≡ Some t → {X E : Type 0} (r : Result X E) (old new : List ℕ) → OnOk r (Found (IsReachableWeight (compared_weight list) true (data_of t)) old new) → OnOk r (Adds (IsWeightBy list Tailoring (tables_in s).tables) old new)
   unfolding tables_in
   loaded_tailoring t found r old new =
-      on_ok _ _ (adds_same (IsLiveWeight (compared_weight list) true (data_of t)) (IsWeightBy list Tailoring (tables_in s).tables) old new
+      on_ok _ _ (adds_same (IsReachableWeight (compared_weight list) true (data_of t)) (IsWeightBy list Tailoring (tables_in s).tables) old new
       (tailoring_same list (tables_in s) (data_of t) (ap (option_map data_of) found))) r
 
   pub loaded_no_tailoring : s.tailoring ≡ None → (old : List ℕ) → Adds (IsWeightBy list Tailoring (tables_in s).tables) old old
@@ -221,11 +221,11 @@ module _ (s : TableSet) (list : WeightList) where
   loaded_no_tailoring found old = adds_none (IsWeightBy list Tailoring (tables_in s).tables) old old refl (no_tailoring list (tables_in s) (ap (option_map data_of) found))
 
   pub loaded_of_jamo : (i e c : ℕ) → e ≡ slice_index (jamo_of s.jamo) i → c ≡ 0x1100 + i → {X E : Type 0} (r : Result X E) (old new : List ℕ)
-      → OnOk r (Found (IsWeightAmong (compared_weight list) (data_of s.root) c (live_from (data_of s.root) e)) old new) → OnOk r (Adds (IsJamoWeight list (tables_in s) i) old new)
+      → OnOk r (Found (IsWeightAmong (compared_weight list) (data_of s.root) c (reachable_from (data_of s.root) e)) old new) → OnOk r (Adds (IsJamoWeight list (tables_in s) i) old new)
   unfolding tables_in
   loaded_of_jamo i e c is at r old new h =
-      subst (λ e. OnOk r (Found (IsWeightAmong (compared_weight list) (data_of s.root) (0x1100 + i) (live_from (data_of s.root) e)) old new)) is
-      (subst (λ d. OnOk r (Found (IsWeightAmong (compared_weight list) (data_of s.root) d (live_from (data_of s.root) e)) old new)) at h)
+      subst (λ e. OnOk r (Found (IsWeightAmong (compared_weight list) (data_of s.root) (0x1100 + i) (reachable_from (data_of s.root) e)) old new)) is
+      (subst (λ d. OnOk r (Found (IsWeightAmong (compared_weight list) (data_of s.root) d (reachable_from (data_of s.root) e)) old new)) at h)
 
   pub loaded_jamo : (n : ℕ) → n ≡ 256 → (old new : List ℕ) → Adds (IsBelow (IsJamoWeight list (tables_in s)) n) old new → Adds (IsWeightBy list Jamo (tables_in s).tables) old new
   loaded_jamo n count old new adds =

@@ -23,22 +23,22 @@ use Rattle.icu_checks.specs.declared.check.weights.WeightList.{WeightList}
 use Rattle.icu_checks.specs.declared.check.weights.WeightList.TheVariants.{Primaries, Secondaries, Tertiaries, TertiaryElements, WithSecondary}
 use Rattle.icu_provider.specs.CollatorTables.{CollatorTables}
 use Rattle.icu_checks.specs.ElementConditions.{implicit_lead, is_tertiary_element}
-use Rattle.icu_checks.specs.LiveElements.{IsElementBy}
-use Rattle.icu_checks.specs.inner.EntryViolations.{MeetsIn, LiveMeets}
+use Rattle.icu_checks.specs.ReachableElements.{IsElementBy}
+use Rattle.icu_checks.specs.inner.EntryViolations.{MeetsIn, ReachableMeets}
 use Rattle.icu_checks.specs.inner.ComparedWeights.{left_aligned, nonzero, uncommon, compared_weight, IsReadBy}
 use Rattle.icu_data.proofs.ViolationLemmas.{meets_readable}
 use Rattle.icu_checks.proofs.ImplicitLemmas.{implicit_bytes, weighs_nothing}
 
 -- ---- elements
 
--- what is read is live
+-- what is read is reachable
 pub element_by : (tables : Tables) (table : DataTable) (x : Element) → IsReadBy table tables x → IsElementBy table tables x
-element_by tables Root x is = record { home = is.home; char = is.char; entry = is.entry; live = is.live; member = is.member }
-element_by tables Jamo x is = record { home = is.home; char = is.char; entry = is.entry; live = is.live; member = is.member }
-element_by tables Tailoring x is = record { home = is.home; char = is.char; entry = is.entry; live = is.live; member = is.member }
-element_by tables SpecialPrimaries x is = absurd is.live
-element_by tables Metadata x is = absurd is.live
-element_by tables Reordering x is = absurd is.live
+element_by tables Root x is = record { home = is.home; char = is.char; entry = is.entry; reachable = is.reachable; member = is.member }
+element_by tables Jamo x is = record { home = is.home; char = is.char; entry = is.entry; reachable = is.reachable; member = is.member }
+element_by tables Tailoring x is = record { home = is.home; char = is.char; entry = is.entry; reachable = is.reachable; member = is.member }
+element_by tables SpecialPrimaries x is = absurd is.reachable
+element_by tables Metadata x is = absurd is.reachable
+element_by tables Reordering x is = absurd is.reachable
 element_by tables Diacritics x is = is
 
 -- it isn't the element of an implicit weight
@@ -75,45 +75,45 @@ stated_from home c e x can_read member explicit =
     rw (not_implicit (kind_of e) other) can_read
 
 module _ (all : CollatorTables) where
-  -- what is live by any table meets the conditions; by some tables nothing is live
-  pub meets_in : LiveMeets all → (table : DataTable) → MeetsIn table all
+  -- what is reachable by any table meets the conditions; by some tables nothing is reachable
+  pub meets_in : ReachableMeets all → (table : DataTable) → MeetsIn table all
   meets_in met Root = met.root
   meets_in met Jamo = met.jamo
   meets_in met Tailoring = met.tailoring
   meets_in met Diacritics = met.diacritics
-  meets_in met SpecialPrimaries = record { entries = λ condition home c e is. absurd is; rows = λ home c e is. absurd is; elements = λ condition x is. absurd is.live }
-  meets_in met Metadata = record { entries = λ condition home c e is. absurd is; rows = λ home c e is. absurd is; elements = λ condition x is. absurd is.live }
-  meets_in met Reordering = record { entries = λ condition home c e is. absurd is; rows = λ home c e is. absurd is; elements = λ condition x is. absurd is.live }
+  meets_in met SpecialPrimaries = record { entries = λ condition home c e is. absurd is; mappings = λ home c e is. absurd is; elements = λ condition x is. absurd is.reachable }
+  meets_in met Metadata = record { entries = λ condition home c e is. absurd is; mappings = λ home c e is. absurd is; elements = λ condition x is. absurd is.reachable }
+  meets_in met Reordering = record { entries = λ condition home c e is. absurd is; mappings = λ home c e is. absurd is; elements = λ condition x is. absurd is.reachable }
 
-  -- so what is live and isn't the element of an implicit weight is read
-  pub read_by : LiveMeets all → (table : DataTable) (x : Element) → IsElementBy table all.tables x → IsExplicit x → IsReadBy table all.tables x
+  -- so what is reachable and isn't the element of an implicit weight is read
+  pub read_by : ReachableMeets all → (table : DataTable) (x : Element) → IsElementBy table all.tables x → IsExplicit x → IsReadBy table all.tables x
   read_by met Root x is explicit = record {
     home = is.home;
     char = is.char;
     entry = is.entry;
-    live = is.live;
-    stated = stated_from is.home is.char is.entry x (meets_readable is.home is.char is.entry (λ condition. met.root.entries condition is.home is.char is.entry is.live)) is.member explicit;
+    reachable = is.reachable;
+    stated = stated_from is.home is.char is.entry x (meets_readable is.home is.char is.entry (λ condition. met.root.entries condition is.home is.char is.entry is.reachable)) is.member explicit;
     member = is.member;
   }
   read_by met Jamo x is explicit = record {
     home = is.home;
     char = is.char;
     entry = is.entry;
-    live = is.live;
-    stated = stated_from is.home is.char is.entry x (meets_readable is.home is.char is.entry (λ condition. met.jamo.entries condition is.home is.char is.entry is.live)) is.member explicit;
+    reachable = is.reachable;
+    stated = stated_from is.home is.char is.entry x (meets_readable is.home is.char is.entry (λ condition. met.jamo.entries condition is.home is.char is.entry is.reachable)) is.member explicit;
     member = is.member;
   }
   read_by met Tailoring x is explicit = record {
     home = is.home;
     char = is.char;
     entry = is.entry;
-    live = is.live;
-    stated = stated_from is.home is.char is.entry x (meets_readable is.home is.char is.entry (λ condition. met.tailoring.entries condition is.home is.char is.entry is.live)) is.member explicit;
+    reachable = is.reachable;
+    stated = stated_from is.home is.char is.entry x (meets_readable is.home is.char is.entry (λ condition. met.tailoring.entries condition is.home is.char is.entry is.reachable)) is.member explicit;
     member = is.member;
   }
-  read_by met SpecialPrimaries x is explicit = absurd is.live
-  read_by met Metadata x is explicit = absurd is.live
-  read_by met Reordering x is explicit = absurd is.live
+  read_by met SpecialPrimaries x is explicit = absurd is.reachable
+  read_by met Metadata x is explicit = absurd is.reachable
+  read_by met Reordering x is explicit = absurd is.reachable
   read_by met Diacritics x is explicit = is
 
 -- ---- what a collected weight is

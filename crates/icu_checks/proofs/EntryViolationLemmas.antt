@@ -3,26 +3,26 @@ use Rattle.std.proofs.Common.{◌≡◌, ℕ, Bool, true, false, not, ◌&&◌, 
 use Rattle.std.specs.List.{AllByRecursion, Contains}
 use Rattle.icu_entries.specs.declared.error.DataTable.{DataTable}
 use Rattle.icu_entries.specs.declared.error.DataTable.TheVariants.{Root, Jamo, SpecialPrimaries, Metadata, Tailoring, Reordering, Diacritics}
-use Rattle.icu_data.specs.declared.live_condition.LiveCondition.{LiveCondition}
+use Rattle.icu_data.specs.declared.reachable_condition.ReachableCondition.{ReachableCondition}
 use Rattle.icu_entries.specs.Elements.{Element}
 use Rattle.icu_data.specs.Data.{Data, homed}
 use Rattle.icu_data.specs.Final.{final_elements}
 use Rattle.icu_data.specs.DataConditions.{avoids_diacritics, is_readable}
 use Rattle.icu_data.specs.Violations.{earlier}
-use Rattle.icu_data.specs.Live.{goes_by_character}
-use Rattle.icu_data.specs.LiveConditions.{meets, first_failing}
+use Rattle.icu_data.specs.Reachable.{goes_by_character}
+use Rattle.icu_data.specs.ReachableConditions.{meets, first_failing}
 use Rattle.icu_data.proofs.ViolationLemmas.{find_passes, find_none, not_false, not_true, weaker_some, passes_meets, meets_readable, failing_fails, earlier-none, earlier-keeps}
 use Rattle.icu_data.proofs.SameEntryLemmas.{failing_alike, readable_alike, elements_alike}
 use Rattle.icu_data.proofs.ListLemmas.{weaker, all_members}
 use Rattle.icu_checks.specs.declared.condition.Condition.TheVariants as conditions
-use Rattle.icu_checks.specs.declared.condition.LiveElementCondition.{LiveElementCondition}
-use Rattle.icu_checks.specs.declared.condition.LiveElementCondition.TheVariants.{Width, BackwardLead, TertiaryElement, MiddleLead, ImplicitLength, NumericLead, SharedLead, SecondByte}
+use Rattle.icu_checks.specs.declared.condition.ReachableElementCondition.{ReachableElementCondition}
+use Rattle.icu_checks.specs.declared.condition.ReachableElementCondition.TheVariants.{Width, BackwardLead, TertiaryElement, MiddleLead, ImplicitLength, NumericLead, SharedLead, SecondByte}
 use Rattle.icu_checks.specs.declared.violation.Violation.{Violation}
 use Rattle.icu_provider.specs.CollatorTables.{CollatorTables}
-use Rattle.icu_checks.specs.LiveElements.{IsLiveBy, IsElementBy}
-use Rattle.icu_checks.specs.ElementConditions.{live_element_meets, element_conditions}
+use Rattle.icu_checks.specs.ReachableElements.{IsReachableBy, IsElementBy}
+use Rattle.icu_checks.specs.ElementConditions.{reachable_element_meets, element_conditions}
 use Rattle.icu_checks.specs.inner.Violations.{violation_rank, IsTrueViolation}
-use Rattle.icu_checks.specs.inner.EntryViolations.{of_element, first_failing_element, element_violation, after_element, judged_element, elements_violation, of_entry, rows_violation, entry_violation}
+use Rattle.icu_checks.specs.inner.EntryViolations.{of_element, first_failing_element, element_violation, after_element, judged_element, elements_violation, of_entry, mappings_violation, entry_violation}
 
 pub judged_elements : (all : CollatorTables) (table : DataTable) (best : Option Violation) (xs : List Element) → fold judged_element ((all, table), best) xs ≡ ((all, table), fold (after_element all table) best xs)
 judged_elements all table best [] = refl
@@ -48,9 +48,9 @@ is_readable_where_none_fails home c e none = meets_readable home c e (passes_mee
 
 module _ (all : CollatorTables) where
   abbrev pub MeetsAll : Element → Type 0
-  MeetsAll x = (condition : LiveElementCondition) → IsTrue (live_element_meets condition all x)
+  MeetsAll x = (condition : ReachableElementCondition) → IsTrue (reachable_element_meets condition all x)
 
-  listed : (x : Element) → AllByRecursion (λ condition. not (live_element_meets condition all x) ≡ false) element_conditions → (condition : LiveElementCondition) → IsTrue (live_element_meets condition all x)
+  listed : (x : Element) → AllByRecursion (λ condition. not (reachable_element_meets condition all x) ≡ false) element_conditions → (condition : ReachableElementCondition) → IsTrue (reachable_element_meets condition all x)
   listed x each Width = not_false _ each.0
   listed x each BackwardLead = not_false _ each.1.0
   listed x each TertiaryElement = not_false _ each.1.1.0
@@ -60,20 +60,20 @@ module _ (all : CollatorTables) where
   listed x each SharedLead = not_false _ each.1.1.1.1.1.1.0
   listed x each SecondByte = not_false _ each.1.1.1.1.1.1.1.0
 
-  pub passes_element : (x : Element) → first_failing_element all x ≡ None → (condition : LiveElementCondition) → IsTrue (live_element_meets condition all x)
+  pub passes_element : (x : Element) → first_failing_element all x ≡ None → (condition : ReachableElementCondition) → IsTrue (reachable_element_meets condition all x)
   unfolding first_failing_element
-  passes_element x h = listed x (find_none (λ condition. not (live_element_meets condition all x)) element_conditions h)
+  passes_element x h = listed x (find_none (λ condition. not (reachable_element_meets condition all x)) element_conditions h)
 
-  fails_element : (x : Element) → IfSome (first_failing_element all x) (λ condition. live_element_meets condition all x ≡ false)
+  fails_element : (x : Element) → IfSome (first_failing_element all x) (λ condition. reachable_element_meets condition all x ≡ false)
   unfolding first_failing_element
   fails_element x =
-      weaker_some _ (λ condition. live_element_meets condition all x ≡ false) (λ condition h. not_true (live_element_meets condition all x) h) _
-      (find_passes (λ condition. not (live_element_meets condition all x)) element_conditions)
+      weaker_some _ (λ condition. reachable_element_meets condition all x ≡ false) (λ condition h. not_true (reachable_element_meets condition all x) h) _
+      (find_passes (λ condition. not (reachable_element_meets condition all x)) element_conditions)
 
   pub element_true : (table : DataTable) (x : Element) → IsElementBy table all.tables x → IfSome (element_violation all table x) (IsTrueViolation all)
   element_true table x is =
-      map_some (of_element table) (λ condition. live_element_meets condition all x ≡ false) (IsTrueViolation all)
-      (λ condition fails meets. clash (live_element_meets condition all x) fails (meets table refl x is)) (first_failing_element all x) (fails_element x)
+      map_some (of_element table) (λ condition. reachable_element_meets condition all x ≡ false) (IsTrueViolation all)
+      (λ condition fails meets. clash (reachable_element_meets condition all x) fails (meets table refl x is)) (first_failing_element all x) (fails_element x)
 
   elements_true : (table : DataTable) (best : Option Violation) (xs : List Element) → IfSome best (IsTrueViolation all) → AllByRecursion (IsElementBy table all.tables) xs → IfSome (fold (after_element all table) best xs) (IsTrueViolation all)
   elements_true table best [] h is = h
@@ -90,13 +90,13 @@ module _ (all : CollatorTables) where
   -- ---- one entry
 
   pub record EntryPasses (home : Data) (c e : ℕ) : Type 0 where
-    pub own : (condition : LiveCondition) → IsTrue (meets condition home c e)
-    pub rows : IsTrue (avoids_diacritics (length all.tables.diacritics) home e)
+    pub own : (condition : ReachableCondition) → IsTrue (meets condition home c e)
+    pub mappings : IsTrue (avoids_diacritics (length all.tables.diacritics) home e)
     pub elements : AllByRecursion MeetsAll (final_elements (homed home e) c)
 
-  no_rows : (b : Bool) (f : Violation) → (if b then None else Some f) ≡ None → IsTrue b
-  no_rows true f h = refl
-  no_rows false f h = cc
+  no_mappings : (b : Bool) (f : Violation) → (if b then None else Some f) ≡ None → IsTrue b
+  no_mappings true f h = refl
+  no_mappings false f h = cc
 
   read_none : (b : Bool) (o : Option Violation) → IsTrue b → (if b then o else None) ≡ None → o ≡ None
   read_none true o t h = h
@@ -105,29 +105,29 @@ module _ (all : CollatorTables) where
   pub entry_none : (table : DataTable) (home : Data) (c e : ℕ) → entry_violation all table home c e ≡ None → EntryPasses home c e
   unfolding entry_violation
   entry_none table home c e h =
-      let of_entries = earlier violation_rank (option_map (of_entry table) (first_failing home c e)) (rows_violation all home e) in
+      let of_entries = earlier violation_rank (option_map (of_entry table) (first_failing home c e)) (mappings_violation all home e) in
       let both = earlier-none violation_rank of_entries _ h in
-      let two = earlier-none violation_rank (option_map (of_entry table) (first_failing home c e)) (rows_violation all home e) both.0 in
+      let two = earlier-none violation_rank (option_map (of_entry table) (first_failing home c e)) (mappings_violation all home e) both.0 in
       let own = passes_meets home c e (no_map (of_entry table) (first_failing home c e) two.0) in
       record {
         own = own;
-        rows = no_rows (avoids_diacritics (length all.tables.diacritics) home e) _ two.1;
+        mappings = no_mappings (avoids_diacritics (length all.tables.diacritics) home e) _ two.1;
         elements = (elements_none table None (final_elements (homed home e) c) (read_none (is_readable home c e) (elements_violation all table home c e) (meets_readable home c e own) both.1)).1;
       }
 
-  element_by : (table : DataTable) (home : Data) (c e : ℕ) (x : Element) → IsLiveBy table all.tables home c e → Contains (final_elements (homed home e) c) x → IsElementBy table all.tables x
-  element_by Root home c e x is given = record { home = home; char = c; entry = e; live = is; member = given }
-  element_by Jamo home c e x is given = record { home = home; char = c; entry = e; live = is; member = given }
-  element_by Tailoring home c e x is given = record { home = home; char = c; entry = e; live = is; member = given }
+  element_by : (table : DataTable) (home : Data) (c e : ℕ) (x : Element) → IsReachableBy table all.tables home c e → Contains (final_elements (homed home e) c) x → IsElementBy table all.tables x
+  element_by Root home c e x is given = record { home = home; char = c; entry = e; reachable = is; member = given }
+  element_by Jamo home c e x is given = record { home = home; char = c; entry = e; reachable = is; member = given }
+  element_by Tailoring home c e x is given = record { home = home; char = c; entry = e; reachable = is; member = given }
   element_by SpecialPrimaries home c e x is given = absurd is
   element_by Metadata home c e x is given = absurd is
   element_by Reordering home c e x is given = absurd is
   element_by Diacritics home c e x is given = absurd is
 
-  rows_true : (table : DataTable) (home : Data) (c e : ℕ) → IsLiveBy table all.tables home c e → IfSome (rows_violation all home e) (IsTrueViolation all)
-  rows_true table home c e is = by_test (avoids_diacritics (length all.tables.diacritics) home e) refl
+  mappings_true : (table : DataTable) (home : Data) (c e : ℕ) → IsReachableBy table all.tables home c e → IfSome (mappings_violation all home e) (IsTrueViolation all)
+  mappings_true table home c e is = by_test (avoids_diacritics (length all.tables.diacritics) home e) refl
     where
-      by_test : (b : Bool) → avoids_diacritics (length all.tables.diacritics) home e ≡ b → IfSome (if b then None else Some (record { condition = conditions.PrefixRows; table = Diacritics })) (IsTrueViolation all)
+      by_test : (b : Bool) → avoids_diacritics (length all.tables.diacritics) home e ≡ b → IfSome (if b then None else Some (record { condition = conditions.PrefixMappings; table = Diacritics })) (IsTrueViolation all)
       by_test true h = tt
       by_test false h = λ meets. clash (avoids_diacritics (length all.tables.diacritics) home e) h (meets refl table home c e is)
 
@@ -135,7 +135,7 @@ module _ (all : CollatorTables) where
   read_true true o h = h
   read_true false o h = tt
 
-  pub entry_true : (table : DataTable) (home : Data) (c e : ℕ) → IsLiveBy table all.tables home c e → IfSome (entry_violation all table home c e) (IsTrueViolation all)
+  pub entry_true : (table : DataTable) (home : Data) (c e : ℕ) → IsReachableBy table all.tables home c e → IfSome (entry_violation all table home c e) (IsTrueViolation all)
   unfolding entry_violation
   entry_true table home c e is =
       let own : IfSome (option_map (of_entry table) (first_failing home c e)) (IsTrueViolation all) =
@@ -144,31 +144,31 @@ module _ (all : CollatorTables) where
       let given : AllByRecursion (IsElementBy table all.tables) (final_elements (homed home e) c) =
       weaker (Contains (final_elements (homed home e) c)) (IsElementBy table all.tables) (λ x member. element_by table home c e x is member) _ (all_members (final_elements (homed home e) c)) in
       earlier-keeps violation_rank (IsTrueViolation all) _ _
-      (earlier-keeps violation_rank (IsTrueViolation all) _ _ own (rows_true table home c e is))
+      (earlier-keeps violation_rank (IsTrueViolation all) _ _ own (mappings_true table home c e is))
       (read_true (is_readable home c e) (elements_violation all table home c e) (elements_true table None (final_elements (homed home e) c) tt given))
 
 -- ---- entries that don't go by their character
 
 -- the violation of an entry by what is asked of it and its character
-abbrev judged_by : CollatorTables → DataTable → Option Violation → Option LiveCondition → Bool → List Element → Option Violation
-judged_by all table rows own readable es =
-    earlier violation_rank (earlier violation_rank (option_map (of_entry table) own) rows) (if readable then fold (after_element all table) None es else None)
+abbrev judged_by : CollatorTables → DataTable → Option Violation → Option ReachableCondition → Bool → List Element → Option Violation
+judged_by all table mappings own readable es =
+    earlier violation_rank (earlier violation_rank (option_map (of_entry table) own) mappings) (if readable then fold (after_element all table) None es else None)
 
 pub entry_alike : (all : CollatorTables) (table : DataTable) (home : Data) (c d e : ℕ) → goes_by_character e ≡ false → entry_violation all table home c e ≡ entry_violation all table home d e
 unfolding entry_violation
 entry_alike all table home c d e by =
-    let judged : Option LiveCondition → Bool → List Element → Option Violation = judged_by all table (rows_violation all home e) in
+    let judged : Option ReachableCondition → Bool → List Element → Option Violation = judged_by all table (mappings_violation all home e) in
     ap (λ own. judged own (is_readable home c e) (final_elements (homed home e) c)) (failing_alike home c d e by)
     ∙ ap (λ readable. judged (first_failing home d e) readable (final_elements (homed home e) c)) (readable_alike home c d e by)
     ∙ ap (λ es. judged (first_failing home d e) (is_readable home d e) es) (elements_alike home c d e by)
 
 -- ---- entries that fail no condition of their own
 
--- such an entry has the first violation of its rows and of its elements
+-- such an entry has the first violation of its mappings and of its elements
 pub without_own : (all : CollatorTables) (table : DataTable) (home : Data) (c e : ℕ) → first_failing home c e ≡ None
-    → entry_violation all table home c e ≡ earlier violation_rank (rows_violation all home e) (elements_violation all table home c e)
+    → entry_violation all table home c e ≡ earlier violation_rank (mappings_violation all home e) (elements_violation all table home c e)
 unfolding entry_violation earlier
 without_own all table home c e none =
-    let judged : Option LiveCondition → Bool → List Element → Option Violation = judged_by all table (rows_violation all home e) in
+    let judged : Option ReachableCondition → Bool → List Element → Option Violation = judged_by all table (mappings_violation all home e) in
     ap (λ own. judged own (is_readable home c e) (final_elements (homed home e) c)) none
     ∙ ap (λ readable. judged None readable (final_elements (homed home e) c)) (is_readable_where_none_fails home c e none)

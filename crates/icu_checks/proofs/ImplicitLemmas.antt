@@ -14,14 +14,14 @@ use Rattle.icu_data.specs.Data.{Data}
 use Rattle.icu_entries.specs.Weights.{weight, implicit_weight}
 use Rattle.icu_data.proofs.ViolationLemmas.{none_found, negated}
 use Rattle.icu_data.proofs.ImplicitLemmas.{implicit_passes}
-use Rattle.icu_checks.specs.declared.condition.LiveElementCondition.{LiveElementCondition}
-use Rattle.icu_checks.specs.declared.condition.LiveElementCondition.TheVariants.{Width, BackwardLead, TertiaryElement, MiddleLead, ImplicitLength, NumericLead, SharedLead, SecondByte}
+use Rattle.icu_checks.specs.declared.condition.ReachableElementCondition.{ReachableElementCondition}
+use Rattle.icu_checks.specs.declared.condition.ReachableElementCondition.TheVariants.{Width, BackwardLead, TertiaryElement, MiddleLead, ImplicitLength, NumericLead, SharedLead, SecondByte}
 use Rattle.icu_checks.specs.declared.violation.Violation.{Violation}
 use Rattle.icu_checks.specs.declared.check.weights.WeightList.{WeightList}
 use Rattle.icu_checks.specs.declared.check.weights.WeightList.TheVariants.{Primaries, Secondaries, Tertiaries, TertiaryElements, WithSecondary}
 use Rattle.icu_provider.specs.CollatorTables.{CollatorTables, is_forward, reorder, new_lead}
 use Rattle.icu_weights.specs.Leads.{is_middle}
-use Rattle.icu_checks.specs.ElementConditions.{implicit_lead, has_low_bytes, has_second_byte, is_apart, primary_meets, live_element_meets, element_conditions}
+use Rattle.icu_checks.specs.ElementConditions.{implicit_lead, has_low_bytes, has_second_byte, is_apart, primary_meets, reachable_element_meets, element_conditions}
 use Rattle.icu_checks.specs.declared.condition.LeadCondition.TheVariants.{ImplicitLead, LeadsApart}
 use Rattle.icu_checks.specs.LeadConditions.{TakesTogether, LeadMeets}
 use Rattle.icu_checks.specs.inner.EntryViolations.{first_failing_element, elements_violation, entry_violation, ImplicitPasses}
@@ -128,7 +128,7 @@ module _ (all : CollatorTables) (together : TakesTogether all implicit_lead) (ap
     not_numeric : lead_byte p ≢ all.special.numeric
     not_numeric h = omega (arith, is.lead, h, below)
 
-    primary : (condition : LiveElementCondition) → IsTrue (primary_meets condition all p)
+    primary : (condition : ReachableElementCondition) → IsTrue (primary_meets condition all p)
     primary MiddleLead = or_second _ (is_middle (lead_byte (reorder all p))) (subst (λ b. IsTrue (is_middle b)) (sym taken) together.middle)
     primary ImplicitLength = or_second _ (has_low_bytes p) is.low
     primary NumericLead = differs (lead_byte p) all.special.numeric not_numeric
@@ -143,7 +143,7 @@ module _ (all : CollatorTables) (together : TakesTogether all implicit_lead) (ap
     less : nat_lt p (2 ^ 32) ≡ true
     less = let fits = is.fits in grind (arith, nat_tests, fits)
 
-    element : (condition : LiveElementCondition) → IsTrue (live_element_meets condition all (of_primary p))
+    element : (condition : ReachableElementCondition) → IsTrue (reachable_element_meets condition all (of_primary p))
     element Width = rw less refl
     element BackwardLead = or_second (is_forward all) true refl
     element TertiaryElement = refl
@@ -155,7 +155,7 @@ module _ (all : CollatorTables) (together : TakesTogether all implicit_lead) (ap
 
     none_fails : first_failing_element all (of_primary p) ≡ None
     unfolding first_failing_element
-    none_fails = none_found (λ condition. not (live_element_meets condition all (of_primary p))) (λ condition. negated (live_element_meets condition all (of_primary p)) (element condition)) element_conditions
+    none_fails = none_found (λ condition. not (reachable_element_meets condition all (of_primary p))) (λ condition. negated (reachable_element_meets condition all (of_primary p)) (element condition)) element_conditions
 
   pub implicit_meets : (c : ℕ) → first_failing_element all (of_primary (implicit_weight c)) ≡ None
   implicit_meets c = none_fails (implicit_weight c) (implicit_bytes c)

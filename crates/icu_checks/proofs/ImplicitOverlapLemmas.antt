@@ -1,4 +1,4 @@
--- Entries for implicit weights that are live, and primary weights that begin an implicit weight.
+-- Entries for implicit weights that are reachable, and primary weights that begin an implicit weight.
 use Rattle.std.proofs.Common.{◌≡◌, ◌≢◌, ℕ, ◌-◌, ◌<◌, ◌≤◌, Bool, true, false, ◌||◌, ◌==◌, List, [], ◌∷◌, fold, Some, IsTrue, slice_index, if◌then◌else◌, refl, sym, ap, ◌∙◌, subst, arith, option_map, inl, inr}
 use Rattle.std.specs.Char.{IsScalar}
 use Rattle.std.specs.List.{Contains, list_any}
@@ -14,7 +14,7 @@ use Rattle.icu_entries.specs.Elements.{of_primary}
 use Rattle.icu_entries.specs.Entries.{kind_of}
 use Rattle.icu_entries.specs.Weights.{implicit_weight}
 use Rattle.icu_data.specs.declared.data.CollationData.{CollationData}
-use Rattle.icu_data.specs.Live.{live_from}
+use Rattle.icu_data.specs.Reachable.{reachable_from}
 use Rattle.icu_data.specs.StoredData.{data_of}
 use Rattle.icu_provider.specs.Reorderings.{lead_byte}
 use Rattle.icu_provider.specs.StoredTables.{jamo_of}
@@ -27,8 +27,8 @@ use Rattle.icu_checks.specs.declared.check.weights.ComparedLevel.TheVariants.{Pr
 use Rattle.icu_checks.specs.declared.check.weights.WeightList.TheVariants.{Primaries}
 use Rattle.icu_provider.specs.CollatorTables.{CollatorTables}
 use Rattle.icu_provider.specs.TableSets.{tables_in}
-use Rattle.icu_checks.specs.GoodTables.{MeetsBy, IsOverlapTable}
-use Rattle.icu_checks.specs.LiveElements.{IsElementBy, IsOfEntryBy}
+use Rattle.icu_checks.specs.WellFormedTables.{MeetsBy, IsOverlapTable}
+use Rattle.icu_checks.specs.ReachableElements.{IsElementBy, IsOfEntryBy}
 use Rattle.icu_checks.specs.inner.ComparedLevels.{bytes_at}
 use Rattle.icu_checks.specs.inner.ComparedWeights.{IsWeightBy}
 use Rattle.icu_checks.specs.inner.ImplicitOverlaps.{is_for_implicit, IsImplicitBy, IsImplicitClash}
@@ -75,7 +75,7 @@ is_implicit e h = implicit_kind (kind_of e) h
 -- an entry for an implicit weight among these
 record HasImplicit (es : List ℕ) : Type 0 where
   pub e : ℕ
-  pub live : Contains es e
+  pub reachable : Contains es e
   pub is : kind_of e ≡ Implicit
 
 otherwise : (b c : Bool) → b ≡ false → (b || c) ≡ true → c ≡ true
@@ -86,37 +86,37 @@ has_implicit : (es : List ℕ) → list_any is_for_implicit es ≡ true → HasI
 has_implicit [] h = cc
 has_implicit (e ∷ es) h =
     elim (cases_Bool (is_for_implicit e)) [
-      | inl is ↦ record { e = e; live = (0, omega arith, refl); is = is_implicit e is }
+      | inl is ↦ record { e = e; reachable = (0, omega arith, refl); is = is_implicit e is }
       | inr not ↦
           let rest = has_implicit es (otherwise (is_for_implicit e) (list_any is_for_implicit es) not h) in
-          record { e = rest.e; live = Contains-append_right (e ∷ []) es rest.e rest.live; is = rest.is }
+          record { e = rest.e; reachable = Contains-append_right (e ∷ []) es rest.e rest.reachable; is = rest.is }
     ]
 
 -- ---- table by table
 
 module _ (s : TableSet) (c e : ℕ) where
-  pub loaded_root : IsScalar c → e ≡ (data_of s.root).value c → list_any is_for_implicit (live_from (data_of s.root) e) ≡ true → IsImplicitBy Root (tables_in s).tables c
+  pub loaded_root : IsScalar c → e ≡ (data_of s.root).value c → list_any is_for_implicit (reachable_from (data_of s.root) e) ≡ true → IsImplicitBy Root (tables_in s).tables c
   unfolding tables_in
   loaded_root scalar is h =
-      let found = has_implicit (live_from (data_of s.root) e) h in
+      let found = has_implicit (reachable_from (data_of s.root) e) h in
       record {
         home = data_of s.root;
         entry = found.e;
-        live = (refl, scalar, subst (λ e. Contains (live_from (data_of s.root) e) found.e) is found.live);
+        reachable = (refl, scalar, subst (λ e. Contains (reachable_from (data_of s.root) e) found.e) is found.reachable);
         is = found.is;
       }
 
   in_range : 0x1100 ≤ c → c < 0x1200 → IsTrue (is_jamo c)
   in_range low high = grind (arith, nat_tests)
 
-  pub loaded_jamo : 0x1100 ≤ c → c < 0x1200 → e ≡ slice_index (jamo_of s.jamo) (c - 0x1100) → list_any is_for_implicit (live_from (data_of s.root) e) ≡ true → IsImplicitBy Jamo (tables_in s).tables c
+  pub loaded_jamo : 0x1100 ≤ c → c < 0x1200 → e ≡ slice_index (jamo_of s.jamo) (c - 0x1100) → list_any is_for_implicit (reachable_from (data_of s.root) e) ≡ true → IsImplicitBy Jamo (tables_in s).tables c
   unfolding tables_in
   loaded_jamo low high is h =
-      let found = has_implicit (live_from (data_of s.root) e) h in
+      let found = has_implicit (reachable_from (data_of s.root) e) h in
       record {
         home = data_of s.root;
         entry = found.e;
-        live = (refl, in_range low high, subst (λ e. Contains (live_from (data_of s.root) e) found.e) is found.live);
+        reachable = (refl, in_range low high, subst (λ e. Contains (reachable_from (data_of s.root) e) found.e) is found.reachable);
         is = found.is;
       }
 
@@ -124,18 +124,18 @@ module _ (s : TableSet) (c e : ℕ) where
   not_fallback false es x h has = has
   not_fallback true es x h has = cc
 
-  pub loaded_tailoring : (t : CollationData) → s.tailoring ≡ Some t → IsScalar c → e ≡ (data_of t).value c → (e == 0xC0) ≡ false → list_any is_for_implicit (live_from (data_of t) e) ≡ true
+  pub loaded_tailoring : (t : CollationData) → s.tailoring ≡ Some t → IsScalar c → e ≡ (data_of t).value c → (e == 0xC0) ≡ false → list_any is_for_implicit (reachable_from (data_of t) e) ≡ true
       → IsImplicitBy Tailoring (tables_in s).tables c
   unfolding tables_in
   loaded_tailoring t found scalar is other h =
-      let has = has_implicit (live_from (data_of t) e) h in
+      let has = has_implicit (reachable_from (data_of t) e) h in
       record {
         home = data_of t;
         entry = has.e;
-        live = (
+        reachable = (
           ap (λ o. option_map data_of o) found,
           scalar,
-          subst (λ e. Contains (if e == 0xC0 then [] else live_from (data_of t) e) has.e) is (not_fallback (e == 0xC0) (live_from (data_of t) e) has.e other has.live),
+          subst (λ e. Contains (if e == 0xC0 then [] else reachable_from (data_of t) e) has.e) is (not_fallback (e == 0xC0) (reachable_from (data_of t) e) has.e other has.reachable),
         );
         is = has.is;
       }
@@ -147,19 +147,19 @@ of_entry table tables c is = record {
   home = is.home;
   char = c;
   entry = is.entry;
-  live = is.live;
+  reachable = is.reachable;
   member = subst (λ xs. Contains xs (of_primary (implicit_weight c))) (sym (implicit_elements is.home c is.entry is.is)) (0, omega arith, refl);
 }
 
--- the element of a live implicit weight
+-- the element of a reachable implicit weight
 implicit_element : (table : DataTable) (tables : Tables) (c : ℕ) → (is : IsImplicitBy table tables c) → IsElementBy table tables (of_primary (implicit_weight c))
 implicit_element Root tables c is = of_entry Root tables c is
 implicit_element Jamo tables c is = of_entry Jamo tables c is
 implicit_element Tailoring tables c is = of_entry Tailoring tables c is
-implicit_element SpecialPrimaries tables c is = absurd is.live
-implicit_element Metadata tables c is = absurd is.live
-implicit_element Reordering tables c is = absurd is.live
-implicit_element Diacritics tables c is = absurd is.live
+implicit_element SpecialPrimaries tables c is = absurd is.reachable
+implicit_element Metadata tables c is = absurd is.reachable
+implicit_element Reordering tables c is = absurd is.reachable
+implicit_element Diacritics tables c is = absurd is.reachable
 
 some_lead : (p : ℕ) → lead_byte p ≡ 0xFE → p ≢ 0
 some_lead p lead h = omega (arith, lead, h)
@@ -169,7 +169,7 @@ pub refute_implicit : (all : CollatorTables) (clash : ImplicitClash) → IsImpli
 refute_implicit all clash is own a table named meets =
     let p = primary_weighs a.x clash.primary a.weighs in
     let w : ℕ = implicit_weight is.char in
-    refute_elements all own clash.table a.x (of_primary w) (element_by all.tables own a.x a.read) (implicit_element clash.table all.tables is.char is.live)
+    refute_elements all own clash.table a.x (of_primary w) (element_by all.tables own a.x a.read) (implicit_element clash.table all.tables is.char is.reachable)
     p.0 (some_lead w (implicit_bytes is.char).lead) (λ same. is.different (sym p.1 ∙ same ∙ sym is.is))
     (subst (λ v. IsBeginning (bytes_at Primary all v) (bytes_at Primary all w)) (sym p.1) (subst (λ v. IsBeginning (bytes_at Primary all clash.primary) (bytes_at Primary all v)) is.is is.begins))
     table (subst (λ v. IsOverlapTable own clash.table v w table) (sym p.1) (subst (λ v. IsOverlapTable own clash.table clash.primary v table) is.is named)) meets

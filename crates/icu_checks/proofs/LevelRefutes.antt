@@ -14,9 +14,9 @@ use Rattle.icu_checks.specs.declared.check.weights.ComparedLevel.TheVariants.{Pr
 use Rattle.icu_checks.specs.declared.check.weights.WeightList.TheVariants.{Primaries, Secondaries, Tertiaries, TertiaryElements, WithSecondary}
 use Rattle.icu_provider.specs.CollatorTables.{CollatorTables, reorder}
 use Rattle.icu_checks.specs.PairConditions.{BeginsNot, PairMeets}
-use Rattle.icu_checks.specs.GoodTables.{EachPair, MeetsBy, IsOverlapTable}
+use Rattle.icu_checks.specs.WellFormedTables.{EachPair, MeetsBy, IsOverlapTable}
 use Rattle.icu_checks.specs.inner.ComparedLevels.{list_of, overlap_condition, bytes_at}
-use Rattle.icu_checks.specs.LiveElements.{IsElementBy}
+use Rattle.icu_checks.specs.ReachableElements.{IsElementBy}
 use Rattle.icu_checks.specs.inner.PairViolations.{IsClashTable}
 use Rattle.icu_checks.specs.inner.ComparedWeights.{IsWeightBy}
 use Rattle.icu_weights.proofs.BeginningLemmas.{moved_up_bytes}
@@ -62,7 +62,7 @@ module _ (all : CollatorTables) (t u : DataTable) (v w : ℕ) where
       (ap (λ n. lead_byte (reorder all n)) p.1 ∙ same ∙ ap (λ n. lead_byte (reorder all n)) (sym q.1)) in
       unlike (ap (λ n. is_compressible all.special (lead_byte n)) (sym p.1) ∙ alike ∙ ap (λ n. is_compressible all.special (lead_byte n)) q.1)
 
--- two live elements whose primary weights clash, by the table that they are named by
+-- two reachable elements whose primary weights clash, by the table that they are named by
 pub refute_elements : (all : CollatorTables) (t u : DataTable) (x y : Element) → IsElementBy t all.tables x → IsElementBy u all.tables y → x.primary ≢ 0 → y.primary ≢ 0 → x.primary ≢ y.primary
     → IsBeginning (bytes_at Primary all x.primary) (bytes_at Primary all y.primary) → (table : DataTable) → IsOverlapTable t u x.primary y.primary table
     → MeetsBy (conditions.Pair of_pair.Primaries) table all → ⊥

@@ -1,9 +1,9 @@
-pub mod GoodLemmas
+pub mod WellFormedLemmas
 pub mod PrimaryLemmas
 pub mod CommonWeightLemmas
 pub mod LeadMeetings
 pub mod EntryViolationLemmas
-pub mod LiveViolationLemmas
+pub mod ReachableViolationLemmas
 pub mod LoadedViolationLemmas
 pub mod ViolationPairs
 pub mod CollectLemmas

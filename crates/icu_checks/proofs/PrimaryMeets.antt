@@ -9,7 +9,7 @@ use Rattle.icu_levels.specs.Premises.{IsPrefixFree}
 use Rattle.icu_entries.specs.declared.error.DataTable.{DataTable}
 use Rattle.icu_entries.specs.declared.error.DataTable.TheVariants.{Root, Jamo, SpecialPrimaries, Metadata, Tailoring, Diacritics}
 use Rattle.icu_entries.specs.declared.error.DataTable.TheVariants as tables
-use Rattle.icu_data.specs.declared.live_condition.LiveCondition.TheVariants as live
+use Rattle.icu_data.specs.declared.reachable_condition.ReachableCondition.TheVariants as reachable
 use Rattle.icu_entries.specs.Elements.{Element, common}
 use Rattle.icu_entries.specs.ElementConditions.{separator_primary, is_separator, has_primary_lead}
 use Rattle.icu_data.specs.Final.{final_elements}
@@ -17,21 +17,21 @@ use Rattle.icu_provider.specs.Reorderings.{Reordering, lead_byte}
 use Rattle.icu_provider.specs.SpecialPrimaries.{is_compressible}
 use Rattle.icu_data.specs.Data.{homed}
 use Rattle.icu_checks.specs.declared.condition.Condition.TheVariants as conditions
-use Rattle.icu_checks.specs.declared.condition.LiveElementCondition.TheVariants.{Width, MiddleLead, ImplicitLength, SharedLead}
+use Rattle.icu_checks.specs.declared.condition.ReachableElementCondition.TheVariants.{Width, MiddleLead, ImplicitLength, SharedLead}
 use Rattle.icu_checks.specs.declared.condition.LeadCondition.TheVariants.{ImplicitLead, Separator, HighLead}
 use Rattle.icu_checks.specs.declared.condition.PairCondition.TheVariants as of_pair
 use Rattle.icu_checks.specs.declared.check.weights.WeightList.TheVariants.{Primaries}
 use Rattle.icu_provider.specs.CollatorTables.{CollatorTables, reorder_by, reorder, new_lead}
-use Rattle.icu_checks.specs.LiveElements.{IsElementBy, IsOfEntryBy}
+use Rattle.icu_checks.specs.ReachableElements.{IsElementBy, IsOfEntryBy}
 use Rattle.icu_checks.specs.ElementConditions.{implicit_lead, has_low_bytes, is_apart, primary_meets}
-use Rattle.icu_checks.specs.inner.EntryViolations.{MeetsIn, LiveMeets}
-use Rattle.icu_checks.specs.GoodTables.{AreTables, Meets}
+use Rattle.icu_checks.specs.inner.EntryViolations.{MeetsIn, ReachableMeets}
+use Rattle.icu_checks.specs.WellFormedTables.{AreTables, Meets}
 use Rattle.icu_checks.specs.LeadConditions.{LeadMeets}
 use Rattle.icu_weights.specs.Leads.{is_middle}
 use Rattle.icu_weights.proofs.LeadLemmas.{reordered-rest}
 use Rattle.icu_checks.proofs.PrimaryLemmas.{AreApart, none_begins, compress_alike}
 use Rattle.icu_checks.proofs.ComparedLevelLemmas.{meets_in, primary_kept, lead_explicit, first_of_three, implied, passes}
-use Rattle.icu_checks.proofs.LevelMeets.{Collected, IsLiveWeight, collected_at}
+use Rattle.icu_checks.proofs.LevelMeets.{Collected, IsReachableWeight, collected_at}
 
 -- ---- one weight
 
@@ -79,13 +79,13 @@ rest_stays None p = refl
 rest_stays (Some r) p = reordered-rest r p
 
 module _ (all : CollatorTables) where
-  abbrev IsLive : ℕ → Type 0
-  IsLive = IsLiveWeight all (λ x. x.primary)
+  abbrev IsReachable : ℕ → Type 0
+  IsReachable = IsReachableWeight all (λ x. x.primary)
 
-module _ (all : CollatorTables) (met : LiveMeets all) where
+module _ (all : CollatorTables) (met : ReachableMeets all) where
   entry_lead : (table : DataTable) → MeetsIn table all → (x : Element) → IsOfEntryBy table all.tables x → IsTrue (has_primary_lead x)
   entry_lead table meets x is =
-      passes (λ x. has_primary_lead x) (final_elements (homed is.home is.entry) is.char) x (meets.entries live.Primaries is.home is.char is.entry is.live) is.member
+      passes (λ x. has_primary_lead x) (final_elements (homed is.home is.entry) is.char) x (meets.entries reachable.Primaries is.home is.char is.entry is.reachable) is.member
 
   -- diacritics have no primary weight
   lead_of : (table : DataTable) (x : Element) → IsElementBy table all.tables x → x.primary ≢ 0 → IsTrue (has_primary_lead x)
@@ -93,43 +93,43 @@ module _ (all : CollatorTables) (met : LiveMeets all) where
   lead_of Jamo x is some = entry_lead Jamo met.jamo x is
   lead_of Tailoring x is some = entry_lead Tailoring met.tailoring x is
   lead_of Diacritics x is some = absurd (some (ap (λ (x : Element). x.primary) is.is))
-  lead_of SpecialPrimaries x is some = absurd is.live
-  lead_of Metadata x is some = absurd is.live
-  lead_of tables.Reordering x is some = absurd is.live
+  lead_of SpecialPrimaries x is some = absurd is.reachable
+  lead_of Metadata x is some = absurd is.reachable
+  lead_of tables.Reordering x is some = absurd is.reachable
 
-  fits : (p : ℕ) → IsLive all p → p < 2 ^ 32
+  fits : (p : ℕ) → IsReachable all p → p < 2 ^ 32
   fits p l =
       subst (λ p. p < 2 ^ 32) l.is (below_four_bytes l.x.primary
       (first_of_three (nat_lt l.x.primary (2 ^ 32)) (nat_lt l.x.secondary (2 ^ 16)) (nat_lt l.x.lower (2 ^ 16))
-      ((meets_in all met l.table).elements Width l.x l.live)))
+      ((meets_in all met l.table).elements Width l.x l.reachable)))
 
-  some_primary : (p : ℕ) (l : IsLive all p) → l.x.primary ≢ 0
+  some_primary : (p : ℕ) (l : IsReachable all p) → l.x.primary ≢ 0
   some_primary p l = λ e. l.some (sym l.is ∙ e)
 
-  stays_between : (p : ℕ) → IsLive all p → IsTrue (not (is_middle (lead_byte p)) || is_middle (lead_byte (reorder all p)))
+  stays_between : (p : ℕ) → IsReachable all p → IsTrue (not (is_middle (lead_byte p)) || is_middle (lead_byte (reorder all p)))
   stays_between p l =
       subst (λ p. IsTrue (primary_meets MiddleLead all p)) l.is
-      (of_nonzero l.x.primary (primary_meets MiddleLead all l.x.primary) (some_primary p l) ((meets_in all met l.table).elements MiddleLead l.x l.live))
+      (of_nonzero l.x.primary (primary_meets MiddleLead all l.x.primary) (some_primary p l) ((meets_in all met l.table).elements MiddleLead l.x l.reachable))
 
-  lengths : (p : ℕ) → IsLive all p → lead_byte p ≡ implicit_lead → IsTrue (has_low_bytes p)
+  lengths : (p : ℕ) → IsReachable all p → lead_byte p ≡ implicit_lead → IsTrue (has_low_bytes p)
   lengths p l =
       if_implicit (lead_byte p) (has_low_bytes p) (subst (λ p. IsTrue (primary_meets ImplicitLength all p)) l.is
-      (of_nonzero l.x.primary (primary_meets ImplicitLength all l.x.primary) (some_primary p l) ((meets_in all met l.table).elements ImplicitLength l.x l.live)))
+      (of_nonzero l.x.primary (primary_meets ImplicitLength all l.x.primary) (some_primary p l) ((meets_in all met l.table).elements ImplicitLength l.x l.reachable)))
 
-  apart : (p : ℕ) → IsLive all p → lead_byte p ≢ implicit_lead → lead_byte (reorder all p) ≢ new_lead all implicit_lead
+  apart : (p : ℕ) → IsReachable all p → lead_byte p ≢ implicit_lead → lead_byte (reorder all p) ≢ new_lead all implicit_lead
   apart p l =
       goes_apart (lead_byte p) implicit_lead (lead_byte (reorder all p)) (new_lead all implicit_lead)
       (and_parts (is_apart all implicit_lead p) (is_apart all all.special.numeric p) (subst (λ p. IsTrue (primary_meets SharedLead all p)) l.is
-      (of_nonzero l.x.primary (primary_meets SharedLead all l.x.primary) (some_primary p l) ((meets_in all met l.table).elements SharedLead l.x l.live)))).0
+      (of_nonzero l.x.primary (primary_meets SharedLead all l.x.primary) (some_primary p l) ((meets_in all met l.table).elements SharedLead l.x l.reachable)))).0
 
-  cases_of : (p : ℕ) → IsLive all p → (0x03000000 ≤ p) ⊎ (p ≡ separator_primary)
+  cases_of : (p : ℕ) → IsReachable all p → (0x03000000 ≤ p) ⊎ (p ≡ separator_primary)
   cases_of p l =
       subst (λ p. (0x03000000 ≤ p) ⊎ (p ≡ separator_primary)) l.is
-      (lead_cases l.x (lead_of l.table l.x l.live (some_primary p l)) (some_primary p l))
+      (lead_cases l.x (lead_of l.table l.x l.reachable (some_primary p l)) (some_primary p l))
 
-module _ (all : CollatorTables) (met : LiveMeets all) (given : AreTables all) (together : LeadMeets ImplicitLead all)
+module _ (all : CollatorTables) (met : ReachableMeets all) (given : AreTables all) (together : LeadMeets ImplicitLead all)
     (separator : LeadMeets Separator all) (high : LeadMeets HighLead all) where
-  lead_some : (p : ℕ) → IsLive all p → 1 ≤ lead_byte (reorder all p)
+  lead_some : (p : ℕ) → IsReachable all p → 1 ≤ lead_byte (reorder all p)
   lead_some p l =
       elim (cases_of all met p l) [
         | inr is ↦ separator_leads (reorder all p) (ap (reorder all) is ∙ separator)
@@ -141,7 +141,7 @@ module _ (all : CollatorTables) (met : LiveMeets all) (given : AreTables all) (t
         ]
       ]
 
-  known : AreApart all (IsLive all)
+  known : AreApart all (IsReachable all)
   known = record {
     together = together;
     fits = fits all met;
@@ -151,17 +151,17 @@ module _ (all : CollatorTables) (met : LiveMeets all) (given : AreTables all) (t
     lead_alone = λ p l. rest_stays all.reordering p;
   }
 
-  collected : (ws : List ℕ) → Collected all Primaries ws → (p : ℕ) → IsLive all p → lead_byte p ≢ implicit_lead → Contains ws p
+  collected : (ws : List ℕ) → Collected all Primaries ws → (p : ℕ) → IsReachable all p → lead_byte p ≢ implicit_lead → Contains ws p
   collected ws has p l other =
-      collected_at all met Primaries ws has l.table l.x l.live (lead_explicit l.x (λ e. other (ap (λ p. lead_byte p) (sym l.is) ∙ e))) p
+      collected_at all met Primaries ws has l.table l.x l.reachable (lead_explicit l.x (λ e. other (ap (λ p. lead_byte p) (sym l.is) ∙ e))) p
       (primary_kept l.x (some_primary all met p l) ∙ ap Some l.is)
 
   pub primaries_meet : (ws : List ℕ) → Collected all Primaries ws → IsPrefixFree (λ p. weight_bytes 4 (reorder all p)) (Contains ws)
       → Meets (conditions.Pair of_pair.Primaries) all
   primaries_meet ws has free first second x is_x y is_y some_x some_y differ begins =
-      none_begins all (IsLive all) known
-      (λ v w live_v live_w other_v other_w. free v w (collected ws has v live_v other_v) (collected ws has w live_w other_w)) x.primary y.primary
-      (record { table = first; x = x; live = is_x; is = refl; some = some_x }) (record { table = second; x = y; live = is_y; is = refl; some = some_y })
+      none_begins all (IsReachable all) known
+      (λ v w reachable_v reachable_w other_v other_w. free v w (collected ws has v reachable_v other_v) (collected ws has w reachable_w other_w)) x.primary y.primary
+      (record { table = first; x = x; reachable = is_x; is = refl; some = some_x }) (record { table = second; x = y; reachable = is_y; is = refl; some = some_y })
       differ begins
 
   pub compression_meets : (ws : List ℕ) → Collected all Primaries ws
@@ -169,7 +169,7 @@ module _ (all : CollatorTables) (met : LiveMeets all) (given : AreTables all) (t
       → is_compressible all.special (lead_byte v) ≡ is_compressible all.special (lead_byte w))
       → Meets (conditions.Pair of_pair.Compression) all
   compression_meets ws has alike first second x is_x y is_y some_x some_y same =
-      compress_alike all (IsLive all) known (is_compressible all.special)
-      (λ v w live_v live_w other_v other_w. alike v w (collected ws has v live_v other_v) (collected ws has w live_w other_w)) x.primary y.primary
-      (record { table = first; x = x; live = is_x; is = refl; some = some_x }) (record { table = second; x = y; live = is_y; is = refl; some = some_y })
+      compress_alike all (IsReachable all) known (is_compressible all.special)
+      (λ v w reachable_v reachable_w other_v other_w. alike v w (collected ws has v reachable_v other_v) (collected ws has w reachable_w other_w)) x.primary y.primary
+      (record { table = first; x = x; reachable = is_x; is = refl; some = some_x }) (record { table = second; x = y; reachable = is_y; is = refl; some = some_y })
       same

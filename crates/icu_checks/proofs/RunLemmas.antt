@@ -12,7 +12,7 @@ use Rattle.icu_entries.specs.Weights.{weight_at, offset_compressible, offset_ord
 use Rattle.icu_data.specs.Data.{Data, homed}
 use Rattle.icu_data.specs.DataConditions.{avoids_diacritics}
 use Rattle.icu_data.specs.Final.{final_elements}
-use Rattle.icu_data.specs.LiveConditions.{first_failing}
+use Rattle.icu_data.specs.ReachableConditions.{first_failing}
 use Rattle.icu_data.specs.Violations.{earlier}
 use Rattle.icu_data.proofs.ViolationLemmas.{none_found, negated}
 use Rattle.icu_data.proofs.RunLemmas.{ordinal_rises}
@@ -20,9 +20,9 @@ use Rattle.icu_weights.proofs.LeadLemmas.{replaced, stays, lead-with_lead}
 use Rattle.icu_provider.specs.Reorderings.{Reordering, lead_byte, with_lead, reordered}
 use Rattle.icu_provider.specs.SpecialPrimaries.{is_compressible}
 use Rattle.icu_provider.specs.CollatorTables.{CollatorTables, is_forward, reorder}
-use Rattle.icu_checks.specs.declared.condition.LiveElementCondition.{LiveElementCondition}
-use Rattle.icu_checks.specs.declared.condition.LiveElementCondition.TheVariants.{Width, BackwardLead, TertiaryElement, MiddleLead, ImplicitLength, NumericLead, SharedLead, SecondByte}
-use Rattle.icu_checks.specs.ElementConditions.{implicit_lead, has_low_bytes, has_second_byte, primary_meets, live_element_meets, element_conditions}
+use Rattle.icu_checks.specs.declared.condition.ReachableElementCondition.{ReachableElementCondition}
+use Rattle.icu_checks.specs.declared.condition.ReachableElementCondition.TheVariants.{Width, BackwardLead, TertiaryElement, MiddleLead, ImplicitLength, NumericLead, SharedLead, SecondByte}
+use Rattle.icu_checks.specs.ElementConditions.{implicit_lead, has_low_bytes, has_second_byte, primary_meets, reachable_element_meets, element_conditions}
 use Rattle.icu_checks.specs.inner.EntryViolations.{first_failing_element, entry_violation, KeepsLeadTogether}
 use Rattle.icu_checks.proofs.EntryViolationLemmas.{passes_element, without_own}
 
@@ -70,10 +70,10 @@ module _ (all : CollatorTables) (p z q : ℕ) (some : p ≢ 0) (whole_bytes : p 
   same_new : lead_byte (reorder all q) ≡ lead_byte (reorder all p)
   same_new = whole q p same_lead refl
 
-  of_least : (condition : LiveElementCondition) → IsTrue (live_element_meets condition all (of_primary p))
+  of_least : (condition : ReachableElementCondition) → IsTrue (reachable_element_meets condition all (of_primary p))
   of_least = passes_element all (of_primary p) least
 
-  of_greatest : (condition : LiveElementCondition) → IsTrue (live_element_meets condition all (of_primary z))
+  of_greatest : (condition : ReachableElementCondition) → IsTrue (reachable_element_meets condition all (of_primary z))
   of_greatest = passes_element all (of_primary z) greatest
 
   p_some : nat_eq p 0 ≡ false
@@ -143,7 +143,7 @@ module _ (all : CollatorTables) (p z q : ℕ) (some : p ≢ 0) (whole_bytes : p 
       let of_z : IsTrue (not (is_compressible all.special (lead_byte z)) || has_second_byte z) = or_right (nat_eq z 0) _ z_some (of_greatest SecondByte) in
       rw same_lead (second_between (is_compressible all.special (lead_byte p)) of_p (subst (λ l. IsTrue (not (is_compressible all.special l) || has_second_byte z)) (sym one_lead) of_z))
 
-  element : (condition : LiveElementCondition) → IsTrue (live_element_meets condition all (of_primary q))
+  element : (condition : ReachableElementCondition) → IsTrue (reachable_element_meets condition all (of_primary q))
   element Width = rw width refl
   element BackwardLead = or_second (is_forward all) true refl
   element TertiaryElement = refl
@@ -155,7 +155,7 @@ module _ (all : CollatorTables) (p z q : ℕ) (some : p ≢ 0) (whole_bytes : p 
 
   pub between_passes : first_failing_element all (of_primary q) ≡ None
   unfolding first_failing_element
-  between_passes = none_found (λ condition. not (live_element_meets condition all (of_primary q))) (λ condition. negated (live_element_meets condition all (of_primary q)) (element condition)) element_conditions
+  between_passes = none_found (λ condition. not (reachable_element_meets condition all (of_primary q))) (λ condition. negated (reachable_element_meets condition all (of_primary q)) (element condition)) element_conditions
 
 -- ---- weights of characters in a row
 
@@ -199,12 +199,12 @@ gives_between home e a z c x y is at_a at_z low high =
     of_data (take 1 (drop (entry_index e) home.elements)) a z c x y (sym (elements_at home e a is) ∙ at_a) (sym (elements_at home e z is) ∙ at_z) low high
     _ refl home e (elements_at home e c is)
 
-no_rows : (home : Data) (n e : ℕ) → kind_of e ≡ Offset → avoids_diacritics n home e ≡ true
+no_mappings : (home : Data) (n e : ℕ) → kind_of e ≡ Offset → avoids_diacritics n home e ≡ true
 unfolding avoids_diacritics
-no_rows home n e is = rw (is, avoids_diacritics) refl
+no_mappings home n e is = rw (is, avoids_diacritics) refl
 
 -- an offset entry has no violation then
 pub offset_no_violation : (all : CollatorTables) (table : DataTable) (home : Data) (c e : ℕ) (p : ℕ) → kind_of e ≡ Offset → first_failing home c e ≡ None → final_elements (homed home e) c ≡ of_primary p ∷ []
     → first_failing_element all (of_primary p) ≡ None → entry_violation all table home c e ≡ None
 unfolding earlier
-offset_no_violation all table home c e p is own gives none = without_own all table home c e own ∙ rw (no_rows home _ e is, gives, none) refl
+offset_no_violation all table home c e p is own gives none = without_own all table home c e own ∙ rw (no_mappings home _ e is, gives, none) refl

@@ -18,7 +18,7 @@ use Rattle.icu_provider.specs.TableSets.{tables_in}
 use Rattle.icu_weights.specs.Alike.{CompressAlike, CompressApart}
 use Rattle.icu_weights.specs.Overlaps.{Overlaps}
 use Rattle.icu_checks.specs.inner.ComparedLevels.{list_of, bytes_at}
-use Rattle.icu_checks.specs.GoodTables.{MeetsBy}
+use Rattle.icu_checks.specs.WellFormedTables.{MeetsBy}
 use Rattle.icu_checks.specs.inner.ComparedWeights.{IsWeightBy, Adds}
 use Rattle.icu_checks.specs.inner.PairViolations.{IsListedWeight, AreListed, HoldsAll, HoldsLevel, AreClashing, ListCompressesAlike}
 use Rattle.icu_checks.proofs.CollectLemmas.{special_none, metadata_none, reordering_none}
@@ -158,7 +158,7 @@ is_weight_by list table all ws w b old none adds same = (
   λ is. same.1 ((adds w).1 (inr is)),
 )
 
--- a weight that isn't live by the first three tables is by the last one
+-- a weight that isn't reachable by the first three tables is by the last one
 pub last_table : (list : WeightList) (all : CollatorTables) (w : ℕ) → IsListedWeight list all.tables w → (IsWeightBy list Root all.tables w → ⊥)
     → (IsWeightBy list Jamo all.tables w → ⊥) → (IsWeightBy list Tailoring all.tables w → ⊥) → IsWeightBy list Diacritics all.tables w
 last_table list all w is root jamo tailoring = by is.table is.is

@@ -1,11 +1,11 @@
--- The conditions on one live element that depend on other tables than its own.
+-- The conditions on one reachable element that depend on other tables than its own.
 use Rattle.std.specs.Prelude.{ℕ, ◌/◌, ◌%◌, ◌^◌, Bool, true, not, ◌&&◌, ◌||◌, ◌==◌, nat_le, nat_lt, bit_and, List, [], ◌∷◌}
 use Rattle.icu_entries.specs.Elements.{Element, common, case_mask}
 use Rattle.icu_entries.specs.ElementConditions.{tertiary_of}
 use Rattle.icu_provider.specs.Reorderings.{lead_byte}
 use Rattle.icu_provider.specs.SpecialPrimaries.{is_compressible}
-use Rattle.icu_checks.specs.declared.condition.LiveElementCondition.{LiveElementCondition}
-use Rattle.icu_checks.specs.declared.condition.LiveElementCondition.TheVariants.{Width, BackwardLead, TertiaryElement, MiddleLead, ImplicitLength, NumericLead, SharedLead, SecondByte}
+use Rattle.icu_checks.specs.declared.condition.ReachableElementCondition.{ReachableElementCondition}
+use Rattle.icu_checks.specs.declared.condition.ReachableElementCondition.TheVariants.{Width, BackwardLead, TertiaryElement, MiddleLead, ImplicitLength, NumericLead, SharedLead, SecondByte}
 use Rattle.icu_weights.specs.Leads.{is_middle}
 use Rattle.icu_provider.specs.CollatorTables.{CollatorTables, is_forward, reorder, new_lead}
 
@@ -38,7 +38,7 @@ abbrev pub has_second_byte : ℕ → Bool
 has_second_byte p = nat_le 4 (p / 0x10000 % 256) && nat_le (p / 0x10000 % 256) 0xFE
 
 -- what each condition asks of a nonzero primary weight
-abbrev pub primary_meets : LiveElementCondition → CollatorTables → ℕ → Bool
+abbrev pub primary_meets : ReachableElementCondition → CollatorTables → ℕ → Bool
 primary_meets MiddleLead all p = not (is_middle (lead_byte p)) || is_middle (lead_byte (reorder all p))
 primary_meets ImplicitLength all p = not (lead_byte p == implicit_lead) || has_low_bytes p
 primary_meets NumericLead all p = not (lead_byte p == all.special.numeric)
@@ -47,12 +47,12 @@ primary_meets SecondByte all p = not (is_compressible all.special (lead_byte p))
 primary_meets _ all p = true
 
 -- what each condition asks of an element
-abbrev pub live_element_meets : LiveElementCondition → CollatorTables → Element → Bool
-live_element_meets Width all x = nat_lt x.primary (2 ^ 32) && nat_lt x.secondary (2 ^ 16) && nat_lt x.lower (2 ^ 16)
-live_element_meets BackwardLead all x = is_forward all || not (x.secondary / 256 == 2)
-live_element_meets TertiaryElement all x = not (is_tertiary_element x) || is_high_tertiary_element x
-live_element_meets condition all x = x.primary == 0 || primary_meets condition all x.primary
+abbrev pub reachable_element_meets : ReachableElementCondition → CollatorTables → Element → Bool
+reachable_element_meets Width all x = nat_lt x.primary (2 ^ 32) && nat_lt x.secondary (2 ^ 16) && nat_lt x.lower (2 ^ 16)
+reachable_element_meets BackwardLead all x = is_forward all || not (x.secondary / 256 == 2)
+reachable_element_meets TertiaryElement all x = not (is_tertiary_element x) || is_high_tertiary_element x
+reachable_element_meets condition all x = x.primary == 0 || primary_meets condition all x.primary
 
--- all of them, in the order in which a refusal names them
-abbrev pub element_conditions : List LiveElementCondition
+-- all of them, in the order in which an error names them
+abbrev pub element_conditions : List ReachableElementCondition
 element_conditions = Width ∷ BackwardLead ∷ TertiaryElement ∷ MiddleLead ∷ ImplicitLength ∷ NumericLead ∷ SharedLead ∷ SecondByte ∷ []

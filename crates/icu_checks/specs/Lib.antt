@@ -1,8 +1,8 @@
-pub mod LiveElements
+pub mod ReachableElements
 pub mod ElementConditions
 pub mod PairConditions
 pub mod LeadConditions
-pub mod GoodTables
-pub mod GoodProps
+pub mod WellFormedTables
+pub mod WellFormedProps
 pub mod Checked
 pub mod inner

@@ -1,4 +1,4 @@
--- The conditions on two live elements.
+-- The conditions on two reachable elements.
 use Rattle.std.specs.Prelude.{ℕ, ◌≡◌, ◌≢◌, ◌<◌, List, IsTrue}
 use Rattle.icu_levels.specs.WeightBytes.{weight_bytes}
 use Rattle.icu_levels.specs.ListOrder.{IsBeginning}

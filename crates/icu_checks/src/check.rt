@@ -5,7 +5,7 @@ ghost use Rattle.icu_data.specs.StoredData.{data_of};
 ghost use Rattle.icu_provider.specs.StoredTables.{reordering_of};
 ghost use Rattle.icu_provider.specs.TableSets.{tables_in};
 ghost use Rattle.icu_checks.specs.inner.Violations.{IsTrueViolation};
-ghost use Rattle.icu_checks.specs.GoodTables.{HasAscendingContexts, IsReordering, AreTables, HasDiacriticCount, IsGoodTables};
+ghost use Rattle.icu_checks.specs.WellFormedTables.{HasAscendingContexts, IsReordering, AreTables, HasDiacriticCount, IsWellFormedTables};
 ghost use Rattle.icu_checks.specs.LeadConditions.{LeadMeets};
 ghost use Rattle.icu_checks.specs.inner.PairViolations.{IsOutcome};
 ghost use Rattle.icu_checks.specs.inner.Checks.{LeadsMeet, PairsMeet};
@@ -17,7 +17,7 @@ mod implicit_chars;
 pub(crate) mod implicit_overlaps;
 mod lead_conditions;
 mod listed_weights;
-mod live_violations;
+mod reachable_violations;
 mod lookups;
 mod overlap_tables;
 pub(crate) mod overlap_violations;
@@ -26,7 +26,7 @@ pub(crate) mod tertiary_violations;
 pub(crate) mod weights;
 
 use crate::check::listed_weights::listed_weights;
-use crate::check::live_violations::live_violation;
+use crate::check::reachable_violations::reachable_violation;
 use crate::check::overlap_violations::level_violation;
 use crate::check::primary_violations::primary_violation;
 use crate::check::tertiary_violations::tertiary_violation;
@@ -93,7 +93,7 @@ fn count_violation(tables: TableSet<'_>) -> Option<Violation>
     }
 }
 
-/// The first violation of pairs of live elements.
+/// The first violation of pairs of reachable elements.
 fn pairs_violation(alloc: Global, tables: TableSet<'_>) -> Result<Option<Violation>, AllocError>
     ensures { IfOk result (IsOutcome (tables_in tables.entry)
         (PairsMeet (tables_in tables.entry))) }
@@ -160,13 +160,13 @@ pub(crate) fn first_violation(
     tables: TableSet<'_>,
 ) -> Result<Option<Violation>, AllocError>
     ensures { IfOk result (IsOutcome (tables_in tables.entry)
-        (IsGoodTables (tables_in tables.entry))) }
+        (IsWellFormedTables (tables_in tables.entry))) }
 {
     if let Some(violation) = count_violation(tables) {
         return Ok(Some(violation));
     }
     show_tables(tables);
-    let live = live_violation(tables);
+    let reachable = reachable_violation(tables);
     let pairs = pairs_violation(alloc, tables)?;
-    Ok(earlier(earlier(live, leads_violation(tables)), pairs))
+    Ok(earlier(earlier(reachable, leads_violation(tables)), pairs))
 }

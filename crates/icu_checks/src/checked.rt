@@ -3,8 +3,8 @@ ghost use Rattle.icu_data.specs.StoredData.{data_of};
 ghost use Rattle.icu_provider.specs.OwnedTables.{owned_tables};
 ghost use Rattle.icu_provider.specs.StoredTables.{jamo_of, special_of, reordering_of, diacritics_of};
 ghost use Rattle.icu_provider.specs.TableSets.{tables_in};
-ghost use Rattle.icu_checks.specs.GoodTables.{IsGoodTables, IsTrueRefusal};
-ghost use Rattle.icu_checks.specs.GoodProps.{good_prop};
+ghost use Rattle.icu_checks.specs.WellFormedTables.{IsWellFormedTables, IsTrueError};
+ghost use Rattle.icu_checks.specs.WellFormedProps.{well_formed_prop};
 
 use crate::check::first_violation;
 use icu_data::CollationData;
@@ -20,13 +20,13 @@ use std::alloc::Global;
 pub struct CheckedTables {
     alloc: Global,
     tables: OwnedTables,
-    ghost good: { IsGoodTables (owned_tables tables) } by { good_prop _ },
+    ghost well_formed: { IsWellFormedTables (owned_tables tables) } by { well_formed_prop _ },
 }
 
 /// Refuses tables that fail a condition. Out of memory is reported for the root.
 fn check(alloc: Global, tables: TableSet<'_>) -> Result<(), DataError>
-    ensures good { IsOk result → IsGoodTables (tables_in tables.entry) }
-    ensures refusal { IfErr result (IsTrueRefusal (tables_in tables.entry)) }
+    ensures well_formed { IsOk result → IsWellFormedTables (tables_in tables.entry) }
+    ensures error { IfErr result (IsTrueError (tables_in tables.entry)) }
 {
     match first_violation(alloc, tables) {
         Ok(None) => Ok(()),
@@ -44,13 +44,13 @@ impl CheckedTables {
     /// Checks the tables of a collator together, and copies them. Allocates the copies and, while the check runs, the
     /// weights that are compared with one another.
     ///
-    /// Where a condition fails, the refusal names its kind and a table that takes part in it: of several the first by
+    /// Where a condition fails, the error names its kind and a table that takes part in it: of several the first by
     /// the conditions' order, then by the tables'. `NoMemory` says that an allocation failed.
     pub fn from_set(alloc: Global, tables: TableSet<'_>) -> Result<CheckedTables, DataError>
-        ensures good { IsOk result → IsGoodTables (tables_in tables.entry) }
-        ensures refusal { IfErr result (IsTrueRefusal (tables_in tables.entry)) }
+        ensures well_formed { IsOk result → IsWellFormedTables (tables_in tables.entry) }
+        ensures error { IfErr result (IsTrueError (tables_in tables.entry)) }
         ensures exact { IfErr result (λ e.
-            (e.kind ≡ DataErrorKind.NoMemory → ⊥) → IsGoodTables (tables_in tables.entry) → ⊥) }
+            (e.kind ≡ DataErrorKind.NoMemory → ⊥) → IsWellFormedTables (tables_in tables.entry) → ⊥) }
         ensures keeps { IfOk result (λ t. checked_tables t ≡ tables_in tables.entry) }
     {
         match check(alloc, tables) {
@@ -58,7 +58,7 @@ impl CheckedTables {
                 let tables = OwnedTables::copy(alloc, tables)?;
                 Ok(CheckedTables { alloc, tables })
             }
-            Err(refusal) => Err(refusal),
+            Err(error) => Err(error),
         }
     }
 
@@ -68,15 +68,15 @@ impl CheckedTables {
     /// Refuses as `from_set` does, and drops what is refused. The tailoring and the reordering are to be there exactly
     /// where the metadata names them.
     pub fn from_owned(alloc: Global, tables: OwnedTables) -> Result<CheckedTables, DataError>
-        ensures good { IsOk result → IsGoodTables (owned_tables tables) }
-        ensures refusal { IfErr result (IsTrueRefusal (owned_tables tables)) }
+        ensures well_formed { IsOk result → IsWellFormedTables (owned_tables tables) }
+        ensures error { IfErr result (IsTrueError (owned_tables tables)) }
         ensures exact { IfErr result (λ e.
-            (e.kind ≡ DataErrorKind.NoMemory → ⊥) → IsGoodTables (owned_tables tables) → ⊥) }
+            (e.kind ≡ DataErrorKind.NoMemory → ⊥) → IsWellFormedTables (owned_tables tables) → ⊥) }
         ensures keeps { IfOk result (λ t. checked_tables t ≡ owned_tables tables) }
     {
         match check(alloc, tables.as_set()) {
             Ok(()) => Ok(CheckedTables { alloc, tables }),
-            Err(refusal) => Err(refusal),
+            Err(error) => Err(error),
         }
     }
 
@@ -92,12 +92,12 @@ impl CheckedTables {
         reordering: Option<CollationReordering<'_>>,
         diacritics: CollationDiacritics<'_>,
     ) -> Result<CheckedTables, DataError>
-        ensures good { IsOk result → IsGoodTables (tables_of root.entry jamo.entry special.entry
+        ensures well_formed { IsOk result → IsWellFormedTables (tables_of root.entry jamo.entry special.entry
             metadata tailoring.entry reordering.entry diacritics.entry) }
-        ensures refusal { IfErr result (IsTrueRefusal (tables_of root.entry jamo.entry special.entry
+        ensures error { IfErr result (IsTrueError (tables_of root.entry jamo.entry special.entry
             metadata tailoring.entry reordering.entry diacritics.entry)) }
         ensures exact { IfErr result (λ e. (e.kind ≡ DataErrorKind.NoMemory → ⊥)
-            → IsGoodTables (tables_of root.entry jamo.entry special.entry
+            → IsWellFormedTables (tables_of root.entry jamo.entry special.entry
             metadata tailoring.entry reordering.entry diacritics.entry) → ⊥) }
         ensures keeps { IfOk result (λ t. checked_tables t
             ≡ tables_of root.entry jamo.entry special.entry
@@ -123,8 +123,8 @@ impl CheckedTables {
     }
 
     /// The tables meet the conditions on all tables of a collator.
-    pub fn are_good(&self)
-        ensures { IsGoodTables (checked_tables self.now) }
+    pub fn are_well_formed(&self)
+        ensures { IsWellFormedTables (checked_tables self.now) }
     {}
 
     /// The root.

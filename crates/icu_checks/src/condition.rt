@@ -1,13 +1,13 @@
 ghost use Rattle.std.specs.Prelude.{◌≡◌, ◌<◌};
-ghost use Rattle.icu_checks.specs.GoodTables.{reported_kind};
+ghost use Rattle.icu_checks.specs.WellFormedTables.{reported_kind};
 ghost use Rattle.icu_checks.specs.inner.ConditionGroups.{group_of_entry, group_of_element, group_of_pair, group_of_lead, group_of, group_place};
 
-use icu_data::live_condition::LiveCondition;
+use icu_data::reachable_condition::ReachableCondition;
 use icu_entries::DataErrorKind;
 
-/// A condition on one element that is live, beside what other tables say.
+/// A condition on one element that is reachable, beside what other tables say.
 #[derive(Debug, Clone, Copy, PartialEq, Eq)]
-pub enum LiveElementCondition {
+pub enum ReachableElementCondition {
     /// Its weights have the widths of their fields, as all that are stored have.
     Width,
     /// Where the second level is compared from the end, no secondary weight leads with 02, which then parts segments.
@@ -26,7 +26,7 @@ pub enum LiveElementCondition {
     SecondByte,
 }
 
-/// A condition on two live elements.
+/// A condition on two reachable elements.
 #[derive(Debug, Clone, Copy, PartialEq, Eq)]
 pub enum PairCondition {
     /// A tertiary weight alone is greater than one beside a secondary weight.
@@ -63,19 +63,19 @@ pub enum LeadCondition {
 pub enum Condition {
     /// There are 79 diacritics, or fewer where they are tailored.
     DiacriticCount,
-    /// On an entry that is live with a character.
-    Entry(LiveCondition),
-    /// No row of a prefix has a diacritic.
-    PrefixRows,
+    /// On an entry that is reachable with a character.
+    Entry(ReachableCondition),
+    /// No mapping of a prefix has a diacritic.
+    PrefixMappings,
     /// On one element.
-    Element(LiveElementCondition),
+    Element(ReachableElementCondition),
     /// On two.
     Pair(PairCondition),
     /// On lead bytes.
     Lead(LeadCondition),
 }
 
-/// Conditions that a refusal reports alike, by one kind. The groups stand in the order in which they are reported; in a
+/// Conditions that an error reports alike, by one kind. The groups stand in the order in which they are reported; in a
 /// group the table decides.
 #[derive(Drop)]
 pub enum ConditionGroup {
@@ -83,8 +83,8 @@ pub enum ConditionGroup {
     Counts,
     /// What entries refer to is there.
     Indices,
-    /// The rows of prefixes.
-    PrefixRows,
+    /// The mappings of prefixes.
+    PrefixMappings,
     /// What entries lead to.
     Chains,
     /// Digits.
@@ -123,35 +123,35 @@ impl ConditionGroup {
     }
 }
 
-fn group_of_entry(condition: LiveCondition) -> ConditionGroup
+fn group_of_entry(condition: ReachableCondition) -> ConditionGroup
     ensures { result ≡ group_of_entry condition }
 {
     match condition {
-        LiveCondition::Indices => ConditionGroup::Indices,
-        LiveCondition::PrefixRows => ConditionGroup::PrefixRows,
-        LiveCondition::Chains => ConditionGroup::Chains,
-        LiveCondition::Digits => ConditionGroup::Digits,
-        LiveCondition::Bytes => ConditionGroup::Bytes,
-        LiveCondition::Offsets => ConditionGroup::Offsets,
-        LiveCondition::Shapes => ConditionGroup::Shapes,
-        LiveCondition::Leads => ConditionGroup::Leads,
-        LiveCondition::Primaries => ConditionGroup::Primaries,
+        ReachableCondition::Indices => ConditionGroup::Indices,
+        ReachableCondition::PrefixMappings => ConditionGroup::PrefixMappings,
+        ReachableCondition::Chains => ConditionGroup::Chains,
+        ReachableCondition::Digits => ConditionGroup::Digits,
+        ReachableCondition::Bytes => ConditionGroup::Bytes,
+        ReachableCondition::Offsets => ConditionGroup::Offsets,
+        ReachableCondition::Shapes => ConditionGroup::Shapes,
+        ReachableCondition::Leads => ConditionGroup::Leads,
+        ReachableCondition::Primaries => ConditionGroup::Primaries,
     }
 }
 
-fn group_of_element(condition: LiveElementCondition) -> ConditionGroup
+fn group_of_element(condition: ReachableElementCondition) -> ConditionGroup
     ensures { result ≡ group_of_element condition }
 {
     match condition {
-        LiveElementCondition::Width => ConditionGroup::Shapes,
-        LiveElementCondition::BackwardLead => ConditionGroup::Leads,
-        LiveElementCondition::TertiaryElement => ConditionGroup::TertiaryElements,
-        LiveElementCondition::MiddleLead => ConditionGroup::KeptLeads,
-        LiveElementCondition::ImplicitLength | LiveElementCondition::NumericLead => {
+        ReachableElementCondition::Width => ConditionGroup::Shapes,
+        ReachableElementCondition::BackwardLead => ConditionGroup::Leads,
+        ReachableElementCondition::TertiaryElement => ConditionGroup::TertiaryElements,
+        ReachableElementCondition::MiddleLead => ConditionGroup::KeptLeads,
+        ReachableElementCondition::ImplicitLength | ReachableElementCondition::NumericLead => {
             ConditionGroup::OwnLeads
         }
-        LiveElementCondition::SharedLead => ConditionGroup::ReorderedLeads,
-        LiveElementCondition::SecondByte => ConditionGroup::Compression,
+        ReachableElementCondition::SharedLead => ConditionGroup::ReorderedLeads,
+        ReachableElementCondition::SecondByte => ConditionGroup::Compression,
     }
 }
 
@@ -187,21 +187,21 @@ impl Condition {
         match self {
             Condition::DiacriticCount => ConditionGroup::Counts,
             Condition::Entry(condition) => group_of_entry(condition),
-            Condition::PrefixRows => ConditionGroup::PrefixRows,
+            Condition::PrefixMappings => ConditionGroup::PrefixMappings,
             Condition::Element(condition) => group_of_element(condition),
             Condition::Pair(condition) => group_of_pair(condition),
             Condition::Lead(condition) => group_of_lead(condition),
         }
     }
 
-    /// The kind of a refusal for this condition.
+    /// The kind of an error for this condition.
     pub fn kind(self) -> DataErrorKind
         ensures { result ≡ reported_kind self }
     {
         match self {
             Condition::DiacriticCount => DataErrorKind::Length,
             Condition::Entry(condition) => kind_of_entry(condition),
-            Condition::PrefixRows => DataErrorKind::Context,
+            Condition::PrefixMappings => DataErrorKind::Context,
             Condition::Element(condition) => kind_of_element(condition),
             Condition::Pair(PairCondition::TertiaryElementWeights) => DataErrorKind::Element,
             Condition::Pair(PairCondition::Compression) => DataErrorKind::Compression,
@@ -212,33 +212,33 @@ impl Condition {
     }
 }
 
-fn kind_of_entry(condition: LiveCondition) -> DataErrorKind
+fn kind_of_entry(condition: ReachableCondition) -> DataErrorKind
     ensures { result ≡ reported_kind (Condition.Entry condition) }
 {
     match condition {
-        LiveCondition::Indices => DataErrorKind::Index,
-        LiveCondition::PrefixRows => DataErrorKind::Context,
-        LiveCondition::Chains => DataErrorKind::Chain,
-        LiveCondition::Digits => DataErrorKind::Digit,
-        LiveCondition::Bytes => DataErrorKind::Tag,
-        LiveCondition::Offsets
-        | LiveCondition::Shapes
-        | LiveCondition::Leads
-        | LiveCondition::Primaries => DataErrorKind::Element,
+        ReachableCondition::Indices => DataErrorKind::Index,
+        ReachableCondition::PrefixMappings => DataErrorKind::Context,
+        ReachableCondition::Chains => DataErrorKind::Chain,
+        ReachableCondition::Digits => DataErrorKind::Digit,
+        ReachableCondition::Bytes => DataErrorKind::Tag,
+        ReachableCondition::Offsets
+        | ReachableCondition::Shapes
+        | ReachableCondition::Leads
+        | ReachableCondition::Primaries => DataErrorKind::Element,
     }
 }
 
-fn kind_of_element(condition: LiveElementCondition) -> DataErrorKind
+fn kind_of_element(condition: ReachableElementCondition) -> DataErrorKind
     ensures { result ≡ reported_kind (Condition.Element condition) }
 {
     match condition {
-        LiveElementCondition::Width
-        | LiveElementCondition::BackwardLead
-        | LiveElementCondition::TertiaryElement => DataErrorKind::Element,
-        LiveElementCondition::MiddleLead | LiveElementCondition::SharedLead =>
+        ReachableElementCondition::Width
+        | ReachableElementCondition::BackwardLead
+        | ReachableElementCondition::TertiaryElement => DataErrorKind::Element,
+        ReachableElementCondition::MiddleLead | ReachableElementCondition::SharedLead =>
             DataErrorKind::Reordering,
-        LiveElementCondition::ImplicitLength | LiveElementCondition::NumericLead =>
+        ReachableElementCondition::ImplicitLength | ReachableElementCondition::NumericLead =>
             DataErrorKind::Overlap,
-        LiveElementCondition::SecondByte => DataErrorKind::Compression,
+        ReachableElementCondition::SecondByte => DataErrorKind::Compression,
     }
 }

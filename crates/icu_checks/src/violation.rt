@@ -1,8 +1,8 @@
 ghost use Rattle.std.specs.Prelude.{◌≡◌, ◌<◌};
 ghost use Rattle.icu_checks.specs.inner.Violations.{violation_rank};
-ghost use Rattle.icu_checks.specs.GoodTables.{table_rank, reported_kind, later, table_of_element, table_of_lead};
+ghost use Rattle.icu_checks.specs.WellFormedTables.{table_rank, reported_kind, later, table_of_element, table_of_lead};
 
-use crate::condition::{Condition, LeadCondition, LiveElementCondition};
+use crate::condition::{Condition, LeadCondition, ReachableElementCondition};
 use icu_data::violation::Ranked;
 use icu_entries::{DataError, DataTable};
 
@@ -27,21 +27,21 @@ pub(crate) fn later(a: DataTable, b: DataTable) -> DataTable
     if table_rank(a) < table_rank(b) { b } else { a }
 }
 
-impl LiveElementCondition {
+impl ReachableElementCondition {
     /// The table that it speaks of beside an element's own.
     pub(crate) fn table(self) -> DataTable
         ensures { result ≡ table_of_element self }
     {
         match self {
-            LiveElementCondition::BackwardLead => DataTable::Metadata,
-            LiveElementCondition::MiddleLead | LiveElementCondition::SharedLead =>
+            ReachableElementCondition::BackwardLead => DataTable::Metadata,
+            ReachableElementCondition::MiddleLead | ReachableElementCondition::SharedLead =>
                 DataTable::Reordering,
-            LiveElementCondition::NumericLead | LiveElementCondition::SecondByte => {
+            ReachableElementCondition::NumericLead | ReachableElementCondition::SecondByte => {
                 DataTable::SpecialPrimaries
             }
-            LiveElementCondition::Width
-            | LiveElementCondition::TertiaryElement
-            | LiveElementCondition::ImplicitLength => DataTable::Root,
+            ReachableElementCondition::Width
+            | ReachableElementCondition::TertiaryElement
+            | ReachableElementCondition::ImplicitLength => DataTable::Root,
         }
     }
 }
@@ -68,7 +68,7 @@ impl Ranked for Violation {
 }
 
 impl Violation {
-    /// The refusal that names it.
+    /// The error that names it.
     pub(crate) fn error(self) -> DataError
         ensures table { result.table ≡ self.table }
         ensures kind { result.kind ≡ reported_kind self.condition }

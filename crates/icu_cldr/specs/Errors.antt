@@ -5,5 +5,5 @@ use Rattle.icu_cldr.specs.declared.error.ReadError.TheVariants.{Line}
 
 -- lines are numbered from 1 on
 abbrev pub IsNumbered : ReadError → Type 0
-IsNumbered (Line line refusal) = 0 < line
+IsNumbered (Line line kind) = 0 < line
 IsNumbered _ = Unit {0}

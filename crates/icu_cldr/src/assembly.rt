@@ -7,7 +7,7 @@ ghost use Rattle.icu_cldr.specs.Roots.{IsRoot};
 use crate::collected::Collected;
 use crate::contexts::{Contexts, entry_in_contexts};
 use crate::digits::make_digits;
-use crate::error::{Fault, ReadError, named};
+use crate::error::{UnnumberedError, ReadError, named};
 use icu_entries::{CollationElement32, DataTable};
 use icu_options::MaxVariable;
 use icu_owned_data::{DataBuilder, OwnedData};
@@ -46,7 +46,7 @@ fn resolve_contexts(
     builder: &mut DataBuilder,
     entries: &mut BTreeMap<char, CollationElement32>,
     contexts: &BTreeMap<char, Contexts>,
-) -> Result<(), Fault> {
+) -> Result<(), UnnumberedError> {
     for (c, contexts) in contexts.iter() {
         let own = entries
             .get(c)
@@ -87,8 +87,8 @@ impl Collected {
             special,
             ideographs: _,
         } = self;
-        make_digits(alloc, &mut builder, &mut entries).map_err(Fault::at_end)?;
-        resolve_contexts(alloc, &mut builder, &mut entries, &contexts).map_err(Fault::at_end)?;
+        make_digits(alloc, &mut builder, &mut entries).map_err(UnnumberedError::at_end)?;
+        resolve_contexts(alloc, &mut builder, &mut entries, &contexts).map_err(UnnumberedError::at_end)?;
         Ok(OwnedTables {
             jamo: jamo(alloc, &entries)?,
             diacritics: diacritics(alloc, &secondaries)?,

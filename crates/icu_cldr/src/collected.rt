@@ -3,7 +3,7 @@ ghost use Rattle.std.specs.Prelude.{◌≡◌, ◌+◌, ◌<◌, ◌≤◌, IfSo
 ghost use Rattle.icu_cldr.specs.inner.Diacritics.{SaysOfMark};
 
 use crate::contexts::{Contexts, Surroundings};
-use crate::error::{Fault, Refusal};
+use crate::error::{UnnumberedError, LineErrorKind};
 use crate::ideograph_weights::{IdeographWeights, STEP, WeightedRange, char_count};
 use crate::special::Special;
 use icu_entries::element::COMMON_WEIGHT16;
@@ -64,7 +64,7 @@ fn diacritic_index(c: char) -> Option<usize>
 
 /// The secondary weight of a combining mark. One that has a decomposition is in no text that is compared, and its
 /// weight isn't read.
-fn secondary_of_diacritic(index: usize, elements: &[CollationElement]) -> Result<u16, Fault>
+fn secondary_of_diacritic(index: usize, elements: &[CollationElement]) -> Result<u16, UnnumberedError>
     ensures { IfOk result (SaysOfMark index elements.now) }
 {
     match elements {
@@ -72,7 +72,7 @@ fn secondary_of_diacritic(index: usize, elements: &[CollationElement]) -> Result
         [element] if element.primary() == 0 && element.lower() == COMMON_WEIGHT16 => {
             Ok(element.secondary())
         }
-        _ => Err(Fault::Refused(Refusal::Diacritic)),
+        _ => Err(UnnumberedError::Refused(LineErrorKind::Diacritic)),
     }
 }
 
@@ -91,7 +91,7 @@ impl Collected {
     }
 
     /// Takes in what a line says.
-    pub(crate) fn read_line(&mut self, line: &str) -> Result<(), Fault> {
+    pub(crate) fn read_line(&mut self, line: &str) -> Result<(), UnnumberedError> {
         match Line::parse(self.alloc, line)? {
             Line::Nothing => Ok(()),
             Line::Ideographs(ranges) => self.add_ideographs(ranges.as_slice()),
@@ -105,9 +105,9 @@ impl Collected {
     }
 
     /// Takes in the ideographs.
-    fn add_ideographs(&mut self, ranges: &[CharRange]) -> Result<(), Fault> {
+    fn add_ideographs(&mut self, ranges: &[CharRange]) -> Result<(), UnnumberedError> {
         if !self.ideographs.is_empty() {
-            return Err(Fault::Refused(Refusal::Repeated));
+            return Err(UnnumberedError::Refused(LineErrorKind::Repeated));
         }
         let ideographs = IdeographWeights::assign(self.alloc, ranges)?;
         for weighted in ideographs.ranges() {
@@ -118,19 +118,19 @@ impl Collected {
     }
 
     /// Gives a range of ideographs their entries.
-    fn add_ideograph_range(&mut self, weighted: WeightedRange) -> Result<(), Fault> {
+    fn add_ideograph_range(&mut self, weighted: WeightedRange) -> Result<(), UnnumberedError> {
         let range = weighted.range;
         if char_count(range) < FEW_IDEOGRAPHS {
             self.add_few_ideographs(weighted);
             return Ok(());
         }
         let Some(primary) = weighted.primary(range.first) else {
-            return Err(Fault::Refused(Refusal::FewerIdeographs));
+            return Err(UnnumberedError::Refused(LineErrorKind::FewerIdeographs));
         };
         let data = CollationElement::offset_data(primary, range.first, false, STEP as u8);
         let index = self.builder.add_elements(&[data])?;
         if index >= INDEX_COUNT {
-            return Err(Fault::Refused(Refusal::FullTables));
+            return Err(UnnumberedError::Refused(LineErrorKind::FullTables));
         }
         let entry = CollationElement32::offset(index);
         self.builder.set_entries(range.first, range.last, entry);
@@ -151,19 +151,19 @@ impl Collected {
     }
 
     /// The element of a line.
-    fn element(&self, element: FractionalElement) -> Result<CollationElement, Fault> {
+    fn element(&self, element: FractionalElement) -> Result<CollationElement, UnnumberedError> {
         let primary = match element.primary {
             Primary::Weight(primary) => respelt(primary),
             Primary::OfIdeograph(c) => match self.ideographs.primary(c) {
                 Some(primary) => primary,
-                None => return Err(Fault::Refused(Refusal::Ideograph)),
+                None => return Err(UnnumberedError::Refused(LineErrorKind::Ideograph)),
             },
         };
         Ok(CollationElement::from_weights(primary, element.secondary, element.tertiary))
     }
 
     /// The elements of a line.
-    fn elements(&self, read: &[FractionalElement]) -> Result<Vec<CollationElement>, Fault> {
+    fn elements(&self, read: &[FractionalElement]) -> Result<Vec<CollationElement>, UnnumberedError> {
         let mut elements = Vec::new(self.alloc);
         for element in read {
             elements.push(self.element(*element)?)?;
@@ -172,11 +172,11 @@ impl Collected {
     }
 
     /// Takes in a mapping.
-    fn add_mapping(&mut self, mapping: Mapping) -> Result<(), Fault> {
+    fn add_mapping(&mut self, mapping: Mapping) -> Result<(), UnnumberedError> {
         let elements = self.elements(mapping.elements.as_slice())?;
         if let Some(index) = diacritic_index(mapping.first) {
             if !mapping.prefix.is_empty() || !mapping.suffix.is_empty() {
-                return Err(Fault::Refused(Refusal::Diacritic));
+                return Err(UnnumberedError::Refused(LineErrorKind::Diacritic));
             }
             self.diacritics[index] = secondary_of_diacritic(index, elements.as_slice())?;
         }
@@ -195,9 +195,9 @@ impl Collected {
     }
 
     /// The entry of elements. Those that one entry doesn't spell become a list.
-    fn add_elements(&mut self, elements: &[CollationElement]) -> Result<CollationElement32, Fault> {
+    fn add_elements(&mut self, elements: &[CollationElement]) -> Result<CollationElement32, UnnumberedError> {
         if elements.len() > LIST_LENGTH_MAX {
-            return Err(Fault::Refused(Refusal::FewerElements));
+            return Err(UnnumberedError::Refused(LineErrorKind::FewerElements));
         }
         let mut entries = Vec::new(self.alloc);
         for element in elements {
@@ -216,12 +216,12 @@ impl Collected {
     fn add_entry_list(
         &mut self,
         entries: &[CollationElement32],
-    ) -> Result<CollationElement32, Fault>
+    ) -> Result<CollationElement32, UnnumberedError>
         requires { length entries.now ≤ 31 }
     {
         let index = self.builder.add_entries(entries)?;
         if index >= INDEX_COUNT {
-            return Err(Fault::Refused(Refusal::FullTables));
+            return Err(UnnumberedError::Refused(LineErrorKind::FullTables));
         }
         Ok(CollationElement32::entry_list(index, entries.len()))
     }
@@ -230,18 +230,18 @@ impl Collected {
     fn add_element_list(
         &mut self,
         elements: &[CollationElement],
-    ) -> Result<CollationElement32, Fault>
+    ) -> Result<CollationElement32, UnnumberedError>
         requires { length elements.now ≤ 31 }
     {
         let index = self.builder.add_elements(elements)?;
         if index >= INDEX_COUNT {
-            return Err(Fault::Refused(Refusal::FullTables));
+            return Err(UnnumberedError::Refused(LineErrorKind::FullTables));
         }
         Ok(CollationElement32::element_list(index, elements.len()))
     }
 
     /// Takes in the entry of a text.
-    fn add_entry(&mut self, mapping: Mapping, entry: CollationElement32) -> Result<(), Fault> {
+    fn add_entry(&mut self, mapping: Mapping, entry: CollationElement32) -> Result<(), UnnumberedError> {
         let Mapping {
             prefix,
             first,
@@ -255,7 +255,7 @@ impl Collected {
         };
         match before {
             None => Ok(()),
-            Some(_) => Err(Fault::Refused(Refusal::Repeated)),
+            Some(_) => Err(UnnumberedError::Refused(LineErrorKind::Repeated)),
         }
     }
 
@@ -266,7 +266,7 @@ impl Collected {
         prefix: Vec<char>,
         suffix: Vec<char>,
         entry: CollationElement32,
-    ) -> Result<Option<CollationElement32>, Fault> {
+    ) -> Result<Option<CollationElement32>, UnnumberedError> {
         let mut before = prefix;
         before.reverse();
         let surroundings = Surroundings {

@@ -1,7 +1,7 @@
 //! Mappings that depend on the characters around.
 ghost use Rattle.std.specs.Prelude.{◌<◌, ◌^◌, IfOk, IfSome};
 
-use crate::error::{Fault, Refusal};
+use crate::error::{UnnumberedError, LineErrorKind};
 use icu_entries::{CollationElement32, INDEX_COUNT};
 use icu_owned_data::DataBuilder;
 use std::alloc::{AllocError, Global};
@@ -17,25 +17,25 @@ pub(crate) struct Surroundings {
 /// The entries of a character by what stands around it. Equal beginnings follow one another, the shorter first.
 pub(crate) type Contexts = BTreeMap<Surroundings, CollationElement32>;
 
-/// The index of a context with these rows, or nothing where there are none.
+/// The index of a context with these mappings, or nothing where there are none.
 fn add_context(
     alloc: Global,
     builder: &mut DataBuilder,
     default: CollationElement32,
-    rows: &BTreeMap<Vec<char>, CollationElement32>,
-) -> Result<Option<usize>, Fault>
+    mappings: &BTreeMap<Vec<char>, CollationElement32>,
+) -> Result<Option<usize>, UnnumberedError>
     ensures { IfOk result (λ added. IfSome added (λ index. index < 2 ^ 19)) }
 {
-    if rows.is_empty() {
+    if mappings.is_empty() {
         return Ok(None);
     }
-    let list: Vec<(&[char], CollationElement32)> = rows
+    let list: Vec<(&[char], CollationElement32)> = mappings
         .iter()
         .map(|(chars, entry)| (chars.as_slice(), *entry))
         .collect(alloc)?;
     let index = builder.add_context(default, list.as_slice())?;
     if index >= INDEX_COUNT {
-        return Err(Fault::Refused(Refusal::FullTables));
+        return Err(UnnumberedError::Refused(LineErrorKind::FullTables));
     }
     Ok(Some(index))
 }
@@ -48,9 +48,9 @@ fn contraction(
     own: CollationElement32,
     contexts: &Contexts,
     before: &[char],
-) -> Result<CollationElement32, Fault> {
+) -> Result<CollationElement32, UnnumberedError> {
     let mut default = own;
-    let mut rows: BTreeMap<Vec<char>, CollationElement32> = BTreeMap::new(alloc);
+    let mut mappings: BTreeMap<Vec<char>, CollationElement32> = BTreeMap::new(alloc);
     for (surroundings, entry) in contexts.iter() {
         if !before.starts_with(surroundings.before.as_slice()) {
             continue;
@@ -58,10 +58,10 @@ fn contraction(
         if surroundings.after.is_empty() {
             default = *entry;
         } else {
-            rows.insert(surroundings.after.clone()?, *entry)?;
+            mappings.insert(surroundings.after.clone()?, *entry)?;
         }
     }
-    match add_context(alloc, builder, default, &rows)? {
+    match add_context(alloc, builder, default, &mappings)? {
         Some(index) => Ok(CollationElement32::contraction(index)),
         None => Ok(default),
     }
@@ -73,17 +73,17 @@ pub(crate) fn entry_in_contexts(
     builder: &mut DataBuilder,
     own: CollationElement32,
     contexts: &Contexts,
-) -> Result<CollationElement32, Fault> {
-    let mut rows: BTreeMap<Vec<char>, CollationElement32> = BTreeMap::new(alloc);
+) -> Result<CollationElement32, UnnumberedError> {
+    let mut mappings: BTreeMap<Vec<char>, CollationElement32> = BTreeMap::new(alloc);
     for surroundings in contexts.keys() {
         let before = surroundings.before.as_slice();
-        if !before.is_empty() && !rows.contains_key(before) {
+        if !before.is_empty() && !mappings.contains_key(before) {
             let entry = contraction(alloc, builder, own, contexts, before)?;
-            rows.insert(surroundings.before.clone()?, entry)?;
+            mappings.insert(surroundings.before.clone()?, entry)?;
         }
     }
     let default = contraction(alloc, builder, own, contexts, &[])?;
-    match add_context(alloc, builder, default, &rows)? {
+    match add_context(alloc, builder, default, &mappings)? {
         Some(index) => Ok(CollationElement32::prefix(index)),
         None => Ok(default),
     }

@@ -1,5 +1,5 @@
 //! The digits that make numbers: characters with General_Category Nd.
-use crate::error::{Fault, Refusal};
+use crate::error::{UnnumberedError, LineErrorKind};
 use icu_entries::{CollationElement32, INDEX_COUNT};
 use icu_owned_data::DataBuilder;
 use std::alloc::Global;
@@ -11,10 +11,10 @@ fn entry_of_digit(
     builder: &mut DataBuilder,
     value: u32,
     plain: CollationElement32,
-) -> Result<CollationElement32, Fault> {
+) -> Result<CollationElement32, UnnumberedError> {
     let index = builder.add_entries(&[plain])?;
     if index >= INDEX_COUNT {
-        return Err(Fault::Refused(Refusal::FullTables));
+        return Err(UnnumberedError::Refused(LineErrorKind::FullTables));
     }
     Ok(CollationElement32::digit_with_plain((value % 10) as u8, index))
 }
@@ -26,7 +26,7 @@ fn make_digits_of(
     entries: &mut BTreeMap<char, CollationElement32>,
     first: u32,
     last: u32,
-) -> Result<(), Fault> {
+) -> Result<(), UnnumberedError> {
     for (value, code) in (0u32..).zip(first..last.saturating_add(1)) {
         let Some(c) = char::from_u32(code) else {
             continue;
@@ -44,7 +44,7 @@ pub(crate) fn make_digits(
     alloc: Global,
     builder: &mut DataBuilder,
     entries: &mut BTreeMap<char, CollationElement32>,
-) -> Result<(), Fault> {
+) -> Result<(), UnnumberedError> {
     for (first, last) in digit_ranges(alloc)? {
         make_digits_of(builder, entries, first, last)?;
     }

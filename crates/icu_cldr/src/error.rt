@@ -10,7 +10,7 @@ use thiserror::Error;
 
 /// Why a line is refused.
 #[derive(Debug, Clone, Copy, PartialEq, Eq, Error)]
-pub enum Refusal {
+pub enum LineErrorKind {
     /// It has something else than what a line has.
     #[error("{0}")]
     Written(Expected),
@@ -71,12 +71,12 @@ pub enum ReadError {
     #[error("read failed")]
     ReadFailed(io::ErrorKind),
     /// A line is refused.
-    #[error("line {line}: {refusal}")]
+    #[error("line {line}: {kind}")]
     Line {
         /// The line, from 1 on.
         line: u64,
         /// Why.
-        refusal: Refusal,
+        kind: LineErrorKind,
     },
     /// A line is missing.
     #[error("at the end: {0}")]
@@ -91,19 +91,19 @@ pub enum ReadError {
 
 /// What keeps a line from being taken in: it has no number yet.
 #[derive(Debug, Clone, Copy, PartialEq, Eq)]
-pub(crate) enum Fault {
+pub(crate) enum UnnumberedError {
     NoMemory,
-    Refused(Refusal),
+    Refused(LineErrorKind),
 }
 
-impl Fault {
+impl UnnumberedError {
     /// The error, behind the last line.
     pub(crate) fn at_end(self) -> ReadError
         ensures { IsNumbered result }
     {
         match self {
-            Fault::NoMemory => ReadError::NoMemory,
-            Fault::Refused(_) => ReadError::FullTables,
+            UnnumberedError::NoMemory => ReadError::NoMemory,
+            UnnumberedError::Refused(_) => ReadError::FullTables,
         }
     }
 
@@ -113,36 +113,36 @@ impl Fault {
         ensures { IsNumbered result }
     {
         match self {
-            Fault::NoMemory => ReadError::NoMemory,
-            Fault::Refused(refusal) => ReadError::Line { line, refusal },
+            UnnumberedError::NoMemory => ReadError::NoMemory,
+            UnnumberedError::Refused(kind) => ReadError::Line { line, kind },
         }
     }
 }
 
-impl From<LineError> for Fault {
-    fn from(error: LineError) -> Fault {
+impl From<LineError> for UnnumberedError {
+    fn from(error: LineError) -> UnnumberedError {
         match error {
-            LineError::NoMemory => Fault::NoMemory,
-            LineError::Expected(expected) => Fault::Refused(Refusal::Written(expected)),
+            LineError::NoMemory => UnnumberedError::NoMemory,
+            LineError::Expected(expected) => UnnumberedError::Refused(LineErrorKind::Written(expected)),
         }
     }
 }
 
-impl From<Refusal> for Fault {
-    fn from(refusal: Refusal) -> Fault {
-        Fault::Refused(refusal)
+impl From<LineErrorKind> for UnnumberedError {
+    fn from(kind: LineErrorKind) -> UnnumberedError {
+        UnnumberedError::Refused(kind)
     }
 }
 
-impl From<AllocError> for Fault {
-    fn from(_: AllocError) -> Fault {
-        Fault::NoMemory
+impl From<AllocError> for UnnumberedError {
+    fn from(_: AllocError) -> UnnumberedError {
+        UnnumberedError::NoMemory
     }
 }
 
-impl<T: Drop> From<AllocFailed<T>> for Fault {
-    fn from(_: AllocFailed<T>) -> Fault {
-        Fault::NoMemory
+impl<T: Drop> From<AllocFailed<T>> for UnnumberedError {
+    fn from(_: AllocFailed<T>) -> UnnumberedError {
+        UnnumberedError::NoMemory
     }
 }
 

@@ -2,7 +2,7 @@
 ghost use Rattle.std.specs.Prelude.{◌≡◌, ◌+◌, ◌*◌, ◌%◌, ◌<◌, ◌≤◌, false, IfSome, IfOk};
 ghost use Rattle.icu_entries.specs.Weights.{weight_at};
 
-use crate::error::{Fault, Refusal};
+use crate::error::{UnnumberedError, LineErrorKind};
 use icu_fractional::CharRange;
 use std::alloc::Global;
 
@@ -88,9 +88,9 @@ impl IdeographWeights {
     }
 
     /// Gives the ideographs of ranges their weights, in this order.
-    pub(crate) fn assign(alloc: Global, ranges: &[CharRange]) -> Result<IdeographWeights, Fault> {
+    pub(crate) fn assign(alloc: Global, ranges: &[CharRange]) -> Result<IdeographWeights, UnnumberedError> {
         let Some(lead) = first_lead(count(ranges)) else {
-            return Err(Fault::Refused(Refusal::FewerIdeographs));
+            return Err(UnnumberedError::Refused(LineErrorKind::FewerIdeographs));
         };
         let mut ordinal = lead * WEIGHTS_PER_LEAD;
         let mut weighted = Vec::new(alloc);

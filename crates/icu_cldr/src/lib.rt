@@ -12,5 +12,5 @@ mod line_reader;
 pub mod root;
 mod special;
 
-pub use error::{Missing, ReadError, Refusal};
+pub use error::{Missing, ReadError, LineErrorKind};
 pub use root::{CldrRoot, read_root};

@@ -5,7 +5,7 @@ ghost use Rattle.icu_cldr.specs.Errors.{IsNumbered};
 ghost use Rattle.icu_cldr.specs.Roots.{IsRoot};
 
 use crate::collected::Collected;
-use crate::error::{Fault, ReadError, Refusal};
+use crate::error::{UnnumberedError, ReadError, LineErrorKind};
 use icu_provider::OwnedTables;
 use std::alloc::Global;
 use std::io::{BufRead, ErrorKind};
@@ -17,7 +17,7 @@ fn failed(kind: ErrorKind, line: u64) -> ReadError
 {
     match kind {
         ErrorKind::OutOfMemory => ReadError::NoMemory,
-        ErrorKind::InvalidData => Fault::Refused(Refusal::Encoding).at(line),
+        ErrorKind::InvalidData => UnnumberedError::Refused(LineErrorKind::Encoding).at(line),
         kind => ReadError::ReadFailed(kind),
     }
 }
@@ -38,8 +38,8 @@ pub(crate) fn read_tables<R: BufRead + Drop>(
             Ok(line) => line,
             Err(error) => return Err(failed(error.kind(), number)),
         };
-        if let Err(fault) = collected.read_line(line.as_str()) {
-            return Err(fault.at(number));
+        if let Err(error) = collected.read_line(line.as_str()) {
+            return Err(error.at(number));
         }
     }
     collected.finish()

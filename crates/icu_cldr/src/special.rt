@@ -3,7 +3,7 @@ ghost use Rattle.std.specs.Prelude.{◌≡◌, ◌≤◌, length, IfOk, IfErr};
 ghost use Rattle.icu_provider.specs.OwnedTables.{owned_special};
 ghost use Rattle.icu_cldr.specs.Errors.{IsNumbered};
 
-use crate::error::{Fault, Missing, ReadError, Refusal, named};
+use crate::error::{UnnumberedError, Missing, ReadError, LineErrorKind, named};
 use icu_entries::DataTable;
 use icu_fractional::LeadByte;
 use icu_provider::OwnedSpecialPrimaries;
@@ -53,9 +53,9 @@ impl Special {
     }
 
     /// Takes in the lead byte of numbers.
-    pub(crate) fn set_numeric_lead(&mut self, lead: u8) -> Result<(), Fault> {
+    pub(crate) fn set_numeric_lead(&mut self, lead: u8) -> Result<(), UnnumberedError> {
         if self.numeric_lead.is_some() {
-            return Err(Fault::Refused(Refusal::Repeated));
+            return Err(UnnumberedError::Refused(LineErrorKind::Repeated));
         }
         self.numeric_lead = Some(lead);
         Ok(())

@@ -5,7 +5,7 @@ pub use Rattle.icu_provider.specs.Tables
 pub use Rattle.icu_data.specs.StoredData
 pub use Rattle.icu_provider.specs.StoredTables
 pub use Rattle.icu_provider.specs.CollatorTables
-pub use Rattle.icu_checks.specs.GoodTables
+pub use Rattle.icu_checks.specs.WellFormedTables
 pub use Rattle.icu_provider.specs.LoadedTables
 pub use Rattle.icu_elements.specs.TextElements
 pub use Rattle.icu_elements.specs.Reading

@@ -24,7 +24,7 @@ pub mod comparison {
 /// Where the tables of collators come from, and the check that they pass.
 pub mod provider {
     pub use icu_checks::CheckedTables;
-    pub use icu_data::{CodePointTable, CollationData, Context, ContextRow, ContextTable};
+    pub use icu_data::{CodePointTable, CollationData, Context, ContextMapping, ContextTable};
     pub use icu_entries::{DataError, DataErrorKind, DataTable};
     pub use icu_provider::{
         CollationDiacritics, CollationJamo, CollationMetadata, CollationProvider,

@@ -14,10 +14,10 @@ use Rattle.icu_provider.specs.CollatorTables.{reorder}
 use Rattle.icu_elements.specs.TextElements.{Reading, elements_of, elements_after, elements_along}
 use Rattle.icu_cuts.proofs.NfdLemmas.{nfd-nil}
 use Rattle.icu_cuts.specs.ReadingLaws.{FirstStartersLead}
-use Rattle.icu_shortcuts.specs.Letters.{HasLeadingPrimary}
-use Rattle.icu_cursor.specs.declared.letter_cursor.LetterCursor.{LetterCursor}
-use Rattle.icu_cursor.specs.LetterCursors.{GoesOn, letters_give}
-use Rattle.icu_shortcuts.specs.SafeTables.{IsSafeBefore}
+use Rattle.icu_shortcuts.specs.KeptFacts.{HasLeadingPrimary}
+use Rattle.icu_cursor.specs.declared.facts_cursor.FactsCursor.{FactsCursor}
+use Rattle.icu_cursor.specs.FactsCursors.{GoesOn, facts_give}
+use Rattle.icu_shortcuts.specs.BoundaryTables.{HasBoundaryBefore}
 use Rattle.icu_weighting.specs.Collations.{Collation}
 use Rattle.icu_weighting.specs.Forms.{form_by, last_variable_by}
 use Rattle.icu_weighting.specs.Handled.{stayed, handled, is_variable, stayed_elements}
@@ -102,9 +102,9 @@ nothing_leads collation = subst (λ es. IsFirst 0 (primaries_given collation fal
 
 -- a text that begins with a character before which it may be cut, where no element is variable or its first one has a
 -- primary
-pub tail_of : (collation : Collation) (c : ℕ) (cs : List ℕ) → IsSafeBefore (reading_by collation) c
+pub tail_of : (collation : Collation) (c : ℕ) (cs : List ℕ) → HasBoundaryBefore (reading_by collation) c
     → (last_variable_by collation ≡ 0) ⊎ (begins_with_primary (elements_of (reading_by collation) (nfd (c ∷ cs))) ≡ true) → IsTail collation (c ∷ cs)
-tail_of collation c cs h v = record { first = h.first; more = h.more; decomposes = h.decomposes; safe = h.safe; handled = v }
+tail_of collation c cs h v = record { first = h.first; more = h.more; decomposes = h.decomposes; boundary = h.boundary; handled = v }
 
 -- two texts are in the order of their tails
 pub tails_order : (collation : Collation) → CommonBeginningsDoNotCount → ReadsForward (form_by collation).secondary
@@ -171,27 +171,27 @@ module _ (collation : Collation) where
   unfolding LeadsWith
   openings_decide t u p q found h k decide = primaries_decide t u found (decide (primaries_of collation t) (primaries_of collation u) h k)
 
-  -- ---- what letters give
+  -- ---- what characters give
 
   module _ {T : Type 0} (text : T → List ℕ) where
-    pub primary_next : (old new : LetterCursor T) (e : Element) → GoesOn text old e new → last_variable_by collation < e.primary → GivesPrimary collation text old e.primary new
+    pub primary_next : (old new : FactsCursor T) (e : Element) → GoesOn text old e new → last_variable_by collation < e.primary → GivesPrimary collation text old e.primary new
     primary_next old new e goes above = λ before after.
         let next = goes before in
-        (next.0, false, ap (primaries_given collation after) next.1 ∙ leading_primary collation after e (letters_give text new next.0) above)
+        (next.0, false, ap (primaries_given collation after) next.1 ∙ leading_primary collation after e (facts_give text new next.0) above)
 
-    pub none_next : (old new : LetterCursor T) (e : Element) → GoesOn text old e new → e.primary ≡ 0 → GivesPrimaries collation text old [] new
+    pub none_next : (old new : FactsCursor T) (e : Element) → GoesOn text old e new → e.primary ≡ 0 → GivesPrimaries collation text old [] new
     none_next old new e goes zero = λ before after.
         let next = goes before in
-        let none = no_primary collation after e (letters_give text new next.0) zero in
+        let none = no_primary collation after e (facts_give text new next.0) zero in
         (next.0, none.0, ap (primaries_given collation after) next.1 ∙ none.1)
 
-    pub after_none : (old mid new : LetterCursor T) (ps : List ℕ) → GivesPrimaries collation text old [] mid → GivesPrimaries collation text mid ps new → GivesPrimaries collation text old ps new
+    pub after_none : (old mid new : FactsCursor T) (ps : List ℕ) → GivesPrimaries collation text old [] mid → GivesPrimaries collation text mid ps new → GivesPrimaries collation text old ps new
     after_none old mid new ps h k = λ before after.
         let one = h before after in
         let other = k one.0 one.1 in
         (other.0, other.1, one.2 ∙ other.2)
 
-    pub primary_found : (old mid new : LetterCursor T) (e : Element) → GivesPrimaries collation text old [] mid → GoesOn text mid e new → (found : Option ℕ) (p : ℕ) → e.primary ≡ p
+    pub primary_found : (old mid new : FactsCursor T) (e : Element) → GivesPrimaries collation text old [] mid → GoesOn text mid e new → (found : Option ℕ) (p : ℕ) → e.primary ≡ p
         → IfSome found (λ q. (q ≡ p) × (last_variable_by collation < q)) → IfSome found (λ q. GivesPrimary collation text old q new)
     primary_found old mid new e h goes None p is known = tt
     primary_found old mid new e h goes (Some q) p is known =
@@ -199,25 +199,25 @@ module _ (collation : Collation) where
         let above : last_variable_by collation < e.primary = subst (λ x. last_variable_by collation < x) (sym same) known.1 in
         subst (λ (x : ℕ). GivesPrimary collation text old x new) same (after_none old mid new (e.primary ∷ []) h (primary_next mid new e goes above))
 
-    pub nothing_given : (c : LetterCursor T) → GivesPrimaries collation text c [] c
+    pub nothing_given : (c : FactsCursor T) → GivesPrimaries collation text c [] c
     nothing_given c = λ before after. (before, after, refl)
 
-    pub reads_on : (t ps : List ℕ) (p : ℕ) (old new : LetterCursor T) → ReadsOn collation t ps text old → GivesPrimary collation text old p new → ReadsOn collation t (ps ++ p ∷ []) text new
+    pub reads_on : (t ps : List ℕ) (p : ℕ) (old new : FactsCursor T) → ReadsOn collation t ps text old → GivesPrimary collation text old p new → ReadsOn collation t (ps ++ p ∷ []) text new
     reads_on t ps p old new h k =
         let next = k h.0 h.1 in
         (next.0, next.1, h.2 ∙ ap (λ (qs : List ℕ). ps ++ qs) next.2 ∙ sym (append_assoc ps (p ∷ []) _))
 
-    pub reads_from_start : (t : List ℕ) (c : LetterCursor T) → ((before : List ℕ) → letters_give text c before ≡ elements_after (reading_by collation) before (nfd t)) → ReadsOn collation t [] text c
+    pub reads_from_start : (t : List ℕ) (c : FactsCursor T) → ((before : List ℕ) → facts_give text c before ≡ elements_after (reading_by collation) before (nfd t)) → ReadsOn collation t [] text c
     reads_from_start t c begins = ([], false, ap (primaries_given collation false) (sym (begins [])))
 
-  -- two texts of which letters are read, up to primaries that decide
-  pub letters_decide : {T U : Type 0} (text : T → List ℕ) (other : U → List ℕ) (t u xs : List ℕ) (p q : ℕ) (one : LetterCursor T) (two : LetterCursor U) (found : Option Ordering)
+  -- two texts of which characters are read, up to primaries that decide
+  pub facts_decide : {T U : Type 0} (text : T → List ℕ) (other : U → List ℕ) (t u xs : List ℕ) (p q : ℕ) (one : FactsCursor T) (two : FactsCursor U) (found : Option Ordering)
       → ReadsOn collation t (xs ++ p ∷ []) text one → ReadsOn collation u (xs ++ q ∷ []) other two → p ≢ 0 → q ≢ 0
       → ((ps qs : List ℕ) → IsFirst p ps → IsFirst q qs → IfSome found (Decides (map (reorder all) ps) (map (reorder all) qs)))
       → IfSome found (λ o. o ≡ text_order collation t u)
-  letters_decide text other t u xs p q one two found h k m n decide =
-      let ps = primaries_given collation h.1 (letters_give text one h.0) in
-      let qs = primaries_given collation k.1 (letters_give other two k.0) in
+  facts_decide text other t u xs p q one two found h k m n decide =
+      let ps = primaries_given collation h.1 (facts_give text one h.0) in
+      let qs = primaries_given collation k.1 (facts_give other two k.0) in
       let left : primaries_of collation t ≡ xs ++ p ∷ ps = h.2 ∙ append_assoc xs (p ∷ []) ps in
       let right : primaries_of collation u ≡ xs ++ q ∷ qs = k.2 ∙ append_assoc xs (q ∷ []) qs in
       primaries_decide t u found

@@ -20,7 +20,7 @@ use Rattle.icu_comparison.specs.declared.collator.CollatorBorrowed.{CollatorBorr
 abbrev pub request_in : CollatorPreferences → Request
 request_in p = record { locale = p.locale.now; collation_type = option_map (λ t. t.now) p.collation_type }
 
--- the tables that a provider returns for them, or the first refusal that no further request mends
+-- the tables that a provider returns for them, or the first error that no further request mends
 abbrev pub loaded_for : Loads → CollatorPreferences → Result CollatorTables DataError
 loaded_for loads preferences = loaded_tables loads (request_in preferences)
 

@@ -7,7 +7,7 @@ ghost use Rattle.icu_options.specs.FlaggedSettings.{values_of};
 ghost use Rattle.icu_options.specs.Metadata.{metadata_settings, is_backward};
 ghost use Rattle.icu_entries.specs.declared.error.DataErrorKind.TheVariants.{NoMemory};
 ghost use Rattle.icu_checks.specs.Checked.{checked_tables};
-ghost use Rattle.icu_checks.specs.GoodTables.{IsGoodTables, IsTrueRefusal};
+ghost use Rattle.icu_checks.specs.WellFormedTables.{IsWellFormedTables, IsTrueError};
 ghost use Rattle.icu_provider.specs.OwnedTables.{owned_tables};
 ghost use Rattle.icu_cursor.specs.Cursors.{cursor_reading};
 ghost use Rattle.icu_elements.specs.Reading.{element_tables, reading_of};
@@ -18,9 +18,9 @@ ghost use Rattle.icu_weighting.specs.CheckedCollations.{collation_of};
 ghost use Rattle.icu_levels.specs.CommonBeginnings.{ReadsForward};
 ghost use Rattle.icu_comparison.specs.inner.TextFronts.{IsFront};
 ghost use Rattle.icu_shortcuts.specs.Named.{NamesAll};
-ghost use Rattle.icu_shortcuts.specs.Letters.{IsLetter};
-ghost use Rattle.icu_shortcuts.specs.LetterTables.{AreLetters};
-ghost use Rattle.icu_shortcuts.specs.SafeTables.{safe_reading};
+ghost use Rattle.icu_shortcuts.specs.KeptFacts.{AreTrueFacts};
+ghost use Rattle.icu_shortcuts.specs.FactsTables.{AreFacts};
+ghost use Rattle.icu_shortcuts.specs.BoundaryTables.{boundary_reading};
 ghost use Rattle.unicode_normalization.specs.Forms.{nfd};
 
 use crate::handled::{HandledElements, HandledText, PlainText};
@@ -35,7 +35,7 @@ use icu_options::{
     merged_options,
 };
 use icu_provider::{CollationProvider, OwnedTables, load_tables};
-use icu_shortcuts::{Letter, Letters, NamedCharacters, SafePlaces, outline_of};
+use icu_shortcuts::{CharFacts, KeptFacts, NamedCharacters, Boundaries, outline_of};
 use icu_weighting::{key_form, last_variable};
 use std::alloc::{AllocError, Global};
 
@@ -45,12 +45,12 @@ use std::alloc::{AllocError, Global};
 pub struct Collator {
     tables: CheckedTables,
     named: NamedCharacters,
-    letters: Letters,
+    kept_facts: KeptFacts,
     settings: CollatorOptionsBitField,
     ghost backward: { (values_of settings).backward_second_level
         ≡ is_backward (checked_tables tables).bits },
     ghost names: { NamesAll named (checked_tables tables).tables },
-    ghost known: { AreLetters (reading_by (collation_of tables settings)) letters },
+    ghost known: { AreFacts (reading_by (collation_of tables settings)) kept_facts },
 }
 
 impl Collator {
@@ -63,7 +63,7 @@ impl Collator {
     /// it: `options` or `preferences`, then the metadata that the provider returned, then the default
     /// (`merged_options`).
     ///
-    /// Where the provider refuses a table, its last refusal of it is returned. Tables that don't meet
+    /// Where the provider refuses a table, its last error of it is returned. Tables that don't meet
     /// the conditions together are refused with the name of one that takes part in a condition that
     /// fails, and the condition's kind. `NoMemory` says that an allocation failed.
     pub fn try_new_unstable<P: CollationProvider>(
@@ -72,21 +72,21 @@ impl Collator {
         preferences: CollatorPreferences<'_>,
         options: CollatorOptions,
     ) -> Result<Collator, DataError>
-        // What the provider returns, or its refusal.
+        // What the provider returns, or its error.
         ensures not_loaded { IfErr (loaded_for (P.loads provider.now) preferences.entry)
             (λ e. result ≡ Err e) }
         ensures keeps { IfOk result (λ c.
             loaded_for (P.loads provider.now) preferences.entry ≡ Ok (tables_kept c)) }
 
-        // It is checked: unless an allocation fails, a collator is made of good tables, and only
+        // It is checked: unless an allocation fails, a collator is made of well-formed tables, and only
         // of them.
-        ensures good { IfOk result (λ c. IsGoodTables (tables_kept c)) }
-        ensures refusal { IfErr result (λ e.
+        ensures well_formed { IfOk result (λ c. IsWellFormedTables (tables_kept c)) }
+        ensures error { IfErr result (λ e.
             IfOk (loaded_for (P.loads provider.now) preferences.entry)
-            (λ all. IsTrueRefusal all e)) }
+            (λ all. IsTrueError all e)) }
         ensures exact { IfErr result (λ e.
             IfOk (loaded_for (P.loads provider.now) preferences.entry) (λ all.
-            (e.kind ≡ NoMemory → ⊥) → IsGoodTables all → ⊥)) }
+            (e.kind ≡ NoMemory → ⊥) → IsWellFormedTables all → ⊥)) }
 
         ensures settings { IfOk result (λ c. settings_kept c
             ≡ merge options preferences.entry (metadata_settings (tables_kept c).bits)) }
@@ -111,11 +111,11 @@ impl Collator {
     ) -> Result<Collator, DataError>
         ensures keeps { IfOk result (λ c. tables_kept c ≡ owned_tables tables) }
 
-        // Unless an allocation fails, a collator is made of good tables, and only of them.
-        ensures good { IfOk result (λ c. IsGoodTables (tables_kept c)) }
-        ensures refusal { IfErr result (IsTrueRefusal (owned_tables tables)) }
+        // Unless an allocation fails, a collator is made of well-formed tables, and only of them.
+        ensures well_formed { IfOk result (λ c. IsWellFormedTables (tables_kept c)) }
+        ensures error { IfErr result (IsTrueError (owned_tables tables)) }
         ensures exact { IfErr result (λ e.
-            (e.kind ≡ NoMemory → ⊥) → IsGoodTables (owned_tables tables) → ⊥) }
+            (e.kind ≡ NoMemory → ⊥) → IsWellFormedTables (owned_tables tables) → ⊥) }
 
         ensures settings { IfOk result (λ c. settings_kept c
             ≡ merge options preferences.entry (metadata_settings (tables_kept c).bits)) }
@@ -138,12 +138,12 @@ impl Collator {
     {
         let settings = merged_options(options, preferences, tables.metadata().settings());
         let named = refused_as_root(NamedCharacters::new(alloc, &tables))?;
-        let places = safe_places(&tables, &named, settings);
-        let letters = refused_as_root(Letters::new(alloc, places))?;
+        let places = boundaries(&tables, &named, settings);
+        let kept_facts = refused_as_root(KeptFacts::new(alloc, places))?;
         Ok(Collator {
             tables,
             named,
-            letters,
+            kept_facts,
             settings,
         })
     }
@@ -156,7 +156,7 @@ impl Collator {
         CollatorBorrowed {
             tables: &self.tables,
             named: &self.named,
-            letters: &self.letters,
+            kept_facts: &self.kept_facts,
             settings: self.settings,
             form: key_form(&self.tables, self.settings),
             last_variable: last_variable(&self.tables, self.settings),
@@ -167,7 +167,7 @@ impl Collator {
 /// What is kept beside the tables. Where an allocation fails, that is said of the root.
 fn refused_as_root<T>(kept: Result<T, AllocError>) -> Result<T, DataError>
     ensures kept { IfOk result (λ x. kept ≡ Ok x) }
-    ensures refusal { IfErr result (λ e. e.kind ≡ NoMemory) }
+    ensures error { IfErr result (λ e. e.kind ≡ NoMemory) }
 {
     match kept {
         Ok(kept) => Ok(kept),
@@ -192,34 +192,34 @@ fn text_reading(tables: &CheckedTables, settings: CollatorOptionsBitField) -> Te
 }
 
 /// Before which characters texts may be cut that are read by this collation.
-fn safe_places<'d>(
+fn boundaries<'d>(
     tables: &'d CheckedTables,
     named: &'d NamedCharacters,
     settings: CollatorOptionsBitField,
-) -> SafePlaces<'d>
+) -> Boundaries<'d>
     requires { NamesAll named.now (checked_tables tables.now).tables }
-    ensures { safe_reading result ≡ reading_by (collation_of tables.now settings) }
+    ensures { boundary_reading result ≡ reading_by (collation_of tables.now settings) }
 {
-    SafePlaces::new(text_reading(tables, settings), named)
+    Boundaries::new(text_reading(tables, settings), named)
 }
 
 /// What a character says of the front of a text that begins with it: whether the text may be cut before it, and the
 /// primary weight that the text's elements begin with, or 0 where that is not known.
 #[derive(Debug, Clone, Copy)]
 pub(crate) struct Front {
-    pub(crate) is_safe: bool,
+    pub(crate) has_boundary_before: bool,
     pub(crate) leading_primary: u32,
 }
 
-/// What is known of a letter says what its front is.
+/// What is known of a character says what its front is.
 #[inline(always)]
-fn front_of(letter: &Letter) -> Front
-    ensures { (reading : Reading) (c : ℕ) → IsLetter reading c letter.now
+fn front_of(facts: &CharFacts) -> Front
+    ensures { (reading : Reading) (c : ℕ) → AreTrueFacts reading c facts.now
         → IsFront reading c result }
 {
     Front {
-        is_safe: letter.is_safe,
-        leading_primary: letter.leading_primary,
+        has_boundary_before: facts.has_boundary_before,
+        leading_primary: facts.leading_primary,
     }
 }
 
@@ -240,13 +240,13 @@ fn numeric_primary(tables: &CheckedTables, settings: CollatorOptionsBitField) ->
 pub struct CollatorBorrowed<'a> {
     pub(crate) tables: &'a CheckedTables,
     named: &'a NamedCharacters,
-    letters: &'a Letters,
+    kept_facts: &'a KeptFacts,
     settings: CollatorOptionsBitField,
     form: KeyForm,
     last_variable: u32,
     ghost backward: { (values_of settings).backward_second_level
         ≡ is_backward (checked_tables tables.now).bits },
-    ghost known: { AreLetters (reading_by (collation_of tables.now settings)) letters.now },
+    ghost known: { AreFacts (reading_by (collation_of tables.now settings)) kept_facts.now },
     ghost levels: { form ≡ form_by (collation_of tables.now settings) },
     ghost variable: { last_variable ≡ last_variable_by (collation_of tables.now settings) },
     ghost names: { NamesAll named.now (checked_tables tables.now).tables },
@@ -264,10 +264,10 @@ impl<'a> CollatorBorrowed<'a> {
     }
 
     /// The tables meet the conditions on all tables of a collator: no collator has others.
-    pub fn has_good_tables(&self)
-        ensures { IsGoodTables (tables_borrowed self.now) }
+    pub fn has_well_formed_tables(&self)
+        ensures { IsWellFormedTables (tables_borrowed self.now) }
     {
-        self.tables.are_good();
+        self.tables.are_well_formed();
     }
 
     /// The tables that elements are read from.
@@ -312,8 +312,8 @@ impl<'a> CollatorBorrowed<'a> {
     pub(crate) fn front(&self, c: char) -> Front
         ensures { IsFront (reading_by (collation_borrowed self.now)) c result }
     {
-        match self.letters.get(c) {
-            Some(letter) => front_of(letter),
+        match self.kept_facts.get(c) {
+            Some(facts) => front_of(facts),
             None => self.other_front(c),
         }
     }
@@ -323,18 +323,18 @@ impl<'a> CollatorBorrowed<'a> {
     fn other_front(&self, c: char) -> Front
         ensures { IsFront (reading_by (collation_borrowed self.now)) c result }
     {
-        match self.letters.syllable(c) {
-            Some(letter) => front_of(&letter),
+        match self.kept_facts.syllable(c) {
+            Some(facts) => front_of(&facts),
             None => front_of(&self.outline(c)),
         }
     }
 
     /// What is known of a character by the first one of its decomposition.
     #[inline(never)]
-    fn outline(&self, c: char) -> Letter
-        ensures { IsLetter (reading_by (collation_borrowed self.now)) c result }
+    fn outline(&self, c: char) -> CharFacts
+        ensures { AreTrueFacts (reading_by (collation_borrowed self.now)) c result }
     {
-        outline_of(&safe_places(self.tables, self.named, self.settings), c)
+        outline_of(&boundaries(self.tables, self.named, self.settings), c)
     }
 
     /// The elements of a text.
@@ -357,8 +357,8 @@ impl<'a> CollatorBorrowed<'a> {
         ensures { cursor_reading result ≡ reading_by (collation_borrowed self.now) }
     {
         CursorTables::new(
-            safe_places(self.tables, self.named, self.settings),
-            self.letters,
+            boundaries(self.tables, self.named, self.settings),
+            self.kept_facts,
         )
     }
 

@@ -100,7 +100,7 @@ impl<'a> CollatorBorrowed<'a> {
     {
         let order = self.compare_tails(left, right)?;
         keys_keep_text_order();
-        self.tables.are_good();
+        self.tables.are_well_formed();
         left.has_scalar_values();
         right.has_scalar_values();
         Ok(order)
@@ -138,7 +138,7 @@ impl<'a> CollatorBorrowed<'a> {
             (T.text text) (T.text text) ≡ Ordering.Equal }
     {
         keys_keep_text_order();
-        self.tables.are_good();
+        self.tables.are_well_formed();
         text.has_scalar_values();
     }
 

@@ -96,7 +96,7 @@ impl<'a> CollatorBorrowed<'a> {
         ensures key { WritesKey S.effects sink.old
             (text_key (collation_borrowed self.now) (T.text text)) result sink.new }
     {
-        self.tables.are_good();
+        self.tables.are_well_formed();
         texts_have_case();
         text.has_scalar_values();
         let Ok(characters) = self.key_characters(text) else {

@@ -8,20 +8,20 @@ ghost use Rattle.icu_provider.specs.CollatorTables.{reorder};
 ghost use Rattle.icu_comparison.specs.inner.Tails.{unequal_order};
 
 use crate::collator::{CollatorBorrowed, Front};
-use icu_cursor::LetterCursor;
+use icu_cursor::FactsCursor;
 use icu_cuts::laws::first_starters_lead;
 use icu_encodings::EncodedText;
 use icu_order::laws::common_beginnings_do_not_count;
 use icu_weighting::element_weights::reordered;
 use std::cmp::Ordering;
 
-/// How many primary weights of two texts are compared by their letters, at most.
+/// How many primary weights of two texts are compared by their characters, at most.
 const WEIGHTS_AHEAD: u32 = 6;
 
 /// How many elements are passed over to the next primary weight of a text, at most.
 const ELEMENTS_AHEAD: u32 = 3;
 
-/// Facts about a text's first character: whether a safe place is before it, and the text's first primary weight, where
+/// Facts about a text's first character: whether a boundary is before it, and the text's first primary weight, where
 /// that is known and no variable element has it (0 for the empty text).
 #[derive(Debug, Clone, Copy)]
 struct Opening {
@@ -34,7 +34,7 @@ impl<'a> CollatorBorrowed<'a> {
     ghost use Rattle.icu_comparison.specs.inner.Tails.{Decides, GivesPrimary, IsFirst, LeadsWith};
     ghost use Rattle.icu_order.specs.TextCuts.{IsTail};
 
-    /// The rests of two texts from their last common safe place on, within their common prefix of `common` units, and
+    /// The rests of two texts from their last common boundary on, within their common prefix of `common` units, and
     /// the order of the texts where the first characters of the rests decide it. `None` where the only such place is at
     /// the start.
     pub(crate) fn tails<L: EncodedText, R: EncodedText>(
@@ -88,7 +88,7 @@ impl<'a> CollatorBorrowed<'a> {
     }
 
     /// The order of two texts by the facts about their first characters: by their first primary weights where both are
-    /// known and differ, else by the primary weights of the letters that both begin with. `None` where these do not
+    /// known and differ, else by the primary weights of the characters that both begin with. `None` where these do not
     /// decide.
     #[inline(always)]
     fn order_of_openings<L: EncodedText, R: EncodedText>(
@@ -107,14 +107,14 @@ impl<'a> CollatorBorrowed<'a> {
     {
         match self.order_of(one, other) {
             Some(order) => Some(order),
-            None => self.order_of_letters(left, right),
+            None => self.order_by_facts(left, right),
         }
     }
 
-    /// The order of two texts by the primary weights of the letters that they begin with, as far as these may be read
+    /// The order of two texts by the primary weights of the characters that they begin with, as far as these may be read
     /// by themselves: the first that differ decide.
     #[inline(never)]
-    fn order_of_letters<L: EncodedText, R: EncodedText>(
+    fn order_by_facts<L: EncodedText, R: EncodedText>(
         &self,
         left: L,
         right: R,
@@ -123,8 +123,8 @@ impl<'a> CollatorBorrowed<'a> {
             IfSome result (λ o. o ≡ text_order collation (L.text left) (R.text right)) }
     {
         let tables = self.cursor_tables();
-        let mut one = LetterCursor::new(&tables, left);
-        let mut other = LetterCursor::new(&tables, right);
+        let mut one = FactsCursor::new(&tables, left);
+        let mut other = FactsCursor::new(&tables, right);
         'weights: for _ in 0..WEIGHTS_AHEAD {
             let weight = self.next_primary(&mut one)?;
             let other_weight = self.next_primary(&mut other)?;
@@ -135,15 +135,15 @@ impl<'a> CollatorBorrowed<'a> {
         None
     }
 
-    /// The next primary weight of the letters of a text, where elements that have it aren't variable.
+    /// The next primary weight of the characters of a text, where elements that have it aren't variable.
     #[inline(always)]
-    fn next_primary<T: EncodedText>(&self, letters: &mut LetterCursor<'_, '_, T>) -> Option<u32>
+    fn next_primary<T: EncodedText>(&self, kept_facts: &mut FactsCursor<'_, '_, T>) -> Option<u32>
         ensures given { IfSome result (λ p. GivesPrimary (collation_borrowed self.now) T.text
-            letters.old p letters.new) }
+            kept_facts.old p kept_facts.new) }
         ensures some { IfSome result (λ p. p ≢ 0) }
     {
         'elements: for _ in 0..ELEMENTS_AHEAD {
-            let element = letters.next()?;
+            let element = kept_facts.next()?;
             if element.primary() != 0 {
                 return self.known_primary(element.primary());
             }
@@ -199,10 +199,10 @@ impl<'a> CollatorBorrowed<'a> {
     /// elements may be variable its first one has a primary weight. False says nothing.
     #[inline(always)]
     fn begins_tail(&self, front: Front) -> bool
-        ensures { IsTrue result → IsTrue front.is_safe
+        ensures { IsTrue result → IsTrue front.has_boundary_before
             × ((front.leading_primary ≢ 0) ⊎ (last_variable_by (collation_borrowed self.now) ≡ 0)) }
     {
-        front.is_safe && (front.leading_primary != 0 || self.last_variable() == 0)
+        front.has_boundary_before && (front.leading_primary != 0 || self.last_variable() == 0)
     }
 
     /// A primary weight, where it is known, which isn't 0, and elements that have it aren't variable.

@@ -7,13 +7,13 @@ use Rattle.unicode_normalization.specs.Forms.{nfd}
 use Rattle.icu_entries.specs.Elements.{Element}
 use Rattle.icu_elements.specs.TextElements.{Reading, elements_after}
 use Rattle.icu_cuts.specs.Alone.{context_after}
-use Rattle.icu_shortcuts.specs.declared.letter_facts.Letter.{Letter}
-use Rattle.icu_shortcuts.specs.Letters.{letter_elements}
+use Rattle.icu_shortcuts.specs.declared.char_facts.CharFacts.{CharFacts}
+use Rattle.icu_shortcuts.specs.KeptFacts.{char_elements}
 use Rattle.icu_cursor.specs.inner.Pieces.{IsPiece}
 use Rattle.icu_cursor.specs.inner.Standing.{StandsBefore}
 use Rattle.icu_cursor.proofs.PieceLemmas.{nothing, pieces_part}
 
--- where neither a letter nor a piece has elements left
+-- where neither a character nor a piece has elements left
 pub nothing_ready : (ready piece rest : List Element) → ready ≡ [] → piece ≡ [] → ready ++ (piece ++ rest) ≡ rest
 nothing_ready ready piece rest none no_piece = ap₂ (λ (es fs : List Element). es ++ (fs ++ rest)) none no_piece
 
@@ -32,8 +32,8 @@ front : (xs : List Element) (e d : Element) → 1 ≤ length xs → e ≡ get_or
 front [] e d some is = absurd (omega arith)
 front (x ∷ xs) e d some is = ap (λ y. y ∷ []) (sym is)
 
--- the first of a letter's
-pub one_taken : (l : Letter) (e d : Element) → l.count ≡ 1 → 1 ≤ length l.elements → e ≡ get_or l.elements 0 d → letter_elements l ≡ e ∷ []
+-- the first of a character's
+pub one_taken : (l : CharFacts) (e d : Element) → l.count ≡ 1 → 1 ≤ length l.elements → e ≡ get_or l.elements 0 d → char_elements l ≡ e ∷ []
 one_taken l e d one some is = ap (λ n. take n l.elements) one ∙ front l.elements e d some is
 
 module _ (reading : Reading) (ready piece : List Element) (before : List ℕ) (none : ready ≡ []) (piece_ended : piece ≡ []) where
@@ -42,29 +42,29 @@ module _ (reading : Reading) (ready piece : List Element) (before : List ℕ) (n
   all_read text ends =
       nothing_ready ready piece _ none piece_ended ∙ ap (λ t. elements_after reading before (nfd t)) ends ∙ nothing reading before
 
-  -- a letter is read by itself
-  pub letter_read : (c : ℕ) (l : Letter) (all text after : List ℕ) (es : List Element) → all ≡ c ∷ text → StandsBefore reading c l text → es ≡ letter_elements l → after ≡ context_after before (decompose Nfd c)
+  -- a character is read by itself
+  pub char_read : (c : ℕ) (l : CharFacts) (all text after : List ℕ) (es : List Element) → all ≡ c ∷ text → StandsBefore reading c l text → es ≡ char_elements l → after ≡ context_after before (decompose Nfd c)
       → es ++ (piece ++ elements_after reading after (nfd text)) ≡ ready ++ (piece ++ elements_after reading before (nfd all))
-  letter_read c l all text after es is stands given remembered =
+  char_read c l all text after es is stands given remembered =
       ap₂ (λ (fs gs : List Element). fs ++ (gs ++ elements_after reading after (nfd text))) given piece_ended
-      ∙ ap (λ b. letter_elements l ++ elements_after reading b (nfd text)) remembered
+      ∙ ap (λ b. char_elements l ++ elements_after reading b (nfd text)) remembered
       ∙ sym (stands before)
       ∙ ap (λ t. elements_after reading before (nfd t)) (sym is)
       ∙ sym (nothing_ready ready piece _ none piece_ended)
 
   -- its first element is given, and the others are kept
-  pub letter_begun : (c : ℕ) (l : Letter) (all text after : List ℕ) (first others : List Element) → all ≡ c ∷ text → StandsBefore reading c l text → letter_elements l ≡ first ++ others
+  pub facts_begun : (c : ℕ) (l : CharFacts) (all text after : List ℕ) (first others : List Element) → all ≡ c ∷ text → StandsBefore reading c l text → char_elements l ≡ first ++ others
       → after ≡ context_after before (decompose Nfd c)
       → ready ++ (piece ++ elements_after reading before (nfd all)) ≡ first ++ (others ++ (piece ++ elements_after reading after (nfd text)))
-  letter_begun c l all text after first others is stands given remembered =
-      sym (letter_read c l all text after (letter_elements l) is stands refl remembered) ∙ ready_taken first (letter_elements l) others _ given
+  facts_begun c l all text after first others is stands given remembered =
+      sym (char_read c l all text after (char_elements l) is stands refl remembered) ∙ ready_taken first (char_elements l) others _ given
 
   -- so is one of one element, which is given at once
-  pub lone_read : (c : ℕ) (l : Letter) (all text after : List ℕ) (e d : Element) → all ≡ c ∷ text → StandsBefore reading c l text → after ≡ context_after before (decompose Nfd c)
+  pub lone_read : (c : ℕ) (l : CharFacts) (all text after : List ℕ) (e d : Element) → all ≡ c ∷ text → StandsBefore reading c l text → after ≡ context_after before (decompose Nfd c)
       → l.count ≡ 1 → 1 ≤ length l.elements → e ≡ get_or l.elements 0 d
       → ready ++ (piece ++ elements_after reading before (nfd all)) ≡ e ∷ (ready ++ (piece ++ elements_after reading after (nfd text)))
   lone_read c l all text after e d is stands remembered one some first =
-      sym (letter_read c l all text after (letter_elements l) is stands refl remembered)
+      sym (char_read c l all text after (char_elements l) is stands refl remembered)
       ∙ ap (λ (es : List Element). es ++ (piece ++ elements_after reading after (nfd text))) (one_taken l e d one some first)
       ∙ ap (λ (es : List Element). e ∷ (es ++ (piece ++ elements_after reading after (nfd text)))) (sym none)
 
@@ -77,7 +77,7 @@ module _ (reading : Reading) (ready piece : List Element) (before : List ℕ) (n
       ∙ ap (λ t. elements_after reading before (nfd t)) (sym is)
       ∙ sym (nothing_ready ready piece _ none piece_ended)
 
--- ---- letters alone
+-- ---- characters alone
 
 -- an element that stands ready comes first
 pub ready_goes_on : (reading : Reading) (text : List ℕ) (ready others : List Element) (e : Element) → ready ≡ e ∷ others
@@ -85,12 +85,12 @@ pub ready_goes_on : (reading : Reading) (text : List ℕ) (ready others : List E
 ready_goes_on reading text ready others e is = λ before.
     (before, ap (λ (es : List Element). es ++ elements_after reading before (nfd text)) is)
 
--- where none does, the first of the next letter
-pub letter_goes_on : (reading : Reading) (ready others : List Element) (c : ℕ) (l : Letter) (all text : List ℕ) (found : Option Element) → ready ≡ [] → all ≡ c ∷ text
-    → StandsBefore reading c l text → letter_elements l ≡ option_to_list found ++ others
+-- where none does, the first of the next character
+pub facts_goes_on : (reading : Reading) (ready others : List Element) (c : ℕ) (l : CharFacts) (all text : List ℕ) (found : Option Element) → ready ≡ [] → all ≡ c ∷ text
+    → StandsBefore reading c l text → char_elements l ≡ option_to_list found ++ others
     → IfSome found (λ e. (before : List ℕ) → (after : List ℕ) × (ready ++ elements_after reading before (nfd all) ≡ e ∷ (others ++ elements_after reading after (nfd text))))
-letter_goes_on reading ready others c l all text None none is stands given = tt
-letter_goes_on reading ready others c l all text (Some e) none is stands given = λ before.
+facts_goes_on reading ready others c l all text None none is stands given = tt
+facts_goes_on reading ready others c l all text (Some e) none is stands given = λ before.
     let after = context_after before (decompose Nfd c) in (
       after,
       ap (λ (es : List Element). es ++ elements_after reading before (nfd all)) none

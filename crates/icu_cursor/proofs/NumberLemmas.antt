@@ -13,9 +13,9 @@ use Rattle.icu_elements.proofs.StepLemmas.{elements_after_nil}
 use Rattle.icu_cuts.proofs.NumberRunLemmas.{elements_after-digits}
 use Rattle.icu_cuts.proofs.LetterLemmas.{low_text}
 use Rattle.icu_cuts.proofs.NfdLemmas.{nfd-nil}
-use Rattle.icu_shortcuts.specs.Letters.{IsNumberDigit}
+use Rattle.icu_shortcuts.specs.KeptFacts.{IsNumberDigit}
 use Rattle.icu_cursor.specs.inner.NumberElements.{IsDigitRun, IsNumberPiece}
-use Rattle.icu_cursor.specs.inner.Places.{BeginsSafely}
+use Rattle.icu_cursor.specs.inner.Places.{BeginsAtBoundary}
 
 -- ---- runs
 
@@ -63,11 +63,11 @@ digits_alone reading lead c cs before numeric low continues =
 
 -- a digit and the run after it
 pub number_piece : (reading : Reading) (lead c d : ℕ) (text rest digits : List ℕ) (es : List Element) → reading.numeric ≡ Some lead → IsNumberDigit reading c d
-    → IsDigitRun reading text rest (d ∷ []) digits → BeginsSafely reading rest → es ≡ number_elements lead digits → IsNumberPiece reading (c ∷ text) rest es
-number_piece reading lead c d text rest digits es numeric is run safe given = record {
+    → IsDigitRun reading text rest (d ∷ []) digits → BeginsAtBoundary reading rest → es ≡ number_elements lead digits → IsNumberPiece reading (c ∷ text) rest es
+number_piece reading lead c d text rest digits es numeric is run boundary given = record {
   piece = c ∷ run.chars;
   parts = ap (λ (l : List ℕ). c ∷ l) run.parts;
-  safe = safe;
+  boundary = boundary;
   elements = λ before.
       given
       ∙ ap (number_elements lead) (run.values ∙ ap (λ (e : ℕ). e ∷ map (digit_of_char reading.tables) run.chars) (sym is.value))

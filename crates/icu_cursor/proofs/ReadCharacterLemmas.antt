@@ -7,8 +7,8 @@ use Rattle.unicode_normalization.proofs.DecomposeLemmas.{length-from_decompose}
 use Rattle.icu_elements.specs.TextElements.{last_two}
 use Rattle.icu_elements.proofs.ReaderLemmas.{last_two-append}
 use Rattle.icu_cuts.specs.Alone.{context_after}
-use Rattle.icu_cursor.specs.declared.recent_letters.RecentLetters.{RecentLetters}
-use Rattle.icu_cursor.specs.inner.ReadCharacters.{letters_read, context_read}
+use Rattle.icu_cursor.specs.declared.last_characters.LastCharacters.{LastCharacters}
+use Rattle.icu_cursor.specs.inner.ReadCharacters.{facts_read, context_read}
 
 short : (xs : List ℕ) → length (take 2 xs) ≤ 2
 short xs = omega (arith, length-take 2 xs)
@@ -37,7 +37,7 @@ two_decomposed b c =
 
 -- one more character
 more : (older last : Option ℕ) (c : ℕ)
-    → last_two [] (flat_map (decompose Nfd) (letters_read last (Some c))) ≡ context_after (last_two [] (flat_map (decompose Nfd) (letters_read older last))) (decompose Nfd c)
+    → last_two [] (flat_map (decompose Nfd) (facts_read last (Some c))) ≡ context_after (last_two [] (flat_map (decompose Nfd) (facts_read older last))) (decompose Nfd c)
 more older None c =
     ap (last_two []) (append-nil (decompose Nfd c)) ∙ sym (after_context [] (decompose Nfd c))
 more None (Some b) c =
@@ -56,6 +56,6 @@ more (Some a) (Some b) c =
     ∙ sym (after_context (da ++ db) dc)
     ∙ ap (λ l. context_after (last_two [] (da ++ l)) dc) (sym (append-nil db))
 
-pub context_more : (r s : RecentLetters) (c : ℕ) → s.older ≡ r.last → s.last ≡ Some c → context_read s ≡ context_after (context_read r) (decompose Nfd c)
+pub context_more : (r s : LastCharacters) (c : ℕ) → s.older ≡ r.last → s.last ≡ Some c → context_read s ≡ context_after (context_read r) (decompose Nfd c)
 unfolding context_read
 context_more r s c older last = rw (older, last) (more r.older r.last c)

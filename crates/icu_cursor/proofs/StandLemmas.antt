@@ -1,4 +1,4 @@
--- Letters that are read by themselves, and the runs of marks that they stand before.
+-- Characters that are read by themselves, and the runs of marks that they stand before.
 use Rattle.std.proofs.Common.{◌≡◌, ◌≢◌, ℕ, ◌<◌, ◌≤◌, Bool, true, false, ◌&&◌, ◌||◌, nat_le, List, [], ◌∷◌, ◌++◌, length, get_or, flat_map, Option, Some, None, IfSome, refl, sym, ap, ◌∙◌, arith, zero-le}
 use Rattle.std.proofs.lemmas.Bool.{and_parts, not-true, eqb-true, eq-eqb, ne_eqb, le-leb}
 use Rattle.ucd_normal.specs.CanonicalCombiningClass.{canonical_combining_class as class_of}
@@ -18,10 +18,10 @@ use mathlib.Core.List.{is_set}
 use Rattle.icu_cuts.specs.Alone.{context_after, stays_first, all_stay, rises_from}
 use Rattle.icu_cuts.proofs.AloneLemmas.{letter_of_starters, letter_that_stays}
 use Rattle.icu_cuts.proofs.NfdLemmas.{stays_first-rises}
-use Rattle.icu_shortcuts.specs.declared.letter_facts.Letter.{Letter}
+use Rattle.icu_shortcuts.specs.declared.char_facts.CharFacts.{CharFacts}
 use Rattle.icu_shortcuts.proofs.KeptLemmas.{some_is}
-use Rattle.icu_shortcuts.specs.Letters.{StandsAlone, HasStarters, IsMarkedStarter, IsLoneMark, IsBase, IsNumberDigit, IsLetter, rises_to}
-use Rattle.icu_cursor.specs.inner.Places.{BeginsSafely}
+use Rattle.icu_shortcuts.specs.KeptFacts.{StandsAlone, HasStarters, IsMarkedStarter, IsLoneMark, IsBase, IsNumberDigit, AreTrueFacts, rises_to}
+use Rattle.icu_cursor.specs.inner.Places.{BeginsAtBoundary}
 use Rattle.icu_cursor.specs.inner.MarkRuns.{Rises, EndsRuns, IsInRun}
 use Rattle.icu_cursor.specs.inner.Standing.{StandsBefore, Serves}
 
@@ -56,7 +56,7 @@ one_in_run c first split = record {
 pub starter_in_run : (c : ℕ) → EndsRuns c → IsInRun c 0
 starter_in_run c ends = record { ends = λ _. ends; goes_on = λ other. absurd (other refl) }
 
--- ---- letters
+-- ---- characters
 
 -- marks in order before a run that rises from the last of them
 marks_stay : (least last : ℕ) (ms text : List ℕ) → rises_to least ms last ≡ true → rises_from last text ≡ true
@@ -75,7 +75,7 @@ either : (b : Bool) → ((b || true) && true) ≡ true
 either true = refl
 either false = refl
 
-module _ (reading : Reading) (c : ℕ) (l : Letter) (text : List ℕ) where
+module _ (reading : Reading) (c : ℕ) (l : CharFacts) (text : List ℕ) where
   pub starters_stand : HasStarters reading c l → StandsBefore reading c l text
   starters_stand h = λ before.
       letter_of_starters reading before c (decompose Nfd c) text refl h.starters h.stands.alone
@@ -102,21 +102,21 @@ module _ (reading : Reading) (c : ℕ) (l : Letter) (text : List ℕ) where
       let stay : all_stay (c ∷ []) rest ≡ true = rw stays (either (is_starter c)) in
       stays_alone h.stands (ap (λ ds. all_stay ds rest) h.itself ∙ stay)
 
--- a letter before a safe place gives what it gives at the end of a text
-pub base_stands : (reading : Reading) (c : ℕ) (l : Letter) (text : List ℕ) → IsBase reading c l → BeginsSafely reading text → StandsBefore reading c l text
-base_stands reading c l text h safe = λ before.
+-- a character before a boundary gives what it gives at the end of a text
+pub base_stands : (reading : Reading) (c : ℕ) (l : CharFacts) (text : List ℕ) → IsBase reading c l → BeginsAtBoundary reading text → StandsBefore reading c l text
+base_stands reading c l text h boundary = λ before.
     let after = context_after before (decompose Nfd c) in
-    parted reading before after (c ∷ []) text safe ∙ ap (λ (es : List Element). es ++ elements_after reading after (nfd text)) (h.at_end before)
+    parted reading before after (c ∷ []) text boundary ∙ ap (λ (es : List Element). es ++ elements_after reading after (nfd text)) (h.at_end before)
 
-pub serves : (reading : Reading) (c : ℕ) (l : Letter) → IsLetter reading c l → Serves reading c l
+pub serves : (reading : Reading) (c : ℕ) (l : CharFacts) → AreTrueFacts reading c l → Serves reading c l
 serves reading c l h = record {
   starters = λ kind text. starters_stand reading c l text (h.starters kind);
   marked = λ kind text. marked_stand reading c l text (h.marked kind);
   mark = λ kind text. marks_stand reading c l text (h.mark kind);
-  base = λ kind text safe. base_stands reading c l text (h.base kind) safe;
+  base = λ kind text boundary. base_stands reading c l text (h.base kind) boundary;
   digit = some_is l.digit (λ d. IsNumberDigit reading c d) h.digit;
   begins = λ begins. let b = h.begins begins in ends_runs c b.first b.more b.decomposes b.starter;
-  safe = λ safe. may_be_cut reading c (h.safe safe);
+  boundary = λ boundary. may_be_cut reading c (h.boundary boundary);
 }
 
 -- ---- what is kept is hidden in a collator's tables
@@ -124,7 +124,7 @@ serves reading c l h = record {
 elements_set : IsSet (List Element)
 elements_set = is_set (hlevel props)
 
-pub Serves-prop : (reading : Reading) (c : ℕ) (l : Letter) → IsProp (Serves reading c l)
+pub Serves-prop : (reading : Reading) (c : ℕ) (l : CharFacts) → IsProp (Serves reading c l)
 Serves-prop reading c l = hlevel (props, elements_set)
 
 -- what is found there serves

@@ -2,7 +2,7 @@
 use Rattle.std.specs.Prelude.{ℕ, List, ◌++◌}
 use Rattle.unicode_normalization.specs.Forms.{nfd}
 use Rattle.icu_entries.specs.Elements.{Element}
-use Rattle.icu_shortcuts.specs.SafeTables.{safe_reading}
+use Rattle.icu_shortcuts.specs.BoundaryTables.{boundary_reading}
 use Rattle.icu_elements.specs.TextElements.{Reading, elements_after}
 use Rattle.icu_cursor.specs.declared.cursor.ElementCursor.{ElementCursor}
 use Rattle.icu_cursor.specs.declared.cursor_tables.CursorTables.{CursorTables}
@@ -12,7 +12,7 @@ use Rattle.icu_cursor.specs.inner.Ready.{elements_ready}
 
 -- how texts are read
 unfoldable pub cursor_reading : CursorTables → Reading
-cursor_reading t = safe_reading t.places
+cursor_reading t = boundary_reading t.places
 
 -- the elements of the text that isn't read, after what was read before it
 abbrev pub elements_unread : {T : Type 0} → (T → List ℕ) → ElementCursor T → List Element

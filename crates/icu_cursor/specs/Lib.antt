@@ -1,3 +1,3 @@
 pub mod Cursors
-pub mod LetterCursors
+pub mod FactsCursors
 pub mod inner

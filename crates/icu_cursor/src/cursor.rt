@@ -7,24 +7,24 @@ ghost use Rattle.icu_cursor.specs.inner.Ready.{elements_ready, HasNothingLeft};
 
 use crate::cursor_tables::CursorTables;
 use crate::digit_run::read_number;
-use crate::letter_elements::LetterElements;
+use crate::char_elements::CharElements;
 use crate::piece::{Piece, next_of_piece, read_piece, split_piece};
-use crate::recent_letters::RecentLetters;
+use crate::last_characters::LastCharacters;
 use crate::stands::stands_before;
 use icu_encodings::EncodedText;
 use icu_entries::CollationElement;
-use icu_shortcuts::{Letter, LetterKind};
+use icu_shortcuts::{CharFacts, FactsKind};
 use std::alloc::AllocError;
 
 /// Reads an encoded text and gives its collation elements, one by one (UTS #10, "Produce Collation Element Arrays"). A
-/// letter that gives the same elements wherever it stands is read from what is kept of it; any other with what follows
+/// character that gives the same elements wherever it stands is read from what is kept of it; any other with what follows
 /// it up to the next character before which the text may be cut.
 #[derive(Drop)]
 pub struct ElementCursor<'c, 'd, T> {
     tables: &'c CursorTables<'d>,
     text: T,
-    recent: RecentLetters,
-    ready: LetterElements,
+    recent: LastCharacters,
+    ready: CharElements,
     piece: Option<Piece<'d>>,
     /// Whether all that was read was given. One flag, since it is asked before each element.
     at_text: bool,
@@ -33,7 +33,7 @@ pub struct ElementCursor<'c, 'd, T> {
 
 impl<'c, 'd, T: EncodedText> ElementCursor<'c, 'd, T> {
     ghost use Rattle.icu_cursor.specs.Cursors.{cursor_reading, cursor_gives};
-    ghost use Rattle.icu_shortcuts.specs.Letters.{IsNumberDigit};
+    ghost use Rattle.icu_shortcuts.specs.KeptFacts.{IsNumberDigit};
     ghost use Rattle.icu_cursor.specs.inner.Unread.{HasNothingReady};
     ghost use Rattle.icu_cursor.specs.inner.Standing.{Serves};
 
@@ -46,14 +46,14 @@ impl<'c, 'd, T: EncodedText> ElementCursor<'c, 'd, T> {
         ElementCursor {
             tables,
             text,
-            recent: RecentLetters::new(),
-            ready: LetterElements::none(),
+            recent: LastCharacters::new(),
+            ready: CharElements::none(),
             piece: None,
             at_text: true,
         }
     }
 
-    /// The next element, or `None` after the last one. Allocates only where a letter has to be read with what stands
+    /// The next element, or `None` after the last one. Allocates only where a character has to be read with what stands
     /// around it. Fails only where an allocation does; discard the cursor then.
     #[inline]
     pub fn next(&mut self) -> Result<Option<CollationElement>, AllocError>
@@ -72,7 +72,7 @@ impl<'c, 'd, T: EncodedText> ElementCursor<'c, 'd, T> {
         }
     }
 
-    /// The next of the elements of a letter.
+    /// The next of the elements of a character.
     #[inline(always)]
     fn take_ready(&mut self) -> Option<CollationElement>
         ensures next { cursor_gives T.text self.old
@@ -95,12 +95,12 @@ impl<'c, 'd, T: EncodedText> ElementCursor<'c, 'd, T> {
         let tables = self.tables;
         let (byte, rest) = self.text.split_first_ascii()?;
         let c = char::from(byte);
-        let letter = tables.kept_letter(c)?;
-        match letter.kind {
-            LetterKind::Starters if letter.count == 1 => {
+        let facts = tables.kept_facts(c)?;
+        match facts.kind {
+            FactsKind::Starters if facts.count == 1 => {
                 self.text = rest;
                 self.recent.push(c);
-                let elements = &letter.elements[..];
+                let elements = &facts.elements[..];
                 Some(elements[0])
             }
             _ => None,
@@ -127,7 +127,7 @@ impl<'c, 'd, T: EncodedText> ElementCursor<'c, 'd, T> {
         }
     }
 
-    /// The next element of what was read: of a letter's that stand ready, or of a piece's.
+    /// The next element of what was read: of a character's that stand ready, or of a piece's.
     #[inline(always)]
     fn take_read(&mut self) -> Result<Option<CollationElement>, AllocError>
         ensures next { IfOk result (λ next. cursor_gives T.text self.old
@@ -144,7 +144,7 @@ impl<'c, 'd, T: EncodedText> ElementCursor<'c, 'd, T> {
         self.take_of_piece()
     }
 
-    /// The next of the elements of a piece, where a letter has none left.
+    /// The next of the elements of a piece, where a character has none left.
     #[inline(always)]
     fn take_of_piece(&mut self) -> Result<Option<CollationElement>, AllocError>
         requires { elements_ready self.old.ready ≡ [] }
@@ -159,8 +159,8 @@ impl<'c, 'd, T: EncodedText> ElementCursor<'c, 'd, T> {
         Ok(next)
     }
 
-    /// Reads a letter by itself and gives its first element, or else begins the piece that it begins. `rest` is what
-    /// follows the letter.
+    /// Reads a character by itself and gives its first element, or else begins the piece that it begins. `rest` is what
+    /// follows the character.
     #[inline(always)]
     fn read_from(&mut self, c: char, rest: T) -> Result<Option<CollationElement>, AllocError>
         requires nothing { HasNothingReady self.old }
@@ -170,8 +170,8 @@ impl<'c, 'd, T: EncodedText> ElementCursor<'c, 'd, T> {
         ensures shorter { OnOk result (length (T.text self.new.text) ≤ length (T.text rest)) }
     {
         let tables = self.tables;
-        match tables.kept_letter(c) {
-            Some(letter) => self.read_letter(c, letter, rest),
+        match tables.kept_facts(c) {
+            Some(facts) => self.read_char(c, facts, rest),
             None => self.read_other(c, rest),
         }
     }
@@ -187,7 +187,7 @@ impl<'c, 'd, T: EncodedText> ElementCursor<'c, 'd, T> {
         ensures shorter { OnOk result (length (T.text self.new.text) ≤ length (T.text rest)) }
     {
         match self.tables.syllable(c) {
-            Some(letter) => self.read_letter(c, &letter, rest),
+            Some(facts) => self.read_char(c, &facts, rest),
             None => self.read_rare(c, rest),
         }
     }
@@ -201,33 +201,33 @@ impl<'c, 'd, T: EncodedText> ElementCursor<'c, 'd, T> {
             ≡ option_to_list first ++ cursor_gives T.text self.new) }
         ensures shorter { OnOk result (length (T.text self.new.text) ≤ length (T.text rest)) }
     {
-        let letter = self.tables.rare_letter(c);
-        self.read_letter(c, &letter, rest)
+        let facts = self.tables.rare_facts(c);
+        self.read_char(c, &facts, rest)
     }
 
-    /// Reads a letter of which this is known, by itself or with what stands around it.
+    /// Reads a character of which this is known, by itself or with what stands around it.
     #[inline(always)]
-    fn read_letter(
+    fn read_char(
         &mut self,
         c: char,
-        letter: &Letter,
+        facts: &CharFacts,
         rest: T,
     ) -> Result<Option<CollationElement>, AllocError>
         requires nothing { HasNothingReady self.old }
         requires text { T.text self.old.text ≡ c ∷ T.text rest }
-        requires letter { Serves (cursor_reading self.old.tables.now) c letter.now }
+        requires facts { Serves (cursor_reading self.old.tables.now) c facts.now }
         ensures next { IfOk result (λ first. cursor_gives T.text self.old
             ≡ option_to_list first ++ cursor_gives T.text self.new) }
         ensures shorter { OnOk result (length (T.text self.new.text) ≤ length (T.text rest)) }
     {
-        if stands_before(self.tables, letter, rest) {
+        if stands_before(self.tables, facts, rest) {
             self.text = rest;
             self.recent.push(c);
-            let first = self.ready.begin(letter);
+            let first = self.ready.begin(facts);
             self.at_text = self.ready.is_empty();
             return Ok(first);
         }
-        match letter.digit {
+        match facts.digit {
             Some(digit) => self.begin_number(c, digit, rest)?,
             None => self.begin_piece(c, rest)?,
         }
@@ -258,7 +258,7 @@ impl<'c, 'd, T: EncodedText> ElementCursor<'c, 'd, T> {
         }
     }
 
-    /// Reads the piece that a letter begins. Out of line: a function clears its large locals each time that it is
+    /// Reads the piece that a character begins. Out of line: a function clears its large locals each time that it is
     /// called, and a piece's reader is large.
     #[inline(never)]
     fn begin_piece(&mut self, c: char, rest: T) -> Result<(), AllocError>

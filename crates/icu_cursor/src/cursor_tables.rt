@@ -1,40 +1,40 @@
-//! What texts are read by, letter by letter.
+//! What texts are read by, character by character.
 
 ghost use Rattle.std.specs.Prelude.{◌≡◌, ℕ, IfSome, IsTrue};
 ghost use Rattle.icu_elements.specs.Reading.{reading_of};
-ghost use Rattle.icu_shortcuts.specs.Letters.{IsNumberDigit};
-ghost use Rattle.icu_shortcuts.specs.LetterTables.{AreLetters};
-ghost use Rattle.icu_shortcuts.specs.SafeTables.{safe_reading};
+ghost use Rattle.icu_shortcuts.specs.KeptFacts.{IsNumberDigit};
+ghost use Rattle.icu_shortcuts.specs.FactsTables.{AreFacts};
+ghost use Rattle.icu_shortcuts.specs.BoundaryTables.{boundary_reading};
 ghost use Rattle.icu_cursor.specs.inner.Places.{MayBeCut};
 ghost use Rattle.icu_cursor.specs.inner.MarkRuns.{IsInRun};
 ghost use Rattle.icu_cursor.specs.inner.Standing.{Serves};
 
 use icu_elements::TextReading;
-use icu_shortcuts::{Letter, Letters, SafePlaces, letter_of};
+use icu_shortcuts::{CharFacts, KeptFacts, Boundaries, facts_of};
 use std::alloc::Global;
 use unicode_normalization::Form;
 use unicode_normalization::char::{canonical_combining_class, decomposition};
 
-/// What texts are read by, letter by letter: the tables, and what is kept of the characters that are read most.
+/// What texts are read by, character by character: the tables, and what is kept of the characters that are read most.
 #[derive(Debug, Clone, Copy)]
 pub struct CursorTables<'d> {
-    places: SafePlaces<'d>,
-    letters: &'d Letters,
-    ghost letters_by: { ∥ AreLetters (safe_reading places) letters.now ∥₁ },
+    places: Boundaries<'d>,
+    kept_facts: &'d KeptFacts,
+    ghost facts_by: { ∥ AreFacts (boundary_reading places) kept_facts.now ∥₁ },
 }
 
 impl<'d> CursorTables<'d> {
     ghost use Rattle.icu_cursor.specs.Cursors.{cursor_reading};
 
-    /// Texts are read as those are whose safe places these are, and with letters that were worked out for them. Does
+    /// Texts are read as those are whose boundaries these are, and with facts of characters that were worked out for them. Does
     /// not allocate.
     #[inline(always)]
     #[tactic(auto, unfolding(crate::specs::Cursors::cursor_reading))]
-    pub fn new(places: SafePlaces<'d>, letters: &'d Letters) -> CursorTables<'d>
-        requires { AreLetters (safe_reading places) letters.now }
-        ensures { cursor_reading result ≡ safe_reading places.entry }
+    pub fn new(places: Boundaries<'d>, kept_facts: &'d KeptFacts) -> CursorTables<'d>
+        requires { AreFacts (boundary_reading places) kept_facts.now }
+        ensures { cursor_reading result ≡ boundary_reading places.entry }
     {
-        CursorTables { places, letters }
+        CursorTables { places, kept_facts }
     }
 
     /// How the texts are read.
@@ -55,8 +55,8 @@ impl<'d> CursorTables<'d> {
     /// Before which characters the texts may be cut.
     #[inline]
     #[tactic(auto, unfolding(crate::specs::Cursors::cursor_reading))]
-    pub fn places(&self) -> &SafePlaces<'d>
-        ensures { safe_reading result.now ≡ cursor_reading self.now }
+    pub fn places(&self) -> &Boundaries<'d>
+        ensures { boundary_reading result.now ≡ cursor_reading self.now }
     {
         &self.places
     }
@@ -64,10 +64,10 @@ impl<'d> CursorTables<'d> {
     /// What is kept of a character, if it is one of those that are read most.
     #[inline]
     #[tactic(auto, unfolding(crate::specs::Cursors::cursor_reading))]
-    pub(crate) fn kept_letter(&self, c: char) -> Option<&Letter>
+    pub(crate) fn kept_facts(&self, c: char) -> Option<&CharFacts>
         ensures { IfSome result (λ l. Serves (cursor_reading self.now) c l.now) }
     {
-        self.letters.get(c)
+        self.kept_facts.get(c)
     }
 
     /// The value that a digit has in a number, if it is one of those that are read most.
@@ -75,35 +75,35 @@ impl<'d> CursorTables<'d> {
     pub(crate) fn digit(&self, c: char) -> Option<u8>
         ensures { IfSome result (λ d. IsNumberDigit (cursor_reading self.now) c d) }
     {
-        let letter = self.kept_letter(c)?;
-        letter.digit
+        let facts = self.kept_facts(c)?;
+        facts.digit
     }
 
     /// What is known of a character that is neither among those that are read most nor a Hangul syllable.
     #[tactic(auto, unfolding(crate::specs::Cursors::cursor_reading))]
-    pub(crate) fn rare_letter(&self, c: char) -> Letter
+    pub(crate) fn rare_facts(&self, c: char) -> CharFacts
         ensures { Serves (cursor_reading self.now) c result }
     {
-        letter_of(&self.places, c)
+        facts_of(&self.places, c)
     }
 
     /// What is known of a Hangul syllable, where each of its jamo has one element wherever it stands.
     #[inline(always)]
     #[tactic(auto, unfolding(crate::specs::Cursors::cursor_reading))]
-    pub(crate) fn syllable(&self, c: char) -> Option<Letter>
+    pub(crate) fn syllable(&self, c: char) -> Option<CharFacts>
         ensures { IfSome result (λ l. Serves (cursor_reading self.now) c l) }
     {
-        self.letters.syllable(c)
+        self.kept_facts.syllable(c)
     }
 
     /// Whether a text may be cut before this character. False says nothing.
     #[tactic(auto, unfolding(crate::specs::Cursors::cursor_reading))]
-    pub(crate) fn is_safe(&self, c: char) -> bool
+    pub(crate) fn has_boundary_before(&self, c: char) -> bool
         ensures { IsTrue result → MayBeCut (cursor_reading self.now) c }
     {
-        match self.kept_letter(c) {
-            Some(letter) => letter.is_safe,
-            None => self.places.is_safe(c),
+        match self.kept_facts(c) {
+            Some(facts) => facts.has_boundary_before,
+            None => self.places.has_boundary_before(c),
         }
     }
 
@@ -113,8 +113,8 @@ impl<'d> CursorTables<'d> {
     pub(crate) fn class_in_run(&self, c: char) -> Option<u8>
         ensures { IfSome result (λ class. IsInRun c class) }
     {
-        if let Some(letter) = self.kept_letter(c) {
-            if letter.begins_with_starter {
+        if let Some(facts) = self.kept_facts(c) {
+            if facts.begins_with_starter {
                 return Some(0);
             }
         }

@@ -2,12 +2,12 @@
 
 ghost use Rattle.std.specs.Prelude.{◌≡◌, ◌<◌, ◌≤◌, ◌∷◌, [], ◌++◌, ℕ, None, Some, All, IfOk, IfSome, OnOk, length, option_to_list};
 ghost use Rattle.icu_elements.specs.TextElements.{number_elements};
-ghost use Rattle.icu_shortcuts.specs.Letters.{IsNumberDigit};
+ghost use Rattle.icu_shortcuts.specs.KeptFacts.{IsNumberDigit};
 ghost use Rattle.icu_cursor.specs.Cursors.{cursor_reading};
 ghost use Rattle.icu_cursor.specs.inner.NumberElements.{BeginsWithDigit, IsDigitRun, IsNumberPiece, number_left};
 
 use crate::cursor_tables::CursorTables;
-use crate::stands::begins_safely;
+use crate::stands::begins_at_boundary;
 use icu_encodings::EncodedText;
 use icu_entries::CollationElement;
 use icu_numbers::digit_run_weights;
@@ -101,7 +101,7 @@ pub(crate) fn read_number<T: EncodedText>(
     let mut digits = Digits::new(alloc);
     digits.push(first)?;
     let rest = push_run(tables, &mut digits, text)?;
-    if !begins_safely(tables, rest) {
+    if !begins_at_boundary(tables, rest) {
         return Ok(None);
     }
     let number = NumberElements::of_digits(alloc, lead, digits.as_slice())?;

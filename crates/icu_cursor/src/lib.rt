@@ -1,16 +1,16 @@
-//! The collation elements of an encoded text, one by one (UTS #10, "Produce Collation Element Arrays"): letters that
+//! The collation elements of an encoded text, one by one (UTS #10, "Produce Collation Element Arrays"): characters that
 //! stand by themselves are read from what is kept of them, and all else piece by piece.
 #![tactic(auto)]
 
 pub mod cursor;
 pub mod cursor_tables;
 mod digit_run;
-pub mod letter_cursor;
-mod letter_elements;
+pub mod facts_cursor;
+mod char_elements;
 mod piece;
-mod recent_letters;
+mod last_characters;
 mod stands;
 
 pub use cursor::ElementCursor;
 pub use cursor_tables::CursorTables;
-pub use letter_cursor::LetterCursor;
+pub use facts_cursor::FactsCursor;

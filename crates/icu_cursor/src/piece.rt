@@ -1,4 +1,4 @@
-//! A piece of a text, up to the next safe place.
+//! A piece of a text, up to the next boundary.
 
 ghost use Rattle.std.specs.Prelude.{◌≡◌, ◌≤◌, ◌∷◌, [], ◌++◌, None, length, IfOk, option_to_list};
 ghost use Rattle.unicode_normalization.specs.Forms.{nfd};
@@ -10,7 +10,7 @@ ghost use Rattle.icu_cursor.specs.inner.Pieces.{IsPiece, begun_gives, piece_give
 
 use crate::cursor_tables::CursorTables;
 use crate::digit_run::NumberElements;
-use crate::recent_letters::RecentLetters;
+use crate::last_characters::LastCharacters;
 use icu_elements::ElementReader;
 use icu_encodings::EncodedText;
 use icu_entries::CollationElement;
@@ -41,7 +41,7 @@ pub(crate) fn split_piece<T: EncodedText>(
     piece.push(first)?;
     let mut rest = text;
     'chars: while let Some((c, after)) = rest.split_first_char() {
-        if tables.is_safe(c) {
+        if tables.has_boundary_before(c) {
             return Ok((piece, rest));
         }
         piece.push(c)?;
@@ -53,7 +53,7 @@ pub(crate) fn split_piece<T: EncodedText>(
 /// Reads the elements of a piece that comes after these characters.
 pub(crate) fn read_piece<'d>(
     tables: &CursorTables<'d>,
-    before: RecentLetters,
+    before: LastCharacters,
     piece: &[char],
 ) -> Result<Piece<'d>, AllocError>
     ensures { IfOk result (λ p. begun_gives p

@@ -1,14 +1,14 @@
-//! Whether a letter may be read by itself.
+//! Whether a character may be read by itself.
 
 ghost use Rattle.std.specs.Prelude.{ℕ, IsTrue};
 ghost use Rattle.icu_cursor.specs.Cursors.{cursor_reading};
-ghost use Rattle.icu_cursor.specs.inner.Places.{BeginsSafely};
+ghost use Rattle.icu_cursor.specs.inner.Places.{BeginsAtBoundary};
 ghost use Rattle.icu_cursor.specs.inner.MarkRuns.{Rises};
 ghost use Rattle.icu_cursor.specs.inner.Standing.{Serves, StandsBefore};
 
 use crate::cursor_tables::CursorTables;
 use icu_encodings::EncodedText;
-use icu_shortcuts::{Letter, LetterKind};
+use icu_shortcuts::{CharFacts, FactsKind};
 
 /// How many marks of a run are looked at, at most. A longer run is read as a piece, so that no mark is looked at more
 /// often than this.
@@ -55,30 +55,30 @@ fn rises<T: EncodedText>(tables: &CursorTables<'_>, class: u8, text: T) -> bool
 
 /// Whether a text ends, or may be cut before its first character. False says nothing.
 #[inline(never)]
-pub(crate) fn begins_safely<T: EncodedText>(tables: &CursorTables<'_>, text: T) -> bool
-    ensures { IsTrue result → BeginsSafely (cursor_reading tables.now) (T.text text) }
+pub(crate) fn begins_at_boundary<T: EncodedText>(tables: &CursorTables<'_>, text: T) -> bool
+    ensures { IsTrue result → BeginsAtBoundary (cursor_reading tables.now) (T.text text) }
 {
     match text.split_first_char() {
-        Some((c, _)) => tables.is_safe(c),
+        Some((c, _)) => tables.has_boundary_before(c),
         None => true,
     }
 }
 
-/// Whether a letter gives its own elements before a text, and changes nothing of the text's. False says
+/// Whether a character gives its own elements before a text, and changes nothing of the text's. False says
 /// nothing.
 #[inline(always)]
 pub(crate) fn stands_before<T: EncodedText>(
     tables: &CursorTables<'_>,
-    letter: &Letter,
+    facts: &CharFacts,
     text: T,
 ) -> bool
-    ensures { (c : ℕ) → Serves (cursor_reading tables.now) c letter.now
-        → IsTrue result → StandsBefore (cursor_reading tables.now) c letter.now (T.text text) }
+    ensures { (c : ℕ) → Serves (cursor_reading tables.now) c facts.now
+        → IsTrue result → StandsBefore (cursor_reading tables.now) c facts.now (T.text text) }
 {
-    match letter.kind {
-        LetterKind::Unknown => false,
-        LetterKind::Starters => true,
-        LetterKind::Marked | LetterKind::Mark => rises(tables, letter.class, text),
-        LetterKind::Base => begins_safely(tables, text),
+    match facts.kind {
+        FactsKind::Unknown => false,
+        FactsKind::Starters => true,
+        FactsKind::Marked | FactsKind::Mark => rises(tables, facts.class, text),
+        FactsKind::Base => begins_at_boundary(tables, text),
     }
 }

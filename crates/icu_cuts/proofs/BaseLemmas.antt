@@ -1,4 +1,4 @@
--- A base of contractions before a starter that none of its rows names.
+-- A base of contractions before a starter that none of its mappings names.
 use Rattle.std.proofs.Common.{length, ◌≤◌, arith, ◌≡◌, ℕ, true, false, ◌&&◌, List, [], ◌∷◌, ◌++◌, is_some, refl, sym, ap, ◌∙◌}
 use Rattle.unicode_normalization.specs.Order.{is_starter}
 use Rattle.icu_entries.specs.declared.entry.EntryKind.{EntryKind}
@@ -38,7 +38,7 @@ match_of-unnamed h before text x more p starter unnamed =
     ∙ match_from-unnamed h text x more starter unnamed
     ∙ ap (λ e. and_then (match_from h.home e text) (x ∷ more)) (sym same)
 
--- only the base's own rows matter
+-- only the base's own mappings matter
 pub base_step : (reading : Reading) (before : List ℕ) (c : ℕ) (text : List ℕ) (x : ℕ) (more : List ℕ) → has_prefix reading.tables c ≡ false → is_starter x ≡ true
     → is_named_in x (context_of (entry_of reading.tables c)) ≡ false → (is_some reading.numeric && continues_number reading.tables x) ≡ false
     → step reading before c (text ++ x ∷ more) ≡ and_more (step reading before c text) (x ∷ more)

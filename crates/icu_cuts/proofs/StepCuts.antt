@@ -1,4 +1,4 @@
--- Before a starter that no row names, a step, and the elements of a text, don't look past it.
+-- Before a starter that no mapping names, a step, and the elements of a text, don't look past it.
 use Rattle.std.proofs.Common.{◌≡◌, ℕ, zero, suc, ◌≤◌, Bool, true, false, not, ◌&&◌, ◌==◌, List, [], ◌∷◌, ◌++◌, length, drop, take, take_while, reverse, map, Option, Some, None, is_some, if◌then◌else◌, refl, sym, ap, ◌∙◌, arith, inl, inr, append_assoc, length-append, cond}
 use Rattle.std.proofs.lemmas.Bool.{cases_Bool, or_from, eqb-true, true≢false}
 use Rattle.std.proofs.lemmas.List.{drop-append-le, reverse-append}
@@ -14,7 +14,7 @@ use Rattle.icu_provider.specs.Tables.{Tables, is_jamo, tailored_entry, entry_of,
 use Rattle.icu_matches.specs.Matches.{Match, after_prefix, match_of, match_from}
 use Rattle.icu_elements.specs.TextElements.{Reading, Step, is_diacritic_above, is_silent_dot, continues_number, digit_of_char, begins_with_mark, number_elements, number_step, entry_step, step, consumed, matched_step, last_two, elements_along, elements_after, elements_of}
 use Rattle.icu_elements.proofs.Computing.{icu_elements}
-use Rattle.icu_cuts.specs.Cuts.{cut, is_named, is_named_by_tailoring, is_prefix_kind, has_prefix, IsSafe}
+use Rattle.icu_cuts.specs.Cuts.{cut, is_named, is_named_by_tailoring, is_prefix_kind, has_prefix, IsBoundary}
 use Rattle.icu_cuts.proofs.MatchCuts.{same_cut, cut-append, match_of-append, match_of-same}
 use Rattle.icu_matches.specs.MatchesAhead.{and_then}
 use Rattle.icu_matches.proofs.ChoiceLemmas.{either as either_of, either_by, maybe_by, nil_by, digit_by}
@@ -92,14 +92,14 @@ tailored_home x root None own f h t g = h
 tailored_home x root (Some d) own f h t g = g d t
 
 -- the home of a character's entry doesn't name x
-unnamed_home : (reading : Reading) (x c : ℕ) → IsSafe reading x → is_named x (entry_of reading.tables c).home ≡ false
+unnamed_home : (reading : Reading) (x c : ℕ) → IsBoundary reading x → is_named x (entry_of reading.tables c).home ≡ false
 unfolding entry_of
-unnamed_home reading x c safe =
+unnamed_home reading x c boundary =
     let t = reading.tables in
     let unnamed : HomedEntry → Type 0 = λ h. is_named x h.home ≡ false in
-    either_of unnamed (is_jamo c) _ _ safe.root
-    (tailored_home x t.root t.tailoring (homed t.root (t.root.value c)) (λ d. tailored_entry t.root d c) safe.root safe.tailoring
-    (λ d h. either_of unnamed (d.value c == 0xC0) (homed t.root (t.root.value c)) (homed d (d.value c)) safe.root h))
+    either_of unnamed (is_jamo c) _ _ boundary.root
+    (tailored_home x t.root t.tailoring (homed t.root (t.root.value c)) (λ d. tailored_entry t.root d c) boundary.root boundary.tailoring
+    (λ d h. either_of unnamed (d.value c == 0xC0) (homed t.root (t.root.value c)) (homed d (d.value c)) boundary.root h))
 
 -- where its match doesn't look past x, nor does the step
 pub step-by_match : (reading : Reading) (before : List ℕ) (c : ℕ) (text : List ℕ) (x : ℕ) (more : List ℕ) → is_starter x ≡ true → (is_some reading.numeric && continues_number reading.tables x) ≡ false
@@ -118,19 +118,19 @@ step-by_match reading before c text x more starter no_number same =
     (ap (entry_step reading h.home c) same
     ∙ entry_step-append reading h.home c x (match_of h before text) more starter no_number)
 
-pub step-append : (reading : Reading) (before : List ℕ) (c : ℕ) (text : List ℕ) (x : ℕ) (more : List ℕ) → IsSafe reading x → step reading before c (text ++ x ∷ more) ≡ and_more (step reading before c text) (x ∷ more)
-step-append reading before c text x more safe =
-    step-by_match reading before c text x more safe.starter safe.no_number
-    (match_of-append x (entry_of reading.tables c) before text more safe.starter (unnamed_home reading x c safe))
+pub step-append : (reading : Reading) (before : List ℕ) (c : ℕ) (text : List ℕ) (x : ℕ) (more : List ℕ) → IsBoundary reading x → step reading before c (text ++ x ∷ more) ≡ and_more (step reading before c text) (x ∷ more)
+step-append reading before c text x more boundary =
+    step-by_match reading before c text x more boundary.starter boundary.no_number
+    (match_of-append x (entry_of reading.tables c) before text more boundary.starter (unnamed_home reading x c boundary))
 
 -- ---- the context before x doesn't matter
 
 step-matched : (reading : Reading) (p q : List ℕ) (c : ℕ) (text : List ℕ) → match_of (entry_of reading.tables c) p text ≡ match_of (entry_of reading.tables c) q text → step reading p c text ≡ step reading q c text
 step-matched reading p q c text h = ap (matched_step reading c text) h
 
-pub step-same : (reading : Reading) (x : ℕ) (p q : List ℕ) (c : ℕ) (text : List ℕ) → IsSafe reading x → cut x p ≡ cut x q → step reading p c text ≡ step reading q c text
-step-same reading x p q c text safe same =
-    step-matched reading p q c text (match_of-same x (entry_of reading.tables c) p q text (unnamed_home reading x c safe) same)
+pub step-same : (reading : Reading) (x : ℕ) (p q : List ℕ) (c : ℕ) (text : List ℕ) → IsBoundary reading x → cut x p ≡ cut x q → step reading p c text ≡ step reading q c text
+step-same reading x p q c text boundary same =
+    step-matched reading p q c text (match_of-same x (entry_of reading.tables c) p q text (unnamed_home reading x c boundary) same)
 
 cut-take : (x n : ℕ) (p : List ℕ) → cut x (take n p) ≡ take n (cut x p)
 unfolding cut
@@ -145,15 +145,15 @@ cut-take x (suc n) (c ∷ cs) =
 pub cut-last_two : (x : ℕ) (p q chars : List ℕ) → cut x (reverse chars ++ p) ≡ cut x (reverse chars ++ q) → cut x (last_two p chars) ≡ cut x (last_two q chars)
 cut-last_two x p q chars h = cut-take x 2 (reverse chars ++ p) ∙ ap (take 2) h ∙ sym (cut-take x 2 (reverse chars ++ q))
 
-pub elements_along-same : (reading : Reading) (x : ℕ) (along p q text : List ℕ) → IsSafe reading x → cut x p ≡ cut x q → elements_along along reading p text ≡ elements_along along reading q text
+pub elements_along-same : (reading : Reading) (x : ℕ) (along p q text : List ℕ) → IsBoundary reading x → cut x p ≡ cut x q → elements_along along reading p text ≡ elements_along along reading q text
 unfolding elements_along
-elements_along-same reading x along p q [] safe same = refl
-elements_along-same reading x [] p q (c ∷ text) safe same = refl
-elements_along-same reading x (_ ∷ along) p q (c ∷ text) safe same =
+elements_along-same reading x along p q [] boundary same = refl
+elements_along-same reading x [] p q (c ∷ text) boundary same = refl
+elements_along-same reading x (_ ∷ along) p q (c ∷ text) boundary same =
     let s = step reading p c text in
     let after = cut-last_two x p q (consumed c s) (same_cut x (reverse (consumed c s)) p q same) in
-    ap (λ (es : List Element). s.elements ++ es) (elements_along-same reading x along (last_two p (consumed c s)) (last_two q (consumed c s)) s.rest safe after)
-    ∙ ap (λ (s : Step). s.elements ++ elements_along along reading (last_two q (consumed c s)) s.rest) (step-same reading x p q c text safe same)
+    ap (λ (es : List Element). s.elements ++ es) (elements_along-same reading x along (last_two p (consumed c s)) (last_two q (consumed c s)) s.rest boundary after)
+    ∙ ap (λ (s : Step). s.elements ++ elements_along along reading (last_two q (consumed c s)) s.rest) (step-same reading x p q c text boundary same)
 
 -- ---- the elements of the whole
 
@@ -175,43 +175,43 @@ cut_taken x suffix p q =
     ap (cut x) (split p) ∙ cut-append x (reverse suffix) p ∙ sym (cut-append x (reverse suffix) q) ∙ ap (cut x) (sym (split q))
 
 -- the step at x is the same after any context
-pub step-at : (reading : Reading) (p q : List ℕ) (x : ℕ) (more : List ℕ) → IsSafe reading x → step reading p x more ≡ step reading q x more
-step-at reading p q x more safe = step-matched reading p q x more (match_of-unprefixed reading.tables x p q more safe.no_prefix)
+pub step-at : (reading : Reading) (p q : List ℕ) (x : ℕ) (more : List ℕ) → IsBoundary reading x → step reading p x more ≡ step reading q x more
+step-at reading p q x more boundary = step-matched reading p q x more (match_of-unprefixed reading.tables x p q more boundary.no_prefix)
 
 -- x and what follows give the same after any context
-pub elements_along-at : (reading : Reading) (x : ℕ) (along p q more : List ℕ) → IsSafe reading x → elements_along along reading p (x ∷ more) ≡ elements_along along reading q (x ∷ more)
+pub elements_along-at : (reading : Reading) (x : ℕ) (along p q more : List ℕ) → IsBoundary reading x → elements_along along reading p (x ∷ more) ≡ elements_along along reading q (x ∷ more)
 unfolding elements_along
-elements_along-at reading x [] p q more safe = refl
-elements_along-at reading x (_ ∷ along) p q more safe =
+elements_along-at reading x [] p q more boundary = refl
+elements_along-at reading x (_ ∷ along) p q more boundary =
     let s = step reading p x more in
-    let same = step-at reading p q x more safe in
+    let same = step-at reading p q x more boundary in
     let after = cut-last_two x p q (consumed x s) (cut_taken x s.suffix p q) in
-    ap (λ (es : List Element). s.elements ++ es) (elements_along-same reading x along (last_two p (consumed x s)) (last_two q (consumed x s)) s.rest safe after)
+    ap (λ (es : List Element). s.elements ++ es) (elements_along-same reading x along (last_two p (consumed x s)) (last_two q (consumed x s)) s.rest boundary after)
     ∙ ap (λ (s : Step). s.elements ++ elements_along along reading (last_two q (consumed x s)) s.rest) same
 
-pub elements_after-at : (reading : Reading) (p q : List ℕ) (x : ℕ) (more : List ℕ) → IsSafe reading x → elements_after reading p (x ∷ more) ≡ elements_after reading q (x ∷ more)
+pub elements_after-at : (reading : Reading) (p q : List ℕ) (x : ℕ) (more : List ℕ) → IsBoundary reading x → elements_after reading p (x ∷ more) ≡ elements_after reading q (x ∷ more)
 unfolding elements_after
-elements_after-at reading p q x more safe = elements_along-at reading x (x ∷ more) p q more safe
+elements_after-at reading p q x more boundary = elements_along-at reading x (x ∷ more) p q more boundary
 
-elements_along-append : (reading : Reading) (along before text : List ℕ) (x : ℕ) (more : List ℕ) → IsSafe reading x → length (text ++ x ∷ more) ≤ length along
+elements_along-append : (reading : Reading) (along before text : List ℕ) (x : ℕ) (more : List ℕ) → IsBoundary reading x → length (text ++ x ∷ more) ≤ length along
     → elements_along along reading before (text ++ x ∷ more) ≡ elements_along along reading before text ++ elements_of reading (x ∷ more)
 unfolding elements_along elements_after
-elements_along-append reading along before [] x more safe fits =
-    elements_along-at reading x along before [] more safe
+elements_along-append reading along before [] x more boundary fits =
+    elements_along-at reading x along before [] more boundary
     ∙ elements_along-enough reading along (x ∷ more) [] (x ∷ more) fits (omega arith)
-elements_along-append reading [] before (c ∷ text) x more safe fits = absurd (omega arith)
-elements_along-append reading (_ ∷ along) before (c ∷ text) x more safe fits =
+elements_along-append reading [] before (c ∷ text) x more boundary fits = absurd (omega arith)
+elements_along-append reading (_ ∷ along) before (c ∷ text) x more boundary fits =
     let s = step reading before c text in
     let shorter = (Rests-step reading before c text).fits in
     let room : length (s.rest ++ x ∷ more) ≤ length along = omega (arith, shorter, length-append s.rest (x ∷ more), length-append text (x ∷ more)) in
-    ap (λ (s : Step). s.elements ++ elements_along along reading (last_two before (consumed c s)) s.rest) (step-append reading before c text x more safe)
-    ∙ ap (λ (es : List Element). s.elements ++ es) (elements_along-append reading along (last_two before (consumed c s)) s.rest x more safe room)
+    ap (λ (s : Step). s.elements ++ elements_along along reading (last_two before (consumed c s)) s.rest) (step-append reading before c text x more boundary)
+    ∙ ap (λ (es : List Element). s.elements ++ es) (elements_along-append reading along (last_two before (consumed c s)) s.rest x more boundary room)
     ∙ sym (append_assoc s.elements (elements_along along reading (last_two before (consumed c s)) s.rest) (elements_of reading (x ∷ more)))
 
--- the elements of a decomposed text that is cut at a safe place
-pub elements_after-append : (reading : Reading) (before text : List ℕ) (x : ℕ) (more : List ℕ) → IsSafe reading x
+-- the elements of a decomposed text that is cut at a boundary
+pub elements_after-append : (reading : Reading) (before text : List ℕ) (x : ℕ) (more : List ℕ) → IsBoundary reading x
     → elements_after reading before (text ++ x ∷ more) ≡ elements_after reading before text ++ elements_of reading (x ∷ more)
 unfolding elements_after
-elements_after-append reading before text x more safe =
-    elements_along-append reading (text ++ x ∷ more) before text x more safe (omega arith)
+elements_after-append reading before text x more boundary =
+    elements_along-append reading (text ++ x ∷ more) before text x more boundary (omega arith)
     ∙ ap (λ (es : List Element). es ++ elements_of reading (x ∷ more)) (elements_along-enough reading (text ++ x ∷ more) text before text (omega (arith, length-append text (x ∷ more))) (omega arith))

@@ -12,7 +12,7 @@ use Rattle.icu_elements.specs.TextElements.{Reading, non_numeric_reading, elemen
 use Rattle.icu_elements.proofs.Computing.{icu_elements}
 use Rattle.icu_elements.proofs.WorkedReadings.{mini, ring, two_marks, prefixed, numeric}
 use Rattle.icu_cuts.specs.Alone.{is_alone, stays_before, stays_first, run_ascends, all_stay}
-use Rattle.icu_cuts.specs.Cuts.{IsSafe, cut, is_named_by_tailoring}
+use Rattle.icu_cuts.specs.Cuts.{IsBoundary, cut, is_named_by_tailoring}
 use Rattle.icu_cuts.specs.LeftContexts.{context_along, context_left}
 
 unfoldable cuts : Unit {0}
@@ -32,14 +32,14 @@ digit_alone : is_alone (non_numeric_reading mini) 50 ≡ true
 unfolding cuts
 digit_alone = refl
 
-letter_safe : IsSafe (numeric two_marks) 98
+letter_boundary : IsBoundary (numeric two_marks) 98
 unfolding cuts
-letter_safe = record { starter = refl; root = refl; tailoring = refl; no_prefix = refl; no_number = refl }
+letter_boundary = record { starter = refl; root = refl; tailoring = refl; no_prefix = refl; no_number = refl }
 
--- a base of contractions is safe itself
-base_safe : IsSafe (numeric two_marks) 97
+-- a base of contractions is a boundary itself
+base_boundary : IsBoundary (numeric two_marks) 97
 unfolding cuts
-base_safe = record { starter = refl; root = refl; tailoring = refl; no_prefix = refl; no_number = refl }
+base_boundary = record { starter = refl; root = refl; tailoring = refl; no_prefix = refl; no_number = refl }
 
 -- a syllable before a mark
 syllable_stays : all_stay (decompose Nfd 0xAC01) (0x301 ∷ []) ≡ true
@@ -96,7 +96,7 @@ prefix_parts : elements_in (non_numeric_reading prefixed) (97 ∷ 98 ∷ []) ++ 
 unfolding cuts
 prefix_parts = refl
 
--- a character that a row of prefixes names, with a plain entry of its own: b in "abc"
+-- a character that a mapping of prefixes names, with a plain entry of its own: b in "abc"
 named_part : elements_in (non_numeric_reading prefixed) (97 ∷ []) ++ elements_in (non_numeric_reading prefixed) (98 ∷ 99 ∷ []) ≡ of_primary 0x61100000 ∷ of_primary 0x61140000 ∷ of_primary 0x61180000 ∷ []
 unfolding cuts
 named_part = refl
@@ -123,10 +123,10 @@ context_of_piece : context_left (non_numeric_reading mini) [] (98 ∷ []) ≡ 98
 unfolding cuts
 context_of_piece = refl
 
--- a context with an empty row, which the conditions on tables refuse: the row is chosen, not the default
-empty_row : contracted (record { default = 1; rows = record { chars = []; entry = 2 } ∷ [] }) (98 ∷ []) ≡ record { entry = 2; suffix = []; rest = 98 ∷ [] }
+-- a context with an empty mapping, which the conditions on tables refuse: the mapping is chosen, not the default
+empty_mapping : contracted (record { default = 1; mappings = record { chars = []; entry = 2 } ∷ [] }) (98 ∷ []) ≡ record { entry = 2; suffix = []; rest = 98 ∷ [] }
 unfolding cuts
-empty_row = refl
+empty_mapping = refl
 
 -- two digits before a letter
 two_digits : elements_in (numeric mini) (50 ∷ 56 ∷ 97 ∷ []) ≡ of_primary 0xF1E0000 ∷ of_primary 0x61100000 ∷ []
@@ -142,7 +142,7 @@ mark_after_last : elements_in (numeric mini) (50 ∷ 56 ∷ 0x301 ∷ []) ≡ of
 unfolding cuts
 mark_after_last = refl
 
--- a letter of one element that isn't zero may end with a mark: the acute's is zero here, and a row of the dot below
+-- a letter of one element that isn't zero may end with a mark: the acute's is zero here, and a mapping of the dot below
 -- names it
 abbrev zero_element : Element
 zero_element = record { primary = 0; secondary = 0; lower = 0 }
@@ -154,7 +154,7 @@ silent_acute = record mini {
     value = λ x. if x == 0x301 then 0 else if x == 0x323 then 0xC9 else 0xC0;
     elements = [];
     entries = [];
-    contexts = record { default = 0x61180505; rows = record { chars = 0x301 ∷ []; entry = 0x611E0505 } ∷ [] } ∷ [];
+    contexts = record { default = 0x61180505; mappings = record { chars = 0x301 ∷ []; entry = 0x611E0505 } ∷ [] } ∷ [];
   });
 }
 

@@ -6,7 +6,7 @@ use Rattle.unicode_normalization.specs.Order.{is_starter}
 use Rattle.icu_entries.specs.declared.entry.EntryKind.{EntryKind}
 use Rattle.icu_entries.specs.declared.entry.EntryKind.TheVariants.{Prefix}
 use Rattle.icu_entries.specs.Entries.{kind_of}
-use Rattle.icu_data.specs.Data.{Row, Context, Data}
+use Rattle.icu_data.specs.Data.{Mapping, Context, Data}
 use Rattle.icu_provider.specs.Tables.{Tables, entry_of}
 use Rattle.icu_elements.specs.TextElements.{Reading, continues_number}
 
@@ -15,19 +15,19 @@ unfoldable pub cut : ℕ → List ℕ → List ℕ
 cut x [] = []
 cut x (c ∷ cs) = if c == x then [] else c ∷ cut x cs
 
--- a row names the character
-abbrev pub names : ℕ → Row → Bool
-names x row = list_any (λ c. c == x) row.chars
+-- a mapping names the character
+abbrev pub names : ℕ → Mapping → Bool
+names x mapping = list_any (λ c. c == x) mapping.chars
 
--- a row of a context does
+-- a mapping of a context does
 abbrev pub is_named_in : ℕ → Context → Bool
-is_named_in x context = list_any (names x) context.rows
+is_named_in x context = list_any (names x) context.mappings
 
--- a row of one of its contexts names the character
+-- a mapping of one of its contexts names the character
 abbrev pub is_named : ℕ → Data → Bool
 is_named x home = list_any (is_named_in x) home.contexts
 
--- a row of the tailoring does, where there is one
+-- a mapping of the tailoring does, where there is one
 abbrev pub is_named_by_tailoring : ℕ → Option Data → Bool
 is_named_by_tailoring x None = false
 is_named_by_tailoring x (Some d) = is_named x d
@@ -41,8 +41,8 @@ is_prefix_kind _ = false
 abbrev pub has_prefix : Tables → ℕ → Bool
 has_prefix tables c = is_prefix_kind (kind_of (entry_of tables c).entry)
 
--- A safe place: a decomposed text may be cut before the character, whatever stands before and after it.
-pub record IsSafe (reading : Reading) (x : ℕ) : Type 0 where
+-- A boundary: a decomposed text may be cut before the character, whatever stands before and after it.
+pub record IsBoundary (reading : Reading) (x : ℕ) : Type 0 where
   pub starter : is_starter x ≡ true
   pub root : is_named x reading.tables.root ≡ false
   pub tailoring : is_named_by_tailoring x reading.tables.tailoring ≡ false

@@ -1,4 +1,4 @@
--- The context that a text leaves, and contexts that what follows a safe character can't tell apart.
+-- The context that a text leaves, and contexts that what follows a boundary can't tell apart.
 use Rattle.std.specs.Prelude.{ℕ, ◌≡◌, List, [], ◌∷◌}
 use Rattle.icu_elements.specs.TextElements.{Reading, step, consumed, last_two}
 use Rattle.icu_cuts.specs.Cuts.{cut}

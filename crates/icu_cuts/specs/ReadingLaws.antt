@@ -12,7 +12,7 @@ use Rattle.icu_provider.specs.Tables.{entry_of}
 use Rattle.icu_elements.specs.TextElements.{Reading, continues_number, digit_of_char, begins_with_mark, number_elements, step, consumed, last_two, elements_after, elements_of}
 use Rattle.icu_elements.specs.ReadAhead.{IsEnough, HasWholeStep}
 use Rattle.icu_cuts.specs.Alone.{elements_by_char, elements_of_char, is_alone, context_after, stays_first, all_stay}
-use Rattle.icu_cuts.specs.Cuts.{IsSafe, has_prefix, is_named_in, ends_run}
+use Rattle.icu_cuts.specs.Cuts.{IsBoundary, has_prefix, is_named_in, ends_run}
 use Rattle.icu_cuts.specs.LeftContexts.{context_left}
 
 -- the elements of a text are those of one step, and of what it leaves
@@ -47,23 +47,23 @@ LoneMarksAreReadAlone =
     (reading : Reading) (before : List ℕ) (m : ℕ) (cs : List ℕ) → decompose Nfd m ≡ m ∷ [] → stays_first m (flat_map (decompose Nfd) cs) ≡ true → is_alone reading m ≡ true
     → elements_after reading before (nfd (m ∷ cs)) ≡ elements_of_char reading.tables m ++ elements_after reading (last_two before (m ∷ [])) (nfd cs)
 
--- a text is cut before a character whose decomposition begins with a safe one
-abbrev pub TextsCutAtSafePlaces : Type 0
-TextsCutAtSafePlaces =
-    (reading : Reading) (c s : ℕ) (ts tail : List ℕ) → decompose Nfd c ≡ s ∷ ts → IsSafe reading s
+-- a text is cut before a character whose decomposition begins with a boundary
+abbrev pub TextsCutAtBoundaries : Type 0
+TextsCutAtBoundaries =
+    (reading : Reading) (c s : ℕ) (ts tail : List ℕ) → decompose Nfd c ≡ s ∷ ts → IsBoundary reading s
     → (before head : List ℕ) → elements_after reading before (nfd (head ++ c ∷ tail)) ≡ elements_after reading before (nfd head) ++ elements_of reading (nfd (c ∷ tail))
 
 -- from there on they are the same after any characters
 abbrev pub TextsStartAnew : Type 0
 TextsStartAnew =
-    (reading : Reading) (c s : ℕ) (ts tail : List ℕ) → decompose Nfd c ≡ s ∷ ts → IsSafe reading s
+    (reading : Reading) (c s : ℕ) (ts tail : List ℕ) → decompose Nfd c ≡ s ∷ ts → IsBoundary reading s
     → (p q : List ℕ) → elements_after reading p (nfd (c ∷ tail)) ≡ elements_after reading q (nfd (c ∷ tail))
 
--- what follows a decomposed piece that begins at a safe character gives the same after the piece as after all that
+-- what follows a decomposed piece that begins at a boundary gives the same after the piece as after all that
 -- stood before it
 abbrev pub PiecesStandAlone : Type 0
 PiecesStandAlone =
-    (reading : Reading) (x : ℕ) (before head more text : List ℕ) → IsSafe reading x
+    (reading : Reading) (x : ℕ) (before head more text : List ℕ) → IsBoundary reading x
     → elements_after reading (context_left reading before (head ++ x ∷ more)) text ≡ elements_after reading (context_left reading [] (x ∷ more)) text
 
 -- nothing gives nothing
@@ -107,7 +107,7 @@ DigitRunsAreNumbers =
     → list_all (continues_number reading.tables) (d ∷ ds) ≡ true → ends_run reading.tables text ≡ true → begins_with_mark (ds ++ text) ≡ false
     → elements_after reading before (d ∷ ds ++ text) ≡ number_elements lead (map (digit_of_char reading.tables) (d ∷ ds)) ++ elements_after reading (last_two before (d ∷ ds)) text
 
--- A base of contractions gives what it gives at the end of a text, before a starter that none of its rows names and
+-- A base of contractions gives what it gives at the end of a text, before a starter that none of its mappings names and
 -- that goes on no number.
 abbrev pub BasesBeforeUnnamedStarters : Type 0
 BasesBeforeUnnamedStarters =
@@ -124,7 +124,7 @@ MoreTextKeepsWholeSteps =
     → elements_after reading before (c ∷ (text ++ left))
     ≡ (step reading before c text).elements ++ elements_after reading (last_two before (consumed c (step reading before c text))) ((step reading before c text).rest ++ left)
 
--- a text with a safe character in it is enough for each step before that
-abbrev pub SafePlacesAreEnough : Type 0
-SafePlacesAreEnough =
-    (reading : Reading) (before : List ℕ) (c : ℕ) (front : List ℕ) (x : ℕ) (back : List ℕ) → IsSafe reading x → HasWholeStep reading before c (front ++ x ∷ back)
+-- a text with a boundary in it is enough for each step before that
+abbrev pub BoundariesAreEnough : Type 0
+BoundariesAreEnough =
+    (reading : Reading) (before : List ℕ) (c : ℕ) (front : List ℕ) (x : ℕ) (back : List ℕ) → IsBoundary reading x → HasWholeStep reading before c (front ++ x ∷ back)

@@ -1,9 +1,9 @@
 //! The laws, each the contract of a function that makes no call.
 
-ghost use Rattle.icu_cuts.specs.ReadingLaws.{ElementsComeStepByStep, NothingGivesNothing, MoreTextKeepsWholeSteps, SafePlacesAreEnough};
+ghost use Rattle.icu_cuts.specs.ReadingLaws.{ElementsComeStepByStep, NothingGivesNothing, MoreTextKeepsWholeSteps, BoundariesAreEnough};
 ghost use Rattle.icu_cuts.specs.ReadingLaws.{LoneStartersAreReadAlone, LowLettersAreReadAlone, LowTextsStay, JamoAreReadAlone, SyllablesAreReadAlone};
 ghost use Rattle.icu_cuts.specs.ReadingLaws.{UnmovedLettersAreReadAlone, ComposedLettersAreReadAlone, LoneMarksAreReadAlone, FirstStartersLead};
-ghost use Rattle.icu_cuts.specs.ReadingLaws.{DigitRunsAreNumbers, BasesBeforeUnnamedStarters, TextsCutAtSafePlaces, TextsStartAnew, PiecesStandAlone};
+ghost use Rattle.icu_cuts.specs.ReadingLaws.{DigitRunsAreNumbers, BasesBeforeUnnamedStarters, TextsCutAtBoundaries, TextsStartAnew, PiecesStandAlone};
 
 /// The elements of a text are those of one step, and of what it leaves; a text without characters has none (UTS #10,
 /// "Produce Collation Element Arrays").
@@ -41,22 +41,22 @@ pub fn digit_runs_are_numbers()
     ensures { DigitRunsAreNumbers }
 {}
 
-/// A base of contractions gives what it gives at the end of a text, before a starter that none of its rows names (UTS
+/// A base of contractions gives what it gives at the end of a text, before a starter that none of its mappings names (UTS
 /// #10, "Produce Collation Element Arrays").
 pub fn bases_before_unnamed_starters()
     ensures { BasesBeforeUnnamedStarters }
 {}
 
-/// A text is cut before a character whose decomposition begins with a safe one: its elements are those of its two
+/// A text is cut before a character whose decomposition begins with a boundary: its elements are those of its two
 /// parts, and what follows is the same whatever stood before.
-pub fn texts_cut_at_safe_places()
-    ensures cut { TextsCutAtSafePlaces }
+pub fn texts_cut_at_boundaries()
+    ensures cut { TextsCutAtBoundaries }
     ensures start { TextsStartAnew }
     ensures pieces { PiecesStandAlone }
 {}
 
-/// Where a text is enough for a step, reading on changes nothing; a text with a safe character in it is.
+/// Where a text is enough for a step, reading on changes nothing; a text with a boundary in it is.
 pub fn more_text_keeps_whole_steps()
     ensures steps { MoreTextKeepsWholeSteps }
-    ensures safe { SafePlacesAreEnough }
+    ensures boundary { BoundariesAreEnough }
 {}

@@ -19,7 +19,7 @@ use Rattle.icu_data.specs.declared.block_walk.Part.{Part}
 use Rattle.icu_data.specs.declared.block_walk.Part.TheVariants.{Stated, ByCharacter, Implicit}
 use Rattle.icu_data.specs.declared.data.CollationData.{CollationData}
 use Rattle.icu_data.specs.Data.{Data}
-use Rattle.icu_data.specs.Live.{goes_by_character, leads_to_character, live_digit, live_contraction, live_from, live_at}
+use Rattle.icu_data.specs.Reachable.{goes_by_character, leads_to_character, reachable_digit, reachable_contraction, reachable_from, reachable_at}
 use Rattle.icu_data.specs.StoredData.{data_of, block_in}
 use Rattle.icu_data.specs.Walks.{after_all, after_run, after_chars, StandsFor, Walked}
 use Rattle.icu_data.specs.inner.BlockWalks.{is_wanted, WalkedTo, AreShared, IsVisited, HasWalked, IsRun, IsShared, IsState, IsRead, HasState, AreStates}
@@ -40,9 +40,9 @@ any_after true [] = refl
 any_after false [] = refl
 any_after found (e ∷ es) = any_after (found || goes_by_character e) es ∙ or_assoc found (goes_by_character e) (list_any goes_by_character es)
 
-pub found_any : (home : Data) (e : ℕ) → fold (λ found e. found || goes_by_character e) false (live_from home e) ≡ leads_to_character home e
+pub found_any : (home : Data) (e : ℕ) → fold (λ found e. found || goes_by_character e) false (reachable_from home e) ≡ leads_to_character home e
 unfolding leads_to_character
-found_any home e = any_after false (live_from home e)
+found_any home e = any_after false (reachable_from home e)
 
 -- an entry that spells an element itself leads to nothing else
 abbrev spells_one : EntryKind → Bool
@@ -51,25 +51,25 @@ spells_one LongPrimary = true
 spells_one LongSecondary = true
 spells_one _ = false
 
-digit_alone : (k : EntryKind) (e : ℕ) (home : Data) → spells_one k ≡ true → kind_of e ≡ k → live_digit home e ≡ e ∷ []
-unfolding live_digit
-digit_alone Simple e home h is = rw (is, live_digit) refl
-digit_alone LongPrimary e home h is = rw (is, live_digit) refl
-digit_alone LongSecondary e home h is = rw (is, live_digit) refl
+digit_alone : (k : EntryKind) (e : ℕ) (home : Data) → spells_one k ≡ true → kind_of e ≡ k → reachable_digit home e ≡ e ∷ []
+unfolding reachable_digit
+digit_alone Simple e home h is = rw (is, reachable_digit) refl
+digit_alone LongPrimary e home h is = rw (is, reachable_digit) refl
+digit_alone LongSecondary e home h is = rw (is, reachable_digit) refl
 digit_alone _ e home h is = cc
 
-contraction_alone : (k : EntryKind) (e : ℕ) (home : Data) → spells_one k ≡ true → kind_of e ≡ k → live_contraction home e ≡ e ∷ []
-unfolding live_contraction
-contraction_alone Simple e home h is = rw (is, live_contraction) (digit_alone Simple e home h is)
-contraction_alone LongPrimary e home h is = rw (is, live_contraction) (digit_alone LongPrimary e home h is)
-contraction_alone LongSecondary e home h is = rw (is, live_contraction) (digit_alone LongSecondary e home h is)
+contraction_alone : (k : EntryKind) (e : ℕ) (home : Data) → spells_one k ≡ true → kind_of e ≡ k → reachable_contraction home e ≡ e ∷ []
+unfolding reachable_contraction
+contraction_alone Simple e home h is = rw (is, reachable_contraction) (digit_alone Simple e home h is)
+contraction_alone LongPrimary e home h is = rw (is, reachable_contraction) (digit_alone LongPrimary e home h is)
+contraction_alone LongSecondary e home h is = rw (is, reachable_contraction) (digit_alone LongSecondary e home h is)
 contraction_alone _ e home h is = cc
 
-alone : (k : EntryKind) (e : ℕ) (home : Data) → spells_one k ≡ true → kind_of e ≡ k → live_from home e ≡ e ∷ []
-unfolding live_from
-alone Simple e home h is = rw (is, live_from) (contraction_alone Simple e home h is)
-alone LongPrimary e home h is = rw (is, live_from) (contraction_alone LongPrimary e home h is)
-alone LongSecondary e home h is = rw (is, live_from) (contraction_alone LongSecondary e home h is)
+alone : (k : EntryKind) (e : ℕ) (home : Data) → spells_one k ≡ true → kind_of e ≡ k → reachable_from home e ≡ e ∷ []
+unfolding reachable_from
+alone Simple e home h is = rw (is, reachable_from) (contraction_alone Simple e home h is)
+alone LongPrimary e home h is = rw (is, reachable_from) (contraction_alone LongPrimary e home h is)
+alone LongSecondary e home h is = rw (is, reachable_from) (contraction_alone LongSecondary e home h is)
 alone _ e home h is = cc
 
 itself : (k : EntryKind) (e : ℕ) → spells_one k ≡ true → kind_of e ≡ k → list_any goes_by_character (e ∷ []) ≡ false
@@ -92,17 +92,17 @@ one_element home e h =
     ap (list_any goes_by_character) (alone (kind_of e) e home spells refl) ∙ itself (kind_of e) e spells refl
 
 -- an entry that is counted from another character's leads to itself alone
-offset_digit : (e : ℕ) (home : Data) → kind_of e ≡ Offset → live_digit home e ≡ e ∷ []
-unfolding live_digit
-offset_digit e home is = rw (is, live_digit) refl
+offset_digit : (e : ℕ) (home : Data) → kind_of e ≡ Offset → reachable_digit home e ≡ e ∷ []
+unfolding reachable_digit
+offset_digit e home is = rw (is, reachable_digit) refl
 
-offset_contraction : (e : ℕ) (home : Data) → kind_of e ≡ Offset → live_contraction home e ≡ e ∷ []
-unfolding live_contraction
-offset_contraction e home is = rw (is, live_contraction) (offset_digit e home is)
+offset_contraction : (e : ℕ) (home : Data) → kind_of e ≡ Offset → reachable_contraction home e ≡ e ∷ []
+unfolding reachable_contraction
+offset_contraction e home is = rw (is, reachable_contraction) (offset_digit e home is)
 
-offset_from : (e : ℕ) (home : Data) → kind_of e ≡ Offset → live_from home e ≡ e ∷ []
-unfolding live_from
-offset_from e home is = rw (is, live_from) (offset_contraction e home is)
+offset_from : (e : ℕ) (home : Data) → kind_of e ≡ Offset → reachable_from home e ≡ e ∷ []
+unfolding reachable_from
+offset_from e home is = rw (is, reachable_from) (offset_contraction e home is)
 
 offset_itself : (e : ℕ) → kind_of e ≡ Offset → list_any goes_by_character (e ∷ []) ≡ true
 unfolding goes_by_character
@@ -115,10 +115,10 @@ offset_leads e is home = ap (list_any goes_by_character) (offset_from e home is)
 not_offset : Fallback ≡ Offset → ⊥
 not_offset h = cc
 
--- an offset entry is all that is live with its character
-pub offset_alone : (falls_back : Bool) (home : Data) (c : ℕ) → kind_of (home.value c) ≡ Offset → live_at falls_back home c ≡ home.value c ∷ []
+-- an offset entry is all that is reachable with its character
+pub offset_alone : (falls_back : Bool) (home : Data) (c : ℕ) → kind_of (home.value c) ≡ Offset → reachable_at falls_back home c ≡ home.value c ∷ []
 offset_alone falls_back home c is =
-    kept falls_back (home.value c == 0xC0) (home.value c) (live_from home (home.value c)) (isnt_fallback Offset (home.value c) not_offset is)
+    kept falls_back (home.value c == 0xC0) (home.value c) (reachable_from home (home.value c)) (isnt_fallback Offset (home.value c) not_offset is)
     ∙ offset_from (home.value c) home is
 
 -- ---- parts of the characters
@@ -165,7 +165,7 @@ module _ {V : Type 0} (after : V → Data → ℕ → ℕ → V) (falls_back : B
 
   both_add : (s t u : V) (xs ys : List ℕ) → t ≡ Chars s xs → u ≡ Chars t ys → u ≡ Chars s (xs ++ ys)
   both_add s t u xs ys p q =
-      q ∙ ap (λ v. Chars v ys) p ∙ sym (fold-append (λ v c. after_all after v home c (live_at falls_back home c)) s xs ys)
+      q ∙ ap (λ v. Chars v ys) p ∙ sym (fold-append (λ v c. after_all after v home c (reachable_at falls_back home c)) s xs ys)
 
   pub walked_none : (part : Part) (v : V) (n : ℕ) → To part v v n n
   walked_none part v n = record { chars = []; scalars = tt; adds_up = refl; each = λ c low high s wanted. absurd (omega arith) }
@@ -181,7 +181,7 @@ module _ {V : Type 0} (after : V → Data → ℕ → ℕ → V) (falls_back : B
         absurd (clash (is_wanted part home (home.value d)) wanted (subst (λ d. IsScalar d → is_wanted part home (home.value d) ≡ false) (sym same) unwanted s));
   }
 
-  pub walked_char : (part : Part) (s t : V) (c : ℕ) → IsScalar c → t ≡ after_all after s home c (live_at falls_back home c) → To part s t c (c + 1)
+  pub walked_char : (part : Part) (s t : V) (c : ℕ) → IsScalar c → t ≡ after_all after s home c (reachable_at falls_back home c) → To part s t c (c + 1)
   walked_char part s t c scalar is = record {
     chars = c ∷ [];
     scalars = (scalar, tt);
@@ -207,12 +207,12 @@ module _ {V : Type 0} (after : V → Data → ℕ → ℕ → V) (falls_back : B
       below_or c b = grind arith
 
   -- a visit of an offset entry is all that its character comes to
-  pub offset_adds : (v w : V) (c e : ℕ) → e ≡ home.value c → kind_of e ≡ Offset → w ≡ after v home c e → w ≡ after_all after v home c (live_at falls_back home c)
+  pub offset_adds : (v w : V) (c e : ℕ) → e ≡ home.value c → kind_of e ≡ Offset → w ≡ after v home c e → w ≡ after_all after v home c (reachable_at falls_back home c)
   offset_adds v w c e is offset adds =
       adds ∙ ap (after v home c) is ∙ sym (ap (λ es. after_all after v home c es) (offset_alone falls_back home c (ap kind_of (sym is) ∙ offset)))
 
   -- visits of an offset entry are all that characters in a row come to
-  run_adds : (v : V) (first e c : ℕ) → IsRun home first e → first ≤ c → c < first + 64 → IsScalar c → after v home c e ≡ after_all after v home c (live_at falls_back home c)
+  run_adds : (v : V) (first e c : ℕ) → IsRun home first e → first ≤ c → c < first + 64 → IsScalar c → after v home c e ≡ after_all after v home c (reachable_at falls_back home c)
   run_adds v first e c r low high s = offset_adds v (after v home c e) c e (sym (r.same c low high s)) r.offset refl
 
   pub visited_run : (part : Part) (v : V) (first e n : ℕ) → IsRun home first e → ((c : ℕ) → first ≤ c → c < first + 64 → IsScalar c) → n ≤ 64
@@ -472,7 +472,7 @@ module _ {V : Type 0} (after : V → Data → ℕ → ℕ → V) (falls_back : B
   -- a character that is visited
   pub held_char : (old new : VisitedEntries) (t u : V) (c : ℕ) → IsScalar c
       → ((e : ℕ) → IsRemembered new e → IsRemembered old e ⊎ ((e ≡ home.value c) × (leads_to_character home e ≡ false)))
-      → u ≡ after_all after t home c (live_at falls_back home c) → (s : V) → Held old s t c → Held new s u (c + 1)
+      → u ≡ after_all after t home c (reachable_at falls_back home c) → (s : V) → Held old s t c → Held new s u (c + 1)
   unfolding walked_char
   held_char old new t u c is more adds s =
       held_with old new s t u c (c + 1) (walked_char after falls_back home Stated t u c is adds)

@@ -1,7 +1,7 @@
 -- A walk of two visitors is a walk of each.
 use Rattle.std.proofs.Common.{◌≡◌, ℕ, Bool, List, [], ◌∷◌, Result, Ok, Err, OnOk, refl, ap, ◌∙◌, inl, inr, ◌⊎◌}
 use Rattle.icu_data.specs.Data.{Data}
-use Rattle.icu_data.specs.Live.{live_at}
+use Rattle.icu_data.specs.Reachable.{reachable_at}
 use Rattle.icu_data.specs.Walks.{after_all, after_chars, after_both, StandsFor, IsPassed, Walked}
 
 module _ {V W : Type 0} (f : V → Data → ℕ → ℕ → V) (g : W → Data → ℕ → ℕ → W) (falls_back : Bool) (home : Data) where
@@ -12,7 +12,7 @@ module _ {V W : Type 0} (f : V → Data → ℕ → ℕ → V) (g : W → Data �
   chars_of_both : (v : V) (w : W) (cs : List ℕ) → after_chars (after_both f g) falls_back (v, w) home cs ≡ (after_chars f falls_back v home cs, after_chars g falls_back w home cs)
   chars_of_both v w [] = refl
   chars_of_both v w (c ∷ cs) =
-      let es = live_at falls_back home c in
+      let es = reachable_at falls_back home c in
       ap (λ s. after_chars (after_both f g) falls_back s home cs) (all_of_both v w c es) ∙ chars_of_both (after_all f v home c es) (after_all g w home c es) cs
 
   first_each : (cs : List ℕ) (t : V × W) (c : ℕ) → StandsFor home cs c ⊎ IsPassed (after_both f g) home t c → StandsFor home cs c ⊎ IsPassed f home t.0 c

@@ -14,9 +14,9 @@ use Rattle.icu_entries.specs.Entries.{kind_of}
 use Rattle.icu_entries.specs.Weights.{implicit_weight, offset_weight, offset_element}
 use Rattle.icu_data.specs.Data.{Data, homed}
 use Rattle.icu_data.specs.Final.{final_elements}
-use Rattle.icu_data.specs.Live.{goes_by_character, live_at, EachLive}
+use Rattle.icu_data.specs.Reachable.{goes_by_character, reachable_at, EachReachable}
 use Rattle.icu_data.specs.Walks.{after_all, after_chars, StandsFor, IsPassed, Walked}
-use Rattle.icu_data.specs.CollectedWeights.{is_stated, IsWeightAmong, IsLiveWeight}
+use Rattle.icu_data.specs.CollectedWeights.{is_stated, IsWeightAmong, IsReachableWeight}
 use Rattle.icu_data.specs.inner.Visitors.{holds, and_weight, and_found, collected, collected_at, given_elements}
 use Rattle.icu_data.proofs.ListLemmas.{weaker, all_of, all_members, of_member}
 use Rattle.icu_data.proofs.SameEntryLemmas.{given_alike}
@@ -178,7 +178,7 @@ module _ {W : Type 0} (weight : W → Element → Option ℕ) (weigh : W) (falls
   same_chars : (ws : ℕ → Bool) (cs : List ℕ) → after_chars (collected_at weight) falls_back (weigh, ws) home cs ≡ (weigh, after_chars kept falls_back ws home cs)
   same_chars ws [] = refl
   same_chars ws (c ∷ cs) =
-      let es = live_at falls_back home c in
+      let es = reachable_at falls_back home c in
       ap (λ s. after_chars (collected_at weight) falls_back s home cs) (same_all c ws es) ∙ same_chars (after_all kept ws home c es) cs
 
   abbrev Collected : W × (ℕ → Bool) → W × (ℕ → Bool) → Type 0
@@ -206,13 +206,13 @@ module _ {W : Type 0} (weight : W → Element → Option ℕ) (weigh : W) (falls
   into_at : (w : ℕ) (G : Type 0) (c : ℕ) (es : List ℕ) → (Among c es w → G) → AllByRecursion (λ e. (ws : ℕ → Bool) → ((ws w ≡ true) → G) → (kept ws home c e w ≡ true) → G) es
   into_at w G c es into =
       weaker (Contains es) (λ e. (ws : ℕ → Bool) → ((ws w ≡ true) → G) → (kept ws home c e w ≡ true) → G)
-      (λ e live. fold_keeps step (λ ws. (ws w ≡ true) → G) (given_elements home c e)
+      (λ e reachable. fold_keeps step (λ ws. (ws w ≡ true) → G) (given_elements home c e)
       (weaker (Contains (given_elements home c e)) (λ x. (ws : ℕ → Bool) → ((ws w ≡ true) → G) → (step ws x w ≡ true) → G)
       (λ x given ws old has.
       let is = given_is home c e x given in
       elim (found-cases ws (weight weigh x) w has) [
         | inl before ↦ old before
-        | inr weighs ↦ into (record { e = e; live = live; stated = is.0; x = x; given = is.1; weighs = weighs })
+        | inr weighs ↦ into (record { e = e; reachable = reachable; stated = is.0; x = x; given = is.1; weighs = weighs })
       ])
       (given_elements home c e) (all_members (given_elements home c e))))
       es (all_members es)
@@ -230,7 +230,7 @@ module _ {W : Type 0} (weight : W → Element → Option ℕ) (weigh : W) (falls
 
   leads_to : (w : ℕ) (G : Type 0) (c : ℕ) (es : List ℕ) → AllByRecursion (Leads w G c) es → Among c es w → G
   leads_to w G c es all is =
-      let here : Leads w G c is.e = of_member (Leads w G c) es is.e all is.live in
+      let here : Leads w G c is.e = of_member (Leads w G c) es is.e all is.reachable in
       of_member (λ x. weight weigh x ≡ Some w → G) (given_elements home c is.e) is.x here (is_given home c is.e is.x is.stated is.given) is.weighs
 
   among : (c : ℕ) (es : List ℕ) (ws : ℕ → Bool) (w : ℕ) → (after_all kept ws home c es w ≡ true) ↔ ((ws w ≡ true) ⊎ Among c es w)
@@ -241,19 +241,19 @@ module _ {W : Type 0} (weight : W → Element → Option ℕ) (weigh : W) (falls
         elim [ inl before ↦ both.0 before | inr is ↦ leads_to w G c es both.1 is ],
       )
 
-  abbrev Live : ℕ → Type 0
-  Live = IsLiveWeight (weight weigh) falls_back home
+  abbrev Reachable : ℕ → Type 0
+  Reachable = IsReachableWeight (weight weigh) falls_back home
 
   leads_alike : (w : ℕ) (G : Type 0) (c d e : ℕ) → goes_by_character e ≡ false → Leads w G d e → Leads w G c e
   leads_alike w G c d e by = subst (AllByRecursion (λ x. weight weigh x ≡ Some w → G)) (given_alike home d c e by)
 
-  live : (ws end : ℕ → Bool) → Walked kept falls_back home ws end → (w : ℕ) → (end w ≡ true) ↔ ((ws w ≡ true) ⊎ Live w)
-  live ws end walked w =
+  reachable : (ws end : ℕ → Bool) → Walked kept falls_back home ws end → (w : ℕ) → (end w ≡ true) ↔ ((ws w ≡ true) ⊎ Reachable w)
+  reachable ws end walked w =
       let G = end w ≡ true in
-      let both : ((ws w ≡ true) → G) × EachLive (Leads w G) falls_back home = walk_back kept falls_back home (λ ws. (ws w ≡ true) → G) (Leads w G) (back_at w G) (leads_alike w G) ws end walked (λ has. has) in (
-        walk_keeps kept falls_back home (λ now. now w ≡ true → (ws w ≡ true) ⊎ Live w)
-            (λ c scalar. into_at w ((ws w ≡ true) ⊎ Live w) c (live_at falls_back home c) (λ is. inr (record { c = c; scalar = scalar; among = is }))) ws end walked (λ has. inl has),
-        elim [ inl before ↦ both.0 before | inr is ↦ leads_to w G is.c (live_at falls_back home is.c) (both.1 is.c is.scalar) is.among ],
+      let both : ((ws w ≡ true) → G) × EachReachable (Leads w G) falls_back home = walk_back kept falls_back home (λ ws. (ws w ≡ true) → G) (Leads w G) (back_at w G) (leads_alike w G) ws end walked (λ has. has) in (
+        walk_keeps kept falls_back home (λ now. now w ≡ true → (ws w ≡ true) ⊎ Reachable w)
+            (λ c scalar. into_at w ((ws w ≡ true) ⊎ Reachable w) c (reachable_at falls_back home c) (λ is. inr (record { c = c; scalar = scalar; among = is }))) ws end walked (λ has. inl has),
+        elim [ inl before ↦ both.0 before | inr is ↦ leads_to w G is.c (reachable_at falls_back home is.c) (both.1 is.c is.scalar) is.among ],
       )
 
   -- where a walk that began so came to a weight
@@ -276,8 +276,8 @@ module _ {W : Type 0} (weight : W → Element → Option ℕ) (weigh : W) (falls
       ends : holds end ≡ after_all kept (holds start) home c es
       ends = ap (λ s. s.1) (is ∙ ap (λ s. after_all (collected_at weight) s home c es) (began v ws start same begun) ∙ same_all c (holds start) es)
 
-  pub collected_live : (v : W) (ws start : List ℕ) → v ≡ weigh → ws ≡ start → {X E : Type 0} (r : Result X E) (u : W) (end : List ℕ)
-      → OnOk r (Collected (v, holds ws) (u, holds end)) → OnOk r ((w : ℕ) → Contains end w ↔ (Contains start w ⊎ Live w))
-  collected_live v ws start same begun (Err e) u end is = tt
-  collected_live v ws start same begun (Ok x) u end is =
-      of_list start end Live (live (holds start) (holds end) (kept_walk (holds start) (u, holds end) (subst (λ (b : W × (ℕ → Bool)). Collected b (u, holds end)) (began v ws start same begun) is)))
+  pub collected_reachable : (v : W) (ws start : List ℕ) → v ≡ weigh → ws ≡ start → {X E : Type 0} (r : Result X E) (u : W) (end : List ℕ)
+      → OnOk r (Collected (v, holds ws) (u, holds end)) → OnOk r ((w : ℕ) → Contains end w ↔ (Contains start w ⊎ Reachable w))
+  collected_reachable v ws start same begun (Err e) u end is = tt
+  collected_reachable v ws start same begun (Ok x) u end is =
+      of_list start end Reachable (reachable (holds start) (holds end) (kept_walk (holds start) (u, holds end) (subst (λ (b : W × (ℕ → Bool)). Collected b (u, holds end)) (began v ws start same begun) is)))

@@ -1,21 +1,21 @@
--- Tests on the rows of a context, over rows as they are stored.
+-- Tests on the mappings of a context, over mappings as they are stored.
 use Rattle.std.proofs.Common.{◌≡◌, ℕ, Bool, ◌&&◌, List, [], ◌∷◌, map, refl, ap, IsTrue}
 use Rattle.std.specs.Prelude.{All}
 use Rattle.std.specs.List.{list_all}
 use Rattle.std.proofs.lemmas.List.Elements.{All-map}
 use Rattle.icu_data.specs.declared.context.Context.{Context as StoredContext}
-use Rattle.icu_data.specs.declared.context.ContextRow.{ContextRow}
-use Rattle.icu_data.specs.Data.{Row}
-use Rattle.icu_data.specs.Contexts.{row_of, rows_of, stored_context, stored_contexts, has_ascending_rows, HasAscendingRows}
+use Rattle.icu_data.specs.declared.context.ContextMapping.{ContextMapping}
+use Rattle.icu_data.specs.Data.{Mapping}
+use Rattle.icu_data.specs.Contexts.{mapping_of, mappings_of, stored_context, stored_contexts, has_ascending_mappings, HasAscendingMappings}
 
-pub all_entries : (p : ℕ → Bool) (chars : List ℕ) (rows : List ContextRow) → list_all p (map (λ (row : Row). row.entry) (rows_of chars rows)) ≡ list_all (λ (row : ContextRow). p row.entry) rows
+pub all_entries : (p : ℕ → Bool) (chars : List ℕ) (mappings : List ContextMapping) → list_all p (map (λ (mapping : Mapping). mapping.entry) (mappings_of chars mappings)) ≡ list_all (λ (mapping : ContextMapping). p mapping.entry) mappings
 all_entries p chars [] = refl
-all_entries p chars (row ∷ rows) = ap (λ b. p row.entry && b) (all_entries p chars rows)
+all_entries p chars (mapping ∷ mappings) = ap (λ b. p mapping.entry && b) (all_entries p chars mappings)
 
-pub all_rows : (p : Row → Bool) (chars : List ℕ) (rows : List ContextRow) → list_all p (rows_of chars rows) ≡ list_all (λ row. p (row_of chars row)) rows
-all_rows p chars [] = refl
-all_rows p chars (row ∷ rows) = ap (λ b. p (row_of chars row) && b) (all_rows p chars rows)
+pub all_mappings : (p : Mapping → Bool) (chars : List ℕ) (mappings : List ContextMapping) → list_all p (mappings_of chars mappings) ≡ list_all (λ mapping. p (mapping_of chars mapping)) mappings
+all_mappings p chars [] = refl
+all_mappings p chars (mapping ∷ mappings) = ap (λ b. p (mapping_of chars mapping) && b) (all_mappings p chars mappings)
 
--- each context of a table has ascending rows
-pub ascending_rows : (contexts : List StoredContext) (rows : List ContextRow) (chars : List ℕ) → HasAscendingRows contexts rows chars → All (λ x. IsTrue (has_ascending_rows x)) (stored_contexts contexts rows chars)
-ascending_rows contexts rows chars ascending = All-map (λ x. IsTrue (has_ascending_rows x)) (stored_context rows chars) contexts ascending
+-- each context of a table has ascending mappings
+pub ascending_mappings : (contexts : List StoredContext) (mappings : List ContextMapping) (chars : List ℕ) → HasAscendingMappings contexts mappings chars → All (λ x. IsTrue (has_ascending_mappings x)) (stored_contexts contexts mappings chars)
+ascending_mappings contexts mappings chars ascending = All-map (λ x. IsTrue (has_ascending_mappings x)) (stored_context mappings chars) contexts ascending

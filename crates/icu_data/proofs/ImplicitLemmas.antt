@@ -3,8 +3,8 @@ use Rattle.std.proofs.Common.{◌≡◌, ℕ, ◌<◌, ◌≤◌, Bool, true, fa
 use Rattle.std.specs.Prelude.{◌||◌}
 use Rattle.std.proofs.lemmas.Bool.Decides.{nat_tests}
 use Rattle.std.specs.Int.{byte_at}
-use Rattle.icu_data.specs.declared.live_condition.LiveCondition.{LiveCondition}
-use Rattle.icu_data.specs.declared.live_condition.LiveCondition.TheVariants.{Indices, PrefixRows, Chains, Digits, Bytes, Offsets, Shapes, Leads, Primaries}
+use Rattle.icu_data.specs.declared.reachable_condition.ReachableCondition.{ReachableCondition}
+use Rattle.icu_data.specs.declared.reachable_condition.ReachableCondition.TheVariants.{Indices, PrefixMappings, Chains, Digits, Bytes, Offsets, Shapes, Leads, Primaries}
 use Rattle.icu_entries.specs.Elements.{Element, of_primary}
 use Rattle.icu_entries.specs.Weights.{weight, implicit_weight}
 use Rattle.icu_entries.specs.declared.entry.EntryKind.TheVariants.{Implicit}
@@ -12,9 +12,9 @@ use Rattle.icu_entries.specs.Entries.{kind_of}
 use Rattle.icu_data.specs.Data.{Data}
 use Rattle.icu_data.specs.Final.{final_elements}
 use Rattle.icu_entries.specs.ElementConditions.{four_bytes, ends_at_zero, has_shape, has_secondary_lead, has_tertiary_lead, has_primary_lead, is_separator}
-use Rattle.icu_data.specs.DataConditions.{is_inside, has_short_rows, leads_on, has_known_members, fits_offset}
+use Rattle.icu_data.specs.DataConditions.{is_inside, has_short_mappings, leads_on, has_known_members, fits_offset}
 use Rattle.icu_entries.specs.EntryConditions.{has_digit, has_known_byte}
-use Rattle.icu_data.specs.LiveConditions.{meets, first_failing}
+use Rattle.icu_data.specs.ReachableConditions.{meets, first_failing}
 use Rattle.icu_data.specs.CollectedWeights.{is_stated}
 use Rattle.icu_data.specs.inner.Visitors.{given_elements, collected_at}
 use Rattle.icu_data.proofs.ViolationLemmas.{meets_passes}
@@ -77,10 +77,10 @@ pub and_true : (a : Bool) → a ≡ true → (a && true) ≡ true
 and_true true h = refl
 and_true false h = cc
 
-implicit_meets : (home : Data) (c e : ℕ) → kind_of e ≡ Implicit → (condition : LiveCondition) → IsTrue (meets condition home c e)
-unfolding is_inside has_short_rows leads_on has_digit has_known_byte has_known_members fits_offset final_elements has_secondary_lead has_tertiary_lead
+implicit_meets : (home : Data) (c e : ℕ) → kind_of e ≡ Implicit → (condition : ReachableCondition) → IsTrue (meets condition home c e)
+unfolding is_inside has_short_mappings leads_on has_digit has_known_byte has_known_members fits_offset final_elements has_secondary_lead has_tertiary_lead
 implicit_meets home c e is Indices = rw (is, is_inside) refl
-implicit_meets home c e is PrefixRows = rw (is, has_short_rows) refl
+implicit_meets home c e is PrefixMappings = rw (is, has_short_mappings) refl
 implicit_meets home c e is Chains = rw (is, leads_on) refl
 implicit_meets home c e is Digits = rw (is, has_digit) refl
 implicit_meets home c e is Bytes = rw (is, has_known_byte, has_known_members) refl

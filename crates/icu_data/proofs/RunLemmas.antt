@@ -1,10 +1,10 @@
--- Characters in a row with one offset entry: their weights rise, so the ends of the row show what holds of each.
+-- Characters in a row with one offset entry: their weights rise, so the ends of the mapping show what holds of each.
 use Rattle.std.proofs.Common.{◌≡◌, ◌∙◌, ap, sym, fold, Option, ℕ, suc, ◌-◌, ◌*◌, ◌<◌, ◌≤◌, Bool, true, false, ◌&&◌, nat_le, nat_lt, List, [], ◌∷◌, ◌+◌, if◌then◌else◌, None, refl, arith, IsTrue, take, drop}
 use Rattle.std.proofs.lemmas.Bool.{and_parts, and_from}
 use Rattle.std.proofs.lemmas.Bool.Decides.{nat_tests}
 use Rattle.std.proofs.lemmas.Nat.{mul-le}
-use Rattle.icu_data.specs.declared.live_condition.LiveCondition.{LiveCondition}
-use Rattle.icu_data.specs.declared.live_condition.LiveCondition.TheVariants.{Indices, PrefixRows, Chains, Digits, Bytes, Offsets, Shapes, Leads, Primaries}
+use Rattle.icu_data.specs.declared.reachable_condition.ReachableCondition.{ReachableCondition}
+use Rattle.icu_data.specs.declared.reachable_condition.ReachableCondition.TheVariants.{Indices, PrefixMappings, Chains, Digits, Bytes, Offsets, Shapes, Leads, Primaries}
 use Rattle.icu_entries.specs.Elements.{Element, of_primary}
 use Rattle.icu_entries.specs.Weights.{lead_at, weight_at, offset_base, offset_compressible, offset_step, offset_ordinal, offset_weight, offset_element}
 use Rattle.icu_entries.specs.declared.entry.EntryKind.TheVariants.{Offset}
@@ -13,8 +13,8 @@ use Rattle.icu_entries.specs.EntryConditions.{is_three_byte_weight, has_offset_w
 use Rattle.icu_entries.specs.ElementConditions.{has_shape, has_secondary_lead, has_tertiary_lead, has_primary_lead}
 use Rattle.icu_data.specs.Data.{Data, homed}
 use Rattle.icu_data.specs.Final.{final_elements}
-use Rattle.icu_data.specs.DataConditions.{is_inside, is_readable, has_short_rows, leads_on, has_known_members, fits_offset}
-use Rattle.icu_data.specs.LiveConditions.{meets, first_failing}
+use Rattle.icu_data.specs.DataConditions.{is_inside, is_readable, has_short_mappings, leads_on, has_known_members, fits_offset}
+use Rattle.icu_data.specs.ReachableConditions.{meets, first_failing}
 use Rattle.icu_data.specs.CollectedWeights.{is_stated}
 use Rattle.icu_data.specs.Walks.{after_run}
 use Rattle.icu_data.specs.inner.Visitors.{collected, collected_at, given_elements, IsRunData}
@@ -92,10 +92,10 @@ offset_lead d c is high = of_ordinal-lead (offset_compressible d) (offset_ordina
 -- ---- the conditions
 
 module _ (home : Data) (d : Element) (e : ℕ) (is : kind_of e ≡ Offset) (inside : IsTrue (is_inside home e)) (taken : take 1 (drop (entry_index e) home.elements) ≡ d ∷ []) where
-  offset_meets : (c : ℕ) → IsTrue (has_offset_weight d c) → 0x03000000 ≤ offset_weight d c → (condition : LiveCondition) → IsTrue (meets condition home c e)
-  unfolding has_short_rows leads_on has_digit has_known_byte has_known_members fits_offset final_elements has_secondary_lead has_tertiary_lead
+  offset_meets : (c : ℕ) → IsTrue (has_offset_weight d c) → 0x03000000 ≤ offset_weight d c → (condition : ReachableCondition) → IsTrue (meets condition home c e)
+  unfolding has_short_mappings leads_on has_digit has_known_byte has_known_members fits_offset final_elements has_secondary_lead has_tertiary_lead
   offset_meets c fits high Indices = inside
-  offset_meets c fits high PrefixRows = rw (is, has_short_rows) refl
+  offset_meets c fits high PrefixMappings = rw (is, has_short_mappings) refl
   offset_meets c fits high Chains = rw (is, leads_on) refl
   offset_meets c fits high Digits = rw (is, has_digit) refl
   offset_meets c fits high Bytes = rw (is, has_known_byte, has_known_members) refl

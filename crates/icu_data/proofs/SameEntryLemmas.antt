@@ -7,13 +7,13 @@ use Rattle.icu_entries.specs.declared.entry.EntryKind.TheVariants.{Expansion32, 
 use Rattle.icu_entries.specs.declared.element_conditions.ElementCondition.TheVariants as of_element
 use Rattle.icu_entries.specs.ElementConditions.{element_meets}
 use Rattle.icu_entries.specs.Entries.{kind_of}
-use Rattle.icu_data.specs.declared.live_condition.LiveCondition.{LiveCondition}
-use Rattle.icu_data.specs.declared.live_condition.LiveCondition.TheVariants.{Indices, PrefixRows, Chains, Digits, Bytes, Offsets, Shapes, Leads, Primaries}
+use Rattle.icu_data.specs.declared.reachable_condition.ReachableCondition.{ReachableCondition}
+use Rattle.icu_data.specs.declared.reachable_condition.ReachableCondition.TheVariants.{Indices, PrefixMappings, Chains, Digits, Bytes, Offsets, Shapes, Leads, Primaries}
 use Rattle.icu_data.specs.Data.{Data, homed}
 use Rattle.icu_data.specs.Final.{final_elements}
-use Rattle.icu_data.specs.Live.{goes_by_character}
+use Rattle.icu_data.specs.Reachable.{goes_by_character}
 use Rattle.icu_data.specs.DataConditions.{is_inside, has_known_members, fits_offset, is_readable}
-use Rattle.icu_data.specs.LiveConditions.{meets, live_conditions, first_failing}
+use Rattle.icu_data.specs.ReachableConditions.{meets, reachable_conditions, first_failing}
 use Rattle.icu_data.specs.CollectedWeights.{is_stated}
 use Rattle.icu_data.specs.inner.Visitors.{given_elements}
 
@@ -51,9 +51,9 @@ module _ (home : Data) (c d e : ℕ) (same : goes_by_character e ≡ false) wher
   unfolding given_elements is_stated
   given_alike = rw (readable_alike, elements_alike) refl
 
-  meets_alike : (condition : LiveCondition) → meets condition home c e ≡ meets condition home d e
+  meets_alike : (condition : ReachableCondition) → meets condition home c e ≡ meets condition home d e
   meets_alike Indices = refl
-  meets_alike PrefixRows = refl
+  meets_alike PrefixMappings = refl
   meets_alike Chains = refl
   meets_alike Digits = refl
   meets_alike Bytes = refl
@@ -62,7 +62,7 @@ module _ (home : Data) (c d e : ℕ) (same : goes_by_character e ≡ false) wher
   meets_alike Leads = ap (list_all (element_meets of_element.Leads)) elements_alike
   meets_alike Primaries = ap (list_all (element_meets of_element.Primary)) elements_alike
 
-  found_alike : (conditions : List LiveCondition) → find (λ condition. not (meets condition home c e)) conditions ≡ find (λ condition. not (meets condition home d e)) conditions
+  found_alike : (conditions : List ReachableCondition) → find (λ condition. not (meets condition home c e)) conditions ≡ find (λ condition. not (meets condition home d e)) conditions
   found_alike [] = refl
   found_alike (condition ∷ conditions) =
       ap (λ b. if not b then Some condition else find (λ condition. not (meets condition home c e)) conditions) (meets_alike condition)
@@ -70,9 +70,9 @@ module _ (home : Data) (c d e : ℕ) (same : goes_by_character e ≡ false) wher
 
   pub failing_alike : first_failing home c e ≡ first_failing home d e
   unfolding first_failing
-  failing_alike = found_alike live_conditions
+  failing_alike = found_alike reachable_conditions
 
--- ---- what is live
+-- ---- what is reachable
 
 pub or_none : (a b : Bool) → (a || b) ≡ false → (a ≡ false) × (b ≡ false)
 or_none false b h = (refl, h)

@@ -6,14 +6,14 @@ use Rattle.std.proofs.lemmas.Bool.Decides.{nat_tests}
 use Rattle.std.specs.Prelude.{find}
 use Rattle.std.specs.List.{AllByRecursion, Contains}
 use Rattle.icu_data.specs.Data.{Data}
-use Rattle.icu_data.specs.declared.live_condition.LiveCondition.{LiveCondition}
-use Rattle.icu_data.specs.declared.live_condition.LiveCondition.TheVariants.{Indices, PrefixRows, Chains, Digits, Bytes, Offsets, Shapes, Leads, Primaries}
-use Rattle.icu_data.specs.Live.{goes_by_character, live_at, EachLive}
-use Rattle.icu_data.specs.LiveConditions.{meets, live_conditions, first_failing, EachMeets, IsGoodData}
+use Rattle.icu_data.specs.declared.reachable_condition.ReachableCondition.{ReachableCondition}
+use Rattle.icu_data.specs.declared.reachable_condition.ReachableCondition.TheVariants.{Indices, PrefixMappings, Chains, Digits, Bytes, Offsets, Shapes, Leads, Primaries}
+use Rattle.icu_data.specs.Reachable.{goes_by_character, reachable_at, EachReachable}
+use Rattle.icu_data.specs.ReachableConditions.{meets, reachable_conditions, first_failing, EachMeets, IsWellFormedData}
 use Rattle.icu_data.specs.DataConditions.{is_inside, is_readable, has_known_members, fits_offset}
 use Rattle.icu_entries.specs.EntryConditions.{has_known_byte}
 use Rattle.icu_data.specs.Walks.{after_all, after_chars, StandsFor, IsPassed, Walked}
-use Rattle.icu_data.specs.Violations.{earlier, ComesFirst, IsViolationAmong, IsLiveViolation}
+use Rattle.icu_data.specs.Violations.{earlier, ComesFirst, IsViolationAmong, IsReachableViolation}
 use Rattle.icu_data.specs.inner.Visitors.{judged}
 use Rattle.icu_data.proofs.ListLemmas.{weaker, all_of, all_members, of_member}
 use Rattle.icu_data.proofs.WalkLemmas.{fold_keeps, fold_back, walk_keeps, walk_back}
@@ -58,12 +58,12 @@ negated false h = cc
 
 -- ---- one entry
 
-abbrev pub Fails : Data → ℕ → ℕ → LiveCondition → Type 0
+abbrev pub Fails : Data → ℕ → ℕ → ReachableCondition → Type 0
 Fails home c e condition = meets condition home c e ≡ false
 
-listed_meets : (home : Data) (c e : ℕ) → AllByRecursion (λ condition. not (meets condition home c e) ≡ false) live_conditions → (condition : LiveCondition) → IsTrue (meets condition home c e)
+listed_meets : (home : Data) (c e : ℕ) → AllByRecursion (λ condition. not (meets condition home c e) ≡ false) reachable_conditions → (condition : ReachableCondition) → IsTrue (meets condition home c e)
 listed_meets home c e all Indices = not_false _ all.0
-listed_meets home c e all PrefixRows = not_false _ all.1.0
+listed_meets home c e all PrefixMappings = not_false _ all.1.0
 listed_meets home c e all Chains = not_false _ all.1.1.0
 listed_meets home c e all Digits = not_false _ all.1.1.1.0
 listed_meets home c e all Bytes = not_false _ all.1.1.1.1.0
@@ -72,13 +72,13 @@ listed_meets home c e all Shapes = not_false _ all.1.1.1.1.1.1.0
 listed_meets home c e all Leads = not_false _ all.1.1.1.1.1.1.1.0
 listed_meets home c e all Primaries = not_false _ all.1.1.1.1.1.1.1.1.0
 
-pub passes_meets : (home : Data) (c e : ℕ) → first_failing home c e ≡ None → (condition : LiveCondition) → IsTrue (meets condition home c e)
+pub passes_meets : (home : Data) (c e : ℕ) → first_failing home c e ≡ None → (condition : ReachableCondition) → IsTrue (meets condition home c e)
 unfolding first_failing
-passes_meets home c e h = listed_meets home c e (find_none (λ condition. not (meets condition home c e)) live_conditions h)
+passes_meets home c e h = listed_meets home c e (find_none (λ condition. not (meets condition home c e)) reachable_conditions h)
 
-pub meets_passes : (home : Data) (c e : ℕ) → ((condition : LiveCondition) → IsTrue (meets condition home c e)) → first_failing home c e ≡ None
+pub meets_passes : (home : Data) (c e : ℕ) → ((condition : ReachableCondition) → IsTrue (meets condition home c e)) → first_failing home c e ≡ None
 unfolding first_failing
-meets_passes home c e all = none_found (λ condition. not (meets condition home c e)) (λ condition. negated (meets condition home c e) (all condition)) live_conditions
+meets_passes home c e all = none_found (λ condition. not (meets condition home c e)) (λ condition. negated (meets condition home c e) (all condition)) reachable_conditions
 
 pub weaker_some : {X : Type 0} (P Q : X → Type 0) → ((x : X) → P x → Q x) → (o : Option X) → IfSome o P → IfSome o Q
 weaker_some P Q f None h = tt
@@ -87,10 +87,10 @@ weaker_some P Q f (Some x) h = f x h
 pub failing_fails : (home : Data) (c e : ℕ) → IfSome (first_failing home c e) (Fails home c e)
 unfolding first_failing
 failing_fails home c e =
-    weaker_some _ (Fails home c e) (λ condition h. not_true (meets condition home c e) h) _ (find_passes (λ condition. not (meets condition home c e)) live_conditions)
+    weaker_some _ (Fails home c e) (λ condition h. not_true (meets condition home c e) h) _ (find_passes (λ condition. not (meets condition home c e)) reachable_conditions)
 
 -- an entry that meets each condition can be read
-pub meets_readable : (home : Data) (c e : ℕ) → ((condition : LiveCondition) → IsTrue (meets condition home c e)) → IsTrue (is_readable home c e)
+pub meets_readable : (home : Data) (c e : ℕ) → ((condition : ReachableCondition) → IsTrue (meets condition home c e)) → IsTrue (is_readable home c e)
 unfolding is_readable
 meets_readable home c e all =
     let bytes = and_parts (has_known_byte e) (has_known_members home e) (all Bytes) in
@@ -166,7 +166,7 @@ module _ {J F : Type 0} (rank : F → ℕ) (violation : J → Data → ℕ → �
   same_chars : (o : Option F) (cs : List ℕ) → after_chars (judged rank violation) falls_back (judge, o) home cs ≡ (judge, after_chars kept falls_back o home cs)
   same_chars o [] = refl
   same_chars o (c ∷ cs) =
-      let es = live_at falls_back home c in
+      let es = reachable_at falls_back home c in
       ap (λ s. after_chars (judged rank violation) falls_back s home cs) (same_all c o es) ∙ same_chars (after_all kept o home c es) cs
 
   abbrev Judged : J × Option F → J × Option F → Type 0
@@ -205,10 +205,10 @@ module _ {J F : Type 0} (rank : F → ℕ) (violation : J → Data → ℕ → �
   abbrev IsAlike : Type 0
   IsAlike = (c d e : ℕ) → goes_by_character e ≡ false → violation judge home c e ≡ violation judge home d e
 
-  none_live : IsAlike → (o end : Option F) → Walked kept falls_back home o end → (end ≡ None) ↔ ((o ≡ None) × EachLive Passes falls_back home)
-  none_live alike o end w = (
+  none_reachable : IsAlike → (o end : Option F) → Walked kept falls_back home o end → (end ≡ None) ↔ ((o ≡ None) × EachReachable Passes falls_back home)
+  none_reachable alike o end w = (
     walk_back kept falls_back home (λ o. o ≡ None) Passes none_at (λ c d e by passes. alike c d e by ∙ passes) o end w,
-    λ both. walk_keeps kept falls_back home (λ o. o ≡ None) (λ c scalar. weaker (Passes c) _ (none_on c) (live_at falls_back home c) (both.1 c scalar)) o end w both.0,
+    λ both. walk_keeps kept falls_back home (λ o. o ≡ None) (λ c scalar. weaker (Passes c) _ (none_on c) (reachable_at falls_back home c) (both.1 c scalar)) o end w both.0,
   )
 
   -- a violation that is found is that of an entry
@@ -218,8 +218,8 @@ module _ {J F : Type 0} (rank : F → ℕ) (violation : J → Data → ℕ → �
   found_at : (P : F → Type 0) (c : ℕ) (es : List ℕ) → ((f : F) → Among c es f → P f) → AllByRecursion (λ e. (o : Option F) → IfSome o P → IfSome (kept o home c e) P) es
   found_at P c es into =
       weaker (Contains es) (λ e. (o : Option F) → IfSome o P → IfSome (kept o home c e) P)
-      (λ e live o p.
-      let one : IfSome (violation judge home c e) P = weaker_some (λ f. violation judge home c e ≡ Some f) P (λ f found. into f (record { e = e; live = live; found = found })) (violation judge home c e) (some_itself (violation judge home c e)) in
+      (λ e reachable o p.
+      let one : IfSome (violation judge home c e) P = weaker_some (λ f. violation judge home c e ≡ Some f) P (λ f found. into f (record { e = e; reachable = reachable; found = found })) (violation judge home c e) (some_itself (violation judge home c e)) in
       earlier-keeps rank P o (violation judge home c e) p one) es (all_members es)
 
   some_among : (c : ℕ) (es : List ℕ) (o : Option F) → IfSome (after_all kept o home c es) (λ f. (o ≡ Some f) ⊎ Among c es f)
@@ -227,11 +227,11 @@ module _ {J F : Type 0} (rank : F → ℕ) (violation : J → Data → ℕ → �
       let P : F → Type 0 = λ f. (o ≡ Some f) ⊎ Among c es f in
       fold_keeps (λ o e. kept o home c e) (λ o. IfSome o P) es (found_at P c es (λ f is. inr is)) o (weaker_some _ P (λ f is. inl is) o (some_itself o))
 
-  some_live : (o end : Option F) → Walked kept falls_back home o end → IfSome end (λ f. (o ≡ Some f) ⊎ IsLiveViolation (violation judge) falls_back home f)
-  some_live o end w =
-      let P : F → Type 0 = λ f. (o ≡ Some f) ⊎ IsLiveViolation (violation judge) falls_back home f in
+  some_reachable : (o end : Option F) → Walked kept falls_back home o end → IfSome end (λ f. (o ≡ Some f) ⊎ IsReachableViolation (violation judge) falls_back home f)
+  some_reachable o end w =
+      let P : F → Type 0 = λ f. (o ≡ Some f) ⊎ IsReachableViolation (violation judge) falls_back home f in
       walk_keeps kept falls_back home (λ o. IfSome o P)
-      (λ c scalar. found_at P c (live_at falls_back home c) (λ f is. inr (record { c = c; scalar = scalar; among = is }))) o end w (weaker_some _ P (λ f is. inl is) o (some_itself o))
+      (λ c scalar. found_at P c (reachable_at falls_back home c) (λ f is. inr (record { c = c; scalar = scalar; among = is }))) o end w (weaker_some _ P (λ f is. inl is) o (some_itself o))
 
   -- none has a lesser rank than one that is found
   least_at : (f : F) (c e : ℕ) (o : Option F) → ComesFirst rank f (kept o home c e) → ComesFirst rank f o × ComesFirst rank f (violation judge home c e)
@@ -246,8 +246,8 @@ module _ {J F : Type 0} (rank : F → ℕ) (violation : J → Data → ℕ → �
       weaker_some (λ f. ComesFirst rank f end) _
       (λ f h. fold_back (λ o e. kept o home c e) (ComesFirst rank f) (After f c) es (all_of _ (least_at f c) es) o h) end (comes_first rank end)
 
-  least_live : IsAlike → (o end : Option F) → Walked kept falls_back home o end → IfSome end (λ f. ComesFirst rank f o × EachLive (After f) falls_back home)
-  least_live alike o end w =
+  least_reachable : IsAlike → (o end : Option F) → Walked kept falls_back home o end → IfSome end (λ f. ComesFirst rank f o × EachReachable (After f) falls_back home)
+  least_reachable alike o end w =
       weaker_some (λ f. ComesFirst rank f end) _
       (λ f h. walk_back kept falls_back home (ComesFirst rank f) (After f) (least_at f) (λ c d e by first. subst (ComesFirst rank f) (sym (alike c d e by)) first) o end w h) end (comes_first rank end)
 
@@ -262,15 +262,15 @@ module _ {J F : Type 0} (rank : F → ℕ) (violation : J → Data → ℕ → �
       subst (λ (s : J × Option F). FirstAmong c es o s.1) (sym (is ∙ same_all c o es))
       (record { nothing = none_among c es o; some = some_among c es o; least = least_among c es o })
 
-  pub record FirstLive (o found : Option F) : Type 0 where
-    pub nothing : (found ≡ None) ↔ ((o ≡ None) × EachLive Passes falls_back home)
-    pub some : IfSome found (λ f. (o ≡ Some f) ⊎ IsLiveViolation (violation judge) falls_back home f)
-    pub least : IfSome found (λ f. ComesFirst rank f o × EachLive (After f) falls_back home)
+  pub record FirstReachable (o found : Option F) : Type 0 where
+    pub nothing : (found ≡ None) ↔ ((o ≡ None) × EachReachable Passes falls_back home)
+    pub some : IfSome found (λ f. (o ≡ Some f) ⊎ IsReachableViolation (violation judge) falls_back home f)
+    pub least : IfSome found (λ f. ComesFirst rank f o × EachReachable (After f) falls_back home)
 
-  pub first_live : IsAlike → (o : Option F) (s : J × Option F) → Judged (judge, o) s → FirstLive o s.1
-  first_live alike o s walked =
+  pub first_reachable : IsAlike → (o : Option F) (s : J × Option F) → Judged (judge, o) s → FirstReachable o s.1
+  first_reachable alike o s walked =
       let w = kept_walk o s walked in
-      record { nothing = none_live alike o s.1 w; some = some_live o s.1 w; least = least_live alike o s.1 w }
+      record { nothing = none_reachable alike o s.1 w; some = some_reachable o s.1 w; least = least_reachable alike o s.1 w }
 
 -- where none was found before, one that is found is new
 pub not_before : {F : Type 0} (f : F) (A : Type 0) → ((None ≡ Some f) ⊎ A) → A
@@ -284,28 +284,28 @@ FirstPasses home c e = first_failing home c e ≡ None
 
 module _ (falls_back : Bool) (home : Data) where
   -- each condition of each entry, and each entry of each condition
-  all_pass : (c : ℕ) (es : List ℕ) → ((condition : LiveCondition) → AllByRecursion (λ e. IsTrue (meets condition home c e)) es) → AllByRecursion (FirstPasses home c) es
+  all_pass : (c : ℕ) (es : List ℕ) → ((condition : ReachableCondition) → AllByRecursion (λ e. IsTrue (meets condition home c e)) es) → AllByRecursion (FirstPasses home c) es
   all_pass c [] all = tt
   all_pass c (e ∷ es) all =
       (meets_passes home c e (λ condition. (all condition).0), all_pass c es (λ condition. (all condition).1))
 
   -- no entry fails a condition exactly if each meets each
-  pub good_data : EachLive (λ c e. first_failing home c e ≡ None) falls_back home ↔ IsGoodData falls_back home
-  good_data = (
+  pub well_formed_data : EachReachable (λ c e. first_failing home c e ≡ None) falls_back home ↔ IsWellFormedData falls_back home
+  well_formed_data = (
     λ each. record {
-      each = λ condition c scalar. weaker (FirstPasses home c) _ (λ e p. passes_meets home c e p condition) (live_at falls_back home c) (each c scalar);
+      each = λ condition c scalar. weaker (FirstPasses home c) _ (λ e p. passes_meets home c e p condition) (reachable_at falls_back home c) (each c scalar);
     },
-    λ good. λ c scalar. all_pass c (live_at falls_back home c) (λ condition. good.each condition c scalar),
+    λ well_formed. λ c scalar. all_pass c (reachable_at falls_back home c) (λ condition. well_formed.each condition c scalar),
   )
 
   clash : (b : Bool) → b ≡ true → b ≡ false → ⊥
   clash true p q = cc
   clash false p q = cc
 
-  -- a condition that a live entry fails isn't met by each
-  pub refutes : (condition : LiveCondition) → IsLiveViolation first_failing falls_back home condition → ¬ (EachMeets condition falls_back home)
+  -- a condition that a reachable entry fails isn't met by each
+  pub refutes : (condition : ReachableCondition) → IsReachableViolation first_failing falls_back home condition → ¬ (EachMeets condition falls_back home)
   refutes condition is each =
       let among = is.among in
-      let met : IsTrue (meets condition home is.c among.e) = of_member (λ e. IsTrue (meets condition home is.c e)) _ among.e (each is.c is.scalar) among.live in
+      let met : IsTrue (meets condition home is.c among.e) = of_member (λ e. IsTrue (meets condition home is.c e)) _ among.e (each is.c is.scalar) among.reachable in
       let fails : meets condition home is.c among.e ≡ false = subst (λ o. IfSome o (Fails home is.c among.e)) among.found (failing_fails home is.c among.e) in
       clash (meets condition home is.c among.e) met fails

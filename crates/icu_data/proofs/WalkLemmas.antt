@@ -1,5 +1,5 @@
 -- A walk over characters: what each of its visits keeps it keeps, and what its end says goes back to each entry that is
--- live.
+-- reachable.
 use Rattle.std.proofs.Common.{◌≡◌, ℕ, Bool, true, false, ◌==◌, ◌&&◌, List, [], ◌∷◌, if◌then◌else◌, refl, sym, ap, ◌∙◌, subst, arith, fold, Result, Ok, Err, OnOk, inl, inr}
 use Rattle.std.proofs.lemmas.Bool.Decides.{nat_tests}
 use Rattle.std.specs.List.{AllByRecursion}
@@ -8,7 +8,7 @@ use Rattle.icu_data.specs.Data.{Data}
 use Rattle.icu_entries.specs.declared.entry.EntryKind.{EntryKind}
 use Rattle.icu_entries.specs.declared.entry.EntryKind.TheVariants.{Fallback, Implicit}
 use Rattle.icu_entries.specs.Entries.{kind_of}
-use Rattle.icu_data.specs.Live.{goes_by_character, leads_to_character, live_digit, live_contraction, live_from, live_at, EachLive}
+use Rattle.icu_data.specs.Reachable.{goes_by_character, leads_to_character, reachable_digit, reachable_contraction, reachable_from, reachable_at, EachReachable}
 use Rattle.icu_data.specs.Walks.{after_all, StandsFor, IsPassed, Walked}
 use Rattle.icu_data.proofs.ListLemmas.{all_of, of_member, weaker}
 use Rattle.icu_data.proofs.SameEntryLemmas.{none_passes}
@@ -41,17 +41,17 @@ isnt_fallback k e differ is = by_test (e == 0xC0) refl
     by_test false h = refl
     by_test true h = absurd (differ (sym fallback_kind ∙ ap kind_of (sym (same e h)) ∙ is))
 
-digit_alone : (home : Data) (e : ℕ) → kind_of e ≡ Implicit → live_digit home e ≡ e ∷ []
-unfolding live_digit
-digit_alone home e is = rw (is, live_digit) refl
+digit_alone : (home : Data) (e : ℕ) → kind_of e ≡ Implicit → reachable_digit home e ≡ e ∷ []
+unfolding reachable_digit
+digit_alone home e is = rw (is, reachable_digit) refl
 
-contraction_alone : (home : Data) (e : ℕ) → kind_of e ≡ Implicit → live_contraction home e ≡ e ∷ []
-unfolding live_contraction
-contraction_alone home e is = rw (is, live_contraction) (digit_alone home e is)
+contraction_alone : (home : Data) (e : ℕ) → kind_of e ≡ Implicit → reachable_contraction home e ≡ e ∷ []
+unfolding reachable_contraction
+contraction_alone home e is = rw (is, reachable_contraction) (digit_alone home e is)
 
-alone : (home : Data) (e : ℕ) → kind_of e ≡ Implicit → live_from home e ≡ e ∷ []
-unfolding live_from
-alone home e is = rw (is, live_from) (contraction_alone home e is)
+alone : (home : Data) (e : ℕ) → kind_of e ≡ Implicit → reachable_from home e ≡ e ∷ []
+unfolding reachable_from
+alone home e is = rw (is, reachable_from) (contraction_alone home e is)
 
 not_implicit : Fallback ≡ Implicit → ⊥
 not_implicit h = cc
@@ -60,21 +60,21 @@ pub kept : (a b : Bool) (e : ℕ) (es : List ℕ) → b ≡ false → (if a && b
 kept true b e es h = rw h refl
 kept false b e es h = refl
 
-pub implicit_alone : (falls_back : Bool) (home : Data) (c : ℕ) → kind_of (home.value c) ≡ Implicit → live_at falls_back home c ≡ home.value c ∷ []
-implicit_alone falls_back home c is = kept falls_back (home.value c == 0xC0) (home.value c) (live_from home (home.value c)) (isnt_fallback Implicit (home.value c) not_implicit is) ∙ alone home (home.value c) is
+pub implicit_alone : (falls_back : Bool) (home : Data) (c : ℕ) → kind_of (home.value c) ≡ Implicit → reachable_at falls_back home c ≡ home.value c ∷ []
+implicit_alone falls_back home c is = kept falls_back (home.value c == 0xC0) (home.value c) (reachable_from home (home.value c)) (isnt_fallback Implicit (home.value c) not_implicit is) ∙ alone home (home.value c) is
 
 -- ---- the same of a walk
 
 module _ {S : Type 0} (after : S → Data → ℕ → ℕ → S) (falls_back : Bool) (home : Data) where
-  pub walk_keeps : (I : S → Type 0) → EachLive (λ c e. (s : S) → I s → I (after s home c e)) falls_back home → (s t : S) → Walked after falls_back home s t → I s → I t
+  pub walk_keeps : (I : S → Type 0) → EachReachable (λ c e. (s : S) → I s → I (after s home c e)) falls_back home → (s t : S) → Walked after falls_back home s t → I s → I t
   walk_keeps I each s t w i =
       subst I (sym w.adds_up)
-      (fold_keeps (λ s c. after_all after s home c (live_at falls_back home c)) I w.chars
-      (weaker IsScalar _ (λ c scalar. fold_keeps (λ s e. after s home c e) I (live_at falls_back home c) (each c scalar)) w.chars w.scalars) s i)
+      (fold_keeps (λ s c. after_all after s home c (reachable_at falls_back home c)) I w.chars
+      (weaker IsScalar _ (λ c scalar. fold_keeps (λ s e. after s home c e) I (reachable_at falls_back home c) (each c scalar)) w.chars w.scalars) s i)
 
-  -- the entries that are live with a character, by its entry
-  abbrev live_by : ℕ → List ℕ
-  live_by e = if falls_back && e == 0xC0 then [] else live_from home e
+  -- the entries that are reachable with a character, by its entry
+  abbrev reachable_by : ℕ → List ℕ
+  reachable_by e = if falls_back && e == 0xC0 then [] else reachable_from home e
 
   shared_if : (P : ℕ → Type 0) (b : Bool) (es : List ℕ) → AllByRecursion P es → AllByRecursion P (if b then [] else es)
   shared_if P true es all = tt
@@ -85,27 +85,27 @@ module _ {S : Type 0} (after : S → Data → ℕ → ℕ → S) (falls_back : B
   alike_all P Q f [] none all = tt
   alike_all P Q f (e ∷ es) none all = (f e none.0 all.0, alike_all P Q f es none.1 all.1)
 
-  none_live : (e : ℕ) → leads_to_character home e ≡ false → AllByRecursion (λ e. goes_by_character e ≡ false) (live_by e)
+  none_reachable : (e : ℕ) → leads_to_character home e ≡ false → AllByRecursion (λ e. goes_by_character e ≡ false) (reachable_by e)
   unfolding leads_to_character
-  none_live e none = shared_if (λ e. goes_by_character e ≡ false) (falls_back && e == 0xC0) (live_from home e) (none_passes goes_by_character (live_from home e) none)
+  none_reachable e none = shared_if (λ e. goes_by_character e ≡ false) (falls_back && e == 0xC0) (reachable_from home e) (none_passes goes_by_character (reachable_from home e) none)
 
   pub walk_back : (J : S → Type 0) (Q : ℕ → ℕ → Type 0) → ((c e : ℕ) (s : S) → J (after s home c e) → J s × Q c e)
-      → ((c d e : ℕ) → goes_by_character e ≡ false → Q d e → Q c e) → (s t : S) → Walked after falls_back home s t → J t → J s × EachLive Q falls_back home
+      → ((c d e : ℕ) → goes_by_character e ≡ false → Q d e → Q c e) → (s t : S) → Walked after falls_back home s t → J t → J s × EachReachable Q falls_back home
   walk_back J Q turn alike s t w j =
-      let both = fold_back (λ s c. after_all after s home c (live_at falls_back home c)) J (λ c. AllByRecursion (Q c) (live_at falls_back home c)) w.chars
-      (all_of _ (λ c. fold_back (λ s e. after s home c e) J (Q c) (live_at falls_back home c) (all_of _ (turn c) (live_at falls_back home c))) w.chars) s (subst J w.adds_up j) in
+      let both = fold_back (λ s c. after_all after s home c (reachable_at falls_back home c)) J (λ c. AllByRecursion (Q c) (reachable_at falls_back home c)) w.chars
+      (all_of _ (λ c. fold_back (λ s e. after s home c e) J (Q c) (reachable_at falls_back home c) (all_of _ (turn c) (reachable_at falls_back home c))) w.chars) s (subst J w.adds_up j) in
       (both.0, λ c scalar. elim (w.each c scalar) [ inl stands ↦ stood both.1 c stands | inr passed ↦ passed_by c passed ])
     where
-      stood : AllByRecursion (λ c. AllByRecursion (Q c) (live_at falls_back home c)) w.chars → (c : ℕ) → StandsFor home w.chars c → AllByRecursion (Q c) (live_at falls_back home c)
+      stood : AllByRecursion (λ c. AllByRecursion (Q c) (reachable_at falls_back home c)) w.chars → (c : ℕ) → StandsFor home w.chars c → AllByRecursion (Q c) (reachable_at falls_back home c)
       stood all c stands =
-          let there : AllByRecursion (Q stands.other) (live_by (home.value stands.other)) = of_member (λ c. AllByRecursion (Q c) (live_at falls_back home c)) w.chars stands.other all stands.among in
-          let here : AllByRecursion (Q stands.other) (live_by (home.value c)) = subst (λ e. AllByRecursion (Q stands.other) (live_by e)) stands.same_entry there in
+          let there : AllByRecursion (Q stands.other) (reachable_by (home.value stands.other)) = of_member (λ c. AllByRecursion (Q c) (reachable_at falls_back home c)) w.chars stands.other all stands.among in
+          let here : AllByRecursion (Q stands.other) (reachable_by (home.value c)) = subst (λ e. AllByRecursion (Q stands.other) (reachable_by e)) stands.same_entry there in
           elim stands.same [
-            | inl none ↦ alike_all (Q stands.other) (Q c) (alike c stands.other) (live_by (home.value c)) (none_live (home.value c) none) here
-            | inr same ↦ subst (λ d. AllByRecursion (Q d) (live_by (home.value c))) same here
+            | inl none ↦ alike_all (Q stands.other) (Q c) (alike c stands.other) (reachable_by (home.value c)) (none_reachable (home.value c) none) here
+            | inr same ↦ subst (λ d. AllByRecursion (Q d) (reachable_by (home.value c))) same here
           ]
 
-      passed_by : (c : ℕ) → IsPassed after home t c → AllByRecursion (Q c) (live_at falls_back home c)
+      passed_by : (c : ℕ) → IsPassed after home t c → AllByRecursion (Q c) (reachable_at falls_back home c)
       passed_by c passed =
           subst (AllByRecursion (Q c)) (sym (implicit_alone falls_back home c passed.implicit))
           ((turn c (home.value c) t (subst J (sym passed.nothing) j)).1, tt)

@@ -5,7 +5,7 @@ use Rattle.icu_entries.specs.Elements.{Element, end_element}
 use Rattle.icu_entries.specs.Entries.{entry_index}
 
 -- a list of characters with its entry
-pub record Row : Type 0 where
+pub record Mapping : Type 0 where
   pub chars : List ℕ
   pub entry : ℕ
 
@@ -13,7 +13,7 @@ pub record Row : Type 0 where
 -- part 5, "Context-Sensitive Mappings")
 pub record Context : Type 0 where
   pub default : ℕ
-  pub rows : List Row
+  pub mappings : List Mapping
 
 -- A root or a tailoring: a function from characters to entries, and the lists and contexts that entries name (UTS #35
 -- part 5, "Collation Tailorings").
@@ -34,7 +34,7 @@ homed home e = record { home = home; entry = e }
 
 -- the empty context
 abbrev pub no_context : Context
-no_context = record { default = 0; rows = [] }
+no_context = record { default = 0; mappings = [] }
 
 -- the context at an index, or the empty one where there is none
 abbrev pub context_in : List Context → ℕ → Context
@@ -52,25 +52,25 @@ data_element home e = slice_index_or home.elements (entry_index e) end_element
 abbrev pub plain_of : Data → ℕ → ℕ
 plain_of home e = slice_index home.entries (entry_index e)
 
--- the entry of the row with these characters
-unfoldable pub row_entry : List Row → List ℕ → Option ℕ
-row_entry [] chars = None
-row_entry (row ∷ rows) chars = if bytes_eq row.chars chars then Some row.entry else row_entry rows chars
+-- the entry of the mapping with these characters
+unfoldable pub mapping_entry : List Mapping → List ℕ → Option ℕ
+mapping_entry [] chars = None
+mapping_entry (mapping ∷ mappings) chars = if bytes_eq mapping.chars chars then Some mapping.entry else mapping_entry mappings chars
 
--- the row has more characters than the other one, or there is no other one
-abbrev pub is_longer : Row → Option Row → Bool
-is_longer row None = true
-is_longer row (Some best) = nat_lt (length best.chars) (length row.chars)
+-- the mapping has more characters than the other one, or there is no other one
+abbrev pub is_longer : Mapping → Option Mapping → Bool
+is_longer mapping None = true
+is_longer mapping (Some best) = nat_lt (length best.chars) (length mapping.chars)
 
--- the row, where it begins the text and is longer than the best so far
-abbrev pub better : Option Row → Row → List ℕ → Option Row
-better best row text = if starts_with nat_eq text row.chars && is_longer row best then Some row else best
+-- the mapping, where it begins the text and is longer than the best so far
+abbrev pub better : Option Mapping → Mapping → List ℕ → Option Mapping
+better best mapping text = if starts_with nat_eq text mapping.chars && is_longer mapping best then Some mapping else best
 
--- the longest of the rows that begin the text, and of the best before them
-unfoldable pub longest_from : Option Row → List Row → List ℕ → Option Row
+-- the longest of the mappings that begin the text, and of the best before them
+unfoldable pub longest_from : Option Mapping → List Mapping → List ℕ → Option Mapping
 longest_from best [] text = best
-longest_from best (row ∷ rows) text = longest_from (better best row text) rows text
+longest_from best (mapping ∷ mappings) text = longest_from (better best mapping text) mappings text
 
--- the longest row that begins the text (UTS #10, "Produce Collation Element Arrays")
-abbrev pub longest_row : List Row → List ℕ → Option Row
-longest_row = longest_from None
+-- the longest mapping that begins the text (UTS #10, "Produce Collation Element Arrays")
+abbrev pub longest_mapping : List Mapping → List ℕ → Option Mapping
+longest_mapping = longest_from None

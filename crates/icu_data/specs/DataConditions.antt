@@ -4,10 +4,10 @@ use Rattle.std.specs.Prelude.{ℕ, ◌+◌, Bool, true, not, ◌&&◌, nat_le, n
 use Rattle.std.specs.List.{list_all}
 use Rattle.icu_entries.specs.declared.entry.EntryKind.TheVariants.{Expansion32, Expansion, Prefix, Contraction, Digit, Offset}
 use Rattle.icu_entries.specs.Entries.{kind_of, entry_index, is_self_contained}
-use Rattle.icu_data.specs.Data.{Row, Data, homed, context_of, plain_of}
+use Rattle.icu_data.specs.Data.{Mapping, Data, homed, context_of, plain_of}
 use Rattle.icu_data.specs.Final.{listed}
 use Rattle.icu_entries.specs.Entries.{is_final}
-use Rattle.icu_data.specs.Live.{named_entries}
+use Rattle.icu_data.specs.Reachable.{named_entries}
 use Rattle.icu_entries.specs.EntryConditions.{is_listed, may_follow_prefix, may_follow_contraction, has_offset_weight}
 
 -- what the entry refers to is there
@@ -24,12 +24,12 @@ is_inside home e =
     ]
 
 -- a text before a character is read back for two characters
-abbrev pub is_short : Row → Bool
-is_short row = nat_le 1 (length row.chars) && nat_le (length row.chars) 2
+abbrev pub is_short : Mapping → Bool
+is_short mapping = nat_le 1 (length mapping.chars) && nat_le (length mapping.chars) 2
 
--- the rows of a prefix have one character or two
-unfoldable pub has_short_rows : Data → ℕ → Bool
-has_short_rows home e = elim (kind_of e) [ Prefix ↦ list_all is_short (context_of (homed home e)).rows | _ ↦ true ]
+-- the mappings of a prefix have one character or two
+unfoldable pub has_short_mappings : Data → ℕ → Bool
+has_short_mappings home e = elim (kind_of e) [ Prefix ↦ list_all is_short (context_of (homed home e)).mappings | _ ↦ true ]
 
 -- the first diacritic
 abbrev pub diacritics_base : ℕ
@@ -39,15 +39,15 @@ diacritics_base = 0x300
 abbrev pub is_diacritic : ℕ → ℕ → Bool
 is_diacritic count c = nat_le diacritics_base c && nat_lt c (diacritics_base + count)
 
--- none of the row's characters is a diacritic
-abbrev pub row_avoids : ℕ → Row → Bool
-row_avoids count row = list_all (λ c. not (is_diacritic count c)) row.chars
+-- none of the mapping's characters is a diacritic
+abbrev pub mapping_avoids : ℕ → Mapping → Bool
+mapping_avoids count mapping = list_all (λ c. not (is_diacritic count c)) mapping.chars
 
--- no character of the rows of a prefix is a diacritic, whose element no text before it changes
+-- no character of the mappings of a prefix is a diacritic, whose element no text before it changes
 unfoldable pub avoids_diacritics : ℕ → Data → ℕ → Bool
 avoids_diacritics count home e =
     elim (kind_of e) [
-      | Prefix ↦ list_all (row_avoids count) (context_of (homed home e)).rows
+      | Prefix ↦ list_all (mapping_avoids count) (context_of (homed home e)).mappings
       | _ ↦ true
     ]
 

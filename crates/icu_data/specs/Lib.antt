@@ -1,8 +1,8 @@
 pub mod Data
 pub mod Final
-pub mod Live
+pub mod Reachable
 pub mod DataConditions
-pub mod LiveConditions
+pub mod ReachableConditions
 pub mod Walks
 pub mod Violations
 pub mod CollectedWeights

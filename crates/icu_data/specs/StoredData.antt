@@ -3,12 +3,12 @@ use Rattle.std.specs.Prelude.{ℕ, List, map, slice_index}
 use Rattle.icu_data.specs.declared.code_point_table.CodePointTable.{CodePointTable}
 use Rattle.icu_data.specs.declared.context.ContextTable.{ContextTable}
 use Rattle.icu_data.specs.declared.context.FoundContext.{FoundContext}
-use Rattle.icu_data.specs.declared.context.FoundRow.{FoundRow}
+use Rattle.icu_data.specs.declared.context.FoundMapping.{FoundMapping}
 use Rattle.icu_data.specs.declared.data.CollationData.{CollationData}
 use Rattle.icu_entries.specs.Elements.{element_of}
 use Rattle.icu_data.specs.CodePointTables.{stored_value}
-use Rattle.icu_data.specs.Data.{Row, Context, Data}
-use Rattle.icu_data.specs.Contexts.{rows_of, stored_contexts}
+use Rattle.icu_data.specs.Data.{Mapping, Context, Data}
+use Rattle.icu_data.specs.Contexts.{mappings_of, stored_contexts}
 
 -- the function from characters to values that a code point table is
 abbrev pub table_value : CodePointTable → ℕ → ℕ
@@ -20,15 +20,15 @@ table_block t i = slice_index t.blocks.now i
 
 -- the contexts of a context table
 abbrev pub contexts_of : ContextTable → List Context
-contexts_of t = stored_contexts t.contexts.now t.rows.now t.chars.now
+contexts_of t = stored_contexts t.contexts.now t.mappings.now t.chars.now
 
 -- a context that was looked up
 abbrev pub found_context : FoundContext → Context
-found_context f = record { default = f.default; rows = rows_of f.chars.now f.rows.now }
+found_context f = record { default = f.default; mappings = mappings_of f.chars.now f.mappings.now }
 
--- a row that was looked up
-abbrev pub found_row : FoundRow → Row
-found_row r = record { chars = r.chars.now; entry = r.entry }
+-- a mapping that was looked up
+abbrev pub found_mapping : FoundMapping → Mapping
+found_mapping r = record { chars = r.chars.now; entry = r.entry }
 
 -- a root or a tailoring by its code point table, its lists of elements and of entries, and its contexts
 abbrev pub data_by : CodePointTable → List ℕ → List ℕ → ContextTable → Data

@@ -1,13 +1,13 @@
--- A walk over the entries that are live with characters.
+-- A walk over the entries that are reachable with characters.
 use Rattle.std.specs.Prelude.{ℕ, zero, suc, ◌+◌, ◌≡◌, ◌≤◌, ◌<◌, ◌⊎◌, Bool, false, List, fold}
 use Rattle.std.specs.Char.{IsScalar}
 use Rattle.std.specs.List.{AllByRecursion, Contains}
 use Rattle.icu_entries.specs.declared.entry.EntryKind.TheVariants.{Implicit}
 use Rattle.icu_entries.specs.Entries.{kind_of}
 use Rattle.icu_data.specs.Data.{Data}
-use Rattle.icu_data.specs.Live.{live_at, leads_to_character}
+use Rattle.icu_data.specs.Reachable.{reachable_at, leads_to_character}
 
--- what a visitor is after entries that are live with a character, in order
+-- what a visitor is after entries that are reachable with a character, in order
 abbrev pub after_all : {V : Type 0} → (V → Data → ℕ → ℕ → V) → V → Data → ℕ → List ℕ → V
 after_all after v home c es = fold (λ v e. after v home c e) v es
 
@@ -15,11 +15,11 @@ after_all after v home c es = fold (λ v e. after v home c e) v es
 abbrev pub after_lead : {V : Type 0} → (V → Data → ℕ → ℕ → V) → (Data → ℕ → List ℕ) → Data → ℕ → ℕ → V → V
 after_lead after lead home c e v = after_all after v home c (lead home e)
 
--- what a visitor is after the entries that are live with a character of the code point table, in order
+-- what a visitor is after the entries that are reachable with a character of the code point table, in order
 abbrev pub after_char : {V : Type 0} → (V → Data → ℕ → ℕ → V) → Bool → Data → ℕ → V → V
-after_char after falls_back home c v = after_all after v home c (live_at falls_back home c)
+after_char after falls_back home c v = after_all after v home c (reachable_at falls_back home c)
 
--- what a visitor is after the entries that are live with each of these characters, in order
+-- what a visitor is after the entries that are reachable with each of these characters, in order
 abbrev pub after_chars : {V : Type 0} → (V → Data → ℕ → ℕ → V) → Bool → V → Data → List ℕ → V
 after_chars after falls_back v home cs = fold (λ v c. after_char after falls_back home c v) v cs
 
@@ -36,7 +36,7 @@ after_run after v home first e (suc n) = after (after_run after v home first e n
 abbrev pub after_both : {V W : Type 0} → (V → Data → ℕ → ℕ → V) → (W → Data → ℕ → ℕ → W) → V × W → Data → ℕ → ℕ → V × W
 after_both first second s home c e = (first s.0 home c e, second s.1 home c e)
 
--- One of these characters stands for a character: it has its entry, and nothing that is live from there goes by the
+-- One of these characters stands for a character: it has its entry, and nothing that is reachable from there goes by the
 -- character, unless it is that character.
 pub record StandsFor (home : Data) (cs : List ℕ) (c : ℕ) : Type 0 where
   pub other : ℕ
@@ -49,7 +49,7 @@ pub record IsPassed {V : Type 0} (after : V → Data → ℕ → ℕ → V) (hom
   pub implicit : kind_of (home.value c) ≡ Implicit
   pub nothing : after v home c (home.value c) ≡ v
 
--- A visitor went from one state to another by visits of entries that are live, in any order and any number of times:
+-- A visitor went from one state to another by visits of entries that are reachable, in any order and any number of times:
 -- for each character another one stands whose entries were visited, or it is passed.
 pub record Walked {V : Type 0} (after : V → Data → ℕ → ℕ → V) (falls_back : Bool) (home : Data) (old new : V) : Type 0 where
   pub chars : List ℕ

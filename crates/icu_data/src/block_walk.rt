@@ -4,7 +4,7 @@ ghost use Rattle.std.specs.Prelude.{◌≡◌, ◌+◌, ◌*◌, ◌^◌, ◌<�
 ghost use Rattle.std.specs.Char.{IsScalar};
 ghost use Rattle.icu_entries.specs.Entries.{kind_of};
 ghost use Rattle.icu_data.specs.Data.{Data};
-ghost use Rattle.icu_data.specs.Live.{goes_by_character, leads_to_character};
+ghost use Rattle.icu_data.specs.Reachable.{goes_by_character, leads_to_character};
 ghost use Rattle.icu_data.specs.StoredData.{data_of, block_in};
 ghost use Rattle.icu_data.specs.Walks.{Walked, after_char, EachOfBlock};
 ghost use Rattle.icu_data.specs.inner.BlockWalks.{is_wanted, WalkedTo, WalksOn, AddsShared, AreShared, IsRun, IsState, AreStates};
@@ -39,7 +39,7 @@ enum BlockState {
 
 /// Whether what an entry gives goes by its character: a weight that is counted from that of another character, or an
 /// implicit one.
-#[tactic(auto, unfolding(crate::specs::Live::goes_by_character))]
+#[tactic(auto, unfolding(crate::specs::Reachable::goes_by_character))]
 pub(crate) fn goes_by_character(entry: CollationElement32) -> bool
     ensures { result ≡ goes_by_character entry }
 {
@@ -56,7 +56,7 @@ struct CharacterSearch {
 }
 
 impl Visit for CharacterSearch {
-    type Refusal = Infallible;
+    type Error = Infallible;
 
     ghost Seen = { Bool };
 
@@ -87,7 +87,7 @@ fn is_offset(entry: CollationElement32) -> bool
     }
 }
 
-/// Whether an entry that goes by its character is live from this one.
+/// Whether an entry that goes by its character is reachable from this one.
 #[tactic(auto, using(crate::proofs::BlockWalkLemmas::one_element))]
 fn leads_to_character(home: CollationData<'_>, entry: CollationElement32) -> bool
     ensures { result ≡ leads_to_character (data_of home.entry) entry }
@@ -127,7 +127,7 @@ fn is_wanted(part: Part, home: CollationData<'_>, entry: CollationElement32) -> 
     }
 }
 
-/// Visits each entry that is live with a character of the code point table. With `falls_back`, as in a tailoring,
+/// Visits each entry that is reachable with a character of the code point table. With `falls_back`, as in a tailoring,
 /// fallback entries are passed over.
 fn visit_char<V: Visit>(
     visitor: &mut V,
@@ -135,7 +135,7 @@ fn visit_char<V: Visit>(
     c: char,
     entry: CollationElement32,
     falls_back: bool,
-) -> Result<(), V::Refusal>
+) -> Result<(), V::Error>
     requires { entry ≡ (data_of home).value c }
     ensures { OnOk result (V.seen visitor.new
         ≡ after_char V.after falls_back (data_of home.entry) c (V.seen visitor.old)) }
@@ -156,7 +156,7 @@ fn visit_code<V: Visit>(
     code: u32,
     falls_back: bool,
     part: Part,
-) -> Result<(), V::Refusal>
+) -> Result<(), V::Error>
     ensures { OnOk result (WalkedTo V.after falls_back part (data_of home.entry)
         (V.seen visitor.old) (V.seen visitor.new) code (code + 1)) }
 {
@@ -181,7 +181,7 @@ fn visit_codes<V: Visit>(
     count: u32,
     falls_back: bool,
     part: Part,
-) -> Result<(), V::Refusal>
+) -> Result<(), V::Error>
     requires { first + count < 2 ^ 32 }
     ensures { OnOk result (WalkedTo V.after falls_back part (data_of home.entry)
         (V.seen visitor.old) (V.seen visitor.new) first (first + count)) }
@@ -214,7 +214,7 @@ fn visit_new_code<V: Visit>(
     code: u32,
     falls_back: bool,
     seen: &mut VisitedEntries,
-) -> Result<(), V::Refusal>
+) -> Result<(), V::Error>
     requires { AreShared (data_of home) seen.old }
     ensures shared { AreShared (data_of home.entry) seen.new }
     ensures walks { OnOk result (WalksOn V.after falls_back (data_of home.entry) seen.old seen.new
@@ -243,7 +243,7 @@ fn visit_new_codes<V: Visit>(
     first: u32,
     falls_back: bool,
     seen: &mut VisitedEntries,
-) -> Result<(), V::Refusal>
+) -> Result<(), V::Error>
     requires first { first < 0x110000 }
     requires shared { AreShared (data_of home) seen.old }
     ensures shared { AreShared (data_of home.entry) seen.new }
@@ -310,7 +310,7 @@ fn visit_again<V: Visit>(
     home: CollationData<'_>,
     first: char,
     falls_back: bool,
-) -> Result<(), V::Refusal>
+) -> Result<(), V::Error>
     requires { EachOfBlock first IsScalar }
     ensures { OnOk result (WalkedTo V.after falls_back Part.ByCharacter (data_of home.entry)
         (V.seen visitor.old) (V.seen visitor.new) first (first + 64)) }
@@ -341,7 +341,7 @@ fn visit_block<V: Visit>(
     falls_back: bool,
     seen: &mut VisitedEntries,
     states: &mut [BlockState; 0x10000],
-) -> Result<(), V::Refusal>
+) -> Result<(), V::Error>
     requires index { index < 17408 }
     requires scalar { IsScalar (64 * index) }
     requires shared { AreShared (data_of home) seen.old }
@@ -375,7 +375,7 @@ fn visit_index<V: Visit>(
     falls_back: bool,
     seen: &mut VisitedEntries,
     states: &mut [BlockState; 0x10000],
-) -> Result<(), V::Refusal>
+) -> Result<(), V::Error>
     requires index { index < 17408 }
     requires shared { AreShared (data_of home) seen.old }
     requires states { AreStates home index states.old }
@@ -390,12 +390,12 @@ fn visit_index<V: Visit>(
     }
 }
 
-/// Visits each entry that is live with a character, but for implicit weights.
+/// Visits each entry that is reachable with a character, but for implicit weights.
 fn visit_stated<V: Visit>(
     visitor: &mut V,
     home: CollationData<'_>,
     falls_back: bool,
-) -> Result<(), V::Refusal>
+) -> Result<(), V::Error>
     ensures { OnOk result (WalkedTo V.after falls_back Part.Stated (data_of home.entry)
         (V.seen visitor.old) (V.seen visitor.new) 0 0x110000) }
 {
@@ -407,7 +407,7 @@ fn visit_stated<V: Visit>(
     Ok(())
 }
 
-/// Visits entries that are live with characters: one that goes by its character with each character, any other at least
+/// Visits entries that are reachable with characters: one that goes by its character with each character, any other at least
 /// once. With `falls_back`, as in a tailoring, fallback entries of the code point table are passed over; entries for
 /// implicit weights are, where the visitor says that they change nothing. A block of the code point table that several
 /// indices name is visited once.
@@ -415,7 +415,7 @@ pub fn visit_chars<V: Visit>(
     visitor: &mut V,
     home: CollationData<'_>,
     falls_back: bool,
-) -> Result<(), V::Refusal>
+) -> Result<(), V::Error>
     ensures { OnOk result (Walked V.after falls_back (data_of home.entry)
         (V.seen visitor.old) (V.seen visitor.new)) }
 {

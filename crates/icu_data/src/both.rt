@@ -15,8 +15,8 @@ pub struct Both<A, B> {
     pub second: B,
 }
 
-impl<A: Visit, B: Visit<Refusal = A::Refusal>> Visit for Both<A, B> {
-    type Refusal = A::Refusal;
+impl<A: Visit, B: Visit<Error = A::Error>> Visit for Both<A, B> {
+    type Error = A::Error;
 
     ghost Seen = { A.Seen × B.Seen };
 
@@ -29,7 +29,7 @@ impl<A: Visit, B: Visit<Refusal = A::Refusal>> Visit for Both<A, B> {
         home: CollationData<'_>,
         c: char,
         entry: CollationElement32,
-    ) -> Result<(), A::Refusal> {
+    ) -> Result<(), A::Error> {
         self.first.visit(home, c, entry)?;
         self.second.visit(home, c, entry)
     }

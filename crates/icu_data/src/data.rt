@@ -1,18 +1,18 @@
 //! Roots and tailorings.
 ghost use Rattle.std.specs.Prelude.{◌≡◌, ◌+◌, ◌<◌, ◌≤◌, length, slice_index, take, drop, map, IsTrue, All, IsOk, IfOk, IfErr, true, ◌↔◌, ◌∷◌, []};
-ghost use Rattle.icu_data.specs.Contexts.{has_ascending_rows};
+ghost use Rattle.icu_data.specs.Contexts.{has_ascending_mappings};
 ghost use Rattle.icu_entries.specs.Elements.{element_of};
 ghost use Rattle.std.specs.List.{list_all};
 ghost use Rattle.icu_entries.specs.Entries.{kind_of, is_self_contained, has_index, entry_index};
 ghost use Rattle.icu_entries.specs.Weights.{ordinal_of_weight, offset_compressible, offset_ordinal};
 ghost use Rattle.icu_data.specs.Final.{listed, final_elements};
 ghost use Rattle.icu_data.specs.DataConditions.{is_inside, fits_offset};
-ghost use Rattle.icu_data.specs.LiveConditions.{IsGoodData, FailsData};
+ghost use Rattle.icu_data.specs.ReachableConditions.{IsWellFormedData, FailsData};
 ghost use Rattle.icu_data.specs.Data.{homed, context_in, context_of, data_element, plain_of};
 
 use crate::code_point_table::CodePointTable;
 use crate::context::{ContextTable, FoundContext};
-use crate::live_condition::EntryJudge;
+use crate::reachable_condition::EntryJudge;
 use crate::violation::first_violation;
 use icu_entries::{CollationElement, CollationElement32, DataErrorKind, EntryKind};
 
@@ -51,7 +51,7 @@ impl<'d> CollationData<'d> {
     /// entry that a text may come to fails a condition:
     ///
     /// - `Index`: what it refers to is not there, or a list has no member.
-    /// - `Context`: a row of a prefix has not one character or two.
+    /// - `Context`: a mapping of a prefix has not one character or two.
     /// - `Chain`: it leads to an entry that it may not lead to.
     /// - `Digit`: a digit is above 9.
     /// - `Tag`: its low byte, or that of a list's member, has no meaning where it stands.
@@ -65,7 +65,7 @@ impl<'d> CollationData<'d> {
         contexts: ContextTable<'d>,
     ) -> Result<CollationData<'d>, DataErrorKind>
         ensures accepts { IsOk result
-            ↔ IsGoodData true (data_by trie.entry ces.entry.now ce32s.entry.now contexts.entry) }
+            ↔ IsWellFormedData true (data_by trie.entry ces.entry.now ce32s.entry.now contexts.entry) }
         ensures kind { IfErr result
             (FailsData true (data_by trie.entry ces.entry.now ce32s.entry.now contexts.entry)) }
         ensures keeps { IfOk result
@@ -78,7 +78,7 @@ impl<'d> CollationData<'d> {
 
     /// Whether each entry that a text may come to meets each condition.
     fn check(self) -> Result<(), DataErrorKind>
-        ensures accepts { IsOk result ↔ IsGoodData true (data_of self.entry) }
+        ensures accepts { IsOk result ↔ IsWellFormedData true (data_of self.entry) }
         ensures kind { IfErr result (FailsData true (data_of self.entry)) }
     {
         match first_violation(&EntryJudge, None, self, true) {
@@ -88,11 +88,11 @@ impl<'d> CollationData<'d> {
     }
 
     /// The code point table, the bits of the elements, the entries, and the contexts, as `new` takes them. In each
-    /// context the rows ascend by the numbers of their characters.
-    #[tactic(auto, using(crate::proofs::ContextLemmas::ascending_rows), unfolding(crate::specs::StoredData::data_of))]
+    /// context the mappings ascend by the numbers of their characters.
+    #[tactic(auto, using(crate::proofs::ContextLemmas::ascending_mappings), unfolding(crate::specs::StoredData::data_of))]
     pub fn parts(self) -> (CodePointTable<'d>, &'d [u64], &'d [u32], ContextTable<'d>)
         ensures value { data_by result.0 result.1.now result.2.now result.3 ≡ data_of self.entry }
-        ensures ascending { All (λ x. IsTrue (has_ascending_rows x)) (data_of self.entry).contexts }
+        ensures ascending { All (λ x. IsTrue (has_ascending_mappings x)) (data_of self.entry).contexts }
     {
         (self.trie, self.ces, self.ce32s, self.contexts)
     }
@@ -148,7 +148,7 @@ impl<'d> CollationData<'d> {
         &self.ces[index..index + len]
     }
 
-    /// The entry for all texts of the context at an index, but those of its rows.
+    /// The entry for all texts of the context at an index, but those of its mappings.
     #[tactic(auto, unfolding(crate::specs::StoredData::data_of))]
     pub fn get_default(self, index: usize) -> CollationElement32
         requires { index < length (data_of self).contexts }
@@ -157,12 +157,12 @@ impl<'d> CollationData<'d> {
         self.get_context(index).default()
     }
 
-    /// The context at an index, its entry for all texts and its rows, which ascend by the numbers of their characters.
+    /// The context at an index, its entry for all texts and its mappings, which ascend by the numbers of their characters.
     #[tactic(auto, unfolding(crate::specs::StoredData::data_of))]
     pub fn get_context(self, index: usize) -> FoundContext<'d>
         requires { index < length (data_of self).contexts }
         ensures value { found_context result ≡ context_in (data_of self.entry).contexts index }
-        ensures ascending { IsTrue (has_ascending_rows (found_context result)) }
+        ensures ascending { IsTrue (has_ascending_mappings (found_context result)) }
     {
         self.contexts.get(index)
     }

@@ -2,25 +2,25 @@
 ghost use Rattle.std.specs.Prelude.{◌≡◌, Bool, IsTrue};
 ghost use Rattle.icu_entries.specs.Entries.{kind_of};
 ghost use Rattle.icu_data.specs.inner.Visitors.{all_meet};
-ghost use Rattle.icu_data.specs.LiveConditions.{elements_meet, first_failing};
+ghost use Rattle.icu_data.specs.ReachableConditions.{elements_meet, first_failing};
 ghost use Rattle.icu_data.specs.StoredData.{data_of};
-ghost use Rattle.icu_data.specs.DataConditions.{is_inside, has_short_rows, leads_on, has_known_members, fits_offset, is_readable};
+ghost use Rattle.icu_data.specs.DataConditions.{is_inside, has_short_mappings, leads_on, has_known_members, fits_offset, is_readable};
 
 use crate::data::CollationData;
 use crate::element_walk::{VisitElement, visit_elements};
-use crate::live_condition::LiveCondition;
+use crate::reachable_condition::ReachableCondition;
 use icu_entries::element_conditions::ElementCondition;
 use icu_entries::{CollationElement, CollationElement32, EntryKind};
 use std::convert::Infallible;
 
 impl<'d> CollationData<'d> {
-    /// Whether the rows of a prefix have one character or two.
-    #[tactic(auto, unfolding(crate::specs::DataConditions::has_short_rows))]
-    pub(crate) fn has_short_rows(self, entry: CollationElement32) -> bool
-        ensures { result ≡ has_short_rows (data_of self.entry) entry }
+    /// Whether the mappings of a prefix have one character or two.
+    #[tactic(auto, unfolding(crate::specs::DataConditions::has_short_mappings))]
+    pub(crate) fn has_short_mappings(self, entry: CollationElement32) -> bool
+        ensures { result ≡ has_short_mappings (data_of self.entry) entry }
     {
         match entry.kind() {
-            EntryKind::Prefix => self.context_of(entry).has_short_rows(),
+            EntryKind::Prefix => self.context_of(entry).has_short_mappings(),
             _ => true,
         }
     }
@@ -94,31 +94,31 @@ impl<'d> CollationData<'d> {
         }
     }
 
-    /// The first condition that a live entry fails with a character.
-    #[tactic(auto, unfolding(crate::specs::LiveConditions::first_failing))]
-    pub fn first_failing(self, c: char, entry: CollationElement32) -> Option<LiveCondition>
+    /// The first condition that a reachable entry fails with a character.
+    #[tactic(auto, unfolding(crate::specs::ReachableConditions::first_failing))]
+    pub fn first_failing(self, c: char, entry: CollationElement32) -> Option<ReachableCondition>
         ensures { result ≡ first_failing (data_of self.entry) c entry }
     {
         if !self.is_inside(entry) {
-            Some(LiveCondition::Indices)
-        } else if !self.has_short_rows(entry) {
-            Some(LiveCondition::PrefixRows)
+            Some(ReachableCondition::Indices)
+        } else if !self.has_short_mappings(entry) {
+            Some(ReachableCondition::PrefixMappings)
         } else if !self.leads_on(entry) {
-            Some(LiveCondition::Chains)
+            Some(ReachableCondition::Chains)
         } else if !entry.has_digit() {
-            Some(LiveCondition::Digits)
+            Some(ReachableCondition::Digits)
         } else if !(entry.has_known_byte() && self.has_known_members(entry)) {
-            Some(LiveCondition::Bytes)
+            Some(ReachableCondition::Bytes)
         } else if !self.fits_offset(c, entry) {
-            Some(LiveCondition::Offsets)
+            Some(ReachableCondition::Offsets)
         } else {
             let meet = self.elements_meet(c, entry);
             if !meet.shapes {
-                Some(LiveCondition::Shapes)
+                Some(ReachableCondition::Shapes)
             } else if !meet.leads {
-                Some(LiveCondition::Leads)
+                Some(ReachableCondition::Leads)
             } else if !meet.primaries {
-                Some(LiveCondition::Primaries)
+                Some(ReachableCondition::Primaries)
             } else {
                 None
             }
@@ -135,7 +135,7 @@ struct ElementsMeet {
 }
 
 impl VisitElement for ElementsMeet {
-    type Refusal = Infallible;
+    type Error = Infallible;
 
     ghost Seen = { (Bool × Bool) × Bool };
 

@@ -14,7 +14,7 @@ use icu_entries::{CollationElement, CollationElement32, EntryKind};
 /// A visitor of elements.
 pub trait VisitElement {
     /// Why a visit ends the walk, as out of memory. `Infallible` where none does.
-    type Refusal;
+    type Error;
 
     /// What visits add up to.
     ghost Seen: { Type 0 };
@@ -26,11 +26,11 @@ pub trait VisitElement {
     ghost after: { Seen → Element → Seen };
 
     /// Visits an element.
-    fn visit(&mut self, element: CollationElement) -> Result<(), Self::Refusal>
+    fn visit(&mut self, element: CollationElement) -> Result<(), Self::Error>
         ensures { OnOk result (seen self.new ≡ after (seen self.old) element) };
 }
 
-fn visit_entries<V: VisitElement>(visitor: &mut V, entries: &[u32]) -> Result<(), V::Refusal>
+fn visit_entries<V: VisitElement>(visitor: &mut V, entries: &[u32]) -> Result<(), V::Error>
     requires { IsTrue (list_all is_self_contained entries.now) }
     ensures { OnOk result (V.seen visitor.new
         ≡ fold V.after (V.seen visitor.old) (flat_map self_contained entries.now)) }
@@ -41,7 +41,7 @@ fn visit_entries<V: VisitElement>(visitor: &mut V, entries: &[u32]) -> Result<()
     Ok(())
 }
 
-fn visit_listed<V: VisitElement>(visitor: &mut V, elements: &[u64]) -> Result<(), V::Refusal>
+fn visit_listed<V: VisitElement>(visitor: &mut V, elements: &[u64]) -> Result<(), V::Error>
     ensures { OnOk result (V.seen visitor.new
         ≡ fold V.after (V.seen visitor.old) (map element_of elements.now)) }
 {
@@ -58,7 +58,7 @@ pub fn visit_elements<V: VisitElement>(
     home: CollationData<'_>,
     c: char,
     entry: CollationElement32,
-) -> Result<(), V::Refusal>
+) -> Result<(), V::Error>
     requires { IsTrue (is_readable (data_of home) c entry) }
     ensures { OnOk result (V.seen visitor.new
         ≡ fold V.after (V.seen visitor.old) (final_elements (homed (data_of home.entry) entry) c)) }

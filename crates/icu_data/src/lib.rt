@@ -1,5 +1,5 @@
 //! Roots and tailorings: entries by character, with the lists and contexts that they refer to, the entries that are
-//! live in them, and the conditions that these meet.
+//! reachable in them, and the conditions that these meet.
 #![tactic(auto)]
 
 pub mod block_walk;
@@ -10,13 +10,13 @@ mod context_conditions;
 pub mod data;
 mod data_conditions;
 pub mod element_walk;
-pub mod live_condition;
-pub mod live_weights;
-mod prefix_rows;
+pub mod reachable_condition;
+pub mod reachable_weights;
+mod prefix_mappings;
 pub mod violation;
 mod visited_entries;
 pub mod walk;
 
 pub use code_point_table::CodePointTable;
-pub use context::{Context, ContextRow, ContextTable, FoundContext, FoundRow};
+pub use context::{Context, ContextMapping, ContextTable, FoundContext, FoundMapping};
 pub use data::CollationData;

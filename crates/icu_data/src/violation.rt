@@ -1,10 +1,10 @@
-//! The first violation of the entries that are live in a root or a tailoring, by a judge of each.
+//! The first violation of the entries that are reachable in a root or a tailoring, by a judge of each.
 ghost use Rattle.std.specs.Prelude.{◌≡◌, ◌<◌, ◌↔◌, ◌⊎◌, ℕ, true, false, Option, IfSome, None, Some};
 ghost use Rattle.icu_entries.specs.Entries.{kind_of};
 ghost use Rattle.icu_data.specs.Data.{Data};
-ghost use Rattle.icu_data.specs.Live.{live_from};
+ghost use Rattle.icu_data.specs.Reachable.{reachable_from};
 ghost use Rattle.icu_data.specs.StoredData.{data_of};
-ghost use Rattle.icu_data.specs.Violations.{earlier, ComesFirst, JudgesAlike, AreFreeOf, IsFreeOf, IsFirstAmong, IsFirstOfLive, IsViolationAmong, IsLiveViolation};
+ghost use Rattle.icu_data.specs.Violations.{earlier, ComesFirst, JudgesAlike, AreFreeOf, IsFreeOf, IsFirstAmong, IsFirstOfReachable, IsViolationAmong, IsReachableViolation};
 ghost use Rattle.icu_data.specs.Walks.{EachOfBlock};
 ghost use Rattle.icu_data.specs.inner.Visitors.{judged};
 
@@ -24,7 +24,7 @@ pub trait Ranked: Copy {
         ensures { result ≡ rank self };
 }
 
-/// What finds the violation of an entry that is live with a character.
+/// What finds the violation of an entry that is reachable with a character.
 pub trait Judge {
     /// What it reports.
     type Violation: Ranked;
@@ -32,7 +32,7 @@ pub trait Judge {
     /// The violation of an entry, by the entry's home, the character, and the entry.
     ghost violation: { Self → Data → ℕ → ℕ → Option Self.Violation };
 
-    /// The violation of an entry that is live with a character in its home, if it has one.
+    /// The violation of an entry that is reachable with a character in its home, if it has one.
     fn violation(
         &self,
         home: CollationData<'_>,
@@ -90,7 +90,7 @@ struct FirstViolation<'j, J: Judge> {
 }
 
 impl<'j, J: Judge> Visit for FirstViolation<'j, J> {
-    type Refusal = Infallible;
+    type Error = Infallible;
 
     ghost Seen = { J × Option J.Violation };
 
@@ -117,7 +117,7 @@ impl<'j, J: Judge> Visit for FirstViolation<'j, J> {
     }
 }
 
-/// The violation with the least rank among one found before and those of the entries that are live in a root or a
+/// The violation with the least rank among one found before and those of the entries that are reachable in a root or a
 /// tailoring. A tailoring falls back: a fallback entry of its code point table is none.
 pub fn first_violation<J: Judge>(
     judge: &J,
@@ -128,9 +128,9 @@ pub fn first_violation<J: Judge>(
     ensures none { (result ≡ None)
         ↔ ((first ≡ None) × IsFreeOf (J.violation judge.now) falls_back (data_of home.entry)) }
     ensures some { IfSome result (λ f. (first ≡ Some f)
-        ⊎ IsLiveViolation (J.violation judge.now) falls_back (data_of home.entry) f) }
+        ⊎ IsReachableViolation (J.violation judge.now) falls_back (data_of home.entry) f) }
     ensures least { IfSome result (λ f. ComesFirst J.Violation.rank f first
-        × IsFirstOfLive J.Violation.rank (J.violation judge.now) falls_back
+        × IsFirstOfReachable J.Violation.rank (J.violation judge.now) falls_back
         (data_of home.entry) f) }
 {
     judge.is_alike();
@@ -141,7 +141,7 @@ pub fn first_violation<J: Judge>(
     }
 }
 
-/// The violation with the least rank among one found before and those of the entries that are live with a character
+/// The violation with the least rank among one found before and those of the entries that are reachable with a character
 /// from one entry on.
 pub fn first_violation_from<J: Judge>(
     judge: &J,
@@ -152,13 +152,13 @@ pub fn first_violation_from<J: Judge>(
 ) -> Option<J::Violation>
     ensures none { (result ≡ None) ↔ ((first ≡ None)
         × AreFreeOf (J.violation judge.now) (data_of home.entry) c
-        (live_from (data_of home.entry) entry)) }
+        (reachable_from (data_of home.entry) entry)) }
     ensures some { IfSome result (λ f. (first ≡ Some f)
         ⊎ IsViolationAmong (J.violation judge.now) (data_of home.entry) c
-        (live_from (data_of home.entry) entry) f) }
+        (reachable_from (data_of home.entry) entry) f) }
     ensures least { IfSome result (λ f. ComesFirst J.Violation.rank f first
         × IsFirstAmong J.Violation.rank (J.violation judge.now) (data_of home.entry) c
-        (live_from (data_of home.entry) entry) f) }
+        (reachable_from (data_of home.entry) entry) f) }
 {
     let mut visitor = FirstViolation { judge, first };
     match visit_from(&mut visitor, home, c, entry) {

@@ -1,21 +1,21 @@
-//! A walk over the entries that are live with characters: one for all that is asked of them.
+//! A walk over the entries that are reachable with characters: one for all that is asked of them.
 ghost use Rattle.std.specs.Prelude.{◌≡◌, ◌<◌, ℕ, true, false, IfOk, OnOk};
 ghost use Rattle.std.specs.Char.{IsScalar};
 ghost use Rattle.icu_entries.specs.Entries.{kind_of};
 ghost use Rattle.icu_data.specs.Data.{Data};
-ghost use Rattle.icu_data.specs.Live.{live_digit, live_contraction, live_from};
+ghost use Rattle.icu_data.specs.Reachable.{reachable_digit, reachable_contraction, reachable_from};
 ghost use Rattle.icu_data.specs.StoredData.{data_of, found_context};
 ghost use Rattle.icu_data.specs.Walks.{after_lead, after_run, EachOfBlock};
-ghost use Rattle.icu_data.specs.inner.Visitors.{after_rows};
+ghost use Rattle.icu_data.specs.inner.Visitors.{after_mappings};
 
 use crate::context::FoundContext;
 use crate::data::CollationData;
 use icu_entries::{CollationElement32, EntryKind};
 
-/// A visitor of live entries.
+/// A visitor of reachable entries.
 pub trait Visit {
     /// Why a visit ends the walk, as out of memory. `Infallible` where none does.
-    type Refusal;
+    type Error;
 
     /// What visits add up to.
     ghost Seen: { Type 0 };
@@ -26,13 +26,13 @@ pub trait Visit {
     /// What visits came to after one more entry, by the entry's home, the character, and the entry.
     ghost after: { Seen → Data → ℕ → ℕ → Seen };
 
-    /// Visits an entry that is live with a character, in the entry's home.
+    /// Visits an entry that is reachable with a character, in the entry's home.
     fn visit(
         &mut self,
         home: CollationData<'_>,
         c: char,
         entry: CollationElement32,
-    ) -> Result<(), Self::Refusal>
+    ) -> Result<(), Self::Error>
         ensures { OnOk result
             (seen self.new ≡ after (seen self.old) (data_of home.entry) c entry) };
 
@@ -61,7 +61,7 @@ pub trait Visit {
         home: CollationData<'_>,
         first: char,
         entry: CollationElement32,
-    ) -> Result<bool, Self::Refusal>
+    ) -> Result<bool, Self::Error>
         requires { EachOfBlock first IsScalar }
         ensures visits { IfOk result (λ done. done ≡ true
             → seen self.new ≡ after_run after (seen self.old) (data_of home.entry) first entry 64) }
@@ -71,15 +71,15 @@ pub trait Visit {
     }
 }
 
-#[tactic(auto, unfolding(crate::specs::Live::live_digit))]
+#[tactic(auto, unfolding(crate::specs::Reachable::reachable_digit))]
 fn visit_digit<V: Visit>(
     visitor: &mut V,
     home: CollationData<'_>,
     c: char,
     entry: CollationElement32,
-) -> Result<(), V::Refusal>
+) -> Result<(), V::Error>
     ensures { OnOk result (V.seen visitor.new
-        ≡ after_lead V.after live_digit (data_of home.entry) c entry (V.seen visitor.old)) }
+        ≡ after_lead V.after reachable_digit (data_of home.entry) c entry (V.seen visitor.old)) }
 {
     visitor.visit(home, c, entry)?;
     if entry.kind() == EntryKind::Digit {
@@ -88,75 +88,75 @@ fn visit_digit<V: Visit>(
     Ok(())
 }
 
-fn visit_digit_rows<V: Visit>(
+fn visit_digit_mappings<V: Visit>(
     visitor: &mut V,
     home: CollationData<'_>,
     c: char,
     context: FoundContext<'_>,
-) -> Result<(), V::Refusal>
-    ensures { OnOk result (V.seen visitor.new ≡ after_rows V.after live_digit (data_of home.entry) c
-        (found_context context.entry).rows (V.seen visitor.old)) }
+) -> Result<(), V::Error>
+    ensures { OnOk result (V.seen visitor.new ≡ after_mappings V.after reachable_digit (data_of home.entry) c
+        (found_context context.entry).mappings (V.seen visitor.old)) }
 {
-    let rows = context.rows;
-    for row in rows {
-        visit_digit(visitor, home, c, CollationElement32::new(row.entry))?;
+    let mappings = context.mappings;
+    for mapping in mappings {
+        visit_digit(visitor, home, c, CollationElement32::new(mapping.entry))?;
     }
     Ok(())
 }
 
-#[tactic(auto, unfolding(crate::specs::Live::live_contraction))]
+#[tactic(auto, unfolding(crate::specs::Reachable::reachable_contraction))]
 fn visit_contraction<V: Visit>(
     visitor: &mut V,
     home: CollationData<'_>,
     c: char,
     entry: CollationElement32,
-) -> Result<(), V::Refusal>
+) -> Result<(), V::Error>
     ensures { OnOk result (V.seen visitor.new
-        ≡ after_lead V.after live_contraction (data_of home.entry) c entry (V.seen visitor.old)) }
+        ≡ after_lead V.after reachable_contraction (data_of home.entry) c entry (V.seen visitor.old)) }
 {
     if entry.kind() == EntryKind::Contraction {
         visitor.visit(home, c, entry)?;
         let context = home.context_of(entry);
         visit_digit(visitor, home, c, context.default())?;
-        visit_digit_rows(visitor, home, c, context)
+        visit_digit_mappings(visitor, home, c, context)
     } else {
         visit_digit(visitor, home, c, entry)
     }
 }
 
-fn visit_contraction_rows<V: Visit>(
+fn visit_contraction_mappings<V: Visit>(
     visitor: &mut V,
     home: CollationData<'_>,
     c: char,
     context: FoundContext<'_>,
-) -> Result<(), V::Refusal>
+) -> Result<(), V::Error>
     ensures { OnOk result (V.seen visitor.new
-        ≡ after_rows V.after live_contraction (data_of home.entry) c
-        (found_context context.entry).rows (V.seen visitor.old)) }
+        ≡ after_mappings V.after reachable_contraction (data_of home.entry) c
+        (found_context context.entry).mappings (V.seen visitor.old)) }
 {
-    let rows = context.rows;
-    for row in rows {
-        visit_contraction(visitor, home, c, CollationElement32::new(row.entry))?;
+    let mappings = context.mappings;
+    for mapping in mappings {
+        visit_contraction(visitor, home, c, CollationElement32::new(mapping.entry))?;
     }
     Ok(())
 }
 
-/// Visits each entry that is live from this one.
-#[tactic(auto, unfolding(crate::specs::Live::live_from))]
+/// Visits each entry that is reachable from this one.
+#[tactic(auto, unfolding(crate::specs::Reachable::reachable_from))]
 pub fn visit_from<V: Visit>(
     visitor: &mut V,
     home: CollationData<'_>,
     c: char,
     entry: CollationElement32,
-) -> Result<(), V::Refusal>
+) -> Result<(), V::Error>
     ensures { OnOk result (V.seen visitor.new
-        ≡ after_lead V.after live_from (data_of home.entry) c entry (V.seen visitor.old)) }
+        ≡ after_lead V.after reachable_from (data_of home.entry) c entry (V.seen visitor.old)) }
 {
     if entry.kind() == EntryKind::Prefix {
         visitor.visit(home, c, entry)?;
         let context = home.context_of(entry);
         visit_contraction(visitor, home, c, context.default())?;
-        visit_contraction_rows(visitor, home, c, context)
+        visit_contraction_mappings(visitor, home, c, context)
     } else {
         visit_contraction(visitor, home, c, entry)
     }

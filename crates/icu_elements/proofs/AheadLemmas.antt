@@ -7,51 +7,51 @@ use Rattle.unicode_normalization.specs.Order.{is_starter}
 use Rattle.icu_entries.specs.declared.entry.EntryKind.{EntryKind}
 use Rattle.icu_entries.specs.declared.entry.EntryKind.TheVariants.{Contraction, Digit}
 use Rattle.icu_entries.specs.Entries.{kind_of, entry_index}
-use Rattle.icu_data.specs.Contexts.{has_ascending_rows}
-use Rattle.icu_data.specs.Data.{Data, Context, HomedEntry, homed, no_context, context_of, longest_row}
+use Rattle.icu_data.specs.Contexts.{has_ascending_mappings}
+use Rattle.icu_data.specs.Data.{Data, Context, HomedEntry, homed, no_context, context_of, longest_mapping}
 use Rattle.icu_provider.specs.Tables.{entry_of, diacritic_of}
 use Rattle.icu_matches.specs.Matches.{after_prefix}
-use Rattle.icu_matches.specs.MatchesAhead.{are_decided, row_length}
+use Rattle.icu_matches.specs.MatchesAhead.{are_decided, mapping_length}
 use Rattle.icu_matches.proofs.ReadAheadLemmas.{are_decided-longer, any_behind-longer, longest_from-decided}
 use Rattle.icu_elements.specs.TextElements.{Reading, is_digit_kind}
 use Rattle.icu_elements.specs.ReadAhead.{HasWholeStep}
 use Rattle.icu_elements.specs.inner.ReadsAhead.{IsRunRead, IsMatchRead, HasWholeContraction, IsDotRead}
 use Rattle.icu_elements.proofs.EnoughLemmas.{HasWholeStep-diacritic, HasWholeStep-dot, HasWholeStep-other, HasWholeStep-contraction}
 
--- rows that are decided, with what the longest one takes
-pub record IsRowRead (context : Context) (taken : ℕ) (text : List ℕ) : Type 0 where
-  pub decided : are_decided context.rows text ≡ true
-  pub longest : row_length (longest_row context.rows text) ≡ taken
+-- mappings that are decided, with what the longest one takes
+pub record IsMappingRead (context : Context) (taken : ℕ) (text : List ℕ) : Type 0 where
+  pub decided : are_decided context.mappings text ≡ true
+  pub longest : mapping_length (longest_mapping context.mappings text) ≡ taken
 
-pub IsRowRead-at : (context : Context) (taken : ℕ) (text : List ℕ) → row_length (longest_row context.rows text) ≡ taken → are_decided context.rows text ≡ true → IsRowRead context taken text
-IsRowRead-at context taken text is decided = record { decided = decided; longest = is }
+pub IsMappingRead-at : (context : Context) (taken : ℕ) (text : List ℕ) → mapping_length (longest_mapping context.mappings text) ≡ taken → are_decided context.mappings text ≡ true → IsMappingRead context taken text
+IsMappingRead-at context taken text is decided = record { decided = decided; longest = is }
 
-longest-longer : (context : Context) (text more : List ℕ) → are_decided context.rows text ≡ true → row_length (longest_row context.rows (text ++ more)) ≡ row_length (longest_row context.rows text)
-longest-longer context text more decided = ap row_length (longest_from-decided None context.rows text more decided)
+longest-longer : (context : Context) (text more : List ℕ) → are_decided context.mappings text ≡ true → mapping_length (longest_mapping context.mappings (text ++ more)) ≡ mapping_length (longest_mapping context.mappings text)
+longest-longer context text more decided = ap mapping_length (longest_from-decided None context.mappings text more decided)
 
 -- what was read stays read
-pub IsRowRead-longer : (context : Context) (taken : ℕ) (text more : List ℕ) → IsRowRead context taken text → IsRowRead context taken (text ++ more)
-IsRowRead-longer context taken text more h = record {
-  decided = are_decided-longer context.rows text more h.decided;
+pub IsMappingRead-longer : (context : Context) (taken : ℕ) (text more : List ℕ) → IsMappingRead context taken text → IsMappingRead context taken (text ++ more)
+IsMappingRead-longer context taken text more h = record {
+  decided = are_decided-longer context.mappings text more h.decided;
   longest = longest-longer context text more h.decided ∙ h.longest;
 }
 
 pub IsMatchRead-longer : (context : Context) (taken : ℕ) (text more : List ℕ) → IsMatchRead context taken text → IsMatchRead context taken (text ++ more)
 IsMatchRead-longer context taken text more h = record {
-  decided = are_decided-longer context.rows text more h.decided;
+  decided = are_decided-longer context.mappings text more h.decided;
   longest = longest-longer context text more h.decided ∙ h.longest;
   behind = any_behind-longer is_starter taken text more h.behind;
 }
 
-pub IsMatchRead-row : (context : Context) (taken : ℕ) (text : List ℕ) → IsRowRead context taken text × (list_any is_starter (drop taken text) ≡ true) → IsMatchRead context taken text
-IsMatchRead-row context taken text h = record { decided = h.0.decided; longest = h.0.longest; behind = h.1 }
+pub IsMatchRead-mapping : (context : Context) (taken : ℕ) (text : List ℕ) → IsMappingRead context taken text × (list_any is_starter (drop taken text) ≡ true) → IsMatchRead context taken text
+IsMatchRead-mapping context taken text h = record { decided = h.0.decided; longest = h.0.longest; behind = h.1 }
 
--- a contraction whose row takes some, or that has no row and whose run is read
-pub HasWholeContraction-row : (reading : Reading) (context : Context) (taken : ℕ) (text : List ℕ) → 0 < taken → IsMatchRead context taken text → HasWholeContraction reading context text
-HasWholeContraction-row reading context taken text some h = record {
+-- a contraction whose mapping takes some, or that has no mapping and whose run is read
+pub HasWholeContraction-mapping : (reading : Reading) (context : Context) (taken : ℕ) (text : List ℕ) → 0 < taken → IsMatchRead context taken text → HasWholeContraction reading context text
+HasWholeContraction-mapping reading context taken text some h = record {
   decided = h.decided;
   behind = subst (λ n. list_any is_starter (drop n text) ≡ true) (sym h.longest) h.behind;
-  run = λ none. let zero_taken : 0 ≡ taken = sym (ap row_length none) ∙ h.longest in absurd (omega (arith, some, zero_taken));
+  run = λ none. let zero_taken : 0 ≡ taken = sym (ap mapping_length none) ∙ h.longest in absurd (omega (arith, some, zero_taken));
 }
 
 pub HasWholeContraction-run : (reading : Reading) (context : Context) (taken : ℕ) (text : List ℕ) → IsMatchRead context taken text × IsRunRead reading context.default text → HasWholeContraction reading context text
@@ -100,10 +100,10 @@ module _ (reading : Reading) (before : List ℕ) (c : ℕ) (home : Data) (e f : 
       HasWholeStep-other reading before c text (none_there (diacritic_of reading.tables c) none) (λ is. other (ap kind_of same_entry ∙ is))
       (subst (λ x. IsRunRead reading x text) same_entry run)
 
-  pub HasWholeStep-by_contraction : (context : Context) → kind_of f ≡ Contraction → context ≡ slice_index_or home.contexts (entry_index f) no_context → IsTrue (has_ascending_rows context)
+  pub HasWholeStep-by_contraction : (context : Context) → kind_of f ≡ Contraction → context ≡ slice_index_or home.contexts (entry_index f) no_context → IsTrue (has_ascending_mappings context)
       → (text : List ℕ) → HasWholeContraction reading context text → HasWholeStep reading before c text
   HasWholeStep-by_contraction context is found ascend text read =
       let same : context ≡ context_of (homed (entry_of reading.tables c).home (after_prefix (entry_of reading.tables c) before)) =
       found ∙ ap₂ (λ (h : HomedEntry) (x : ℕ). context_of (homed h.home x)) (sym entry) same_entry in
       HasWholeStep-contraction reading before c text (none_there (diacritic_of reading.tables c) none) (sym (ap kind_of same_entry) ∙ is)
-      (subst (λ (k : Context). IsTrue (has_ascending_rows k)) same ascend) (subst (λ (k : Context). HasWholeContraction reading k text) same read)
+      (subst (λ (k : Context). IsTrue (has_ascending_mappings k)) same ascend) (subst (λ (k : Context). HasWholeContraction reading k text) same read)

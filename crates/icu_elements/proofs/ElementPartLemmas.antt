@@ -1,4 +1,4 @@
--- The elements of a text are put together from those of live entries, diacritics and numbers.
+-- The elements of a text are put together from those of reachable entries, diacritics and numbers.
 use Rattle.std.proofs.Common.{◌≡◌, ℕ, ◌<◌, Bool, true, false, List, [], ◌∷◌, ◌++◌, length, drop, Option, Some, None, if◌then◌else◌, map, refl, sym, subst, arith, IfSome, ◌&&◌, take_while, IsTrue, ◌==◌}
 use Rattle.std.specs.Char.{IsScalar}
 use Rattle.std.specs.List.{AllByRecursion, list_all}
@@ -14,25 +14,25 @@ use Rattle.icu_entries.specs.EntryConditions.{has_digit}
 use Rattle.icu_data.specs.Data.{Data, HomedEntry, homed, plain_of}
 use Rattle.icu_provider.specs.Tables.{Tables, is_jamo, tailored_entry, entry_of, diacritic_of}
 use Rattle.icu_data.specs.Final.{final_elements}
-use Rattle.icu_data.specs.Live.{live_digit, live_contraction, live_from, EachLive}
+use Rattle.icu_data.specs.Reachable.{reachable_digit, reachable_contraction, reachable_from, EachReachable}
 use Rattle.icu_data.proofs.ListLemmas.{weaker}
 use Rattle.icu_data.proofs.ViolationLemmas.{weaker_some}
 use Rattle.icu_matches.specs.Matches.{Match, match_of}
 use Rattle.icu_elements.specs.TextElements.{Reading, Step, is_silent_dot, continues_number, begins_with_mark, digit_of_char, number_elements, number_step, entry_step, diacritic_step, matched_step, step, consumed, last_two, elements_along, elements_after, elements_of}
-use Rattle.icu_provider.specs.LiveTables.{jamo_entry, AllLive, HasDigits}
-use Rattle.icu_elements.specs.TextParts.{IsDecomposed, IsDecomposedText, AreDigits, HasGoodParts, EachPasses, PartsPass}
+use Rattle.icu_provider.specs.ReachableTables.{jamo_entry, AllReachable, HasDigits}
+use Rattle.icu_elements.specs.TextParts.{IsDecomposed, IsDecomposedText, AreDigits, HasParts, EachPasses, PartsPass}
 use Rattle.icu_matches.proofs.ChoiceLemmas.{either, maybe, at_nil}
-use Rattle.icu_matches.proofs.LiveLemmas.{match_of-live, all_drop}
+use Rattle.icu_matches.proofs.ReachableLemmas.{match_of-reachable, all_drop}
 
--- ---- an entry is among those that are live from it
+-- ---- an entry is among those that are reachable from it
 
 digit_head : (P : ℕ → Type 0) (k : EntryKind) (e p : ℕ) → AllByRecursion P (elim k as (λ _. List ℕ) [ Digit ↦ e ∷ p ∷ [] | _ ↦ e ∷ [] ]) → P e
 digit_head P Digit e p h = h.0
 digit_head P _ e p h = h.0
 
-pub live_digit-head : (P : ℕ → Type 0) (home : Data) (e : ℕ) → AllByRecursion P (live_digit home e) → P e
-unfolding live_digit
-live_digit-head P home e h = digit_head P (kind_of e) e _ h
+pub reachable_digit-head : (P : ℕ → Type 0) (home : Data) (e : ℕ) → AllByRecursion P (reachable_digit home e) → P e
+unfolding reachable_digit
+reachable_digit-head P home e h = digit_head P (kind_of e) e _ h
 
 contraction_head : (P : ℕ → Type 0) (k : EntryKind) (e : ℕ) (es fs : List ℕ) → (AllByRecursion P fs → P e) → AllByRecursion P (elim k as (λ _. List ℕ) [ Contraction ↦ e ∷ es | _ ↦ fs ]) → P e
 contraction_head P Contraction e es fs f h = h.0
@@ -42,15 +42,15 @@ prefix_head : (P : ℕ → Type 0) (k : EntryKind) (e : ℕ) (es fs : List ℕ) 
 prefix_head P Prefix e es fs f h = h.0
 prefix_head P _ e es fs f h = f h
 
-pub live_from-head : (P : ℕ → Type 0) (home : Data) (e : ℕ) → AllByRecursion P (live_from home e) → P e
-unfolding live_from live_contraction
-live_from-head P home e h =
-    prefix_head P (kind_of e) e _ _ (λ g. contraction_head P (kind_of e) e _ _ (live_digit-head P home e) g) h
+pub reachable_from-head : (P : ℕ → Type 0) (home : Data) (e : ℕ) → AllByRecursion P (reachable_from home e) → P e
+unfolding reachable_from reachable_contraction
+reachable_from-head P home e h =
+    prefix_head P (kind_of e) e _ _ (λ g. contraction_head P (kind_of e) e _ _ (reachable_digit-head P home e) g) h
 
--- ---- the entry of a character is live with it
+-- ---- the entry of a character is reachable with it
 
 abbrev HoldsFrom : (Data → ℕ → ℕ → Type 0) → ℕ → HomedEntry → Type 0
-HoldsFrom P c h = AllByRecursion (P h.home c) (live_from h.home h.entry)
+HoldsFrom P c h = AllByRecursion (P h.home c) (reachable_from h.home h.entry)
 
 home_if : (P : HomedEntry → Type 0) (b : Bool) (x y : HomedEntry) → (b ≡ true → P x) → (b ≡ false → P y) → P (if b then x else y)
 home_if P true x y p q = p refl
@@ -60,17 +60,17 @@ not_fallback : (P : ℕ → Type 0) (b : Bool) (es : List ℕ) → b ≡ false �
 not_fallback P true es h all = cc
 not_fallback P false es h all = all
 
-by_home : (P : Data → ℕ → ℕ → Type 0) (root : Data) (o : Option Data) (c : ℕ) → IsScalar c → HoldsFrom P c (homed root (root.value c)) → IfSome o (λ (home : Data). EachLive (P home) true home) → HoldsFrom P c (elim o as (λ _. HomedEntry) [ None ↦ homed root (root.value c) | Some t ↦ tailored_entry root t c ])
+by_home : (P : Data → ℕ → ℕ → Type 0) (root : Data) (o : Option Data) (c : ℕ) → IsScalar c → HoldsFrom P c (homed root (root.value c)) → IfSome o (λ (home : Data). EachReachable (P home) true home) → HoldsFrom P c (elim o as (λ _. HomedEntry) [ None ↦ homed root (root.value c) | Some t ↦ tailored_entry root t c ])
 by_home P root None c scalar r t = r
 by_home P root (Some tailoring) c scalar r t =
     home_if (HoldsFrom P c) (tailoring.value c == 0xC0) (homed root (root.value c)) (homed tailoring (tailoring.value c)) (λ _. r)
-    (λ h. not_fallback (P tailoring c) (tailoring.value c == 0xC0) (live_from tailoring (tailoring.value c)) h (t c scalar))
+    (λ h. not_fallback (P tailoring c) (tailoring.value c == 0xC0) (reachable_from tailoring (tailoring.value c)) h (t c scalar))
 
-pub entry_of-live : (P : Data → ℕ → ℕ → Type 0) (tables : Tables) → AllLive P tables → (c : ℕ) → IsScalar c → HoldsFrom P c (entry_of tables c)
+pub entry_of-reachable : (P : Data → ℕ → ℕ → Type 0) (tables : Tables) → AllReachable P tables → (c : ℕ) → IsScalar c → HoldsFrom P c (entry_of tables c)
 unfolding entry_of
-entry_of-live P tables live c scalar =
-    home_if (HoldsFrom P c) (is_jamo c) (homed tables.root (jamo_entry tables c)) _ (λ j. live.jamo c j)
-    (λ _. by_home P tables.root tables.tailoring c scalar (live.root c scalar) live.tailoring)
+entry_of-reachable P tables reachable c scalar =
+    home_if (HoldsFrom P c) (is_jamo c) (homed tables.root (jamo_entry tables c)) _ (λ j. reachable.jamo c j)
+    (λ _. by_home P tables.root tables.tailoring c scalar (reachable.root c scalar) reachable.tailoring)
 
 -- ---- digits
 
@@ -94,51 +94,51 @@ decimal d h = grind (arith, nat_tests)
 
 continues_number-decimal : (tables : Tables) → HasDigits tables → (x : ℕ) → continues_number tables x ≡ true → IsDecomposed x → digit_of_char tables x < 10
 unfolding has_digit
-continues_number-decimal tables live x on read =
+continues_number-decimal tables reachable x on read =
     let h = entry_of tables x in
-    let head : IsTrue (has_digit h.entry) = live_from-head (λ e. IsTrue (has_digit e)) h.home h.entry (entry_of-live (λ home c e. IsTrue (has_digit e)) tables live x read.scalar) in
+    let head : IsTrue (has_digit h.entry) = reachable_from-head (λ e. IsTrue (has_digit e)) h.home h.entry (entry_of-reachable (λ home c e. IsTrue (has_digit e)) tables reachable x read.scalar) in
     decimal _ (digit_from_run (kind_of h.entry) _ _ on head)
 
 -- ---- steps
 
--- what the step gives is good, and so is each character that it leaves
+-- what the step gives is well-formed, and so is each character that it leaves
 record Gives (G : List Element → Type 0) (R : ℕ → Type 0) (s : Step) : Type 0 where
   pub elements : G s.elements
   pub rest : AllByRecursion R s.rest
 
 at_digit : (P : ℕ → Type 0) (C : Step → Type 0) (k : EntryKind) (e p : ℕ) (small : Bool) (a b : Step) → (P p → small ≡ true → C a) → (P e → C b) → AllByRecursion P (elim k as (λ _. List ℕ) [ Digit ↦ e ∷ p ∷ [] | _ ↦ e ∷ [] ]) → IsTrue (elim k as (λ _. Bool) [ Digit ↦ small | _ ↦ true ]) → C (elim k as (λ _. Step) [ Digit ↦ a | _ ↦ b ])
-at_digit P C Digit e p small a b f g live s = f live.1.0 s
-at_digit P C _ e p small a b f g live s = g live.0
+at_digit P C Digit e p small a b f g reachable s = f reachable.1.0 s
+at_digit P C _ e p small a b f g reachable s = g reachable.0
 
-module _ (G : List Element → Type 0) (reading : Reading) (parts : HasGoodParts G reading) where
+module _ (G : List Element → Type 0) (reading : Reading) (parts : HasParts G reading) where
   number_step-gives : (lead : ℕ) (m : Match) → ((ds : List ℕ) → AreDigits ds → G (number_elements lead ds)) → digit_value m.entry < 10 → IsDecomposedText m.rest → Gives G IsDecomposed (number_step reading.tables lead m)
   unfolding number_step
-  number_step-gives lead m good small rest =
+  number_step-gives lead m well_formed small rest =
       let tables = reading.tables in
       let run = take_while (continues_number tables) m.rest in
       let alone : Step = record { elements = number_elements lead (digit_value m.entry ∷ []); suffix = m.suffix; rest = m.rest } in
       let together : Step = record { elements = number_elements lead (digit_value m.entry ∷ map (digit_of_char tables) run); suffix = run; rest = drop (length run) m.rest } in
-      let by_itself : Gives G IsDecomposed alone = record { elements = good (digit_value m.entry ∷ []) (small, tt); rest = rest } in
+      let by_itself : Gives G IsDecomposed alone = record { elements = well_formed (digit_value m.entry ∷ []) (small, tt); rest = rest } in
       let digits = all_run (continues_number tables) (digit_of_char tables) IsDecomposed (λ d. d < 10) (continues_number-decimal tables parts.digits) m.rest rest in
-      let with_run : Gives G IsDecomposed together = record { elements = good (digit_value m.entry ∷ map (digit_of_char tables) run) (small, digits); rest = all_drop IsDecomposed (length run) m.rest rest } in
+      let with_run : Gives G IsDecomposed together = record { elements = well_formed (digit_value m.entry ∷ map (digit_of_char tables) run) (small, digits); rest = all_drop IsDecomposed (length run) m.rest rest } in
       at_nil (Gives G IsDecomposed) m.suffix _ alone (either (Gives G IsDecomposed) (begins_with_mark m.rest) alone together by_itself with_run) by_itself
 
-  entry_step-gives : (home : Data) (c : ℕ) (m : Match) → AllByRecursion (λ e. G (final_elements (homed home e) c)) (live_digit home m.entry) → IsTrue (has_digit m.entry) → IsDecomposedText m.rest → Gives G IsDecomposed (entry_step reading home c m)
-  unfolding entry_step live_digit has_digit
-  entry_step-gives home c m live small rest =
+  entry_step-gives : (home : Data) (c : ℕ) (m : Match) → AllByRecursion (λ e. G (final_elements (homed home e) c)) (reachable_digit home m.entry) → IsTrue (has_digit m.entry) → IsDecomposedText m.rest → Gives G IsDecomposed (entry_step reading home c m)
+  unfolding entry_step reachable_digit has_digit
+  entry_step-gives home c m reachable small rest =
       let P : ℕ → Type 0 = λ e. G (final_elements (homed home e) c) in
       at_digit P (Gives G IsDecomposed) (kind_of m.entry) m.entry (plain_of home m.entry) (nat_le (digit_value m.entry) 9) _ _
       (λ p s.
       maybe (λ lead. (ds : List ℕ) → AreDigits ds → G (number_elements lead ds)) (Gives G IsDecomposed) reading.numeric _ _ parts.numbers
-      (λ lead good. number_step-gives lead m good (decimal _ s) rest) (record { elements = p; rest = rest }))
-      (λ p. record { elements = p; rest = rest }) live small
+      (λ lead well_formed. number_step-gives lead m well_formed (decimal _ s) rest) (record { elements = p; rest = rest }))
+      (λ p. record { elements = p; rest = rest }) reachable small
 
   diacritic_step-gives : (secondary c : ℕ) (text : List ℕ) → G (of_secondary secondary ∷ []) → IsDecomposedText text → Gives G IsDecomposed (diacritic_step reading secondary c text)
-  diacritic_step-gives secondary c text good all =
+  diacritic_step-gives secondary c text well_formed all =
       let silent : Step = record { elements = []; suffix = []; rest = text } in
       let sounding : Step = record { elements = of_secondary secondary ∷ []; suffix = []; rest = text } in
       either (Gives G IsDecomposed) (is_silent_dot reading.lithuanian c text) silent sounding
-      (record { elements = parts.none; rest = all }) (record { elements = good; rest = all })
+      (record { elements = parts.none; rest = all }) (record { elements = well_formed; rest = all })
 
   step-gives : (before : List ℕ) (c : ℕ) (text : List ℕ) → IsDecomposed c → IsDecomposedText text → Gives G IsDecomposed (step reading before c text)
   unfolding matched_step
@@ -147,11 +147,11 @@ module _ (G : List Element → Type 0) (reading : Reading) (parts : HasGoodParts
       let m = match_of h before text in
       let D : ℕ → Type 0 = λ e. IsTrue (has_digit e) in
       let P : ℕ → Type 0 = λ e. G (final_elements (homed h.home e) c) in
-      let finals = match_of-live P IsDecomposed h before text (entry_of-live (λ home c e. G (final_elements (homed home e) c)) reading.tables parts.entries c read.scalar) all in
-      let smalls = match_of-live D IsDecomposed h before text (entry_of-live (λ home c e. IsTrue (has_digit e)) reading.tables parts.digits c read.scalar) all in
+      let finals = match_of-reachable P IsDecomposed h before text (entry_of-reachable (λ home c e. G (final_elements (homed home e) c)) reading.tables parts.entries c read.scalar) all in
+      let smalls = match_of-reachable D IsDecomposed h before text (entry_of-reachable (λ home c e. IsTrue (has_digit e)) reading.tables parts.digits c read.scalar) all in
       maybe (λ s. G (of_secondary s ∷ [])) (Gives G IsDecomposed) (diacritic_of reading.tables c) _ (entry_step reading h.home c m) (parts.diacritics c read)
-      (λ s good. diacritic_step-gives s c text good all)
-      (entry_step-gives h.home c m finals.entry (live_digit-head D h.home m.entry smalls.entry) finals.rest)
+      (λ s well_formed. diacritic_step-gives s c text well_formed all)
+      (entry_step-gives h.home c m finals.entry (reachable_digit-head D h.home m.entry smalls.entry) finals.rest)
 
   elements_along-gives : (along before text : List ℕ) → IsDecomposedText text → G (elements_along along reading before text)
   unfolding elements_along
@@ -163,9 +163,9 @@ module _ (G : List Element → Type 0) (reading : Reading) (parts : HasGoodParts
       parts.append s.elements _ gives.elements (elements_along-gives along (last_two before (consumed c s)) s.rest gives.rest)
 
   -- the elements of each decomposed text
-  pub elements_of-good : (text : List ℕ) → IsDecomposedText text → G (elements_of reading text)
+  pub elements_of-well_formed : (text : List ℕ) → IsDecomposedText text → G (elements_of reading text)
   unfolding elements_after
-  elements_of-good text all = elements_along-gives text [] text all
+  elements_of-well_formed text all = elements_along-gives text [] text all
 
 -- ---- a test on elements
 
@@ -180,7 +180,7 @@ diacritic_passes test None h = tt
 
 pub elements_of-pass : (test : Element → Bool) (reading : Reading) → PartsPass test reading → (text : List ℕ) → IsDecomposedText text → EachPasses test (elements_of reading text)
 elements_of-pass test reading pass =
-    elements_of-good (EachPasses test) reading
+    elements_of-well_formed (EachPasses test) reading
     (record {
       none = refl;
       append = passes_append test;
@@ -190,14 +190,14 @@ elements_of-pass test reading pass =
       numbers = pass.numbers;
     })
 
--- ---- a weaker fact of live entries
+-- ---- a weaker fact of reachable entries
 
-pub AllLive-weaker : (P Q : Data → ℕ → ℕ → Type 0) (tables : Tables) → ((home : Data) (c e : ℕ) → P home c e → Q home c e) → AllLive P tables → AllLive Q tables
-AllLive-weaker P Q tables f live =
+pub AllReachable-weaker : (P Q : Data → ℕ → ℕ → Type 0) (tables : Tables) → ((home : Data) (c e : ℕ) → P home c e → Q home c e) → AllReachable P tables → AllReachable Q tables
+AllReachable-weaker P Q tables f reachable =
     record {
-      root = λ c s. weaker (P tables.root c) (Q tables.root c) (f tables.root c) _ (live.root c s);
-      jamo = λ c j. weaker (P tables.root c) (Q tables.root c) (f tables.root c) _ (live.jamo c j);
+      root = λ c s. weaker (P tables.root c) (Q tables.root c) (f tables.root c) _ (reachable.root c s);
+      jamo = λ c j. weaker (P tables.root c) (Q tables.root c) (f tables.root c) _ (reachable.jamo c j);
       tailoring =
-          weaker_some (λ (home : Data). EachLive (P home) true home) (λ (home : Data). EachLive (Q home) true home)
-          (λ home h c s. weaker (P home c) (Q home c) (f home c) _ (h c s)) tables.tailoring live.tailoring;
+          weaker_some (λ (home : Data). EachReachable (P home) true home) (λ (home : Data). EachReachable (Q home) true home)
+          (λ home h c s. weaker (P home c) (Q home c) (f home c) _ (h c s)) tables.tailoring reachable.tailoring;
     }

@@ -1,4 +1,4 @@
--- Each element of a text is one of a live entry, a diacritic or a number.
+-- Each element of a text is one of a reachable entry, a diacritic or a number.
 use Rattle.std.proofs.Common.{◌≡◌, ℕ, true, false, List, [], ◌∷◌, Option, Some, None, refl, sym, subst, IfSome, inl, inr, zero, suc, arith}
 use Rattle.std.specs.Char.{IsScalar}
 use Rattle.std.specs.List.{AllByRecursion, Contains}
@@ -7,13 +7,13 @@ use Rattle.icu_entries.specs.Elements.{of_secondary}
 use Rattle.icu_data.specs.Data.{Data, homed}
 use Rattle.icu_provider.specs.Tables.{Tables, diacritic_of}
 use Rattle.icu_data.specs.Final.{final_elements}
-use Rattle.icu_data.specs.Live.{live_from, live_at, EachLive}
+use Rattle.icu_data.specs.Reachable.{reachable_from, reachable_at, EachReachable}
 use Rattle.icu_data.proofs.ListLemmas.{all_append, of_member}
 use Rattle.icu_elements.specs.TextElements.{Reading, number_elements, elements_of}
-use Rattle.icu_provider.specs.LiveTables.{jamo_entry, AllLive, HasDigits, IsLive}
-use Rattle.icu_elements.specs.TextParts.{IsDecomposed, GoodNumbers, IsTextElement}
+use Rattle.icu_provider.specs.ReachableTables.{jamo_entry, AllReachable, HasDigits, IsReachable}
+use Rattle.icu_elements.specs.TextParts.{IsDecomposed, NumbersHold, IsTextElement}
 use Rattle.icu_elements.proofs.DecomposedLemmas.{IsDecomposedText-nfd}
-use Rattle.icu_elements.proofs.ElementPartLemmas.{elements_of-good, AllLive-weaker}
+use Rattle.icu_elements.proofs.ElementPartLemmas.{elements_of-well_formed, AllReachable-weaker}
 
 later : {X : Type 0} (x y : X) (xs : List X) → Contains xs y → Contains (x ∷ xs) y
 later x y xs c = (suc c.0, omega arith, c.2)
@@ -23,49 +23,49 @@ pub all_contained : {X : Type 0} (P : X → Type 0) (xs : List X) → ((x : X) �
 all_contained P [] f = tt
 all_contained P (x ∷ xs) f = (f x (zero, omega arith, refl), all_contained P xs (λ y c. f y (later x y xs c)))
 
-in_tailoring : (tables : Tables) (o : Option Data) → tables.tailoring ≡ o → IfSome o (λ (home : Data). EachLive (IsLive tables home) true home)
+in_tailoring : (tables : Tables) (o : Option Data) → tables.tailoring ≡ o → IfSome o (λ (home : Data). EachReachable (IsReachable tables home) true home)
 in_tailoring tables None is = tt
-in_tailoring tables (Some home) is = λ c s. all_contained (IsLive tables home c) (live_at true home c) (λ e h. inr (inr (is, s, h)))
+in_tailoring tables (Some home) is = λ c s. all_contained (IsReachable tables home c) (reachable_at true home c) (λ e h. inr (inr (is, s, h)))
 
--- what is live is live
-pub all_live : (tables : Tables) → AllLive (IsLive tables) tables
-all_live tables =
+-- what is reachable is reachable
+pub all_reachable : (tables : Tables) → AllReachable (IsReachable tables) tables
+all_reachable tables =
     record {
-      root = λ c s. all_contained (IsLive tables tables.root c) (live_at false tables.root c) (λ e h. inl (refl, s, h));
-      jamo = λ c j. all_contained (IsLive tables tables.root c) (live_from tables.root (jamo_entry tables c)) (λ e h. inr (inl (refl, j, h)));
+      root = λ c s. all_contained (IsReachable tables tables.root c) (reachable_at false tables.root c) (λ e h. inl (refl, s, h));
+      jamo = λ c j. all_contained (IsReachable tables tables.root c) (reachable_from tables.root (jamo_entry tables c)) (λ e h. inr (inl (refl, j, h)));
       tailoring = in_tailoring tables tables.tailoring refl;
     }
 
--- what holds of each live entry holds of one
-pub AllLive-at : (P : Data → ℕ → ℕ → Type 0) (tables : Tables) → AllLive P tables → (home : Data) (c e : ℕ) → IsLive tables home c e → P home c e
-AllLive-at P tables all home c e (inl (is, scalar, member)) =
-    subst (λ (h : Data). Contains (live_at false h c) e → P h c e) (sym is) (of_member (P tables.root c) (live_at false tables.root c) e (all.root c scalar)) member
-AllLive-at P tables all home c e (inr (inl (is, jamo, member))) =
-    subst (λ (h : Data). Contains (live_from h (jamo_entry tables c)) e → P h c e) (sym is) (of_member (P tables.root c) (live_from tables.root (jamo_entry tables c)) e (all.jamo c jamo)) member
-AllLive-at P tables all home c e (inr (inr (is, scalar, member))) =
-    of_member (P home c) (live_at true home c) e (subst (λ o. IfSome o (λ (home : Data). EachLive (P home) true home)) is all.tailoring c scalar) member
+-- what holds of each reachable entry holds of one
+pub AllReachable-at : (P : Data → ℕ → ℕ → Type 0) (tables : Tables) → AllReachable P tables → (home : Data) (c e : ℕ) → IsReachable tables home c e → P home c e
+AllReachable-at P tables all home c e (inl (is, scalar, member)) =
+    subst (λ (h : Data). Contains (reachable_at false h c) e → P h c e) (sym is) (of_member (P tables.root c) (reachable_at false tables.root c) e (all.root c scalar)) member
+AllReachable-at P tables all home c e (inr (inl (is, jamo, member))) =
+    subst (λ (h : Data). Contains (reachable_from h (jamo_entry tables c)) e → P h c e) (sym is) (of_member (P tables.root c) (reachable_from tables.root (jamo_entry tables c)) e (all.jamo c jamo)) member
+AllReachable-at P tables all home c e (inr (inr (is, scalar, member))) =
+    of_member (P home c) (reachable_at true home c) e (subst (λ o. IfSome o (λ (home : Data). EachReachable (P home) true home)) is all.tailoring c scalar) member
 
 of_diacritic : (reading : Reading) (c : ℕ) → IsDecomposed c → (o : Option ℕ) → diacritic_of reading.tables c ≡ o → IfSome o (λ s. AllByRecursion (IsTextElement reading) (of_secondary s ∷ []))
 of_diacritic reading c read None is = tt
 of_diacritic reading c read (Some s) is =
     (inr (inl (record { char = c; secondary = s; decomposed = read; in_table = is; element = refl })), tt)
 
-of_number : (reading : Reading) (o : Option ℕ) → reading.numeric ≡ o → GoodNumbers (AllByRecursion (IsTextElement reading)) o
+of_number : (reading : Reading) (o : Option ℕ) → reading.numeric ≡ o → NumbersHold (AllByRecursion (IsTextElement reading)) o
 of_number reading None is = tt
 of_number reading (Some lead) is =
     λ ds decimal. all_contained (IsTextElement reading) (number_elements lead ds) (λ x h. inr (inr (record { lead = lead; digits = ds; is_numeric = is; decimal = decimal; member = h })))
 
 pub elements_of-sources : (reading : Reading) → HasDigits reading.tables → (cs : List ℕ) → AllByRecursion IsScalar cs → AllByRecursion (IsTextElement reading) (elements_of reading (nfd cs))
 elements_of-sources reading digits cs scalars =
-    elements_of-good (AllByRecursion (IsTextElement reading)) reading
+    elements_of-well_formed (AllByRecursion (IsTextElement reading)) reading
     (record {
       none = tt;
       append = all_append (IsTextElement reading);
       digits = digits;
       entries =
-          AllLive-weaker (IsLive reading.tables) (λ home c e. AllByRecursion (IsTextElement reading) (final_elements (homed home e) c)) reading.tables
-          (λ home c e live. all_contained (IsTextElement reading) (final_elements (homed home e) c) (λ x h. inl (record { home = home; char = c; entry = e; live = live; member = h })))
-          (all_live reading.tables);
+          AllReachable-weaker (IsReachable reading.tables) (λ home c e. AllByRecursion (IsTextElement reading) (final_elements (homed home e) c)) reading.tables
+          (λ home c e reachable. all_contained (IsTextElement reading) (final_elements (homed home e) c) (λ x h. inl (record { home = home; char = c; entry = e; reachable = reachable; member = h })))
+          (all_reachable reading.tables);
       diacritics = λ c read. of_diacritic reading c read (diacritic_of reading.tables c) refl;
       numbers = of_number reading reading.numeric refl;
     })

@@ -149,9 +149,9 @@ module _ (reading : Reading) (before : List ℕ) (c : ℕ) (text : List ℕ) whe
         let is = match_of-other h before text other in
         HasWholeStep-match (HasWholeMatch-other h before text other) (λ on digit alone. rw is (run on (ap (λ (m : Match). kind_of m.entry) (sym is) ∙ digit)))
 
-    -- a contraction: its rows and marks are read, and the run of a digit that none of them takes
+    -- a contraction: its mappings and marks are read, and the run of a digit that none of them takes
     pub HasWholeStep-contraction : kind_of (after_prefix (entry_of reading.tables c) before) ≡ Contraction → let context = context_of (homed (entry_of reading.tables c).home (after_prefix (entry_of reading.tables c) before)) in
-        ascend_from [] context.rows ≡ true → HasWholeContraction reading context text → HasWholeStep reading before c text
+        ascend_from [] context.mappings ≡ true → HasWholeContraction reading context text → HasWholeStep reading before c text
     HasWholeStep-contraction is ascend read =
         let h = entry_of reading.tables c in
         let context = context_of (homed h.home (after_prefix h before)) in

@@ -3,7 +3,7 @@ pub mod DecomposedLemmas
 pub mod ElementPartLemmas
 pub mod ElementSourceLemmas
 pub mod ReadableLemmas
-pub mod LiveTextLemmas
+pub mod ReachableTextLemmas
 pub mod StepLemmas
 pub mod EnoughLemmas
 pub mod ReadsAheadLemmas
@@ -14,4 +14,4 @@ pub mod TakenDigitLemmas
 pub mod Computing
 pub mod WorkedReadings
 mod WorkedTexts
-mod WorkedLive
+mod WorkedReachable

@@ -5,67 +5,67 @@ use Rattle.std.proofs.lemmas.Bool.Decides.{nat_tests}
 use Rattle.std.specs.Char.{IsScalar}
 use Rattle.std.specs.List.{AllByRecursion, Contains}
 use Rattle.icu_entries.specs.declared.error.DataTable.TheVariants.{Root, Jamo, Tailoring}
-use Rattle.icu_data.specs.declared.live_condition.LiveCondition.{LiveCondition}
-use Rattle.icu_data.specs.declared.live_condition.LiveCondition.TheVariants.{Indices, Digits, Bytes, Offsets}
+use Rattle.icu_data.specs.declared.reachable_condition.ReachableCondition.{ReachableCondition}
+use Rattle.icu_data.specs.declared.reachable_condition.ReachableCondition.TheVariants.{Indices, Digits, Bytes, Offsets}
 use Rattle.icu_entries.specs.declared.entry.EntryKind.{EntryKind}
 use Rattle.icu_entries.specs.declared.entry.EntryKind.TheVariants.{Expansion32, Expansion, Prefix, Contraction, Digit, Offset}
 use Rattle.icu_entries.specs.Entries.{kind_of, entry_index, digit_value}
 use Rattle.icu_data.specs.DataConditions.{is_inside, is_readable}
 use Rattle.icu_entries.specs.EntryConditions.{has_digit}
-use Rattle.icu_data.specs.Live.{live_digit, live_from}
-use Rattle.icu_data.specs.LiveConditions.{meets}
-use Rattle.icu_provider.specs.LiveTables.{HasDigits, IsLive}
+use Rattle.icu_data.specs.Reachable.{reachable_digit, reachable_from}
+use Rattle.icu_data.specs.ReachableConditions.{meets}
+use Rattle.icu_provider.specs.ReachableTables.{HasDigits, IsReachable}
 use Rattle.icu_data.specs.Data.{Data, HomedEntry, homed, plain_of}
 use Rattle.icu_provider.specs.Tables.{Tables, entry_of}
 use Rattle.icu_data.proofs.ListLemmas.{all_members, of_member}
 use Rattle.icu_data.proofs.EntryLemmas.{test_inside}
 use Rattle.icu_checks.specs.declared.condition.Condition.TheVariants as conditions
 use Rattle.icu_provider.specs.CollatorTables.{CollatorTables}
-use Rattle.icu_checks.specs.GoodTables.{IsGoodTables}
+use Rattle.icu_checks.specs.WellFormedTables.{IsWellFormedTables}
 use Rattle.icu_checks.specs.Checked.{checked_tables}
 use Rattle.icu_elements.specs.declared.element_tables.ElementTables.{ElementTables}
-use Rattle.icu_matches.specs.GoodEntries.{MeetAll, IsGoodFrom, IsGoodMatch}
+use Rattle.icu_matches.specs.WellFormedEntries.{MeetAll, IsWellFormedFrom, IsWellFormedMatch}
 use Rattle.icu_elements.specs.inner.Readable.{AreReadable}
 use Rattle.icu_elements.specs.Reading.{element_tables}
-use Rattle.icu_elements.proofs.ElementPartLemmas.{live_digit-head, live_from-head, entry_of-live, AllLive-weaker}
-use Rattle.icu_elements.proofs.ElementSourceLemmas.{all_live}
+use Rattle.icu_elements.proofs.ElementPartLemmas.{reachable_digit-head, reachable_from-head, entry_of-reachable, AllReachable-weaker}
+use Rattle.icu_elements.proofs.ElementSourceLemmas.{all_reachable}
 
 -- ---- tables that were checked
 
-live_meets : (all : CollatorTables) → IsGoodTables all → (condition : LiveCondition) (home : Data) (c e : ℕ) → IsLive all.tables home c e → IsTrue (meets condition home c e)
-live_meets all good condition home c e (inl live) = good.each (conditions.Entry condition) Root home c e live
-live_meets all good condition home c e (inr (inl live)) = good.each (conditions.Entry condition) Jamo home c e live
-live_meets all good condition home c e (inr (inr live)) = good.each (conditions.Entry condition) Tailoring home c e live
+reachable_meets : (all : CollatorTables) → IsWellFormedTables all → (condition : ReachableCondition) (home : Data) (c e : ℕ) → IsReachable all.tables home c e → IsTrue (meets condition home c e)
+reachable_meets all well_formed condition home c e (inl reachable) = well_formed.each (conditions.Entry condition) Root home c e reachable
+reachable_meets all well_formed condition home c e (inr (inl reachable)) = well_formed.each (conditions.Entry condition) Jamo home c e reachable
+reachable_meets all well_formed condition home c e (inr (inr reachable)) = well_formed.each (conditions.Entry condition) Tailoring home c e reachable
 
-pub good_readable : (all : CollatorTables) → IsGoodTables all → AreReadable all.tables
-good_readable all good = record { jamo_count = good.tables.jamo.count; each = live_meets all good }
+pub well_formed_readable : (all : CollatorTables) → IsWellFormedTables all → AreReadable all.tables
+well_formed_readable all well_formed = record { jamo_count = well_formed.tables.jamo.count; each = reachable_meets all well_formed }
 
 pub readable_digits : (tables : Tables) → AreReadable tables → HasDigits tables
 readable_digits tables readable =
-    AllLive-weaker (IsLive tables) (λ home c e. IsTrue (has_digit e)) tables (λ home c e live. readable.each Digits home c e live) (all_live tables)
+    AllReachable-weaker (IsReachable tables) (λ home c e. IsTrue (has_digit e)) tables (λ home c e reachable. readable.each Digits home c e reachable) (all_reachable tables)
 
 -- ---- the entry of a character
 
--- it is live, and so is what it leads to
-pub entry_of-is_live : (tables : Tables) (c : ℕ) → IsScalar c → AllByRecursion (IsLive tables (entry_of tables c).home c) (live_from (entry_of tables c).home (entry_of tables c).entry)
-entry_of-is_live tables c scalar = entry_of-live (IsLive tables) tables (all_live tables) c scalar
+-- it is reachable, and so is what it leads to
+pub entry_of-is_reachable : (tables : Tables) (c : ℕ) → IsScalar c → AllByRecursion (IsReachable tables (entry_of tables c).home c) (reachable_from (entry_of tables c).home (entry_of tables c).entry)
+entry_of-is_reachable tables c scalar = entry_of-reachable (IsReachable tables) tables (all_reachable tables) c scalar
 
-good_entry : (tables : Tables) → AreReadable tables → (c : ℕ) → IsScalar c → IsGoodFrom (entry_of tables c).home c (entry_of tables c).entry
-good_entry tables readable c scalar = λ condition f among.
+well_formed_entry : (tables : Tables) → AreReadable tables → (c : ℕ) → IsScalar c → IsWellFormedFrom (entry_of tables c).home c (entry_of tables c).entry
+well_formed_entry tables readable c scalar = λ condition f among.
     let h = entry_of tables c in
-    readable.each condition h.home c f (of_member (IsLive tables h.home c) (live_from h.home h.entry) f (entry_of-is_live tables c scalar) among)
+    readable.each condition h.home c f (of_member (IsReachable tables h.home c) (reachable_from h.home h.entry) f (entry_of-is_reachable tables c scalar) among)
 
 -- it meets the conditions, and so does what it leads to
-pub good_found : (t : ElementTables) (c : ℕ) → IsScalar c → (home : Data) (e : ℕ) → entry_of (element_tables t) c ≡ homed home e → IsGoodFrom home c e
-good_found t c scalar home e is =
-    subst (λ (h : HomedEntry). IsGoodFrom h.home c h.entry) is (good_entry (element_tables t) (good_readable (checked_tables t.tables.now) t.tables.now.good) c scalar)
+pub well_formed_found : (t : ElementTables) (c : ℕ) → IsScalar c → (home : Data) (e : ℕ) → entry_of (element_tables t) c ≡ homed home e → IsWellFormedFrom home c e
+well_formed_found t c scalar home e is =
+    subst (λ (h : HomedEntry). IsWellFormedFrom h.home c h.entry) is (well_formed_entry (element_tables t) (well_formed_readable (checked_tables t.tables.now) t.tables.now.well_formed) c scalar)
 
 -- ---- an entry that meets the conditions can be read, and so can a digit's other entry
 
 pub readable_among : (home : Data) (c f : ℕ) (es : List ℕ) → MeetAll home c es → Contains es f → IsTrue (is_readable home c f)
 unfolding is_readable
-readable_among home c f es good among =
-    and_from _ _ (and_from _ _ (good Indices f among) (and_parts _ _ (good Bytes f among)).1) (good Offsets f among)
+readable_among home c f es well_formed among =
+    and_from _ _ (and_from _ _ (well_formed Indices f among) (and_parts _ _ (well_formed Bytes f among)).1) (well_formed Offsets f among)
 
 at_digit : (k : EntryKind) (a b d f g h : Bool) → k ≡ Digit → IsTrue (elim k as (λ _. Bool) [ Expansion32 ↦ a | Expansion ↦ b | Prefix ↦ d | Contraction ↦ f | Digit ↦ g | Offset ↦ h | _ ↦ true ]) → IsTrue g
 at_digit Digit a b d f g h is t = t
@@ -81,42 +81,42 @@ small_digit _ small is t = cc
 -- the other entry of a digit is there
 inside_among : (home : Data) (c e : ℕ) (es : List ℕ) → MeetAll home c es → Contains es e → kind_of e ≡ Digit → entry_index e < length home.entries
 unfolding is_inside
-inside_among home c e es good among is =
-    let inside : IsTrue (is_inside home e) = good Indices e among in
+inside_among home c e es well_formed among is =
+    let inside : IsTrue (is_inside home e) = well_formed Indices e among in
     test_inside _ _ (at_digit (kind_of e) _ _ _ _ _ _ is inside)
 
 -- its digit is one
 pub decimal_among : (home : Data) (c e : ℕ) (es : List ℕ) → MeetAll home c es → Contains es e → kind_of e ≡ Digit → digit_value e < 10
 unfolding has_digit
-decimal_among home c e es good among is =
-    let small : IsTrue (has_digit e) = good Digits e among in test_decimal _ (small_digit (kind_of e) _ is small)
+decimal_among home c e es well_formed among is =
+    let small : IsTrue (has_digit e) = well_formed Digits e among in test_decimal _ (small_digit (kind_of e) _ is small)
 
-pub itself : (home : Data) (e : ℕ) → Contains (live_from home e) e
-itself home e = live_from-head (Contains (live_from home e)) home e (all_members (live_from home e))
+pub itself : (home : Data) (e : ℕ) → Contains (reachable_from home e) e
+itself home e = reachable_from-head (Contains (reachable_from home e)) home e (all_members (reachable_from home e))
 
 -- ---- an entry that a match came to
 
-matched_itself : (home : Data) (e : ℕ) → Contains (live_digit home e) e
-matched_itself home e = live_digit-head (Contains (live_digit home e)) home e (all_members (live_digit home e))
+matched_itself : (home : Data) (e : ℕ) → Contains (reachable_digit home e) e
+matched_itself home e = reachable_digit-head (Contains (reachable_digit home e)) home e (all_members (reachable_digit home e))
 
 plain_second : (P : ℕ → Type 0) (k : EntryKind) (e f : ℕ) → k ≡ Digit → AllByRecursion P (elim k as (λ _. List ℕ) [ Digit ↦ e ∷ f ∷ [] | _ ↦ e ∷ [] ]) → P f
 plain_second P Digit e f is all = all.1.0
 plain_second P _ e f is all = cc
 
-matched_plain : (home : Data) (e : ℕ) → kind_of e ≡ Digit → Contains (live_digit home e) (plain_of home e)
-unfolding live_digit
+matched_plain : (home : Data) (e : ℕ) → kind_of e ≡ Digit → Contains (reachable_digit home e) (plain_of home e)
+unfolding reachable_digit
 matched_plain home e is =
-    plain_second (Contains (live_digit home e)) (kind_of e) e (plain_of home e) is (all_members (live_digit home e))
+    plain_second (Contains (reachable_digit home e)) (kind_of e) e (plain_of home e) is (all_members (reachable_digit home e))
 
-module _ (home : Data) (c e : ℕ) (good : IsGoodMatch home c e) where
+module _ (home : Data) (c e : ℕ) (well_formed : IsWellFormedMatch home c e) where
   pub match_readable : IsTrue (is_readable home c e)
-  match_readable = readable_among home c e (live_digit home e) good (matched_itself home e)
+  match_readable = readable_among home c e (reachable_digit home e) well_formed (matched_itself home e)
 
   pub plain_readable : kind_of e ≡ Digit → IsTrue (is_readable home c (plain_of home e))
-  plain_readable is = readable_among home c (plain_of home e) (live_digit home e) good (matched_plain home e is)
+  plain_readable is = readable_among home c (plain_of home e) (reachable_digit home e) well_formed (matched_plain home e is)
 
   pub plain_inside : kind_of e ≡ Digit → entry_index e < length home.entries
-  plain_inside is = inside_among home c e (live_digit home e) good (matched_itself home e) is
+  plain_inside is = inside_among home c e (reachable_digit home e) well_formed (matched_itself home e) is
 
   pub match_decimal : kind_of e ≡ Digit → digit_value e < 10
-  match_decimal is = decimal_among home c e (live_digit home e) good (matched_itself home e) is
+  match_decimal is = decimal_among home c e (reachable_digit home e) well_formed (matched_itself home e) is

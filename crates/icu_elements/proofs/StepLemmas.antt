@@ -5,7 +5,7 @@ use Rattle.icu_entries.specs.declared.entry.EntryKind.{EntryKind}
 use Rattle.icu_entries.specs.declared.entry.EntryKind.TheVariants.{Contraction, Digit}
 use Rattle.icu_entries.specs.Elements.{Element, of_secondary}
 use Rattle.icu_entries.specs.Entries.{kind_of, digit_value}
-use Rattle.icu_data.specs.Data.{Row, Context, Data, HomedEntry, row_entry, longest_row}
+use Rattle.icu_data.specs.Data.{Mapping, Context, Data, HomedEntry, mapping_entry, longest_mapping}
 use Rattle.icu_provider.specs.Tables.{Tables, entry_of, diacritic_of}
 use Rattle.unicode_normalization.specs.Order.{is_starter}
 use Rattle.icu_matches.specs.Matches.{Match, after_prefix, is_blocked, with_marks, contracted, match_from, match_of}
@@ -18,23 +18,23 @@ use Rattle.icu_matches.proofs.ChoiceLemmas.{either, maybe_any, at_nil}
 record Leaves (n : ℕ) (m : Match) : Type 0 where
   fits : length m.rest ≤ n
 
-Leaves-with_marks : (rows : List Row) (entry : ℕ) (suffix passed text : List ℕ) → Leaves (length passed + length text) (with_marks rows entry suffix passed text)
+Leaves-with_marks : (mappings : List Mapping) (entry : ℕ) (suffix passed text : List ℕ) → Leaves (length passed + length text) (with_marks mappings entry suffix passed text)
 unfolding with_marks
-Leaves-with_marks rows entry suffix passed [] = record { fits = omega arith }
-Leaves-with_marks rows entry suffix passed (m ∷ ms) =
+Leaves-with_marks mappings entry suffix passed [] = record { fits = omega arith }
+Leaves-with_marks mappings entry suffix passed (m ∷ ms) =
     let n = length passed + length (m ∷ ms) in
-    let over : Leaves n (with_marks rows entry suffix (passed ++ m ∷ []) ms) =
-    record { fits = omega (arith, (Leaves-with_marks rows entry suffix (passed ++ m ∷ []) ms).fits, length-append passed (m ∷ [])) } in
+    let over : Leaves n (with_marks mappings entry suffix (passed ++ m ∷ []) ms) =
+    record { fits = omega (arith, (Leaves-with_marks mappings entry suffix (passed ++ m ∷ []) ms).fits, length-append passed (m ∷ [])) } in
     either (Leaves n) (is_starter m) _ _ (record { fits = simp length-append (omega arith) })
     (either (Leaves n) (is_blocked passed m) _ _ over
-    (maybe_any (Leaves n) (row_entry rows (suffix ++ m ∷ [])) _ _ (λ joined. record { fits = omega (arith, (Leaves-with_marks rows joined (suffix ++ m ∷ []) passed ms).fits) }) over))
+    (maybe_any (Leaves n) (mapping_entry mappings (suffix ++ m ∷ [])) _ _ (λ joined. record { fits = omega (arith, (Leaves-with_marks mappings joined (suffix ++ m ∷ []) passed ms).fits) }) over))
 
 Leaves-contracted : (context : Context) (text : List ℕ) → Leaves (length text) (contracted context text)
 unfolding contracted
 Leaves-contracted context text =
-    maybe_any (Leaves (length text)) (longest_row context.rows text) _ _
-    (λ row. record { fits = omega (arith, (Leaves-with_marks context.rows row.entry row.chars [] (drop (length row.chars) text)).fits, length-drop (length row.chars) text) })
-    (record { fits = omega (arith, (Leaves-with_marks context.rows context.default [] [] text).fits) })
+    maybe_any (Leaves (length text)) (longest_mapping context.mappings text) _ _
+    (λ mapping. record { fits = omega (arith, (Leaves-with_marks context.mappings mapping.entry mapping.chars [] (drop (length mapping.chars) text)).fits, length-drop (length mapping.chars) text) })
+    (record { fits = omega (arith, (Leaves-with_marks context.mappings context.default [] [] text).fits) })
 
 at_contraction : (P : Match → Type 0) (k : EntryKind) (x y : Match) → P x → P y → P (elim k as (λ _. Match) [ Contraction ↦ x | _ ↦ y ])
 at_contraction P Contraction x y p q = p

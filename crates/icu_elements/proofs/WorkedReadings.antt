@@ -74,7 +74,7 @@ long_jamo = record mini {
 
 -- a with a ring above is a letter of its own; the hints of the entry decide nothing
 abbrev ring_context : Context
-ring_context = record { default = 0x61100505; rows = record { chars = 0x30A ∷ []; entry = 0x62100505 } ∷ [] }
+ring_context = record { default = 0x61100505; mappings = record { chars = 0x30A ∷ []; entry = 0x62100505 } ∷ [] }
 
 abbrev pub ring : Tables
 ring = with_context 97 0xC9 ring_context
@@ -86,12 +86,12 @@ hinted_ring = with_context 97 0xEC9 ring_context
 abbrev pub two_marks : Tables
 two_marks = with_context 97 0xC9 (record {
   default = 0x61100505;
-  rows = record { chars = 0x30A ∷ []; entry = 0x62100505 } ∷ record { chars = 0x323 ∷ 0x30A ∷ []; entry = 0x62300505 } ∷ [];
+  mappings = record { chars = 0x30A ∷ []; entry = 0x62100505 } ∷ record { chars = 0x323 ∷ 0x30A ∷ []; entry = 0x62300505 } ∷ [];
 })
 
 -- c after "ab" is another letter
 abbrev pub prefixed : Tables
-prefixed = with_context 99 0xC8 (record { default = 0x61180505; rows = record { chars = 98 ∷ 97 ∷ []; entry = 0x611E0505 } ∷ [] })
+prefixed = with_context 99 0xC8 (record { default = 0x61180505; mappings = record { chars = 98 ∷ 97 ∷ []; entry = 0x611E0505 } ∷ [] })
 
 -- "ab" is a letter, and c after it another one
 abbrev pub letter_before_prefix : Tables
@@ -100,8 +100,8 @@ letter_before_prefix = record mini {
     value = λ x. if x == 97 then 0xC9 else if x == 99 then 0x20C8 else 0xC0;
     elements = [];
     entries = [];
-    contexts = record { default = 0x61100505; rows = record { chars = 98 ∷ []; entry = 0x62100505 } ∷ [] }
-        ∷ record { default = 0x61180505; rows = record { chars = 98 ∷ 97 ∷ []; entry = 0x611E0505 } ∷ [] } ∷ [];
+    contexts = record { default = 0x61100505; mappings = record { chars = 98 ∷ []; entry = 0x62100505 } ∷ [] }
+        ∷ record { default = 0x61180505; mappings = record { chars = 98 ∷ 97 ∷ []; entry = 0x611E0505 } ∷ [] } ∷ [];
   });
 }
 

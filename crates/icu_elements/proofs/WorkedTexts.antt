@@ -80,25 +80,25 @@ hints_ignored : elements_in (non_numeric_reading hinted_ring) (97 ∷ 0x30A ∷ 
 unfolding icu_elements
 hints_ignored = refl
 
--- a dot below and a ring, a row of two
+-- a dot below and a ring, a mapping of two
 two_joined : elements_in (non_numeric_reading two_marks) (97 ∷ 0x323 ∷ 0x30A ∷ []) ≡ letter 0x62300000 ∷ []
 unfolding icu_elements
 two_joined = refl
 
--- each mark consumed makes a row
+-- each mark consumed makes a mapping
 cedilla_first : elements_in (non_numeric_reading two_marks) (97 ∷ 0x327 ∷ 0x323 ∷ 0x30A ∷ []) ≡ letter 0x62100000 ∷ diacritic 0x6D00 ∷ diacritic 0x6900 ∷ []
 unfolding icu_elements
 cedilla_first = refl
 
--- a dot below makes no row by itself
+-- a dot below makes no mapping by itself
 dot_and_diaeresis : elements_in (non_numeric_reading two_marks) (97 ∷ 0x323 ∷ 0x308 ∷ 0x30A ∷ []) ≡ letter 0x61100000 ∷ diacritic 0x6900 ∷ diacritic 0x4E00 ∷ diacritic 0x5000 ∷ []
 unfolding icu_elements
 dot_and_diaeresis = refl
 
 -- c after "ab"
-after_prefix_row : primaries_in (non_numeric_reading prefixed) (97 ∷ 98 ∷ 99 ∷ []) ≡ 0x61100000 ∷ 0x61140000 ∷ 0x611E0000 ∷ []
+after_prefix_mapping : primaries_in (non_numeric_reading prefixed) (97 ∷ 98 ∷ 99 ∷ []) ≡ 0x61100000 ∷ 0x61140000 ∷ 0x611E0000 ∷ []
 unfolding icu_elements
-after_prefix_row = refl
+after_prefix_mapping = refl
 
 -- c after "xb"
 after_other : primaries_in (non_numeric_reading prefixed) (120 ∷ 98 ∷ 99 ∷ []) ≡ 0x616C0000 ∷ 0x61140000 ∷ 0x61180000 ∷ []

@@ -5,8 +5,8 @@ use Rattle.std.specs.List.{AllByRecursion}
 use Rattle.unicode_normalization.specs.Forms.{nfd}
 use Rattle.icu_entries.specs.Elements.{Element}
 use Rattle.icu_elements.specs.TextElements.{Reading, elements_of}
-use Rattle.icu_provider.specs.LiveTables.{HasDigits}
-use Rattle.icu_elements.specs.TextParts.{IsDecomposedText, HasGoodParts, EachPasses, PartsPass, IsTextElement}
+use Rattle.icu_provider.specs.ReachableTables.{HasDigits}
+use Rattle.icu_elements.specs.TextParts.{IsDecomposedText, HasParts, EachPasses, PartsPass, IsTextElement}
 
 -- a text of scalar values
 abbrev pub IsText : List ℕ → Type 0
@@ -18,10 +18,10 @@ TextsDecompose = (cs : List ℕ) → IsText cs → IsDecomposedText (nfd cs)
 
 -- where the parts pass a test on lists of elements, and lists that pass do so one after another, the elements of each
 -- decomposed text pass
-abbrev pub GoodPartsMakeGoodTexts : Type 0
-GoodPartsMakeGoodTexts =
-    (is_good : List Element → Bool) (reading : Reading) → HasGoodParts (λ es. IsTrue (is_good es)) reading
-    → (text : List ℕ) → IsDecomposedText text → IsTrue (is_good (elements_of reading text))
+abbrev pub PartsMakeTexts : Type 0
+PartsMakeTexts =
+    (holds : List Element → Bool) (reading : Reading) → HasParts (λ es. IsTrue (holds es)) reading
+    → (text : List ℕ) → IsDecomposedText text → IsTrue (holds (elements_of reading text))
 
 -- a test that each element of each part passes is passed by each element of each decomposed text
 abbrev pub ElementsPass : Type 0
@@ -29,7 +29,7 @@ ElementsPass =
     (test : Element → Bool) (reading : Reading) → PartsPass test reading
     → (text : List ℕ) → IsDecomposedText text → EachPasses test (elements_of reading text)
 
--- each element of each text is one of a live entry, a diacritic or a number
+-- each element of each text is one of a reachable entry, a diacritic or a number
 abbrev pub ElementsHaveSources : Type 0
 ElementsHaveSources =
     (reading : Reading) → HasDigits reading.tables

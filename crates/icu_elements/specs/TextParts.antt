@@ -1,4 +1,4 @@
--- What the elements of decomposed texts are put together from: the elements of live entries, those of diacritics, and
+-- What the elements of decomposed texts are put together from: the elements of reachable entries, those of diacritics, and
 -- numbers.
 use Rattle.std.specs.Prelude.{ℕ, ◌≡◌, ◌⊎◌, ◌<◌, Bool, not, ◌||◌, ◌==◌, List, [], ◌∷◌, ◌++◌, Option, Some, IfSome, IsTrue}
 use Rattle.std.specs.Char.{IsScalar}
@@ -8,7 +8,7 @@ use Rattle.icu_data.specs.Data.{Data, homed}
 use Rattle.icu_provider.specs.Tables.{Tables, diacritic_of}
 use Rattle.icu_data.specs.Final.{final_elements}
 use Rattle.icu_elements.specs.TextElements.{Reading, number_elements}
-use Rattle.icu_provider.specs.LiveTables.{AllLive, HasDigits, IsLive}
+use Rattle.icu_provider.specs.ReachableTables.{AllReachable, HasDigits, IsReachable}
 
 -- a mark that canonical decomposition replaces: U+0340, U+0341, U+0343 or U+0344 (UAX #15)
 abbrev pub is_replaced : ℕ → Bool
@@ -27,18 +27,18 @@ IsDecomposedText text = AllByRecursion IsDecomposed text
 abbrev pub AreDigits : List ℕ → Type 0
 AreDigits ds = AllByRecursion (λ d. d < 10) ds
 
--- the elements of each run of digits are good, where digits are read as numbers
-abbrev pub GoodNumbers : (List Element → Type 0) → Option ℕ → Type 0
-GoodNumbers IsGood numeric = IfSome numeric (λ lead. (ds : List ℕ) → AreDigits ds → IsGood (number_elements lead ds))
+-- the elements of each run of digits are well-formed, where digits are read as numbers
+abbrev pub NumbersHold : (List Element → Type 0) → Option ℕ → Type 0
+NumbersHold Holds numeric = IfSome numeric (λ lead. (ds : List ℕ) → AreDigits ds → Holds (number_elements lead ds))
 
--- Each part that a text's elements are put together from is good, and so is what good parts make one after another.
-pub record HasGoodParts (IsGood : List Element → Type 0) (reading : Reading) : Type 0 where
-  pub none : IsGood []
-  pub append : (es fs : List Element) → IsGood es → IsGood fs → IsGood (es ++ fs)
+-- Each part that a text's elements are put together from is well-formed, and so is what well-formed parts make one after another.
+pub record HasParts (Holds : List Element → Type 0) (reading : Reading) : Type 0 where
+  pub none : Holds []
+  pub append : (es fs : List Element) → Holds es → Holds fs → Holds (es ++ fs)
   pub digits : HasDigits reading.tables
-  pub entries : AllLive (λ home c e. IsGood (final_elements (homed home e) c)) reading.tables
-  pub diacritics : (c : ℕ) → IsDecomposed c → IfSome (diacritic_of reading.tables c) (λ s. IsGood (of_secondary s ∷ []))
-  pub numbers : GoodNumbers IsGood reading.numeric
+  pub entries : AllReachable (λ home c e. Holds (final_elements (homed home e) c)) reading.tables
+  pub diacritics : (c : ℕ) → IsDecomposed c → IfSome (diacritic_of reading.tables c) (λ s. Holds (of_secondary s ∷ []))
+  pub numbers : NumbersHold Holds reading.numeric
 
 -- each element passes a test
 abbrev pub EachPasses : (Element → Bool) → List Element → Type 0
@@ -47,18 +47,18 @@ EachPasses test es = IsTrue (list_all test es)
 -- each element of each part passes the test
 pub record PartsPass (test : Element → Bool) (reading : Reading) : Type 0 where
   pub digits : HasDigits reading.tables
-  pub entries : AllLive (λ home c e. EachPasses test (final_elements (homed home e) c)) reading.tables
+  pub entries : AllReachable (λ home c e. EachPasses test (final_elements (homed home e) c)) reading.tables
   pub diacritics : (c : ℕ) → IsDecomposed c → IfSome (diacritic_of reading.tables c) (λ s. IsTrue (test (of_secondary s)))
-  pub numbers : GoodNumbers (EachPasses test) reading.numeric
+  pub numbers : NumbersHold (EachPasses test) reading.numeric
 
 -- ---- where an element of a text comes from
 
--- one of the elements of an entry that is live with a character
+-- one of the elements of an entry that is reachable with a character
 pub record IsOfEntry (tables : Tables) (x : Element) : Type 0 where
   pub home : Data
   pub char : ℕ
   pub entry : ℕ
-  pub live : IsLive tables home char entry
+  pub reachable : IsReachable tables home char entry
   pub member : Contains (final_elements (homed home entry) char) x
 
 -- the element of a diacritic

@@ -15,7 +15,7 @@ pub(crate) struct ElementList {
 }
 
 impl VisitElement for ElementList {
-    type Refusal = AllocError;
+    type Error = AllocError;
 
     ghost Seen = { List Element };
 

@@ -6,7 +6,7 @@ ghost use Rattle.icu_data.specs.Data.{homed};
 ghost use Rattle.icu_entries.specs.Entries.{kind_of};
 ghost use Rattle.icu_data.specs.StoredData.{data_of};
 ghost use Rattle.icu_checks.specs.Checked.{checked_tables};
-ghost use Rattle.icu_matches.specs.GoodEntries.{IsGoodFrom};
+ghost use Rattle.icu_matches.specs.WellFormedEntries.{IsWellFormedFrom};
 
 use icu_checks::CheckedTables;
 use icu_data::CollationData;
@@ -64,7 +64,7 @@ impl<'d> ElementTables<'d> {
     pub(crate) fn entry(self, c: char) -> HomedEntry<'d>
         ensures value { entry_of (element_tables self.entry) c
             ≡ homed (data_of result.home) result.ce32 }
-        ensures good { IsGoodFrom (data_of result.home) c result.ce32 }
+        ensures well_formed { IsWellFormedFrom (data_of result.home) c result.ce32 }
     {
         self.found(c)
     }

@@ -3,7 +3,7 @@
 ghost use Rattle.std.specs.Prelude.{◌≡◌};
 ghost use Rattle.icu_data.specs.Data.{homed};
 ghost use Rattle.icu_data.specs.StoredData.{data_of};
-ghost use Rattle.icu_matches.specs.GoodEntries.{IsGoodFrom};
+ghost use Rattle.icu_matches.specs.WellFormedEntries.{IsWellFormedFrom};
 ghost use Rattle.icu_provider.specs.Tables.{entry_of, diacritic_of};
 ghost use Rattle.icu_elements.specs.Reading.{element_tables};
 
@@ -25,7 +25,7 @@ impl<'d> ElementTables<'d> {
     /// the root's (UTS #35 part 5, "Collation Tailorings").
     pub fn homed_entry(self, c: char) -> (CollationData<'d>, CollationElement32)
         ensures value { entry_of (element_tables self.entry) c ≡ homed (data_of result.0) result.1 }
-        ensures good { IsGoodFrom (data_of result.0) c result.1 }
+        ensures well_formed { IsWellFormedFrom (data_of result.0) c result.1 }
     {
         let entry = self.entry(c);
         (entry.home, entry.ce32)

@@ -18,7 +18,7 @@ pub enum DataErrorKind {
     Tag,
     /// An element or one of its weights is malformed.
     Element,
-    /// The rows of a context are malformed, or not in order.
+    /// The mappings of a context are malformed, or not in order.
     Context,
     /// A weight begins another one.
     Overlap,

@@ -1,4 +1,4 @@
-//! Entries and collation elements, with the conditions on each, and the refusal of a table.
+//! Entries and collation elements, with the conditions on each, and the error of a table.
 #![tactic(auto)]
 
 pub mod element;

@@ -4,7 +4,7 @@ use Rattle.std.specs.Prelude.{ℕ, List, [], ◌∷◌, filter, fold, if◌then�
 use Rattle.std.specs.List.Sorted.{IsPermutation, IsSorted, IsStable}
 use Rattle.std.specs.Ordering.{is_eq, is_gt}
 use Rattle.std.specs.declared.cmp.Ordering.{Ordering}
-use Rattle.icu_checks.specs.GoodTables.{IsGoodTables}
+use Rattle.icu_checks.specs.WellFormedTables.{IsWellFormedTables}
 use Rattle.icu_encodings.specs.DecodedTexts.{utf8_text}
 use Rattle.icu_order.specs.Collations.{Collation}
 use Rattle.icu_order.specs.TextOrder.{text_order}
@@ -35,5 +35,5 @@ pub record IsStablySorted (order : List ℕ → List ℕ → Ordering) (names so
 -- by each collation whose tables meet the conditions, names that were inserted one after another are sorted
 abbrev pub InsertsSort : Type 0
 InsertsSort =
-    (c : Collation) (names : List (List ℕ)) → IsGoodTables c.tables
+    (c : Collation) (names : List (List ℕ)) → IsWellFormedTables c.tables
     → IsStablySorted (name_order c) names (listing_of (name_order c) names)

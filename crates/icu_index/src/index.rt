@@ -74,7 +74,7 @@ impl<'a> NameIndex<'a> {
         // The order stays.
         ensures collation { index_collation self.new ≡ index_collation self.old }
     {
-        self.collator.has_good_tables();
+        self.collator.has_well_formed_tables();
         let len = self.len.checked_add(1).ok_or(AllocError)?;
         let key = name_key(self.alloc, &self.collator, name)?;
         let name = name.to_vec(self.alloc)?;
@@ -113,7 +113,7 @@ impl<'a> NameIndex<'a> {
         ensures { IfOk result (λ names. map (λ n. n.items) names.now
             ≡ equal_names (index_order self.now) name.now (listing self.now)) }
     {
-        self.collator.has_good_tables();
+        self.collator.has_well_formed_tables();
         let key = name_key(self.alloc, &self.collator, name)?;
         match self.groups.get(&key) {
             Some(names) => Ok(names.as_slice()),

@@ -9,15 +9,15 @@ use Rattle.icu_entries.specs.declared.entry.EntryKind.{EntryKind}
 use Rattle.icu_entries.specs.declared.entry.EntryKind.TheVariants.{Prefix, Contraction, Digit}
 use Rattle.icu_entries.specs.Entries.{kind_of, digit_value}
 use Rattle.icu_data.specs.Data.{Data, HomedEntry}
-use Rattle.icu_data.specs.Live.{live_from}
+use Rattle.icu_data.specs.Reachable.{reachable_from}
 use Rattle.icu_data.proofs.ListLemmas.{of_member}
-use Rattle.icu_provider.specs.LiveTables.{IsLive}
+use Rattle.icu_provider.specs.ReachableTables.{IsReachable}
 use Rattle.icu_provider.specs.Tables.{Tables, entry_of, diacritic_of}
 use Rattle.icu_matches.specs.Matches.{Match, after_prefix, match_from, match_of}
 use Rattle.icu_elements.specs.TextElements.{Reading, Step, is_digit_kind, continues_number, begins_with_mark, digit_of_char, number_elements, number_step, entry_step, matched_step, step, consumed, last_two, elements_after, elements_of}
 use Rattle.icu_elements.specs.TextParts.{AreDigits, IsDecomposed}
 use Rattle.icu_elements.specs.inner.Readable.{AreReadable}
-use Rattle.icu_elements.proofs.ReadableLemmas.{entry_of-is_live, decimal_among, itself}
+use Rattle.icu_elements.proofs.ReadableLemmas.{entry_of-is_reachable, decimal_among, itself}
 use Rattle.icu_elements.proofs.StepLemmas.{elements_after_cons, elements_after_nil}
 use Rattle.icu_laws.specs.NumberTexts.{IsDigitCharacter}
 
@@ -133,10 +133,10 @@ module _ (tables : Tables) (readable : AreReadable tables) where
   digit_decimal : (c : ℕ) → IsScalar c → IsTrue (continues_number tables c) → digit_of_char tables c < 10
   digit_decimal c scalar on =
       let h = entry_of tables c in
-      let live = entry_of-is_live tables c scalar in
+      let reachable = entry_of-is_reachable tables c scalar in
       let is = continues (diacritic_of tables c) (kind_of h.entry) on in
-      decimal_among h.home c h.entry (live_from h.home h.entry)
-      (λ condition e among. readable.each condition h.home c e (of_member (IsLive tables h.home c) (live_from h.home h.entry) e live among))
+      decimal_among h.home c h.entry (reachable_from h.home h.entry)
+      (λ condition e among. readable.each condition h.home c e (of_member (IsReachable tables h.home c) (reachable_from h.home h.entry) e reachable among))
       (itself h.home h.entry) is.1
 
   pub digits_decimal : (cs : List ℕ) → AllByRecursion IsDecomposed cs → AllByRecursion (IsDigitCharacter tables) cs → AreDigits (map (digit_of_char tables) cs)

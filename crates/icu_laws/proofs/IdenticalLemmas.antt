@@ -10,7 +10,7 @@ use Rattle.icu_levels.proofs.KeepLemmas.{tie}
 use Rattle.icu_levels.proofs.Order.{tied_lists}
 use Rattle.icu_data.proofs.CharLemmas.{scalar_below}
 use Rattle.icu_data.proofs.ListLemmas.{weaker}
-use Rattle.icu_checks.specs.GoodTables.{IsGoodTables}
+use Rattle.icu_checks.specs.WellFormedTables.{IsWellFormedTables}
 use Rattle.icu_elements.specs.TextElementLaws.{IsText}
 use Rattle.icu_elements.specs.TextParts.{IsDecomposed}
 use Rattle.icu_elements.proofs.DecomposedLemmas.{IsDecomposedText-nfd}
@@ -40,6 +40,6 @@ module _ (collation : Collation) (is : collation.settings.strength ≡ Identical
   pub identical_texts : (text_order collation t u ≡ Equal) ↔ AreEquivalent t u
   identical_texts = (λ e. identical_equivalent collation t u is e, λ e. equivalent_tie collation t u e)
 
-  pub identical_keys : IsGoodTables collation.tables → IsText t → IsText u → (text_key collation t ≡ text_key collation u) ↔ AreEquivalent t u
-  identical_keys good p q =
-      let keys = equal_keys collation good t u p q in (λ e. identical_texts.0 (keys.1 e), λ e. keys.0 (identical_texts.1 e))
+  pub identical_keys : IsWellFormedTables collation.tables → IsText t → IsText u → (text_key collation t ≡ text_key collation u) ↔ AreEquivalent t u
+  identical_keys well_formed p q =
+      let keys = equal_keys collation well_formed t u p q in (λ e. identical_texts.0 (keys.1 e), λ e. keys.0 (identical_texts.1 e))

@@ -16,19 +16,19 @@ use Rattle.icu_levels.proofs.Order.{same_number}
 use Rattle.icu_levels.proofs.ReorderedNumbers.{moved_runs_by_value}
 use Rattle.icu_entries.specs.Elements.{Element, of_primary}
 use Rattle.icu_provider.specs.CollatorTables.{reorder}
-use Rattle.icu_checks.specs.GoodTables.{IsGoodTables}
+use Rattle.icu_checks.specs.WellFormedTables.{IsWellFormedTables}
 use Rattle.icu_elements.specs.TextElements.{digit_of_char, elements_of, number_elements}
 use Rattle.icu_elements.specs.TextElementLaws.{IsText}
 use Rattle.icu_elements.proofs.DecomposedLemmas.{IsDecomposedText-nfd}
-use Rattle.icu_elements.proofs.ReadableLemmas.{good_readable}
+use Rattle.icu_elements.proofs.ReadableLemmas.{well_formed_readable}
 use Rattle.icu_weighting.specs.Collations.{Collation}
 use Rattle.icu_weighting.specs.Forms.{compression_of, form_by, is_identical}
 use Rattle.icu_weighting.specs.Handled.{handled, stayed_elements}
 use Rattle.icu_weighting.specs.Levels.{weights, primaries, level_lists}
-use Rattle.icu_order.specs.LiveWeights.{IsLivePrimary}
+use Rattle.icu_order.specs.ReachableWeights.{IsReachablePrimary}
 use Rattle.icu_order.specs.TextOrder.{reading_by, handled_elements, lists_by, text_order}
 use Rattle.icu_order.proofs.NumberLists.{number_all, run_leads}
-use Rattle.icu_order.proofs.PrimaryWeights.{live_primaries}
+use Rattle.icu_order.proofs.PrimaryWeights.{reachable_primaries}
 use Rattle.icu_order.proofs.SpecialBounds.{numeric_low}
 use Rattle.icu_laws.specs.NumberTexts.{IsNumberText, IsDigitText, digits_in}
 use Rattle.icu_laws.proofs.DigitTextLemmas.{digits_give, digits_decimal}
@@ -46,7 +46,7 @@ numbers_on : (b : Bool) (lead : ℕ) → b ≡ true → (if b then Some lead els
 numbers_on true lead on = refl
 numbers_on false lead on = cc
 
-module _ (collation : Collation) (good : IsGoodTables collation.tables) where
+module _ (collation : Collation) (well_formed : IsWellFormedTables collation.tables) where
   open collation use {tables as all, settings}
 
   abbrev numeric : ℕ
@@ -65,7 +65,7 @@ module _ (collation : Collation) (good : IsGoodTables collation.tables) where
   number_primaries ds short =
       let ws = run_weights numeric ds in
       ap primaries_of (sym (append-nil (map of_primary ws)))
-      ∙ (number_all collation good ws (run_leads numeric (numeric_low all good) ds short.digits) []
+      ∙ (number_all collation well_formed ws (run_leads numeric (numeric_low all well_formed) ds short.digits) []
       ∙ (ap (λ (l : List ℕ). ws ++ l) nothing ∙ append-nil ws))
 
   -- numbers of one value have the same elements
@@ -95,7 +95,7 @@ module _ (collation : Collation) (good : IsGoodTables collation.tables) where
         ≡ nat_cmp (value_of ds) (value_of es)
     first_level =
         ap₂ (λ (a b : List ℕ). list_order (map (reorder all) a) (map (reorder all) b)) (number_primaries ds p.short) (number_primaries es q.short)
-        ∙ moved_runs_by_value (compression_of all) numeric (IsLivePrimary all) (live_primaries all good) (numeric_low all good) ds es p.short q.short
+        ∙ moved_runs_by_value (compression_of all) numeric (IsReachablePrimary all) (reachable_primaries all well_formed) (numeric_low all well_formed) ds es p.short q.short
 
     pub different_values : value_of ds ≢ value_of es → text_order collation t u ≡ nat_cmp (value_of ds) (value_of es)
     different_values n =
@@ -125,7 +125,7 @@ module _ (collation : Collation) (good : IsGoodTables collation.tables) where
   digits_are_number on t text is = record {
     elements = digits_give (reading_by collation) numeric (numbers_on settings.numeric numeric on) (nfd t) is.some is.characters;
     short = record {
-      digits = digits_decimal all.tables (good_readable all good) (nfd t) (IsDecomposedText-nfd t text) is.characters;
+      digits = digits_decimal all.tables (well_formed_readable all well_formed) (nfd t) (IsDecomposedText-nfd t text) is.characters;
       some = subst (λ n. 0 < n) (sym (length-map (nfd t) (digit_of_char all.tables))) is.some;
       short = is.short;
     };

@@ -4,19 +4,19 @@ use Rattle.std.proofs.lemmas.Cmp.{nat_list_cmp_total}
 use Rattle.std.specs.Ordering.{ordering_reverse}
 use Rattle.icu_levels.specs.ListOrder.{list_order}
 use Rattle.icu_levels.proofs.Order.{same_lists_order}
-use Rattle.icu_checks.specs.GoodTables.{IsGoodTables}
+use Rattle.icu_checks.specs.WellFormedTables.{IsWellFormedTables}
 use Rattle.icu_elements.specs.TextElementLaws.{IsText}
 use Rattle.icu_weighting.specs.Collations.{Collation}
 use Rattle.icu_order.specs.TextOrder.{text_order, text_key}
 use Rattle.icu_order.proofs.TextOrders.{keys_keep}
 use Rattle.icu_laws.specs.OrderLaws.{IsOrderOfTexts}
 
-module _ (collation : Collation) (good : IsGoodTables collation.tables) where
+module _ (collation : Collation) (well_formed : IsWellFormedTables collation.tables) where
   abbrev key : List ℕ → List ℕ
   key t = text_key collation t
 
   by_keys : (t u : List ℕ) → IsText t → IsText u → text_order collation t u ≡ list_order (key t) (key u)
-  by_keys t u p q = sym (keys_keep collation good t u p q)
+  by_keys t u p q = sym (keys_keep collation well_formed t u p q)
 
   pub texts_ordered : IsOrderOfTexts collation
   texts_ordered = record {

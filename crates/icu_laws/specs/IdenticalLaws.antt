@@ -7,7 +7,7 @@ use Rattle.icu_options.specs.declared.settings.Strength.TheVariants.{Identical}
 use Rattle.icu_levels.specs.Identical.{identical_level, identical_rank}
 use Rattle.icu_levels.specs.Keys.{Determines}
 use Rattle.icu_levels.specs.ListOrder.{list_order}
-use Rattle.icu_checks.specs.GoodTables.{IsGoodTables}
+use Rattle.icu_checks.specs.WellFormedTables.{IsWellFormedTables}
 use Rattle.icu_elements.specs.TextElementLaws.{IsText}
 use Rattle.icu_weighting.specs.Collations.{Collation}
 use Rattle.icu_order.specs.TextOrder.{text_order, text_key}
@@ -36,5 +36,5 @@ IdenticalOrderDeterminesTexts =
 -- and they alone have one key
 abbrev pub IdenticalKeysDetermineTexts : Type 0
 IdenticalKeysDetermineTexts =
-    (c : Collation) → IsGoodTables c.tables → c.settings.strength ≡ Identical
+    (c : Collation) → IsWellFormedTables c.tables → c.settings.strength ≡ Identical
     → (t u : List ℕ) → IsText t → IsText u → (text_key c t ≡ text_key c u) ↔ AreEquivalent t u

@@ -3,7 +3,7 @@ use Rattle.std.specs.Prelude.{ℕ, ◌≡◌, ◌≢◌, true, List}
 use Rattle.std.specs.Ordering.{nat_cmp}
 use Rattle.icu_options.specs.declared.settings.Strength.TheVariants.{Identical}
 use Rattle.icu_levels.specs.Numbers.{value_of}
-use Rattle.icu_checks.specs.GoodTables.{IsGoodTables}
+use Rattle.icu_checks.specs.WellFormedTables.{IsWellFormedTables}
 use Rattle.icu_elements.specs.TextElementLaws.{IsText}
 use Rattle.icu_weighting.specs.Collations.{Collation}
 use Rattle.icu_order.specs.TextOrder.{text_order}
@@ -12,19 +12,19 @@ use Rattle.icu_laws.specs.NumberTexts.{IsNumberText, IsDigitText, digits_in}
 -- where digits are read as numbers, a text of digits alone is read as the number of those digits
 abbrev pub DigitTextsAreNumbers : Type 0
 DigitTextsAreNumbers =
-    (c : Collation) → IsGoodTables c.tables → c.settings.numeric ≡ true
+    (c : Collation) → IsWellFormedTables c.tables → c.settings.numeric ≡ true
     → (text : List ℕ) → IsText text → IsDigitText c.tables text → IsNumberText c text (digits_in c.tables text)
 
 -- two texts, each read as one number, are ordered by the values, whatever the settings below the identical level
 abbrev pub NumberTextsOrderByValue : Type 0
 NumberTextsOrderByValue =
-    (c : Collation) → IsGoodTables c.tables → c.settings.strength ≢ Identical
+    (c : Collation) → IsWellFormedTables c.tables → c.settings.strength ≢ Identical
     → (t u ds es : List ℕ) → IsNumberText c t ds → IsNumberText c u es
     → text_order c t u ≡ nat_cmp (value_of ds) (value_of es)
 
 -- and so they are at the identical level too, where the values differ
 abbrev pub DifferentNumbersOrderByValue : Type 0
 DifferentNumbersOrderByValue =
-    (c : Collation) → IsGoodTables c.tables → (t u ds es : List ℕ)
+    (c : Collation) → IsWellFormedTables c.tables → (t u ds es : List ℕ)
     → IsNumberText c t ds → IsNumberText c u es → value_of ds ≢ value_of es
     → text_order c t u ≡ nat_cmp (value_of ds) (value_of es)

@@ -5,7 +5,7 @@ use Rattle.std.specs.declared.cmp.Ordering.TheVariants.{Less, Equal}
 use Rattle.unicode_normalization.specs.Forms.{nfd}
 use Rattle.icu_options.specs.declared.settings.Strength.{Strength}
 use Rattle.icu_options.specs.declared.settings.Strength.TheVariants.{Primary, Secondary, Tertiary, Quaternary, Identical}
-use Rattle.icu_checks.specs.GoodTables.{IsGoodTables}
+use Rattle.icu_checks.specs.WellFormedTables.{IsWellFormedTables}
 use Rattle.icu_elements.specs.TextElementLaws.{IsText}
 use Rattle.icu_weighting.specs.Collations.{Collation}
 use Rattle.icu_order.specs.TextOrder.{text_order, text_key}
@@ -22,9 +22,9 @@ pub record IsOrderOfTexts (c : Collation) : Type 0 where
   pub equal : (t u v : List ℕ) → IsText t → IsText u → IsText v
       → text_order c t u ≡ Equal → text_order c t v ≡ text_order c u v
 
--- good tables order texts, whatever the settings
+-- well-formed tables order texts, whatever the settings
 abbrev pub TextsAreOrdered : Type 0
-TextsAreOrdered = (c : Collation) → IsGoodTables c.tables → IsOrderOfTexts c
+TextsAreOrdered = (c : Collation) → IsWellFormedTables c.tables → IsOrderOfTexts c
 
 -- ---- canonical equivalence
 

@@ -40,7 +40,7 @@ falls_change d l z m o = change d l z m ∙ cond-true (ltb l d) _ _ (lt-ltb l d 
 climbs_change : (d l : ℕ) → d ≢ 0 → l ≢ 2 → d ≤ l → lead_change d l ≡ 0xFF ∷ []
 climbs_change d l z m o = change d l z m ∙ cond-false (ltb l d) _ _ (le-ltb l d o)
 
-module _ (d : ℕ) (IsNext : ℕ → Type 0) (good : FitsAfter d IsNext) where
+module _ (d : ℕ) (IsNext : ℕ → Type 0) (well_formed : FitsAfter d IsNext) where
   -- what a weight writes where d is dropped
   data Kind (w : ℕ) : Type 0 where
     drops : lead w ≡ d → IsOver 3 (primary_bytes d w) → IsUnder 0xFF (primary_bytes d w) → primary_bytes d w
@@ -54,15 +54,15 @@ module _ (d : ℕ) (IsNext : ℕ → Type 0) (good : FitsAfter d IsNext) where
   full w n e = other_lead d w n ∙ ap (λ l. l ++ weight_bytes 4 w) e
 
   kind : (w : ℕ) → IsNext w → Kind w
-  kind w live = by good.drops (cases_order (lead w) d) (cases_eq (lead w) 2)
+  kind w reachable = by well_formed.drops (cases_order (lead w) d) (cases_eq (lead w) 2)
     where
       two : 2 ≤ lead w
-      two = good.leads w live
+      two = well_formed.leads w reachable
 
       by : (d ≡ 0) ⊎ (3 ≤ d) → (lead w ≡ d) ⊎ ((lead w < d) ⊎ (d < lead w)) → (lead w ≡ 2) ⊎ (lead w ≡ 2 → ⊥) → Kind w
       by (inl z) o m = starts z (full w (omega arith) (no_change d (lead w) (inl z)))
       by (inr t) (inl e) m =
-          let k = good.seconds w live e in
+          let k = well_formed.seconds w reachable e in
           let h = same_lead d w e in
           drops e (rw h (over_first 3 (second_byte w) (weight_bytes 2 (w % 256 ^ 3 % 256 ^ 2)) k.0))
           (rw h (under_first 0xFF (second_byte w) (weight_bytes 2 (w % 256 ^ 3 % 256 ^ 2)) (omega arith))) h
@@ -75,19 +75,19 @@ module _ (d : ℕ) (IsNext : ℕ → Type 0) (good : FitsAfter d IsNext) where
 
   -- weights in full
   full_leads : (w : ℕ) → IsNext w → IsOver 1 (weight_bytes 4 w)
-  full_leads w live = over_first 1 (lead w) (weight_bytes 3 (below_lead w)) (good.leads w live)
+  full_leads w reachable = over_first 1 (lead w) (weight_bytes 3 (below_lead w)) (well_formed.leads w reachable)
 
   full_rises : (v w : ℕ) → IsNext v → IsNext w → v < w → Precedes (weight_bytes 4 v) (weight_bytes 4 w)
-  full_rises v w p q l = weights_precede 4 v w (good.fits w q) l (good.prefix_free v w p q (omega arith))
+  full_rises v w p q l = weights_precede 4 v w (well_formed.fits w q) l (well_formed.prefix_free v w p q (omega arith))
 
   merge_is : (w : ℕ) → IsNext w → lead w ≡ 2 → weight_bytes 4 w ≡ 2 ∷ []
-  merge_is w live m = ap (weight_bytes 4) (good.separator w live m)
+  merge_is w reachable m = ap (weight_bytes 4) (well_formed.separator w reachable m)
 
   tails_rise : (v w : ℕ) → IsNext v → IsNext w → lead v ≡ lead w → v < w
       → Precedes (weight_bytes 3 (below_lead v)) (weight_bytes 3 (below_lead w))
   tails_rise v w p q e l =
-      let a = nonzero_first (lead v) (weight_bytes 3 (below_lead v)) (omega (arith, good.leads v p)) in
-      let b = nonzero_first (lead w) (weight_bytes 3 (below_lead w)) (omega (arith, good.leads w q)) in
+      let a = nonzero_first (lead v) (weight_bytes 3 (below_lead v)) (omega (arith, well_formed.leads v p)) in
+      let b = nonzero_first (lead w) (weight_bytes 3 (below_lead w)) (omega (arith, well_formed.leads w q)) in
       precedes_rest (lead v) (lead w) (weight_bytes 3 (below_lead v)) (weight_bytes 3 (below_lead w)) e
       (subst (λ ps. Precedes ps (lead w ∷ weight_bytes 3 (below_lead w))) a
       (subst (λ qs. Precedes (weight_bytes 4 v) qs) b (full_rises v w p q l)))
@@ -102,12 +102,12 @@ module _ (d : ℕ) (IsNext : ℕ → Type 0) (good : FitsAfter d IsNext) where
   kind_rises : (v w : ℕ) → IsNext v → IsNext w → v < w → lead v ≤ lead w → Kind v → Kind w
       → Precedes (primary_bytes d v) (primary_bytes d w)
   kind_rises v w p q l le (drops e o u h) (drops f i x g) = rw (h, g) (tails_rise v w p q (e ∙ sym f) l)
-  kind_rises v w p q l le (drops e o u h) (starts z g) = absurd (omega (arith, good.leads v p))
+  kind_rises v w p q l le (drops e o u h) (starts z g) = absurd (omega (arith, well_formed.leads v p))
   kind_rises v w p q l le (drops e o u h) (merges t m g) = absurd (omega arith)
   kind_rises v w p q l le (drops e o u h) (falls m n g) = absurd (omega arith)
   kind_rises v w p q l le (drops e o u h) (climbs t n g) =
       rw g (precedes_over 0xFE (primary_bytes d v) (0xFF ∷ weight_bytes 4 w) (over_less 0 3 (primary_bytes d v) (lit≤ tt) o) u (lit< tt))
-  kind_rises v w p q l le (starts z h) (drops f i x g) = absurd (omega (arith, good.leads w q))
+  kind_rises v w p q l le (starts z h) (drops f i x g) = absurd (omega (arith, well_formed.leads w q))
   kind_rises v w p q l le (starts z h) (starts y g) = rw (h, g) (full_rises v w p q l)
   kind_rises v w p q l le (starts z h) (merges t m g) = absurd (omega arith)
   kind_rises v w p q l le (starts z h) (falls m n g) = absurd (omega arith)

@@ -95,16 +95,16 @@ runs_by_value numeric ds es a b s t l m =
     (numbers_by_value numeric (value_of ds) (value_of es) (run_bound ds a l) (run_bound es b m))
 
 -- ---- runs of any length may stand among primaries
-module _ (numeric : ℕ) (n : numeric < 256) (IsLive : ℕ → Type 0) (rest : List ℕ) (after : IsPrimaryList numeric IsLive false rest) where
-  by_stands : (fs ds : List ℕ) → AllByRecursion (λ d. d < 10) ds → IsPrimaryList numeric IsLive false (run_weights_by fs numeric ds ++ rest)
+module _ (numeric : ℕ) (n : numeric < 256) (IsReachable : ℕ → Type 0) (rest : List ℕ) (after : IsPrimaryList numeric IsReachable false rest) where
+  by_stands : (fs ds : List ℕ) → AllByRecursion (λ d. d < 10) ds → IsPrimaryList numeric IsReachable false (run_weights_by fs numeric ds ++ rest)
   by_stands [] ds a = after
   by_stands (f ∷ fs) [] a = after
   by_stands (f ∷ fs) (d ∷ ds) a =
       let digits = no_zeros_digits (d ∷ ds) a in
       let v = value_of (take longest_number (without_first_zeros (d ∷ ds))) in
       let left = run_weights_by fs numeric (drop longest_number (without_first_zeros (d ∷ ds))) in
-      subst (IsPrimaryList numeric IsLive false) (sym (append_assoc (number_weights numeric v) left rest))
-      (number_stands numeric n IsLive (left ++ rest)
+      subst (IsPrimaryList numeric IsReachable false) (sym (append_assoc (number_weights numeric v) left rest))
+      (number_stands numeric n IsReachable (left ++ rest)
       (by_stands fs (drop longest_number (without_first_zeros (d ∷ ds)))
       (drop_digits longest_number (without_first_zeros (d ∷ ds)) digits)) v
       (chunk_value (take longest_number (without_first_zeros (d ∷ ds))) (take_digits longest_number (without_first_zeros (d ∷ ds)) digits)
@@ -113,5 +113,5 @@ module _ (numeric : ℕ) (n : numeric < 256) (IsLive : ℕ → Type 0) (rest : L
       few : (ds : List ℕ) → length (take longest_number ds) ≤ longest_number
       few ds = omega (arith, length-take longest_number ds)
 
-  pub run_stands : (ds : List ℕ) → AllByRecursion (λ d. d < 10) ds → IsPrimaryList numeric IsLive false (run_weights numeric ds ++ rest)
+  pub run_stands : (ds : List ℕ) → AllByRecursion (λ d. d < 10) ds → IsPrimaryList numeric IsReachable false (run_weights numeric ds ++ rest)
   run_stands ds a = by_stands ds ds a

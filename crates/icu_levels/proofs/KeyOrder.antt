@@ -5,7 +5,7 @@ use Rattle.std.specs.List.{AllByRecursion}
 use Rattle.icu_levels.specs.ListOrder.{list_order, IsUnder}
 use Rattle.icu_levels.specs.Primaries.{Compression, primary_level}
 use Rattle.icu_levels.specs.Keys.{LevelPart, absent, opened, closed, part_bytes, parts_bytes, in_turn, Determines, TwoParts, PartDetermines, DetermineInTurn, LevelLists, secondary_part, case_part, tertiary_part, quaternary_part, identical_part, key_bytes, primaries_order, secondaries_order, cases_order, tertiaries_order, quaternaries_order, characters_order, levels_order}
-use Rattle.icu_levels.specs.KeyPremises.{LiveWeights, SecondaryWeights, TertiaryWeights, QuaternaryWeights, SecondaryMembers, TertiaryMembers, QuaternaryMembers, AreWeights, AreLists, AreParallel}
+use Rattle.icu_levels.specs.KeyPremises.{ReachableWeights, SecondaryWeights, TertiaryWeights, QuaternaryWeights, SecondaryMembers, TertiaryMembers, QuaternaryMembers, AreWeights, AreLists, AreParallel}
 use Rattle.icu_levels.proofs.Order.{same_head}
 use Rattle.icu_levels.proofs.Orderings.{then_assoc, then_equal, then_when}
 use Rattle.icu_levels.proofs.PrimaryOrder.{primary_order}
@@ -86,12 +86,12 @@ levels_determine ps qs o parts h rest =
     ∙ then_equal (ordering_then o (in_turn (map (λ p. p.order) parts)))))
 
 -- ---- the six levels
-pub secondary_determines : (f : Option SecondaryForm) (IsLive : ℕ → Type 0) (t u : LevelLists) → SecondaryWeights f IsLive → SecondaryMembers f IsLive t
-    → SecondaryMembers f IsLive u
+pub secondary_determines : (f : Option SecondaryForm) (IsReachable : ℕ → Type 0) (t u : LevelLists) → SecondaryWeights f IsReachable → SecondaryMembers f IsReachable t
+    → SecondaryMembers f IsReachable u
     → PartDetermines (secondary_part f t) (secondary_part f u) (secondaries_order f t u)
-secondary_determines None IsLive t u good p q = refl
-secondary_determines (Some Forward) IsLive t u good p q = λ x y k l. secondary_order IsLive good t.secondaries u.secondaries x y p q k l
-secondary_determines (Some Backward) IsLive t u good p q = λ x y k l. backward_order IsLive good t.segments u.segments x y p.0 q.0 p.1 q.1 k l
+secondary_determines None IsReachable t u well_formed p q = refl
+secondary_determines (Some Forward) IsReachable t u well_formed p q = λ x y k l. secondary_order IsReachable well_formed t.secondaries u.secondaries x y p q k l
+secondary_determines (Some Backward) IsReachable t u well_formed p q = λ x y k l. backward_order IsReachable well_formed t.segments u.segments x y p.0 q.0 p.1 q.1 k l
 
 pub case_determines : (f : Option CaseForm) (t u : LevelLists) → AllByRecursion (λ r. r < 3) t.cases → AllByRecursion (λ r. r < 3) u.cases
     → (f ≡ Some LowerFirst → length t.cases ≡ length u.cases) → PartDetermines (case_part f t) (case_part f u) (cases_order f t u)
@@ -99,19 +99,19 @@ case_determines None t u p q e = refl
 case_determines (Some LowerFirst) t u p q e = λ x y k l. lower_first_order t.cases u.cases x y p q k l (e refl)
 case_determines (Some UpperFirst) t u p q e = λ x y k l. upper_first_order t.cases u.cases x y p q k l
 
-pub tertiary_determines : (f : Option TertiaryForm) (IsLive : ℕ → Type 0) (t u : LevelLists) → TertiaryWeights f IsLive → TertiaryMembers f IsLive t
-    → TertiaryMembers f IsLive u
+pub tertiary_determines : (f : Option TertiaryForm) (IsReachable : ℕ → Type 0) (t u : LevelLists) → TertiaryWeights f IsReachable → TertiaryMembers f IsReachable t
+    → TertiaryMembers f IsReachable u
     → PartDetermines (tertiary_part f t) (tertiary_part f u) (tertiaries_order f t u)
-tertiary_determines None IsLive t u good p q = refl
-tertiary_determines (Some form) IsLive t u good p q = λ x y k l. tertiary_order IsLive form good t.tertiaries u.tertiaries x y p q k l
+tertiary_determines None IsReachable t u well_formed p q = refl
+tertiary_determines (Some form) IsReachable t u well_formed p q = λ x y k l. tertiary_order IsReachable form well_formed t.tertiaries u.tertiaries x y p q k l
 
-pub quaternary_determines : (f : Option QuaternaryForm) (IsLive : ℕ → Type 0) (t u : LevelLists) → QuaternaryWeights f IsLive
-    → QuaternaryMembers f IsLive t → QuaternaryMembers f IsLive u
+pub quaternary_determines : (f : Option QuaternaryForm) (IsReachable : ℕ → Type 0) (t u : LevelLists) → QuaternaryWeights f IsReachable
+    → QuaternaryMembers f IsReachable t → QuaternaryMembers f IsReachable u
     → (f ≡ Some Unshifted → length t.quaternaries ≡ length u.quaternaries)
     → PartDetermines (quaternary_part f t) (quaternary_part f u) (quaternaries_order f t u)
-quaternary_determines None IsLive t u good p q e = refl
-quaternary_determines (Some MayShift) IsLive t u good p q e = λ x y k l. quaternary_order IsLive good t.quaternaries u.quaternaries x y p q k l
-quaternary_determines (Some Unshifted) IsLive t u good p q e = λ x y k l. unshifted_order t.quaternaries u.quaternaries x y p q k l (e refl)
+quaternary_determines None IsReachable t u well_formed p q e = refl
+quaternary_determines (Some MayShift) IsReachable t u well_formed p q e = λ x y k l. quaternary_order IsReachable well_formed t.quaternaries u.quaternaries x y p q k l
+quaternary_determines (Some Unshifted) IsReachable t u well_formed p q e = λ x y k l. unshifted_order t.quaternaries u.quaternaries x y p q k l (e refl)
 
 pub identical_determines : (f : Bool) (t u : LevelLists) → AllByRecursion (λ c. c < 0x110000) t.characters
     → AllByRecursion (λ c. c < 0x110000) u.characters
@@ -123,25 +123,25 @@ abbrev two : LevelPart → LevelPart → Ordering → TwoParts
 two x y o = record { left = x; right = y; order = o }
 
 -- The whole: keys order as the level lists in turn
-pub keys_order : (c : Compression) (f : KeyForm) (live : LiveWeights) (t u : LevelLists) → AreWeights c f live → AreLists f live t
-    → AreLists f live u → AreParallel c f t u
+pub keys_order : (c : Compression) (f : KeyForm) (reachable : ReachableWeights) (t u : LevelLists) → AreWeights c f reachable → AreLists f reachable t
+    → AreLists f reachable u → AreParallel c f t u
     → list_order (key_bytes c f t) (key_bytes c f u) ≡ levels_order c f t u
-keys_order c f live t u good p q both =
+keys_order c f reachable t u well_formed p q both =
     levels_determine (primary_level c 0 t.primaries) (primary_level c 0 u.primaries) (primaries_order c t u)
     (two (secondary_part f.secondary t) (secondary_part f.secondary u) (secondaries_order f.secondary t u)
     ∷ two (case_part f.cases t) (case_part f.cases u) (cases_order f.cases t u)
     ∷ two (tertiary_part f.tertiary t) (tertiary_part f.tertiary u) (tertiaries_order f.tertiary t u)
     ∷ two (quaternary_part f.quaternary t) (quaternary_part f.quaternary u) (quaternaries_order f.quaternary t u)
     ∷ two (identical_part f.identical t) (identical_part f.identical u) (characters_order f.identical t u) ∷ [])
-    (λ x y k l. primary_order c live.numeric live.primary good.primaries t.primaries u.primaries x y p.primaries q.primaries k l)
+    (λ x y k l. primary_order c reachable.numeric reachable.primary well_formed.primaries t.primaries u.primaries x y p.primaries q.primaries k l)
     (λ e0. (
-      secondary_determines f.secondary live.secondary t u good.secondaries p.secondaries q.secondaries,
+      secondary_determines f.secondary reachable.secondary t u well_formed.secondaries p.secondaries q.secondaries,
       (λ e1. (
         case_determines f.cases t u p.cases q.cases (λ h. both.cases h e0 e1),
         (λ e2. (
-          tertiary_determines f.tertiary live.tertiary t u good.tertiaries p.tertiaries q.tertiaries,
+          tertiary_determines f.tertiary reachable.tertiary t u well_formed.tertiaries p.tertiaries q.tertiaries,
           (λ e3. (
-            quaternary_determines f.quaternary live.shifted_primary t u good.quaternaries p.quaternaries q.quaternaries
+            quaternary_determines f.quaternary reachable.shifted_primary t u well_formed.quaternaries p.quaternaries q.quaternaries
                 (λ h. both.quaternaries h e0 e1 e2 e3),
             (λ e4. (identical_determines f.identical t u p.characters q.characters, λ e5. tt)),
           )),

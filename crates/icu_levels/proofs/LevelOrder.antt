@@ -81,9 +81,9 @@ module _ (r : RunBytes) (ok : AreRunBytes r) (spell : ℕ → List ℕ) where
       by ih (inr (inl h)) = rw (step n w ws t (omega arith), run_less r n w h) (more_less r ok k n s _ l u)
       by ih (inr (inr h)) = rw (step n w ws t (omega arith), run_more r n w h) (more_more r ok k n s _ l u)
 
-  module _ (end : ℕ) (IsLive : ℕ → Type 0) (fits : IsSpelling r end spell IsLive) where
+  module _ (end : ℕ) (IsReachable : ℕ → Type 0) (fits : IsSpelling r end spell IsReachable) where
     -- the lesser list's bytes are less
-    pub level_less : (vs ws : List ℕ) (k : ℕ) (s t : List ℕ) → AllByRecursion IsLive vs → AllByRecursion IsLive ws → IsUnder (suc end) s
+    pub level_less : (vs ws : List ℕ) (k : ℕ) (s t : List ℕ) → AllByRecursion IsReachable vs → AllByRecursion IsReachable ws → IsUnder (suc end) s
         → list_order vs ws ≡ Less → list_order (level_bytes r spell k vs ++ s) (level_bytes r spell k ws ++ t) ≡ Less
     level_less [] [] k s t p q u h = cc
     level_less (v ∷ vs) [] k s t p q u h = cc
@@ -135,7 +135,7 @@ module _ (r : RunBytes) (ok : AreRunBytes r) (spell : ℕ → List ℕ) where
             rw (step k v vs s nv, step k w ws t nw, same) (same_front (run_before r k w) _ _ ∙ (same_front (spell w) _ _ ∙ ih 0 e.1))
 
     -- THE LEVEL: the order of the bytes is that of the lists, and then of what follows
-    pub level_order : (vs ws : List ℕ) (s t : List ℕ) → AllByRecursion IsLive vs → AllByRecursion IsLive ws → IsUnder (suc end) s
+    pub level_order : (vs ws : List ℕ) (s t : List ℕ) → AllByRecursion IsReachable vs → AllByRecursion IsReachable ws → IsUnder (suc end) s
         → IsUnder (suc end) t
         → list_order (level_bytes r spell 0 vs ++ s) (level_bytes r spell 0 ws ++ t) ≡ ordering_then (list_order vs ws) (list_order s t)
     level_order vs ws s t p q u v =

@@ -4,7 +4,7 @@ use Rattle.icu_levels.specs.ListOrder.{IsBeginning}
 use Rattle.icu_levels.specs.WeightBytes.{weight_bytes}
 use Rattle.icu_levels.specs.Primaries.{Compression, lead, second_byte}
 use Rattle.icu_levels.specs.Premises.{IsPrefixFree, AreSecondaries, forward_least, AreTertiaries, AreShifted, ArePrimaries}
-use Rattle.icu_levels.specs.KeyPremises.{LiveWeights, AreWeights}
+use Rattle.icu_levels.specs.KeyPremises.{ReachableWeights, AreWeights}
 use Rattle.icu_levels.specs.declared.forms.CaseForm.TheVariants.{LowerFirst}
 use Rattle.icu_levels.specs.declared.forms.KeyForm.{KeyForm}
 use Rattle.icu_levels.specs.declared.forms.QuaternaryForm.TheVariants.{MayShift}
@@ -94,7 +94,7 @@ shifted_met = record {
 }
 
 -- ---- a key of all six levels
-abbrev some_weights : LiveWeights
+abbrev some_weights : ReachableWeights
 some_weights =
     record {
       primary = some_primaries;

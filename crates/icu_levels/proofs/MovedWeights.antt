@@ -34,28 +34,28 @@ moved_begins v w x y a b c d e f g h =
     )
 
 -- Weights are moved in their leads alone, in their order, and out of the way of runs
-pub record IsMove (r : RunBytes) (end : ℕ) (move : ℕ → ℕ) (IsLive : ℕ → Type 0) : Type 0 where
-  pub low : (w : ℕ) → IsLive w → w < r.common → (end < move w / 256) × (move w / 256 < r.low)
-  pub high : (w : ℕ) → IsLive w → r.common < w → r.high < move w / 256
-  pub fits : (w : ℕ) → IsLive w → move w < 2 ^ 16
-  pub leads : (w : ℕ) → IsLive w → 0 < w / 256
-  pub moved_leads : (w : ℕ) → IsLive w → 0 < move w / 256
-  pub rest : (w : ℕ) → IsLive w → move w % 256 ≡ w % 256
-  pub rises : (v w : ℕ) → IsLive v → IsLive w → v ≢ r.common → w ≢ r.common → v < w → move v < move w
-  pub one_lead : (v w : ℕ) → IsLive v → IsLive w → v ≢ r.common → w ≢ r.common → move v / 256 ≡ move w / 256 → v / 256 ≡ w / 256
+pub record IsMove (r : RunBytes) (end : ℕ) (move : ℕ → ℕ) (IsReachable : ℕ → Type 0) : Type 0 where
+  pub low : (w : ℕ) → IsReachable w → w < r.common → (end < move w / 256) × (move w / 256 < r.low)
+  pub high : (w : ℕ) → IsReachable w → r.common < w → r.high < move w / 256
+  pub fits : (w : ℕ) → IsReachable w → move w < 2 ^ 16
+  pub leads : (w : ℕ) → IsReachable w → 0 < w / 256
+  pub moved_leads : (w : ℕ) → IsReachable w → 0 < move w / 256
+  pub rest : (w : ℕ) → IsReachable w → move w % 256 ≡ w % 256
+  pub rises : (v w : ℕ) → IsReachable v → IsReachable w → v ≢ r.common → w ≢ r.common → v < w → move v < move w
+  pub one_lead : (v w : ℕ) → IsReachable v → IsReachable w → v ≢ r.common → w ≢ r.common → move v / 256 ≡ move w / 256 → v / 256 ≡ w / 256
 
-pub moved_spelling : (r : RunBytes) (end : ℕ) (move : ℕ → ℕ) (IsLive : ℕ → Type 0) → end < r.low → IsMove r end move IsLive
-    → IsPrefixFree (weight_bytes 2) IsLive → IsSpelling r end (λ w. weight_bytes 2 (move w)) IsLive
-moved_spelling r end move IsLive l good free = record {
+pub moved_spelling : (r : RunBytes) (end : ℕ) (move : ℕ → ℕ) (IsReachable : ℕ → Type 0) → end < r.low → IsMove r end move IsReachable
+    → IsPrefixFree (weight_bytes 2) IsReachable → IsSpelling r end (λ w. weight_bytes 2 (move w)) IsReachable
+moved_spelling r end move IsReachable l well_formed free = record {
   end_below = l;
   below =
-      λ w p k. let b = good.low w p k in (
+      λ w p k. let b = well_formed.low w p k in (
         over_first end (move w / 256) (weight_bytes 1 (move w % 256)) b.0,
         under_first r.low
             (move w / 256) (weight_bytes 1 (move w % 256)) b.1,
       );
-  above = λ w p k. over_first r.high (move w / 256) (weight_bytes 1 (move w % 256)) (good.high w p k);
-  apart = λ v w p q nv nw k. weights_precede 2 (move v) (move w) (good.fits w q) (good.rises v w p q nv nw k)
-      (λ h. free v w p q (omega arith) (moved_begins v w (move v) (move w) (good.leads v p) (good.leads w q) (good.moved_leads v p)
-      (good.moved_leads w q) (good.rest v p) (good.rest w q) (good.one_lead v w p q nv nw) h));
+  above = λ w p k. over_first r.high (move w / 256) (weight_bytes 1 (move w % 256)) (well_formed.high w p k);
+  apart = λ v w p q nv nw k. weights_precede 2 (move v) (move w) (well_formed.fits w q) (well_formed.rises v w p q nv nw k)
+      (λ h. free v w p q (omega arith) (moved_begins v w (move v) (move w) (well_formed.leads v p) (well_formed.leads w q) (well_formed.moved_leads v p)
+      (well_formed.moved_leads w q) (well_formed.rest v p) (well_formed.rest w q) (well_formed.one_lead v w p q nv nw) h));
 }

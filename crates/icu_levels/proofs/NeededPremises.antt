@@ -90,14 +90,14 @@ mixed_lead :
 mixed_lead = (refl, refl)
 
 -- ---- numbers, with 1C, 30 and FC as numeric lead
--- a live primary with the numeric lead
+-- a reachable primary with the numeric lead
 numeric_primary :
     (list_order (0x1C020000 ∷ []) (0x1C000000 ∷ 0x1C000000 ∷ []) ≡ Greater)
     × (list_order (primary_level (keeping (λ l. l == 0x61)) 0 (0x1C020000 ∷ []))
     (primary_level (keeping (λ l. l == 0x61)) 0 (0x1C000000 ∷ 0x1C000000 ∷ [])) ≡ Less)
 numeric_primary = (refl, refl)
 
--- a live primary that reordering gives the lead of numbers, beside 100000001
+-- a reachable primary that reordering gives the lead of numbers, beside 100000001
 abbrev onto_numbers : Compression
 onto_numbers = record { reorder = λ p. if p == 0x61850000 then 0x30850000 else p; is_compressible = λ l. l == 0x62 }
 

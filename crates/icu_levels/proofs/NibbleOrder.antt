@@ -66,9 +66,9 @@ pad_under (x ∷ []) s u = omega arith
 pad_under (x ∷ (y ∷ ns)) s u = pad_under ns s u
 
 -- A level of nibbles: the order of the packed bytes is that of the lists, and then of what follows
-module _ (r : RunBytes) (ok : AreRunBytes r) (spell : ℕ → List ℕ) (IsLive : ℕ → Type 0) (fits : IsSpelling r 0 spell IsLive)
-    (small : (ws : List ℕ) → AllByRecursion IsLive ws → AllByRecursion (λ n. n < 16) (level_bytes r spell 0 ws)) where
-  pub nibbles_less : (vs ws s t : List ℕ) → AllByRecursion IsLive vs → AllByRecursion IsLive ws → IsUnder 2 s → list_order vs ws ≡ Less
+module _ (r : RunBytes) (ok : AreRunBytes r) (spell : ℕ → List ℕ) (IsReachable : ℕ → Type 0) (fits : IsSpelling r 0 spell IsReachable)
+    (small : (ws : List ℕ) → AllByRecursion IsReachable ws → AllByRecursion (λ n. n < 16) (level_bytes r spell 0 ws)) where
+  pub nibbles_less : (vs ws s t : List ℕ) → AllByRecursion IsReachable vs → AllByRecursion IsReachable ws → IsUnder 2 s → list_order vs ws ≡ Less
       → list_order (packed (level_bytes r spell 0 vs) ++ s) (packed (level_bytes r spell 0 ws) ++ t) ≡ Less
   nibbles_less vs ws s t p q u h =
       let ns = level_bytes r spell 0 vs in
@@ -76,4 +76,4 @@ module _ (r : RunBytes) (ok : AreRunBytes r) (spell : ℕ → List ℕ) (IsLive 
       unpacked_order (packed ns ++ s) (packed ms ++ t)
       ∙ (ap (λ l. list_order l (unpacked (packed ms ++ t))) (unpacked_packed ns s (small vs p))
       ∙ (ap (λ l. list_order (ns ++ (padding ns ++ unpacked s)) l) (unpacked_packed ms t (small ws q))
-      ∙ level_less r ok spell 0 IsLive fits vs ws 0 (padding ns ++ unpacked s) (padding ms ++ unpacked t) p q (pad_under ns s u) h))
+      ∙ level_less r ok spell 0 IsReachable fits vs ws 0 (padding ns ++ unpacked s) (padding ms ++ unpacked t) p q (pad_under ns s u) h))

@@ -78,16 +78,16 @@ two_bytes a b l = ap (before_nonzero a) (nonzero_first b [] l)
 three_bytes : (a b c : ℕ) → 0 < c → without_last_zeros (a ∷ b ∷ c ∷ []) ≡ a ∷ b ∷ c ∷ []
 three_bytes a b c l = ap (λ z. before_nonzero a (before_nonzero b z)) (nonzero_first c [] l)
 
-module _ (numeric : ℕ) (n : numeric < 256) (IsLive : ℕ → Type 0) (rest : List ℕ) (after : IsPrimaryList numeric IsLive false rest) where
+module _ (numeric : ℕ) (n : numeric < 256) (IsReachable : ℕ → Type 0) (rest : List ℕ) (after : IsPrimaryList numeric IsReachable false rest) where
   -- what stands after a weight that ends a number
-  ended : (inside : Bool) (w : ℕ) → goes_on numeric inside w ≡ false → IsPrimaryList numeric IsLive (goes_on numeric inside w) rest
-  ended inside w e = subst (λ i. IsPrimaryList numeric IsLive i rest) (sym e) after
+  ended : (inside : Bool) (w : ℕ) → goes_on numeric inside w ≡ false → IsPrimaryList numeric IsReachable (goes_on numeric inside w) rest
+  ended inside w e = subst (λ i. IsPrimaryList numeric IsReachable i rest) (sym e) after
 
-  going : (inside : Bool) (w : ℕ) (ws : List ℕ) → goes_on numeric inside w ≡ true → IsPrimaryList numeric IsLive true ws
-      → IsPrimaryList numeric IsLive (goes_on numeric inside w) ws
-  going inside w ws e p = subst (λ i. IsPrimaryList numeric IsLive i ws) (sym e) p
+  going : (inside : Bool) (w : ℕ) (ws : List ℕ) → goes_on numeric inside w ≡ true → IsPrimaryList numeric IsReachable true ws
+      → IsPrimaryList numeric IsReachable (goes_on numeric inside w) ws
+  going inside w ws e p = subst (λ i. IsPrimaryList numeric IsReachable i ws) (sym e) p
 
-  inner_stands : (bs : List ℕ) → OddThenEven bs → IsPrimaryList numeric IsLive true (in_threes numeric bs ++ rest)
+  inner_stands : (bs : List ℕ) → OddThenEven bs → IsPrimaryList numeric IsReachable true (in_threes numeric bs ++ rest)
   inner_stands [] o = absurd o
   inner_stands (a ∷ []) o = (
     weight_piece numeric a 0 0 n o.0.1 (lit< tt) (lit< tt) (a ∷ []) IsFurtherPiece (one_byte a o.0.0) o.1,
@@ -108,7 +108,7 @@ module _ (numeric : ℕ) (n : numeric < 256) (IsLive : ℕ → Type 0) (rest : L
   )
 
   great_stands : (a : ℕ) (bs : List ℕ) → 132 ≤ a → a < 256 → OddThenEven bs
-      → IsPrimaryList numeric IsLive false (in_threes numeric (a ∷ bs) ++ rest)
+      → IsPrimaryList numeric IsReachable false (in_threes numeric (a ∷ bs) ++ rest)
   great_stands a [] l f o = absurd o
   great_stands a (b ∷ []) l f o = (
     inr (weight_piece numeric a b 0 n f o.0.1 (lit< tt) (a ∷ b ∷ []) IsFirstPiece (two_bytes a b o.0.0) (inr (l, o.1))),
@@ -124,25 +124,25 @@ module _ (numeric : ℕ) (n : numeric < 256) (IsLive : ℕ → Type 0) (rest : L
         (inner_stands (d ∷ bs) o.2.2),
   )
 
-  form_stands : (bs : List ℕ) → Form bs → IsPrimaryList numeric IsLive false (in_threes numeric bs ++ rest)
-  form_stands bs (smallest a e l) = subst (λ z. IsPrimaryList numeric IsLive false (in_threes numeric z ++ rest)) (sym e) (
+  form_stands : (bs : List ℕ) → Form bs → IsPrimaryList numeric IsReachable false (in_threes numeric bs ++ rest)
+  form_stands bs (smallest a e l) = subst (λ z. IsPrimaryList numeric IsReachable false (in_threes numeric z ++ rest)) (sym e) (
     inr (weight_piece numeric a 0 0 n (omega (arith, l.1)) (lit< tt) (lit< tt) (a ∷ []) IsFirstPiece (one_byte a (omega (arith, l.0))) l.1),
     ended false (number_weight numeric a 0 0) (ends numeric a 0 0 n (omega (arith, l.1)) (lit< tt) (lit< tt) false refl),
   )
-  form_stands bs (small a b e l m) = subst (λ z. IsPrimaryList numeric IsLive false (in_threes numeric z ++ rest)) (sym e) (
+  form_stands bs (small a b e l m) = subst (λ z. IsPrimaryList numeric IsReachable false (in_threes numeric z ++ rest)) (sym e) (
     inr (weight_piece numeric a b 0 n (omega (arith, l.1)) (omega (arith, m.1)) (lit< tt) (a ∷ b ∷ []) IsFirstPiece
         (two_bytes a b (omega (arith, m.0))) (inl l)),
     ended false (number_weight numeric a b 0) (ends numeric a b 0 n (omega (arith, l.1)) (omega (arith, m.1)) (lit< tt) false refl),
   )
-  form_stands bs (middling a b c e l m k) = subst (λ z. IsPrimaryList numeric IsLive false (in_threes numeric z ++ rest)) (sym e) (
+  form_stands bs (middling a b c e l m k) = subst (λ z. IsPrimaryList numeric IsReachable false (in_threes numeric z ++ rest)) (sym e) (
     inr (weight_piece numeric a b c n (omega (arith, l.1)) (omega (arith, m.1)) (omega (arith, k.1)) (a ∷ b ∷ c ∷ []) IsFirstPiece
         (three_bytes a b c (omega (arith, k.0))) (inl l)),
     ended false (number_weight numeric a b c) (ends_small numeric a b c n (omega (arith, l.1)) (omega (arith, m.1)) (omega (arith, k.1))
         (omega (arith, l.1))),
   )
-  form_stands bs (great a cs e l o) = subst (λ z. IsPrimaryList numeric IsLive false (in_threes numeric z ++ rest)) (sym e)
+  form_stands bs (great a cs e l o) = subst (λ z. IsPrimaryList numeric IsReachable false (in_threes numeric z ++ rest)) (sym e)
       (great_stands a cs l.0 (omega (arith, l.1)) o)
 
   -- a whole number before a list that may stand
-  pub number_stands : (v : ℕ) → v < 100 ^ 127 → IsPrimaryList numeric IsLive false (number_weights numeric v ++ rest)
+  pub number_stands : (v : ℕ) → v < 100 ^ 127 → IsPrimaryList numeric IsReachable false (number_weights numeric v ++ rest)
   number_stands v l = form_stands (number_bytes v) (number_form v l)

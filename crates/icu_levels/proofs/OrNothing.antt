@@ -38,8 +38,8 @@ only_less n (x ∷ xs) (y ∷ ys) h e p k = by (cases_order x y) (λ l. only_les
     by (inr (inr l)) ih = absurd (omega (arith, eqb-true x n a.0, p.0))
 
 -- Of such a level it is enough to know that it keeps the order of lesser lists, and writes nothing for no weight
-module _ (n : ℕ) (IsLive : ℕ → Type 0) (least : (w : ℕ) → IsLive w → n ≤ w) (written : List ℕ → List ℕ) (nothing : written [] ≡ [])
-    (less : (vs ws s t : List ℕ) → AllByRecursion IsLive vs → AllByRecursion IsLive ws → IsUnder 2 s → list_order vs ws ≡ Less
+module _ (n : ℕ) (IsReachable : ℕ → Type 0) (least : (w : ℕ) → IsReachable w → n ≤ w) (written : List ℕ → List ℕ) (nothing : written [] ≡ [])
+    (less : (vs ws s t : List ℕ) → AllByRecursion IsReachable vs → AllByRecursion IsReachable ws → IsUnder 2 s → list_order vs ws ≡ Less
     → list_order (written vs ++ s) (written ws ++ t) ≡ Less) where
   abbrev or_nothing : List ℕ → List ℕ
   or_nothing ws = if is_only n ws then [] else written ws
@@ -50,11 +50,11 @@ module _ (n : ℕ) (IsLive : ℕ → Type 0) (least : (w : ℕ) → IsLive w →
   is_unwritten : (ws : List ℕ) → is_only n ws ≡ true → or_nothing ws ≡ []
   is_unwritten ws h = cond-true (is_only n ws) [] (written ws) h
 
-  all_least : (ws : List ℕ) → AllByRecursion IsLive ws → AllByRecursion (λ w. n ≤ w) ws
+  all_least : (ws : List ℕ) → AllByRecursion IsReachable ws → AllByRecursion (λ w. n ≤ w) ws
   all_least [] p = tt
   all_least (w ∷ ws) p = (least w p.0, all_least ws p.1)
 
-  alone_less : (vs ws s t : List ℕ) → AllByRecursion IsLive ws → IsUnder 2 s → is_only n vs ≡ true → is_only n ws ≡ false
+  alone_less : (vs ws s t : List ℕ) → AllByRecursion IsReachable ws → IsUnder 2 s → is_only n vs ≡ true → is_only n ws ≡ false
       → list_order (or_nothing vs ++ s) (or_nothing ws ++ t) ≡ Less
   alone_less vs [] s t q u h k = cc
   alone_less vs (w ∷ ws) s t q u h k =
@@ -62,13 +62,13 @@ module _ (n : ℕ) (IsLive : ℕ → Type 0) (least : (w : ℕ) → IsLive w →
       ∙ (ap (λ l. list_order s (l ++ t)) (is_written (w ∷ ws) k)
       ∙ (ap (λ l. list_order (l ++ s) (written (w ∷ ws) ++ t)) (sym nothing) ∙ less [] (w ∷ ws) s t tt q u refl))
 
-  both_written : (vs ws s t : List ℕ) → AllByRecursion IsLive vs → AllByRecursion IsLive ws → IsUnder 2 s → IsUnder 2 t
+  both_written : (vs ws s t : List ℕ) → AllByRecursion IsReachable vs → AllByRecursion IsReachable ws → IsUnder 2 s → IsUnder 2 t
       → list_order (written vs ++ s) (written ws ++ t) ≡ ordering_then (list_order vs ws) (list_order s t)
   both_written vs ws s t p q u v =
       keeps_order vs ws (written vs) (written ws) s t (less vs ws s t p q u) (less ws vs t s q p v) (λ e. ap written e)
 
   -- the order of lists as long
-  pub or_nothing_order : (vs ws s t : List ℕ) → AllByRecursion IsLive vs → AllByRecursion IsLive ws → IsUnder 2 s → IsUnder 2 t → length vs
+  pub or_nothing_order : (vs ws s t : List ℕ) → AllByRecursion IsReachable vs → AllByRecursion IsReachable ws → IsUnder 2 s → IsUnder 2 t → length vs
       ≡ length ws
       → list_order ((if is_only n vs then [] else written vs) ++ s) ((if is_only n ws then [] else written ws) ++ t)
       ≡ ordering_then (list_order vs ws) (list_order s t)

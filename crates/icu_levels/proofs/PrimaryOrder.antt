@@ -30,14 +30,14 @@ same_weights k v w f g e = by (cases_order v w)
     by (inr (inl l)) = absurd (no (weight_bytes k v) (weight_bytes k w) e (trimmed_less k v w (digits_less 256 k v w (lit< tt) g l)))
     by (inr (inr l)) = absurd (no (weight_bytes k w) (weight_bytes k v) (sym e) (trimmed_less k w v (digits_less 256 k w v (lit< tt) f l)))
 
-module _ (c : Compression) (numeric : ℕ) (IsLive : ℕ → Type 0) (good : ArePrimaries c numeric IsLive) where
-  -- a lead is dropped only after a live compressible weight
+module _ (c : Compression) (numeric : ℕ) (IsReachable : ℕ → Type 0) (well_formed : ArePrimaries c numeric IsReachable) where
+  -- a lead is dropped only after a reachable compressible weight
   data IsDropped (d : ℕ) : Type 0 where
     none : d ≡ 0 → IsDropped d
-    after : (w : ℕ) → IsLive w → c.is_compressible (lead w) ≡ true → lead (c.reorder w) ≡ d → IsDropped d
+    after : (w : ℕ) → IsReachable w → c.is_compressible (lead w) ≡ true → lead (c.reorder w) ≡ d → IsDropped d
 
   abbrev Stands : Place → ℕ → Type 0
-  Stands p w = IsDropped p.dropped × MayStand numeric IsLive p.inside w
+  Stands p w = IsDropped p.dropped × MayStand numeric IsReachable p.inside w
 
   abbrev place_after : Place → ℕ → Place
   place_after p w = record { dropped = dropped_after c w; inside = goes_on numeric p.inside w }
@@ -45,39 +45,39 @@ module _ (c : Compression) (numeric : ℕ) (IsLive : ℕ → Type 0) (good : Are
   abbrev bytes_at : Place → ℕ → List ℕ
   bytes_at p w = primary_bytes p.dropped (c.reorder w)
 
-  -- a weight that may stand is live or of a number
+  -- a weight that may stand is reachable or of a number
   data Member (inside : Bool) (w : ℕ) : Type 0 where
-    alive : IsLive w → Member inside w
+    alive : IsReachable w → Member inside w
     numbered : w < 256 ^ 4 → lead w ≡ numeric → Member inside w
 
-  member : (inside : Bool) (w : ℕ) → MayStand numeric IsLive inside w → Member inside w
+  member : (inside : Bool) (w : ℕ) → MayStand numeric IsReachable inside w → Member inside w
   member false w (inl p) = alive p
   member false w (inr n) = numbered n.fits n.leads
   member true w n = numbered n.fits n.leads
 
   member_fits : (i : Bool) (w : ℕ) → Member i w → w < 256 ^ 4
-  member_fits i w (alive p) = good.fits w p
+  member_fits i w (alive p) = well_formed.fits w p
   member_fits i w (numbered f l) = f
 
   member_leads : (i : Bool) (w : ℕ) → Member i w → 2 ≤ lead (c.reorder w)
-  member_leads i w (alive p) = good.leads w p
-  member_leads i w (numbered f l) = omega (arith, good.numbers_together w f l, good.numbers_high)
+  member_leads i w (alive p) = well_formed.leads w p
+  member_leads i w (numbered f l) = omega (arith, well_formed.numbers_together w f l, well_formed.numbers_high)
 
   member_separator : (i : Bool) (w : ℕ) → Member i w → lead (c.reorder w) ≡ 2 → c.reorder w ≡ 0x02000000
-  member_separator i w (alive p) e = good.separator w p e
-  member_separator i w (numbered f l) e = absurd (omega (arith, good.numbers_together w f l, good.numbers_high))
+  member_separator i w (alive p) e = well_formed.separator w p e
+  member_separator i w (numbered f l) e = absurd (omega (arith, well_formed.numbers_together w f l, well_formed.numbers_high))
 
   -- which pieces may stand
-  pieces_apart : (i : Bool) (v w : ℕ) → MayStand numeric IsLive i v → MayStand numeric IsLive i w → lead v ≡ numeric → lead w ≡ numeric
+  pieces_apart : (i : Bool) (v w : ℕ) → MayStand numeric IsReachable i v → MayStand numeric IsReachable i w → lead v ≡ numeric → lead w ≡ numeric
       → IsBeginning (weight_bytes 3 (below_lead v)) (weight_bytes 3 (below_lead w)) → weight_bytes 3 (below_lead v)
       ≡ weight_bytes 3 (below_lead w)
-  pieces_apart false v w (inl p) q k l b = absurd (good.not_numeric v p k)
-  pieces_apart false v w (inr p) (inl q) k l b = absurd (good.not_numeric w q l)
+  pieces_apart false v w (inl p) q k l b = absurd (well_formed.not_numeric v p k)
+  pieces_apart false v w (inr p) (inl q) k l b = absurd (well_formed.not_numeric w q l)
   pieces_apart false v w (inr p) (inr q) k l b = first_pieces_apart _ _ p.piece q.piece b
   pieces_apart true v w p q k l b = further_pieces_apart _ _ p.piece q.piece b
 
   -- In one place, no weight begins another
-  stands_apart : (i : Bool) (v w : ℕ) → MayStand numeric IsLive i v → MayStand numeric IsLive i w → c.reorder v ≢ c.reorder w
+  stands_apart : (i : Bool) (v w : ℕ) → MayStand numeric IsReachable i v → MayStand numeric IsReachable i w → c.reorder v ≢ c.reorder w
       → IsBeginning (weight_bytes 4 (c.reorder v)) (weight_bytes 4 (c.reorder w)) → ⊥
   stands_apart i v w p q n b = by (member i v p) (member i w q)
     where
@@ -91,12 +91,12 @@ module _ (c : Compression) (numeric : ℕ) (IsLive : ℕ → Type 0) (good : Are
       same x y e f = omega arith
 
       by : Member i v → Member i w → ⊥
-      by (alive a) (alive e) = good.prefix_free v w a e n b
-      by (alive a) (numbered f l) = good.numbers_apart v a (h.0 ∙ good.numbers_together w f l)
-      by (numbered f l) (alive a) = good.numbers_apart w a (sym h.0 ∙ good.numbers_together v f l)
+      by (alive a) (alive e) = well_formed.prefix_free v w a e n b
+      by (alive a) (numbered f l) = well_formed.numbers_apart v a (h.0 ∙ well_formed.numbers_together w f l)
+      by (numbered f l) (alive a) = well_formed.numbers_apart w a (sym h.0 ∙ well_formed.numbers_together v f l)
       by (numbered f l) (numbered g m) =
-          let kv = good.lead_alone v f in
-          let kw = good.lead_alone w g in
+          let kv = well_formed.lead_alone v f in
+          let kw = well_formed.lead_alone w g in
           let tails = pieces_apart i v w p q l m (subst (λ z. IsBeginning (weight_bytes 3 (below_lead v)) (weight_bytes 3 z)) kw
           (subst (λ z. IsBeginning (weight_bytes 3 z) (weight_bytes 3 (below_lead (c.reorder w)))) kv h.1)) in
           let e = same_weights 3 (below_lead v) (below_lead w) (omega arith) (omega arith) tails in
@@ -109,7 +109,7 @@ module _ (c : Compression) (numeric : ℕ) (IsLive : ℕ → Type 0) (good : Are
   next_fits : (p : Place) → IsDropped p.dropped → FitsAfter p.dropped (IsNext p)
   next_fits p drop = record {
     drops = drops p.dropped drop;
-    fits = λ x (w, s, e). subst (λ z. z < 256 ^ 4) e (good.reordered_fits w (member_fits p.inside w (member p.inside w s.1)));
+    fits = λ x (w, s, e). subst (λ z. z < 256 ^ 4) e (well_formed.reordered_fits w (member_fits p.inside w (member p.inside w s.1)));
     leads = λ x (w, s, e). subst (λ z. 2 ≤ lead z) e (member_leads p.inside w (member p.inside w s.1));
     separator = λ x (w, s, e). subst (λ z. lead z ≡ 2 → z ≡ 0x02000000) e (member_separator p.inside w (member p.inside w s.1));
     seconds =
@@ -126,24 +126,24 @@ module _ (c : Compression) (numeric : ℕ) (IsLive : ℕ → Type 0) (good : Are
         where
           by : (lead (c.reorder q) ≡ 2) ⊎ (lead (c.reorder q) ≡ 2 → ⊥) → 3 ≤ d
           by (inl two) =
-              let s = good.separator q l two in let t = good.lead_alone q (good.fits q l) in let u = good.seconds q l k in absurd
+              let s = well_formed.separator q l two in let t = well_formed.lead_alone q (well_formed.fits q l) in let u = well_formed.seconds q l k in absurd
               (omega arith)
-          by (inr two) = let m = good.leads q l in omega arith
+          by (inr two) = let m = well_formed.leads q l in omega arith
 
       seconds : (i : Bool) (d w : ℕ) → Member i w → IsDropped d → lead (c.reorder w) ≡ d → (4 ≤ second_byte (c.reorder w))
           × (second_byte (c.reorder w) ≤ 0xFE)
       seconds i d w m (none z) h = absurd (omega (arith, member_leads i w m))
       seconds i d w (alive a) (after q l k e) h =
-          let s = good.seconds w a (good.alike w q a l (h ∙ sym e) ∙ k) in
-          let t = good.lead_alone w (good.fits w a) in (omega arith, omega arith)
-      seconds i d w (numbered f n) (after q l k e) h = absurd (good.numbers_apart q l (e ∙ sym h ∙ good.numbers_together w f n))
+          let s = well_formed.seconds w a (well_formed.alike w q a l (h ∙ sym e) ∙ k) in
+          let t = well_formed.lead_alone w (well_formed.fits w a) in (omega arith, omega arith)
+      seconds i d w (numbered f n) (after q l k e) h = absurd (well_formed.numbers_apart q l (e ∙ sym h ∙ well_formed.numbers_together w f n))
 
   -- ---- weights of one rank
   not_number : (i : Bool) (w : ℕ) → lead w ≢ numeric → goes_on numeric i w ≡ false
   not_number i w n = rw (ne_eqb (lead w) numeric n) refl
 
   number_drop : (w : ℕ) → lead w ≡ numeric → dropped_after c w ≡ 0
-  number_drop w l = cond-false (c.is_compressible (lead w)) _ _ (ap c.is_compressible l ∙ good.numbers_whole)
+  number_drop w l = cond-false (c.is_compressible (lead w)) _ _ (ap c.is_compressible l ∙ well_formed.numbers_whole)
 
   same_place : (p : Place) (v w : ℕ) → Stands p v → Stands p w → c.reorder v ≡ c.reorder w → place_after p v ≡ place_after p w
   same_place p v w s t e = by (member p.inside v s.1) (member p.inside w t.1)
@@ -154,12 +154,12 @@ module _ (c : Compression) (numeric : ℕ) (IsLive : ℕ → Type 0) (good : Are
 
       by : Member p.inside v → Member p.inside w → place_after p v ≡ place_after p w
       by (alive a) (alive b) = places (dropped_after c v) (dropped_after c w) (goes_on numeric p.inside v) (goes_on numeric p.inside w)
-          (ap₂ (λ (x : Bool) (y : ℕ). if x then lead y else 0) (good.alike v w a b (ap lead e)) e)
-          (not_number p.inside v (good.not_numeric v a) ∙ sym (not_number p.inside w (good.not_numeric w b)))
-      by (alive a) (numbered f l) = absurd (good.numbers_apart v a (ap lead e ∙ good.numbers_together w f l))
-      by (numbered f l) (alive a) = absurd (good.numbers_apart w a (ap lead (sym e) ∙ good.numbers_together v f l))
+          (ap₂ (λ (x : Bool) (y : ℕ). if x then lead y else 0) (well_formed.alike v w a b (ap lead e)) e)
+          (not_number p.inside v (well_formed.not_numeric v a) ∙ sym (not_number p.inside w (well_formed.not_numeric w b)))
+      by (alive a) (numbered f l) = absurd (well_formed.numbers_apart v a (ap lead e ∙ well_formed.numbers_together w f l))
+      by (numbered f l) (alive a) = absurd (well_formed.numbers_apart w a (ap lead (sym e) ∙ well_formed.numbers_together v f l))
       by (numbered f l) (numbered g m) =
-          ap (place_after p) (one (c.reorder v) (c.reorder w) e (good.lead_alone v f) (good.lead_alone w g) (l ∙ sym m))
+          ap (place_after p) (one (c.reorder v) (c.reorder w) e (well_formed.lead_alone v f) (well_formed.lead_alone w g) (l ∙ sym m))
         where
           one : (x y : ℕ) → x ≡ y → below_lead x ≡ below_lead v → below_lead y ≡ below_lead w → lead v ≡ lead w → v ≡ w
           one x y h k j o = omega arith
@@ -184,7 +184,7 @@ module _ (c : Compression) (numeric : ℕ) (IsLive : ℕ → Type 0) (good : Are
       by (inr k) = none (cond-false (c.is_compressible (lead w)) _ _ k)
   dropped_next i w (numbered f l) = none (number_drop w l)
 
-  all_stand : (ws : List ℕ) (p : Place) → IsDropped p.dropped → IsPrimaryList numeric IsLive p.inside ws
+  all_stand : (ws : List ℕ) (p : Place) → IsDropped p.dropped → IsPrimaryList numeric IsReachable p.inside ws
       → StandAlong place_after Stands p ws
   all_stand [] p d a = tt
   all_stand (w ∷ ws) p d a = ((d, a.0), all_stand ws (place_after p w) (dropped_next p.inside w (member p.inside w a.0)) a.1)
@@ -193,7 +193,7 @@ module _ (c : Compression) (numeric : ℕ) (IsLive : ℕ → Type 0) (good : Are
   start = record { dropped = 0; inside = false }
 
   -- The primary level: its bytes order as the reordered primaries, and then as what follows
-  pub primary_order : (vs ws s t : List ℕ) → IsPrimaryList numeric IsLive false vs → IsPrimaryList numeric IsLive false ws → IsUnder 2 s
+  pub primary_order : (vs ws s t : List ℕ) → IsPrimaryList numeric IsReachable false vs → IsPrimaryList numeric IsReachable false ws → IsUnder 2 s
       → IsUnder 2 t
       → list_order (primary_level c 0 vs ++ s) (primary_level c 0 ws ++ t)
       ≡ ordering_then (list_order (map c.reorder vs) (map c.reorder ws)) (list_order s t)

@@ -32,38 +32,38 @@ low_lead w l = cond-true (ltb (lead w) 0x1B) _ _ (lt-ltb (lead w) 0x1B l)
 high_lead : (w : ℕ) → 0x1B ≤ lead w → shifted_bytes w ≡ 0x1B ∷ weight_bytes 4 w
 high_lead w l = cond-false (ltb (lead w) 0x1B) _ _ (le-ltb (lead w) 0x1B l)
 
-module _ (IsLive : ℕ → Type 0) (good : AreShifted IsLive) where
-  is_shifted : (w : ℕ) → IsQuaternary IsLive w → w < 2 ^ 32 → IsLive w
+module _ (IsReachable : ℕ → Type 0) (well_formed : AreShifted IsReachable) where
+  is_shifted : (w : ℕ) → IsQuaternary IsReachable w → w < 2 ^ 32 → IsReachable w
   is_shifted w (inl p) l = p
   is_shifted w (inr p) l = absurd (omega (arith, p.0))
 
-  shifted_between : (w : ℕ) → IsLive w → IsOver 1 (shifted_bytes w) × IsUnder 0x1C (shifted_bytes w)
+  shifted_between : (w : ℕ) → IsReachable w → IsOver 1 (shifted_bytes w) × IsUnder 0x1C (shifted_bytes w)
   shifted_between w p = by (cases_lt (lead w) 0x1B)
     where
       by : (lead w < 0x1B) ⊎ (0x1B ≤ lead w) → IsOver 1 (shifted_bytes w) × IsUnder 0x1C (shifted_bytes w)
       by (inl l) = rw (low_lead w l) (
-        over_first 1 (lead w) (weight_bytes 3 (w % 256 ^ 3)) (omega (arith, good.leads w p)),
+        over_first 1 (lead w) (weight_bytes 3 (w % 256 ^ 3)) (omega (arith, well_formed.leads w p)),
         under_first 0x1C (lead w)
             (weight_bytes 3 (w % 256 ^ 3)) (omega arith),
       )
       by (inr l) = rw (high_lead w l) (lit< tt, lit< tt)
 
-  shifted_rise : (v w : ℕ) → IsLive v → IsLive w → v < w → Precedes (shifted_bytes v) (shifted_bytes w)
+  shifted_rise : (v w : ℕ) → IsReachable v → IsReachable w → v < w → Precedes (shifted_bytes v) (shifted_bytes w)
   shifted_rise v w p q l = by (cases_lt (lead v) 0x1B) (cases_lt (lead w) 0x1B)
     where
       full : Precedes (weight_bytes 4 v) (weight_bytes 4 w)
-      full = weights_precede 4 v w (good.fits w q) l (good.prefix_free v w p q (omega arith))
+      full = weights_precede 4 v w (well_formed.fits w q) l (well_formed.prefix_free v w p q (omega arith))
 
       by : (lead v < 0x1B) ⊎ (0x1B ≤ lead v) → (lead w < 0x1B) ⊎ (0x1B ≤ lead w) → Precedes (shifted_bytes v) (shifted_bytes w)
       by (inl a) (inl b) = rw (low_lead v a, low_lead w b) full
       by (inl a) (inr b) = rw (low_lead v a, high_lead w b)
           (precedes_over 0x1A (weight_bytes 4 v) (0x1B ∷ weight_bytes 4 w)
-          (over_first 0 (lead v) (weight_bytes 3 (v % 256 ^ 3)) (omega (arith, good.leads v p)))
+          (over_first 0 (lead v) (weight_bytes 3 (v % 256 ^ 3)) (omega (arith, well_formed.leads v p)))
           (under_first 0x1B (lead v) (weight_bytes 3 (v % 256 ^ 3)) a) (lit< tt))
       by (inr a) (inl b) = absurd (omega arith)
       by (inr a) (inr b) = rw (high_lead v a, high_lead w b) (precedes_front (0x1B ∷ []) (weight_bytes 4 v) (weight_bytes 4 w) full)
 
-  pub quaternaries_fit : IsSpelling QUATERNARY_RUNS 1 quaternary_bytes (IsQuaternary IsLive)
+  pub quaternaries_fit : IsSpelling QUATERNARY_RUNS 1 quaternary_bytes (IsQuaternary IsReachable)
   quaternaries_fit = record {
     end_below = lit< tt;
     below = λ w p l. rw (below_bytes w (omega arith)) (shifted_between w (is_shifted w p l));
@@ -71,7 +71,7 @@ module _ (IsLive : ℕ → Type 0) (good : AreShifted IsLive) where
     apart = λ v w p q nv nw l. apart v w p q nv nw l (cases_lt v (2 ^ 32)) (cases_lt w (2 ^ 32));
   }
     where
-      apart : (v w : ℕ) → IsQuaternary IsLive v → IsQuaternary IsLive w → v ≢ 2 ^ 32 → w ≢ 2 ^ 32 → v < w → (v < 2 ^ 32) ⊎ (2 ^ 32 ≤ v)
+      apart : (v w : ℕ) → IsQuaternary IsReachable v → IsQuaternary IsReachable w → v ≢ 2 ^ 32 → w ≢ 2 ^ 32 → v < w → (v < 2 ^ 32) ⊎ (2 ^ 32 ≤ v)
           → (w < 2 ^ 32) ⊎ (2 ^ 32 ≤ w)
           → Precedes (quaternary_bytes v) (quaternary_bytes w)
       apart v w p q nv nw l (inl a) (inl b) =
@@ -88,11 +88,11 @@ module _ (IsLive : ℕ → Type 0) (good : AreShifted IsLive) where
           rw (above_bytes v (omega arith), above_bytes w (omega arith))
           (λ s t. less_head (0xFC + v - 2 ^ 32) (0xFC + w - 2 ^ 32) s t (omega arith))
 
-  pub quaternary_order : (vs ws s t : List ℕ) → AllByRecursion (IsQuaternary IsLive) vs → AllByRecursion (IsQuaternary IsLive) ws
+  pub quaternary_order : (vs ws s t : List ℕ) → AllByRecursion (IsQuaternary IsReachable) vs → AllByRecursion (IsQuaternary IsReachable) ws
       → IsUnder 2 s → IsUnder 2 t
       → list_order (quaternary_level MayShift vs ++ s) (quaternary_level MayShift ws ++ t) ≡ ordering_then (list_order vs ws) (list_order s t)
   quaternary_order vs ws s t p q u v =
-      level_order QUATERNARY_RUNS quaternary_runs_fit quaternary_bytes 1 (IsQuaternary IsLive) quaternaries_fit vs ws s t p q u v
+      level_order QUATERNARY_RUNS quaternary_runs_fit quaternary_bytes 1 (IsQuaternary IsReachable) quaternaries_fit vs ws s t p q u v
 
 -- where no primary is shifted
 abbrev NoPrimary : ℕ → Type 0

@@ -12,14 +12,14 @@ use Rattle.icu_levels.proofs.DigitRuns.{one_number, run_bound}
 use Rattle.icu_levels.proofs.NumberBytes.{IsByte, number_form, form_bytes}
 use Rattle.icu_levels.proofs.NumberStands.{weight_fits, weight_lead}
 
-module _ (c : Compression) (numeric : ℕ) (IsLive : ℕ → Type 0) (good : ArePrimaries c numeric IsLive) (n : numeric < 256) where
+module _ (c : Compression) (numeric : ℕ) (IsReachable : ℕ → Type 0) (well_formed : ArePrimaries c numeric IsReachable) (n : numeric < 256) where
   moved_weight : (x y z : ℕ) → x < 256 → y < 256 → z < 256 → c.reorder (number_weight numeric x y z)
       ≡ number_weight (number_lead c numeric) x y z
   moved_weight x y z f g h =
       let fits = weight_fits numeric x y z n f g h in
       same (c.reorder (number_weight numeric x y z)) (number_lead c numeric)
-      (good.numbers_together (number_weight numeric x y z) fits (weight_lead numeric x y z n f g h))
-      (good.lead_alone (number_weight numeric x y z) fits)
+      (well_formed.numbers_together (number_weight numeric x y z) fits (weight_lead numeric x y z n f g h))
+      (well_formed.lead_alone (number_weight numeric x y z) fits)
     where
       same : (w l : ℕ) → lead w ≡ l → below_lead w ≡ below_lead (number_weight numeric x y z) → w ≡ number_weight l x y z
       same w l e k = omega arith
@@ -44,10 +44,10 @@ module _ (c : Compression) (numeric : ℕ) (IsLive : ℕ → Type 0) (good : Are
       rw (one_number numeric ds p.some p.short, one_number numeric es q.some q.short)
       (moved_by_value (value_of ds) (value_of es) (run_bound ds p.digits p.short) (run_bound es q.digits q.short))
 
--- a live primary stands outside a number, and leaves what follows there
-pub live_stands : (c : Compression) (numeric : ℕ) (IsLive : ℕ → Type 0) → ArePrimaries c numeric IsLive → (w : ℕ) (ws : List ℕ) → IsLive w
-    → IsPrimaryList numeric IsLive false ws → IsPrimaryList numeric IsLive false (w ∷ ws)
-live_stands c numeric IsLive good w ws p rest = (inl p, subst (λ i. IsPrimaryList numeric IsLive i ws) (sym outside) rest)
+-- a reachable primary stands outside a number, and leaves what follows there
+pub reachable_stands : (c : Compression) (numeric : ℕ) (IsReachable : ℕ → Type 0) → ArePrimaries c numeric IsReachable → (w : ℕ) (ws : List ℕ) → IsReachable w
+    → IsPrimaryList numeric IsReachable false ws → IsPrimaryList numeric IsReachable false (w ∷ ws)
+reachable_stands c numeric IsReachable well_formed w ws p rest = (inl p, subst (λ i. IsPrimaryList numeric IsReachable i ws) (sym outside) rest)
   where
     outside : goes_on numeric false w ≡ false
-    outside = rw (ne_eqb (lead w) numeric (good.not_numeric w p)) refl
+    outside = rw (ne_eqb (lead w) numeric (well_formed.not_numeric w p)) refl

@@ -3,7 +3,7 @@ use Rattle.std.proofs.Common.{◌≡◌, Bool, true, false, [], ◌∷◌, map, 
 use Rattle.icu_levels.specs.Identical.{identical_rank}
 use Rattle.icu_levels.specs.Primaries.{Compression}
 use Rattle.icu_levels.specs.Keys.{in_turn, LevelLists, key_bytes, primaries_order, secondaries_order, cases_order, tertiaries_order, quaternaries_order, characters_order}
-use Rattle.icu_levels.specs.KeyPremises.{LiveWeights, AreWeights, AreLists, AreParallel}
+use Rattle.icu_levels.specs.KeyPremises.{ReachableWeights, AreWeights, AreLists, AreParallel}
 use Rattle.icu_levels.specs.KeyLaws.{SameSecondaries, SameCases, SameTertiaries, SameQuaternaries, SameCharacters, HaveSameLists}
 use Rattle.icu_levels.proofs.Order.{same_lists_order, tied_lists}
 use Rattle.icu_levels.proofs.IdenticalOrder.{same_from_ranks}
@@ -66,11 +66,11 @@ pub all_tie : (a b c d e f : Ordering) → a ≡ Equal → b ≡ Equal → c ≡
     → in_turn (a ∷ b ∷ c ∷ d ∷ e ∷ f ∷ []) ≡ Equal
 all_tie a b c d e f g h i j k l = rw (g, h, i, j, k, l) refl
 
-module _ (c : Compression) (f : KeyForm) (live : LiveWeights) (t u : LevelLists) (good : AreWeights c f live) (p : AreLists f live t)
-    (q : AreLists f live u) (both : AreParallel c f t u) where
+module _ (c : Compression) (f : KeyForm) (reachable : ReachableWeights) (t u : LevelLists) (well_formed : AreWeights c f reachable) (p : AreLists f reachable t)
+    (q : AreLists f reachable u) (both : AreParallel c f t u) where
   pub same_levels : key_bytes c f t ≡ key_bytes c f u → HaveSameLists c f t u
   same_levels e =
-      let o = sym (keys_order c f live t u good p q both) ∙ same_lists_order (key_bytes c f t) (key_bytes c f u) e in
+      let o = sym (keys_order c f reachable t u well_formed p q both) ∙ same_lists_order (key_bytes c f t) (key_bytes c f u) e in
       let o0 = both_tie (primaries_order c t u)
       (in_turn (secondaries_order f.secondary t u ∷ cases_order f.cases t u ∷ tertiaries_order f.tertiary t u ∷ quaternaries_order
       f.quaternary t u ∷ characters_order f.identical t u ∷ [])) o in
@@ -95,7 +95,7 @@ module _ (c : Compression) (f : KeyForm) (live : LiveWeights) (t u : LevelLists)
       }
 
   pub same_keys : HaveSameLists c f t u → key_bytes c f t ≡ key_bytes c f u
-  same_keys same = tied_lists (key_bytes c f t) (key_bytes c f u) (keys_order c f live t u good p q both ∙ all_tie _ _ _ _ _ _
+  same_keys same = tied_lists (key_bytes c f t) (key_bytes c f u) (keys_order c f reachable t u well_formed p q both ∙ all_tie _ _ _ _ _ _
       (same_lists_order (map c.reorder t.primaries) (map c.reorder u.primaries) same.primaries)
       (secondaries_to t u f.secondary same.secondaries) (cases_to t u f.cases same.cases) (tertiaries_to t u f.tertiary same.tertiaries)
       (quaternaries_to t u f.quaternary same.quaternaries) (characters_to t u f.identical same.characters))

@@ -23,7 +23,7 @@ pub record IsRising {S : Type 0} (rank : ℕ → ℕ) (step : S → ℕ → List
   pub same : (s : S) (v w : ℕ) → Stands s v → Stands s w → rank v ≡ rank w → (step s v ≡ step s w) × (next s v ≡ next s w)
 
 module _ {S : Type 0} (rank : ℕ → ℕ) (step : S → ℕ → List ℕ) (next : S → ℕ → S) (Stands : S → ℕ → Type 0)
-    (good : IsRising rank step next Stands) where
+    (well_formed : IsRising rank step next Stands) where
   pub stepwise_less : (vs ws : List ℕ) (x : S) (s t : List ℕ) → StandAlong next Stands x vs → StandAlong next Stands x ws → IsUnder 2 s
       → list_order (map rank vs) (map rank ws) ≡ Less
       → list_order (stepwise_bytes step next x vs ++ s) (stepwise_bytes step next x ws ++ t) ≡ Less
@@ -31,7 +31,7 @@ module _ {S : Type 0} (rank : ℕ → ℕ) (step : S → ℕ → List ℕ) (next
   stepwise_less (v ∷ vs) [] x s t p q u h = cc
   stepwise_less [] (w ∷ ws) x s t p q u h =
       under_over 1 s _ u (over_append 1 (step x w ++ stepwise_bytes step next (next x w) ws) t
-      (over_append 1 (step x w) _ (good.leads x w q.0)))
+      (over_append 1 (step x w) _ (well_formed.leads x w q.0)))
   stepwise_less (v ∷ vs) (w ∷ ws) x s t p q u h =
       rw (
         append_assoc (step x v) (stepwise_bytes step next (next x v) vs) s,
@@ -45,8 +45,8 @@ module _ {S : Type 0} (rank : ℕ → ℕ) (step : S → ℕ → List ℕ) (next
           → list_order (stepwise_bytes step next y vs ++ s) (stepwise_bytes step next y ws ++ t) ≡ Less)
           → list_order (step x v ++ (stepwise_bytes step next (next x v) vs ++ s))
           (step x w ++ (stepwise_bytes step next (next x w) ws ++ t)) ≡ Less
-      by (inl l) ih = good.rises x v w p.0 q.0 l _ _
-      by (inr e) ih = let f = good.same x v w p.0 q.0 e.0 in
+      by (inl l) ih = well_formed.rises x v w p.0 q.0 l _ _
+      by (inr e) ih = let f = well_formed.same x v w p.0 q.0 e.0 in
           rw (f.0, f.1) (same_front (step x w) _ _ ∙ ih (next x w) (subst (λ y. StandAlong next Stands y vs) f.1 p.1) q.1 e.1)
 
   stepwise_same : (vs ws : List ℕ) (x : S) → StandAlong next Stands x vs → StandAlong next Stands x ws → map rank vs ≡ map rank ws
@@ -57,7 +57,7 @@ module _ {S : Type 0} (rank : ℕ → ℕ) (step : S → ℕ → List ℕ) (next
   stepwise_same (v ∷ vs) (w ∷ ws) x p q e =
       let head : rank v ≡ rank w = cc in
       let tail : map rank vs ≡ map rank ws = cc in
-      let f = good.same x v w p.0 q.0 head in
+      let f = well_formed.same x v w p.0 q.0 head in
       let ih = stepwise_same vs ws (next x w) (subst (λ y. StandAlong next Stands y vs) f.1 p.1) q.1 tail in
       ap₂ (λ (a b : List ℕ). a ++ b) f.0 (ap (λ y. stepwise_bytes step next y vs) f.1 ∙ ih)
 

@@ -49,83 +49,83 @@ is_moved form w = by (cases_order (w / 256) (common_lead form))
     by (inr (inl l)) = inl (l, moved_low form w l)
     by (inr (inr l)) = inr (inr (l, moved_high form w l))
 
-module _ (IsLive : ℕ → Type 0) where
-  moves : (form : TertiaryForm) → AreTertiaries form IsLive → IsMove (tertiary_runs form) 1 (moved_tertiary form) IsLive
-  moves WithoutCase good = record {
+module _ (IsReachable : ℕ → Type 0) where
+  moves : (form : TertiaryForm) → AreTertiaries form IsReachable → IsMove (tertiary_runs form) 1 (moved_tertiary form) IsReachable
+  moves WithoutCase well_formed = record {
     low =
         λ w p l. (
-          omega (arith, is_moved WithoutCase w, good.least w p, good.leads w p),
+          omega (arith, is_moved WithoutCase w, well_formed.least w p, well_formed.leads w p),
           omega
-              (arith, is_moved WithoutCase w, good.least w p, good.leads w p),
+              (arith, is_moved WithoutCase w, well_formed.least w p, well_formed.leads w p),
         );
-    high = λ w p l. omega (arith, is_moved WithoutCase w, good.least w p, good.leads w p);
-    fits = λ w p. omega (arith, is_moved WithoutCase w, good.greatest w p);
-    leads = λ w p. omega (arith, good.least w p);
-    moved_leads = λ w p. omega (arith, is_moved WithoutCase w, good.least w p);
-    rest = λ w p. omega (arith, is_moved WithoutCase w, good.least w p);
-    rises = λ v w p q nv nw l. omega (arith, is_moved WithoutCase v, is_moved WithoutCase w, good.least v p);
+    high = λ w p l. omega (arith, is_moved WithoutCase w, well_formed.least w p, well_formed.leads w p);
+    fits = λ w p. omega (arith, is_moved WithoutCase w, well_formed.greatest w p);
+    leads = λ w p. omega (arith, well_formed.least w p);
+    moved_leads = λ w p. omega (arith, is_moved WithoutCase w, well_formed.least w p);
+    rest = λ w p. omega (arith, is_moved WithoutCase w, well_formed.least w p);
+    rises = λ v w p q nv nw l. omega (arith, is_moved WithoutCase v, is_moved WithoutCase w, well_formed.least v p);
     one_lead =
         λ v w p q nv nw e. omega (
           arith,
           is_moved WithoutCase v,
           is_moved WithoutCase w,
-          good.least v p,
-          good.least w q,
-          good.greatest v p,
-          good.greatest w q,
-          good.leads v p
+          well_formed.least v p,
+          well_formed.least w q,
+          well_formed.greatest v p,
+          well_formed.greatest w q,
+          well_formed.leads v p
               nv,
-          good.leads w q nw,
+          well_formed.leads w q nw,
         );
   }
-  moves LowerFirst good = record {
+  moves LowerFirst well_formed = record {
     low =
         λ w p l. (
-          omega (arith, is_moved LowerFirst w, good.least w p, good.leads w p),
+          omega (arith, is_moved LowerFirst w, well_formed.least w p, well_formed.leads w p),
           omega
-              (arith, is_moved LowerFirst w, good.least w p, good.leads w p),
+              (arith, is_moved LowerFirst w, well_formed.least w p, well_formed.leads w p),
         );
-    high = λ w p l. omega (arith, is_moved LowerFirst w, good.least w p, good.leads w p);
-    fits = λ w p. omega (arith, is_moved LowerFirst w, good.greatest w p);
-    leads = λ w p. omega (arith, good.least w p);
-    moved_leads = λ w p. omega (arith, is_moved LowerFirst w, good.least w p);
-    rest = λ w p. omega (arith, is_moved LowerFirst w, good.least w p);
-    rises = λ v w p q nv nw l. omega (arith, is_moved LowerFirst v, is_moved LowerFirst w, good.least v p);
+    high = λ w p l. omega (arith, is_moved LowerFirst w, well_formed.least w p, well_formed.leads w p);
+    fits = λ w p. omega (arith, is_moved LowerFirst w, well_formed.greatest w p);
+    leads = λ w p. omega (arith, well_formed.least w p);
+    moved_leads = λ w p. omega (arith, is_moved LowerFirst w, well_formed.least w p);
+    rest = λ w p. omega (arith, is_moved LowerFirst w, well_formed.least w p);
+    rises = λ v w p q nv nw l. omega (arith, is_moved LowerFirst v, is_moved LowerFirst w, well_formed.least v p);
     one_lead = λ v w p q nv nw e. omega (
       arith,
       is_moved LowerFirst v,
       is_moved LowerFirst w,
-      good.least v p,
-      good.least w q,
-      good.greatest v p,
-      good.greatest w q,
-      good.leads v p nv,
-      good.leads w q nw,
+      well_formed.least v p,
+      well_formed.least w q,
+      well_formed.greatest v p,
+      well_formed.greatest w q,
+      well_formed.leads v p nv,
+      well_formed.leads w q nw,
     );
   }
-  moves UpperFirst good = record {
+  moves UpperFirst well_formed = record {
     low =
         λ w p l. (
-          omega (arith, is_moved UpperFirst w, good.least w p, good.leads w p),
+          omega (arith, is_moved UpperFirst w, well_formed.least w p, well_formed.leads w p),
           omega
-              (arith, is_moved UpperFirst w, good.least w p, good.leads w p),
+              (arith, is_moved UpperFirst w, well_formed.least w p, well_formed.leads w p),
         );
-    high = λ w p l. omega (arith, is_moved UpperFirst w, good.least w p, good.leads w p);
-    fits = λ w p. omega (arith, is_moved UpperFirst w, good.greatest w p);
-    leads = λ w p. omega (arith, good.least w p);
-    moved_leads = λ w p. omega (arith, is_moved UpperFirst w, good.least w p);
-    rest = λ w p. omega (arith, is_moved UpperFirst w, good.least w p);
-    rises = λ v w p q nv nw l. omega (arith, is_moved UpperFirst v, is_moved UpperFirst w, good.least v p);
+    high = λ w p l. omega (arith, is_moved UpperFirst w, well_formed.least w p, well_formed.leads w p);
+    fits = λ w p. omega (arith, is_moved UpperFirst w, well_formed.greatest w p);
+    leads = λ w p. omega (arith, well_formed.least w p);
+    moved_leads = λ w p. omega (arith, is_moved UpperFirst w, well_formed.least w p);
+    rest = λ w p. omega (arith, is_moved UpperFirst w, well_formed.least w p);
+    rises = λ v w p q nv nw l. omega (arith, is_moved UpperFirst v, is_moved UpperFirst w, well_formed.least v p);
     one_lead = λ v w p q nv nw e. omega (
       arith,
       is_moved UpperFirst v,
       is_moved UpperFirst w,
-      good.least v p,
-      good.least w q,
-      good.greatest v p,
-      good.greatest w q,
-      good.leads v p nv,
-      good.leads w q nw,
+      well_formed.least v p,
+      well_formed.least w q,
+      well_formed.greatest v p,
+      well_formed.greatest w q,
+      well_formed.leads v p nv,
+      well_formed.leads w q nw,
     );
   }
 
@@ -134,12 +134,12 @@ module _ (IsLive : ℕ → Type 0) where
   end_below LowerFirst = lit< tt
   end_below UpperFirst = lit< tt
 
-  pub tertiaries_fit : (form : TertiaryForm) → AreTertiaries form IsLive → IsSpelling (tertiary_runs form) 1 (tertiary_bytes form) IsLive
-  tertiaries_fit form good =
-      moved_spelling (tertiary_runs form) 1 (moved_tertiary form) IsLive (end_below form) (moves form good) good.prefix_free
+  pub tertiaries_fit : (form : TertiaryForm) → AreTertiaries form IsReachable → IsSpelling (tertiary_runs form) 1 (tertiary_bytes form) IsReachable
+  tertiaries_fit form well_formed =
+      moved_spelling (tertiary_runs form) 1 (moved_tertiary form) IsReachable (end_below form) (moves form well_formed) well_formed.prefix_free
 
-  pub tertiary_order : (form : TertiaryForm) → AreTertiaries form IsLive → (vs ws s t : List ℕ) → AllByRecursion IsLive vs
-      → AllByRecursion IsLive ws → IsUnder 2 s → IsUnder 2 t
+  pub tertiary_order : (form : TertiaryForm) → AreTertiaries form IsReachable → (vs ws s t : List ℕ) → AllByRecursion IsReachable vs
+      → AllByRecursion IsReachable ws → IsUnder 2 s → IsUnder 2 t
       → list_order (tertiary_level form vs ++ s) (tertiary_level form ws ++ t) ≡ ordering_then (list_order vs ws) (list_order s t)
-  tertiary_order form good vs ws s t p q u v =
-      level_order (tertiary_runs form) (tertiary_runs_fit form) (tertiary_bytes form) 1 IsLive (tertiaries_fit form good) vs ws s t p q u v
+  tertiary_order form well_formed vs ws s t p q u v =
+      level_order (tertiary_runs form) (tertiary_runs_fit form) (tertiary_bytes form) 1 IsReachable (tertiaries_fit form well_formed) vs ws s t p q u v

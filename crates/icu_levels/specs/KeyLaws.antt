@@ -5,7 +5,7 @@ use Rattle.std.specs.declared.cmp.Ordering.TheVariants.{Equal}
 use Rattle.icu_levels.specs.ListOrder.{list_order}
 use Rattle.icu_levels.specs.Primaries.{Compression}
 use Rattle.icu_levels.specs.Keys.{parts_bytes, in_turn, Determines, TwoParts, DetermineInTurn, LevelLists, key_bytes, levels_order}
-use Rattle.icu_levels.specs.KeyPremises.{LiveWeights, AreWeights, AreLists, AreParallel}
+use Rattle.icu_levels.specs.KeyPremises.{ReachableWeights, AreWeights, AreLists, AreParallel}
 use Rattle.icu_levels.specs.declared.forms.CaseForm.{CaseForm}
 use Rattle.icu_levels.specs.declared.forms.KeyForm.{KeyForm}
 use Rattle.icu_levels.specs.declared.forms.QuaternaryForm.{QuaternaryForm}
@@ -22,10 +22,10 @@ LevelsDetermineInTurn =
     ≡ in_turn (o ∷ map (λ p. p.order) parts)
 
 -- keys order as the level lists in turn
-abbrev pub KeysKeepOrder : LiveWeights → Type 0
-KeysKeepOrder live =
+abbrev pub KeysKeepOrder : ReachableWeights → Type 0
+KeysKeepOrder reachable =
     (c : Compression) (f : KeyForm) (t u : LevelLists)
-    → AreWeights c f live → AreLists f live t → AreLists f live u → AreParallel c f t u
+    → AreWeights c f reachable → AreLists f reachable t → AreLists f reachable u → AreParallel c f t u
     → list_order (key_bytes c f t) (key_bytes c f u) ≡ levels_order c f t u
 
 -- two texts have the same secondaries, or segments of them, where the key has the level
@@ -64,8 +64,8 @@ pub record HaveSameLists (c : Compression) (f : KeyForm) (t u : LevelLists) : Ty
   pub characters : SameCharacters f.identical t u
 
 -- two texts have one key exactly if each level that it has is the same
-abbrev pub KeysDetermineLevels : LiveWeights → Type 0
-KeysDetermineLevels live =
+abbrev pub KeysDetermineLevels : ReachableWeights → Type 0
+KeysDetermineLevels reachable =
     (c : Compression) (f : KeyForm) (t u : LevelLists)
-    → AreWeights c f live → AreLists f live t → AreLists f live u → AreParallel c f t u
+    → AreWeights c f reachable → AreLists f reachable t → AreLists f reachable u → AreParallel c f t u
     → (key_bytes c f t ≡ key_bytes c f u) ↔ HaveSameLists c f t u

@@ -15,7 +15,7 @@ use Rattle.icu_levels.specs.declared.forms.TertiaryForm.{TertiaryForm}
 
 -- Which weights may occur, and the lead of the weights of numbers. Primaries are as they are before reordering, shifted
 -- ones as they are after it, tertiaries as the form of the key has them
-pub record LiveWeights : Type 1 where
+pub record ReachableWeights : Type 1 where
   pub primary : ℕ → Type 0
   pub secondary : ℕ → Type 0
   pub tertiary : ℕ → Type 0
@@ -24,52 +24,52 @@ pub record LiveWeights : Type 1 where
 
 -- secondaries that may occur are as the level asks in its direction, where the key has it
 abbrev pub SecondaryWeights : Option SecondaryForm → (ℕ → Type 0) → Type 0
-SecondaryWeights None IsLive = Unit {0}
-SecondaryWeights (Some Forward) IsLive = AreSecondaries forward_least IsLive
-SecondaryWeights (Some Backward) IsLive = AreSecondaries backward_least IsLive
+SecondaryWeights None IsReachable = Unit {0}
+SecondaryWeights (Some Forward) IsReachable = AreSecondaries forward_least IsReachable
+SecondaryWeights (Some Backward) IsReachable = AreSecondaries backward_least IsReachable
 
 -- tertiaries that may occur are as the level asks in its form, where the key has it
 abbrev pub TertiaryWeights : Option TertiaryForm → (ℕ → Type 0) → Type 0
-TertiaryWeights None IsLive = Unit {0}
-TertiaryWeights (Some form) IsLive = AreTertiaries form IsLive
+TertiaryWeights None IsReachable = Unit {0}
+TertiaryWeights (Some form) IsReachable = AreTertiaries form IsReachable
 
 -- shifted primaries that may occur are as the quaternary level asks in its form, where the key has it
 abbrev pub QuaternaryWeights : Option QuaternaryForm → (ℕ → Type 0) → Type 0
-QuaternaryWeights None IsLive = Unit {0}
-QuaternaryWeights (Some MayShift) IsLive = AreShifted IsLive
-QuaternaryWeights (Some Unshifted) IsLive = Unit {0}
+QuaternaryWeights None IsReachable = Unit {0}
+QuaternaryWeights (Some MayShift) IsReachable = AreShifted IsReachable
+QuaternaryWeights (Some Unshifted) IsReachable = Unit {0}
 
 -- the weights that may occur are as the levels of a key of this form ask
-pub record AreWeights (c : Compression) (f : KeyForm) (live : LiveWeights) : Type 0 where
-  pub primaries : ArePrimaries c live.numeric live.primary
-  pub secondaries : SecondaryWeights f.secondary live.secondary
-  pub tertiaries : TertiaryWeights f.tertiary live.tertiary
-  pub quaternaries : QuaternaryWeights f.quaternary live.shifted_primary
+pub record AreWeights (c : Compression) (f : KeyForm) (reachable : ReachableWeights) : Type 0 where
+  pub primaries : ArePrimaries c reachable.numeric reachable.primary
+  pub secondaries : SecondaryWeights f.secondary reachable.secondary
+  pub tertiaries : TertiaryWeights f.tertiary reachable.tertiary
+  pub quaternaries : QuaternaryWeights f.quaternary reachable.shifted_primary
 
 -- the secondaries of a text may occur, and a backward level has a segment at least
 abbrev pub SecondaryMembers : Option SecondaryForm → (ℕ → Type 0) → LevelLists → Type 0
-SecondaryMembers None IsLive t = Unit {0}
-SecondaryMembers (Some Forward) IsLive t = AllByRecursion IsLive t.secondaries
-SecondaryMembers (Some Backward) IsLive t = (0 < length t.segments) × AllByRecursion (AllByRecursion IsLive) t.segments
+SecondaryMembers None IsReachable t = Unit {0}
+SecondaryMembers (Some Forward) IsReachable t = AllByRecursion IsReachable t.secondaries
+SecondaryMembers (Some Backward) IsReachable t = (0 < length t.segments) × AllByRecursion (AllByRecursion IsReachable) t.segments
 
 -- the tertiaries of a text may occur
 abbrev pub TertiaryMembers : Option TertiaryForm → (ℕ → Type 0) → LevelLists → Type 0
-TertiaryMembers None IsLive t = Unit {0}
-TertiaryMembers (Some form) IsLive t = AllByRecursion IsLive t.tertiaries
+TertiaryMembers None IsReachable t = Unit {0}
+TertiaryMembers (Some form) IsReachable t = AllByRecursion IsReachable t.tertiaries
 
 -- the quaternaries of a text may occur, in the form of the level
 abbrev pub QuaternaryMembers : Option QuaternaryForm → (ℕ → Type 0) → LevelLists → Type 0
-QuaternaryMembers None IsLive t = Unit {0}
-QuaternaryMembers (Some MayShift) IsLive t = AllByRecursion (IsQuaternary IsLive) t.quaternaries
-QuaternaryMembers (Some Unshifted) IsLive t = AllByRecursion IsUnshifted t.quaternaries
+QuaternaryMembers None IsReachable t = Unit {0}
+QuaternaryMembers (Some MayShift) IsReachable t = AllByRecursion (IsQuaternary IsReachable) t.quaternaries
+QuaternaryMembers (Some Unshifted) IsReachable t = AllByRecursion IsUnshifted t.quaternaries
 
 -- the lists of a text have only weights that may occur, and a backward level has a segment at least
-pub record AreLists (f : KeyForm) (live : LiveWeights) (t : LevelLists) : Type 0 where
-  pub primaries : IsPrimaryList live.numeric live.primary false t.primaries
-  pub secondaries : SecondaryMembers f.secondary live.secondary t
+pub record AreLists (f : KeyForm) (reachable : ReachableWeights) (t : LevelLists) : Type 0 where
+  pub primaries : IsPrimaryList reachable.numeric reachable.primary false t.primaries
+  pub secondaries : SecondaryMembers f.secondary reachable.secondary t
   pub cases : AllByRecursion IsRank t.cases
-  pub tertiaries : TertiaryMembers f.tertiary live.tertiary t
-  pub quaternaries : QuaternaryMembers f.quaternary live.shifted_primary t
+  pub tertiaries : TertiaryMembers f.tertiary reachable.tertiary t
+  pub quaternaries : QuaternaryMembers f.quaternary reachable.shifted_primary t
   pub characters : AllByRecursion (λ c. c < 0x110000) t.characters
 
 -- What equal earlier lists give of two texts: lower case first as many cases, and where no element is shifted as many

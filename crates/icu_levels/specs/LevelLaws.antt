@@ -33,31 +33,31 @@ RunsAreMaximal =
 
 -- A level whose run bytes and spelling are as asked, followed by nothing or by bytes up to its end byte
 abbrev pub RunsKeepOrder : (ℕ → Type 0) → Type 0
-RunsKeepOrder IsLive =
-    (r : RunBytes) (end : ℕ) (spell : ℕ → List ℕ) → AreRunBytes r → IsSpelling r end spell IsLive
-    → (vs ws s t : List ℕ) → AllByRecursion IsLive vs → AllByRecursion IsLive ws
+RunsKeepOrder IsReachable =
+    (r : RunBytes) (end : ℕ) (spell : ℕ → List ℕ) → AreRunBytes r → IsSpelling r end spell IsReachable
+    → (vs ws s t : List ℕ) → AllByRecursion IsReachable vs → AllByRecursion IsReachable ws
     → IsUnder (suc end) s → IsUnder (suc end) t
     → list_order (level_bytes r spell 0 vs ++ s) (level_bytes r spell 0 ws ++ t) ≡ ordering_then (list_order vs ws) (list_order s t)
 
 -- the primary level: compressed, reordered, with numbers
 abbrev pub PrimariesKeepOrder : (ℕ → Type 0) → Type 0
-PrimariesKeepOrder IsLive =
-    (c : Compression) (numeric : ℕ) → ArePrimaries c numeric IsLive
-    → (vs ws : List ℕ) → IsPrimaryList numeric IsLive false vs → IsPrimaryList numeric IsLive false ws
+PrimariesKeepOrder IsReachable =
+    (c : Compression) (numeric : ℕ) → ArePrimaries c numeric IsReachable
+    → (vs ws : List ℕ) → IsPrimaryList numeric IsReachable false vs → IsPrimaryList numeric IsReachable false ws
     → KeepOrder (primary_level c 0 vs) (primary_level c 0 ws) (map c.reorder vs) (map c.reorder ws)
 
 -- the secondary level from the front
 abbrev pub SecondariesKeepOrder : (ℕ → Type 0) → Type 0
-SecondariesKeepOrder IsLive =
-    AreSecondaries forward_least IsLive
-    → (vs ws : List ℕ) → AllByRecursion IsLive vs → AllByRecursion IsLive ws
+SecondariesKeepOrder IsReachable =
+    AreSecondaries forward_least IsReachable
+    → (vs ws : List ℕ) → AllByRecursion IsReachable vs → AllByRecursion IsReachable ws
     → KeepOrder (secondary_level vs) (secondary_level ws) vs ws
 
 -- backward, a segment at least on either side
 abbrev pub SegmentsKeepOrder : (ℕ → Type 0) → Type 0
-SegmentsKeepOrder IsLive =
-    AreSecondaries backward_least IsLive
-    → (vss wss : List (List ℕ)) → AllByRecursion (AllByRecursion IsLive) vss → AllByRecursion (AllByRecursion IsLive) wss
+SegmentsKeepOrder IsReachable =
+    AreSecondaries backward_least IsReachable
+    → (vss wss : List (List ℕ)) → AllByRecursion (AllByRecursion IsReachable) vss → AllByRecursion (AllByRecursion IsReachable) wss
     → 0 < length vss → 0 < length wss
     → Determines (backward_level vss) (backward_level wss) (segments_order vss wss) × (backward_level vss ≡ backward_level wss → vss ≡ wss)
 
@@ -75,22 +75,22 @@ UpperFirstCasesKeepOrder =
 
 -- tertiaries with case bits are as their level asks, if those without are
 abbrev pub CaseKeepsTertiaries : (ℕ → Type 0) → Type 0
-CaseKeepsTertiaries IsLive =
-    (form : TertiaryForm) → AreTertiaries WithoutCase IsLive
-    → AreTertiaries form (IsCasedTertiary form IsLive)
+CaseKeepsTertiaries IsReachable =
+    (form : TertiaryForm) → AreTertiaries WithoutCase IsReachable
+    → AreTertiaries form (IsCasedTertiary form IsReachable)
 
 -- the tertiary level, in each of its forms
 abbrev pub TertiariesKeepOrder : (ℕ → Type 0) → Type 0
-TertiariesKeepOrder IsLive =
-    (form : TertiaryForm) → AreTertiaries form IsLive
-    → (vs ws : List ℕ) → AllByRecursion IsLive vs → AllByRecursion IsLive ws
+TertiariesKeepOrder IsReachable =
+    (form : TertiaryForm) → AreTertiaries form IsReachable
+    → (vs ws : List ℕ) → AllByRecursion IsReachable vs → AllByRecursion IsReachable ws
     → KeepOrder (tertiary_level form vs) (tertiary_level form ws) vs ws
 
 -- where variable elements may be shifted, any lists
 abbrev pub QuaternariesKeepOrder : (ℕ → Type 0) → Type 0
-QuaternariesKeepOrder IsLive =
-    AreShifted IsLive
-    → (vs ws : List ℕ) → AllByRecursion (IsQuaternary IsLive) vs → AllByRecursion (IsQuaternary IsLive) ws
+QuaternariesKeepOrder IsReachable =
+    AreShifted IsReachable
+    → (vs ws : List ℕ) → AllByRecursion (IsQuaternary IsReachable) vs → AllByRecursion (IsQuaternary IsReachable) ws
     → KeepOrder (quaternary_level MayShift vs) (quaternary_level MayShift ws) vs ws
 
 -- where none is shifted, as many quaternaries on either side

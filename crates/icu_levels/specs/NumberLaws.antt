@@ -14,8 +14,8 @@ NumbersOrderByValue =
 
 -- and as reordering leaves them
 abbrev pub ReorderedNumbersOrderByValue : (ℕ → Type 0) → Type 0
-ReorderedNumbersOrderByValue IsLive =
-    (c : Compression) (numeric : ℕ) → ArePrimaries c numeric IsLive → numeric < 256
+ReorderedNumbersOrderByValue IsReachable =
+    (c : Compression) (numeric : ℕ) → ArePrimaries c numeric IsReachable → numeric < 256
     → (v w : ℕ) → v < 10 ^ 254 → w < 10 ^ 254
     → list_order (map c.reorder (number_weights numeric v)) (map c.reorder (number_weights numeric w)) ≡ nat_cmp v w
 
@@ -33,26 +33,26 @@ DigitRunsOrderByValue =
 
 -- and as reordering leaves them
 abbrev pub ReorderedRunsOrderByValue : (ℕ → Type 0) → Type 0
-ReorderedRunsOrderByValue IsLive =
-    (c : Compression) (numeric : ℕ) → ArePrimaries c numeric IsLive → numeric < 256
+ReorderedRunsOrderByValue IsReachable =
+    (c : Compression) (numeric : ℕ) → ArePrimaries c numeric IsReachable → numeric < 256
     → (ds es : List ℕ) → IsShortRun ds → IsShortRun es
     → list_order (map c.reorder (run_weights numeric ds)) (map c.reorder (run_weights numeric es)) ≡ nat_cmp (value_of ds) (value_of es)
 
--- before a list of primaries that may stand there may stand a live primary
-abbrev pub LivePrimariesMayStand : (ℕ → Type 0) → Type 0
-LivePrimariesMayStand IsLive =
-    (c : Compression) (numeric : ℕ) → ArePrimaries c numeric IsLive
-    → (w : ℕ) (ws : List ℕ) → IsLive w → IsPrimaryList numeric IsLive false ws
-    → IsPrimaryList numeric IsLive false (w ∷ ws)
+-- before a list of primaries that may stand there may stand a reachable primary
+abbrev pub ReachablePrimariesMayStand : (ℕ → Type 0) → Type 0
+ReachablePrimariesMayStand IsReachable =
+    (c : Compression) (numeric : ℕ) → ArePrimaries c numeric IsReachable
+    → (w : ℕ) (ws : List ℕ) → IsReachable w → IsPrimaryList numeric IsReachable false ws
+    → IsPrimaryList numeric IsReachable false (w ∷ ws)
 
 -- and the weights of a whole number
 abbrev pub NumbersMayStand : (ℕ → Type 0) → Type 0
-NumbersMayStand IsLive =
+NumbersMayStand IsReachable =
     (numeric : ℕ) → numeric < 256 → (v : ℕ) (ws : List ℕ) → v < 10 ^ 254
-    → IsPrimaryList numeric IsLive false ws → IsPrimaryList numeric IsLive false (number_weights numeric v ++ ws)
+    → IsPrimaryList numeric IsReachable false ws → IsPrimaryList numeric IsReachable false (number_weights numeric v ++ ws)
 
 -- and those of a run of digits, however long
 abbrev pub DigitRunsMayStand : (ℕ → Type 0) → Type 0
-DigitRunsMayStand IsLive =
+DigitRunsMayStand IsReachable =
     (numeric : ℕ) → numeric < 256 → (ds ws : List ℕ) → AllByRecursion (λ d. d < 10) ds
-    → IsPrimaryList numeric IsLive false ws → IsPrimaryList numeric IsLive false (run_weights numeric ds ++ ws)
+    → IsPrimaryList numeric IsReachable false ws → IsPrimaryList numeric IsReachable false (run_weights numeric ds ++ ws)

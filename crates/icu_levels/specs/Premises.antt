@@ -10,14 +10,14 @@ use Rattle.icu_levels.specs.declared.forms.TertiaryForm.TheVariants.{LowerFirst,
 -- No weight is written as a beginning of another: weights are prefix free, as the standard asks of the weights of
 -- one level (UTS #10, "Large Weight Values")
 abbrev pub IsPrefixFree : (ℕ → List ℕ) → (ℕ → Type 0) → Type 0
-IsPrefixFree spell IsLive = (v w : ℕ) → IsLive v → IsLive w → v ≢ w → IsBeginning (spell v) (spell w) → ⊥
+IsPrefixFree spell IsReachable = (v w : ℕ) → IsReachable v → IsReachable w → v ≢ w → IsBeginning (spell v) (spell w) → ⊥
 
 -- Secondaries are the common one, lead with 04 at most, or with 46 at least. The least lead is 02 forward, and 03
 -- backward, where 02 parts segments
-pub record AreSecondaries (least : ℕ) (IsLive : ℕ → Type 0) : Type 0 where
-  pub fits : (w : ℕ) → IsLive w → w < 2 ^ 16
-  pub leads : (w : ℕ) → IsLive w → (w ≡ 0x500) ⊎ (((least ≤ w / 256) × (w / 256 ≤ 4)) ⊎ (0x46 ≤ w / 256))
-  pub prefix_free : IsPrefixFree (weight_bytes 2) IsLive
+pub record AreSecondaries (least : ℕ) (IsReachable : ℕ → Type 0) : Type 0 where
+  pub fits : (w : ℕ) → IsReachable w → w < 2 ^ 16
+  pub leads : (w : ℕ) → IsReachable w → (w ≡ 0x500) ⊎ (((least ≤ w / 256) × (w / 256 ≤ 4)) ⊎ (0x46 ≤ w / 256))
+  pub prefix_free : IsPrefixFree (weight_bytes 2) IsReachable
 
 -- the least lead of secondaries that are written from the front
 abbrev pub forward_least : ℕ
@@ -40,24 +40,24 @@ greatest_tertiary_lead LowerFirst = 0xBF
 greatest_tertiary_lead UpperFirst = 0xFF
 
 -- Tertiaries are the common one, or have another lead than it has
-pub record AreTertiaries (form : TertiaryForm) (IsLive : ℕ → Type 0) : Type 0 where
-  pub least : (w : ℕ) → IsLive w → least_tertiary_lead form ≤ w / 256
-  pub greatest : (w : ℕ) → IsLive w → w / 256 ≤ greatest_tertiary_lead form
-  pub leads : (w : ℕ) → IsLive w → w ≢ (tertiary_runs form).common → w / 256 ≢ (tertiary_runs form).common / 256
-  pub prefix_free : IsPrefixFree (weight_bytes 2) IsLive
+pub record AreTertiaries (form : TertiaryForm) (IsReachable : ℕ → Type 0) : Type 0 where
+  pub least : (w : ℕ) → IsReachable w → least_tertiary_lead form ≤ w / 256
+  pub greatest : (w : ℕ) → IsReachable w → w / 256 ≤ greatest_tertiary_lead form
+  pub leads : (w : ℕ) → IsReachable w → w ≢ (tertiary_runs form).common → w / 256 ≢ (tertiary_runs form).common / 256
+  pub prefix_free : IsPrefixFree (weight_bytes 2) IsReachable
 
--- Tertiaries as a form has them, where those without case bits are live: the two high bits are the case, lower 0, mixed
+-- Tertiaries as a form has them, where those without case bits are reachable: the two high bits are the case, lower 0, mixed
 -- 1 and upper 2; with upper case first lower is 3, mixed 2 and upper 1, and what has no secondary is 3
 abbrev pub IsCasedTertiary : TertiaryForm → (ℕ → Type 0) → ℕ → Type 0
-IsCasedTertiary WithoutCase IsLive w = IsLive w
-IsCasedTertiary LowerFirst IsLive w = IsLive (w % 0x4000) × (w / 0x4000 < 3)
-IsCasedTertiary UpperFirst IsLive w = IsLive (w % 0x4000) × (0 < w / 0x4000) × (w / 0x4000 < 4)
+IsCasedTertiary WithoutCase IsReachable w = IsReachable w
+IsCasedTertiary LowerFirst IsReachable w = IsReachable (w % 0x4000) × (w / 0x4000 < 3)
+IsCasedTertiary UpperFirst IsReachable w = IsReachable (w % 0x4000) × (0 < w / 0x4000) × (w / 0x4000 < 4)
 
 -- Shifted primaries, after reordering, lead with 02 at least
-pub record AreShifted (IsLive : ℕ → Type 0) : Type 0 where
-  pub fits : (w : ℕ) → IsLive w → w < 256 ^ 4
-  pub leads : (w : ℕ) → IsLive w → 2 ≤ lead w
-  pub prefix_free : IsPrefixFree (weight_bytes 4) IsLive
+pub record AreShifted (IsReachable : ℕ → Type 0) : Type 0 where
+  pub fits : (w : ℕ) → IsReachable w → w < 256 ^ 4
+  pub leads : (w : ℕ) → IsReachable w → 2 ≤ lead w
+  pub prefix_free : IsPrefixFree (weight_bytes 4) IsReachable
 
 -- ---- primaries, and weights of numbers among them
 
@@ -87,40 +87,40 @@ pub record IsNumberWeight (numeric : ℕ) (IsPiece : List ℕ → Type 0) (w : �
 
 -- what may stand outside a number, and inside one
 abbrev pub MayStand : ℕ → (ℕ → Type 0) → Bool → ℕ → Type 0
-MayStand numeric IsLive false w = IsLive w ⊎ IsNumberWeight numeric IsFirstPiece w
-MayStand numeric IsLive true w = IsNumberWeight numeric IsFurtherPiece w
+MayStand numeric IsReachable false w = IsReachable w ⊎ IsNumberWeight numeric IsFirstPiece w
+MayStand numeric IsReachable true w = IsNumberWeight numeric IsFurtherPiece w
 
 -- whether more of a number follows the weight w, which stands inside a number or outside
 abbrev pub goes_on : ℕ → Bool → ℕ → Bool
 goes_on numeric inside w = lead w == numeric && (w % 2 == 1 && (inside || nat_le 132 (second_byte w)))
 
--- Primaries before reordering, each of which may stand where it is met: live ones, and weights of whole numbers
+-- Primaries before reordering, each of which may stand where it is met: reachable ones, and weights of whole numbers
 abbrev pub IsPrimaryList : ℕ → (ℕ → Type 0) → Bool → List ℕ → Type 0
-IsPrimaryList numeric IsLive inside [] = Unit {0}
-IsPrimaryList numeric IsLive inside (w ∷ ws) =
-    MayStand numeric IsLive inside w × IsPrimaryList numeric IsLive (goes_on numeric inside w) ws
+IsPrimaryList numeric IsReachable inside [] = Unit {0}
+IsPrimaryList numeric IsReachable inside (w ∷ ws) =
+    MayStand numeric IsReachable inside w × IsPrimaryList numeric IsReachable (goes_on numeric inside w) ws
 
 -- the lead that reordering gives the weights of numbers
 abbrev pub number_lead : Compression → ℕ → ℕ
 number_lead c numeric = lead (c.reorder (numeric * 256 ^ 3))
 
--- Live primaries lead with 02 at least, 02 being the merge separator's alone, and are prefix free after reordering.
+-- Reachable primaries lead with 02 at least, 02 being the merge separator's alone, and are prefix free after reordering.
 -- The second byte of a compressible one is neither 03 or less nor FF, and one lead after reordering is compressible
--- for all or for none. Reordering changes leads alone, and keeps the weights of numbers apart from live ones
-pub record ArePrimaries (c : Compression) (numeric : ℕ) (IsLive : ℕ → Type 0) : Type 0 where
+-- for all or for none. Reordering changes leads alone, and keeps the weights of numbers apart from reachable ones
+pub record ArePrimaries (c : Compression) (numeric : ℕ) (IsReachable : ℕ → Type 0) : Type 0 where
   pub reordered_fits : (w : ℕ) → w < 256 ^ 4 → c.reorder w < 256 ^ 4
   pub lead_alone : (w : ℕ) → w < 256 ^ 4 → below_lead (c.reorder w) ≡ below_lead w
-  pub fits : (w : ℕ) → IsLive w → w < 256 ^ 4
-  pub leads : (w : ℕ) → IsLive w → 2 ≤ lead (c.reorder w)
-  pub separator : (w : ℕ) → IsLive w → lead (c.reorder w) ≡ 2 → c.reorder w ≡ 0x02000000
-  pub prefix_free : (v w : ℕ) → IsLive v → IsLive w → c.reorder v ≢ c.reorder w
+  pub fits : (w : ℕ) → IsReachable w → w < 256 ^ 4
+  pub leads : (w : ℕ) → IsReachable w → 2 ≤ lead (c.reorder w)
+  pub separator : (w : ℕ) → IsReachable w → lead (c.reorder w) ≡ 2 → c.reorder w ≡ 0x02000000
+  pub prefix_free : (v w : ℕ) → IsReachable v → IsReachable w → c.reorder v ≢ c.reorder w
       → IsBeginning (weight_bytes 4 (c.reorder v)) (weight_bytes 4 (c.reorder w)) → ⊥
-  pub seconds : (w : ℕ) → IsLive w → c.is_compressible (lead w) ≡ true → (4 ≤ second_byte w) × (second_byte w ≤ 0xFE)
-  pub alike : (v w : ℕ) → IsLive v → IsLive w → lead (c.reorder v) ≡ lead (c.reorder w)
+  pub seconds : (w : ℕ) → IsReachable w → c.is_compressible (lead w) ≡ true → (4 ≤ second_byte w) × (second_byte w ≤ 0xFE)
+  pub alike : (v w : ℕ) → IsReachable v → IsReachable w → lead (c.reorder v) ≡ lead (c.reorder w)
       → c.is_compressible (lead v) ≡ c.is_compressible (lead w)
-  pub not_numeric : (w : ℕ) → IsLive w → lead w ≢ numeric
+  pub not_numeric : (w : ℕ) → IsReachable w → lead w ≢ numeric
   pub numbers_together : (w : ℕ) → w < 256 ^ 4 → lead w ≡ numeric → lead (c.reorder w) ≡ number_lead c numeric
-  pub numbers_apart : (w : ℕ) → IsLive w → lead (c.reorder w) ≢ number_lead c numeric
+  pub numbers_apart : (w : ℕ) → IsReachable w → lead (c.reorder w) ≢ number_lead c numeric
   pub numbers_high : 3 ≤ number_lead c numeric
   pub numbers_whole : c.is_compressible numeric ≡ false
 
@@ -136,4 +136,4 @@ IsUnshifted w = (2 ^ 32 ≤ w) × (w ≤ 2 ^ 32 + 3)
 
 -- what stands in a quaternary list: a shifted primary or an unshifted weight
 abbrev pub IsQuaternary : (ℕ → Type 0) → ℕ → Type 0
-IsQuaternary IsLive w = IsLive w ⊎ IsUnshifted w
+IsQuaternary IsReachable w = IsReachable w ⊎ IsUnshifted w

@@ -33,8 +33,8 @@ level_bytes r spell n (w ∷ ws) =
 
 -- Weights below the common one begin between the byte that ends a list and the low byte. Those above it begin above
 -- the high byte. Of two other weights the lesser precedes.
-pub record IsSpelling (r : RunBytes) (end : ℕ) (spell : ℕ → List ℕ) (IsLive : ℕ → Type 0) : Type 0 where
+pub record IsSpelling (r : RunBytes) (end : ℕ) (spell : ℕ → List ℕ) (IsReachable : ℕ → Type 0) : Type 0 where
   pub end_below : end < r.low
-  pub below : (w : ℕ) → IsLive w → w < r.common → IsOver end (spell w) × IsUnder r.low (spell w)
-  pub above : (w : ℕ) → IsLive w → r.common < w → IsOver r.high (spell w)
-  pub apart : (v w : ℕ) → IsLive v → IsLive w → v ≢ r.common → w ≢ r.common → v < w → Precedes (spell v) (spell w)
+  pub below : (w : ℕ) → IsReachable w → w < r.common → IsOver end (spell w) × IsUnder r.low (spell w)
+  pub above : (w : ℕ) → IsReachable w → r.common < w → IsOver r.high (spell w)
+  pub apart : (v w : ℕ) → IsReachable v → IsReachable w → v ≢ r.common → w ≢ r.common → v < w → Precedes (spell v) (spell w)

@@ -12,10 +12,10 @@ pub fn levels_determine_in_turn()
 
 /// Keys order as the level lists in turn, whatever weights may occur.
 pub fn keys_keep_order<W: KeyWeights>()
-    ensures { KeysKeepOrder W.live }
+    ensures { KeysKeepOrder W.reachable }
 {}
 
 /// Two texts have one key exactly if they have the same list at each level of the key.
 pub fn keys_determine_levels<W: KeyWeights>()
-    ensures { KeysDetermineLevels W.live }
+    ensures { KeysDetermineLevels W.reachable }
 {}

@@ -22,22 +22,22 @@ pub fn runs_are_short()
 /// A level keeps the order of its lists if the two kinds of run meet in the middle byte alone, and if the bytes of all
 /// other weights stay clear of the runs and are prefix free.
 pub fn runs_keep_order<W: LevelWeights>()
-    ensures { RunsKeepOrder W.is_live }
+    ensures { RunsKeepOrder W.is_reachable }
 {}
 
 /// Compressed primary bytes keep the order of the reordered primaries, numbers among them.
 pub fn primaries_keep_order<W: LevelWeights>()
-    ensures { PrimariesKeepOrder W.is_live }
+    ensures { PrimariesKeepOrder W.is_reachable }
 {}
 
 /// Secondary bytes keep the order of the secondaries.
 pub fn secondaries_keep_order<W: LevelWeights>()
-    ensures { SecondariesKeepOrder W.is_live }
+    ensures { SecondariesKeepOrder W.is_reachable }
 {}
 
 /// Backward secondary bytes keep the order of the segments, of which each text has at least one.
 pub fn segments_keep_order<W: LevelWeights>()
-    ensures { SegmentsKeepOrder W.is_live }
+    ensures { SegmentsKeepOrder W.is_reachable }
 {}
 
 /// Case bytes with lower case first keep the order of the cases, where both texts have as many.
@@ -52,17 +52,17 @@ pub fn upper_first_cases_keep_order()
 
 /// Tertiary bytes keep the order of the tertiaries: without case bits, with lower and with upper case first.
 pub fn tertiaries_keep_order<W: LevelWeights>()
-    ensures { TertiariesKeepOrder W.is_live }
+    ensures { TertiariesKeepOrder W.is_reachable }
 {}
 
 /// Tertiaries with case bits are as their level asks, if those without case bits are.
 pub fn case_keeps_tertiaries<W: LevelWeights>()
-    ensures { CaseKeepsTertiaries W.is_live }
+    ensures { CaseKeepsTertiaries W.is_reachable }
 {}
 
 /// Quaternary bytes keep the order of the quaternaries, shifted primaries among them.
 pub fn quaternaries_keep_order<W: LevelWeights>()
-    ensures { QuaternariesKeepOrder W.is_live }
+    ensures { QuaternariesKeepOrder W.is_reachable }
 {}
 
 /// Quaternary bytes where no element is shifted keep the order, where both texts have as many quaternaries.

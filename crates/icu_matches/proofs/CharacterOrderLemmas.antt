@@ -60,7 +60,7 @@ head_same x y xs ys h =
     (eqb-true y x parts.0, parts.1)
 
 -- one that begins a text doesn't come after it
-pub beginning_not_after : (text row : List ℕ) → starts_with nat_eq text row ≡ true → is_before text row ≡ false
+pub beginning_not_after : (text mapping : List ℕ) → starts_with nat_eq text mapping ≡ true → is_before text mapping ≡ false
 beginning_not_after [] [] h = refl
 beginning_not_after (x ∷ xs) [] h = refl
 beginning_not_after [] (y ∷ ys) h = cc
@@ -69,7 +69,7 @@ beginning_not_after (x ∷ xs) (y ∷ ys) h =
     subst (λ z. is_before (x ∷ xs) (z ∷ ys) ≡ false) (sym parts.0) (same_head x xs ys ∙ beginning_not_after xs ys parts.1)
 
 -- of two that begin a text the shorter one comes first
-pub shorter_before : (text row other : List ℕ) → starts_with nat_eq text row ≡ true → starts_with nat_eq text other ≡ true → is_before other row ≡ true → length other < length row
+pub shorter_before : (text mapping other : List ℕ) → starts_with nat_eq text mapping ≡ true → starts_with nat_eq text other ≡ true → is_before other mapping ≡ true → length other < length mapping
 shorter_before text [] [] h k b = cc
 shorter_before text [] (z ∷ zs) h k b = cc
 shorter_before text (y ∷ ys) [] h k b = omega arith
@@ -81,14 +81,14 @@ shorter_before (x ∷ xs) (y ∷ ys) (z ∷ zs) h k b =
     let less : is_before zs ys ≡ true = sym (same_head y zs ys) ∙ subst (λ w. is_before (w ∷ zs) (y ∷ ys) ≡ true) e b in
     omega (arith, shorter_before xs ys zs p.1 q.1 less)
 
--- ---- what a row and a text have in common
+-- ---- what a mapping and a text have in common
 
--- a row that begins the text, and doesn't come after another row that doesn't come after the text, begins what these
+-- a mapping that begins the text, and doesn't come after another mapping that doesn't come after the text, begins what these
 -- have in common
-pub begins_common : (row text other : List ℕ) → starts_with nat_eq text other ≡ true → is_before row other ≡ false → is_before text row ≡ false → starts_with nat_eq (common_beginning row text) other ≡ true
+pub begins_common : (mapping text other : List ℕ) → starts_with nat_eq text other ≡ true → is_before mapping other ≡ false → is_before text mapping ≡ false → starts_with nat_eq (common_beginning mapping text) other ≡ true
 unfolding common_beginning
-begins_common row text [] h k b = refl
-begins_common row [] (z ∷ zs) h k b = cc
+begins_common mapping text [] h k b = refl
+begins_common mapping [] (z ∷ zs) h k b = cc
 begins_common [] (x ∷ xs) (z ∷ zs) h k b = cc
 begins_common (y ∷ ys) (x ∷ xs) (z ∷ zs) h k b =
     let q = head_same x z xs zs h in
@@ -101,10 +101,10 @@ begins_common (y ∷ ys) (x ∷ xs) (z ∷ zs) h k b =
     let rest : starts_with nat_eq (common_beginning ys xs) zs ≡ true = begins_common ys xs zs q.1 first second in
     rw (eq-eqb y x e) (and_from _ _ (eq-eqb z x q.0) rest)
 
--- one that begins what a row and a text have in common begins the text
-pub begins_whole : (row text other : List ℕ) → starts_with nat_eq (common_beginning row text) other ≡ true → starts_with nat_eq text other ≡ true
+-- one that begins what a mapping and a text have in common begins the text
+pub begins_whole : (mapping text other : List ℕ) → starts_with nat_eq (common_beginning mapping text) other ≡ true → starts_with nat_eq text other ≡ true
 unfolding common_beginning
-begins_whole row text [] h = refl
+begins_whole mapping text [] h = refl
 begins_whole [] text (z ∷ zs) h = cc
 begins_whole (y ∷ ys) [] (z ∷ zs) h = cc
 begins_whole (y ∷ ys) (x ∷ xs) (z ∷ zs) h = elim (cases_Bool (nat_eq y x)) [
@@ -117,8 +117,8 @@ begins_whole (y ∷ ys) (x ∷ xs) (z ∷ zs) h = elim (cases_Bool (nat_eq y x))
       absurd (false≢true k)
 ]
 
--- that is shorter than the text, where the row doesn't come after it and doesn't begin it
-pub common_shorter : (row text : List ℕ) → is_before text row ≡ false → starts_with nat_eq text row ≡ false → length (common_beginning row text) < length text
+-- that is shorter than the text, where the mapping doesn't come after it and doesn't begin it
+pub common_shorter : (mapping text : List ℕ) → is_before text mapping ≡ false → starts_with nat_eq text mapping ≡ false → length (common_beginning mapping text) < length text
 unfolding common_beginning
 common_shorter [] text b h = cc
 common_shorter (y ∷ ys) [] b h = cc

@@ -5,30 +5,30 @@ use Rattle.std.proofs.lemmas.List.{drop_more, take_more, append-nil}
 use Rattle.std.proofs.Math.ListN.{drop_of_length-le}
 use Rattle.icu_matches.specs.inner.Beginnings.{common_beginning}
 
-at_heads : (row text : List ℕ) (i a b : ℕ) → i < length row → i < length text → a ≡ get_or row i a → b ≡ get_or text i b → common_beginning (drop i row) (drop i text) ≡ common_beginning (a ∷ drop (i + 1) row) (b ∷ drop (i + 1) text)
-at_heads row text i a b p q m n =
+at_heads : (mapping text : List ℕ) (i a b : ℕ) → i < length mapping → i < length text → a ≡ get_or mapping i a → b ≡ get_or text i b → common_beginning (drop i mapping) (drop i text) ≡ common_beginning (a ∷ drop (i + 1) mapping) (b ∷ drop (i + 1) text)
+at_heads mapping text i a b p q m n =
     ap₂ common_beginning
-    (drop_more row i a p ∙ ap (λ x. x ∷ drop (i + 1) row) (sym m))
+    (drop_more mapping i a p ∙ ap (λ x. x ∷ drop (i + 1) mapping) (sym m))
     (drop_more text i b q ∙ ap (λ x. x ∷ drop (i + 1) text) (sym n))
 
 -- two characters that are equal are common
-pub common_goes_on : (row text : List ℕ) (i a b : ℕ) → i < length row → i < length text → a ≡ get_or row i a → b ≡ get_or text i b → a ≡ b
-    → take (i + 1) text ++ common_beginning (drop (i + 1) row) (drop (i + 1) text) ≡ take i text ++ common_beginning (drop i row) (drop i text)
+pub common_goes_on : (mapping text : List ℕ) (i a b : ℕ) → i < length mapping → i < length text → a ≡ get_or mapping i a → b ≡ get_or text i b → a ≡ b
+    → take (i + 1) text ++ common_beginning (drop (i + 1) mapping) (drop (i + 1) text) ≡ take i text ++ common_beginning (drop i mapping) (drop i text)
 unfolding common_beginning
-common_goes_on row text i a b p q m n e =
+common_goes_on mapping text i a b p q m n e =
     let more : take (i + 1) text ≡ take i text ++ b ∷ [] = take_more text i b q ∙ ap (λ x. take i text ++ x ∷ []) (sym n) in
-    let rest : List ℕ = common_beginning (drop (i + 1) row) (drop (i + 1) text) in
-    let one : common_beginning (a ∷ drop (i + 1) row) (b ∷ drop (i + 1) text) ≡ b ∷ rest = rw (eq-eqb a b e) refl in
+    let rest : List ℕ = common_beginning (drop (i + 1) mapping) (drop (i + 1) text) in
+    let one : common_beginning (a ∷ drop (i + 1) mapping) (b ∷ drop (i + 1) text) ≡ b ∷ rest = rw (eq-eqb a b e) refl in
     ap (λ (l : List ℕ). l ++ rest) more ∙ append_assoc (take i text) (b ∷ []) rest
-    ∙ ap (λ (l : List ℕ). take i text ++ l) (sym (at_heads row text i a b p q m n ∙ one))
+    ∙ ap (λ (l : List ℕ). take i text ++ l) (sym (at_heads mapping text i a b p q m n ∙ one))
 
 -- two characters that differ end what is common
-pub common_stops : (row text : List ℕ) (i a b : ℕ) → i < length row → i < length text → a ≡ get_or row i a → b ≡ get_or text i b → (a ≡ b → ⊥)
-    → take i text ++ common_beginning (drop i row) (drop i text) ≡ take i text
+pub common_stops : (mapping text : List ℕ) (i a b : ℕ) → i < length mapping → i < length text → a ≡ get_or mapping i a → b ≡ get_or text i b → (a ≡ b → ⊥)
+    → take i text ++ common_beginning (drop i mapping) (drop i text) ≡ take i text
 unfolding common_beginning
-common_stops row text i a b p q m n differ =
-    let none : common_beginning (a ∷ drop (i + 1) row) (b ∷ drop (i + 1) text) ≡ [] = rw (ne_eqb a b differ) refl in
-    ap (λ (l : List ℕ). take i text ++ l) (at_heads row text i a b p q m n ∙ none) ∙ append-nil (take i text)
+common_stops mapping text i a b p q m n differ =
+    let none : common_beginning (a ∷ drop (i + 1) mapping) (b ∷ drop (i + 1) text) ≡ [] = rw (ne_eqb a b differ) refl in
+    ap (λ (l : List ℕ). take i text ++ l) (at_heads mapping text i a b p q m n ∙ none) ∙ append-nil (take i text)
 
 nothing_left : (xs : List ℕ) → common_beginning xs [] ≡ []
 unfolding common_beginning
@@ -36,9 +36,9 @@ nothing_left [] = refl
 nothing_left (x ∷ xs) = refl
 
 -- the end of a list ends what is common
-pub common_ends : (row text : List ℕ) (i : ℕ) → length row ≤ i → take i text ++ common_beginning (drop i row) (drop i text) ≡ take i text
+pub common_ends : (mapping text : List ℕ) (i : ℕ) → length mapping ≤ i → take i text ++ common_beginning (drop i mapping) (drop i text) ≡ take i text
 unfolding common_beginning
-common_ends row text i past = ap (λ (l : List ℕ). take i text ++ common_beginning l (drop i text)) (drop_of_length-le row past) ∙ append-nil (take i text)
+common_ends mapping text i past = ap (λ (l : List ℕ). take i text ++ common_beginning l (drop i text)) (drop_of_length-le mapping past) ∙ append-nil (take i text)
 
-pub common_ends_text : (row text : List ℕ) (i : ℕ) → length text ≤ i → take i text ++ common_beginning (drop i row) (drop i text) ≡ take i text
-common_ends_text row text i past = ap (λ (l : List ℕ). take i text ++ common_beginning (drop i row) l) (drop_of_length-le text past) ∙ ap (λ (l : List ℕ). take i text ++ l) (nothing_left (drop i row)) ∙ append-nil (take i text)
+pub common_ends_text : (mapping text : List ℕ) (i : ℕ) → length text ≤ i → take i text ++ common_beginning (drop i mapping) (drop i text) ≡ take i text
+common_ends_text mapping text i past = ap (λ (l : List ℕ). take i text ++ common_beginning (drop i mapping) l) (drop_of_length-le text past) ∙ ap (λ (l : List ℕ). take i text ++ l) (nothing_left (drop i mapping)) ∙ append-nil (take i text)

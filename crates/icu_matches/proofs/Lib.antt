@@ -1,10 +1,10 @@
 pub mod ChoiceLemmas
 pub mod CommonPartLemmas
 pub mod DecidedLemmas
-pub mod LiveLemmas
+pub mod ReachableLemmas
 pub mod MarkLemmas
 pub mod MatchLemmas
 pub mod CharacterOrderLemmas
 pub mod ReadAheadLemmas
-pub mod RowLemmas
+pub mod MappingLemmas
 pub mod TextLemmas

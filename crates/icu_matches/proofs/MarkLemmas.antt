@@ -9,7 +9,7 @@ use Rattle.std.proofs.Math.ListN.{drop_of_length-le}
 use Rattle.std.proofs.Math.Seq.{take-append_seam, drop-append_seam}
 use Rattle.ucd_normal.specs.CanonicalCombiningClass.{canonical_combining_class as class_of}
 use Rattle.unicode_normalization.specs.Order.{is_starter}
-use Rattle.icu_data.specs.Data.{Row, row_entry}
+use Rattle.icu_data.specs.Data.{Mapping, mapping_entry}
 use Rattle.icu_matches.specs.Matches.{Match, is_blocked, with_marks}
 use Rattle.icu_matches.specs.inner.Joining.{greatest_class}
 
@@ -51,31 +51,31 @@ greatest_more (p ∷ ps) m = omega (arith, greatest_more ps m)
 
 -- ---- the turn
 
-module _ (rows : List Row) (entry : ℕ) (suffix passed text : List ℕ) (i m : ℕ) (is : slice_get text i ≡ Some m) where
-  at_mark : with_marks rows entry suffix passed (drop i text) ≡ with_marks rows entry suffix passed (m ∷ drop (i + 1) text)
-  at_mark = ap (with_marks rows entry suffix passed) (here text i m is)
+module _ (mappings : List Mapping) (entry : ℕ) (suffix passed text : List ℕ) (i m : ℕ) (is : slice_get text i ≡ Some m) where
+  at_mark : with_marks mappings entry suffix passed (drop i text) ≡ with_marks mappings entry suffix passed (m ∷ drop (i + 1) text)
+  at_mark = ap (with_marks mappings entry suffix passed) (here text i m is)
 
-  pub at_starter : is_starter m ≡ true → with_marks rows entry suffix passed (drop i text) ≡ record { entry = entry; suffix = suffix; rest = passed ++ drop i text }
+  pub at_starter : is_starter m ≡ true → with_marks mappings entry suffix passed (drop i text) ≡ record { entry = entry; suffix = suffix; rest = passed ++ drop i text }
   unfolding with_marks
   at_starter h =
       let ended : List ℕ → Match = λ l. record { entry = entry; suffix = suffix; rest = passed ++ l } in
       at_mark ∙ rw h (ap ended (sym (here text i m is)))
 
-  pub at_blocked : is_starter m ≡ false → is_blocked passed m ≡ true → with_marks rows entry suffix passed (drop i text) ≡ with_marks rows entry suffix (passed ++ m ∷ []) (drop (i + 1) text)
+  pub at_blocked : is_starter m ≡ false → is_blocked passed m ≡ true → with_marks mappings entry suffix passed (drop i text) ≡ with_marks mappings entry suffix (passed ++ m ∷ []) (drop (i + 1) text)
   unfolding with_marks
   at_blocked h b = at_mark ∙ rw (h, b)
 
-  pub at_joining : (joined : ℕ) → is_starter m ≡ false → is_blocked passed m ≡ false → row_entry rows (suffix ++ m ∷ []) ≡ Some joined → with_marks rows entry suffix passed (drop i text) ≡ with_marks rows joined (suffix ++ m ∷ []) passed (drop (i + 1) text)
+  pub at_joining : (joined : ℕ) → is_starter m ≡ false → is_blocked passed m ≡ false → mapping_entry mappings (suffix ++ m ∷ []) ≡ Some joined → with_marks mappings entry suffix passed (drop i text) ≡ with_marks mappings joined (suffix ++ m ∷ []) passed (drop (i + 1) text)
   unfolding with_marks
   at_joining joined h b r = at_mark ∙ rw (h, b, r)
 
-  pub at_other : is_starter m ≡ false → is_blocked passed m ≡ false → row_entry rows (suffix ++ m ∷ []) ≡ None → with_marks rows entry suffix passed (drop i text) ≡ with_marks rows entry suffix (passed ++ m ∷ []) (drop (i + 1) text)
+  pub at_other : is_starter m ≡ false → is_blocked passed m ≡ false → mapping_entry mappings (suffix ++ m ∷ []) ≡ None → with_marks mappings entry suffix passed (drop i text) ≡ with_marks mappings entry suffix (passed ++ m ∷ []) (drop (i + 1) text)
   unfolding with_marks
   at_other h b r = at_mark ∙ rw (h, b, r)
 
-pub at_end : (rows : List Row) (entry : ℕ) (suffix passed text : List ℕ) (i : ℕ) → length text ≤ i → with_marks rows entry suffix passed (drop i text) ≡ record { entry = entry; suffix = suffix; rest = passed }
+pub at_end : (mappings : List Mapping) (entry : ℕ) (suffix passed text : List ℕ) (i : ℕ) → length text ≤ i → with_marks mappings entry suffix passed (drop i text) ≡ record { entry = entry; suffix = suffix; rest = passed }
 unfolding with_marks
-at_end rows entry suffix passed text i past = ap (with_marks rows entry suffix passed) (drop_of_length-le text past)
+at_end mappings entry suffix passed text i past = ap (with_marks mappings entry suffix passed) (drop_of_length-le text past)
 
 -- ---- a list without the member at an index
 

@@ -1,34 +1,34 @@
--- What a good entry says of what its match comes to.
+-- What a well-formed entry says of what its match comes to.
 use Rattle.std.proofs.Common.{◌≡◌, ℕ, ◌<◌, Bool, true, List, ◌∷◌, length, IsTrue}
 use Rattle.std.specs.List.{AllByRecursion, Contains}
 use Rattle.std.proofs.lemmas.Bool.{ltb-true}
 use Rattle.icu_entries.specs.declared.entry.EntryKind.{EntryKind}
 use Rattle.icu_entries.specs.declared.entry.EntryKind.TheVariants.{Expansion32, Expansion, Prefix, Contraction, Digit, Offset}
 use Rattle.icu_entries.specs.Entries.{kind_of, entry_index}
-use Rattle.icu_data.specs.declared.live_condition.LiveCondition.{LiveCondition}
-use Rattle.icu_data.specs.declared.live_condition.LiveCondition.TheVariants.{Indices}
+use Rattle.icu_data.specs.declared.reachable_condition.ReachableCondition.{ReachableCondition}
+use Rattle.icu_data.specs.declared.reachable_condition.ReachableCondition.TheVariants.{Indices}
 use Rattle.icu_data.specs.Data.{Data, homed}
 use Rattle.icu_data.specs.DataConditions.{is_inside}
-use Rattle.icu_data.specs.Live.{live_digit, live_contraction, live_from}
-use Rattle.icu_data.specs.LiveConditions.{meets}
+use Rattle.icu_data.specs.Reachable.{reachable_digit, reachable_contraction, reachable_from}
+use Rattle.icu_data.specs.ReachableConditions.{meets}
 use Rattle.icu_data.proofs.ListLemmas.{all_members, of_member, weaker, all_of}
-use Rattle.icu_matches.specs.GoodEntries.{IsGoodFrom, IsGoodMatch, MeetAll}
+use Rattle.icu_matches.specs.WellFormedEntries.{IsWellFormedFrom, IsWellFormedMatch, MeetAll}
 use Rattle.icu_matches.specs.Matches.{after_prefix, match_of}
-use Rattle.icu_matches.proofs.LiveLemmas.{after_prefix-live, match_of-live}
+use Rattle.icu_matches.proofs.ReachableLemmas.{after_prefix-reachable, match_of-reachable}
 
 -- the entry meets each condition with the character
 abbrev Meets : Data → ℕ → ℕ → Type 0
-Meets home c f = (condition : LiveCondition) → IsTrue (meets condition home c f)
+Meets home c f = (condition : ReachableCondition) → IsTrue (meets condition home c f)
 
 all_meet : (home : Data) (c : ℕ) (es : List ℕ) → MeetAll home c es → AllByRecursion (Meets home c) es
-all_meet home c es good = weaker (Contains es) (Meets home c) (λ f among condition. good condition f among) es (all_members es)
+all_meet home c es well_formed = weaker (Contains es) (Meets home c) (λ f among condition. well_formed condition f among) es (all_members es)
 
--- what a match comes to is good
-pub good_match : (home : Data) (c e : ℕ) (before text : List ℕ) → IsGoodFrom home c e → IsGoodMatch home c (match_of (homed home e) before text).entry
-good_match home c e before text good = λ condition f among.
+-- what a match comes to is well-formed
+pub well_formed_match : (home : Data) (c e : ℕ) (before text : List ℕ) → IsWellFormedFrom home c e → IsWellFormedMatch home c (match_of (homed home e) before text).entry
+well_formed_match home c e before text well_formed = λ condition f among.
     let m = match_of (homed home e) before text in
-    of_member (Meets home c) (live_digit home m.entry) f
-    (match_of-live (Meets home c) (λ _. Unit {0}) (homed home e) before text (all_meet home c (live_from home e) good) (all_of (λ _. Unit {0}) (λ _. tt) text)).entry among condition
+    of_member (Meets home c) (reachable_digit home m.entry) f
+    (match_of-reachable (Meets home c) (λ _. Unit {0}) (homed home e) before text (all_meet home c (reachable_from home e) well_formed) (all_of (λ _. Unit {0}) (λ _. tt) text)).entry among condition
 
 -- ---- what an entry refers to is there
 
@@ -56,14 +56,14 @@ head_after : (P : ℕ → Type 0) (k : EntryKind) (e : ℕ) (xs zs : List ℕ) �
 head_after P Contraction e xs zs is all = all.0
 head_after P _ e xs zs is all = cc
 
-pub prefix_inside : (home : Data) (c e : ℕ) → IsGoodFrom home c e → kind_of e ≡ Prefix → entry_index e < length home.contexts
-unfolding live_from
-prefix_inside home c e good is =
-    prefix_there home e is (head_from (Meets home c) (kind_of e) e _ _ is (all_meet home c (live_from home e) good) Indices)
+pub prefix_inside : (home : Data) (c e : ℕ) → IsWellFormedFrom home c e → kind_of e ≡ Prefix → entry_index e < length home.contexts
+unfolding reachable_from
+prefix_inside home c e well_formed is =
+    prefix_there home e is (head_from (Meets home c) (kind_of e) e _ _ is (all_meet home c (reachable_from home e) well_formed) Indices)
 
-pub contraction_inside : (home : Data) (c e : ℕ) (before : List ℕ) → IsGoodFrom home c e → kind_of (after_prefix (homed home e) before) ≡ Contraction → entry_index (after_prefix (homed home e) before) < length home.contexts
-unfolding live_contraction
-contraction_inside home c e before good is =
+pub contraction_inside : (home : Data) (c e : ℕ) (before : List ℕ) → IsWellFormedFrom home c e → kind_of (after_prefix (homed home e) before) ≡ Contraction → entry_index (after_prefix (homed home e) before) < length home.contexts
+unfolding reachable_contraction
+contraction_inside home c e before well_formed is =
     let f : ℕ = after_prefix (homed home e) before in
-    let live : AllByRecursion (Meets home c) (live_contraction home f) = after_prefix-live (Meets home c) (homed home e) before (all_meet home c (live_from home e) good) in
-    contraction_there home f is (head_after (Meets home c) (kind_of f) f _ _ is live Indices)
+    let reachable : AllByRecursion (Meets home c) (reachable_contraction home f) = after_prefix-reachable (Meets home c) (homed home e) before (all_meet home c (reachable_from home e) well_formed) in
+    contraction_there home f is (head_after (Meets home c) (kind_of f) f _ _ is reachable Indices)

@@ -1,4 +1,4 @@
-pub mod GoodEntries
+pub mod WellFormedEntries
 pub mod Matches
 pub mod MatchesAhead
 pub mod Texts

@@ -6,7 +6,7 @@ use Rattle.ucd_normal.specs.CanonicalCombiningClass.{canonical_combining_class a
 use Rattle.unicode_normalization.specs.Order.{is_starter}
 use Rattle.icu_entries.specs.declared.entry.EntryKind.TheVariants.{Prefix, Contraction}
 use Rattle.icu_entries.specs.Entries.{kind_of}
-use Rattle.icu_data.specs.Data.{Row, Context, Data, HomedEntry, homed, context_of, row_entry, longest_row}
+use Rattle.icu_data.specs.Data.{Mapping, Context, Data, HomedEntry, homed, context_of, mapping_entry, longest_mapping}
 
 -- the entry that a match comes to, the characters that it consumes after its first, and the text that it leaves
 pub record Match : Type 0 where
@@ -14,12 +14,12 @@ pub record Match : Type 0 where
   pub suffix : List ℕ
   pub rest : List ℕ
 
--- a prefix entry becomes that of the longest row that begins the context, nearest character first, or the default
+-- a prefix entry becomes that of the longest mapping that begins the context, nearest character first, or the default
 -- (UTS #35 part 5, "Context-Sensitive Mappings")
 unfoldable pub after_prefix : HomedEntry → List ℕ → ℕ
 after_prefix h before =
     let context = context_of h in
-    let chosen : ℕ = elim (longest_row context.rows before) [ Some row ↦ row.entry | None ↦ context.default ] in
+    let chosen : ℕ = elim (longest_mapping context.mappings before) [ Some mapping ↦ mapping.entry | None ↦ context.default ] in
     elim (kind_of h.entry) [ Prefix ↦ chosen | _ ↦ h.entry ]
 
 -- a mark is blocked by one that was passed over and whose combining class isn't below its own (UTS #10, "Produce
@@ -27,25 +27,25 @@ after_prefix h before =
 unfoldable pub is_blocked : List ℕ → ℕ → Bool
 is_blocked passed m = list_any (λ p. nat_le (class_of m) (class_of p)) passed
 
--- Each mark up to the next starter in turn joins the suffix, where it isn't blocked and the suffix with it is a row;
+-- Each mark up to the next starter in turn joins the suffix, where it isn't blocked and the suffix with it is a mapping;
 -- else it is passed over (UTS #10, "Produce Collation Element Arrays").
-unfoldable pub with_marks : List Row → ℕ → List ℕ → List ℕ → List ℕ → Match
-with_marks rows entry suffix passed [] = record { entry = entry; suffix = suffix; rest = passed }
-with_marks rows entry suffix passed (m ∷ ms) =
+unfoldable pub with_marks : List Mapping → ℕ → List ℕ → List ℕ → List ℕ → Match
+with_marks mappings entry suffix passed [] = record { entry = entry; suffix = suffix; rest = passed }
+with_marks mappings entry suffix passed (m ∷ ms) =
     let ended : Match = record { entry = entry; suffix = suffix; rest = passed ++ m ∷ ms } in
-    let passed_over = with_marks rows entry suffix (passed ++ m ∷ []) ms in
-    let tried : Match = elim (row_entry rows (suffix ++ m ∷ [])) [
-      | Some joined ↦ with_marks rows joined (suffix ++ m ∷ []) passed ms
+    let passed_over = with_marks mappings entry suffix (passed ++ m ∷ []) ms in
+    let tried : Match = elim (mapping_entry mappings (suffix ++ m ∷ [])) [
+      | Some joined ↦ with_marks mappings joined (suffix ++ m ∷ []) passed ms
       | None ↦ passed_over
     ] in
     if is_starter m then ended else if is_blocked passed m then passed_over else tried
 
--- the longest row that begins the text, or the default, and then the marks that join it
+-- the longest mapping that begins the text, or the default, and then the marks that join it
 unfoldable pub contracted : Context → List ℕ → Match
 contracted context text =
-    elim (longest_row context.rows text) [
-      | Some row ↦ with_marks context.rows row.entry row.chars [] (drop (length row.chars) text)
-      | None ↦ with_marks context.rows context.default [] [] text
+    elim (longest_mapping context.mappings text) [
+      | Some mapping ↦ with_marks context.mappings mapping.entry mapping.chars [] (drop (length mapping.chars) text)
+      | None ↦ with_marks context.mappings context.default [] [] text
     ]
 
 -- the match of an entry before a text, once its prefix is decided

@@ -1,7 +1,7 @@
 -- How far a match looks into a text, where more of it may follow.
 use Rattle.std.specs.Prelude.{◌≡◌, ℕ, Bool, true, false, not, ◌||◌, nat_eq, List, [], ◌∷◌, ◌++◌, Option, Some, None, length}
 use Rattle.std.specs.List.{list_all}
-use Rattle.icu_data.specs.Data.{Row, HomedEntry}
+use Rattle.icu_data.specs.Data.{Mapping, HomedEntry}
 use Rattle.icu_matches.specs.Matches.{Match, match_of}
 
 -- a match that leaves more
@@ -22,11 +22,11 @@ is_decided [] text = true
 is_decided (y ∷ ys) [] = false
 is_decided (y ∷ ys) (c ∷ cs) = not (nat_eq y c) || is_decided ys cs
 
--- what follows the text doesn't decide which of these rows it begins with
-abbrev pub are_decided : List Row → List ℕ → Bool
-are_decided rows text = list_all (λ row. is_decided row.chars text) rows
+-- what follows the text doesn't decide which of these mappings it begins with
+abbrev pub are_decided : List Mapping → List ℕ → Bool
+are_decided mappings text = list_all (λ mapping. is_decided mapping.chars text) mappings
 
--- how many characters a row has
-abbrev pub row_length : Option Row → ℕ
-row_length None = 0
-row_length (Some row) = length row.chars
+-- how many characters a mapping has
+abbrev pub mapping_length : Option Mapping → ℕ
+mapping_length None = 0
+mapping_length (Some mapping) = length mapping.chars

@@ -1,4 +1,4 @@
 -- Words of private contracts and proofs only: no public contract names them.
 pub mod Beginnings
 pub mod Joining
-pub mod Rows
+pub mod Mappings

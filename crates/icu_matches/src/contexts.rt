@@ -1,18 +1,18 @@
 //! Prefixes and contractions.
 
 ghost use Rattle.std.specs.Prelude.{◌≡◌, IsTrue, IfOk};
-ghost use Rattle.icu_data.specs.Contexts.{has_ascending_rows};
+ghost use Rattle.icu_data.specs.Contexts.{has_ascending_mappings};
 ghost use Rattle.icu_data.specs.Data.{homed};
 ghost use Rattle.icu_data.specs.StoredData.{data_of, found_context};
 ghost use Rattle.icu_entries.specs.Entries.{kind_of};
-ghost use Rattle.icu_matches.specs.GoodEntries.{HasContext};
+ghost use Rattle.icu_matches.specs.WellFormedEntries.{HasContext};
 ghost use Rattle.icu_matches.specs.Matches.{after_prefix, contracted};
 ghost use Rattle.icu_matches.specs.Texts.{unread, match_left};
 ghost use Rattle.icu_matches.specs.inner.Joining.{match_on};
 
 use crate::marks::join_marks;
 use crate::matched::Matched;
-use crate::rows::find_longest;
+use crate::mappings::find_longest;
 use crate::text::Text;
 use icu_data::{CollationData, FoundContext};
 use icu_entries::{CollationElement32, EntryKind};
@@ -33,7 +33,7 @@ pub fn after_prefix(
         EntryKind::Prefix => {
             let context = home.get_context(ce32.index());
             match find_longest(context, before) {
-                Some(index) => context.row(index).entry,
+                Some(index) => context.mapping(index).entry,
                 None => context.default(),
             }
         }
@@ -41,24 +41,24 @@ pub fn after_prefix(
     }
 }
 
-/// What a contraction matches of the text directly: the longest row that begins it, or nothing.
+/// What a contraction matches of the text directly: the longest mapping that begins it, or nothing.
 #[tactic(auto, unfolding(crate::specs::Matches::contracted))]
 fn begin_match(
     alloc: Global,
     context: FoundContext<'_>,
     text: &mut Text,
 ) -> Result<Matched, AllocError>
-    requires { IsTrue (has_ascending_rows (found_context context)) }
-    ensures { IfOk result (λ m. match_on (found_context context.entry).rows m 0 (unread text.new)
+    requires { IsTrue (has_ascending_mappings (found_context context)) }
+    ensures { IfOk result (λ m. match_on (found_context context.entry).mappings m 0 (unread text.new)
         ≡ contracted (found_context context.entry) (unread text.old)) }
 {
     match find_longest(context, text.as_slice()) {
         Some(index) => {
-            let row = context.row(index);
-            let suffix = Vec::from_slice(alloc, row.chars)?;
-            text.skip(row.chars.len());
+            let mapping = context.mapping(index);
+            let suffix = Vec::from_slice(alloc, mapping.chars)?;
+            text.skip(mapping.chars.len());
             Ok(Matched {
-                ce32: row.entry,
+                ce32: mapping.entry,
                 suffix,
             })
         }
@@ -69,13 +69,13 @@ fn begin_match(
     }
 }
 
-/// The match of a contraction: its longest row that begins the text, or none, and then the marks that join it.
+/// The match of a contraction: its longest mapping that begins the text, or none, and then the marks that join it.
 pub(crate) fn contract(
     alloc: Global,
     context: FoundContext<'_>,
     text: &mut Text,
 ) -> Result<Matched, AllocError>
-    requires { IsTrue (has_ascending_rows (found_context context)) }
+    requires { IsTrue (has_ascending_mappings (found_context context)) }
     ensures { IfOk result (λ m.
         match_left m text.new ≡ contracted (found_context context.entry) (unread text.old)) }
 {

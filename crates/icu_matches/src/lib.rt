@@ -5,10 +5,10 @@
 pub mod contexts;
 mod marks;
 pub mod matched;
-pub mod rows;
+pub mod mappings;
 pub mod text;
 
 pub use contexts::after_prefix;
 pub use matched::{Matched, find_match};
-pub use rows::{find_longest, row_goes_on};
+pub use mappings::{find_longest, mapping_goes_on};
 pub use text::Text;

@@ -3,7 +3,7 @@
 ghost use Rattle.std.specs.Prelude.{◌≡◌, IfOk};
 ghost use Rattle.icu_data.specs.Data.{homed};
 ghost use Rattle.icu_data.specs.StoredData.{data_of};
-ghost use Rattle.icu_matches.specs.GoodEntries.{HasContext, IsGoodFrom, IsGoodMatch};
+ghost use Rattle.icu_matches.specs.WellFormedEntries.{HasContext, IsWellFormedFrom, IsWellFormedMatch};
 ghost use Rattle.icu_entries.specs.Entries.{kind_of};
 ghost use Rattle.icu_matches.specs.Matches.{match_from, match_of};
 ghost use Rattle.icu_matches.specs.Texts.{unread, match_left};
@@ -47,9 +47,9 @@ fn found(
 /// The match of a character's entry, after the characters that were consumed, nearest first, and before a decomposed
 /// text, from which the characters that the match consumes are taken out.
 ///
-/// A prefix comes first (UTS #35 part 5, "Context-Sensitive Mappings"): its entry becomes that of its longest row that
-/// begins what was consumed, or its default. Then a contraction takes its longest row that begins the text, or none.
-/// Then each mark up to the next starter joins, if it isn't blocked and makes a row of what was taken (UTS #10,
+/// A prefix comes first (UTS #35 part 5, "Context-Sensitive Mappings"): its entry becomes that of its longest mapping that
+/// begins what was consumed, or its default. Then a contraction takes its longest mapping that begins the text, or none.
+/// Then each mark up to the next starter joins, if it isn't blocked and makes a mapping of what was taken (UTS #10,
 /// "Produce Collation Element Arrays"). Hint bits of the entry decide nothing. If an allocation fails, nothing is said of the text.
 pub fn find_match(
     alloc: Global,
@@ -59,10 +59,10 @@ pub fn find_match(
     before: &[char],
     text: &mut Text,
 ) -> Result<Matched, AllocError>
-    requires { IsGoodFrom (data_of home) c ce32 }
+    requires { IsWellFormedFrom (data_of home) c ce32 }
     ensures value { IfOk result (λ m. match_left m text.new
         ≡ match_of (homed (data_of home.entry) ce32) before.now (unread text.old)) }
-    ensures good { IfOk result (λ m. IsGoodMatch (data_of home.entry) c m.ce32) }
+    ensures well_formed { IfOk result (λ m. IsWellFormedMatch (data_of home.entry) c m.ce32) }
 {
     found(alloc, home, after_prefix(home, ce32, before), text)
 }

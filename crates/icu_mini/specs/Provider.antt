@@ -16,11 +16,11 @@ use Rattle.icu_mini.specs.Mini.{special_held}
 use Rattle.icu_mini.specs.ReorderingData.{reordering_held, HasAllLeads}
 use Rattle.icu_owned_data.specs.OwnedData.{vectors_data, MayBeData, FailsVectors}
 
--- the refusal names the table, and a kind of which this holds
+-- the error names the table, and a kind of which this holds
 abbrev pub Names : DataTable → (DataErrorKind → Type 0) → DataError → Type 0
 Names table Fails e = (e.table ≡ table) × Fails e.kind
 
--- A table is returned exactly if it is accepted, and says then what it is to say. A refusal names it, and a condition
+-- A table is returned exactly if it is accepted, and says then what it is to say. An error names it, and a condition
 -- that it fails.
 pub record IsLoaded {T A : Type 0} (says : T → A) (held : A) (Accepted : Type 0) (Refused : DataError → Type 0) (r : Result T DataError) : Type 0 where
   pub accepts : IsOk r ↔ Accepted

@@ -1,6 +1,6 @@
 -- The variants of the test table Mini, each with one thing that Mini lacks.
 use Rattle.std.specs.Prelude.{ℕ, true, List, [], ◌∷◌, Some, replicate, slice_set}
-use Rattle.icu_data.specs.Data.{Row, Context, Data}
+use Rattle.icu_data.specs.Data.{Mapping, Context, Data}
 use Rattle.icu_entries.specs.Elements.{common, of_primary}
 use Rattle.icu_entries.specs.EncodedEntries.{of_weights, simple_entry, common_entry, long_secondary_entry, entry_list, element_list}
 use Rattle.icu_entries.specs.EncodedEntries.{prefix_entry, contraction_entry, offset_entry, offset_of}
@@ -8,13 +8,13 @@ use Rattle.icu_provider.specs.MetadataFields.{metadata_bits}
 use Rattle.icu_mini.specs.Mini.{Contents, mini, mini_fields, mini_root, mini_tailoring, mini_with, special_with}
 use Rattle.icu_mini.specs.Characters.{run}
 
--- a row of a context
-abbrev pub row : List ℕ → ℕ → Row
-row chars entry = record { chars = chars; entry = entry }
+-- a mapping of a context
+abbrev pub mapping : List ℕ → ℕ → Mapping
+mapping chars entry = record { chars = chars; entry = entry }
 
 -- a context
-abbrev pub context : ℕ → List Row → Context
-context default rows = record { default = default; rows = rows }
+abbrev pub context : ℕ → List Mapping → Context
+context default mappings = record { default = default; mappings = mappings }
 
 -- Mini with a tailoring
 abbrev pub tailored : Data → Contents
@@ -38,24 +38,24 @@ mini_lithuanian = record mini { metadata = metadata_bits (record mini_fields { l
 
 -- "a" with U+030A, a contraction, comes after "z"
 abbrev pub mini_a_ring : Contents
-mini_a_ring = in_context 0x61 (contraction_entry 0) (context (common_entry 0x6110) (row (0x30A ∷ []) (common_entry 0x6210) ∷ []))
+mini_a_ring = in_context 0x61 (contraction_entry 0) (context (common_entry 0x6110) (mapping (0x30A ∷ []) (common_entry 0x6210) ∷ []))
 
 -- "ll" is a contraction
 abbrev pub mini_double_l : Contents
-mini_double_l = in_context 0x6C (contraction_entry 0) (context (common_entry 0x613C) (row (0x6C ∷ []) (common_entry 0x613E) ∷ []))
+mini_double_l = in_context 0x6C (contraction_entry 0) (context (common_entry 0x613C) (mapping (0x6C ∷ []) (common_entry 0x613E) ∷ []))
 
 -- "b" after "a", which is its prefix, has a weight of its own
 abbrev pub mini_b_after_a : Contents
-mini_b_after_a = in_context 0x62 (prefix_entry 0) (context (common_entry 0x6114) (row (0x61 ∷ []) (common_entry 0x6112) ∷ []))
+mini_b_after_a = in_context 0x62 (prefix_entry 0) (context (common_entry 0x6114) (mapping (0x61 ∷ []) (common_entry 0x6112) ∷ []))
 
 -- "a" has two contractions, with U+030A, and with U+0323 and U+030A
-abbrev pub mini_two_rows : Contents
-mini_two_rows = in_context 0x61 (contraction_entry 0) (context (common_entry 0x6110) (
-    row (0x30A ∷ []) (common_entry 0x6210) ∷ row (0x323 ∷ 0x30A ∷ []) (common_entry 0x6230) ∷ []))
+abbrev pub mini_two_mappings : Contents
+mini_two_mappings = in_context 0x61 (contraction_entry 0) (context (common_entry 0x6110) (
+    mapping (0x30A ∷ []) (common_entry 0x6210) ∷ mapping (0x323 ∷ 0x30A ∷ []) (common_entry 0x6230) ∷ []))
 
 -- "c" after "ab", a prefix of two characters, the nearest first, has a weight of its own
 abbrev pub mini_c_after_ab : Contents
-mini_c_after_ab = in_context 0x63 (prefix_entry 0) (context (common_entry 0x6118) (row (0x62 ∷ 0x61 ∷ []) (common_entry 0x611E) ∷ []))
+mini_c_after_ab = in_context 0x63 (prefix_entry 0) (context (common_entry 0x6118) (mapping (0x62 ∷ 0x61 ∷ []) (common_entry 0x611E) ∷ []))
 
 -- U+03B1 and U+03B2 have weights by offset
 abbrev pub mini_offset : Contents

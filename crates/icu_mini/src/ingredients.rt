@@ -59,15 +59,15 @@ pub(crate) fn in_context(
     c: char,
     entry: CollationElement32,
     default: CollationElement32,
-    rows: &[(&[char], CollationElement32)],
+    mappings: &[(&[char], CollationElement32)],
 ) -> Result<DataVectors, AllocError>
     ensures { IfOk result (λ v. SaysOfCharacters
-        (mini_tailoring ((c, entry) ∷ []) [] (given_context default rows.now ∷ []))
+        (mini_tailoring ((c, entry) ∷ []) [] (given_context default mappings.now ∷ []))
         (vectors_data v)) }
 {
     let mut builder = DataBuilder::new(alloc, CollationElement32::fallback())?;
     set_characters(&mut builder, &[(c, entry)]);
-    builder.add_context(default, rows)?;
+    builder.add_context(default, mappings)?;
     builder.build()
 }
 

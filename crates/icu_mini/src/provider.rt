@@ -14,8 +14,8 @@ use icu_provider::{
     CollationDiacritics, CollationJamo, CollationReordering, CollationSpecialPrimaries, FixedLoads,
 };
 
-/// The refusal of a table.
-fn refusal(table: DataTable, kind: DataErrorKind) -> DataError
+/// The error of a table.
+fn error(table: DataTable, kind: DataErrorKind) -> DataError
     ensures { result ≡ record { table = table; kind = kind } }
 {
     DataError { table, kind }
@@ -50,7 +50,7 @@ impl Mini {
     {
         match self.load_root() {
             Ok(root) => Ok(root),
-            Err(kind) => Err(refusal(DataTable::Root, kind)),
+            Err(kind) => Err(error(DataTable::Root, kind)),
         }
     }
 
@@ -62,7 +62,7 @@ impl Mini {
     {
         match self.load_jamo() {
             Ok(jamo) => Ok(jamo),
-            Err(kind) => Err(refusal(DataTable::Jamo, kind)),
+            Err(kind) => Err(error(DataTable::Jamo, kind)),
         }
     }
 
@@ -75,7 +75,7 @@ impl Mini {
     {
         match self.load_special_primaries() {
             Ok(special) => Ok(special),
-            Err(kind) => Err(refusal(DataTable::SpecialPrimaries, kind)),
+            Err(kind) => Err(error(DataTable::SpecialPrimaries, kind)),
         }
     }
 
@@ -84,11 +84,11 @@ impl Mini {
             MayBeData FailsVectors self.now.tailoring result }
     {
         let Some(tailoring) = &self.tailoring else {
-            return Err(refusal(DataTable::Tailoring, DataErrorKind::Absent));
+            return Err(error(DataTable::Tailoring, DataErrorKind::Absent));
         };
         match tailoring.as_data() {
             Ok(tailoring) => Ok(tailoring),
-            Err(kind) => Err(refusal(DataTable::Tailoring, kind)),
+            Err(kind) => Err(error(DataTable::Tailoring, kind)),
         }
     }
 
@@ -97,11 +97,11 @@ impl Mini {
             HasAllLeads (λ r k. k ≡ DataErrorKind.Length) self.now.reordering result }
     {
         let Some(reordering) = &self.reordering else {
-            return Err(refusal(DataTable::Reordering, DataErrorKind::Absent));
+            return Err(error(DataTable::Reordering, DataErrorKind::Absent));
         };
         match reordering.load() {
             Ok(reordering) => Ok(reordering),
-            Err(kind) => Err(refusal(DataTable::Reordering, kind)),
+            Err(kind) => Err(error(DataTable::Reordering, kind)),
         }
     }
 
@@ -113,7 +113,7 @@ impl Mini {
     {
         match self.load_diacritics() {
             Ok(diacritics) => Ok(diacritics),
-            Err(kind) => Err(refusal(DataTable::Diacritics, kind)),
+            Err(kind) => Err(error(DataTable::Diacritics, kind)),
         }
     }
 }

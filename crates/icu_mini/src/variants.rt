@@ -41,13 +41,13 @@ impl Mini {
         c: char,
         entry: CollationElement32,
         default: CollationElement32,
-        rows: &[(&[char], CollationElement32)],
+        mappings: &[(&[char], CollationElement32)],
     ) -> Result<Mini, AllocError>
         ensures { IfOk result (Holds
-            (variants.in_context c entry (given_context default rows.now))) }
+            (variants.in_context c entry (given_context default mappings.now))) }
     {
         let mut mini = Mini::new(alloc)?;
-        mini.tailoring = Some(in_context(alloc, c, entry, default, rows)?);
+        mini.tailoring = Some(in_context(alloc, c, entry, default, mappings)?);
         mini.metadata = tailored();
         Ok(mini)
     }
@@ -126,8 +126,8 @@ impl Mini {
     }
 
     /// Mini where "a" has two contractions, with the ring above, and with the dot below and the ring above.
-    pub fn with_two_rows(alloc: Global) -> Result<Mini, AllocError>
-        ensures { IfOk result (Holds variants.mini_two_rows) }
+    pub fn with_two_mappings(alloc: Global) -> Result<Mini, AllocError>
+        ensures { IfOk result (Holds variants.mini_two_mappings) }
     {
         Mini::in_context(
             alloc,

@@ -14,17 +14,17 @@ use Rattle.icu_entries.specs.Elements.{Element, of_primary, case_mask, tertiary_
 use Rattle.icu_entries.specs.ElementConditions.{separator_primary, tertiary_of, has_shape, has_whole_weights, has_weights_below, has_lower_half, has_primary_lead}
 use Rattle.icu_provider.specs.CollatorTables.{CollatorTables}
 use Rattle.icu_checks.specs.declared.condition.Condition.TheVariants as conditions
-use Rattle.icu_checks.specs.declared.condition.LiveElementCondition.TheVariants.{Width}
-use Rattle.icu_checks.specs.GoodTables.{IsGoodTables}
-use Rattle.icu_elements.specs.LiveTexts.{IsLiveElement}
+use Rattle.icu_checks.specs.declared.condition.ReachableElementCondition.TheVariants.{Width}
+use Rattle.icu_checks.specs.WellFormedTables.{IsWellFormedTables}
+use Rattle.icu_elements.specs.ReachableTexts.{IsReachableElement}
 use Rattle.icu_weighting.specs.Handled.{is_variable}
 use Rattle.icu_weighting.specs.Levels.{secondary_of, case_rank, cased_mask, masked_tertiary, tertiary_in, quaternary_weight}
-use Rattle.icu_order.specs.LiveWeights.{IsLivePrimary, IsLiveSecondary, IsLiveTertiary}
-use Rattle.icu_order.proofs.LiveElementLemmas.{live-shape, live-primary_lead, other_part}
+use Rattle.icu_order.specs.ReachableWeights.{IsReachablePrimary, IsReachableSecondary, IsReachableTertiary}
+use Rattle.icu_order.proofs.ReachableElementLemmas.{reachable-shape, reachable-primary_lead, other_part}
 use Rattle.icu_order.proofs.TertiaryWeights.{case_bits, cased_low}
 use Rattle.icu_order.proofs.CountLemmas.{ReadAlike, PartsWithSecondary}
 use Rattle.icu_order.proofs.NumberLists.{not_variable}
-use Rattle.icu_order.proofs.TextSources.{IsSource, live_primary}
+use Rattle.icu_order.proofs.TextSources.{IsSource, reachable_primary}
 
 -- ---- lower halves
 
@@ -63,44 +63,44 @@ separator_from x h e = λ z. grind (arith, nat_tests)
 pub bits_unshifted : (x : Element) → IsUnshifted (quaternary_weight x)
 bits_unshifted x = (omega arith, omega (arith, and_le_r x.lower quaternary_mask))
 
-module _ (all : CollatorTables) (good : IsGoodTables all) where
-  -- what the lower half of a live element or of a number is
+module _ (all : CollatorTables) (well_formed : IsWellFormedTables all) where
+  -- what the lower half of a reachable element or of a number is
   record HasHalf (x : Element) : Type 0 where
     pub small : x.lower < 2 ^ 16
     pub empty : (not (bit_and x.lower tertiary_mask == 0) || x.lower == 0) ≡ true
     pub case : not (bit_and x.lower case_mask == case_mask) ≡ true
 
-  live_half : (x : Element) → IsLiveElement all.tables x → HasHalf x
+  reachable_half : (x : Element) → IsReachableElement all.tables x → HasHalf x
   unfolding has_shape
-  live_half x live =
+  reachable_half x reachable =
       let widths = and_parts (nat_lt x.primary (2 ^ 32) && nat_lt x.secondary (2 ^ 16)) (nat_lt x.lower (2 ^ 16))
-      (good.each (conditions.Element Width) live.table x live.live) in
-      let shape = and_parts (has_whole_weights x && has_weights_below x) (has_lower_half x) (live-shape all good live.table x live.live) in
+      (well_formed.each (conditions.Element Width) reachable.table x reachable.reachable) in
+      let shape = and_parts (has_whole_weights x && has_weights_below x) (has_lower_half x) (reachable-shape all well_formed reachable.table x reachable.reachable) in
       let half = and_parts (not (tertiary_of x == 0) || x.lower == 0) (not (bit_and x.lower case_mask == case_mask)) shape.1 in
       record { small = grind (arith, nat_tests); empty = half.0; case = half.1 }
 
   half : (x : Element) → IsSource all x → HasHalf x
-  half x (inl live) = live_half x live
+  half x (inl reachable) = reachable_half x reachable
   half x (inr (w, l, is)) = subst HasHalf (sym is) (record { small = lit< tt; empty = refl; case = refl })
 
   -- ---- what each level has for an element
 
-  -- a variable element is live
-  pub variable_live : (last : ℕ) → last < all.special.numeric * 256 ^ 3 → (x : Element) → IsSource all x → is_variable last x ≡ true → IsLivePrimary all x.primary
-  variable_live last low x (inl live) v = live_primary all x live (λ z. grind (arith, nat_tests))
-  variable_live last low x (inr (w, l, is)) v =
+  -- a variable element is reachable
+  pub variable_reachable : (last : ℕ) → last < all.special.numeric * 256 ^ 3 → (x : Element) → IsSource all x → is_variable last x ≡ true → IsReachablePrimary all x.primary
+  variable_reachable last low x (inl reachable) v = reachable_primary all x reachable (λ z. grind (arith, nat_tests))
+  variable_reachable last low x (inr (w, l, is)) v =
       absurd (wrong (sym (not_variable all.special.numeric last w low l) ∙ ap (is_variable last) (sym is) ∙ v))
     where
       wrong : false ≡ true → ⊥
       wrong e = cc
 
-  pub secondary_live : (x : Element) → IsSource all x → secondary_of x ≢ 0 → IsLiveSecondary all (secondary_of x)
-  secondary_live x (inl live) some = inr (record { table = live.table; element = x; live = live.live; some = some; is = refl })
-  secondary_live x (inr (w, l, is)) some = inl (ap secondary_of is)
+  pub secondary_reachable : (x : Element) → IsSource all x → secondary_of x ≢ 0 → IsReachableSecondary all (secondary_of x)
+  secondary_reachable x (inl reachable) some = inr (record { table = reachable.table; element = x; reachable = reachable.reachable; some = some; is = refl })
+  secondary_reachable x (inr (w, l, is)) some = inl (ap secondary_of is)
 
-  pub tertiary_live : (form : TertiaryForm) (x : Element) → IsSource all x → masked_tertiary form x ≢ 0 → IsLiveTertiary all form (tertiary_in form x)
-  tertiary_live form x (inl live) some = inr (record { table = live.table; element = x; live = live.live; some = some; is = refl })
-  tertiary_live form x (inr (w, l, is)) some = inl (ap (tertiary_in form) is ∙ number_tertiary form w)
+  pub tertiary_reachable : (form : TertiaryForm) (x : Element) → IsSource all x → masked_tertiary form x ≢ 0 → IsReachableTertiary all form (tertiary_in form x)
+  tertiary_reachable form x (inl reachable) some = inr (record { table = reachable.table; element = x; reachable = reachable.reachable; some = some; is = refl })
+  tertiary_reachable form x (inr (w, l, is)) some = inl (ap (tertiary_in form) is ∙ number_tertiary form w)
 
   pub has_rank : (form : CaseForm) (x : Element) → IsSource all x → IsRank (case_rank form x)
   has_rank cases.LowerFirst x s = let h = half x s in rank_below x.lower h.small h.case
@@ -116,5 +116,5 @@ module _ (all : CollatorTables) (good : IsGoodTables all) where
 
   -- a merge separator has a secondary
   pub parts_with : (x : Element) → IsSource all x → PartsWithSecondary x
-  parts_with x (inl live) e = separator_from x (live-primary_lead all good live.table x live.live) e
+  parts_with x (inl reachable) e = separator_from x (reachable-primary_lead all well_formed reachable.table x reachable.reachable) e
   parts_with x (inr (w, l, is)) e = λ z. omega (arith, ap secondary_of is, z)

@@ -1,4 +1,4 @@
-pub mod LiveElementLemmas
+pub mod ReachableElementLemmas
 pub mod SecondaryWeights
 pub mod TertiaryWeights
 pub mod PrimaryWeights

@@ -7,18 +7,18 @@ use Rattle.icu_levels.specs.Primaries.{lead}
 use Rattle.icu_levels.specs.Premises.{MayStand, IsPrimaryList, goes_on}
 use Rattle.icu_levels.specs.Numbers.{run_weights}
 use Rattle.icu_levels.proofs.DigitRuns.{run_stands}
-use Rattle.icu_levels.proofs.ReorderedNumbers.{live_stands}
+use Rattle.icu_levels.proofs.ReorderedNumbers.{reachable_stands}
 use Rattle.icu_entries.specs.Elements.{Element, of_primary}
-use Rattle.icu_checks.specs.GoodTables.{IsGoodTables}
+use Rattle.icu_checks.specs.WellFormedTables.{IsWellFormedTables}
 use Rattle.icu_elements.specs.TextParts.{AreDigits}
 use Rattle.icu_weighting.specs.Collations.{Collation}
 use Rattle.icu_weighting.specs.Handled.{HandledElement, is_variable, handled, stayed_elements}
 use Rattle.icu_weighting.specs.Levels.{weights, primaries}
 use Rattle.icu_weighting.specs.Forms.{compression_of, last_variable_by}
 use Rattle.icu_order.specs.TextOrder.{handled_elements}
-use Rattle.icu_order.specs.LiveWeights.{IsLivePrimary}
+use Rattle.icu_order.specs.ReachableWeights.{IsReachablePrimary}
 use Rattle.icu_order.proofs.HandledLemmas.{by_test, none_stayed}
-use Rattle.icu_order.proofs.PrimaryWeights.{live_primaries}
+use Rattle.icu_order.proofs.PrimaryWeights.{reachable_primaries}
 use Rattle.icu_order.proofs.SpecialBounds.{numeric_high, numeric_low, under}
 
 -- ---- weights of numbers
@@ -46,14 +46,14 @@ not_variable numeric last w under e =
     let high : last < w = omega (arith, under, e) in
     grind (arith, nat_tests)
 
-module _ (collation : Collation) (good : IsGoodTables collation.tables) where
+module _ (collation : Collation) (well_formed : IsWellFormedTables collation.tables) where
   open collation use {tables as all, settings}
 
   abbrev primaries_after : Bool → List Element → List ℕ
   primaries_after after es = primaries (stayed_elements (handled_elements collation after es))
 
   abbrev MayFollow : List ℕ → Type 0
-  MayFollow = IsPrimaryList all.special.numeric (IsLivePrimary all) false
+  MayFollow = IsPrimaryList all.special.numeric (IsReachablePrimary all) false
 
   -- the primaries of elements may stand, whether a variable element came last before them or not
   abbrev pub Stands : List Element → Type 0
@@ -63,23 +63,23 @@ module _ (collation : Collation) (good : IsGoodTables collation.tables) where
   unfolding handled weights
   nothing_stands after = tt
 
-  -- ---- live elements
+  -- ---- reachable elements
 
-  live_stand : (x : Element) → (x.primary ≢ 0 → IsLivePrimary all x.primary) → (es : List Element) → Stands es → Stands (x ∷ es)
+  reachable_stand : (x : Element) → (x.primary ≢ 0 → IsReachablePrimary all x.primary) → (es : List Element) → Stands es → Stands (x ∷ es)
   unfolding handled weights
-  live_stand x live es h after =
+  reachable_stand x reachable es h after =
       let C : List HandledElement → Type 0 = λ hs. MayFollow (primaries (stayed_elements hs)) in
       by_test C (is_variable (last_variable_by collation) x) _ _
       (λ _. subst (λ xs. MayFollow (primaries xs)) (sym (none_stayed settings.alternate_handling x.primary (handled_elements collation true es))) (h true))
       (λ _. by_test C (after && x.primary == 0) _ _ (λ _. h true)
       (λ _. by_test MayFollow (x.primary == 0) _ _ (λ _. h false)
-      (λ n. live_stands (compression_of all) all.special.numeric (IsLivePrimary all) (live_primaries all good) x.primary _
-      (live (eqb-false x.primary 0 n)) (h false))))
+      (λ n. reachable_stands (compression_of all) all.special.numeric (IsReachablePrimary all) (reachable_primaries all well_formed) x.primary _
+      (reachable (eqb-false x.primary 0 n)) (h false))))
 
-  pub all_stand : (xs : List Element) → AllByRecursion (λ x. x.primary ≢ 0 → IsLivePrimary all x.primary) xs → (es : List Element) → Stands es
+  pub all_stand : (xs : List Element) → AllByRecursion (λ x. x.primary ≢ 0 → IsReachablePrimary all x.primary) xs → (es : List Element) → Stands es
       → Stands (xs ++ es)
-  all_stand [] live es h = h
-  all_stand (x ∷ xs) live es h = live_stand x live.0 (xs ++ es) (all_stand xs live.1 es h)
+  all_stand [] reachable es h = h
+  all_stand (x ∷ xs) reachable es h = reachable_stand x reachable.0 (xs ++ es) (all_stand xs reachable.1 es h)
 
   -- ---- numbers
 
@@ -90,11 +90,11 @@ module _ (collation : Collation) (good : IsGoodTables collation.tables) where
       → primaries_after after (of_primary w ∷ es) ≡ w ∷ primaries_after false es
   unfolding handled weights
   number_head w e es true =
-      let some : (w == 0) ≡ false = ne_eqb w 0 (some_from_lead all.special.numeric w (numeric_high all good) e) in
-      rw (not_variable all.special.numeric (last_variable_by collation) w (under collation good) e) (rw some (rw some refl))
+      let some : (w == 0) ≡ false = ne_eqb w 0 (some_from_lead all.special.numeric w (numeric_high all well_formed) e) in
+      rw (not_variable all.special.numeric (last_variable_by collation) w (under collation well_formed) e) (rw some (rw some refl))
   number_head w e es false =
-      let some : (w == 0) ≡ false = ne_eqb w 0 (some_from_lead all.special.numeric w (numeric_high all good) e) in
-      rw (not_variable all.special.numeric (last_variable_by collation) w (under collation good) e) (rw some refl)
+      let some : (w == 0) ≡ false = ne_eqb w 0 (some_from_lead all.special.numeric w (numeric_high all well_formed) e) in
+      rw (not_variable all.special.numeric (last_variable_by collation) w (under collation well_formed) e) (rw some refl)
 
   pub number_all : (ws : List ℕ) → AreNumeric ws → (es : List Element)
       → primaries_after false (map of_primary ws ++ es) ≡ ws ++ primaries_after false es
@@ -110,5 +110,5 @@ module _ (collation : Collation) (good : IsGoodTables collation.tables) where
   pub run_stand : (ds : List ℕ) → AreDigits ds → (es : List Element) → Stands es → Stands (map of_primary (run_weights all.special.numeric ds) ++ es)
   run_stand ds digits es h =
       let numeric = all.special.numeric in
-      number_stands (run_weights numeric ds) (run_leads numeric (numeric_low all good) ds digits) es h
-      (run_stands numeric (numeric_low all good) (IsLivePrimary all) (primaries_after false es) (h false) ds digits)
+      number_stands (run_weights numeric ds) (run_leads numeric (numeric_low all well_formed) ds digits) es h
+      (run_stands numeric (numeric_low all well_formed) (IsReachablePrimary all) (primaries_after false es) (h false) ds digits)

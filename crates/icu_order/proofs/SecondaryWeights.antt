@@ -1,4 +1,4 @@
--- The secondaries that good tables give are as their level asks.
+-- The secondaries that well-formed tables give are as their level asks.
 use Rattle.std.proofs.Common.{◌≡◌, ◌≢◌, ◌⊎◌, ℕ, ◌/◌, ◌^◌, ◌<◌, ◌≤◌, Bool, true, false, not, ◌&&◌, ◌||◌, ◌==◌, if◌then◌else◌, nat_lt, sym, ◌∙◌, subst, arith, inl, inr, lit<}
 use Rattle.std.proofs.lemmas.Bool.{cases_eq, cases_Bool, and_parts}
 use Rattle.std.proofs.lemmas.Bool.Decides.{nat_tests}
@@ -7,13 +7,13 @@ use Rattle.icu_levels.specs.Premises.{AreSecondaries, IsPrefixFree}
 use Rattle.icu_levels.proofs.MovedWeights.{begins_lead}
 use Rattle.icu_entries.specs.ElementConditions.{has_secondary_lead, has_tertiary_lead, tertiary_of}
 use Rattle.icu_checks.specs.declared.condition.Condition.TheVariants as conditions
-use Rattle.icu_checks.specs.declared.condition.LiveElementCondition.TheVariants.{Width, BackwardLead}
+use Rattle.icu_checks.specs.declared.condition.ReachableElementCondition.TheVariants.{Width, BackwardLead}
 use Rattle.icu_checks.specs.declared.condition.PairCondition.TheVariants.{Secondaries}
 use Rattle.icu_provider.specs.CollatorTables.{CollatorTables, is_forward}
-use Rattle.icu_checks.specs.GoodTables.{IsGoodTables}
+use Rattle.icu_checks.specs.WellFormedTables.{IsWellFormedTables}
 use Rattle.icu_weighting.specs.Levels.{secondary_of}
-use Rattle.icu_order.specs.LiveWeights.{IsLevelWeight, IsLiveSecondary, least_secondary_lead}
-use Rattle.icu_order.proofs.LiveElementLemmas.{live-leads}
+use Rattle.icu_order.specs.ReachableWeights.{IsLevelWeight, IsReachableSecondary, least_secondary_lead}
+use Rattle.icu_order.proofs.ReachableElementLemmas.{reachable-leads}
 
 -- the leads of secondaries, from the least one on
 abbrev HasLead : ℕ → ℕ → Type 0
@@ -37,38 +37,38 @@ from_least false s h (inl is) = inl is
 from_least false s h (inr (inl low)) = inr (inl (grind (arith, nat_tests), low.1))
 from_least false s h (inr (inr high)) = inr (inr high)
 
-module _ (all : CollatorTables) (good : IsGoodTables all) where
-  -- of live elements
+module _ (all : CollatorTables) (well_formed : IsWellFormedTables all) where
+  -- of reachable elements
   abbrev OfElement : ℕ → Type 0
   OfElement = IsLevelWeight secondary_of secondary_of all
 
   element_lead : (s : ℕ) → OfElement s → HasLead (least_secondary_lead all) s
   element_lead s w =
       let x = w.element in
-      let leads = and_parts (has_secondary_lead true x.secondary) (has_tertiary_lead (tertiary_of x)) (live-leads all good w.table x w.live) in
+      let leads = and_parts (has_secondary_lead true x.secondary) (has_tertiary_lead (tertiary_of x)) (reachable-leads all well_formed w.table x w.reachable) in
       subst (HasLead (least_secondary_lead all)) (sym w.is)
-      (from_least (is_forward all) x.secondary (good.each (conditions.Element BackwardLead) w.table x w.live)
+      (from_least (is_forward all) x.secondary (well_formed.each (conditions.Element BackwardLead) w.table x w.reachable)
       (from_test x.secondary leads.0 w.some))
 
   element_fits : (s : ℕ) → OfElement s → s < 2 ^ 16
   element_fits s w =
       let x = w.element in
       let widths = and_parts (nat_lt x.primary (2 ^ 32) && nat_lt x.secondary (2 ^ 16)) (nat_lt x.lower (2 ^ 16))
-      (good.each (conditions.Element Width) w.table x w.live) in
+      (well_formed.each (conditions.Element Width) w.table x w.reachable) in
       let fits = and_parts (nat_lt x.primary (2 ^ 32)) (nat_lt x.secondary (2 ^ 16)) widths.0 in
       subst (λ s. s < 2 ^ 16) (sym w.is) (grind (arith, nat_tests))
 
   elements_free : IsPrefixFree (weight_bytes 2) OfElement
   elements_free v w p q n b =
-      good.each (conditions.Pair Secondaries) p.table q.table p.element p.live q.element q.live p.some q.some
+      well_formed.each (conditions.Pair Secondaries) p.table q.table p.element p.reachable q.element q.reachable p.some q.some
       (λ e. n (p.is ∙ e ∙ sym q.is)) (rw (p.is, q.is) at b)
 
   -- and with the common one
-  lead : (s : ℕ) → IsLiveSecondary all s → HasLead (least_secondary_lead all) s
+  lead : (s : ℕ) → IsReachableSecondary all s → HasLead (least_secondary_lead all) s
   lead s (inl is) = inl is
   lead s (inr w) = element_lead s w
 
-  fits : (s : ℕ) → IsLiveSecondary all s → s < 2 ^ 16
+  fits : (s : ℕ) → IsReachableSecondary all s → s < 2 ^ 16
   fits s (inl is) = omega arith
   fits s (inr w) = element_fits s w
 
@@ -87,7 +87,7 @@ module _ (all : CollatorTables) (good : IsGoodTables all) where
   least_some true = lit< tt
   least_some false = lit< tt
 
-  free : IsPrefixFree (weight_bytes 2) (IsLiveSecondary all)
+  free : IsPrefixFree (weight_bytes 2) (IsReachableSecondary all)
   free v w p q n b = by p q
     where
       one_lead : v / 256 ≡ w / 256
@@ -95,10 +95,10 @@ module _ (all : CollatorTables) (good : IsGoodTables all) where
           begins_lead v w (some_lead (least_secondary_lead all) v (least_some (is_forward all)) (lead v p))
           (some_lead (least_secondary_lead all) w (least_some (is_forward all)) (lead w q)) b
 
-      by : IsLiveSecondary all v → IsLiveSecondary all w → ⊥
+      by : IsReachableSecondary all v → IsReachableSecondary all w → ⊥
       by (inl is) k = n (common_alone (least_secondary_lead all) v w is (lead w q) one_lead)
       by (inr h) (inl is) = n (sym (common_alone (least_secondary_lead all) w v is (lead v p) (sym one_lead)))
       by (inr h) (inr k) = elements_free v w h k n b
 
-  pub live_secondaries : AreSecondaries (least_secondary_lead all) (IsLiveSecondary all)
-  live_secondaries = record { fits = fits; leads = lead; prefix_free = free }
+  pub reachable_secondaries : AreSecondaries (least_secondary_lead all) (IsReachableSecondary all)
+  reachable_secondaries = record { fits = fits; leads = lead; prefix_free = free }

@@ -9,7 +9,7 @@ use Rattle.icu_options.specs.declared.settings.MaxVariable.{MaxVariable}
 use Rattle.icu_options.specs.declared.settings.MaxVariable.TheVariants.{Space, Punctuation, Symbol, Currency}
 use Rattle.icu_provider.specs.SpecialPrimaries.{IsSpecialPrimaries, ends_below, group_index, last_primary}
 use Rattle.icu_provider.specs.CollatorTables.{CollatorTables}
-use Rattle.icu_checks.specs.GoodTables.{IsGoodTables}
+use Rattle.icu_checks.specs.WellFormedTables.{IsWellFormedTables}
 use Rattle.icu_weighting.specs.Collations.{Collation}
 use Rattle.icu_weighting.specs.Forms.{last_variable, last_variable_by}
 
@@ -31,18 +31,18 @@ end_under n p h =
     let low : p ≤ 256 * n = grind (arith, nat_tests) in
     omega (arith, some, low)
 
-module _ (all : CollatorTables) (good : IsGoodTables all) where
+module _ (all : CollatorTables) (well_formed : IsWellFormedTables all) where
   pub numeric_high : 3 ≤ all.special.numeric
-  numeric_high = (numeric_bounds all.special.last all.special.numeric good.tables.special).0
+  numeric_high = (numeric_bounds all.special.last all.special.numeric well_formed.tables.special).0
 
   pub numeric_low : all.special.numeric < 256
-  numeric_low = (numeric_bounds all.special.last all.special.numeric good.tables.special).1
+  numeric_low = (numeric_bounds all.special.last all.special.numeric well_formed.tables.special).1
 
   group_under : (group : MaxVariable) → last_primary all.special group < all.special.numeric * 256 ^ 3
   group_under group =
       let last = all.special.last in
-      let inside : group_index group < length (take 4 last) = omega (arith, length-take-le 4 last good.tables.special.count, group_small group) in
-      let at = good.tables.special.group_ends.ends (group_index group) 0 inside in
+      let inside : group_index group < length (take 4 last) = omega (arith, length-take-le 4 last well_formed.tables.special.count, group_small group) in
+      let at = well_formed.tables.special.group_ends.ends (group_index group) 0 inside in
       end_under all.special.numeric (slice_index last (group_index group))
       (subst (λ p. IsTrue (ends_below all.special.numeric p)) (get_or-take 4 last (group_index group) 0 (group_small group)) at)
 
@@ -52,6 +52,6 @@ module _ (all : CollatorTables) (good : IsGoodTables all) where
   last_under Shifted group = group_under group
   last_under Blanked group = group_under group
 
-module _ (collation : Collation) (good : IsGoodTables collation.tables) where
+module _ (collation : Collation) (well_formed : IsWellFormedTables collation.tables) where
   pub under : last_variable_by collation < collation.tables.special.numeric * 256 ^ 3
-  under = last_under collation.tables good collation.settings.alternate_handling collation.settings.max_variable
+  under = last_under collation.tables well_formed collation.settings.alternate_handling collation.settings.max_variable

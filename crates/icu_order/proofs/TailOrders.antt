@@ -6,7 +6,7 @@ use Rattle.icu_levels.proofs.FrontLemmas.{front_does_not_count}
 use Rattle.icu_provider.specs.CollatorTables.{reorder}
 use Rattle.icu_elements.specs.TextElements.{Reading, elements_of, elements_after, elements_along}
 use Rattle.icu_cuts.proofs.NfdLemmas.{nfd-nil, nfd-append}
-use Rattle.icu_cuts.proofs.CutLemmas.{safe_cut}
+use Rattle.icu_cuts.proofs.CutLemmas.{boundary_cut}
 use Rattle.icu_weighting.specs.Collations.{Collation}
 use Rattle.icu_weighting.specs.Forms.{form_by, last_variable_by, compression_of}
 use Rattle.icu_weighting.specs.Handled.{stayed_elements}
@@ -36,8 +36,8 @@ stands_apart collation head [] h =
       anew = inr (ap begins_with_primary (no_elements reading));
     }
 stands_apart collation head (c ∷ cs) h = record {
-  characters = nfd-append c h.first h.more cs h.decomposes h.safe.starter head;
-  elements = safe_cut (reading_by collation) c h.first h.more cs h.decomposes h.safe [] head;
+  characters = nfd-append c h.first h.more cs h.decomposes h.boundary.starter head;
+  elements = boundary_cut (reading_by collation) c h.first h.more cs h.decomposes h.boundary [] head;
   anew = h.handled;
 }
 

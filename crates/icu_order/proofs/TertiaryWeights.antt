@@ -1,4 +1,4 @@
--- The tertiaries that good tables give are as their level asks, with and without case bits.
+-- The tertiaries that well-formed tables give are as their level asks, with and without case bits.
 use Rattle.std.proofs.Common.{◌≡◌, ◌≢◌, ◌⊎◌, ℕ, ◌+◌, ◌*◌, ◌/◌, ◌%◌, ◌^◌, ◌<◌, ◌≤◌, Bool, true, false, not, ◌&&◌, ◌||◌, ◌==◌, if◌then◌else◌, nat_lt, refl, sym, ap, ◌∙◌, subst, arith, inl, inr, lit<, lit≤}
 use Rattle.std.specs.Prelude.{bit_and, bit_xor}
 use Rattle.std.specs.Int.Bits.{xor_add_and}
@@ -17,15 +17,15 @@ use Rattle.icu_entries.specs.declared.error.DataTable.{DataTable}
 use Rattle.icu_entries.specs.Elements.{Element, common, case_mask, tertiary_mask}
 use Rattle.icu_entries.specs.ElementConditions.{has_shape, has_whole_weights, has_weights_below, has_lower_half, has_secondary_lead, has_tertiary_lead, tertiary_of}
 use Rattle.icu_checks.specs.declared.condition.Condition.TheVariants as conditions
-use Rattle.icu_checks.specs.declared.condition.LiveElementCondition.TheVariants.{Width, TertiaryElement}
+use Rattle.icu_checks.specs.declared.condition.ReachableElementCondition.TheVariants.{Width, TertiaryElement}
 use Rattle.icu_checks.specs.declared.condition.PairCondition.TheVariants.{Tertiaries}
 use Rattle.icu_provider.specs.CollatorTables.{CollatorTables}
 use Rattle.icu_checks.specs.ElementConditions.{is_tertiary_element, is_high_tertiary_element, upper_case}
-use Rattle.icu_checks.specs.LiveElements.{IsElementBy}
-use Rattle.icu_checks.specs.GoodTables.{IsGoodTables}
+use Rattle.icu_checks.specs.ReachableElements.{IsElementBy}
+use Rattle.icu_checks.specs.WellFormedTables.{IsWellFormedTables}
 use Rattle.icu_weighting.specs.Levels.{cased_mask, masked_tertiary, tertiary_in}
-use Rattle.icu_order.specs.LiveWeights.{IsLevelWeight, IsLiveTertiary}
-use Rattle.icu_order.proofs.LiveElementLemmas.{live-shape, live-leads, other_part, implied}
+use Rattle.icu_order.specs.ReachableWeights.{IsLevelWeight, IsReachableTertiary}
+use Rattle.icu_order.proofs.ReachableElementLemmas.{reachable-shape, reachable-leads, other_part, implied}
 
 -- ---- bits of a lower half
 
@@ -55,7 +55,7 @@ lead_from_test t h some = (grind (arith, nat_tests), (grind (arith, nat_tests), 
 -- ---- the common weight beside others
 
 abbrev WithCommon : TertiaryForm → (ℕ → Type 0) → ℕ → Type 0
-WithCommon form IsLive t = (t ≡ (tertiary_runs form).common) ⊎ IsLive t
+WithCommon form IsReachable t = (t ≡ (tertiary_runs form).common) ⊎ IsReachable t
 
 least_some : (form : TertiaryForm) → 0 < least_tertiary_lead form
 least_some WithoutCase = lit< tt
@@ -72,37 +72,37 @@ common_greatest WithoutCase = lit≤ tt
 common_greatest LowerFirst = lit≤ tt
 common_greatest UpperFirst = lit≤ tt
 
-module _ (form : TertiaryForm) (IsLive : ℕ → Type 0) (good : AreTertiaries form IsLive) where
-  least : (w : ℕ) → WithCommon form IsLive w → least_tertiary_lead form ≤ w / 256
+module _ (form : TertiaryForm) (IsReachable : ℕ → Type 0) (well_formed : AreTertiaries form IsReachable) where
+  least : (w : ℕ) → WithCommon form IsReachable w → least_tertiary_lead form ≤ w / 256
   least w (inl is) = subst (λ w. least_tertiary_lead form ≤ w / 256) (sym is) (common_least form)
-  least w (inr h) = good.least w h
+  least w (inr h) = well_formed.least w h
 
-  greatest : (w : ℕ) → WithCommon form IsLive w → w / 256 ≤ greatest_tertiary_lead form
+  greatest : (w : ℕ) → WithCommon form IsReachable w → w / 256 ≤ greatest_tertiary_lead form
   greatest w (inl is) = subst (λ w. w / 256 ≤ greatest_tertiary_lead form) (sym is) (common_greatest form)
-  greatest w (inr h) = good.greatest w h
+  greatest w (inr h) = well_formed.greatest w h
 
-  leads : (w : ℕ) → WithCommon form IsLive w → w ≢ (tertiary_runs form).common → w / 256 ≢ (tertiary_runs form).common / 256
+  leads : (w : ℕ) → WithCommon form IsReachable w → w ≢ (tertiary_runs form).common → w / 256 ≢ (tertiary_runs form).common / 256
   leads w (inl is) n = λ e. n is
-  leads w (inr h) n = good.leads w h n
+  leads w (inr h) n = well_formed.leads w h n
 
-  some_lead : (w : ℕ) → WithCommon form IsLive w → 0 < w / 256
+  some_lead : (w : ℕ) → WithCommon form IsReachable w → 0 < w / 256
   some_lead w h = omega (arith, least_some form, least w h)
 
-  free : IsPrefixFree (weight_bytes 2) (WithCommon form IsLive)
+  free : IsPrefixFree (weight_bytes 2) (WithCommon form IsReachable)
   free v w p q n b = by p q
     where
       one_lead : v / 256 ≡ w / 256
       one_lead = begins_lead v w (some_lead v p) (some_lead w q) b
 
-      by : WithCommon form IsLive v → WithCommon form IsLive w → ⊥
+      by : WithCommon form IsReachable v → WithCommon form IsReachable w → ⊥
       by (inl is) k = leads w q (λ e. n (is ∙ sym e)) (sym one_lead ∙ ap (λ v. v / 256) is)
       by (inr h) (inl is) = leads v p (λ e. n (e ∙ sym is)) (one_lead ∙ ap (λ w. w / 256) is)
-      by (inr h) (inr k) = good.prefix_free v w h k n b
+      by (inr h) (inr k) = well_formed.prefix_free v w h k n b
 
-  with_common : AreTertiaries form (WithCommon form IsLive)
+  with_common : AreTertiaries form (WithCommon form IsReachable)
   with_common = record { least = least; greatest = greatest; leads = leads; prefix_free = free }
 
--- ---- lower halves of live elements
+-- ---- lower halves of reachable elements
 
 -- of a half with case bits: its tertiary isn't 0 either, and its case bits are lower, mixed or upper
 cased_parts : (l : ℕ) → l < 2 ^ 16 → (not (bit_and l tertiary_mask == 0) || l == 0) ≡ true → not (bit_and l case_mask == case_mask) ≡ true
@@ -116,15 +116,15 @@ cased_parts l small h apart some = (
       omega (arith, other, case_bits l small),
 )
 
-module _ (all : CollatorTables) (good : IsGoodTables all) where
-  -- of live elements
+module _ (all : CollatorTables) (well_formed : IsWellFormedTables all) where
+  -- of reachable elements
   abbrev OfElement : TertiaryForm → ℕ → Type 0
   OfElement form = IsLevelWeight (masked_tertiary form) (tertiary_in form) all
 
   plain_lead : (t : ℕ) → OfElement WithoutCase t → (2 ≤ t / 256) × ((t / 256 ≤ 0x3F) × (t ≢ 0x500 → t / 256 ≢ 5))
   plain_lead t w =
       let x = w.element in
-      let tests = and_parts (has_secondary_lead true x.secondary) (has_tertiary_lead (tertiary_of x)) (live-leads all good w.table x w.live) in
+      let tests = and_parts (has_secondary_lead true x.secondary) (has_tertiary_lead (tertiary_of x)) (reachable-leads all well_formed w.table x w.reachable) in
       subst (λ t. (2 ≤ t / 256) × ((t / 256 ≤ 0x3F) × (t ≢ 0x500 → t / 256 ≢ 5))) (sym w.is)
       (lead_from_test (tertiary_of x) tests.1 w.some)
 
@@ -134,7 +134,7 @@ module _ (all : CollatorTables) (good : IsGoodTables all) where
     greatest = λ t w. (plain_lead t w).1.0;
     leads = λ t w. (plain_lead t w).1.1;
     prefix_free = λ v w p q n b.
-        good.each (conditions.Pair Tertiaries) p.table q.table p.element p.live q.element q.live p.some q.some
+        well_formed.each (conditions.Pair Tertiaries) p.table q.table p.element p.reachable q.element q.reachable p.some q.some
         (λ e. n (p.is ∙ e ∙ sym q.is)) (rw (p.is, q.is) at b);
   }
 
@@ -155,29 +155,29 @@ module _ (all : CollatorTables) (good : IsGoodTables all) where
 
   has_case : (table : DataTable) (x : Element) → IsElementBy table all.tables x → bit_and x.lower cased_mask ≢ 0 → HasCase x
   unfolding has_shape
-  has_case table x live some =
+  has_case table x reachable some =
       let widths = and_parts (nat_lt x.primary (2 ^ 32) && nat_lt x.secondary (2 ^ 16)) (nat_lt x.lower (2 ^ 16))
-      (good.each (conditions.Element Width) table x live) in
+      (well_formed.each (conditions.Element Width) table x reachable) in
       let small : x.lower < 2 ^ 16 = grind (arith, nat_tests) in
-      let shape = and_parts (has_whole_weights x && has_weights_below x) (has_lower_half x) (live-shape all good table x live) in
+      let shape = and_parts (has_whole_weights x && has_weights_below x) (has_lower_half x) (reachable-shape all well_formed table x reachable) in
       let half = and_parts (not (tertiary_of x == 0) || x.lower == 0) (not (bit_and x.lower case_mask == case_mask)) shape.1 in
       let parts = cased_parts x.lower small half.0 half.1 some in
       record {
         small = small;
         some = parts.0;
         rank = parts.1;
-        alone = alone_case x small parts.0 (good.each (conditions.Element TertiaryElement) table x live);
+        alone = alone_case x small parts.0 (well_formed.each (conditions.Element TertiaryElement) table x reachable);
       }
 
   of_plain : (table : DataTable) (x : Element) → IsElementBy table all.tables x → tertiary_of x ≢ 0 → OfElement WithoutCase (tertiary_of x)
-  of_plain table x live some = record { table = table; element = x; live = live; some = some; is = refl }
+  of_plain table x reachable some = record { table = table; element = x; reachable = reachable; some = some; is = refl }
 
   lower_parts : (w : ℕ) → OfElement LowerFirst w → OfElement WithoutCase (w % 0x4000) × (w / 0x4000 < 3)
   lower_parts v w =
       let x = w.element in
-      let case = has_case w.table x w.live w.some in
+      let case = has_case w.table x w.reachable w.some in
       let low : v % 0x4000 ≡ tertiary_of x = ap (λ v. v % 0x4000) w.is ∙ cased_low x.lower in (
-        subst (OfElement WithoutCase) (sym low) (of_plain w.table x w.live case.some),
+        subst (OfElement WithoutCase) (sym low) (of_plain w.table x w.reachable case.some),
         omega (arith, w.is, cased_high x.lower case.small, case.rank),
       )
 
@@ -209,15 +209,15 @@ module _ (all : CollatorTables) (good : IsGoodTables all) where
   upper_parts : (w : ℕ) → OfElement UpperFirst w → OfElement WithoutCase (w % 0x4000) × (0 < w / 0x4000) × (w / 0x4000 < 4)
   upper_parts v w =
       let x = w.element in
-      let case = has_case w.table x w.live w.some in
+      let case = has_case w.table x w.reachable w.some in
       let parts : UpperParts x.lower v = subst (UpperParts x.lower) (sym w.is)
       (upper_of (x.secondary == 0) x.lower case.small case.rank (λ e. case.alone (grind (arith, nat_tests)))) in
-      (subst (OfElement WithoutCase) (sym parts.0) (of_plain w.table x w.live case.some), parts.1, parts.2)
+      (subst (OfElement WithoutCase) (sym parts.0) (of_plain w.table x w.reachable case.some), parts.1, parts.2)
 
   of_elements : (form : TertiaryForm) → AreTertiaries form (OfElement form)
   of_elements WithoutCase = plain_tertiaries
   of_elements LowerFirst = lower_cased (OfElement WithoutCase) (OfElement LowerFirst) plain_tertiaries lower_parts
   of_elements UpperFirst = upper_cased (OfElement WithoutCase) (OfElement UpperFirst) plain_tertiaries upper_parts
 
-  pub live_tertiaries : (form : TertiaryForm) → AreTertiaries form (IsLiveTertiary all form)
-  live_tertiaries form = with_common form (OfElement form) (of_elements form)
+  pub reachable_tertiaries : (form : TertiaryForm) → AreTertiaries form (IsReachableTertiary all form)
+  reachable_tertiaries form = with_common form (OfElement form) (of_elements form)

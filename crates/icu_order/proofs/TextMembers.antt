@@ -17,13 +17,13 @@ use Rattle.icu_entries.specs.Elements.{Element}
 use Rattle.icu_entries.specs.ElementConditions.{separator_primary, tertiary_of}
 use Rattle.icu_data.proofs.ListLemmas.{all_append}
 use Rattle.icu_provider.specs.CollatorTables.{CollatorTables, reorder}
-use Rattle.icu_checks.specs.GoodTables.{IsGoodTables}
+use Rattle.icu_checks.specs.WellFormedTables.{IsWellFormedTables}
 use Rattle.icu_weighting.specs.Handled.{HandledElement, stayed, shifted_primary, stayed_elements}
 use Rattle.icu_weighting.specs.Levels.{primaries, secondary_of, parted, segments, case_reads, case_rank, cases_in, masked_tertiary, tertiary_in, tertiaries_in, quaternaries, level_lists}
-use Rattle.icu_order.specs.LiveWeights.{IsLivePrimary, IsShiftedPrimary, IsLiveSecondary, IsLiveTertiary, IsTertiaryOf, live_weights}
+use Rattle.icu_order.specs.ReachableWeights.{IsReachablePrimary, IsShiftedPrimary, IsReachableSecondary, IsReachableTertiary, IsTertiaryOf, reachable_weights}
 use Rattle.icu_order.proofs.HandledLemmas.{by_test, HoldsOf, stayed_hold, weights_hold}
 use Rattle.icu_order.proofs.TextSources.{IsSource}
-use Rattle.icu_order.proofs.ElementHalves.{bits_unshifted, secondary_live, tertiary_live, has_rank}
+use Rattle.icu_order.proofs.ElementHalves.{bits_unshifted, secondary_reachable, tertiary_reachable, has_rank}
 
 -- ---- segments
 
@@ -56,10 +56,10 @@ module _ (IsElement : Element → Type 0) (P : ℕ → Type 0) (has : (x : Eleme
       let held = parts_hold es h in
       (omega arith, each_reversed (p.0 ∷ p.1) (held.0, held.1))
 
-module _ (all : CollatorTables) (good : IsGoodTables all) where
+module _ (all : CollatorTables) (well_formed : IsWellFormedTables all) where
   -- ---- quaternaries
 
-  quaternaries_hold : (hs : List HandledElement) → AllByRecursion (HoldsOf (IsSource all) (IsLivePrimary all)) hs
+  quaternaries_hold : (hs : List HandledElement) → AllByRecursion (HoldsOf (IsSource all) (IsReachablePrimary all)) hs
       → AllByRecursion (IsQuaternary (IsShiftedPrimary all)) (quaternaries (reorder all) hs)
   unfolding quaternaries
   quaternaries_hold [] h = tt
@@ -67,7 +67,7 @@ module _ (all : CollatorTables) (good : IsGoodTables all) where
       by_test (AllByRecursion (IsQuaternary (IsShiftedPrimary all))) (tertiary_of x == 0) _ _ (λ _. quaternaries_hold hs h.1)
       (λ _. (inr (bits_unshifted x), quaternaries_hold hs h.1))
   quaternaries_hold (shifted_primary p ∷ hs) h =
-      (inl (record { table = h.0.table; element = h.0.element; live = h.0.live; some = h.0.some; is = ap (reorder all) h.0.is }), quaternaries_hold hs h.1)
+      (inl (record { table = h.0.table; element = h.0.element; reachable = h.0.reachable; some = h.0.some; is = ap (reorder all) h.0.is }), quaternaries_hold hs h.1)
 
   unshifted_hold : (hs : List HandledElement) → AllByRecursion (HoldsOf (IsSource all) (λ p. ⊥)) hs
       → AllByRecursion IsUnshifted (quaternaries (reorder all) hs)
@@ -81,12 +81,12 @@ module _ (all : CollatorTables) (good : IsGoodTables all) where
 
   -- what the elements of a text are, as they were handled
   pub record AreHandled (f : Option QuaternaryForm) (hs : List HandledElement) : Type 0 where
-    pub primaries : IsPrimaryList all.special.numeric (IsLivePrimary all) false (primaries (stayed_elements hs))
-    pub members : AllByRecursion (HoldsOf (IsSource all) (IsLivePrimary all)) hs
+    pub primaries : IsPrimaryList all.special.numeric (IsReachablePrimary all) false (primaries (stayed_elements hs))
+    pub members : AllByRecursion (HoldsOf (IsSource all) (IsReachablePrimary all)) hs
     pub none_shifted : f ≡ Some Unshifted → AllByRecursion (HoldsOf (IsSource all) (λ p. ⊥)) hs
 
-  secondary_members : (form : Option SecondaryForm) (t : LevelLists) → AllByRecursion (IsLiveSecondary all) t.secondaries
-      → HasSegments (IsLiveSecondary all) t.segments → SecondaryMembers form (IsLiveSecondary all) t
+  secondary_members : (form : Option SecondaryForm) (t : LevelLists) → AllByRecursion (IsReachableSecondary all) t.secondaries
+      → HasSegments (IsReachableSecondary all) t.segments → SecondaryMembers form (IsReachableSecondary all) t
   secondary_members None t p q = tt
   secondary_members (Some Forward) t p q = p
   secondary_members (Some Backward) t p q = q
@@ -94,14 +94,14 @@ module _ (all : CollatorTables) (good : IsGoodTables all) where
   case_members : (before : Option SecondaryForm) (form : Option CaseForm) (es : List Element) → AllByRecursion (IsSource all) es
       → AllByRecursion IsRank (cases_in before form es)
   case_members before None es h = tt
-  case_members before (Some form) es h = weights_hold (IsSource all) IsRank (case_reads before) (case_rank form) (λ x s _. has_rank all good form x s) es h
+  case_members before (Some form) es h = weights_hold (IsSource all) IsRank (case_reads before) (case_rank form) (λ x s _. has_rank all well_formed form x s) es h
 
   tertiary_members : (form : Option TertiaryForm) (t : LevelLists) (es : List Element) → t.tertiaries ≡ tertiaries_in form es
       → AllByRecursion (IsSource all) es → TertiaryMembers form (IsTertiaryOf all form) t
   tertiary_members None t es is h = tt
   tertiary_members (Some form) t es is h =
-      subst (AllByRecursion (IsLiveTertiary all form)) (sym is)
-      (weights_hold (IsSource all) (IsLiveTertiary all form) (masked_tertiary form) (tertiary_in form) (tertiary_live all good form) es h)
+      subst (AllByRecursion (IsReachableTertiary all form)) (sym is)
+      (weights_hold (IsSource all) (IsReachableTertiary all form) (masked_tertiary form) (tertiary_in form) (tertiary_reachable all well_formed form) es h)
 
   quaternary_members : (form : Option QuaternaryForm) (t : LevelLists) (hs : List HandledElement) → t.quaternaries ≡ quaternaries (reorder all) hs
       → AreHandled form hs → QuaternaryMembers form (IsShiftedPrimary all) t
@@ -109,18 +109,18 @@ module _ (all : CollatorTables) (good : IsGoodTables all) where
   quaternary_members (Some MayShift) t hs is h = subst (AllByRecursion (IsQuaternary (IsShiftedPrimary all))) (sym is) (quaternaries_hold hs h.members)
   quaternary_members (Some Unshifted) t hs is h = subst (AllByRecursion IsUnshifted) (sym is) (unshifted_hold hs (h.none_shifted refl))
 
-  pub lists_live : (f : KeyForm) (hs : List HandledElement) (text : List ℕ) → AreHandled f.quaternary hs → AllByRecursion (λ c. c < 0x110000) text
-      → AreLists f (live_weights all f) (level_lists (reorder all) f hs text)
-  lists_live f hs text h small =
+  pub lists_reachable : (f : KeyForm) (hs : List HandledElement) (text : List ℕ) → AreHandled f.quaternary hs → AllByRecursion (λ c. c < 0x110000) text
+      → AreLists f (reachable_weights all f) (level_lists (reorder all) f hs text)
+  lists_reachable f hs text h small =
       let es = stayed_elements hs in
-      let sources = stayed_hold (IsSource all) (IsLivePrimary all) hs h.members in
+      let sources = stayed_hold (IsSource all) (IsReachablePrimary all) hs h.members in
       let t = level_lists (reorder all) f hs text in
       record {
         primaries = h.primaries;
         secondaries =
             secondary_members f.secondary t
-            (weights_hold (IsSource all) (IsLiveSecondary all) secondary_of secondary_of (secondary_live all good) es sources)
-            (segments_hold (IsSource all) (IsLiveSecondary all) (secondary_live all good) es sources);
+            (weights_hold (IsSource all) (IsReachableSecondary all) secondary_of secondary_of (secondary_reachable all well_formed) es sources)
+            (segments_hold (IsSource all) (IsReachableSecondary all) (secondary_reachable all well_formed) es sources);
         cases = case_members f.secondary f.cases es sources;
         tertiaries = tertiary_members f.tertiary t es refl sources;
         quaternaries = quaternary_members f.quaternary t hs refl h;

@@ -23,7 +23,7 @@ use Rattle.icu_levels.proofs.SameKeys.{same_levels, same_keys}
 use Rattle.icu_entries.specs.Elements.{Element}
 use Rattle.icu_data.proofs.CharLemmas.{scalar_below}
 use Rattle.icu_data.proofs.ListLemmas.{weaker}
-use Rattle.icu_checks.specs.GoodTables.{IsGoodTables}
+use Rattle.icu_checks.specs.WellFormedTables.{IsWellFormedTables}
 use Rattle.icu_elements.specs.TextElements.{elements_of}
 use Rattle.icu_elements.specs.TextParts.{IsDecomposed}
 use Rattle.icu_elements.proofs.DecomposedLemmas.{IsDecomposedText-nfd}
@@ -31,14 +31,14 @@ use Rattle.icu_weighting.specs.Collations.{Collation}
 use Rattle.icu_weighting.specs.Handled.{is_variable, handled}
 use Rattle.icu_weighting.specs.Forms.{compression_of, direction, secondary_form, tertiary_form, quaternary_form, handling_form, form_by, last_variable, last_variable_by}
 use Rattle.icu_order.specs.TextOrder.{reading_by, handled_by, lists_by, text_order, text_key}
-use Rattle.icu_order.specs.LiveWeights.{IsLivePrimary, live_weights}
+use Rattle.icu_order.specs.ReachableWeights.{IsReachablePrimary, reachable_weights}
 use Rattle.icu_order.specs.TextOrderLaws.{LevelsKeep}
 use Rattle.icu_order.proofs.HandledLemmas.{HoldsOf, handled_hold}
-use Rattle.icu_order.proofs.FormWeights.{weights_live}
+use Rattle.icu_order.proofs.FormWeights.{weights_reachable}
 use Rattle.icu_order.proofs.SpecialBounds.{under}
 use Rattle.icu_order.proofs.TextSources.{IsSource, text_sources, text_stands}
-use Rattle.icu_order.proofs.ElementHalves.{variable_live}
-use Rattle.icu_order.proofs.TextMembers.{AreHandled, lists_live}
+use Rattle.icu_order.proofs.ElementHalves.{variable_reachable}
+use Rattle.icu_order.proofs.TextMembers.{AreHandled, lists_reachable}
 use Rattle.icu_order.proofs.TextTies.{texts_parallel}
 use Rattle.icu_order.proofs.EachLevel.{levels_keep}
 
@@ -70,7 +70,7 @@ tertiaries_before Identical form q e i = cc
 none_variable : (x : Element) → is_variable 0 x ≡ true → ⊥
 none_variable x v = grind (arith, nat_tests)
 
-module _ (collation : Collation) (good : IsGoodTables collation.tables) where
+module _ (collation : Collation) (well_formed : IsWellFormedTables collation.tables) where
   open collation use {tables as all, settings}
 
   -- ---- what the theorem on keys asks of texts
@@ -82,34 +82,34 @@ module _ (collation : Collation) (good : IsGoodTables collation.tables) where
   none_shifted Shifted s group es h e = absurd (never_unshifted s e)
   none_shifted Blanked s group es h e = absurd (never_unshifted s e)
 
-  text_handled : (cs : List ℕ) → AllByRecursion IsScalar cs → AreHandled all good (form_by collation).quaternary (handled_by collation (nfd cs))
+  text_handled : (cs : List ℕ) → AllByRecursion IsScalar cs → AreHandled all well_formed (form_by collation).quaternary (handled_by collation (nfd cs))
   text_handled cs scalars =
       let es = elements_of (reading_by collation) (nfd cs) in
-      let sources = text_sources collation good cs scalars in
+      let sources = text_sources collation well_formed cs scalars in
       record {
-        primaries = text_stands collation good cs scalars false;
-        members = handled_hold (IsSource all) (IsLivePrimary all) settings.alternate_handling (last_variable_by collation)
-            (variable_live all good (last_variable_by collation) (under collation good)) false es sources;
+        primaries = text_stands collation well_formed cs scalars false;
+        members = handled_hold (IsSource all) (IsReachablePrimary all) settings.alternate_handling (last_variable_by collation)
+            (variable_reachable all well_formed (last_variable_by collation) (under collation well_formed)) false es sources;
         none_shifted = none_shifted settings.alternate_handling settings.strength settings.max_variable es sources;
       }
 
   characters : (cs : List ℕ) → AllByRecursion IsScalar cs → AllByRecursion (λ c. c < 0x110000) (nfd cs)
   characters cs scalars = weaker IsDecomposed (λ c. c < 0x110000) (λ c d. scalar_below c d.scalar) (nfd cs) (IsDecomposedText-nfd cs scalars)
 
-  pub weights_good : AreWeights (compression_of all) (form_by collation) (live_weights all (form_by collation))
-  weights_good = weights_live all good (form_by collation) (backward_named settings.strength (is_backward all.bits))
+  pub weights_well_formed : AreWeights (compression_of all) (form_by collation) (reachable_weights all (form_by collation))
+  weights_well_formed = weights_reachable all well_formed (form_by collation) (backward_named settings.strength (is_backward all.bits))
 
-  pub lists_good : (cs : List ℕ) → AllByRecursion IsScalar cs
-      → AreLists (form_by collation) (live_weights all (form_by collation)) (lists_by collation (nfd cs))
+  pub lists_well_formed : (cs : List ℕ) → AllByRecursion IsScalar cs
+      → AreLists (form_by collation) (reachable_weights all (form_by collation)) (lists_by collation (nfd cs))
   unfolding lists_by
-  lists_good cs scalars =
-      lists_live all good (form_by collation) (handled_by collation (nfd cs)) (nfd cs) (text_handled cs scalars) (characters cs scalars)
+  lists_well_formed cs scalars =
+      lists_reachable all well_formed (form_by collation) (handled_by collation (nfd cs)) (nfd cs) (text_handled cs scalars) (characters cs scalars)
 
   pub lists_parallel : (t u : List ℕ) → AllByRecursion IsScalar t → AllByRecursion IsScalar u
       → AreParallel (compression_of all) (form_by collation) (lists_by collation (nfd t)) (lists_by collation (nfd u))
   unfolding lists_by
   lists_parallel t u p q =
-      texts_parallel all good (form_by collation) (handled_by collation (nfd t)) (handled_by collation (nfd u)) (nfd t) (nfd u)
+      texts_parallel all well_formed (form_by collation) (handled_by collation (nfd t)) (handled_by collation (nfd u)) (nfd t) (nfd u)
       (text_handled t p) (text_handled u q) (tertiaries_before settings.strength _ _)
 
   -- ---- the theorem
@@ -118,8 +118,8 @@ module _ (collation : Collation) (good : IsGoodTables collation.tables) where
     pub keys_keep : list_order (text_key collation t) (text_key collation u) ≡ text_order collation t u
     unfolding text_order text_key
     keys_keep =
-        keys_order (compression_of all) (form_by collation) (live_weights all (form_by collation)) (lists_by collation (nfd t))
-        (lists_by collation (nfd u)) weights_good (lists_good t p) (lists_good u q) (lists_parallel t u p q)
+        keys_order (compression_of all) (form_by collation) (reachable_weights all (form_by collation)) (lists_by collation (nfd t))
+        (lists_by collation (nfd u)) weights_well_formed (lists_well_formed t p) (lists_well_formed u q) (lists_parallel t u p q)
 
     pub equal_keys : (text_order collation t u ≡ Equal) ↔ (text_key collation t ≡ text_key collation u)
     equal_keys = (
@@ -129,15 +129,15 @@ module _ (collation : Collation) (good : IsGoodTables collation.tables) where
 
     pub each_level : LevelsKeep (compression_of all) (form_by collation) (lists_by collation (nfd t)) (lists_by collation (nfd u))
     each_level =
-        levels_keep (compression_of all) (form_by collation) (live_weights all (form_by collation)) (lists_by collation (nfd t))
-        (lists_by collation (nfd u)) weights_good (lists_good t p) (lists_good u q) (lists_parallel t u p q)
+        levels_keep (compression_of all) (form_by collation) (reachable_weights all (form_by collation)) (lists_by collation (nfd t))
+        (lists_by collation (nfd u)) weights_well_formed (lists_well_formed t p) (lists_well_formed u q) (lists_parallel t u p q)
 
     pub keys_determine : (text_key collation t ≡ text_key collation u)
         ↔ HaveSameLists (compression_of all) (form_by collation) (lists_by collation (nfd t)) (lists_by collation (nfd u))
     unfolding text_key
     keys_determine = (
-      same_levels (compression_of all) (form_by collation) (live_weights all (form_by collation)) (lists_by collation (nfd t))
-          (lists_by collation (nfd u)) weights_good (lists_good t p) (lists_good u q) (lists_parallel t u p q),
-      same_keys (compression_of all) (form_by collation) (live_weights all (form_by collation)) (lists_by collation (nfd t))
-          (lists_by collation (nfd u)) weights_good (lists_good t p) (lists_good u q) (lists_parallel t u p q),
+      same_levels (compression_of all) (form_by collation) (reachable_weights all (form_by collation)) (lists_by collation (nfd t))
+          (lists_by collation (nfd u)) weights_well_formed (lists_well_formed t p) (lists_well_formed u q) (lists_parallel t u p q),
+      same_keys (compression_of all) (form_by collation) (reachable_weights all (form_by collation)) (lists_by collation (nfd t))
+          (lists_by collation (nfd u)) weights_well_formed (lists_well_formed t p) (lists_well_formed u q) (lists_parallel t u p q),
     )

@@ -17,11 +17,11 @@ use Rattle.icu_entries.specs.Elements.{Element}
 use Rattle.icu_entries.specs.ElementConditions.{tertiary_of}
 use Rattle.icu_data.proofs.ListLemmas.{weaker}
 use Rattle.icu_provider.specs.CollatorTables.{CollatorTables, reorder}
-use Rattle.icu_checks.specs.GoodTables.{IsGoodTables}
+use Rattle.icu_checks.specs.WellFormedTables.{IsWellFormedTables}
 use Rattle.icu_weighting.specs.Handled.{HandledElement, stayed_elements}
 use Rattle.icu_weighting.specs.Levels.{weights, primary_of, primaries, secondary_of, secondaries, segments, case_reads, case_rank, cases_in, masked_tertiary, tertiary_in, tertiaries, tertiaries_in, quaternaries, level_lists}
 use Rattle.icu_weighting.specs.Forms.{compression_of}
-use Rattle.icu_order.specs.LiveWeights.{IsLivePrimary}
+use Rattle.icu_order.specs.ReachableWeights.{IsReachablePrimary}
 use Rattle.icu_order.proofs.HandledLemmas.{HoldsOf, stayed_hold}
 use Rattle.icu_order.proofs.CountLemmas.{as_many, alike_many, ReadAlike, PartsWithSecondary, total, segments_count, quaternaries_many}
 use Rattle.icu_order.proofs.TextSources.{IsSource}
@@ -49,11 +49,11 @@ backward_many has xs ys p q e =
     let d : length (segments xs) ≡ length (segments ys) = ap length e in
     omega (arith, a, b, c, d)
 
-module _ (all : CollatorTables) (good : IsGoodTables all) where
+module _ (all : CollatorTables) (well_formed : IsWellFormedTables all) where
   -- ---- cases
 
   separators_part : (es : List Element) → AllByRecursion (IsSource all) es → AllByRecursion PartsWithSecondary es
-  separators_part es h = weaker (IsSource all) PartsWithSecondary (parts_with all good) es h
+  separators_part es h = weaker (IsSource all) PartsWithSecondary (parts_with all well_formed) es h
 
   ranks_many : (before : Option SecondaryForm) (case : CaseForm) (t u : LevelLists) (xs ys : List Element)
       → AllByRecursion (IsSource all) xs → AllByRecursion (IsSource all) ys
@@ -91,7 +91,7 @@ module _ (all : CollatorTables) (good : IsGoodTables all) where
       let sources = stayed_hold (IsSource all) (λ p. ⊥) hs h in
       quaternaries_many (IsSource all) (reorder all) tertiary_of hs h
       ∙ (sym (alike_many (masked_tertiary form) tertiary_of tertiary_of es
-      (weaker (IsSource all) (ReadAlike (masked_tertiary form) tertiary_of) (reads_alike all good form) es sources))
+      (weaker (IsSource all) (ReadAlike (masked_tertiary form) tertiary_of) (reads_alike all well_formed form) es sources))
       ∙ as_many (masked_tertiary form) tertiary_of (tertiary_in form) es)
 
   unshifted_many : (form : Option TertiaryForm) (t u : LevelLists) (hs ks : List HandledElement) → (form ≡ None → ⊥)
@@ -102,12 +102,12 @@ module _ (all : CollatorTables) (good : IsGoodTables all) where
   unshifted_many (Some form) t u hs ks n h k p q e =
       one_each form hs h ∙ (ap length (sym p) ∙ (tied_many t.tertiaries u.tertiaries e ∙ (ap length q ∙ sym (one_each form ks k))))
 
-  pub texts_parallel : (f : KeyForm) (hs ks : List HandledElement) (t u : List ℕ) → AreHandled all good f.quaternary hs → AreHandled all good f.quaternary ks
+  pub texts_parallel : (f : KeyForm) (hs ks : List HandledElement) (t u : List ℕ) → AreHandled all well_formed f.quaternary hs → AreHandled all well_formed f.quaternary ks
       → (f.tertiary ≡ None → f.quaternary ≡ Some Unshifted → ⊥)
       → AreParallel (compression_of all) f (level_lists (reorder all) f hs t) (level_lists (reorder all) f ks u)
   texts_parallel f hs ks t u h k n =
-      let sx = stayed_hold (IsSource all) (IsLivePrimary all) hs h.members in
-      let sy = stayed_hold (IsSource all) (IsLivePrimary all) ks k.members in
+      let sx = stayed_hold (IsSource all) (IsReachablePrimary all) hs h.members in
+      let sy = stayed_hold (IsSource all) (IsReachablePrimary all) ks k.members in
       let v = level_lists (reorder all) f hs t in
       let w = level_lists (reorder all) f ks u in
       record {

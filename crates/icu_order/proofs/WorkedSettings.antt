@@ -88,11 +88,11 @@ with_context c entry context =
 
 -- "ll" is a letter of its own
 abbrev pub spanish : CollatorTables
-spanish = with_bits 0x09 (with_context 108 0xC9 (record { default = 0x613C0505; rows = record { chars = 108 ∷ []; entry = 0x613E0505 } ∷ [] }))
+spanish = with_bits 0x09 (with_context 108 0xC9 (record { default = 0x613C0505; mappings = record { chars = 108 ∷ []; entry = 0x613E0505 } ∷ [] }))
 
 -- b after a is another letter
 abbrev pub prefixed : CollatorTables
-prefixed = with_bits 0x09 (with_context 98 0xC8 (record { default = 0x61140505; rows = record { chars = 97 ∷ []; entry = 0x61120505 } ∷ [] }))
+prefixed = with_bits 0x09 (with_context 98 0xC8 (record { default = 0x61140505; mappings = record { chars = 97 ∷ []; entry = 0x61120505 } ∷ [] }))
 
 -- offsets for alpha and beta
 abbrev pub greek : CollatorTables

@@ -1,11 +1,11 @@
--- Tertiaries of a few elements in each form, and a live secondary.
+-- Tertiaries of a few elements in each form, and a reachable secondary.
 use Rattle.std.proofs.Common.{◌≡◌, ℕ, [], ◌∷◌, None, refl, inr, arith, lit<}
 use Rattle.icu_levels.specs.declared.forms.TertiaryForm.TheVariants.{WithoutCase, LowerFirst, UpperFirst}
 use Rattle.icu_entries.specs.declared.error.DataTable.TheVariants.{Diacritics}
 use Rattle.icu_entries.specs.Elements.{Element, of_secondary}
 use Rattle.icu_provider.specs.CollatorTables.{CollatorTables}
 use Rattle.icu_weighting.specs.Levels.{tertiary_in}
-use Rattle.icu_order.specs.LiveWeights.{least_secondary_lead, IsLiveSecondary}
+use Rattle.icu_order.specs.ReachableWeights.{least_secondary_lead, IsReachableSecondary}
 
 -- a letter, a capital with a quaternary, one of mixed case, and an element with a tertiary alone
 abbrev of_lower : ℕ → Element
@@ -43,11 +43,11 @@ diacritics_alone = record {
 forward_lead : least_secondary_lead diacritics_alone ≡ 2
 forward_lead = refl
 
-second_diacritic : IsLiveSecondary diacritics_alone 0x8A00
+second_diacritic : IsReachableSecondary diacritics_alone 0x8A00
 second_diacritic = inr (record {
   table = Diacritics;
   element = of_secondary 0x8A00;
-  live = record { place = 1; inside = lit< tt; kept = refl; is = refl };
+  reachable = record { place = 1; inside = lit< tt; kept = refl; is = refl };
   some = λ e. omega (arith, e);
   is = refl;
 })

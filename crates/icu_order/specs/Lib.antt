@@ -4,6 +4,6 @@ pub use Rattle.icu_weighting.specs.Handled
 pub use Rattle.icu_weighting.specs.Levels
 pub use Rattle.icu_weighting.specs.Forms
 pub mod TextOrder
-pub mod LiveWeights
+pub mod ReachableWeights
 pub mod TextOrderLaws
 pub mod TextCuts

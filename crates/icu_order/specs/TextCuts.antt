@@ -6,7 +6,7 @@ use Rattle.unicode_normalization.specs.Forms.{nfd}
 use Rattle.icu_levels.specs.CommonBeginnings.{ReadsForward}
 use Rattle.icu_entries.specs.Elements.{Element}
 use Rattle.icu_elements.specs.TextElements.{elements_of}
-use Rattle.icu_cuts.specs.Cuts.{IsSafe}
+use Rattle.icu_cuts.specs.Cuts.{IsBoundary}
 use Rattle.icu_weighting.specs.Collations.{Collation}
 use Rattle.icu_weighting.specs.Forms.{form_by, last_variable_by}
 use Rattle.icu_order.specs.TextOrder.{reading_by, text_order}
@@ -16,13 +16,13 @@ abbrev pub begins_with_primary : List Element → Bool
 begins_with_primary [] = true
 begins_with_primary (x ∷ xs) = not (x.primary == 0)
 
--- A text that begins with this character is compared by itself: the character's decomposition begins with a safe one,
+-- A text that begins with this character is compared by itself: the character's decomposition begins with a boundary,
 -- and where elements may be variable its first element has a primary.
 pub record BeginsAnew (collation : Collation) (c : ℕ) (cs : List ℕ) : Type 0 where
   pub first : ℕ
   pub more : List ℕ
   pub decomposes : decompose Nfd c ≡ first ∷ more
-  pub safe : IsSafe (reading_by collation) first
+  pub boundary : IsBoundary (reading_by collation) first
   pub handled : (last_variable_by collation ≡ 0) ⊎ (begins_with_primary (elements_of (reading_by collation) (nfd (c ∷ cs))) ≡ true)
 
 -- a text that may follow others without a change of what it gives

@@ -7,7 +7,7 @@ use Rattle.icu_entries.specs.Elements.{Element}
 use Rattle.icu_provider.specs.Metadata.{is_lithuanian}
 use Rattle.icu_provider.specs.CollatorTables.{reorder}
 use Rattle.icu_elements.specs.TextElements.{Reading, elements_of}
-use Rattle.icu_elements.specs.LiveTexts.{collator_reading}
+use Rattle.icu_elements.specs.ReachableTexts.{collator_reading}
 use Rattle.icu_weighting.specs.Collations.{Collation}
 use Rattle.icu_weighting.specs.Handled.{HandledElement, handled}
 use Rattle.icu_weighting.specs.Levels.{level_lists}

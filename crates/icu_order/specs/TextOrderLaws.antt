@@ -9,7 +9,7 @@ use Rattle.icu_levels.specs.Keys.{LevelPart, part_bytes, LevelLists, PartDetermi
 use Rattle.icu_levels.specs.LevelLaws.{KeepOrder}
 use Rattle.icu_levels.specs.KeyLaws.{SameSecondaries, SameCases, SameTertiaries, SameQuaternaries, SameCharacters, HaveSameLists}
 use Rattle.icu_levels.specs.declared.forms.KeyForm.{KeyForm}
-use Rattle.icu_checks.specs.GoodTables.{IsGoodTables}
+use Rattle.icu_checks.specs.WellFormedTables.{IsWellFormedTables}
 use Rattle.icu_elements.specs.TextElementLaws.{IsText}
 use Rattle.icu_weighting.specs.Collations.{Collation}
 use Rattle.icu_weighting.specs.Forms.{compression_of, form_by}
@@ -17,7 +17,7 @@ use Rattle.icu_order.specs.TextOrder.{lists_by, text_order, text_key}
 
 -- what holds of any two texts, by each collation whose tables meet the conditions
 abbrev pub OfTexts : (Collation → List ℕ → List ℕ → Type 0) → Type 0
-OfTexts P = (c : Collation) → IsGoodTables c.tables → (t u : List ℕ) → IsText t → IsText u → P c t u
+OfTexts P = (c : Collation) → IsWellFormedTables c.tables → (t u : List ℕ) → IsText t → IsText u → P c t u
 
 -- the dictionary order of two keys is the order of their texts
 abbrev pub KeysKeepTextOrder : Type 0

@@ -1,17 +1,17 @@
 //! The order theorem of texts, and what it rests on, each as a function that makes no call.
 
-ghost use Rattle.icu_order.specs.LiveWeights.{GoodTablesServeLevels};
+ghost use Rattle.icu_order.specs.ReachableWeights.{WellFormedTablesServeLevels};
 ghost use Rattle.icu_order.specs.TextCuts.{CommonBeginningsDoNotCount};
 ghost use Rattle.icu_order.specs.TextOrderLaws.{EqualTextsHaveOneKey, KeysDetermineTextLists, KeysKeepTextOrder, LevelsKeepTextOrder};
 
-/// Good tables give weights as the order theorem of keys asks, for keys of each form (UTS #10, "Form Sort Keys"; UTS #35
+/// Well-formed tables give weights as the order theorem of keys asks, for keys of each form (UTS #10, "Form Sort Keys"; UTS #35
 /// part 5, "Collation Reordering" and "Case Parameters").
 ///
 /// Weights of one level are prefix free (UTS #10, "Large Weight Values"): primaries after reordering, tertiaries with
 /// case bits and without. Leads stand clear of the bytes that keys keep for themselves. Reordering changes leads alone,
 /// and keeps numbers apart from all else. Of primaries that share a lead after it, all leads are compressible or none.
-pub fn good_tables_serve_levels()
-    ensures { GoodTablesServeLevels }
+pub fn well_formed_tables_serve_levels()
+    ensures { WellFormedTablesServeLevels }
 {}
 
 /// Each level of the keys of two texts by itself, for every collation whose tables meet the conditions: where all

@@ -9,7 +9,7 @@ use Rattle.std.proofs.lemmas.Grind.{common_steps}
 use Rattle.icu_data.specs.CodePointTables.{IsCodePointTable, stored_value}
 use Rattle.icu_owned_data.specs.Blocks.{block_at, HasDistinctBlocks}
 use Rattle.icu_owned_data.specs.inner.AddedBlocks.{HoldsBlock}
-use Rattle.icu_owned_data.proofs.AddedRowLemmas.{part_of_longer}
+use Rattle.icu_owned_data.proofs.AddedMappingLemmas.{part_of_longer}
 
 -- a member of a part of a list
 pub part_at : (xs : List ℕ) (start count i d : ℕ) → i < count → start + i < length xs → get_or (take count (drop start xs)) i 0 ≡ get_or xs (start + i) d

@@ -3,20 +3,20 @@ use Rattle.std.proofs.Common.{◌≡◌, ℕ, ◌<◌, ◌≤◌, ◌&&◌, nat_
 use Rattle.std.proofs.lemmas.Bool.{and_parts, and_cases, cond_both, leb-true, leb-false}
 use Rattle.icu_entries.specs.Elements.{element_of}
 use Rattle.icu_data.specs.declared.context.Context.{Context as StoredContext}
-use Rattle.icu_data.specs.declared.context.ContextRow.{ContextRow}
+use Rattle.icu_data.specs.declared.context.ContextMapping.{ContextMapping}
 use Rattle.icu_data.specs.Contexts.{stored_contexts}
 use Rattle.icu_data.specs.Data.{Data}
 use Rattle.icu_owned_data.specs.Building.{empty_data, with_entries}
 
 -- nothing but one entry was put in
-pub new_data : (others : ℕ) (entries : List ℕ) (ces ce32s : List ℕ) (contexts : List StoredContext) (rows : List ContextRow) (chars : List ℕ)
+pub new_data : (others : ℕ) (entries : List ℕ) (ces ce32s : List ℕ) (contexts : List StoredContext) (mappings : List ContextMapping) (chars : List ℕ)
     → ((k : ℕ) → get_or entries k others ≡ others) → ces ≡ [] → ce32s ≡ [] → contexts ≡ []
-    → ◌≡◌ {A = Data} (record { value = λ k. get_or entries k others; elements = map element_of ces; entries = ce32s; contexts = stored_contexts contexts rows chars }) (empty_data others)
-new_data others entries ces ce32s contexts rows chars all no_ces no_ce32s no_contexts = λ i. record {
+    → ◌≡◌ {A = Data} (record { value = λ k. get_or entries k others; elements = map element_of ces; entries = ce32s; contexts = stored_contexts contexts mappings chars }) (empty_data others)
+new_data others entries ces ce32s contexts mappings chars all no_ces no_ce32s no_contexts = λ i. record {
   value = λ k. all k i;
   elements = map element_of (no_ces i);
   entries = no_ce32s i;
-  contexts = stored_contexts (no_contexts i) rows chars;
+  contexts = stored_contexts (no_contexts i) mappings chars;
 }
 
 value_at : (old now : List ℕ) (others first last entry : ℕ)

@@ -1,3 +1,3 @@
-mod AddedRowLemmas
+mod AddedMappingLemmas
 mod BlockLemmas
 mod BuildingLemmas

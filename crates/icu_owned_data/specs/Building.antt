@@ -37,7 +37,7 @@ built_data b =
       value = λ c. slice_index_or b.characters.items c b.others;
       elements = map element_of b.ces.items;
       entries = b.ce32s.items;
-      contexts = stored_contexts b.contexts.items b.rows.items b.chars.items;
+      contexts = stored_contexts b.contexts.items b.mappings.items b.chars.items;
     }
 
 -- two that say the same of characters, which end with U+10FFFF

@@ -6,7 +6,7 @@ use Rattle.icu_owned_data.specs.declared.data_vectors.DataVectors.{DataVectors}
 use Rattle.icu_owned_data.specs.declared.data_vectors.OwnedData.{OwnedData}
 use Rattle.icu_data.specs.CodePointTables.{IsCodePointTable, FailsBlocks, stored_value}
 use Rattle.icu_data.specs.Contexts.{IsContextTable, FailsContexts, stored_contexts}
-use Rattle.icu_data.specs.LiveConditions.{IsGoodData, FailsData}
+use Rattle.icu_data.specs.ReachableConditions.{IsWellFormedData, FailsData}
 use Rattle.icu_data.specs.Data.{Data}
 
 -- what the lists say as they stand
@@ -16,7 +16,7 @@ vectors_data v =
       value = stored_value v.blocks.items v.values.items;
       elements = map element_of v.ces.items;
       entries = v.ce32s.items;
-      contexts = stored_contexts v.contexts.items v.rows.items v.chars.items;
+      contexts = stored_contexts v.contexts.items v.mappings.items v.chars.items;
     }
 
 -- what the lists of a table say that has passed its checks
@@ -26,12 +26,12 @@ owned_data o = vectors_data o.vectors
 -- the constructors of a root or a tailoring take the lists
 pub record MayBeData (v : DataVectors) : Type 0 where
   pub table : IsCodePointTable v.blocks.items v.values.items
-  pub contexts : IsContextTable v.contexts.items v.rows.items v.chars.items
-  pub live : IsGoodData true (vectors_data v)
+  pub contexts : IsContextTable v.contexts.items v.mappings.items v.chars.items
+  pub reachable : IsWellFormedData true (vectors_data v)
 
 -- a condition of this kind fails
 abbrev pub FailsVectors : DataVectors → DataErrorKind → Type 0
 FailsVectors v kind =
     FailsBlocks v.blocks.items v.values.items kind
-    ⊎ FailsContexts v.contexts.items v.rows.items v.chars.items kind
+    ⊎ FailsContexts v.contexts.items v.mappings.items v.chars.items kind
     ⊎ FailsData true (vectors_data v) kind

@@ -1,3 +1,3 @@
 -- Words of private contracts and proofs only: no public contract names them.
-pub mod AddedRows
+pub mod AddedMappings
 pub mod AddedBlocks

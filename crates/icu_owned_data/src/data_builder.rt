@@ -9,7 +9,7 @@ use crate::added_context::add_context;
 use crate::blocks::{Blocks, blocks_of};
 use crate::data_vectors::DataVectors;
 use icu_data::code_point_table::CODE_POINT_COUNT;
-use icu_data::{Context, ContextRow};
+use icu_data::{Context, ContextMapping};
 use icu_entries::{CollationElement, CollationElement32};
 use std::alloc::{AllocError, Global};
 
@@ -24,10 +24,10 @@ pub struct DataBuilder {
     ces: Vec<u64>,
     ce32s: Vec<u32>,
     contexts: Vec<Context>,
-    rows: Vec<ContextRow>,
+    mappings: Vec<ContextMapping>,
     chars: Vec<char>,
     ghost whole: { length characters.items ≡ 0x110000 },
-    ghost inside: { HasRangesInside contexts.items rows.items chars.items },
+    ghost inside: { HasRangesInside contexts.items mappings.items chars.items },
 }
 
 /// Appends the bits of elements. An `Err` leaves all as it was.
@@ -103,7 +103,7 @@ impl DataBuilder {
             ces: Vec::new(alloc),
             ce32s: Vec::new(alloc),
             contexts: Vec::new(alloc),
-            rows: Vec::new(alloc),
+            mappings: Vec::new(alloc),
             chars: Vec::new(alloc),
         })
     }
@@ -153,27 +153,27 @@ impl DataBuilder {
         Ok(index)
     }
 
-    /// Adds a context, and returns its index: an entry for all texts but those of its rows, and the rows, each a list
-    /// of characters and its entry. Rows stand as they are given; that they ascend is for `OwnedData::new` to see. An
-    /// `Err`, out of memory or since there are 2^32 rows or characters, leaves all as it was.
+    /// Adds a context, and returns its index: an entry for all texts but those of its mappings, and the mappings, each a list
+    /// of characters and its entry. Mappings stand as they are given; that they ascend is for `OwnedData::new` to see. An
+    /// `Err`, out of memory or since there are 2^32 mappings or characters, leaves all as it was.
     #[tactic(auto, unfolding(crate::specs::Building::built_data))]
     pub fn add_context(
         &mut self,
         default: CollationElement32,
-        rows: &[(&[char], CollationElement32)],
+        mappings: &[(&[char], CollationElement32)],
     ) -> Result<usize, AllocError>
         ensures index { IfOk result (λ i. i ≡ length (built_data self.old).contexts) }
         ensures adds { OnOk result (built_data self.new
-            ≡ and_context (built_data self.old) (given_context default rows.entry.now)) }
+            ≡ and_context (built_data self.old) (given_context default mappings.entry.now)) }
         ensures err { OnErr result (built_data self.new ≡ built_data self.old) }
     {
         let index = self.contexts.len();
         add_context(
             &mut self.contexts,
-            &mut self.rows,
+            &mut self.mappings,
             &mut self.chars,
             default,
-            rows,
+            mappings,
         )?;
         Ok(index)
     }
@@ -191,7 +191,7 @@ impl DataBuilder {
             ces,
             ce32s,
             contexts,
-            rows,
+            mappings,
             chars,
         } = self;
         let Blocks { blocks, values } = blocks_of(alloc, characters.as_slice())?;
@@ -201,7 +201,7 @@ impl DataBuilder {
             ces,
             ce32s,
             contexts,
-            rows,
+            mappings,
             chars,
         })
     }

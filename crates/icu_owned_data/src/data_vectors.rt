@@ -3,7 +3,7 @@ ghost use Rattle.std.specs.Prelude.{◌≡◌, ◌↔◌, IsOk, IfOk, IfErr};
 ghost use Rattle.icu_data.specs.CodePointTables.{IsCodePointTable};
 ghost use Rattle.icu_data.specs.Contexts.{IsContextTable};
 
-use icu_data::{CodePointTable, CollationData, Context, ContextRow, ContextTable};
+use icu_data::{CodePointTable, CollationData, Context, ContextMapping, ContextTable};
 use icu_entries::DataErrorKind;
 use std::alloc::{AllocError, Global};
 
@@ -21,9 +21,9 @@ pub struct DataVectors {
     pub ce32s: Vec<u32>,
     /// The contexts that entries refer to by index.
     pub contexts: Vec<Context>,
-    /// The rows of the contexts.
-    pub rows: Vec<ContextRow>,
-    /// The characters of the rows.
+    /// The mappings of the contexts.
+    pub mappings: Vec<ContextMapping>,
+    /// The characters of the mappings.
     pub chars: Vec<char>,
 }
 
@@ -33,7 +33,7 @@ pub struct DataVectors {
 pub struct OwnedData {
     vectors: DataVectors,
     ghost is_table: { IsCodePointTable vectors.blocks.items vectors.values.items },
-    ghost is_context_table: { IsContextTable vectors.contexts.items vectors.rows.items vectors.chars.items },
+    ghost is_context_table: { IsContextTable vectors.contexts.items vectors.mappings.items vectors.chars.items },
 }
 
 impl DataVectors {
@@ -51,7 +51,7 @@ impl DataVectors {
         let trie = CodePointTable::new(self.blocks.as_slice(), self.values.as_slice())?;
         let contexts = ContextTable::new(
             self.contexts.as_slice(),
-            self.rows.as_slice(),
+            self.mappings.as_slice(),
             self.chars.as_slice(),
         )?;
         CollationData::new(trie, self.ces.as_slice(), self.ce32s.as_slice(), contexts)
@@ -62,18 +62,18 @@ impl DataVectors {
         ensures says { IfOk result (λ v. vectors_data v ≡ data_of source.entry) }
         ensures table { IfOk result (λ v. IsCodePointTable v.blocks.items v.values.items) }
         ensures contexts { IfOk result (λ v.
-            IsContextTable v.contexts.items v.rows.items v.chars.items) }
+            IsContextTable v.contexts.items v.mappings.items v.chars.items) }
     {
         let (trie, ces, ce32s, contexts) = source.parts();
         let (blocks, values) = trie.parts();
-        let (contexts, rows, chars) = contexts.parts();
+        let (contexts, mappings, chars) = contexts.parts();
         Ok(DataVectors {
             blocks: Vec::from_slice(alloc, blocks)?,
             values: Vec::from_slice(alloc, values)?,
             ces: Vec::from_slice(alloc, ces)?,
             ce32s: Vec::from_slice(alloc, ce32s)?,
             contexts: Vec::from_slice(alloc, contexts)?,
-            rows: Vec::from_slice(alloc, rows)?,
+            mappings: Vec::from_slice(alloc, mappings)?,
             chars: Vec::from_slice(alloc, chars)?,
         })
     }
@@ -118,7 +118,7 @@ impl OwnedData {
             vectors.ce32s.as_slice(),
             ContextTable::new_unchecked(
                 vectors.contexts.as_slice(),
-                vectors.rows.as_slice(),
+                vectors.mappings.as_slice(),
                 vectors.chars.as_slice(),
             ),
         )

@@ -1,5 +1,5 @@
 pub mod Tables
-pub mod LiveTables
+pub mod ReachableTables
 pub mod Diacritics
 pub mod Jamo
 pub mod Reorderings

@@ -6,17 +6,17 @@ use Rattle.icu_provider.specs.Metadata.{is_tailored, has_tailored_diacritics, ha
 use Rattle.icu_provider.specs.Requests.{Request, empty_request, without_type}
 use Rattle.icu_provider.specs.CollatorTables.{CollatorTables}
 
--- the first refusal, or what comes after the first result
+-- the first error, or what comes after the first result
 abbrev pub then_load : {A B : Type 0} → Result A DataError → (A → Result B DataError) → Result B DataError
 then_load (Ok x) next = next x
 then_load (Err e) next = Err e
 
--- the second result, where the first one is a refusal
+-- the second result, where the first one is an error
 abbrev pub or_else : {A : Type 0} → Result A DataError → Result A DataError → Result A DataError
 or_else (Ok x) again = Ok x
 or_else (Err e) again = again
 
--- asked with locale and type, and after a refusal with the locale alone; once, where no type is given
+-- asked with locale and type, and after an error with the locale alone; once, where no type is given
 abbrev pub typed_first : {A : Type 0} → (Request → Result A DataError) → Request → Result A DataError
 typed_first load r =
     elim r.collation_type [
@@ -33,7 +33,7 @@ if_named false loaded = Ok None
 abbrev pub diacritics_request : ℕ → Request → Request
 diacritics_request bits r = if has_tailored_diacritics bits then r else empty_request
 
--- all tables, or the first refusal that no further request mends
+-- all tables, or the first error that no further request mends
 unfoldable pub loaded_tables : Loads → Request → Result CollatorTables DataError
 loaded_tables loads r =
     then_load loads.root (λ root.

@@ -17,7 +17,7 @@ pub record Loads : Type 0 where
   pub reordering : Request → Result Reordering DataError
   pub diacritics : Request → Result (List ℕ) DataError
 
--- what a table says that is returned, or the refusal
+-- what a table says that is returned, or the error
 abbrev pub answer : {T A : Type 0} → (T → A) → Result T DataError → Result A DataError
 answer said (Ok table) = Ok (said table)
 answer said (Err e) = Err e

@@ -13,7 +13,7 @@ use crate::special_primaries::CollationSpecialPrimaries;
 use icu_data::CollationData;
 use icu_entries::DataError;
 
-/// What each load returns, whatever the request: tables, or refusals. The fields are public, so that a test may have it
+/// What each load returns, whatever the request: tables, or errors. The fields are public, so that a test may have it
 /// refuse a table, or return another one.
 #[derive(Debug, Clone, Copy)]
 pub struct FixedLoads<'d> {

@@ -124,10 +124,10 @@ fn load_diacritics<'p, P: CollationProvider>(
 /// Asks a provider for the tables of a locale's collation, in the order root, jamo, special primary weights, metadata,
 /// tailoring, reordering, diacritics. `locale` and `collation_type` are handed on as they are.
 ///
-/// Metadata, tailoring and reordering are asked for with locale and type, and after a refusal with the locale alone;
+/// Metadata, tailoring and reordering are asked for with locale and type, and after an error with the locale alone;
 /// where no type is given they are asked for once. A tailoring or a reordering is asked for only where the metadata
 /// says that there is one. Diacritics of the collation's own are asked for with locale and type, once, and others by
-/// the empty request. The last refusal of the first table that isn't returned is returned as it is. The tables aren't
+/// the empty request. The last error of the first table that isn't returned is returned as it is. The tables aren't
 /// checked.
 #[tactic(auto, unfolding(crate::specs::TableSets::tables_in, crate::specs::LoadedTables::loaded_tables))]
 pub fn load_tables<'p, P: CollationProvider>(

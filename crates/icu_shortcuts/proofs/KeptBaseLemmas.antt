@@ -1,4 +1,4 @@
--- What stands before a letter that begins contractions changes nothing of what it gives at the end of a text.
+-- What stands before a character that begins contractions changes nothing of what it gives at the end of a text.
 use Rattle.std.proofs.Common.{◌≡◌, ℕ, ◌<◌, ◌≤◌, List, [], ◌∷◌, ◌++◌, length, get_or, refl, sym, ap, ◌∙◌, append-nil, arith}
 use Rattle.ucd_normal.specs.declared.forms.Form.TheVariants.{Nfd}
 use Rattle.unicode_normalization.specs.Decompose.{decompose}

@@ -8,11 +8,11 @@ use Rattle.unicode_normalization.specs.Order.{is_starter}
 use Rattle.icu_entries.specs.Elements.{Element}
 use Rattle.icu_elements.specs.TextElements.{Reading, continues_number}
 use Rattle.icu_cuts.specs.Alone.{elements_of_char, is_alone}
-use Rattle.icu_cuts.specs.Cuts.{IsSafe, is_named, is_named_by_tailoring, has_prefix}
-use Rattle.icu_shortcuts.specs.SafeTables.{IsSafeBefore}
-use Rattle.icu_shortcuts.specs.Letters.{BeginsWithStarter, IsLetter, IsNumberDigit, IsMarkedStarter, HasLeadingPrimary, StandsAlone}
-use Rattle.icu_shortcuts.specs.KeptLetters.{KeptLetter, begins_with, is_marked_starter, is_safe_place, starts_safely, starts_with_primary, starts_with_starter}
-use Rattle.icu_shortcuts.specs.declared.letter_facts.Letter.{Letter}
+use Rattle.icu_cuts.specs.Cuts.{IsBoundary, is_named, is_named_by_tailoring, has_prefix}
+use Rattle.icu_shortcuts.specs.BoundaryTables.{HasBoundaryBefore}
+use Rattle.icu_shortcuts.specs.KeptFacts.{BeginsWithStarter, AreTrueFacts, IsNumberDigit, IsMarkedStarter, HasLeadingPrimary, StandsAlone}
+use Rattle.icu_shortcuts.specs.KeptChars.{KeptChar, begins_with, is_marked_starter, is_boundary_place, starts_at_boundary, starts_with_primary, starts_with_starter}
+use Rattle.icu_shortcuts.specs.declared.char_facts.CharFacts.{CharFacts}
 
 -- ---- tests, one by one
 
@@ -34,10 +34,10 @@ unset false h = refl
 same : (p q : ℕ) → p ≡ q → (p == q) ≡ true
 same p q e = grind (arith, nat_tests)
 
--- ---- safe places
+-- ---- boundaries
 
-safe_tests : (reading : Reading) (x : ℕ) → IsSafe reading x → is_safe_place reading x ≡ true
-safe_tests reading x h = rw (h.starter, h.root, h.tailoring, h.no_prefix, h.no_number) refl
+boundary_tests : (reading : Reading) (x : ℕ) → IsBoundary reading x → is_boundary_place reading x ≡ true
+boundary_tests reading x h = rw (h.starter, h.root, h.tailoring, h.no_prefix, h.no_number) refl
 
 module _ (reading : Reading) (x : ℕ) where
   abbrev root : Bool
@@ -52,8 +52,8 @@ module _ (reading : Reading) (x : ℕ) where
   abbrev number : Bool
   number = is_some reading.numeric && continues_number reading.tables x
 
-  safe_from : is_safe_place reading x ≡ true → IsSafe reading x
-  safe_from h =
+  boundary_from : is_boundary_place reading x ≡ true → IsBoundary reading x
+  boundary_from h =
       let a = second (is_starter x) _ h in
       let b = second (not root) _ a in
       let c = second (not tailoring) _ b in
@@ -77,9 +77,9 @@ if_some None P h = tt
 
 -- ---- from what is known to what is kept
 
-pub kept_letter : (reading : Reading) (c : ℕ) (l : Letter) → IsLetter reading c l → KeptLetter reading c l
-unfolding starts_with_starter starts_safely starts_with_primary is_marked_starter
-kept_letter reading c l h = record {
+pub kept_facts : (reading : Reading) (c : ℕ) (l : CharFacts) → AreTrueFacts reading c l → KeptChar reading c l
+unfolding starts_with_starter starts_at_boundary starts_with_primary is_marked_starter
+kept_facts reading c l h = record {
   starters = h.starters;
   marked_alone = λ e. (h.marked e).stands;
   marked = λ e. let m = h.marked e in ap (is_marked_starter l.class) m.decomposes ∙ both _ _ m.starter m.in_order;
@@ -87,7 +87,7 @@ kept_letter reading c l h = record {
   base = h.base;
   digit = some_is l.digit (λ d. IsNumberDigit reading c d) h.digit;
   begins = λ e. let b = h.begins e in ap starts_with_starter b.decomposes ∙ b.starter;
-  safe = λ e. let s = h.safe e in ap (starts_safely reading) s.decomposes ∙ safe_tests reading s.first s.safe;
+  boundary = λ e. let s = h.boundary e in ap (starts_at_boundary reading) s.decomposes ∙ boundary_tests reading s.first s.boundary;
   leads = λ e. let p = h.leads e in
       ap (starts_with_primary reading l.leading_primary) p.decomposes
       ∙ both _ _ p.starter (both _ _ p.alone (ap (begins_with l.leading_primary) p.elements ∙ same p.element.primary l.leading_primary p.leading));
@@ -96,7 +96,7 @@ kept_letter reading c l h = record {
 -- ---- and back
 
 module _ (reading : Reading) (c : ℕ) where
-  marked_from : (l : Letter) (ds : List ℕ) → decompose Nfd c ≡ ds → StandsAlone reading c l → is_marked_starter l.class ds ≡ true → IsMarkedStarter reading c l
+  marked_from : (l : CharFacts) (ds : List ℕ) → decompose Nfd c ≡ ds → StandsAlone reading c l → is_marked_starter l.class ds ≡ true → IsMarkedStarter reading c l
   unfolding is_marked_starter
   marked_from l [] e s h = cc
   marked_from l (d ∷ ds) e s h = record {
@@ -113,10 +113,10 @@ module _ (reading : Reading) (c : ℕ) where
   starter_from [] e h = cc
   starter_from (d ∷ ds) e h = record { first = d; more = ds; decomposes = e; starter = h }
 
-  safely_from : (ds : List ℕ) → decompose Nfd c ≡ ds → starts_safely reading ds ≡ true → IsSafeBefore reading c
-  unfolding starts_safely
-  safely_from [] e h = cc
-  safely_from (d ∷ ds) e h = record { first = d; more = ds; decomposes = e; safe = safe_from reading d h }
+  at_boundary_from : (ds : List ℕ) → decompose Nfd c ≡ ds → starts_at_boundary reading ds ≡ true → HasBoundaryBefore reading c
+  unfolding starts_at_boundary
+  at_boundary_from [] e h = cc
+  at_boundary_from (d ∷ ds) e h = record { first = d; more = ds; decomposes = e; boundary = boundary_from reading d h }
 
   element_leads : (p d : ℕ) (ds : List ℕ) (es : List Element) → decompose Nfd c ≡ d ∷ ds → is_starter d ≡ true → is_alone reading d ≡ true
       → elements_of_char reading.tables d ≡ es → begins_with p es ≡ true → HasLeadingPrimary reading c p
@@ -140,14 +140,14 @@ module _ (reading : Reading) (c : ℕ) where
       let a = second (is_starter d) _ h in
       element_leads p d ds _ e (first (is_starter d) _ h) (first (is_alone reading d) _ a) refl (second (is_alone reading d) _ a)
 
-  pub known_letter : (l : Letter) → KeptLetter reading c l → IsLetter reading c l
-  known_letter l h = record {
+  pub known_facts : (l : CharFacts) → KeptChar reading c l → AreTrueFacts reading c l
+  known_facts l h = record {
     starters = h.starters;
     marked = λ e. marked_from l _ refl (h.marked_alone e) (h.marked e);
     mark = h.mark;
     base = h.base;
     digit = if_some l.digit (λ d. IsNumberDigit reading c d) h.digit;
     begins = λ e. starter_from _ refl (h.begins e);
-    safe = λ e. safely_from _ refl (h.safe e);
+    boundary = λ e. at_boundary_from _ refl (h.boundary e);
     leads = λ e. leads_from l.leading_primary _ refl (h.leads e);
   }

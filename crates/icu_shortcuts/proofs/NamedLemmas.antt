@@ -1,4 +1,4 @@
--- What a list of characters doesn't have, no row names whose characters are a part of it.
+-- What a list of characters doesn't have, no mapping names whose characters are a part of it.
 use Rattle.std.proofs.Common.{◌≡◌, ◌≢◌, ℕ, zero, suc, ◌<◌, ◌≤◌, Bool, true, false, ◌||◌, ◌==◌, List, [], ◌∷◌, ◌++◌, length, take, drop, get_or, Result, Ok, Err, refl, ap, sym, ◌∙◌, arith, true≢false, ⊎_elim, is_ok, OnOk}
 use Rattle.std.proofs.lemmas.Bool.{cases_Bool, cases_lt, eqb-true}
 use Rattle.std.proofs.lemmas.List.Folds.{list_any-append}
@@ -7,11 +7,11 @@ use Rattle.std.specs.List.{list_any}
 use Rattle.std.specs.Ordering.{nat_cmp}
 use Rattle.std.specs.List.Sorted.{IsBinarySearchResult, IsSortedByKey}
 use Rattle.icu_data.specs.declared.context.Context.{Context as StoredContext}
-use Rattle.icu_data.specs.declared.context.ContextRow.{ContextRow}
-use Rattle.icu_data.specs.Contexts.{row_of, rows_of, stored_context, stored_contexts}
+use Rattle.icu_data.specs.declared.context.ContextMapping.{ContextMapping}
+use Rattle.icu_data.specs.Contexts.{mapping_of, mappings_of, stored_context, stored_contexts}
 use Rattle.icu_data.proofs.SameEntryLemmas.{or_none}
 use Rattle.icu_cuts.specs.Cuts.{names, is_named_in}
-use Rattle.icu_shortcuts.specs.RowCharacters.{has_character, Ascends}
+use Rattle.icu_shortcuts.specs.MappingCharacters.{has_character, Ascends}
 
 both_false : (a b : Bool) → a ≡ false → b ≡ false → (a || b) ≡ false
 both_false a b e f = ap (λ p. p || b) e ∙ f
@@ -30,22 +30,22 @@ absent_before x (suc n) (c ∷ cs) h =
     let parts = or_none (c == x) (has_character x cs) h in
     both_false (c == x) (has_character x (take n cs)) parts.0 (absent_before x n cs parts.1)
 
--- ---- rows and contexts
+-- ---- mappings and contexts
 
-row_absent : (x : ℕ) (chars : List ℕ) (row : ContextRow) → has_character x chars ≡ false → names x (row_of chars row) ≡ false
-row_absent x chars row h = absent_before x row.chars_len (drop row.chars_start chars) (absent_later x row.chars_start chars h)
+mapping_absent : (x : ℕ) (chars : List ℕ) (mapping : ContextMapping) → has_character x chars ≡ false → names x (mapping_of chars mapping) ≡ false
+mapping_absent x chars mapping h = absent_before x mapping.chars_len (drop mapping.chars_start chars) (absent_later x mapping.chars_start chars h)
 
-rows_absent : (x : ℕ) (chars : List ℕ) (rows : List ContextRow) → has_character x chars ≡ false → list_any (names x) (rows_of chars rows) ≡ false
-rows_absent x chars [] h = refl
-rows_absent x chars (row ∷ rows) h =
-    both_false (names x (row_of chars row)) (list_any (names x) (rows_of chars rows)) (row_absent x chars row h) (rows_absent x chars rows h)
+mappings_absent : (x : ℕ) (chars : List ℕ) (mappings : List ContextMapping) → has_character x chars ≡ false → list_any (names x) (mappings_of chars mappings) ≡ false
+mappings_absent x chars [] h = refl
+mappings_absent x chars (mapping ∷ mappings) h =
+    both_false (names x (mapping_of chars mapping)) (list_any (names x) (mappings_of chars mappings)) (mapping_absent x chars mapping h) (mappings_absent x chars mappings h)
 
-pub contexts_absent : (x : ℕ) (contexts : List StoredContext) (rows : List ContextRow) (chars : List ℕ) → has_character x chars ≡ false
-    → list_any (is_named_in x) (stored_contexts contexts rows chars) ≡ false
-contexts_absent x [] rows chars h = refl
-contexts_absent x (context ∷ contexts) rows chars h =
-    both_false (is_named_in x (stored_context rows chars context)) (list_any (is_named_in x) (stored_contexts contexts rows chars))
-    (rows_absent x chars (take context.rows_len (drop context.rows_start rows)) h) (contexts_absent x contexts rows chars h)
+pub contexts_absent : (x : ℕ) (contexts : List StoredContext) (mappings : List ContextMapping) (chars : List ℕ) → has_character x chars ≡ false
+    → list_any (is_named_in x) (stored_contexts contexts mappings chars) ≡ false
+contexts_absent x [] mappings chars h = refl
+contexts_absent x (context ∷ contexts) mappings chars h =
+    both_false (is_named_in x (stored_context mappings chars context)) (list_any (is_named_in x) (stored_contexts contexts mappings chars))
+    (mappings_absent x chars (take context.mappings_len (drop context.mappings_start mappings)) h) (contexts_absent x contexts mappings chars h)
 
 -- ---- lists put together, and in order
 

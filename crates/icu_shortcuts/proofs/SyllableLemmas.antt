@@ -1,4 +1,4 @@
--- Letters whose characters decompose to themselves.
+-- Characters whose characters decompose to themselves.
 use Rattle.std.proofs.Common.{◌≡◌, ◌≢◌, ◌≤◌, ◌<◌, ◌+◌, ◌-◌, ◌/◌, ◌%◌, ℕ, true, List, [], ◌∷◌, ◌++◌, take, get_or, Option, None, IfSome, refl, sym, ap, ap₂, subst, ◌∙◌, arith}
 use Rattle.std.specs.List.{list_all}
 use Rattle.std.proofs.lemmas.List.Folds.{list_all-append}
@@ -12,12 +12,12 @@ use Rattle.unicode_normalization.proofs.HangulLemmas.{is_among_from, decompose_h
 use Rattle.icu_entries.specs.Elements.{Element}
 use Rattle.icu_elements.specs.TextElements.{Reading}
 use Rattle.icu_cuts.specs.Alone.{elements_by_char, elements_of_char, is_alone}
-use Rattle.icu_cuts.specs.Cuts.{IsSafe}
-use Rattle.icu_shortcuts.specs.Letters.{IsLetter, IsNumberDigit, letter_elements}
-use Rattle.icu_shortcuts.specs.inner.ReadLetters.{IsOutline, LeadsBy}
-use Rattle.icu_shortcuts.specs.inner.Syllables.{IsOwnLetter, StandByThemselves}
-use Rattle.icu_shortcuts.specs.declared.letter_facts.Letter.{Letter}
-use Rattle.icu_shortcuts.specs.declared.letter_facts.LetterKind.TheVariants.{Starters}
+use Rattle.icu_cuts.specs.Cuts.{IsBoundary}
+use Rattle.icu_shortcuts.specs.KeptFacts.{AreTrueFacts, IsNumberDigit, char_elements}
+use Rattle.icu_shortcuts.specs.inner.ReadFacts.{IsOutline, LeadsBy}
+use Rattle.icu_shortcuts.specs.inner.Syllables.{AreOwnFacts, StandByThemselves}
+use Rattle.icu_shortcuts.specs.declared.char_facts.CharFacts.{CharFacts}
+use Rattle.icu_shortcuts.specs.declared.char_facts.FactsKind.TheVariants.{Starters}
 use Rattle.icu_shortcuts.proofs.KeptLemmas.{both, first as former}
 
 head_same : (a b : ℕ) (xs ys : List ℕ) → a ∷ xs ≡ b ∷ ys → a ≡ b
@@ -27,7 +27,7 @@ pub own_none : (reading : Reading) (es : List Element) → es ≡ [] → StandBy
 own_none reading es e = record { alone = refl; starters = refl; elements = e }
 
 -- a jamo
-pub own_jamo : (reading : Reading) (c : ℕ) (l : Letter) → 0x1100 ≤ c → c < 0x1200 → l.kind ≡ Starters → l.count ≡ 1 → IsLetter reading c l → IsOwnLetter reading c l
+pub own_jamo : (reading : Reading) (c : ℕ) (l : CharFacts) → 0x1100 ≤ c → c < 0x1200 → l.kind ≡ Starters → l.count ≡ 1 → AreTrueFacts reading c l → AreOwnFacts reading c l
 own_jamo reading c l low high kind count is = record {
   itself = decompose-final Nfd c (is_final-jamo Nfd c low high);
   kind = kind;
@@ -36,8 +36,8 @@ own_jamo reading c l low high kind count is = record {
 }
 
 -- one more
-module _ (reading : Reading) (cs : List ℕ) (c : ℕ) (l : Letter) (es : List Element) (e : Element)
-    (s : StandByThemselves reading cs es) (o : IsOwnLetter reading c l) (is : take 1 l.elements ≡ e ∷ []) where
+module _ (reading : Reading) (cs : List ℕ) (c : ℕ) (l : CharFacts) (es : List Element) (e : Element)
+    (s : StandByThemselves reading cs es) (o : AreOwnFacts reading c l) (is : take 1 l.elements ≡ e ∷ []) where
   one : e ∷ [] ≡ elements_by_char reading.tables (c ∷ [])
   one =
       sym (ap (λ n. take n l.elements) o.count ∙ is)
@@ -78,19 +78,19 @@ module _ (c n : ℕ) (low : n < 11172) (is : c ≡ 0xAC00 + n) where
       ∙ ap (λ t. (0x1100 + n / 588) ∷ (0x1100 + (0x61 + n % 588 / 28)) ∷ t ∷ []) trailing
 
 -- what is known of it is known of its only character
-pub own_outline : (reading : Reading) (c : ℕ) (l : Letter) → IsOwnLetter reading c l → IsOutline reading c l
+pub own_outline : (reading : Reading) (c : ℕ) (l : CharFacts) → AreOwnFacts reading c l → IsOutline reading c l
 own_outline reading c l o = record {
   begins = λ e. former (is_starter c) true (ap (list_all is_starter) (sym o.itself) ∙ (o.is.starters o.kind).starters);
-  safe = λ e. let h = o.is.safe e in subst (IsSafe reading) (head_same _ _ _ _ (sym h.decomposes ∙ o.itself)) h.safe;
+  boundary = λ e. let h = o.is.boundary e in subst (IsBoundary reading) (head_same _ _ _ _ (sym h.decomposes ∙ o.itself)) h.boundary;
   leads = λ e. let h = o.is.leads e in
       subst (λ x. LeadsBy reading x l.leading_primary) (head_same _ _ _ _ (sym h.decomposes ∙ o.itself))
       (record { element = h.element; rest = h.rest; starter = h.starter; alone = h.alone; elements = h.elements; leading = h.leading });
 }
 
--- a letter whose decomposition they are
-pub whole_letter : (reading : Reading) (c first : ℕ) (more parts : List ℕ) (l : Letter) → decompose Nfd c ≡ parts → parts ≡ first ∷ more
-    → IsOutline reading first l → StandByThemselves reading parts (letter_elements l) → l.kind ≡ Starters → l.digit ≡ None → IsLetter reading c l
-whole_letter reading c first more parts l dec p h s kind no_digit = record {
+-- a character whose decomposition they are
+pub whole_facts : (reading : Reading) (c first : ℕ) (more parts : List ℕ) (l : CharFacts) → decompose Nfd c ≡ parts → parts ≡ first ∷ more
+    → IsOutline reading first l → StandByThemselves reading parts (char_elements l) → l.kind ≡ Starters → l.digit ≡ None → AreTrueFacts reading c l
+whole_facts reading c first more parts l dec p h s kind no_digit = record {
   starters = λ e. record {
     stands = record { alone = ap (list_all (is_alone reading)) dec ∙ s.alone; elements = s.elements ∙ ap (elements_by_char reading.tables) (sym dec) };
     starters = ap (list_all is_starter) dec ∙ s.starters;
@@ -100,7 +100,7 @@ whole_letter reading c first more parts l dec p h s kind no_digit = record {
   base = λ e. absurd (cc (sym kind ∙ e));
   digit = subst (λ (o : Option ℕ). IfSome o (λ d. IsNumberDigit reading c d)) (sym no_digit) tt;
   begins = λ e. record { first = first; more = more; decomposes = dec ∙ p; starter = h.begins e };
-  safe = λ e. record { first = first; more = more; decomposes = dec ∙ p; safe = h.safe e };
+  boundary = λ e. record { first = first; more = more; decomposes = dec ∙ p; boundary = h.boundary e };
   leads = λ e. let k = h.leads e in record {
     first = first;
     more = more;

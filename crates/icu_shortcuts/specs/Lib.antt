@@ -1,7 +1,7 @@
-pub mod RowCharacters
+pub mod MappingCharacters
 pub mod Named
-pub mod SafeTables
-pub mod Letters
-pub mod KeptLetters
-pub mod LetterTables
+pub mod BoundaryTables
+pub mod KeptFacts
+pub mod KeptChars
+pub mod FactsTables
 pub mod inner

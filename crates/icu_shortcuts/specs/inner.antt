@@ -1,4 +1,4 @@
 -- Words of private contracts and proofs only: no public contract names them.
 pub mod FewElements
-pub mod ReadLetters
+pub mod ReadFacts
 pub mod Syllables

@@ -7,20 +7,20 @@ ghost use Rattle.icu_data.specs.Final.{final_elements};
 ghost use Rattle.icu_data.specs.StoredData.{data_of};
 ghost use Rattle.icu_entries.specs.declared.entry.EntryKind.TheVariants.{Digit};
 ghost use Rattle.icu_entries.specs.Entries.{kind_of};
-ghost use Rattle.icu_matches.specs.GoodEntries.{IsGoodFrom};
+ghost use Rattle.icu_matches.specs.WellFormedEntries.{IsWellFormedFrom};
 ghost use Rattle.icu_cuts.specs.Alone.{elements_by_char, elements_of_char, is_alone, is_dot, looks_at_nothing, plain_entry};
 ghost use Rattle.icu_shortcuts.specs.inner.FewElements.{few_elements};
-ghost use Rattle.icu_shortcuts.specs.SafeTables.{safe_reading};
+ghost use Rattle.icu_shortcuts.specs.BoundaryTables.{boundary_reading};
 
 use crate::few_elements::FewElements;
-use crate::safe_places::SafePlaces;
+use crate::boundaries::Boundaries;
 use icu_data::CollationData;
 use icu_entries::{CollationElement, CollationElement32, EntryKind};
 
 /// Whether U+0307 may be silent, as it may where texts are read by the Lithuanian rule.
-#[tactic(auto, unfolding(crate::specs::SafeTables::safe_reading))]
-fn is_dot(places: &SafePlaces<'_>, c: char) -> bool
-    ensures { result ≡ is_dot (safe_reading places.now) c }
+#[tactic(auto, unfolding(crate::specs::BoundaryTables::boundary_reading))]
+fn is_dot(places: &Boundaries<'_>, c: char) -> bool
+    ensures { result ≡ is_dot (boundary_reading places.now) c }
 {
     places.reading.lithuanian_dot_above && c == '\u{307}'
 }
@@ -34,8 +34,8 @@ fn with_digit(
     few: FewElements,
 ) -> Option<FewElements>
     requires is_digit { kind_of ce32 ≡ Digit }
-    requires good { IsGoodFrom (data_of home) c ce32 }
-    ensures letter { IfSome result (λ _. is_some numeric_primary ≡ false) }
+    requires well_formed { IsWellFormedFrom (data_of home) c ce32 }
+    ensures facts { IfSome result (λ _. is_some numeric_primary ≡ false) }
     ensures elements { IfSome result (λ more. few_elements more ≡ few_elements few
         ++ final_elements (homed (data_of home.entry) (plain_of (data_of home.entry) ce32)) c) }
 {
@@ -54,7 +54,7 @@ fn with_entry(
     ce32: CollationElement32,
     few: FewElements,
 ) -> Option<FewElements>
-    requires { IsGoodFrom (data_of home) c ce32 }
+    requires { IsWellFormedFrom (data_of home) c ce32 }
     ensures stands { IfSome result (λ _. looks_at_nothing numeric_primary (kind_of ce32) ≡ true) }
     ensures elements { IfSome result (λ more. few_elements more ≡ few_elements few
         ++ final_elements (plain_entry (homed (data_of home.entry) ce32)) c) }
@@ -68,11 +68,11 @@ fn with_entry(
 
 /// These elements and those of a character of a decomposed text that stands alone. None where it does not, or there is
 /// a fourth.
-#[tactic(auto, unfolding(crate::specs::SafeTables::safe_reading, icu_cuts::specs::Alone::elements_of_char))]
-pub(crate) fn with_char(places: &SafePlaces<'_>, c: char, few: FewElements) -> Option<FewElements>
-    ensures stands { IfSome result (λ _. is_alone (safe_reading places.now) c ≡ true) }
+#[tactic(auto, unfolding(crate::specs::BoundaryTables::boundary_reading, icu_cuts::specs::Alone::elements_of_char))]
+pub(crate) fn with_char(places: &Boundaries<'_>, c: char, few: FewElements) -> Option<FewElements>
+    ensures stands { IfSome result (λ _. is_alone (boundary_reading places.now) c ≡ true) }
     ensures elements { IfSome result (λ more. few_elements more ≡ few_elements few
-        ++ elements_of_char (safe_reading places.now).tables c) }
+        ++ elements_of_char (boundary_reading places.now).tables c) }
 {
     if is_dot(places, c) {
         return None;
@@ -86,14 +86,14 @@ pub(crate) fn with_char(places: &SafePlaces<'_>, c: char, few: FewElements) -> O
 
 /// These elements and those of several characters, each of which stands alone.
 pub(crate) fn with_chars(
-    places: &SafePlaces<'_>,
+    places: &Boundaries<'_>,
     chars: &[char],
     few: FewElements,
 ) -> Option<FewElements>
-    ensures stand { IfSome result (λ _. list_all (is_alone (safe_reading places.now)) chars.now
+    ensures stand { IfSome result (λ _. list_all (is_alone (boundary_reading places.now)) chars.now
         ≡ true) }
     ensures elements { IfSome result (λ more. few_elements more ≡ few_elements few
-        ++ elements_by_char (safe_reading places.now).tables chars.now) }
+        ++ elements_by_char (boundary_reading places.now).tables chars.now) }
 {
     let mut found = few;
     for c in chars {

@@ -3,10 +3,10 @@
 ghost use Rattle.std.specs.Prelude.{◌≡◌, ◌<◌, IfSome};
 ghost use Rattle.icu_entries.specs.declared.entry.EntryKind.TheVariants.{Digit};
 ghost use Rattle.icu_entries.specs.Entries.{kind_of, digit_value};
-ghost use Rattle.icu_shortcuts.specs.Letters.{IsNumberDigit};
-ghost use Rattle.icu_shortcuts.specs.SafeTables.{safe_reading};
+ghost use Rattle.icu_shortcuts.specs.KeptFacts.{IsNumberDigit};
+ghost use Rattle.icu_shortcuts.specs.BoundaryTables.{boundary_reading};
 
-use crate::safe_places::SafePlaces;
+use crate::boundaries::Boundaries;
 use icu_entries::{CollationElement32, EntryKind};
 
 /// The value of a decimal digit's entry.
@@ -21,9 +21,9 @@ fn digit_of_entry(ce32: CollationElement32) -> Option<u8>
 
 /// The value that a character below U+00C0 has in a number, where digits are read as numbers. None of any other
 /// character.
-#[tactic(auto, unfolding(crate::specs::SafeTables::safe_reading))]
-pub(crate) fn digit_at(places: &SafePlaces<'_>, c: char) -> Option<u8>
-    ensures { IfSome result (λ d. IsNumberDigit (safe_reading places.now) c d) }
+#[tactic(auto, unfolding(crate::specs::BoundaryTables::boundary_reading))]
+pub(crate) fn digit_at(places: &Boundaries<'_>, c: char) -> Option<u8>
+    ensures { IfSome result (λ d. IsNumberDigit (boundary_reading places.now) c d) }
 {
     if c >= '\u{C0}' || places.reading.tables.secondary_of_diacritic(c).is_some() {
         return None;

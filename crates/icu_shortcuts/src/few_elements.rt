@@ -26,7 +26,7 @@ pub(crate) struct TooMany;
 impl VisitElement for FewElements {
     ghost use Rattle.icu_shortcuts.specs.inner.FewElements.{few_elements};
 
-    type Refusal = TooMany;
+    type Error = TooMany;
 
     ghost Seen = { List Element };
 

@@ -1,15 +1,15 @@
-//! The characters that rows of contexts name.
+//! The characters that mappings of contexts name.
 
 ghost use Rattle.std.specs.Prelude.{◌≡◌, false, option_map, IfOk, OnOk};
 ghost use Rattle.icu_data.specs.StoredData.{data_of};
-ghost use Rattle.icu_shortcuts.specs.RowCharacters.{Ascends, HasRowCharacters, HasTailoringCharacters, KeepsCharacters};
+ghost use Rattle.icu_shortcuts.specs.MappingCharacters.{Ascends, HasMappingCharacters, HasTailoringCharacters, KeepsCharacters};
 ghost use Rattle.icu_checks.specs.Checked.{checked_tables};
 
 use icu_checks::CheckedTables;
 use icu_data::CollationData;
 use std::alloc::{AllocError, Global};
 
-/// The characters that rows of prefixes and contractions name (UTS #35 part 5, "Context-Sensitive Mappings"), of a root
+/// The characters that mappings of prefixes and contractions name (UTS #35 part 5, "Context-Sensitive Mappings"), of a root
 /// and of its tailoring, in ascending order.
 #[derive(Debug, Drop)]
 pub struct NamedCharacters {
@@ -31,7 +31,7 @@ impl NamedCharacters {
         Ok(NamedCharacters { chars })
     }
 
-    /// Whether a row may name a character: where this is false, none does.
+    /// Whether a mapping may name a character: where this is false, none does.
     pub fn has(&self, c: char) -> bool
         ensures { result ≡ false → may_name self.now c ≡ false }
     {
@@ -39,23 +39,23 @@ impl NamedCharacters {
     }
 }
 
-/// Appends the characters of all rows of a root or a tailoring.
+/// Appends the characters of all mappings of a root or a tailoring.
 fn push_named(chars: &mut Vec<char>, table: CollationData<'_>) -> Result<(), AllocError>
     ensures keeps { OnOk result (KeepsCharacters chars.old.items chars.new.items) }
-    ensures rows { OnOk result (HasRowCharacters chars.new.items (data_of table.entry)) }
+    ensures mappings { OnOk result (HasMappingCharacters chars.new.items (data_of table.entry)) }
 {
     let (_, _, _, contexts) = table.parts();
-    let (_, _, row_chars) = contexts.parts();
-    chars.extend_from_slice(row_chars)
+    let (_, _, mapping_chars) = contexts.parts();
+    chars.extend_from_slice(mapping_chars)
 }
 
-/// Appends the characters of all rows of a tailoring, where there is one.
+/// Appends the characters of all mappings of a tailoring, where there is one.
 fn push_named_by_tailoring(
     chars: &mut Vec<char>,
     tailoring: Option<CollationData<'_>>,
 ) -> Result<(), AllocError>
     ensures keeps { OnOk result (KeepsCharacters chars.old.items chars.new.items) }
-    ensures rows { OnOk result (HasTailoringCharacters chars.new.items
+    ensures mappings { OnOk result (HasTailoringCharacters chars.new.items
         (option_map data_of tailoring.entry)) }
 {
     match tailoring {

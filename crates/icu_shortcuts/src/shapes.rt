@@ -3,10 +3,10 @@
 ghost use Rattle.std.specs.Prelude.{◌≡◌, true, IfSome, IsTrue};
 ghost use Rattle.std.specs.List.{list_all};
 ghost use Rattle.unicode_normalization.specs.Order.{is_starter};
-ghost use Rattle.icu_shortcuts.specs.Letters.{rises_to};
-ghost use Rattle.icu_shortcuts.specs.inner.ReadLetters.{IsShaped};
+ghost use Rattle.icu_shortcuts.specs.KeptFacts.{rises_to};
+ghost use Rattle.icu_shortcuts.specs.inner.ReadFacts.{IsShaped};
 
-use crate::letter_facts::LetterKind;
+use crate::char_facts::FactsKind;
 use unicode_normalization::char::canonical_combining_class;
 
 /// Whether all of these are starters.
@@ -18,7 +18,7 @@ fn are_starters(chars: &[char]) -> bool
 
 /// The class of the last of some marks, or 0 where there is none. None where one is a starter, or their classes don't
 /// rise.
-#[tactic(auto, unfolding(crate::specs::Letters::rises_to))]
+#[tactic(auto, unfolding(crate::specs::KeptFacts::rises_to))]
 fn last_class(marks: &[char]) -> Option<u8>
     ensures { IfSome result (λ class. rises_to 0 marks.now class ≡ true) }
 {
@@ -34,22 +34,22 @@ fn last_class(marks: &[char]) -> Option<u8>
 }
 
 /// The kind and the class of a character that decomposes to these, its first character and the others.
-pub(crate) fn shape_of(c: char, first: char, more: &[char]) -> (LetterKind, u8)
+pub(crate) fn shape_of(c: char, first: char, more: &[char]) -> (FactsKind, u8)
     ensures { IsShaped c first more.now result.0 result.1 }
 {
     let class = canonical_combining_class(first);
     if class != 0 {
         return if first == c && more.is_empty() {
-            (LetterKind::Mark, class)
+            (FactsKind::Mark, class)
         } else {
-            (LetterKind::Unknown, 0)
+            (FactsKind::Unknown, 0)
         };
     }
     if are_starters(more) {
-        return (LetterKind::Starters, 0);
+        return (FactsKind::Starters, 0);
     }
     match last_class(more) {
-        Some(last) => (LetterKind::Marked, last),
-        None => (LetterKind::Unknown, 0),
+        Some(last) => (FactsKind::Marked, last),
+        None => (FactsKind::Unknown, 0),
     }
 }

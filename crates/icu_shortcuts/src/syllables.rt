@@ -4,14 +4,14 @@ ghost use Rattle.std.specs.Prelude.{◌≡◌, ◌<◌, ◌+◌, ◌∷◌, [], 
 ghost use Rattle.ucd_normal.specs.declared.forms.Form.TheVariants.{Nfd};
 ghost use Rattle.unicode_normalization.specs.Decompose.{decompose};
 ghost use Rattle.icu_elements.specs.TextElements.{Reading};
-ghost use Rattle.icu_shortcuts.specs.Letters.{IsLetter};
-ghost use Rattle.icu_shortcuts.specs.LetterTables.{AreLetters};
-ghost use Rattle.icu_shortcuts.specs.inner.Syllables.{IsOwnLetter};
+ghost use Rattle.icu_shortcuts.specs.KeptFacts.{AreTrueFacts};
+ghost use Rattle.icu_shortcuts.specs.FactsTables.{AreFacts};
+ghost use Rattle.icu_shortcuts.specs.inner.Syllables.{AreOwnFacts};
 
 use crate::few_elements::FewElements;
-use crate::letter_facts::{Letter, LetterKind};
-use crate::letter_table::Letters;
-use crate::read_letter::with_elements;
+use crate::char_facts::{CharFacts, FactsKind};
+use crate::facts_table::KeptFacts;
+use crate::read_char::with_elements;
 use icu_entries::CollationElement;
 
 /// The first Hangul syllable (Unicode Standard, "Conjoining Jamo Behavior").
@@ -45,21 +45,21 @@ fn syllable_number(c: char) -> Option<u32>
     }
 }
 
-/// The element of a letter that has one.
+/// The element of a character that has one.
 #[inline(always)]
-fn only_element(letter: &Letter) -> CollationElement
-    ensures { take 1 letter.now.elements ≡ result ∷ [] }
+fn only_element(facts: &CharFacts) -> CollationElement
+    ensures { take 1 facts.now.elements ≡ result ∷ [] }
 {
-    let elements = &letter.elements[..];
+    let elements = &facts.elements[..];
     elements[0]
 }
 
 /// What is known of a syllable that decomposes to two jamo.
 #[inline(always)]
-fn of_two(leading: &Letter, vowel: &Letter) -> Letter
-    ensures { (reading : Reading) (c l v : ℕ) → IsOwnLetter reading l leading.now
-        → IsOwnLetter reading v vowel.now
-        → decompose Nfd c ≡ l ∷ v ∷ [] → IsLetter reading c result }
+fn of_two(leading: &CharFacts, vowel: &CharFacts) -> CharFacts
+    ensures { (reading : Reading) (c l v : ℕ) → AreOwnFacts reading l leading.now
+        → AreOwnFacts reading v vowel.now
+        → decompose Nfd c ≡ l ∷ v ∷ [] → AreTrueFacts reading c result }
 {
     let few = FewElements {
         elements: [
@@ -69,16 +69,16 @@ fn of_two(leading: &Letter, vowel: &Letter) -> Letter
         ],
         count: 2,
     };
-    with_elements(*leading, few, (LetterKind::Starters, 0))
+    with_elements(*leading, few, (FactsKind::Starters, 0))
 }
 
 /// What is known of a syllable that decomposes to three jamo.
 #[inline(always)]
-fn of_three(leading: &Letter, vowel: &Letter, trailing: &Letter) -> Letter
-    ensures { (reading : Reading) (c l v t : ℕ) → IsOwnLetter reading l leading.now
-        → IsOwnLetter reading v vowel.now
-        → IsOwnLetter reading t trailing.now → decompose Nfd c ≡ l ∷ v ∷ t ∷ []
-        → IsLetter reading c result }
+fn of_three(leading: &CharFacts, vowel: &CharFacts, trailing: &CharFacts) -> CharFacts
+    ensures { (reading : Reading) (c l v t : ℕ) → AreOwnFacts reading l leading.now
+        → AreOwnFacts reading v vowel.now
+        → AreOwnFacts reading t trailing.now → decompose Nfd c ≡ l ∷ v ∷ t ∷ []
+        → AreTrueFacts reading c result }
 {
     let few = FewElements {
         elements: [
@@ -88,30 +88,30 @@ fn of_three(leading: &Letter, vowel: &Letter, trailing: &Letter) -> Letter
         ],
         count: 3,
     };
-    with_elements(*leading, few, (LetterKind::Starters, 0))
+    with_elements(*leading, few, (FactsKind::Starters, 0))
 }
 
-impl Letters {
+impl KeptFacts {
     /// What is kept of a conjoining jamo that has one element, counted from U+1100 on: each decomposes to itself
     /// (UAX #15).
     #[inline]
-    fn jamo(&self, number: u32) -> Option<&Letter>
+    fn jamo(&self, number: u32) -> Option<&CharFacts>
         requires { number < 0x100 }
-        ensures { IfSome result (λ l. (reading : Reading) → AreLetters reading self.now
-            → IsOwnLetter reading (0x1100 + number) l.now) }
+        ensures { IfSome result (λ l. (reading : Reading) → AreFacts reading self.now
+            → AreOwnFacts reading (0x1100 + number) l.now) }
     {
-        let letter = &self.jamo[number as usize];
-        match letter.kind {
-            LetterKind::Starters if letter.count == 1 => Some(letter),
+        let facts = &self.jamo[number as usize];
+        match facts.kind {
+            FactsKind::Starters if facts.count == 1 => Some(facts),
             _ => None,
         }
     }
 
     /// What is known of a Hangul syllable, where each of its jamo has one element wherever it stands.
     #[inline]
-    pub fn syllable(&self, c: char) -> Option<Letter>
-        ensures { IfSome result (λ l. (reading : Reading) → AreLetters reading self.now
-            → IsLetter reading c l) }
+    pub fn syllable(&self, c: char) -> Option<CharFacts>
+        ensures { IfSome result (λ l. (reading : Reading) → AreFacts reading self.now
+            → AreTrueFacts reading c l) }
     {
         let number = syllable_number(c)?;
         let leading = self.jamo(number / N_COUNT)?;

@@ -9,9 +9,9 @@ use Rattle.icu_owned_data.specs.Building.{SaysOfCharacters}
 use Rattle.icu_provider.specs.CollatorTables.{CollatorTables}
 use Rattle.icu_checks.specs.declared.checked.CheckedTables.{CheckedTables}
 use Rattle.icu_checks.specs.Checked.{checked_tables}
-use Rattle.icu_checks.specs.GoodTables.{IsGoodTables}
+use Rattle.icu_checks.specs.WellFormedTables.{IsWellFormedTables}
 use Rattle.icu_small_tables.specs.SmallTables.{small_root, with_root, AreSmallTables, IsLowLead}
-use Rattle.icu_small_tables.proofs.SmallTableLemmas.{same_tables_are_good}
+use Rattle.icu_small_tables.proofs.SmallTableLemmas.{same_tables_are_well_formed}
 
 is_memory : (kind : DataErrorKind) → ((kind ≡ NoMemory → ⊥) → ⊥) → kind ≡ NoMemory
 is_memory NoMemory h = refl
@@ -21,9 +21,9 @@ module _ (n : ℕ) (low : IsLowLead n) (root : Data) (says : SaysOfCharacters sm
   are : AreSmallTables all
   are = subst AreSmallTables (sym is) (record { numeric = low; root = says; others = refl })
 
-  pub only_memory : (r : Result CheckedTables DataError) → IfErr r (λ e. (e.kind ≡ NoMemory → ⊥) → IsGoodTables all → ⊥) → IfErr r (λ e. e.kind ≡ NoMemory)
+  pub only_memory : (r : Result CheckedTables DataError) → IfErr r (λ e. (e.kind ≡ NoMemory → ⊥) → IsWellFormedTables all → ⊥) → IfErr r (λ e. e.kind ≡ NoMemory)
   only_memory (Ok tables) h = tt
-  only_memory (Err e) h = is_memory e.kind (λ other. h other (same_tables_are_good all are))
+  only_memory (Err e) h = is_memory e.kind (λ other. h other (same_tables_are_well_formed all are))
 
   pub kept_are_small : (r : Result CheckedTables DataError) → IfOk r (λ t. checked_tables t ≡ all) → IfOk r (λ t. AreSmallTables (checked_tables t))
   kept_are_small (Ok tables) h = subst AreSmallTables (sym h) are

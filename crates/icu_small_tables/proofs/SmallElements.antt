@@ -10,13 +10,13 @@ use Rattle.icu_entries.specs.Weights.{implicit_weight}
 use Rattle.icu_data.specs.Data.{Data}
 use Rattle.icu_levels.specs.WeightBytes.{weight_bytes}
 use Rattle.icu_provider.specs.SpecialPrimaries.{is_compressible}
-use Rattle.icu_checks.specs.declared.condition.LiveElementCondition.{LiveElementCondition}
-use Rattle.icu_checks.specs.declared.condition.LiveElementCondition.TheVariants as of_element
+use Rattle.icu_checks.specs.declared.condition.ReachableElementCondition.{ReachableElementCondition}
+use Rattle.icu_checks.specs.declared.condition.ReachableElementCondition.TheVariants as of_element
 use Rattle.icu_checks.specs.declared.condition.PairCondition.{PairCondition}
 use Rattle.icu_checks.specs.declared.condition.PairCondition.TheVariants as of_pair
 use Rattle.icu_checks.specs.declared.condition.LeadCondition.{LeadCondition}
 use Rattle.icu_checks.specs.declared.condition.LeadCondition.TheVariants as of_lead
-use Rattle.icu_checks.specs.ElementConditions.{has_low_bytes, is_tertiary_element, live_element_meets}
+use Rattle.icu_checks.specs.ElementConditions.{has_low_bytes, is_tertiary_element, reachable_element_meets}
 use Rattle.icu_checks.specs.LeadConditions.{LeadMeets}
 use Rattle.icu_checks.specs.PairConditions.{BeginsNot, PairMeets}
 use Rattle.icu_data.proofs.ListLemmas.{of_member}
@@ -69,7 +69,7 @@ module _ (n : ℕ) (low : IsLowLead n) (root : Data) where
   no_letter : (b : ℕ) → 0x29 ≤ b → nat_eq b n ≡ false
   no_letter b least = let most = low.high in grind (arith, nat_tests, most)
 
-  stated_meet : (condition : LiveElementCondition) → IsTrue (list_all (live_element_meets condition (with_root n root)) stated_elements)
+  stated_meet : (condition : ReachableElementCondition) → IsTrue (list_all (reachable_element_meets condition (with_root n root)) stated_elements)
   unfolding is_compressible
   stated_meet of_element.Width = refl
   stated_meet of_element.BackwardLead = refl
@@ -80,10 +80,10 @@ module _ (n : ℕ) (low : IsLowLead n) (root : Data) where
   stated_meet of_element.SharedLead = rw (lead_is n, no_letter 0x29 (omega arith), no_letter 0x2A (omega arith), no_letter 0x2B (omega arith)) refl
   stated_meet of_element.SecondByte = refl
 
-  pub element_is_good : (condition : LiveElementCondition) (x : Element) → IsSmallElement x → IsTrue (live_element_meets condition (with_root n root) x)
-  element_is_good condition x (stated is) = passes (live_element_meets condition (with_root n root)) stated_elements x (stated_meet condition) is
-  element_is_good condition x (implicit c is) =
-      subst (λ y. IsTrue (live_element_meets condition (with_root n root) y)) (sym is)
+  pub element_is_well_formed : (condition : ReachableElementCondition) (x : Element) → IsSmallElement x → IsTrue (reachable_element_meets condition (with_root n root) x)
+  element_is_well_formed condition x (stated is) = passes (reachable_element_meets condition (with_root n root)) stated_elements x (stated_meet condition) is
+  element_is_well_formed condition x (implicit c is) =
+      subst (λ y. IsTrue (reachable_element_meets condition (with_root n root) y)) (sym is)
       (passes_element (with_root n root) (of_primary (implicit_weight c))
       (implicit_pass (with_root n root) (lead_meets of_lead.ImplicitLead) (lead_meets of_lead.LeadsApart) (let most = low.high in omega (arith, most)) c) condition)
 
@@ -167,5 +167,5 @@ pairs_meet n root of_pair.Secondaries x y first second = secondaries_apart x.sec
 pairs_meet n root of_pair.Tertiaries x y first second = λ some other differ. absurd (differ (first.tertiary ∙ sym second.tertiary))
 pairs_meet n root of_pair.Compression x y first second = λ some other lead. ap (λ b. is_compressible (with_root n root).special b) lead
 
-pub pair_is_good : (n : ℕ) (root : Data) (condition : PairCondition) (x y : Element) → IsSmallElement x → IsSmallElement y → PairMeets condition (with_root n root) x y
-pair_is_good n root condition x y first second = pairs_meet n root condition x y (small_weights x first) (small_weights y second)
+pub pair_is_well_formed : (n : ℕ) (root : Data) (condition : PairCondition) (x y : Element) → IsSmallElement x → IsSmallElement y → PairMeets condition (with_root n root) x y
+pair_is_well_formed n root condition x y first second = pairs_meet n root condition x y (small_weights x first) (small_weights y second)

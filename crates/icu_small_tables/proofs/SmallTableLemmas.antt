@@ -8,17 +8,17 @@ use Rattle.icu_entries.specs.ElementConditions.{has_shape, ends_at_zero, has_sec
 use Rattle.icu_entries.specs.Elements.{Element}
 use Rattle.icu_entries.specs.Entries.{kind_of}
 use Rattle.icu_data.specs.CodePointTables.{code_point_count}
-use Rattle.icu_data.specs.Contexts.{ascend_from, has_ascending_rows}
+use Rattle.icu_data.specs.Contexts.{ascend_from, has_ascending_mappings}
 use Rattle.icu_data.specs.Data.{Context, Data}
 use Rattle.icu_provider.specs.CollatorTables.{CollatorTables}
 use Rattle.icu_provider.specs.Diacritics.{is_diacritic_weight, is_replaced_index}
 use Rattle.icu_provider.specs.SpecialPrimaries.{ends_below, is_numeric_lead}
 use Rattle.icu_checks.specs.declared.condition.Condition.{Condition}
 use Rattle.icu_checks.specs.declared.condition.Condition.TheVariants as conditions
-use Rattle.icu_checks.specs.GoodTables.{Meets, AreTables, IsGoodTables}
+use Rattle.icu_checks.specs.WellFormedTables.{Meets, AreTables, IsWellFormedTables}
 use Rattle.icu_small_tables.specs.SmallTables.{context_of_a, grave, implicit_entry, small_entry, with_root, small_tables, AreSmallTables, IsLowLead}
-use Rattle.icu_small_tables.proofs.SmallElements.{lead_meets, element_is_good, pair_is_good}
-use Rattle.icu_small_tables.proofs.SmallEntries.{root_by, entry_is_good, rows_are_plain, live_element}
+use Rattle.icu_small_tables.proofs.SmallElements.{lead_meets, element_is_well_formed, pair_is_well_formed}
+use Rattle.icu_small_tables.proofs.SmallEntries.{root_by, entry_is_well_formed, mappings_are_plain, reachable_element}
 
 -- ---- what each table shows by itself
 
@@ -26,9 +26,9 @@ pub of_replicate : {X : Type 0} (P : X → Type 0) (n : ℕ) (x : X) → P x →
 of_replicate P n x h =
     λ k d few. subst P (sym (get_or-replicate n k x d (subst (λ m. k < m) (length-replicate n x) few))) h
 
-pub rows_ascend : IsTrue (has_ascending_rows context_of_a)
+pub mappings_ascend : IsTrue (has_ascending_mappings context_of_a)
 unfolding ascend_from
-rows_ascend = refl
+mappings_ascend = refl
 
 implicit_digit : IsTrue (has_digit implicit_entry)
 unfolding has_digit kind_of
@@ -56,7 +56,7 @@ module _ (n : ℕ) (low : IsLowLead n) where
 
   pub tables_are : (value : ℕ → ℕ) → AreTables (with_root n (root_by value))
   tables_are value = record {
-    root = of_replicate (λ (x : Context). IsTrue (has_ascending_rows x)) 1 context_of_a rows_ascend;
+    root = of_replicate (λ (x : Context). IsTrue (has_ascending_mappings x)) 1 context_of_a mappings_ascend;
     tailoring = λ x is. cc;
     jamo = record {
       count = refl;
@@ -74,29 +74,29 @@ module _ (n : ℕ) (low : IsLowLead n) where
   -- ---- all together
 
   module _ (value : ℕ → ℕ) (says : (c : ℕ) → c < code_point_count → value c ≡ small_entry c) where
-    each_is_good : (condition : Condition) → Meets condition (with_root n (root_by value))
-    each_is_good conditions.DiacriticCount = refl
-    each_is_good (conditions.Entry condition) = entry_is_good value says condition
-    each_is_good conditions.PrefixRows = rows_are_plain 1 value says
-    each_is_good (conditions.Element condition) =
-        λ table x is. element_is_good n low (root_by value) condition x (live_element value says table x is)
-    each_is_good (conditions.Pair condition) =
-        λ first second x in_first y in_second. pair_is_good n (root_by value) condition x y (live_element value says first x in_first) (live_element value says second y in_second)
-    each_is_good (conditions.Lead condition) = lead_meets n low (root_by value) condition
+    each_is_well_formed : (condition : Condition) → Meets condition (with_root n (root_by value))
+    each_is_well_formed conditions.DiacriticCount = refl
+    each_is_well_formed (conditions.Entry condition) = entry_is_well_formed value says condition
+    each_is_well_formed conditions.PrefixMappings = mappings_are_plain 1 value says
+    each_is_well_formed (conditions.Element condition) =
+        λ table x is. element_is_well_formed n low (root_by value) condition x (reachable_element value says table x is)
+    each_is_well_formed (conditions.Pair condition) =
+        λ first second x in_first y in_second. pair_is_well_formed n (root_by value) condition x y (reachable_element value says first x in_first) (reachable_element value says second y in_second)
+    each_is_well_formed (conditions.Lead condition) = lead_meets n low (root_by value) condition
 
-    pub good_by : IsGoodTables (with_root n (root_by value))
-    good_by = record { tables = tables_are value; each = each_is_good }
+    pub well_formed_by : IsWellFormedTables (with_root n (root_by value))
+    well_formed_by = record { tables = tables_are value; each = each_is_well_formed }
 
-  pub small_tables_are_good : IsGoodTables (small_tables n)
-  small_tables_are_good = good_by small_entry (λ c few. refl)
+  pub small_tables_are_well_formed : IsWellFormedTables (small_tables n)
+  small_tables_are_well_formed = well_formed_by small_entry (λ c few. refl)
 
 -- a root without lists and with this context is one by the entries of its characters
 pub root_is : (value : ℕ → ℕ) (elements : List Element) (entries : List ℕ) (contexts : List Context) → elements ≡ [] → entries ≡ [] → contexts ≡ context_of_a ∷ []
     → root_by value ≡ record { value = value; elements = elements; entries = entries; contexts = contexts }
 root_is value elements entries contexts no_elements no_entries one = cc
 
-pub same_tables_are_good : (all : CollatorTables) → AreSmallTables all → IsGoodTables all
-same_tables_are_good all are =
+pub same_tables_are_well_formed : (all : CollatorTables) → AreSmallTables all → IsWellFormedTables all
+same_tables_are_well_formed all are =
     let says = are.root in let root : Data = all.tables.root in let n : ℕ = all.special.numeric in
     let is : root_by root.value ≡ root = root_is root.value root.elements root.entries root.contexts says.elements says.entries says.contexts in
-    subst IsGoodTables (sym are.others) (subst (λ d. IsGoodTables (with_root n d)) is (good_by n are.numeric root.value says.value))
+    subst IsWellFormedTables (sym are.others) (subst (λ d. IsWellFormedTables (with_root n d)) is (well_formed_by n are.numeric root.value says.value))

@@ -6,20 +6,20 @@ use Rattle.std.specs.List.{Contains}
 use Rattle.icu_entries.specs.declared.error.DataTable.TheVariants as tables
 use Rattle.icu_entries.specs.Elements.{element_of}
 use Rattle.icu_data.specs.declared.context.Context.{Context as StoredContext}
-use Rattle.icu_data.specs.declared.context.ContextRow.{ContextRow}
-use Rattle.icu_data.specs.declared.live_condition.LiveCondition.{LiveCondition}
+use Rattle.icu_data.specs.declared.context.ContextMapping.{ContextMapping}
+use Rattle.icu_data.specs.declared.reachable_condition.ReachableCondition.{ReachableCondition}
 use Rattle.icu_data.specs.CodePointTables.{IsCodePointTable, code_point_count, stored_value}
-use Rattle.icu_data.specs.Contexts.{IsContextTable, HasRowsInside, HasCharsInside, has_ascending_rows, stored_context, stored_contexts}
-use Rattle.icu_data.specs.Live.{live_at}
-use Rattle.icu_data.specs.LiveConditions.{meets, EachMeets, IsGoodData}
+use Rattle.icu_data.specs.Contexts.{IsContextTable, HasMappingsInside, HasCharsInside, has_ascending_mappings, stored_context, stored_contexts}
+use Rattle.icu_data.specs.Reachable.{reachable_at}
+use Rattle.icu_data.specs.ReachableConditions.{meets, EachMeets, IsWellFormedData}
 use Rattle.icu_owned_data.specs.declared.data_vectors.DataVectors.{DataVectors}
 use Rattle.icu_owned_data.specs.Building.{SaysOfCharacters}
 use Rattle.icu_owned_data.specs.OwnedData.{vectors_data, MayBeData}
 use Rattle.icu_data.proofs.ListLemmas.{all_members, weaker}
 use Rattle.icu_small_tables.specs.SmallTables.{letter_a, letter_a_grave, context_of_a, implicit_entry, small_entry, small_root}
 use Rattle.icu_small_tables.specs.StoredRoot.{HoldsFirst, small_block, StoresSmallRoot}
-use Rattle.icu_small_tables.proofs.SmallEntries.{root_by, entry_is_good}
-use Rattle.icu_small_tables.proofs.SmallTableLemmas.{of_replicate, rows_ascend, root_is}
+use Rattle.icu_small_tables.proofs.SmallEntries.{root_by, entry_is_well_formed}
+use Rattle.icu_small_tables.proofs.SmallTableLemmas.{of_replicate, mappings_ascend, root_is}
 
 others_are_implicit : (c : ℕ) → c ≢ 0x61 → c ≢ 0x62 → small_entry c ≡ implicit_entry
 others_are_implicit c not_a not_b = grind (arith, nat_tests, not_a, not_b)
@@ -64,28 +64,28 @@ module _ (blocks values : List ℕ) (has_blocks : HoldsFirst small_block blocks 
 -- ---- the context
 
 abbrev contexts : List StoredContext
-contexts = record { default = letter_a; rows_start = 0; rows_len = 1 } ∷ []
+contexts = record { default = letter_a; mappings_start = 0; mappings_len = 1 } ∷ []
 
-abbrev rows : List ContextRow
-rows = record { chars_start = 0; chars_len = 1; entry = letter_a_grave } ∷ []
+abbrev mappings : List ContextMapping
+mappings = record { chars_start = 0; chars_len = 1; entry = letter_a_grave } ∷ []
 
 abbrev chars : List ℕ
 chars = 0x300 ∷ []
 
-is_context_table : IsContextTable contexts rows chars
+is_context_table : IsContextTable contexts mappings chars
 is_context_table = record {
   inside = record {
-    rows_inside = of_replicate (λ (x : StoredContext). HasRowsInside 1 x) 1 _ (omega arith);
-    chars_inside = of_replicate (λ (row : ContextRow). HasCharsInside 1 row) 1 _ (omega arith);
+    mappings_inside = of_replicate (λ (x : StoredContext). HasMappingsInside 1 x) 1 _ (omega arith);
+    chars_inside = of_replicate (λ (mapping : ContextMapping). HasCharsInside 1 mapping) 1 _ (omega arith);
   };
-  ascending = of_replicate (λ (x : StoredContext). IsTrue (has_ascending_rows (stored_context rows chars x))) 1 _ rows_ascend;
+  ascending = of_replicate (λ (x : StoredContext). IsTrue (has_ascending_mappings (stored_context mappings chars x))) 1 _ mappings_ascend;
 }
 
 -- what holds of the stored lists holds of lists that are these
-of_lists : (P : List StoredContext → List ContextRow → List ℕ → Type 0) (xs : List StoredContext) (rs : List ContextRow) (cs : List ℕ)
-    → xs ≡ contexts → rs ≡ rows → cs ≡ chars → P contexts rows chars → P xs rs cs
-of_lists P xs rs cs is_contexts is_rows is_chars h =
-    subst (λ ys. P ys rs cs) (sym is_contexts) (subst (λ ys. P contexts ys cs) (sym is_rows) (subst (λ ys. P contexts rows ys) (sym is_chars) h))
+of_lists : (P : List StoredContext → List ContextMapping → List ℕ → Type 0) (xs : List StoredContext) (rs : List ContextMapping) (cs : List ℕ)
+    → xs ≡ contexts → rs ≡ mappings → cs ≡ chars → P contexts mappings chars → P xs rs cs
+of_lists P xs rs cs is_contexts is_mappings is_chars h =
+    subst (λ ys. P ys rs cs) (sym is_contexts) (subst (λ ys. P contexts ys cs) (sym is_mappings) (subst (λ ys. P contexts mappings ys) (sym is_chars) h))
 
 -- ---- the conditions of a root
 
@@ -93,21 +93,21 @@ no_more : {X : Type 0} (b : Bool) (xs : List X) (x : X) → Contains (if b then 
 no_more true xs x h = let few = h.1 in absurd (omega arith)
 no_more false xs x h = h
 
-each_meets : (value : ℕ → ℕ) → ((c : ℕ) → c < code_point_count → value c ≡ small_entry c) → (condition : LiveCondition) → EachMeets condition true (root_by value)
+each_meets : (value : ℕ → ℕ) → ((c : ℕ) → c < code_point_count → value c ≡ small_entry c) → (condition : ReachableCondition) → EachMeets condition true (root_by value)
 each_meets value says condition c scalar =
-    let live = live_at true (root_by value) c in
-    weaker (Contains live) (λ e. IsTrue (meets condition (root_by value) c e))
-    (λ e member. entry_is_good value says condition tables.Root (root_by value) c e (refl, scalar, no_more _ _ e member))
-    live (all_members live)
+    let reachable = reachable_at true (root_by value) c in
+    weaker (Contains reachable) (λ e. IsTrue (meets condition (root_by value) c e))
+    (λ e member. entry_is_well_formed value says condition tables.Root (root_by value) c e (refl, scalar, no_more _ _ e member))
+    reachable (all_members reachable)
 
-good_data : (value : ℕ → ℕ) → ((c : ℕ) → c < code_point_count → value c ≡ small_entry c) → IsGoodData true (root_by value)
-good_data value says = record { each = each_meets value says }
+well_formed_data : (value : ℕ → ℕ) → ((c : ℕ) → c < code_point_count → value c ≡ small_entry c) → IsWellFormedData true (root_by value)
+well_formed_data value says = record { each = each_meets value says }
 
 module _ (v : DataVectors) (stores : StoresSmallRoot v) where
-  contexts_are : stored_contexts v.contexts.items v.rows.items v.chars.items ≡ context_of_a ∷ []
+  contexts_are : stored_contexts v.contexts.items v.mappings.items v.chars.items ≡ context_of_a ∷ []
   contexts_are =
-      of_lists (λ xs rs cs. stored_contexts xs rs cs ≡ context_of_a ∷ []) v.contexts.items v.rows.items v.chars.items
-      stores.contexts stores.rows stores.chars refl
+      of_lists (λ xs rs cs. stored_contexts xs rs cs ≡ context_of_a ∷ []) v.contexts.items v.mappings.items v.chars.items
+      stores.contexts stores.mappings stores.chars refl
 
   pub says_small_root : SaysOfCharacters small_root (vectors_data v)
   unfolding vectors_data
@@ -125,7 +125,7 @@ module _ (v : DataVectors) (stores : StoresSmallRoot v) where
   pub may_be_data : MayBeData v
   may_be_data = record {
     table = is_table v.blocks.items v.values.items stores.blocks stores.values;
-    contexts = of_lists IsContextTable v.contexts.items v.rows.items v.chars.items stores.contexts stores.rows stores.chars is_context_table;
-    live = subst (λ d. IsGoodData true d) is_root
-        (good_data (stored_value v.blocks.items v.values.items) (value_is v.blocks.items v.values.items stores.blocks stores.values));
+    contexts = of_lists IsContextTable v.contexts.items v.mappings.items v.chars.items stores.contexts stores.mappings stores.chars is_context_table;
+    reachable = subst (λ d. IsWellFormedData true d) is_root
+        (well_formed_data (stored_value v.blocks.items v.values.items) (value_is v.blocks.items v.values.items stores.blocks stores.values));
   }

@@ -31,7 +31,7 @@ implicit_entry = 0xCF
 
 -- "a", and "a" before a grave
 abbrev pub context_of_a : Context
-context_of_a = record { default = letter_a; rows = record { chars = 0x300 ∷ []; entry = letter_a_grave } ∷ [] }
+context_of_a = record { default = letter_a; mappings = record { chars = 0x300 ∷ []; entry = letter_a_grave } ∷ [] }
 
 -- "a" contracts, "b" is a letter, and all other characters have implicit weights
 abbrev pub small_entry : ℕ → ℕ

@@ -18,6 +18,6 @@ pub record StoresSmallRoot (v : DataVectors) : Type 0 where
   pub values : HoldsFirst small_entry v.values.items 128
   pub elements : v.ces.items ≡ []
   pub entries : v.ce32s.items ≡ []
-  pub contexts : v.contexts.items ≡ record { default = letter_a; rows_start = 0; rows_len = 1 } ∷ []
-  pub rows : v.rows.items ≡ record { chars_start = 0; chars_len = 1; entry = letter_a_grave } ∷ []
+  pub contexts : v.contexts.items ≡ record { default = letter_a; mappings_start = 0; mappings_len = 1 } ∷ []
+  pub mappings : v.mappings.items ≡ record { chars_start = 0; chars_len = 1; entry = letter_a_grave } ∷ []
   pub chars : v.chars.items ≡ 0x300 ∷ []

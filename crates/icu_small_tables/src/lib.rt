@@ -3,7 +3,7 @@
 
 ghost use Rattle.std.specs.Prelude.{◌≡◌, ℕ, IfOk, IfErr};
 ghost use Rattle.icu_checks.specs.Checked.{checked_tables};
-ghost use Rattle.icu_checks.specs.GoodTables.{IsGoodTables};
+ghost use Rattle.icu_checks.specs.WellFormedTables.{IsWellFormedTables};
 ghost use Rattle.icu_provider.specs.CollatorTables.{CollatorTables};
 ghost use Rattle.icu_owned_data.specs.OwnedData.{owned_data};
 ghost use Rattle.icu_provider.specs.TableSets.{tables_in};
@@ -21,9 +21,9 @@ use std::alloc::Global;
 
 /// The conditions on all tables of a collator can be met: the small tables meet them, and so do tables that say the
 /// same of characters. So what is proved of tables that meet them is proved of some.
-pub fn small_tables_are_good()
-    ensures good { (n : ℕ) → IsLowLead n → IsGoodTables (small_tables n) }
-    ensures same { (all : CollatorTables) → AreSmallTables all → IsGoodTables all }
+pub fn small_tables_are_well_formed()
+    ensures well_formed { (n : ℕ) → IsLowLead n → IsWellFormedTables (small_tables n) }
+    ensures same { (all : CollatorTables) → AreSmallTables all → IsWellFormedTables all }
 {}
 
 /// The entries of the jamo.

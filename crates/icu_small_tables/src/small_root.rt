@@ -6,7 +6,7 @@ ghost use Rattle.icu_small_tables.specs.SmallTables.{small_entry, small_root};
 ghost use Rattle.icu_small_tables.specs.StoredRoot.{small_block, HoldsFirst, StoresSmallRoot};
 
 use icu_data::code_point_table::BLOCK_COUNT;
-use icu_data::{Context, ContextRow};
+use icu_data::{Context, ContextMapping};
 use icu_entries::{DataError, DataErrorKind, DataTable};
 use icu_owned_data::{DataVectors, OwnedData};
 use std::alloc::{AllocError, Global};
@@ -53,10 +53,10 @@ fn vectors(alloc: Global) -> Result<DataVectors, AllocError>
 {
     let context = Context {
         default: 0x2900_0505,
-        rows_start: 0,
-        rows_len: 1,
+        mappings_start: 0,
+        mappings_len: 1,
     };
-    let row = ContextRow {
+    let mapping = ContextMapping {
         chars_start: 0,
         chars_len: 1,
         entry: 0x2B00_0505,
@@ -67,7 +67,7 @@ fn vectors(alloc: Global) -> Result<DataVectors, AllocError>
         ces: Vec::new(alloc),
         ce32s: Vec::new(alloc),
         contexts: Vec::from_slice(alloc, &[context])?,
-        rows: Vec::from_slice(alloc, &[row])?,
+        mappings: Vec::from_slice(alloc, &[mapping])?,
         chars: Vec::from_slice(alloc, &['\u{300}'])?,
     })
 }

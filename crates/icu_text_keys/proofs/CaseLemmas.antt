@@ -5,7 +5,7 @@ use Rattle.unicode_normalization.specs.Forms.{nfd}
 use Rattle.icu_levels.specs.declared.forms.CaseForm.TheVariants.{LowerFirst}
 use Rattle.icu_entries.specs.Elements.{Element}
 use Rattle.icu_data.proofs.ListLemmas.{weaker}
-use Rattle.icu_checks.specs.GoodTables.{IsGoodTables}
+use Rattle.icu_checks.specs.WellFormedTables.{IsWellFormedTables}
 use Rattle.icu_elements.specs.TextElements.{elements_of}
 use Rattle.icu_elements.specs.TextElementLaws.{IsText}
 use Rattle.icu_weighting.specs.Collations.{Collation}
@@ -17,11 +17,11 @@ use Rattle.icu_order.proofs.HandledLemmas.{HoldsOf, handled_hold}
 use Rattle.icu_order.proofs.TextSources.{IsSource, text_sources}
 use Rattle.icu_weighting.specs.HandledSources.{HasCase}
 
-module _ (collation : Collation) (good : IsGoodTables collation.tables) where
+module _ (collation : Collation) (well_formed : IsWellFormedTables collation.tables) where
   open collation use {tables as all, settings}
 
   case_below : (x : Element) → IsSource all x → x.lower < 0xC000
-  case_below x s = let rank = has_rank all good LowerFirst x s in omega (arith, rank)
+  case_below x s = let rank = has_rank all well_formed LowerFirst x s in omega (arith, rank)
 
   has_case : (h : HandledElement) → HoldsOf (IsSource all) (λ p. Unit {0}) h → HasCase h
   has_case (stayed x) s = case_below x s
@@ -31,4 +31,4 @@ module _ (collation : Collation) (good : IsGoodTables collation.tables) where
   text_has_case t text =
       weaker (HoldsOf (IsSource all) (λ p. Unit {0})) HasCase has_case (handled_by collation (nfd t))
       (handled_hold (IsSource all) (λ p. Unit {0}) settings.alternate_handling (last_variable_by collation) (λ x s v. tt) false
-      (elements_of (reading_by collation) (nfd t)) (text_sources collation good t text))
+      (elements_of (reading_by collation) (nfd t)) (text_sources collation well_formed t text))

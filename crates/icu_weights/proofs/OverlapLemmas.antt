@@ -68,9 +68,9 @@ module _ (spell : ℕ → List ℕ) (ws us : List ℕ) (moved : IsPermutation ws
 -- ---- weights of two bytes
 
 -- weights of two bytes are prefix free where they are so in the high halves of four
-pub free_of_two_bytes : (ws : List ℕ) (IsLive : ℕ → Type 0) → ((s : ℕ) → IsLive s → s < 2 ^ 16)
-    → ((s : ℕ) → IsLive s → Contains ws (s * 2 ^ 16)) → IsPrefixFree (weight_bytes 4) (Contains ws) → IsPrefixFree (weight_bytes 2) IsLive
-free_of_two_bytes ws IsLive fits has free v w p q n h =
+pub free_of_two_bytes : (ws : List ℕ) (IsReachable : ℕ → Type 0) → ((s : ℕ) → IsReachable s → s < 2 ^ 16)
+    → ((s : ℕ) → IsReachable s → Contains ws (s * 2 ^ 16)) → IsPrefixFree (weight_bytes 4) (Contains ws) → IsPrefixFree (weight_bytes 2) IsReachable
+free_of_two_bytes ws IsReachable fits has free v w p q n h =
     free (v * 2 ^ 16) (w * 2 ^ 16) (has v p) (has w q) (λ e. n (omega (arith, e)))
     (subst (λ l. IsBeginning l (weight_bytes 4 (w * 2 ^ 16))) (sym (moved_up_bytes v (fits v p)))
     (subst (λ l. IsBeginning (weight_bytes 2 v) l) (sym (moved_up_bytes w (fits w q))) h))

@@ -93,8 +93,8 @@ fn print_names(rt: &HostRuntime) -> Result<(), Error> {
 fn main(rt: HostRuntime) -> ExitCode {
     match print_names(&rt) {
         Ok(()) => ExitCode::SUCCESS,
-        Err(refusal) => {
-            let _ = eprintln!(rt; "sort_names: {refusal:?}");
+        Err(error) => {
+            let _ = eprintln!(rt; "sort_names: {error:?}");
             ExitCode::FAILURE
         }
     }

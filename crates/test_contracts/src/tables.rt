@@ -3,7 +3,7 @@
 ghost use Rattle.std.specs.Prelude.{◌≡◌, IsOk, IfOk, IfErr};
 ghost use Rattle.icu_provider.specs.TableSets.{tables_in};
 ghost use Rattle.icu_checks.specs.Checked.{checked_tables};
-ghost use Rattle.icu_checks.specs.GoodTables.{IsGoodTables, IsTrueRefusal};
+ghost use Rattle.icu_checks.specs.WellFormedTables.{IsWellFormedTables, IsTrueError};
 ghost use Rattle.icu_order.specs.Forms.{form_by};
 ghost use Rattle.icu_weighting.specs.CheckedCollations.{collation_of};
 
@@ -17,15 +17,15 @@ use std::alloc::Global;
 
 /// As `CheckedTables::from_set`.
 pub fn checked(alloc: Global, tables: TableSet<'_>) -> Result<CheckedTables, DataError>
-    ensures good { IsOk result → IsGoodTables (tables_in tables.entry) }
-    ensures refusal { IfErr result (IsTrueRefusal (tables_in tables.entry)) }
+    ensures well_formed { IsOk result → IsWellFormedTables (tables_in tables.entry) }
+    ensures error { IfErr result (IsTrueError (tables_in tables.entry)) }
     ensures exact { IfErr result (λ e. (e.kind ≡ DataErrorKind.NoMemory → ⊥)
-        → IsGoodTables (tables_in tables.entry) → ⊥) }
+        → IsWellFormedTables (tables_in tables.entry) → ⊥) }
     ensures keeps { IfOk result (λ t. checked_tables t ≡ tables_in tables.entry) }
 {
     match CheckedTables::from_set(alloc, tables) {
         Ok(tables) => Ok(tables),
-        Err(refusal) => Err(refusal),
+        Err(error) => Err(error),
     }
 }
 

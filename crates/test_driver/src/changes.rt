@@ -1,7 +1,7 @@
 //! Questions that change what the program holds. Nothing is allocated once it begins to change.
 use crate::cldr::{CldrFile, read_cldr};
 use crate::collators::{collator, printed};
-use crate::fault::Fault;
+use crate::driver_error::DriverError;
 use crate::numbers::single;
 use crate::requests::set_refused;
 use crate::settings::named_settings;
@@ -24,7 +24,7 @@ pub(crate) fn change(
     state: &mut State,
     question: &str,
     rest: &str,
-) -> Result<String, Fault> {
+) -> Result<String, DriverError> {
     let alloc = rt.alloc();
     match question {
         "make" => return make(alloc, state, rest),
@@ -46,40 +46,40 @@ pub(crate) fn change(
 }
 
 /// Changes the tables.
-fn change_tables(alloc: Global, mini: &mut Mini, question: &str, rest: &str) -> Result<(), Fault> {
+fn change_tables(alloc: Global, mini: &mut Mini, question: &str, rest: &str) -> Result<(), DriverError> {
     match question {
         "base" => *mini = base(alloc, rest)?,
         "set" => set(alloc, mini, rest)?,
         "drop" => drop_table(mini, rest)?,
-        _ => return Err(Fault::Unread),
+        _ => return Err(DriverError::Unread),
     }
     Ok(())
 }
 
 /// Takes a table away.
-fn drop_table(mini: &mut Mini, name: &str) -> Result<(), Fault> {
+fn drop_table(mini: &mut Mini, name: &str) -> Result<(), DriverError> {
     match name {
         "tailoring" => mini.tailoring = None,
         "reordering" => mini.reordering = None,
-        _ => return Err(Fault::Unread),
+        _ => return Err(DriverError::Unread),
     }
     Ok(())
 }
 
-/// Makes a collator of the tables. After a refusal the one stays that was there.
-fn make(alloc: Global, state: &mut State, settings: &str) -> Result<String, Fault> {
+/// Makes a collator of the tables. After an error the one stays that was there.
+fn make(alloc: Global, state: &mut State, settings: &str) -> Result<String, DriverError> {
     let done = String::from_str(alloc, "ok")?;
     match collator(alloc, &state.mini, named_settings(alloc, settings)?) {
         Ok(made) => {
             state.collator = Some(made);
             Ok(done)
         }
-        Err(refusal) => printed(alloc, Some(refusal)),
+        Err(error) => printed(alloc, Some(error)),
     }
 }
 
 /// Takes the tables of a file that was read.
-fn take_root(alloc: Global, state: &mut State, file: CldrFile) -> Result<String, Fault> {
+fn take_root(alloc: Global, state: &mut State, file: CldrFile) -> Result<String, DriverError> {
     let done = String::from_str(alloc, "ok")?;
     match file {
         CldrFile::Root(mini, absent) => {
@@ -93,13 +93,13 @@ fn take_root(alloc: Global, state: &mut State, file: CldrFile) -> Result<String,
 }
 
 /// Reads a file whose bytes are a text.
-fn read_text(alloc: Global, state: &mut State, text: &str) -> Result<String, Fault> {
+fn read_text(alloc: Global, state: &mut State, text: &str) -> Result<String, DriverError> {
     let text = WrittenText::read(alloc, text)?;
     take_root(alloc, state, read_cldr(alloc, bytes_of(&text)?)?)
 }
 
 /// Reads the file of a name.
-fn read_file(rt: &HostRuntime, state: &mut State, name: &str) -> Result<String, Fault> {
+fn read_file(rt: &HostRuntime, state: &mut State, name: &str) -> Result<String, DriverError> {
     let alloc = rt.alloc();
     let file = fs::open(rt, name)?;
     take_root(

@@ -1,5 +1,5 @@
 //! The root of CLDR, from the lines of FractionalUCA.txt.
-use crate::fault::Fault;
+use crate::driver_error::DriverError;
 use crate::tables::vectors;
 use icu_cldr::{CldrRoot, ReadError, read_root};
 use icu_data::CollationData;
@@ -18,30 +18,30 @@ pub(crate) enum CldrFile {
 }
 
 /// Reads a file.
-pub(crate) fn read_cldr<R: BufRead + Drop>(alloc: Global, reader: R) -> Result<CldrFile, Fault> {
+pub(crate) fn read_cldr<R: BufRead + Drop>(alloc: Global, reader: R) -> Result<CldrFile, DriverError> {
     match read_root(alloc, reader) {
         Ok(root) => Ok(CldrFile::Root(tables(alloc, &root)?, absent(alloc, &root)?)),
-        Err(ReadError::NoMemory) => Err(Fault::NoMemory),
+        Err(ReadError::NoMemory) => Err(DriverError::NoMemory),
         Err(error) => Ok(CldrFile::Refused(error.to_string(alloc)?)),
     }
 }
 
-fn loaded<T>(loaded: Result<T, DataError>) -> Result<T, Fault> {
+fn loaded<T>(loaded: Result<T, DataError>) -> Result<T, DriverError> {
     match loaded {
         Ok(loaded) => Ok(loaded),
-        Err(_) => Err(Fault::Unread),
+        Err(_) => Err(DriverError::Unread),
     }
 }
 
 /// The lists of a root.
 fn vectors_of(alloc: Global, data: CollationData<'_>) -> Result<DataVectors, AllocError> {
     let (trie, ces, ce32s, contexts) = data.parts();
-    let (contexts, rows, chars) = contexts.parts();
-    vectors(alloc, trie.parts(), (ces, ce32s), (contexts, rows, chars))
+    let (contexts, mappings, chars) = contexts.parts();
+    vectors(alloc, trie.parts(), (ces, ce32s), (contexts, mappings, chars))
 }
 
 /// The tables of a root: no tailoring, and no reordering.
-fn tables(alloc: Global, root: &CldrRoot) -> Result<Mini, Fault> {
+fn tables(alloc: Global, root: &CldrRoot) -> Result<Mini, DriverError> {
     let request = DataRequest::default();
     let special = loaded(root.load_special_primaries())?;
     let jamo = loaded(root.load_jamo())?;
@@ -59,18 +59,18 @@ fn tables(alloc: Global, root: &CldrRoot) -> Result<Mini, Fault> {
 }
 
 /// Why a table isn't there.
-fn refusal<T: Drop>(alloc: Global, loaded: Result<T, DataError>) -> Result<String, AllocError> {
+fn error<T: Drop>(alloc: Global, loaded: Result<T, DataError>) -> Result<String, AllocError> {
     match loaded {
         Ok(_) => String::from_str(alloc, "ok"),
-        Err(refusal) => refusal.to_string(alloc),
+        Err(error) => error.to_string(alloc),
     }
 }
 
 /// Why a root has no tailoring and no reordering.
 fn absent(alloc: Global, root: &CldrRoot) -> Result<String, AllocError> {
     let request = DataRequest::default();
-    let mut text = refusal(alloc, root.load_tailoring(request))?;
+    let mut text = error(alloc, root.load_tailoring(request))?;
     text.push_str(", ")?;
-    text.push_str(refusal(alloc, root.load_reordering(request))?.as_str())?;
+    text.push_str(error(alloc, root.load_reordering(request))?.as_str())?;
     Ok(text)
 }

@@ -1,5 +1,5 @@
 //! Collators, and what tables are refused with.
-use crate::fault::{Fault, answered};
+use crate::driver_error::{DriverError, answered};
 use crate::settings::Named;
 use icu_checks::CheckedTables;
 use icu_comparison::Collator;
@@ -15,18 +15,18 @@ pub(crate) fn collator(alloc: Global, mini: &Mini, named: Named) -> Result<Colla
     Collator::try_new_unstable(alloc, &mini.provider(), named.preferences, named.options)
 }
 
-/// A refusal as it is printed: the table and the kind, or `ok`.
-pub(crate) fn printed(alloc: Global, refusal: Option<DataError>) -> Result<String, Fault> {
-    match refusal {
+/// An error as it is printed: the table and the kind, or `ok`.
+pub(crate) fn printed(alloc: Global, error: Option<DataError>) -> Result<String, DriverError> {
+    match error {
         None => Ok(String::from_str(alloc, "ok")?),
-        Some(refusal) => {
-            let DataError { table, kind } = answered(refusal)?;
+        Some(error) => {
+            let DataError { table, kind } = answered(error)?;
             Ok(format!(in alloc; "{table:?} {kind:?}")?)
         }
     }
 }
 
-/// A refusal's table and kind.
+/// An error's table and kind.
 fn named<T>(table: DataTable, loaded: Result<T, DataErrorKind>) -> Result<T, DataError> {
     match loaded {
         Ok(loaded) => Ok(loaded),
@@ -82,14 +82,14 @@ pub(crate) fn checked(alloc: Global, mini: &Mini) -> Result<CheckedTables, DataE
 }
 
 /// What tables are refused with that are checked so, as often as is asked for.
-pub(crate) fn check(alloc: Global, mini: &Mini, times: u64) -> Result<String, Fault> {
-    let refusal = checked(alloc, mini).err();
+pub(crate) fn check(alloc: Global, mini: &Mini, times: u64) -> Result<String, DriverError> {
+    let error = checked(alloc, mini).err();
     for _ in 1..times {
-        if checked(alloc, mini).err() != refusal {
+        if checked(alloc, mini).err() != error {
             return Ok(String::from_str(alloc, "unlike")?);
         }
     }
-    printed(alloc, refusal)
+    printed(alloc, error)
 }
 
 /// A root or a tailoring without the check of its entries.
@@ -97,7 +97,7 @@ fn load_unchecked(held: &DataVectors) -> Result<CollationData<'_>, DataErrorKind
     let trie = CodePointTable::new(held.blocks.as_slice(), held.values.as_slice())?;
     let contexts = ContextTable::new(
         held.contexts.as_slice(),
-        held.rows.as_slice(),
+        held.mappings.as_slice(),
         held.chars.as_slice(),
     )?;
     Ok(CollationData::new_unchecked(trie, held.ces.as_slice(), held.ce32s.as_slice(), contexts))
@@ -111,9 +111,9 @@ fn load_tailoring_unchecked(mini: &Mini) -> Result<Option<CollationData<'_>>, Da
 }
 
 /// What the first constructor of a single table refuses that does.
-pub(crate) fn alone(alloc: Global, mini: &Mini) -> Result<String, Fault> {
+pub(crate) fn alone(alloc: Global, mini: &Mini) -> Result<String, DriverError> {
     let loaded = mini.provider();
-    for refusal in [
+    for error in [
         loaded.root.err(),
         loaded.jamo.err(),
         loaded.special.err(),
@@ -121,7 +121,7 @@ pub(crate) fn alone(alloc: Global, mini: &Mini) -> Result<String, Fault> {
         loaded.reordering.err(),
         loaded.diacritics.err(),
     ] {
-        match refusal {
+        match error {
             Some(error) if error.kind != DataErrorKind::Absent => {
                 return printed(alloc, Some(error));
             }
@@ -150,7 +150,7 @@ fn checked_together(alloc: Global, mini: &Mini) -> Result<CheckedTables, DataErr
 }
 
 /// What the check of all tables together refuses.
-pub(crate) fn together(alloc: Global, mini: &Mini) -> Result<String, Fault> {
+pub(crate) fn together(alloc: Global, mini: &Mini) -> Result<String, DriverError> {
     printed(alloc, checked_together(alloc, mini).err())
 }
 
@@ -175,16 +175,16 @@ fn unlike(kept: &CheckedTables, came: TableSet<'_>) -> Option<&'static str> {
     }
 }
 
-/// The first table that a check doesn't keep as it came, or a refusal.
+/// The first table that a check doesn't keep as it came, or an error.
 fn first_unlike(alloc: Global, mini: &Mini) -> Result<Option<&'static str>, DataError> {
     let kept = checked(alloc, mini)?;
     Ok(unlike(&kept, loaded(mini)?))
 }
 
 /// Whether a check keeps the tables as they came.
-pub(crate) fn kept(alloc: Global, mini: &Mini) -> Result<String, Fault> {
+pub(crate) fn kept(alloc: Global, mini: &Mini) -> Result<String, DriverError> {
     match first_unlike(alloc, mini) {
         Ok(name) => Ok(String::from_str(alloc, name.unwrap_or("ok"))?),
-        Err(refusal) => printed(alloc, Some(refusal)),
+        Err(error) => printed(alloc, Some(error)),
     }
 }

@@ -1,5 +1,5 @@
 //! The order of two texts.
-use crate::fault::Fault;
+use crate::driver_error::DriverError;
 use crate::texts::{WrittenText, two};
 use icu_comparison::Collator;
 use std::alloc::{AllocError, Global};
@@ -38,10 +38,10 @@ fn order_of_times(
     left: &WrittenText,
     right: &WrittenText,
     times: u64,
-) -> Result<Option<Ordering>, Fault> {
+) -> Result<Option<Ordering>, DriverError> {
     let mut first = None;
     for _ in 0..times {
-        let order = order(collator, left, right).ok_or(Fault::Unread)??;
+        let order = order(collator, left, right).ok_or(DriverError::Unread)??;
         if first.is_some() && first != Some(order) {
             return Ok(None);
         }
@@ -66,7 +66,7 @@ pub(crate) fn compare(
     collator: &Collator,
     written: &str,
     times: u64,
-) -> Result<String, Fault> {
+) -> Result<String, DriverError> {
     let (left, right) = two(alloc, written)?;
     if !has_call(&left, &right) {
         return Ok(String::from_str(alloc, "no call")?);

@@ -1,7 +1,7 @@
 //! The elements of texts, read in each way.
 ghost use Rattle.icu_elements.specs.CollationElements.{CanGive};
 
-use crate::fault::Fault;
+use crate::driver_error::DriverError;
 use crate::numbers::{Item, size, written};
 use crate::readers::Reader;
 use crate::texts::{WrittenText, characters_of, several};
@@ -86,24 +86,24 @@ fn by_cursor_of(
     alloc: Global,
     reader: &Reader,
     text: &WrittenText,
-) -> Result<Vec<CollationElement>, Fault> {
+) -> Result<Vec<CollationElement>, DriverError> {
     match text {
         WrittenText::Utf8(bytes) => Ok(by_cursor(alloc, reader, Utf8Text(bytes.as_slice()))?),
         WrittenText::Utf16(units) => Ok(by_cursor(alloc, reader, Utf16Text(units.as_slice()))?),
         WrittenText::Latin1(bytes) => Ok(by_cursor(alloc, reader, Latin1Text(bytes.as_slice()))?),
-        WrittenText::Characters(_) => Err(Fault::Unread),
+        WrittenText::Characters(_) => Err(DriverError::Unread),
     }
 }
 
 /// The elements of a text at once.
-pub(crate) fn whole(alloc: Global, reader: &Reader, text: &str) -> Result<String, Fault> {
+pub(crate) fn whole(alloc: Global, reader: &Reader, text: &str) -> Result<String, DriverError> {
     let text = WrittenText::read(alloc, text)?;
     let elements = at_once(reader, characters_of(&text)?)?;
     Ok(written(alloc, elements.as_slice())?)
 }
 
 /// The elements of a text one by one.
-pub(crate) fn next(alloc: Global, reader: &Reader, text: &str) -> Result<String, Fault> {
+pub(crate) fn next(alloc: Global, reader: &Reader, text: &str) -> Result<String, DriverError> {
     let text = WrittenText::read(alloc, text)?;
     let text = characters_of(&text)?;
     let count = at_once(reader, text)?.len();
@@ -112,7 +112,7 @@ pub(crate) fn next(alloc: Global, reader: &Reader, text: &str) -> Result<String,
 }
 
 /// The elements of a text by a cursor.
-pub(crate) fn cursor(alloc: Global, reader: &Reader, text: &str) -> Result<String, Fault> {
+pub(crate) fn cursor(alloc: Global, reader: &Reader, text: &str) -> Result<String, DriverError> {
     let elements = by_cursor_of(alloc, reader, &WrittenText::read(alloc, text)?)?;
     Ok(written(alloc, elements.as_slice())?)
 }
@@ -135,7 +135,7 @@ impl Readings {
     }
 
     /// Adds what a text is read as: characters at once and one by one, another by a cursor.
-    fn read(&mut self, reader: &Reader, text: &WrittenText) -> Result<(), Fault> {
+    fn read(&mut self, reader: &Reader, text: &WrittenText) -> Result<(), DriverError> {
         match text {
             WrittenText::Characters(text) => {
                 let list = at_once(reader, text.as_str())?;
@@ -163,7 +163,7 @@ impl Readings {
 }
 
 /// The elements of texts that spell the same, each read in its ways: once, or all that differ.
-pub(crate) fn all_readings(alloc: Global, reader: &Reader, texts: &str) -> Result<String, Fault> {
+pub(crate) fn all_readings(alloc: Global, reader: &Reader, texts: &str) -> Result<String, DriverError> {
     let mut readings = Readings {
         alloc,
         lists: Vec::new(alloc),
@@ -192,8 +192,8 @@ fn count_taken(
 }
 
 /// How many characters are taken for the first elements of a text, by the number of elements and the text.
-pub(crate) fn taken(alloc: Global, reader: &Reader, question: &str) -> Result<String, Fault> {
-    let (elements, text) = question.split_once(' ').ok_or(Fault::Unread)?;
+pub(crate) fn taken(alloc: Global, reader: &Reader, question: &str) -> Result<String, DriverError> {
+    let (elements, text) = question.split_once(' ').ok_or(DriverError::Unread)?;
     let text = WrittenText::read(alloc, text)?;
     let count = count_taken(alloc, reader, characters_of(&text)?, size(elements)?)?;
     Ok(written(alloc, &[count])?)

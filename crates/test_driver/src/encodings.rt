@@ -2,7 +2,7 @@
 ghost use Rattle.std.specs.Prelude.{◌≡◌};
 ghost use Rattle.std.specs.Iterator.{IsFinite};
 
-use crate::fault::Fault;
+use crate::driver_error::DriverError;
 use crate::numbers::{size, written};
 use crate::texts::{WrittenText, two};
 use icu_encodings::{
@@ -12,7 +12,7 @@ use icu_encodings::{
 use std::alloc::{AllocError, Global};
 
 /// The characters of a text, in whatever way it is read.
-pub(crate) fn characters(alloc: Global, text: &str) -> Result<String, Fault> {
+pub(crate) fn characters(alloc: Global, text: &str) -> Result<String, DriverError> {
     match &WrittenText::read(alloc, text)? {
         WrittenText::Utf8(bytes) => {
             let bytes = bytes.as_slice();
@@ -26,7 +26,7 @@ pub(crate) fn characters(alloc: Global, text: &str) -> Result<String, Fault> {
             let bytes = bytes.as_slice();
             Ok(read_in_each_way(alloc, bytes.latin1_chars(), Latin1Text(bytes))?)
         }
-        WrittenText::Characters(_) => Err(Fault::Unread),
+        WrittenText::Characters(_) => Err(DriverError::Unread),
     }
 }
 
@@ -95,18 +95,18 @@ pub(crate) enum FrontPart {
 }
 
 /// What stands at the front of a text, and what follows it.
-pub(crate) fn at_front(alloc: Global, front: FrontPart, text: &str) -> Result<String, Fault> {
+pub(crate) fn at_front(alloc: Global, front: FrontPart, text: &str) -> Result<String, DriverError> {
     match &WrittenText::read(alloc, text)? {
         WrittenText::Utf8(bytes) => Ok(taken_apart(alloc, front, Utf8Text(bytes.as_slice()))?),
         WrittenText::Utf16(units) => Ok(taken_apart(alloc, front, Utf16Text(units.as_slice()))?),
         WrittenText::Latin1(bytes) => Ok(taken_apart(alloc, front, Latin1Text(bytes.as_slice()))?),
-        WrittenText::Characters(_) => Err(Fault::Unread),
+        WrittenText::Characters(_) => Err(DriverError::Unread),
     }
 }
 
 /// What follows so many units of a text, by the number and the text.
-pub(crate) fn after(alloc: Global, question: &str) -> Result<String, Fault> {
-    let (at, text) = question.split_once(' ').ok_or(Fault::Unread)?;
+pub(crate) fn after(alloc: Global, question: &str) -> Result<String, DriverError> {
+    let (at, text) = question.split_once(' ').ok_or(DriverError::Unread)?;
     at_front(alloc, FrontPart::After(size(at)?), text)
 }
 
@@ -166,8 +166,8 @@ fn common_units(left: &WrittenText, right: &WrittenText) -> Option<usize> {
 }
 
 /// How many first units two texts have in common.
-pub(crate) fn common(alloc: Global, texts: &str) -> Result<String, Fault> {
+pub(crate) fn common(alloc: Global, texts: &str) -> Result<String, DriverError> {
     let (left, right) = two(alloc, texts)?;
-    let count = common_units(&left, &right).ok_or(Fault::Unread)?;
+    let count = common_units(&left, &right).ok_or(DriverError::Unread)?;
     Ok(format!(in alloc; "{count:X}")?)
 }

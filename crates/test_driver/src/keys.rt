@@ -1,5 +1,5 @@
 //! Sort keys.
-use crate::fault::Fault;
+use crate::driver_error::DriverError;
 use crate::numbers::{size, written};
 use crate::texts::WrittenText;
 use icu_comparison::{CollationKeySink, Collator, SortKeyError, TooSmall};
@@ -21,7 +21,7 @@ pub(crate) fn write<S: CollationKeySink>(
 }
 
 /// What says that no call writes the key of a text.
-pub(crate) fn no_call(alloc: Global) -> Result<String, Fault> {
+pub(crate) fn no_call(alloc: Global) -> Result<String, DriverError> {
     Ok(String::from_str(alloc, "no call")?)
 }
 
@@ -40,7 +40,7 @@ pub(crate) fn key_of(
 }
 
 /// The key of a text.
-pub(crate) fn key(alloc: Global, collator: &Collator, text: &str) -> Result<String, Fault> {
+pub(crate) fn key(alloc: Global, collator: &Collator, text: &str) -> Result<String, DriverError> {
     match key_of(alloc, collator, &WrittenText::read(alloc, text)?)? {
         Some(key) => Ok(written(alloc, key.as_slice())?),
         None => no_call(alloc),
@@ -91,8 +91,8 @@ pub(crate) fn slice(
     collator: &Collator,
     question: &str,
     times: u64,
-) -> Result<String, Fault> {
-    let (length, text) = question.split_once(' ').ok_or(Fault::Unread)?;
+) -> Result<String, DriverError> {
+    let (length, text) = question.split_once(' ').ok_or(DriverError::Unread)?;
     let text = WrittenText::read(alloc, text)?;
     let mut bytes = vec![in alloc; 0x7Fu8; size(length)?]?;
     let fit = write_times(collator, &text, bytes.as_mut_slice(), times)?;

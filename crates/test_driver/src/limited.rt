@@ -3,7 +3,7 @@ ghost use Rattle.std.specs.Prelude.{◌≡◌, ◌++◌};
 ghost use Rattle.icu_keys.specs.Sinks.{TakesBeginning};
 ghost use Rattle.icu_keys.specs.ListSinkLaws.{appended_nothing, appended_both};
 
-use crate::fault::Fault;
+use crate::driver_error::DriverError;
 use crate::keys::{no_call, write};
 use crate::numbers::{size, written};
 use crate::texts::WrittenText;
@@ -78,10 +78,10 @@ impl CollationKeySink for Limited {
 }
 
 /// The sink that a question names by three numbers, and what follows them.
-fn sink<'q>(alloc: Global, question: &'q str) -> Result<(Limited, &'q str), Fault> {
-    let (limit, rest) = question.split_once(' ').ok_or(Fault::Unread)?;
-    let (at_once, rest) = rest.split_once(' ').ok_or(Fault::Unread)?;
-    let (finishes, rest) = rest.split_once(' ').ok_or(Fault::Unread)?;
+fn sink<'q>(alloc: Global, question: &'q str) -> Result<(Limited, &'q str), DriverError> {
+    let (limit, rest) = question.split_once(' ').ok_or(DriverError::Unread)?;
+    let (at_once, rest) = rest.split_once(' ').ok_or(DriverError::Unread)?;
+    let (finishes, rest) = rest.split_once(' ').ok_or(DriverError::Unread)?;
     let sink = Limited {
         taken: Vec::new(alloc),
         limit: size(limit)?,
@@ -96,7 +96,7 @@ pub(crate) fn into_limited(
     alloc: Global,
     collator: &Collator,
     question: &str,
-) -> Result<String, Fault> {
+) -> Result<String, DriverError> {
     let (mut sink, text) = sink(alloc, question)?;
     let text = WrittenText::read(alloc, text)?;
     let returned = match write(collator, &text, &mut sink) {
@@ -104,7 +104,7 @@ pub(crate) fn into_limited(
         Some(Err(SortKeyError::Sink(SinkFault::Full))) => "Full",
         Some(Err(SortKeyError::Sink(SinkFault::Unfinished))) => "Unfinished",
         Some(Err(SortKeyError::Sink(SinkFault::NoMemory) | SortKeyError::NoMemory)) => {
-            return Err(Fault::NoMemory);
+            return Err(DriverError::NoMemory);
         }
         None => return no_call(alloc),
     };

@@ -1,16 +1,16 @@
 //! Lines of FractionalUCA.txt.
-use crate::fault::Fault;
+use crate::driver_error::DriverError;
 use crate::texts::{WrittenText, characters_of};
 use icu_fractional::{CharRange, FractionalElement, Line, LineError, Mapping, Primary};
 use std::alloc::{AllocError, Global};
 
 /// What a line says, or what was expected of it.
-pub(crate) fn line(alloc: Global, text: &str) -> Result<String, Fault> {
+pub(crate) fn line(alloc: Global, text: &str) -> Result<String, DriverError> {
     let text = WrittenText::read(alloc, text)?;
     match said(alloc, characters_of(&text)?) {
         Ok(said) => Ok(said),
         Err(LineError::Expected(expected)) => Ok(expected.to_string(alloc)?),
-        Err(LineError::NoMemory) => Err(Fault::NoMemory),
+        Err(LineError::NoMemory) => Err(DriverError::NoMemory),
     }
 }
 

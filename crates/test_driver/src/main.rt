@@ -8,7 +8,7 @@ mod collators;
 mod comparisons;
 mod elements;
 mod encodings;
-mod fault;
+mod driver_error;
 mod keys;
 mod letters;
 mod limited;
@@ -25,7 +25,7 @@ mod tables;
 mod texts;
 mod values;
 
-use crate::fault::Fault;
+use crate::driver_error::DriverError;
 use crate::questions::answer;
 use crate::state::State;
 use icu_mini::mini::Mini;
@@ -45,10 +45,10 @@ fn read_line<R: BufRead>(reader: &mut R, line: &mut Vec<u8>) -> io::Result<bool>
 }
 
 /// What a line asks, once more where an allocation failed.
-fn answer_twice(rt: &HostRuntime, state: &mut State, line: &str) -> Result<String, Fault> {
+fn answer_twice(rt: &HostRuntime, state: &mut State, line: &str) -> Result<String, DriverError> {
     match answer(rt, state, line) {
-        Err(Fault::NoMemory) => answer(rt, state, line),
-        Err(Fault::Refused(table)) => {
+        Err(DriverError::NoMemory) => answer(rt, state, line),
+        Err(DriverError::Refused(table)) => {
             let _ = eprintln!(rt; "refused: {table:?}");
             answer(rt, state, line)
         }
@@ -57,21 +57,21 @@ fn answer_twice(rt: &HostRuntime, state: &mut State, line: &str) -> Result<Strin
 }
 
 /// Answers a line.
-fn answer_line(rt: &HostRuntime, state: &mut State, line: &[u8]) -> Result<(), Fault> {
+fn answer_line(rt: &HostRuntime, state: &mut State, line: &[u8]) -> Result<(), DriverError> {
     let Ok(line) = str::from_utf8(line) else {
         println!(rt; "?")?;
         return Ok(());
     };
     match answer_twice(rt, state, line.trim()) {
         Ok(answer) => println!(rt; "{answer}")?,
-        Err(Fault::Unread) => println!(rt; "?")?,
-        Err(fault) => return Err(fault),
+        Err(DriverError::Unread) => println!(rt; "?")?,
+        Err(error) => return Err(error),
     }
     Ok(())
 }
 
 /// Answers all lines.
-fn run(rt: &HostRuntime, state: &mut State) -> Result<(), Fault> {
+fn run(rt: &HostRuntime, state: &mut State) -> Result<(), DriverError> {
     let alloc = rt.alloc();
     let mut reader = match BufReader::new(alloc, rt.reader()) {
         Err(_) => BufReader::new(alloc, rt.reader())?,
@@ -88,14 +88,14 @@ fn run(rt: &HostRuntime, state: &mut State) -> Result<(), Fault> {
 }
 
 /// The tables that the program begins with.
-fn first_tables(rt: &HostRuntime) -> Result<Mini, Fault> {
+fn first_tables(rt: &HostRuntime) -> Result<Mini, DriverError> {
     match Mini::new(rt.alloc()) {
         Ok(mini) => Ok(mini),
         Err(_) => Ok(Mini::new(rt.alloc())?),
     }
 }
 
-fn run_by(rt: &HostRuntime, mini: Mini) -> Result<(), Fault> {
+fn run_by(rt: &HostRuntime, mini: Mini) -> Result<(), DriverError> {
     let mut state = State::new(rt.alloc(), mini);
     run(rt, &mut state)
 }
@@ -103,7 +103,7 @@ fn run_by(rt: &HostRuntime, mini: Mini) -> Result<(), Fault> {
 fn main(rt: HostRuntime) -> ExitCode {
     let ran = match first_tables(&rt) {
         Ok(mini) => run_by(&rt, mini),
-        Err(fault) => Err(fault),
+        Err(error) => Err(error),
     };
     match ran {
         Ok(()) => ExitCode::SUCCESS,

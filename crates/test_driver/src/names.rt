@@ -1,5 +1,5 @@
 //! An index of names.
-use crate::fault::Fault;
+use crate::driver_error::DriverError;
 use crate::numbers::written;
 use crate::texts::{WrittenText, bytes_of, several};
 use icu_comparison::Collator;
@@ -35,7 +35,7 @@ fn index_at_once<'c>(
     alloc: Global,
     collator: &'c Collator,
     names: &[WrittenText],
-) -> Result<NameIndex<'c>, Fault> {
+) -> Result<NameIndex<'c>, DriverError> {
     let mut index = NameIndex::new(alloc, collator);
     for name in names {
         let name = bytes_of(name)?;
@@ -50,7 +50,7 @@ fn is_listing_of(
     collator: &Collator,
     names: &[WrittenText],
     listed: &str,
-) -> Result<bool, Fault> {
+) -> Result<bool, DriverError> {
     let index = index_at_once(alloc, collator, names)?;
     let listing = listing(alloc, &index)?;
     Ok(listing.as_str() == listed)
@@ -62,7 +62,7 @@ fn index<'c>(
     alloc: Global,
     collator: &'c Collator,
     names: &[WrittenText],
-) -> Result<Option<NameIndex<'c>>, Fault> {
+) -> Result<Option<NameIndex<'c>>, DriverError> {
     let mut index = NameIndex::new(alloc, collator);
     let mut count = 0usize;
     for name in names {
@@ -80,12 +80,12 @@ fn index<'c>(
     Ok(Some(index))
 }
 
-fn lost(alloc: Global) -> Result<String, Fault> {
+fn lost(alloc: Global) -> Result<String, DriverError> {
     Ok(String::from_str(alloc, "lost")?)
 }
 
 /// How many names an index of these has, and its listing.
-pub(crate) fn names(alloc: Global, collator: &Collator, names: &str) -> Result<String, Fault> {
+pub(crate) fn names(alloc: Global, collator: &Collator, names: &str) -> Result<String, DriverError> {
     let names = several(alloc, names)?;
     let Some(index) = index(alloc, collator, names.as_slice())? else {
         return lost(alloc);
@@ -107,9 +107,9 @@ fn equal_names(alloc: Global, index: &NameIndex<'_>, name: &[u8]) -> Result<Stri
 }
 
 /// The names that are equal to the first one, of an index of the others.
-pub(crate) fn equals(alloc: Global, collator: &Collator, names: &str) -> Result<String, Fault> {
+pub(crate) fn equals(alloc: Global, collator: &Collator, names: &str) -> Result<String, DriverError> {
     let names = several(alloc, names)?;
-    let (name, names) = names.as_slice().split_first().ok_or(Fault::Unread)?;
+    let (name, names) = names.as_slice().split_first().ok_or(DriverError::Unread)?;
     match index(alloc, collator, names)? {
         Some(index) => Ok(equal_names(alloc, &index, bytes_of(name)?)?),
         None => lost(alloc),

@@ -1,9 +1,9 @@
 //! Numbers, in hexadecimal digits.
-use crate::fault::Fault;
+use crate::driver_error::DriverError;
 use std::alloc::{AllocError, Global};
 
 /// The numbers that a question writes. `61*2710` is 61 as often as the number behind `*` says.
-pub(crate) fn numbers(alloc: Global, written: &str) -> Result<Vec<u64>, Fault> {
+pub(crate) fn numbers(alloc: Global, written: &str) -> Result<Vec<u64>, DriverError> {
     let mut numbers = Vec::new(alloc);
     for word in written.split_whitespace() {
         push_word(&mut numbers, word)?;
@@ -11,7 +11,7 @@ pub(crate) fn numbers(alloc: Global, written: &str) -> Result<Vec<u64>, Fault> {
     Ok(numbers)
 }
 
-fn push_word(numbers: &mut Vec<u64>, word: &str) -> Result<(), Fault> {
+fn push_word(numbers: &mut Vec<u64>, word: &str) -> Result<(), DriverError> {
     let (digits, count) = word.split_once('*').unwrap_or((word, "1"));
     let number = number(digits)?;
     for _ in 0..self::number(count)? {
@@ -21,10 +21,10 @@ fn push_word(numbers: &mut Vec<u64>, word: &str) -> Result<(), Fault> {
 }
 
 /// The number that these digits write.
-pub(crate) fn number(digits: &str) -> Result<u64, Fault> {
+pub(crate) fn number(digits: &str) -> Result<u64, DriverError> {
     match u64::from_str_radix(digits, 16) {
         Ok(number) => Ok(number),
-        Err(_) => Err(Fault::Unread),
+        Err(_) => Err(DriverError::Unread),
     }
 }
 
@@ -104,25 +104,25 @@ impl FromNumber for char {
 }
 
 /// A list of these numbers.
-pub(crate) fn list<T: FromNumber>(alloc: Global, numbers: &[u64]) -> Result<Vec<T>, Fault> {
+pub(crate) fn list<T: FromNumber>(alloc: Global, numbers: &[u64]) -> Result<Vec<T>, DriverError> {
     let mut items = Vec::new(alloc);
     for number in numbers {
-        items.push(T::of(*number).ok_or(Fault::Unread)?)?;
+        items.push(T::of(*number).ok_or(DriverError::Unread)?)?;
     }
     Ok(items)
 }
 
 /// The one number among these.
-pub(crate) fn only<T: FromNumber>(numbers: &[u64]) -> Result<T, Fault> {
+pub(crate) fn only<T: FromNumber>(numbers: &[u64]) -> Result<T, DriverError> {
     match numbers {
-        [number] => T::of(*number).ok_or(Fault::Unread),
-        _ => Err(Fault::Unread),
+        [number] => T::of(*number).ok_or(DriverError::Unread),
+        _ => Err(DriverError::Unread),
     }
 }
 
 /// The one number that a question writes.
-pub(crate) fn single<T: FromNumber>(written: &str) -> Result<T, Fault> {
-    T::of(number(written.trim())?).ok_or(Fault::Unread)
+pub(crate) fn single<T: FromNumber>(written: &str) -> Result<T, DriverError> {
+    T::of(number(written.trim())?).ok_or(DriverError::Unread)
 }
 
 /// Items as an answer writes them: of equal ones in a row the first and how many there are.
@@ -158,9 +158,9 @@ fn push_run<T: Item>(text: &mut String, item: T, count: u64) -> Result<(), Alloc
 }
 
 /// The one length or index that a question writes.
-pub(crate) fn size(written: &str) -> Result<usize, Fault> {
+pub(crate) fn size(written: &str) -> Result<usize, DriverError> {
     match usize::from_str_radix(written.trim(), 16) {
         Ok(size) => Ok(size),
-        Err(_) => Err(Fault::Unread),
+        Err(_) => Err(DriverError::Unread),
     }
 }

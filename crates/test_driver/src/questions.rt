@@ -4,7 +4,7 @@ use crate::collators::{alone, check, checked, kept, printed, together};
 use crate::comparisons::compare;
 use crate::elements::{all_readings, cursor, next, taken, whole};
 use crate::encodings::{FrontPart, after, at_front, characters, common};
-use crate::fault::Fault;
+use crate::driver_error::DriverError;
 use crate::keys::{key, slice};
 use crate::letters::letter;
 use crate::limited::into_limited;
@@ -32,7 +32,7 @@ const BY_COLLATOR: [&str; 8] = [
 const BY_READER: [&str; 6] = ["whole", "next", "cursor", "readings", "taken", "letter"];
 
 /// What a line asks. Where an allocation fails, the state stays as it was.
-pub(crate) fn answer(rt: &HostRuntime, state: &mut State, line: &str) -> Result<String, Fault> {
+pub(crate) fn answer(rt: &HostRuntime, state: &mut State, line: &str) -> Result<String, DriverError> {
     let alloc = rt.alloc();
     if line.is_empty() || line.starts_with('#') {
         return Ok(String::new(alloc));
@@ -43,7 +43,7 @@ pub(crate) fn answer(rt: &HostRuntime, state: &mut State, line: &str) -> Result<
         return change(rt, state, question, rest);
     }
     if BY_COLLATOR.contains(&question) {
-        let collator = state.collator.as_ref().ok_or(Fault::Unread)?;
+        let collator = state.collator.as_ref().ok_or(DriverError::Unread)?;
         return by_collator(alloc, collator, question, rest, state.times);
     }
     if BY_READER.contains(&question) {
@@ -53,13 +53,13 @@ pub(crate) fn answer(rt: &HostRuntime, state: &mut State, line: &str) -> Result<
 }
 
 /// What is asked of the state beside a collator and the elements of texts, or of nothing that it holds.
-fn other_answer(alloc: Global, state: &State, question: &str, rest: &str) -> Result<String, Fault> {
+fn other_answer(alloc: Global, state: &State, question: &str, rest: &str) -> Result<String, DriverError> {
     match question {
         "request" => {
             let typed = state.typed.as_ref();
             request(alloc, &state.mini, typed, state.refused.as_slice(), rest)
         }
-        "absent" => Ok(state.absent.as_ref().ok_or(Fault::Unread)?.clone()?),
+        "absent" => Ok(state.absent.as_ref().ok_or(DriverError::Unread)?.clone()?),
         "characters" => characters(alloc, rest),
         "first" => at_front(alloc, FrontPart::First, rest),
         "ascii" => at_front(alloc, FrontPart::Ascii, rest),
@@ -79,7 +79,7 @@ fn by_collator(
     question: &str,
     rest: &str,
     times: u64,
-) -> Result<String, Fault> {
+) -> Result<String, DriverError> {
     match question {
         "compare" => compare(alloc, collator, rest, times),
         "key" => key(alloc, collator, rest),
@@ -89,7 +89,7 @@ fn by_collator(
         "names" => names(alloc, collator, rest),
         "equals" => equals(alloc, collator, rest),
         "resolved" => Ok(indexes(alloc, collator.as_borrowed().resolved_options())?),
-        _ => Err(Fault::Unread),
+        _ => Err(DriverError::Unread),
     }
 }
 
@@ -99,7 +99,7 @@ fn by_tables(
     question: &str,
     rest: &str,
     times: u64,
-) -> Result<String, Fault> {
+) -> Result<String, DriverError> {
     match question {
         "show" => show(alloc, mini, rest),
         "alone" => alone(alloc, mini),
@@ -107,18 +107,18 @@ fn by_tables(
         "check" => check(alloc, mini, times),
         "kept" => kept(alloc, mini),
         "entry" => entry(alloc, &mini.root, rest),
-        "tailoring.entry" => entry(alloc, mini.tailoring.as_ref().ok_or(Fault::Unread)?, rest),
+        "tailoring.entry" => entry(alloc, mini.tailoring.as_ref().ok_or(DriverError::Unread)?, rest),
         "reorder" => reordered(alloc, mini, rest),
         "compressible" => compressible(alloc, mini, rest),
         "last" => last(alloc, mini, rest),
         "metadata" => Ok(metadata(alloc, mini.metadata)?),
-        _ => Err(Fault::Unread),
+        _ => Err(DriverError::Unread),
     }
 }
 
 /// What is asked of the elements of a text. What texts are read by is kept, so that it is made once for many questions.
-fn read(alloc: Global, state: &mut State, question: &str, rest: &str) -> Result<String, Fault> {
-    let (numbers, rest) = rest.split_once(' ').ok_or(Fault::Unread)?;
+fn read(alloc: Global, state: &mut State, question: &str, rest: &str) -> Result<String, DriverError> {
+    let (numbers, rest) = rest.split_once(' ').ok_or(DriverError::Unread)?;
     let numbers = number(numbers)? != 0;
     if let Some(reader) = &state.reader {
         if reader.numeric_primary.is_some() == numbers {
@@ -132,11 +132,11 @@ fn read(alloc: Global, state: &mut State, question: &str, rest: &str) -> Result<
             state.reader = Some(reader);
             answer
         }
-        Err(refusal) => printed(alloc, Some(refusal)),
+        Err(error) => printed(alloc, Some(error)),
     }
 }
 
-fn read_by(alloc: Global, reader: &Reader, question: &str, rest: &str) -> Result<String, Fault> {
+fn read_by(alloc: Global, reader: &Reader, question: &str, rest: &str) -> Result<String, DriverError> {
     match question {
         "whole" => whole(alloc, reader, rest),
         "next" => next(alloc, reader, rest),
@@ -144,16 +144,16 @@ fn read_by(alloc: Global, reader: &Reader, question: &str, rest: &str) -> Result
         "readings" => all_readings(alloc, reader, rest),
         "taken" => taken(alloc, reader, rest),
         "letter" => letter(alloc, reader, rest),
-        _ => Err(Fault::Unread),
+        _ => Err(DriverError::Unread),
     }
 }
 
 /// The weights of a run of digits, by the lead byte of numbers and the digits.
-fn weights(alloc: Global, question: &str) -> Result<String, Fault> {
+fn weights(alloc: Global, question: &str) -> Result<String, DriverError> {
     let numbers: Vec<u8> = list(alloc, numbers(alloc, question)?.as_slice())?;
-    let (lead, digits) = numbers.as_slice().split_first().ok_or(Fault::Unread)?;
+    let (lead, digits) = numbers.as_slice().split_first().ok_or(DriverError::Unread)?;
     if !digits.iter().all(|digit| *digit < 10) {
-        return Err(Fault::Unread);
+        return Err(DriverError::Unread);
     }
     let weights = digit_run_weights(alloc, *lead, digits)?;
     Ok(written(alloc, weights.as_slice())?)

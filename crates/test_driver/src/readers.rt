@@ -2,15 +2,15 @@
 ghost use Rattle.std.specs.Prelude.{◌≡◌, IfOk};
 ghost use Rattle.icu_checks.specs.Checked.{checked_tables};
 ghost use Rattle.icu_elements.specs.Reading.{element_tables, reading_of};
-ghost use Rattle.icu_shortcuts.specs.LetterTables.{AreLetters};
+ghost use Rattle.icu_shortcuts.specs.FactsTables.{AreFacts};
 ghost use Rattle.icu_shortcuts.specs.Named.{NamesAll};
-ghost use Rattle.icu_shortcuts.specs.SafeTables.{safe_reading};
+ghost use Rattle.icu_shortcuts.specs.BoundaryTables.{boundary_reading};
 ghost use Rattle.test_driver.specs.Readers.{reading_with};
 
 use icu_checks::CheckedTables;
 use icu_cursor::CursorTables;
 use icu_elements::{ElementTables, TextReading};
-use icu_shortcuts::{Letters, NamedCharacters, SafePlaces};
+use icu_shortcuts::{KeptFacts, NamedCharacters, Boundaries};
 use std::alloc::{AllocError, Global};
 
 /// What texts are read by: tables, whether digits are read as numbers, and what is kept of letters.
@@ -18,12 +18,12 @@ use std::alloc::{AllocError, Global};
 pub(crate) struct Reader {
     tables: CheckedTables,
     named: NamedCharacters,
-    letters: Letters,
+    letters: KeptFacts,
     /// The lead byte of numbers, where digits are read as numbers.
     pub(crate) numeric_primary: Option<u8>,
     pub(crate) lithuanian_dot_above: bool,
     ghost names: { NamesAll named (checked_tables tables).tables },
-    ghost known: { AreLetters (reading_with tables numeric_primary lithuanian_dot_above) letters },
+    ghost known: { AreFacts (reading_with tables numeric_primary lithuanian_dot_above) letters },
 }
 
 /// How texts are read.
@@ -44,16 +44,16 @@ fn reading(
 }
 
 /// Before which characters texts may be cut that are read so.
-fn safe_places<'d>(
+fn boundaries<'d>(
     tables: &'d CheckedTables,
     named: &'d NamedCharacters,
     numeric_primary: Option<u8>,
     lithuanian_dot_above: bool,
-) -> SafePlaces<'d>
+) -> Boundaries<'d>
     requires { NamesAll named.now (checked_tables tables.now).tables }
-    ensures { safe_reading result ≡ reading_with tables.now numeric_primary lithuanian_dot_above }
+    ensures { boundary_reading result ≡ reading_with tables.now numeric_primary lithuanian_dot_above }
 {
-    SafePlaces::new(
+    Boundaries::new(
         reading(tables, numeric_primary, lithuanian_dot_above),
         named,
     )
@@ -66,13 +66,13 @@ fn letters(
     named: &NamedCharacters,
     numeric_primary: Option<u8>,
     lithuanian_dot_above: bool,
-) -> Result<Letters, AllocError>
+) -> Result<KeptFacts, AllocError>
     requires { NamesAll named.now (checked_tables tables.now).tables }
-    ensures { IfOk result (λ l. AreLetters (reading_with tables.now numeric_primary
+    ensures { IfOk result (λ l. AreFacts (reading_with tables.now numeric_primary
         lithuanian_dot_above) l) }
 {
-    let places = safe_places(tables, named, numeric_primary, lithuanian_dot_above);
-    Letters::new(alloc, places)
+    let places = boundaries(tables, named, numeric_primary, lithuanian_dot_above);
+    KeptFacts::new(alloc, places)
 }
 
 impl Reader {
@@ -115,11 +115,11 @@ impl Reader {
     }
 
     /// Before which characters texts may be cut.
-    pub(crate) fn safe_places(&self) -> SafePlaces<'_>
-        ensures { safe_reading result
+    pub(crate) fn boundaries(&self) -> Boundaries<'_>
+        ensures { boundary_reading result
             ≡ reading_with self.now.tables self.now.numeric_primary self.now.lithuanian_dot_above }
     {
-        safe_places(
+        boundaries(
             &self.tables,
             &self.named,
             self.numeric_primary,
@@ -128,12 +128,12 @@ impl Reader {
     }
 
     /// What is kept of letters.
-    pub(crate) fn letters(&self) -> &Letters {
+    pub(crate) fn letters(&self) -> &KeptFacts {
         &self.letters
     }
 
     /// What a cursor reads by.
     pub(crate) fn cursor_tables(&self) -> CursorTables<'_> {
-        CursorTables::new(self.safe_places(), &self.letters)
+        CursorTables::new(self.boundaries(), &self.letters)
     }
 }

@@ -1,11 +1,11 @@
-//! What a provider is asked for, in which order, and what is made of its refusals.
+//! What a provider is asked for, in which order, and what is made of its errors.
 ghost use Rattle.std.specs.Prelude.{◌≡◌};
 ghost use Rattle.test_driver.specs.RequestedProvider.{by_request};
 ghost use Rattle.icu_provider.specs.FixedLoads.{fixed_loads};
 ghost use Rattle.icu_provider.specs.Requests.{request_of};
 
 use crate::collators::printed;
-use crate::fault::Fault;
+use crate::driver_error::DriverError;
 use icu_data::CollationData;
 use icu_entries::{DataError, DataErrorKind, DataTable};
 use icu_mini::mini::Mini;
@@ -183,13 +183,13 @@ fn entry_of_alpha(data: CollationData<'_>) -> u32 {
     table.get('α')
 }
 
-/// What the tables of a locale come to: `ok` and the tailoring's entry of alpha, or the refusal.
+/// What the tables of a locale come to: `ok` and the tailoring's entry of alpha, or the error.
 fn outcome(
     alloc: Global,
     provider: &ByRequest<'_>,
     locale: &str,
     collation_type: Option<&str>,
-) -> Result<String, Fault> {
+) -> Result<String, DriverError> {
     match load_tables(provider, locale, collation_type) {
         Ok(tables) => {
             let entry = match tables.tailoring {
@@ -198,7 +198,7 @@ fn outcome(
             };
             Ok(format!(in alloc; "ok {entry:X}")?)
         }
-        Err(refusal) => printed(alloc, Some(refusal)),
+        Err(error) => printed(alloc, Some(error)),
     }
 }
 
@@ -209,8 +209,8 @@ pub(crate) fn request(
     typed: Option<&Mini>,
     refused: &[Refusing],
     question: &str,
-) -> Result<String, Fault> {
-    let (locale, collation_type) = question.trim().split_once(' ').ok_or(Fault::Unread)?;
+) -> Result<String, DriverError> {
+    let (locale, collation_type) = question.trim().split_once(' ').ok_or(DriverError::Unread)?;
     let mut provider = ByRequest {
         typed: tailored(typed.unwrap_or(mini)),
         local: tailored(mini),
@@ -238,16 +238,16 @@ fn word(written: &str) -> Option<&str> {
     }
 }
 
-fn sort_of_request(name: &str) -> Result<Which, Fault> {
+fn sort_of_request(name: &str) -> Result<Which, DriverError> {
     match name {
         "typed" => Ok(Which::Typed),
         "local" => Ok(Which::Local),
         "empty" => Ok(Which::Empty),
-        _ => Err(Fault::Unread),
+        _ => Err(DriverError::Unread),
     }
 }
 
-fn table(name: &str) -> Result<DataTable, Fault> {
+fn table(name: &str) -> Result<DataTable, DriverError> {
     match name {
         "Root" => Ok(DataTable::Root),
         "Jamo" => Ok(DataTable::Jamo),
@@ -256,11 +256,11 @@ fn table(name: &str) -> Result<DataTable, Fault> {
         "Tailoring" => Ok(DataTable::Tailoring),
         "Reordering" => Ok(DataTable::Reordering),
         "Diacritics" => Ok(DataTable::Diacritics),
-        _ => Err(Fault::Unread),
+        _ => Err(DriverError::Unread),
     }
 }
 
-fn kind(name: &str) -> Result<DataErrorKind, Fault> {
+fn kind(name: &str) -> Result<DataErrorKind, DriverError> {
     match name {
         "Absent" => Ok(DataErrorKind::Absent),
         "Length" => Ok(DataErrorKind::Length),
@@ -274,18 +274,18 @@ fn kind(name: &str) -> Result<DataErrorKind, Fault> {
         "Compression" => Ok(DataErrorKind::Compression),
         "Reordering" => Ok(DataErrorKind::Reordering),
         "SpecialPrimary" => Ok(DataErrorKind::SpecialPrimary),
-        _ => Err(Fault::Unread),
+        _ => Err(DriverError::Unread),
     }
 }
 
 /// What a provider refuses from now on, beside what it refused before; `none` takes all of it back.
-pub(crate) fn set_refused(refused: &mut Vec<Refusing>, question: &str) -> Result<(), Fault> {
+pub(crate) fn set_refused(refused: &mut Vec<Refusing>, question: &str) -> Result<(), DriverError> {
     if question.trim() == "none" {
         refused.clear();
         return Ok(());
     }
-    let (name, rest) = question.trim().split_once(' ').ok_or(Fault::Unread)?;
-    let (table_name, kind_name) = rest.trim().split_once(' ').ok_or(Fault::Unread)?;
+    let (name, rest) = question.trim().split_once(' ').ok_or(DriverError::Unread)?;
+    let (table_name, kind_name) = rest.trim().split_once(' ').ok_or(DriverError::Unread)?;
     let error = DataError {
         table: table(table_name)?,
         kind: kind(kind_name.trim())?,

@@ -1,5 +1,5 @@
 //! Settings, each by its index among those that it may be.
-use crate::fault::Fault;
+use crate::driver_error::DriverError;
 use crate::numbers::{numbers, single, written};
 use icu_options::{
     AlternateHandling, CaseLevel, CollationCaseFirst, CollationNumericOrdering, CollatorOptions,
@@ -73,14 +73,14 @@ pub(crate) struct Named {
 }
 
 /// What six numbers name.
-pub(crate) fn named_settings(alloc: Global, written: &str) -> Result<Named, Fault> {
+pub(crate) fn named_settings(alloc: Global, written: &str) -> Result<Named, DriverError> {
     let numbers = numbers(alloc, written)?;
     match numbers.as_slice() {
         six @ [_, _, _, _, _, _] => Ok(Named {
             options: options(six),
             preferences: preferences(six),
         }),
-        _ => Err(Fault::Unread),
+        _ => Err(DriverError::Unread),
     }
 }
 
@@ -112,7 +112,7 @@ fn named_over(first: Named, later: Named) -> Named {
 
 /// The settings that metadata and named settings come to. With two sixes of numbers, each with metadata of its own, the
 /// first are merged and resolved, and taken as options and preferences again, over which the others are named.
-pub(crate) fn merge(alloc: Global, written: &str) -> Result<String, Fault> {
+pub(crate) fn merge(alloc: Global, written: &str) -> Result<String, DriverError> {
     let none = Named {
         options: CollatorOptions::default(),
         preferences: CollatorPreferences::default(),
@@ -128,8 +128,8 @@ pub(crate) fn merge(alloc: Global, written: &str) -> Result<String, Fault> {
 }
 
 /// What metadata and six numbers come to, where the numbers are named over other settings.
-fn merged(alloc: Global, before: Named, written: &str) -> Result<CollatorOptionsBitField, Fault> {
-    let (bits, six) = written.trim().split_once(' ').ok_or(Fault::Unread)?;
+fn merged(alloc: Global, before: Named, written: &str) -> Result<CollatorOptionsBitField, DriverError> {
+    let (bits, six) = written.trim().split_once(' ').ok_or(DriverError::Unread)?;
     let metadata = MetadataSettings::from_bits(single(bits)?);
     let named = named_over(before, named_settings(alloc, six)?);
     Ok(merged_options(named.options, named.preferences, metadata))

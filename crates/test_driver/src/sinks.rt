@@ -1,5 +1,5 @@
 //! Lists as sinks of sort keys, each behind a byte 7F that it holds.
-use crate::fault::Fault;
+use crate::driver_error::DriverError;
 use crate::keys::{key_of, no_call, write};
 use crate::numbers::written;
 use crate::texts::WrittenText;
@@ -60,33 +60,33 @@ fn filled(
     filling: Filling<'_>,
     is_filled: bool,
     bytes: &[u8],
-) -> Result<String, Fault> {
+) -> Result<String, DriverError> {
     if is_filled {
         return Ok(written(alloc, bytes)?);
     }
     match (filling, bytes) {
         (Filling::Key(_, _, key), [HELD, rest @ ..]) if key.starts_with(rest) => {
-            Err(Fault::NoMemory)
+            Err(DriverError::NoMemory)
         }
-        (Filling::Bytes, _) => Err(Fault::NoMemory),
+        (Filling::Bytes, _) => Err(DriverError::NoMemory),
         _ => Ok(String::from_str(alloc, "lost")?),
     }
 }
 
-fn in_vector(alloc: Global, filling: Filling<'_>) -> Result<String, Fault> {
+fn in_vector(alloc: Global, filling: Filling<'_>) -> Result<String, DriverError> {
     let mut list = Vec::from_array(alloc, [HELD])?;
     let is_filled = fill(filling, &mut list);
     filled(alloc, filling, is_filled, list.as_slice())
 }
 
-fn in_inline_list(alloc: Global, filling: Filling<'_>) -> Result<String, Fault> {
+fn in_inline_list(alloc: Global, filling: Filling<'_>) -> Result<String, DriverError> {
     let mut list: SmallVec<u8, 4> = SmallVec::new(alloc);
     list.push(HELD)?;
     let is_filled = fill(filling, &mut list);
     filled(alloc, filling, is_filled, list.as_slice())
 }
 
-fn in_deque(alloc: Global, filling: Filling<'_>) -> Result<String, Fault> {
+fn in_deque(alloc: Global, filling: Filling<'_>) -> Result<String, DriverError> {
     let mut list = VecDeque::new(alloc);
     list.push_back(HELD)?;
     let is_filled = fill(filling, &mut list);
@@ -94,18 +94,18 @@ fn in_deque(alloc: Global, filling: Filling<'_>) -> Result<String, Fault> {
     filled(alloc, filling, is_filled, bytes.as_slice())
 }
 
-fn in_list(alloc: Global, kind: &str, filling: Filling<'_>) -> Result<String, Fault> {
+fn in_list(alloc: Global, kind: &str, filling: Filling<'_>) -> Result<String, DriverError> {
     match kind {
         "vector" => in_vector(alloc, filling),
         "inline" => in_inline_list(alloc, filling),
         "deque" => in_deque(alloc, filling),
-        _ => Err(Fault::Unread),
+        _ => Err(DriverError::Unread),
     }
 }
 
 /// A list of a kind with the key of a text.
-pub(crate) fn list(alloc: Global, collator: &Collator, question: &str) -> Result<String, Fault> {
-    let (kind, text) = question.split_once(' ').ok_or(Fault::Unread)?;
+pub(crate) fn list(alloc: Global, collator: &Collator, question: &str) -> Result<String, DriverError> {
+    let (kind, text) = question.split_once(' ').ok_or(DriverError::Unread)?;
     let text = WrittenText::read(alloc, text)?;
     match key_of(alloc, collator, &text)? {
         Some(key) => {
@@ -117,6 +117,6 @@ pub(crate) fn list(alloc: Global, collator: &Collator, question: &str) -> Result
 }
 
 /// A list of a kind with bytes.
-pub(crate) fn bytes(alloc: Global, kind: &str) -> Result<String, Fault> {
+pub(crate) fn bytes(alloc: Global, kind: &str) -> Result<String, DriverError> {
     in_list(alloc, kind.trim(), Filling::Bytes)
 }

@@ -1,17 +1,17 @@
 //! The tables that questions are asked of.
-use crate::fault::Fault;
+use crate::driver_error::DriverError;
 use crate::numbers::{list, numbers, only, written};
-use icu_data::{Context, ContextRow};
+use icu_data::{Context, ContextMapping};
 use icu_mini::mini::Mini;
 use icu_mini::reordering_data::ReorderingData;
 use icu_owned_data::DataVectors;
 use std::alloc::{AllocError, Global};
 
 /// Mini, or the variant of it with this name.
-pub(crate) fn base(alloc: Global, name: &str) -> Result<Mini, Fault> {
+pub(crate) fn base(alloc: Global, name: &str) -> Result<Mini, DriverError> {
     match variant(alloc, name) {
         Some(made) => Ok(made?),
-        None => Err(Fault::Unread),
+        None => Err(DriverError::Unread),
     }
 }
 
@@ -26,7 +26,7 @@ fn variant(alloc: Global, name: &str) -> Option<Result<Mini, AllocError>> {
         "offsets" => Some(Mini::with_offsets(alloc)),
         "sharp s" => Some(Mini::with_sharp_s(alloc)),
         "swapped leads" => Some(Mini::with_swapped_leads(alloc)),
-        "two rows" => Some(Mini::with_two_rows(alloc)),
+        "two rows" => Some(Mini::with_two_mappings(alloc)),
         "c after ab" => Some(Mini::with_c_after_ab(alloc)),
         "jamo list" => Some(Mini::with_jamo_list(alloc)),
         "kana" => Some(Mini::with_kana(alloc)),
@@ -39,7 +39,7 @@ fn variant(alloc: Global, name: &str) -> Option<Result<Mini, AllocError>> {
 }
 
 /// Puts numbers in the place of a field.
-pub(crate) fn set(alloc: Global, mini: &mut Mini, written: &str) -> Result<(), Fault> {
+pub(crate) fn set(alloc: Global, mini: &mut Mini, written: &str) -> Result<(), DriverError> {
     let (field, written) = written.split_once(' ').unwrap_or((written, ""));
     let numbers = numbers(alloc, written)?;
     let numbers = numbers.as_slice();
@@ -50,7 +50,7 @@ pub(crate) fn set(alloc: Global, mini: &mut Mini, written: &str) -> Result<(), F
     }
 }
 
-fn set_field(alloc: Global, mini: &mut Mini, field: &str, numbers: &[u64]) -> Result<(), Fault> {
+fn set_field(alloc: Global, mini: &mut Mini, field: &str, numbers: &[u64]) -> Result<(), DriverError> {
     match field {
         "jamo" => mini.jamo = list(alloc, numbers)?,
         "diacritics" => mini.diacritics = list(alloc, numbers)?,
@@ -70,7 +70,7 @@ fn empty_data(alloc: Global) -> DataVectors {
         ces: Vec::new(alloc),
         ce32s: Vec::new(alloc),
         contexts: Vec::new(alloc),
-        rows: Vec::new(alloc),
+        mappings: Vec::new(alloc),
         chars: Vec::new(alloc),
     }
 }
@@ -80,7 +80,7 @@ fn set_tailoring(
     mini: &mut Mini,
     field: &str,
     numbers: &[u64],
-) -> Result<(), Fault> {
+) -> Result<(), DriverError> {
     if let Some(tailoring) = &mut mini.tailoring {
         return set_data(alloc, tailoring, field, numbers);
     }
@@ -95,7 +95,7 @@ fn set_reordering(
     mini: &mut Mini,
     field: &str,
     numbers: &[u64],
-) -> Result<(), Fault> {
+) -> Result<(), DriverError> {
     if let Some(reordering) = &mut mini.reordering {
         return set_reordering_data(alloc, reordering, field, numbers);
     }
@@ -114,12 +114,12 @@ fn set_reordering_data(
     reordering: &mut ReorderingData,
     field: &str,
     numbers: &[u64],
-) -> Result<(), Fault> {
+) -> Result<(), DriverError> {
     match field {
         "leads" => reordering.reorder_table = list(alloc, numbers)?,
         "ranges" => reordering.reorder_ranges = list(alloc, numbers)?,
         "limit" => reordering.min_high_no_reorder = only(numbers)?,
-        _ => return Err(Fault::Unread),
+        _ => return Err(DriverError::Unread),
     }
     Ok(())
 }
@@ -129,7 +129,7 @@ fn set_data(
     data: &mut DataVectors,
     field: &str,
     numbers: &[u64],
-) -> Result<(), Fault> {
+) -> Result<(), DriverError> {
     match field {
         "blocks" => data.blocks = list(alloc, numbers)?,
         "values" => data.values = list(alloc, numbers)?,
@@ -137,48 +137,48 @@ fn set_data(
         "ce32s" => data.ce32s = list(alloc, numbers)?,
         "chars" => data.chars = list(alloc, numbers)?,
         "contexts" => data.contexts = contexts(alloc, numbers)?,
-        "rows" => data.rows = rows(alloc, numbers)?,
-        _ => return Err(Fault::Unread),
+        "rows" => data.mappings = mappings(alloc, numbers)?,
+        _ => return Err(DriverError::Unread),
     }
     Ok(())
 }
 
 /// Contexts, each of three numbers.
-fn contexts(alloc: Global, numbers: &[u64]) -> Result<Vec<Context>, Fault> {
+fn contexts(alloc: Global, numbers: &[u64]) -> Result<Vec<Context>, DriverError> {
     let numbers: Vec<u32> = list(alloc, numbers)?;
     let mut contexts = Vec::new(alloc);
     for three in numbers.as_slice().chunks(3) {
-        let [default, rows_start, rows_len] = three else {
-            return Err(Fault::Unread);
+        let [default, mappings_start, mappings_len] = three else {
+            return Err(DriverError::Unread);
         };
         contexts.push(Context {
             default: *default,
-            rows_start: *rows_start,
-            rows_len: *rows_len,
+            mappings_start: *mappings_start,
+            mappings_len: *mappings_len,
         })?;
     }
     Ok(contexts)
 }
 
-/// Rows of contexts, each of three numbers.
-fn rows(alloc: Global, numbers: &[u64]) -> Result<Vec<ContextRow>, Fault> {
+/// Mappings of contexts, each of three numbers.
+fn mappings(alloc: Global, numbers: &[u64]) -> Result<Vec<ContextMapping>, DriverError> {
     let numbers: Vec<u32> = list(alloc, numbers)?;
-    let mut rows = Vec::new(alloc);
+    let mut mappings = Vec::new(alloc);
     for three in numbers.as_slice().chunks(3) {
         let [chars_start, chars_len, entry] = three else {
-            return Err(Fault::Unread);
+            return Err(DriverError::Unread);
         };
-        rows.push(ContextRow {
+        mappings.push(ContextMapping {
             chars_start: *chars_start,
             chars_len: *chars_len,
             entry: *entry,
         })?;
     }
-    Ok(rows)
+    Ok(mappings)
 }
 
 /// The numbers of a field, or `none`.
-pub(crate) fn show(alloc: Global, mini: &Mini, field: &str) -> Result<String, Fault> {
+pub(crate) fn show(alloc: Global, mini: &Mini, field: &str) -> Result<String, DriverError> {
     match field.split_once('.') {
         Some(("tailoring", field)) => match &mini.tailoring {
             Some(tailoring) => show_data(alloc, tailoring, field),
@@ -192,7 +192,7 @@ pub(crate) fn show(alloc: Global, mini: &Mini, field: &str) -> Result<String, Fa
     }
 }
 
-fn show_field(alloc: Global, mini: &Mini, field: &str) -> Result<String, Fault> {
+fn show_field(alloc: Global, mini: &Mini, field: &str) -> Result<String, DriverError> {
     let shown = match field {
         "jamo" => written(alloc, mini.jamo.as_slice())?,
         "diacritics" => written(alloc, mini.diacritics.as_slice())?,
@@ -208,17 +208,17 @@ fn show_reordering(
     alloc: Global,
     reordering: &ReorderingData,
     field: &str,
-) -> Result<String, Fault> {
+) -> Result<String, DriverError> {
     let shown = match field {
         "leads" => written(alloc, reordering.reorder_table.as_slice())?,
         "ranges" => written(alloc, reordering.reorder_ranges.as_slice())?,
         "limit" => written(alloc, &[reordering.min_high_no_reorder])?,
-        _ => return Err(Fault::Unread),
+        _ => return Err(DriverError::Unread),
     };
     Ok(shown)
 }
 
-fn show_data(alloc: Global, data: &DataVectors, field: &str) -> Result<String, Fault> {
+fn show_data(alloc: Global, data: &DataVectors, field: &str) -> Result<String, DriverError> {
     let shown = match field {
         "blocks" => written(alloc, data.blocks.as_slice())?,
         "values" => written(alloc, data.values.as_slice())?,
@@ -226,8 +226,8 @@ fn show_data(alloc: Global, data: &DataVectors, field: &str) -> Result<String, F
         "ce32s" => written(alloc, data.ce32s.as_slice())?,
         "chars" => written(alloc, data.chars.as_slice())?,
         "contexts" => show_contexts(alloc, data.contexts.as_slice())?,
-        "rows" => show_rows(alloc, data.rows.as_slice())?,
-        _ => return Err(Fault::Unread),
+        "rows" => show_mappings(alloc, data.mappings.as_slice())?,
+        _ => return Err(DriverError::Unread),
     };
     Ok(shown)
 }
@@ -235,15 +235,15 @@ fn show_data(alloc: Global, data: &DataVectors, field: &str) -> Result<String, F
 fn show_contexts(alloc: Global, contexts: &[Context]) -> Result<String, AllocError> {
     let mut numbers: Vec<u32> = Vec::new(alloc);
     for context in contexts {
-        numbers.extend_from_slice(&[context.default, context.rows_start, context.rows_len])?;
+        numbers.extend_from_slice(&[context.default, context.mappings_start, context.mappings_len])?;
     }
     written(alloc, numbers.as_slice())
 }
 
-fn show_rows(alloc: Global, rows: &[ContextRow]) -> Result<String, AllocError> {
+fn show_mappings(alloc: Global, mappings: &[ContextMapping]) -> Result<String, AllocError> {
     let mut numbers: Vec<u32> = Vec::new(alloc);
-    for row in rows {
-        numbers.extend_from_slice(&[row.chars_start, row.chars_len, row.entry])?;
+    for mapping in mappings {
+        numbers.extend_from_slice(&[mapping.chars_start, mapping.chars_len, mapping.entry])?;
     }
     written(alloc, numbers.as_slice())
 }
@@ -253,7 +253,7 @@ pub(crate) fn vectors(
     alloc: Global,
     (blocks, values): (&[u16], &[u32]),
     (ces, ce32s): (&[u64], &[u32]),
-    (contexts, rows, chars): (&[Context], &[ContextRow], &[char]),
+    (contexts, mappings, chars): (&[Context], &[ContextMapping], &[char]),
 ) -> Result<DataVectors, AllocError> {
     Ok(DataVectors {
         blocks: Vec::from_slice(alloc, blocks)?,
@@ -261,7 +261,7 @@ pub(crate) fn vectors(
         ces: Vec::from_slice(alloc, ces)?,
         ce32s: Vec::from_slice(alloc, ce32s)?,
         contexts: Vec::from_slice(alloc, contexts)?,
-        rows: Vec::from_slice(alloc, rows)?,
+        mappings: Vec::from_slice(alloc, mappings)?,
         chars: Vec::from_slice(alloc, chars)?,
     })
 }
@@ -273,7 +273,7 @@ fn copied_data(alloc: Global, data: &DataVectors) -> Result<DataVectors, AllocEr
         (data.ces.as_slice(), data.ce32s.as_slice()),
         (
             data.contexts.as_slice(),
-            data.rows.as_slice(),
+            data.mappings.as_slice(),
             data.chars.as_slice(),
         ),
     )

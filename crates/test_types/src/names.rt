@@ -24,14 +24,14 @@ mod provider_names {
     use icu_collator::provider::{
         CheckedTables, CodePointTable, CollationData, CollationDiacritics, CollationJamo,
         CollationMetadata, CollationProvider, CollationReordering, CollationSpecialPrimaries,
-        Context, ContextRow, ContextTable, DataError, DataErrorKind, DataRequest, DataTable,
+        Context, ContextMapping, ContextTable, DataError, DataErrorKind, DataRequest, DataTable,
         FixedLoads, FixedProvider, OwnedTables, TableSet, load_tables,
     };
 }
 
 mod element_names {
     use icu_collator::elements::laws::{
-        elements_have_sources, good_parts_make_good_texts, good_tables_give_live_elements,
+        elements_have_sources, parts_make_texts, well_formed_tables_give_reachable_elements,
         texts_decompose,
     };
     use icu_collator::elements::{
@@ -42,7 +42,7 @@ mod element_names {
 
 mod comparison_names {
     use icu_collator::comparison::laws::{
-        common_beginnings_do_not_count, good_tables_serve_levels, keys_keep_text_order,
+        common_beginnings_do_not_count, well_formed_tables_serve_levels, keys_keep_text_order,
         levels_keep_text_order,
     };
     use icu_collator::comparison::{

@@ -1,4 +1,4 @@
--- The weights of live elements that are compared with one another, and how they stand in four bytes.
+-- The weights of reachable elements that are compared with one another, and how they stand in four bytes.
 use Rattle.std.specs.Prelude.{ℕ, ◌≡◌, ◌<◌, ◌+◌, ◌*◌, ◌^◌, false, ◌||◌, ◌==◌, slice_index, Option, Some, None, IsTrue, if◌then◌else◌}
 use Rattle.std.specs.List.{Contains}
 use Rattle.icu_entries.specs.declared.error.DataTable.{DataTable}
@@ -7,7 +7,7 @@ use Rattle.icu_provider.specs.Diacritics.{is_replaced_index}
 use Rattle.icu_entries.specs.Elements.{Element, common, of_secondary}
 use Rattle.icu_entries.specs.ElementConditions.{tertiary_of}
 use Rattle.icu_data.specs.Final.{final_elements}
-use Rattle.icu_data.specs.Live.{live_from}
+use Rattle.icu_data.specs.Reachable.{reachable_from}
 use Rattle.icu_data.specs.CollectedWeights.{is_stated, IsWeightAmong}
 pub use Rattle.icu_data.specs.CollectedWeights.{Adds}
 use Rattle.icu_data.specs.Data.{Data, homed}
@@ -16,7 +16,7 @@ use Rattle.icu_checks.specs.declared.check.weights.WeightList.{WeightList}
 use Rattle.icu_checks.specs.declared.check.weights.WeightList.TheVariants.{Primaries, Secondaries, Tertiaries, TertiaryElements, WithSecondary}
 use Rattle.icu_provider.specs.CollatorTables.{CollatorTables}
 use Rattle.icu_checks.specs.ElementConditions.{is_tertiary_element}
-use Rattle.icu_checks.specs.LiveElements.{IsLiveBy, IsOfLiveDiacritic}
+use Rattle.icu_checks.specs.ReachableElements.{IsReachableBy, IsOfReachableDiacritic}
 
 -- A weight of two bytes with two zero bytes after it. Zero is none; the common weight needs no comparison, since its
 -- lead byte is its alone.
@@ -39,18 +39,18 @@ compared_weight Tertiaries x = left_aligned (tertiary_of x)
 compared_weight TertiaryElements x = if is_tertiary_element x then Some (tertiary_of x) else None
 compared_weight WithSecondary x = if x.secondary == 0 then None else uncommon (tertiary_of x)
 
--- an element that a table states for an entry that is live by it
+-- an element that a table states for an entry that is reachable by it
 pub record IsReadOfEntry (table : DataTable) (tables : Tables) (x : Element) : Type 0 where
   pub home : Data
   pub char : ℕ
   pub entry : ℕ
-  pub live : IsLiveBy table tables home char entry
+  pub reachable : IsReachableBy table tables home char entry
   pub stated : IsTrue (is_stated home char entry)
   pub member : Contains (final_elements (homed home entry) char) x
 
--- an element that is live by the table, or that of a diacritic
+-- an element that is reachable by the table, or that of a diacritic
 abbrev pub IsReadBy : DataTable → Tables → Element → Type 0
-IsReadBy Diacritics tables x = IsOfLiveDiacritic tables.diacritics x
+IsReadBy Diacritics tables x = IsOfReachableDiacritic tables.diacritics x
 IsReadBy table tables x = IsReadOfEntry table tables x
 
 -- a weight of such an element
@@ -67,10 +67,10 @@ pub record IsBelow (P : ℕ → ℕ → Type 0) (n w : ℕ) : Type 0 where
   pub below : place < n
   pub is : P place w
 
--- a weight of what is live with the conjoining jamo at a place of the jamo table
+-- a weight of what is reachable with the conjoining jamo at a place of the jamo table
 abbrev pub IsJamoWeight : WeightList → CollatorTables → ℕ → ℕ → Type 0
 IsJamoWeight list all place w =
-    IsWeightAmong (compared_weight list) all.tables.root (0x1100 + place) (live_from all.tables.root (slice_index all.tables.jamo place)) w
+    IsWeightAmong (compared_weight list) all.tables.root (0x1100 + place) (reachable_from all.tables.root (slice_index all.tables.jamo place)) w
 
 -- the weight of the diacritic at a place
 pub record IsDiacriticWeight (list : WeightList) (all : CollatorTables) (place w : ℕ) : Type 0 where

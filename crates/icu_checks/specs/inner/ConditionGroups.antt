@@ -1,13 +1,13 @@
 -- The order in which failing conditions are reported.
 use Rattle.std.specs.Prelude.{ℕ}
-use Rattle.icu_data.specs.declared.live_condition.LiveCondition.{LiveCondition}
-use Rattle.icu_data.specs.declared.live_condition.LiveCondition.TheVariants as of_entry
+use Rattle.icu_data.specs.declared.reachable_condition.ReachableCondition.{ReachableCondition}
+use Rattle.icu_data.specs.declared.reachable_condition.ReachableCondition.TheVariants as of_entry
 use Rattle.icu_checks.specs.declared.condition.Condition.{Condition}
 use Rattle.icu_checks.specs.declared.condition.Condition.TheVariants as conditions
 use Rattle.icu_checks.specs.declared.condition.ConditionGroup.{ConditionGroup}
-use Rattle.icu_checks.specs.declared.condition.ConditionGroup.TheVariants.{Counts, Indices, PrefixRows, Chains, Digits, Bytes, Offsets, Shapes, Leads, TertiaryElements, Overlaps, Primaries, KeptLeads, OwnLeads, ReorderedLeads, Compression}
-use Rattle.icu_checks.specs.declared.condition.LiveElementCondition.{LiveElementCondition}
-use Rattle.icu_checks.specs.declared.condition.LiveElementCondition.TheVariants as of_element
+use Rattle.icu_checks.specs.declared.condition.ConditionGroup.TheVariants.{Counts, Indices, PrefixMappings, Chains, Digits, Bytes, Offsets, Shapes, Leads, TertiaryElements, Overlaps, Primaries, KeptLeads, OwnLeads, ReorderedLeads, Compression}
+use Rattle.icu_checks.specs.declared.condition.ReachableElementCondition.{ReachableElementCondition}
+use Rattle.icu_checks.specs.declared.condition.ReachableElementCondition.TheVariants as of_element
 use Rattle.icu_checks.specs.declared.condition.PairCondition.{PairCondition}
 use Rattle.icu_checks.specs.declared.condition.PairCondition.TheVariants as of_pair
 use Rattle.icu_checks.specs.declared.condition.LeadCondition.{LeadCondition}
@@ -17,7 +17,7 @@ use Rattle.icu_checks.specs.declared.condition.LeadCondition.TheVariants as of_l
 abbrev pub group_place : ConditionGroup → ℕ
 group_place Counts = 0
 group_place Indices = 1
-group_place PrefixRows = 2
+group_place PrefixMappings = 2
 group_place Chains = 3
 group_place Digits = 4
 group_place Bytes = 5
@@ -33,9 +33,9 @@ group_place ReorderedLeads = 14
 group_place Compression = 15
 
 -- the group of each condition
-abbrev pub group_of_entry : LiveCondition → ConditionGroup
+abbrev pub group_of_entry : ReachableCondition → ConditionGroup
 group_of_entry of_entry.Indices = Indices
-group_of_entry of_entry.PrefixRows = PrefixRows
+group_of_entry of_entry.PrefixMappings = PrefixMappings
 group_of_entry of_entry.Chains = Chains
 group_of_entry of_entry.Digits = Digits
 group_of_entry of_entry.Bytes = Bytes
@@ -45,7 +45,7 @@ group_of_entry of_entry.Leads = Leads
 group_of_entry of_entry.Primaries = Primaries
 
 -- the group of a condition on elements
-abbrev pub group_of_element : LiveElementCondition → ConditionGroup
+abbrev pub group_of_element : ReachableElementCondition → ConditionGroup
 group_of_element of_element.Width = Shapes
 group_of_element of_element.BackwardLead = Leads
 group_of_element of_element.TertiaryElement = TertiaryElements
@@ -76,7 +76,7 @@ group_of_lead of_lead.NumericWhole = Compression
 abbrev pub group_of : Condition → ConditionGroup
 group_of conditions.DiacriticCount = Counts
 group_of (conditions.Entry condition) = group_of_entry condition
-group_of conditions.PrefixRows = PrefixRows
+group_of conditions.PrefixMappings = PrefixMappings
 group_of (conditions.Element condition) = group_of_element condition
 group_of (conditions.Pair condition) = group_of_pair condition
 group_of (conditions.Lead condition) = group_of_lead condition

@@ -3,32 +3,32 @@ use Rattle.std.specs.Prelude.{ℕ, ◌+◌, not, find, fold, length, Option, Som
 use Rattle.std.specs.List.{AllByRecursion}
 use Rattle.icu_entries.specs.declared.error.DataTable.{DataTable}
 use Rattle.icu_entries.specs.declared.error.DataTable.TheVariants as tables
-use Rattle.icu_data.specs.declared.live_condition.LiveCondition.{LiveCondition}
+use Rattle.icu_data.specs.declared.reachable_condition.ReachableCondition.{ReachableCondition}
 use Rattle.icu_provider.specs.Diacritics.{is_replaced_index}
 use Rattle.icu_entries.specs.Elements.{Element, of_primary, of_secondary}
 use Rattle.icu_entries.specs.Weights.{implicit_weight}
 use Rattle.icu_data.specs.Data.{Data, homed}
 use Rattle.icu_data.specs.Final.{final_elements}
-use Rattle.icu_data.specs.Live.{live_from}
+use Rattle.icu_data.specs.Reachable.{reachable_from}
 use Rattle.icu_data.specs.DataConditions.{avoids_diacritics, is_readable}
 use Rattle.icu_data.specs.Violations.{earlier}
-use Rattle.icu_data.specs.LiveConditions.{first_failing}
+use Rattle.icu_data.specs.ReachableConditions.{first_failing}
 use Rattle.icu_checks.specs.declared.condition.Condition.TheVariants as conditions
-use Rattle.icu_checks.specs.declared.condition.LiveElementCondition.{LiveElementCondition}
+use Rattle.icu_checks.specs.declared.condition.ReachableElementCondition.{ReachableElementCondition}
 use Rattle.icu_checks.specs.declared.violation.Violation.{Violation}
 use Rattle.icu_provider.specs.Reorderings.{Reordering, lead_byte}
 use Rattle.icu_provider.specs.CollatorTables.{CollatorTables, reorder_by}
-use Rattle.icu_checks.specs.ElementConditions.{live_element_meets, element_conditions}
-use Rattle.icu_checks.specs.GoodTables.{later, table_of_element, EachEntry, EachElement, EntryMeets, HasPlainRows}
+use Rattle.icu_checks.specs.ElementConditions.{reachable_element_meets, element_conditions}
+use Rattle.icu_checks.specs.WellFormedTables.{later, table_of_element, EachEntry, EachElement, EntryMeets, HasPlainMappings}
 use Rattle.icu_checks.specs.inner.Violations.{violation_rank}
 
 -- a condition on an element of a table, as a violation
-abbrev pub of_element : DataTable → LiveElementCondition → Violation
+abbrev pub of_element : DataTable → ReachableElementCondition → Violation
 of_element table condition = record { condition = conditions.Element condition; table = later table (table_of_element condition) }
 
 -- the first condition that an element fails
-unfoldable pub first_failing_element : CollatorTables → Element → Option LiveElementCondition
-first_failing_element all x = find (λ condition. not (live_element_meets condition all x)) element_conditions
+unfoldable pub first_failing_element : CollatorTables → Element → Option ReachableElementCondition
+first_failing_element all x = find (λ condition. not (reachable_element_meets condition all x)) element_conditions
 
 -- implicit weights fail none
 abbrev pub ImplicitPasses : CollatorTables → Type 0
@@ -55,40 +55,40 @@ abbrev pub elements_violation : CollatorTables → DataTable → Data → ℕ �
 elements_violation all table home c e = fold (after_element all table) None (final_elements (homed home e) c)
 
 -- a condition on the entry itself, as a violation
-abbrev pub of_entry : DataTable → LiveCondition → Violation
+abbrev pub of_entry : DataTable → ReachableCondition → Violation
 of_entry table condition = record { condition = conditions.Entry condition; table = table }
 
--- a row of a prefix that has a diacritic, as a violation
-abbrev pub rows_violation : CollatorTables → Data → ℕ → Option Violation
-rows_violation all home e =
+-- a mapping of a prefix that has a diacritic, as a violation
+abbrev pub mappings_violation : CollatorTables → Data → ℕ → Option Violation
+mappings_violation all home e =
     if avoids_diacritics (length all.tables.diacritics) home e then None
-    else Some (record { condition = conditions.PrefixRows; table = tables.Diacritics })
+    else Some (record { condition = conditions.PrefixMappings; table = tables.Diacritics })
 
--- The first violation of an entry that is live with a character. Elements that can't be read have none of their own.
+-- The first violation of an entry that is reachable with a character. Elements that can't be read have none of their own.
 unfoldable pub entry_violation : CollatorTables → DataTable → Data → ℕ → ℕ → Option Violation
 entry_violation all table home c e =
-    earlier violation_rank (earlier violation_rank (option_map (of_entry table) (first_failing home c e)) (rows_violation all home e))
+    earlier violation_rank (earlier violation_rank (option_map (of_entry table) (first_failing home c e)) (mappings_violation all home e))
     (if is_readable home c e then elements_violation all table home c e else None)
 
--- nothing that is live with the conjoining jamo at this place has a violation
+-- nothing that is reachable with the conjoining jamo at this place has a violation
 abbrev pub JamoPasses : CollatorTables → ℕ → Type 0
 JamoPasses all i =
-    AllByRecursion (λ e. entry_violation all tables.Jamo all.tables.root (0x1100 + i) e ≡ None) (live_from all.tables.root (slice_index all.tables.jamo i))
+    AllByRecursion (λ e. entry_violation all tables.Jamo all.tables.root (0x1100 + i) e ≡ None) (reachable_from all.tables.root (slice_index all.tables.jamo i))
 
 -- the element of the diacritic at this place, if decomposed texts have it, meets the conditions on elements
 abbrev pub DiacriticMeets : CollatorTables → ℕ → Type 0
 DiacriticMeets all i =
-    is_replaced_index i ≡ false → (condition : LiveElementCondition)
-    → IsTrue (live_element_meets condition all (of_secondary (slice_index all.tables.diacritics i)))
+    is_replaced_index i ≡ false → (condition : ReachableElementCondition)
+    → IsTrue (reachable_element_meets condition all (of_secondary (slice_index all.tables.diacritics i)))
 
--- what is live by a table meets the conditions on entries, and on elements
+-- what is reachable by a table meets the conditions on entries, and on elements
 pub record MeetsIn (table : DataTable) (all : CollatorTables) : Type 0 where
-  pub entries : (condition : LiveCondition) → EachEntry (EntryMeets condition) table all
-  pub rows : EachEntry (HasPlainRows all) table all
-  pub elements : (condition : LiveElementCondition) → EachElement (λ x. IsTrue (live_element_meets condition all x)) table all
+  pub entries : (condition : ReachableCondition) → EachEntry (EntryMeets condition) table all
+  pub mappings : EachEntry (HasPlainMappings all) table all
+  pub elements : (condition : ReachableElementCondition) → EachElement (λ x. IsTrue (reachable_element_meets condition all x)) table all
 
--- what is live by any table does
-pub record LiveMeets (all : CollatorTables) : Type 0 where
+-- what is reachable by any table does
+pub record ReachableMeets (all : CollatorTables) : Type 0 where
   pub root : MeetsIn tables.Root all
   pub jamo : MeetsIn tables.Jamo all
   pub tailoring : MeetsIn tables.Tailoring all

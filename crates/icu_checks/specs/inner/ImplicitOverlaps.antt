@@ -11,7 +11,7 @@ use Rattle.icu_checks.specs.declared.check.implicit_overlaps.ImplicitClash.{Impl
 use Rattle.icu_checks.specs.declared.check.weights.ComparedLevel.TheVariants.{Primary}
 use Rattle.icu_checks.specs.declared.check.weights.WeightList.TheVariants.{Primaries}
 use Rattle.icu_provider.specs.CollatorTables.{CollatorTables}
-use Rattle.icu_checks.specs.LiveElements.{IsLiveBy}
+use Rattle.icu_checks.specs.ReachableElements.{IsReachableBy}
 use Rattle.icu_checks.specs.inner.ComparedLevels.{bytes_at}
 use Rattle.icu_checks.specs.inner.PairViolations.{IsListedWeight}
 
@@ -19,18 +19,18 @@ use Rattle.icu_checks.specs.inner.PairViolations.{IsListedWeight}
 unfoldable pub is_for_implicit : ℕ → Bool
 is_for_implicit e = elim (kind_of e) [ Implicit ↦ true | _ ↦ false ]
 
--- an entry for the implicit weight of the character is live by the table
+-- an entry for the implicit weight of the character is reachable by the table
 pub record IsImplicitBy (table : DataTable) (tables : Tables) (c : ℕ) : Type 0 where
   pub home : Data
   pub entry : ℕ
-  pub live : IsLiveBy table tables home c entry
+  pub reachable : IsReachableBy table tables home c entry
   pub is : kind_of entry ≡ Implicit
 
--- a primary weight of the tables that begins another weight, which is live as an implicit one
+-- a primary weight of the tables that begins another weight, which is reachable as an implicit one
 pub record IsImplicitClash (all : CollatorTables) (clash : ImplicitClash) : Type 0 where
   pub listed : IsListedWeight Primaries all.tables clash.primary
   pub char : ℕ
-  pub live : IsImplicitBy clash.table all.tables char
+  pub reachable : IsImplicitBy clash.table all.tables char
   pub is : clash.implicit ≡ implicit_weight char
   pub different : clash.primary ≢ clash.implicit
   pub begins : IsBeginning (bytes_at Primary all clash.primary) (bytes_at Primary all clash.implicit)

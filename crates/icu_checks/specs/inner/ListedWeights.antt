@@ -16,7 +16,7 @@ pub record HasNone (lists : ListedWeights) : Type 0 where
   pub tertiary_elements : lists.tertiary_elements.items ≡ []
   pub with_secondary : lists.with_secondary.items ≡ []
 
--- each list holds what it held, and its weights of what is live by a table
+-- each list holds what it held, and its weights of what is reachable by a table
 pub record AddsEach (table : DataTable) (tables : Tables) (old new : ListedWeights) : Type 0 where
   pub primaries : Adds (IsWeightBy Primaries table tables) old.primaries.items new.primaries.items
   pub secondaries : Adds (IsWeightBy Secondaries table tables) old.secondaries.items new.secondaries.items

@@ -1,4 +1,4 @@
--- What a check of pairs of live elements goes by.
+-- What a check of pairs of reachable elements goes by.
 use Rattle.std.specs.Prelude.{ℕ, ◌≡◌, ◌≢◌, ◌≤◌, ◌<◌, List, Option, None, IfSome}
 use Rattle.std.specs.List.{Contains}
 use Rattle.icu_levels.specs.ListOrder.{IsBeginning}
@@ -15,7 +15,7 @@ use Rattle.icu_checks.specs.declared.check.weights.WeightList.{WeightList}
 use Rattle.icu_checks.specs.declared.check.weights.WeightList.TheVariants.{Primaries, TertiaryElements, WithSecondary}
 use Rattle.icu_provider.specs.CollatorTables.{CollatorTables, reorder}
 use Rattle.icu_checks.specs.inner.ComparedLevels.{list_of, bytes_at}
-use Rattle.icu_checks.specs.GoodTables.{later, IsOverlapTable}
+use Rattle.icu_checks.specs.WellFormedTables.{later, IsOverlapTable}
 use Rattle.icu_checks.specs.inner.Violations.{IsTrueViolation}
 use Rattle.icu_checks.specs.inner.ComparedWeights.{IsWeightBy}
 

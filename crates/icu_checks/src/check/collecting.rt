@@ -6,7 +6,7 @@ ghost use Rattle.icu_checks.specs.inner.ComparedWeights.{Adds, IsWeightBy, IsJam
 
 use crate::check::lookups::jamo_char;
 use crate::check::weights::WeightList;
-use icu_data::live_weights::{Weigh, collect_weights, collect_weights_from};
+use icu_data::reachable_weights::{Weigh, collect_weights, collect_weights_from};
 use icu_entries::{CollationElement, CollationElement32, DataTable};
 use icu_provider::TableSet;
 use icu_provider::diacritics::is_replaced_index;
@@ -39,7 +39,7 @@ fn collect_tailoring(
     }
 }
 
-/// The weights of what is live with one of the conjoining jamo.
+/// The weights of what is reachable with one of the conjoining jamo.
 fn collect_of_jamo(
     tables: TableSet<'_>,
     list: WeightList,
@@ -117,7 +117,7 @@ fn collect_diacritics(
     Ok(())
 }
 
-/// Adds the weights of what is live by a table.
+/// Adds the weights of what is reachable by a table.
 pub(crate) fn collect(
     tables: TableSet<'_>,
     list: WeightList,

@@ -2,10 +2,10 @@ ghost use Rattle.std.specs.Prelude.{◌≡◌};
 ghost use Rattle.icu_entries.specs.Elements.{Element};
 ghost use Rattle.icu_weights.specs.Leads.{is_middle};
 ghost use Rattle.icu_provider.specs.TableSets.{tables_in};
-ghost use Rattle.icu_checks.specs.ElementConditions.{is_tertiary_element, is_high_tertiary_element, has_low_bytes, has_second_byte, primary_meets, live_element_meets};
+ghost use Rattle.icu_checks.specs.ElementConditions.{is_tertiary_element, is_high_tertiary_element, has_low_bytes, has_second_byte, primary_meets, reachable_element_meets};
 
 use crate::check::lookups::is_apart;
-use crate::condition::LiveElementCondition;
+use crate::condition::ReachableElementCondition;
 use icu_entries::CollationElement;
 use icu_provider::TableSet;
 use icu_provider::reordering::lead_byte;
@@ -41,7 +41,7 @@ fn has_second_byte(primary: u32) -> bool
     second >= 4 && second <= 0xFE
 }
 
-impl LiveElementCondition {
+impl ReachableElementCondition {
     /// Whether a nonzero primary weight meets the condition.
     #[tactic(auto, unfolding(icu_provider::specs::TableSets::tables_in))]
     fn primary_meets(self, tables: TableSet<'_>, primary: u32) -> bool
@@ -49,34 +49,34 @@ impl LiveElementCondition {
     {
         let lead = lead_byte(primary);
         match self {
-            LiveElementCondition::MiddleLead => {
+            ReachableElementCondition::MiddleLead => {
                 !is_middle(lead) || is_middle(lead_byte(tables.reorder(primary)))
             }
-            LiveElementCondition::ImplicitLength => lead != IMPLICIT_LEAD || has_low_bytes(primary),
-            LiveElementCondition::NumericLead => lead != tables.special.numeric_primary(),
-            LiveElementCondition::SharedLead => {
+            ReachableElementCondition::ImplicitLength => lead != IMPLICIT_LEAD || has_low_bytes(primary),
+            ReachableElementCondition::NumericLead => lead != tables.special.numeric_primary(),
+            ReachableElementCondition::SharedLead => {
                 is_apart(tables, IMPLICIT_LEAD, primary)
                     && is_apart(tables, tables.special.numeric_primary(), primary)
             }
-            LiveElementCondition::SecondByte => {
+            ReachableElementCondition::SecondByte => {
                 !tables.special.is_compressible(lead) || has_second_byte(primary)
             }
-            LiveElementCondition::Width
-            | LiveElementCondition::BackwardLead
-            | LiveElementCondition::TertiaryElement => true,
+            ReachableElementCondition::Width
+            | ReachableElementCondition::BackwardLead
+            | ReachableElementCondition::TertiaryElement => true,
         }
     }
 
     /// Whether the element meets the condition.
     pub(crate) fn holds(self, tables: TableSet<'_>, element: CollationElement) -> bool
-        ensures { result ≡ live_element_meets self (tables_in tables.entry) element }
+        ensures { result ≡ reachable_element_meets self (tables_in tables.entry) element }
     {
         match self {
-            LiveElementCondition::Width => true,
-            LiveElementCondition::BackwardLead => {
+            ReachableElementCondition::Width => true,
+            ReachableElementCondition::BackwardLead => {
                 tables.is_forward() || element.secondary() >> 8 != 2
             }
-            LiveElementCondition::TertiaryElement => !is_tertiary_element(element)
+            ReachableElementCondition::TertiaryElement => !is_tertiary_element(element)
                 || is_high_tertiary_element(element),
             _ => element.primary() == 0 || self.primary_meets(tables, element.primary()),
         }

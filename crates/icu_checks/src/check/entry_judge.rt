@@ -1,51 +1,51 @@
-//! The violations of what is live in one table.
+//! The violations of what is reachable in one table.
 ghost use Rattle.std.specs.Prelude.{ℕ, ◌≡◌, ◌≤◌, true, Option, Some, None, IsTrue};
 ghost use Rattle.icu_checks.specs.declared.violation.Violation.{Violation};
 ghost use Rattle.icu_entries.specs.declared.error.DataTable.{DataTable};
 ghost use Rattle.icu_entries.specs.Elements.{Element, of_primary};
 ghost use Rattle.icu_data.specs.DataConditions.{is_readable};
-ghost use Rattle.icu_data.specs.LiveConditions.{first_failing};
+ghost use Rattle.icu_data.specs.ReachableConditions.{first_failing};
 ghost use Rattle.icu_data.specs.StoredData.{data_of};
 ghost use Rattle.icu_provider.specs.CollatorTables.{CollatorTables};
 ghost use Rattle.icu_provider.specs.TableSets.{tables_in};
-ghost use Rattle.icu_checks.specs.inner.EntryViolations.{first_failing_element, element_violation, after_element, judged_element, elements_violation, rows_violation, entry_violation, ImplicitPasses, KeepsLeadTogether};
+ghost use Rattle.icu_checks.specs.inner.EntryViolations.{first_failing_element, element_violation, after_element, judged_element, elements_violation, mappings_violation, entry_violation, ImplicitPasses, KeepsLeadTogether};
 
 use crate::check::lead_conditions::numeric_lead;
-use crate::condition::{Condition, LeadCondition, LiveElementCondition};
+use crate::condition::{Condition, LeadCondition, ReachableElementCondition};
 use crate::violation::{Violation, later};
 use icu_data::CollationData;
 use icu_data::element_walk::{VisitElement, visit_elements};
-use icu_data::live_condition::{EntryJudge, LiveCondition};
+use icu_data::reachable_condition::{EntryJudge, ReachableCondition};
 use icu_data::violation::{Judge, earlier};
 use icu_entries::{CollationElement, CollationElement32, DataTable, EntryKind};
 use icu_provider::TableSet;
 use icu_provider::reordering::lead_byte;
 use std::convert::Infallible;
 
-/// The first condition that an element fails, in the order in which a refusal names them.
+/// The first condition that an element fails, in the order in which an error names them.
 #[tactic(auto, unfolding(crate::specs::inner::EntryViolations::first_failing_element))]
 fn first_failing_element(
     tables: TableSet<'_>,
     element: CollationElement,
-) -> Option<LiveElementCondition>
+) -> Option<ReachableElementCondition>
     ensures { result ≡ first_failing_element (tables_in tables.entry) element }
 {
-    if !LiveElementCondition::Width.holds(tables, element) {
-        Some(LiveElementCondition::Width)
-    } else if !LiveElementCondition::BackwardLead.holds(tables, element) {
-        Some(LiveElementCondition::BackwardLead)
-    } else if !LiveElementCondition::TertiaryElement.holds(tables, element) {
-        Some(LiveElementCondition::TertiaryElement)
-    } else if !LiveElementCondition::MiddleLead.holds(tables, element) {
-        Some(LiveElementCondition::MiddleLead)
-    } else if !LiveElementCondition::ImplicitLength.holds(tables, element) {
-        Some(LiveElementCondition::ImplicitLength)
-    } else if !LiveElementCondition::NumericLead.holds(tables, element) {
-        Some(LiveElementCondition::NumericLead)
-    } else if !LiveElementCondition::SharedLead.holds(tables, element) {
-        Some(LiveElementCondition::SharedLead)
-    } else if !LiveElementCondition::SecondByte.holds(tables, element) {
-        Some(LiveElementCondition::SecondByte)
+    if !ReachableElementCondition::Width.holds(tables, element) {
+        Some(ReachableElementCondition::Width)
+    } else if !ReachableElementCondition::BackwardLead.holds(tables, element) {
+        Some(ReachableElementCondition::BackwardLead)
+    } else if !ReachableElementCondition::TertiaryElement.holds(tables, element) {
+        Some(ReachableElementCondition::TertiaryElement)
+    } else if !ReachableElementCondition::MiddleLead.holds(tables, element) {
+        Some(ReachableElementCondition::MiddleLead)
+    } else if !ReachableElementCondition::ImplicitLength.holds(tables, element) {
+        Some(ReachableElementCondition::ImplicitLength)
+    } else if !ReachableElementCondition::NumericLead.holds(tables, element) {
+        Some(ReachableElementCondition::NumericLead)
+    } else if !ReachableElementCondition::SharedLead.holds(tables, element) {
+        Some(ReachableElementCondition::SharedLead)
+    } else if !ReachableElementCondition::SecondByte.holds(tables, element) {
+        Some(ReachableElementCondition::SecondByte)
     } else {
         None
     }
@@ -116,7 +116,7 @@ struct FirstElementViolation<'d> {
 }
 
 impl<'d> VisitElement for FirstElementViolation<'d> {
-    type Refusal = Infallible;
+    type Error = Infallible;
 
     ghost Seen = { (CollatorTables × DataTable) × Option Violation };
 
@@ -157,20 +157,20 @@ fn elements_violation(
     }
 }
 
-/// The condition on the rows of a prefix as a violation.
+/// The condition on the mappings of a prefix as a violation.
 #[tactic(auto, unfolding(icu_provider::specs::TableSets::tables_in))]
-fn rows_violation(
+fn mappings_violation(
     tables: TableSet<'_>,
     home: CollationData<'_>,
     entry: CollationElement32,
 ) -> Option<Violation>
-    ensures { result ≡ rows_violation (tables_in tables.entry) (data_of home.entry) entry }
+    ensures { result ≡ mappings_violation (tables_in tables.entry) (data_of home.entry) entry }
 {
     if home.avoids_diacritics(tables.diacritics.secondaries().len(), entry) {
         None
     } else {
         Some(Violation {
-            condition: Condition::PrefixRows,
+            condition: Condition::PrefixMappings,
             table: DataTable::Diacritics,
         })
     }
@@ -180,7 +180,7 @@ fn rows_violation(
 #[tactic(auto, unfolding(crate::specs::inner::EntryViolations::entry_violation))]
 fn violation_beside(
     judge: &TablesJudge<'_>,
-    condition: LiveCondition,
+    condition: ReachableCondition,
     home: CollationData<'_>,
     c: char,
     entry: CollationElement32,
@@ -193,7 +193,7 @@ fn violation_beside(
         condition: Condition::Entry(condition),
         table: judge.table,
     };
-    let found = earlier(Some(own), rows_violation(judge.tables, home, entry));
+    let found = earlier(Some(own), mappings_violation(judge.tables, home, entry));
     let of_elements = if home.is_readable(c, entry) {
         elements_violation(judge.tables, judge.table, home, c, entry)
     } else {
@@ -202,7 +202,7 @@ fn violation_beside(
     earlier(found, of_elements)
 }
 
-/// What finds the violations of the entries that are live in a table, by all tables of a collator. Entries for implicit
+/// What finds the violations of the entries that are reachable in a table, by all tables of a collator. Entries for implicit
 /// weights, a million of them, are passed over where reordering leaves these weights a lead byte of their own.
 #[derive(Drop)]
 pub(crate) struct TablesJudge<'d> {
@@ -237,7 +237,7 @@ impl<'d> Judge for TablesJudge<'d> {
         match home.first_failing(c, entry) {
             Some(condition) => violation_beside(self, condition, home, c, entry),
             None => earlier(
-                rows_violation(self.tables, home, entry),
+                mappings_violation(self.tables, home, entry),
                 elements_violation(self.tables, self.table, home, c, entry),
             ),
         }

@@ -1,4 +1,4 @@
-//! Which characters have an implicit weight (UTS #10, "Implicit Weights") that is live, as they are looked up where
+//! Which characters have an implicit weight (UTS #10, "Implicit Weights") that is reachable, as they are looked up where
 //! weights are compared with these.
 ghost use Rattle.std.specs.Prelude.{ℕ, ◌<◌, ◌^◌, ⊤};
 
@@ -61,7 +61,7 @@ pub(crate) fn chars_beside(second: u8, primary: u32) -> CodePoints {
     }
 }
 
-/// The characters with an implicit weight that is live by some tables, and the second bytes of these weights.
+/// The characters with an implicit weight that is reachable by some tables, and the second bytes of these weights.
 #[derive(Drop)]
 pub(crate) struct ImplicitChars {
     words: Vec<u64>,
@@ -69,7 +69,7 @@ pub(crate) struct ImplicitChars {
 }
 
 impl Visit for ImplicitChars {
-    type Refusal = Infallible;
+    type Error = Infallible;
 
     ghost Seen = { ⊤ };
 
@@ -91,7 +91,7 @@ impl Visit for ImplicitChars {
 }
 
 impl ImplicitChars {
-    /// Those that are live by some tables.
+    /// Those that are reachable by some tables.
     pub(crate) fn new(
         alloc: Global,
         tables: TableSet<'_>,
@@ -115,7 +115,7 @@ impl ImplicitChars {
         self.seconds[usize::from(second_byte(implicit))] = true;
     }
 
-    /// Adds those that are live by a table.
+    /// Adds those that are reachable by a table.
     fn add(&mut self, tables: TableSet<'_>, table: DataTable) {
         match table {
             DataTable::Root => self.add_data(tables.root, false),

@@ -4,7 +4,7 @@
 //! weight that begins with given bytes is arithmetic.
 ghost use Rattle.std.specs.Prelude.{◌≡◌, ◌||◌, Bool, IfOk, IfSome, IsTrue};
 ghost use Rattle.std.specs.List.{list_any};
-ghost use Rattle.icu_data.specs.Live.{live_from};
+ghost use Rattle.icu_data.specs.Reachable.{reachable_from};
 ghost use Rattle.icu_data.specs.StoredData.{data_of};
 ghost use Rattle.icu_provider.specs.TableSets.{tables_in};
 ghost use Rattle.icu_checks.specs.inner.Violations.{IsTrueViolation};
@@ -15,12 +15,12 @@ use crate::check::collecting::collect;
 use crate::check::element_conditions::IMPLICIT_LEAD;
 use crate::check::implicit_chars::{ImplicitChars, chars_beside, second_byte};
 use crate::check::overlap_tables::{clash_table, table_of};
-use crate::check::overlap_violations::LIVE_TABLES;
+use crate::check::overlap_violations::REACHABLE_TABLES;
 use crate::check::weights::{ComparedLevel, WeightList};
 use crate::condition::{Condition, LeadCondition, PairCondition};
 use crate::violation::Violation;
 use icu_data::CollationData;
-use icu_data::live_weights::sort_and_dedup;
+use icu_data::reachable_weights::sort_and_dedup;
 use icu_data::walk::{Visit, visit_from};
 use icu_entries::{CollationElement, CollationElement32, DataTable, EntryKind};
 use icu_provider::TableSet;
@@ -29,7 +29,7 @@ use icu_weights::overlap::{Overlap, is_beginning};
 use std::alloc::{AllocError, Global};
 use std::convert::Infallible;
 
-/// A primary weight of a table that begins the implicit weight of a character, which is live by another table or the
+/// A primary weight of a table that begins the implicit weight of a character, which is reachable by another table or the
 /// same one.
 #[derive(Clone, Copy)]
 pub(crate) struct ImplicitClash {
@@ -55,7 +55,7 @@ struct ImplicitSearch {
 }
 
 impl Visit for ImplicitSearch {
-    type Refusal = Infallible;
+    type Error = Infallible;
 
     ghost Seen = { Bool };
 
@@ -74,9 +74,9 @@ impl Visit for ImplicitSearch {
     }
 }
 
-/// Whether an entry for an implicit weight is live from this one.
+/// Whether an entry for an implicit weight is reachable from this one.
 fn leads_to_implicit(home: CollationData<'_>, c: char, entry: CollationElement32) -> bool
-    ensures { result ≡ list_any is_for_implicit (live_from (data_of home.entry) entry) }
+    ensures { result ≡ list_any is_for_implicit (reachable_from (data_of home.entry) entry) }
 {
     let mut search = ImplicitSearch { found: false };
     match visit_from(&mut search, home, c, entry) {
@@ -85,7 +85,7 @@ fn leads_to_implicit(home: CollationData<'_>, c: char, entry: CollationElement32
     }
 }
 
-/// Whether the implicit weight of a character is live by a table.
+/// Whether the implicit weight of a character is reachable by a table.
 fn is_implicit_by(tables: TableSet<'_>, table: DataTable, c: char) -> bool
     ensures { IsTrue result → IsImplicitBy table (tables_in tables.entry).tables c }
 {
@@ -145,7 +145,7 @@ fn may_begin_with_second(tables: TableSet<'_>, primary: u32, second: u8) -> bool
         || lead_byte(reordered) == lead_byte(tables.reorder(first | 0xFFFF))
 }
 
-/// The first of some tables by which the implicit weight of a character is live.
+/// The first of some tables by which the implicit weight of a character is reachable.
 fn table_of_implicit(tables: TableSet<'_>, by: &[DataTable], c: char) -> Option<DataTable>
     ensures { IfSome result (λ table. IsImplicitBy table (tables_in tables.entry).tables c) }
 {
@@ -157,7 +157,7 @@ fn table_of_implicit(tables: TableSet<'_>, by: &[DataTable], c: char) -> Option<
     None
 }
 
-/// A weight and the implicit one of a character, if the first begins the second and that is live by some of the tables.
+/// A weight and the implicit one of a character, if the first begins the second and that is reachable by some of the tables.
 fn clash_with(
     tables: TableSet<'_>,
     by: &[DataTable],
@@ -283,7 +283,7 @@ fn first_clash(
     Ok(first_clash_among(tables, by, &implicit, weights, before_too))
 }
 
-/// The violation of such a clash, named by the first table by which the weight is live.
+/// The violation of such a clash, named by the first table by which the weight is reachable.
 fn clash_violation(
     alloc: Global,
     tables: TableSet<'_>,
@@ -314,10 +314,10 @@ fn named_clash(
     ensures { IfOk result (IsTrueViolation (tables_in tables.entry)) }
 {
     let mut weights = Vec::new(alloc);
-    for (index, table) in LIVE_TABLES.iter().enumerate() {
+    for (index, table) in REACHABLE_TABLES.iter().enumerate() {
         collect(tables, WeightList::Primaries, *table, &mut weights)?;
         sort_and_dedup(&mut weights);
-        let by = &LIVE_TABLES[..index + 1];
+        let by = &REACHABLE_TABLES[..index + 1];
         if let Some(found) = first_clash(alloc, tables, by, &weights, true)? {
             return clash_violation(alloc, tables, found);
         }
@@ -334,7 +334,7 @@ pub(crate) fn implicit_violation(
     requires { AreListed WeightList.Primaries (tables_in tables).tables weights.now }
     ensures { IfOk result (λ found. IfSome found (IsTrueViolation (tables_in tables.entry))) }
 {
-    match first_clash(alloc, tables, &LIVE_TABLES, weights, false)? {
+    match first_clash(alloc, tables, &REACHABLE_TABLES, weights, false)? {
         Some(clash) => Ok(Some(named_clash(alloc, tables, clash)?)),
         None => Ok(None),
     }

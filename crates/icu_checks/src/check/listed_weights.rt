@@ -1,7 +1,7 @@
 //! The weights that are compared with one another, all lists on two walks over a table.
 ghost use Rattle.std.specs.Prelude.{◌≡◌, [], IfOk, OnOk};
 ghost use Rattle.std.specs.List.Sorted.{IsStrictlyIncreasing};
-ghost use Rattle.icu_data.specs.CollectedWeights.{IsLiveWeight};
+ghost use Rattle.icu_data.specs.CollectedWeights.{IsReachableWeight};
 ghost use Rattle.icu_data.specs.StoredData.{data_of};
 ghost use Rattle.icu_provider.specs.TableSets.{tables_in};
 ghost use Rattle.icu_checks.specs.inner.ComparedWeights.{compared_weight, Adds};
@@ -12,7 +12,7 @@ use crate::check::weights::WeightList;
 use icu_data::CollationData;
 use icu_data::block_walk::visit_chars;
 use icu_data::both::Both;
-use icu_data::live_weights::{Collector, collect_weights, sort_and_dedup};
+use icu_data::reachable_weights::{Collector, collect_weights, sort_and_dedup};
 use icu_entries::DataTable;
 use icu_provider::TableSet;
 use std::alloc::{AllocError, Global};
@@ -65,7 +65,7 @@ impl ListedWeights {
     }
 }
 
-/// Adds the weights of all that is live in a root or a tailoring, by a walk for primary weights and one for all others,
+/// Adds the weights of all that is reachable in a root or a tailoring, by a walk for primary weights and one for all others,
 /// which passes over ideographs.
 fn collect_home(
     lists: &mut ListedWeights,
@@ -73,19 +73,19 @@ fn collect_home(
     falls_back: bool,
 ) -> Result<(), AllocError>
     ensures primaries { OnOk result (Adds
-        (IsLiveWeight (compared_weight WeightList.Primaries) falls_back (data_of home.entry))
+        (IsReachableWeight (compared_weight WeightList.Primaries) falls_back (data_of home.entry))
         lists.old.primaries.items lists.new.primaries.items) }
     ensures secondaries { OnOk result (Adds
-        (IsLiveWeight (compared_weight WeightList.Secondaries) falls_back (data_of home.entry))
+        (IsReachableWeight (compared_weight WeightList.Secondaries) falls_back (data_of home.entry))
         lists.old.secondaries.items lists.new.secondaries.items) }
     ensures tertiaries { OnOk result (Adds
-        (IsLiveWeight (compared_weight WeightList.Tertiaries) falls_back (data_of home.entry))
+        (IsReachableWeight (compared_weight WeightList.Tertiaries) falls_back (data_of home.entry))
         lists.old.tertiaries.items lists.new.tertiaries.items) }
     ensures tertiary_elements { OnOk result (Adds
-        (IsLiveWeight (compared_weight WeightList.TertiaryElements) falls_back (data_of home.entry))
+        (IsReachableWeight (compared_weight WeightList.TertiaryElements) falls_back (data_of home.entry))
         lists.old.tertiary_elements.items lists.new.tertiary_elements.items) }
     ensures with_secondary { OnOk result (Adds
-        (IsLiveWeight (compared_weight WeightList.WithSecondary) falls_back (data_of home.entry))
+        (IsReachableWeight (compared_weight WeightList.WithSecondary) falls_back (data_of home.entry))
         lists.old.with_secondary.items lists.new.with_secondary.items) }
 {
     collect_weights(
@@ -133,7 +133,7 @@ fn collect_tailoring(tables: TableSet<'_>, lists: &mut ListedWeights) -> Result<
     }
 }
 
-/// Adds the weights of what is live by a table, one list after another: for tables without a walk.
+/// Adds the weights of what is reachable by a table, one list after another: for tables without a walk.
 fn collect_each(
     tables: TableSet<'_>,
     table: DataTable,

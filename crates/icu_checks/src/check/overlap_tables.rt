@@ -16,7 +16,7 @@ use icu_weights::overlap::{Overlap, are_overlapping};
 use icu_weights::weight_list::contains;
 use std::alloc::{AllocError, Global};
 
-/// Whether a weight is live by a table.
+/// Whether a weight is reachable by a table.
 fn has_weight(
     alloc: Global,
     tables: TableSet<'_>,
@@ -32,7 +32,7 @@ fn has_weight(
     Ok(contains(&weights, weight))
 }
 
-/// The first table by which a weight is live.
+/// The first table by which a weight is reachable.
 pub(crate) fn table_of(
     alloc: Global,
     tables: TableSet<'_>,
@@ -53,7 +53,7 @@ pub(crate) fn table_of(
     }
 }
 
-/// The table by which an overlap is named whose weights are live by two tables: the later one, but the reordering where
+/// The table by which an overlap is named whose weights are reachable by two tables: the later one, but the reordering where
 /// they are primary weights that overlap only by it.
 pub(crate) fn clash_table(
     level: ComparedLevel,
@@ -75,7 +75,7 @@ pub(crate) fn clash_table(
     }
 }
 
-/// The violation of two weights of which one begins the other, named by the first tables by which they are live.
+/// The violation of two weights of which one begins the other, named by the first tables by which they are reachable.
 pub(crate) fn clash_violation(
     alloc: Global,
     tables: TableSet<'_>,

@@ -10,14 +10,14 @@ use crate::check::collecting::collect;
 use crate::check::overlap_tables::clash_violation;
 use crate::check::weights::ComparedLevel;
 use crate::violation::Violation;
-use icu_data::live_weights::sort_and_dedup;
+use icu_data::reachable_weights::sort_and_dedup;
 use icu_entries::DataTable;
 use icu_provider::TableSet;
 use icu_weights::overlap::{Overlap, first_common_overlap, first_overlap};
 use std::alloc::{AllocError, Global};
 
-/// The tables by which weights are live, in the order in which they are named.
-pub(crate) const LIVE_TABLES: [DataTable; 4] = [
+/// The tables by which weights are reachable, in the order in which they are named.
+pub(crate) const REACHABLE_TABLES: [DataTable; 4] = [
     DataTable::Root,
     DataTable::Jamo,
     DataTable::Tailoring,
@@ -36,7 +36,7 @@ fn named_overlap(
     ensures { IfOk result (IsTrueViolation (tables_in tables.entry)) }
 {
     let mut weights = Vec::new(alloc);
-    for table in LIVE_TABLES {
+    for table in REACHABLE_TABLES {
         collect(tables, level.list(), table, &mut weights)?;
         sort_and_dedup(&mut weights);
         if let Some(found) = first_common_overlap(&mut weights, level.reordering(tables))? {

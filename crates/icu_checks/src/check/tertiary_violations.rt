@@ -7,7 +7,7 @@ ghost use Rattle.icu_checks.specs.inner.PairViolations.{HoldsLevel, AreTooLow, I
 
 use crate::check::collecting::collect;
 use crate::check::overlap_tables::table_of;
-use crate::check::overlap_violations::LIVE_TABLES;
+use crate::check::overlap_violations::REACHABLE_TABLES;
 use crate::check::weights::WeightList;
 use crate::condition::{Condition, PairCondition};
 use crate::violation::{Violation, later};
@@ -39,7 +39,7 @@ fn first_low(alone: &[u32], beside: &[u32]) -> Option<LowPair>
     }
 }
 
-/// The violation of such a pair, named by the first tables by which the two are live.
+/// The violation of such a pair, named by the first tables by which the two are reachable.
 fn low_violation(
     alloc: Global,
     tables: TableSet<'_>,
@@ -63,7 +63,7 @@ fn named_pair(alloc: Global, tables: TableSet<'_>, pair: LowPair) -> Result<Viol
 {
     let mut alone = Vec::new(alloc);
     let mut beside = Vec::new(alloc);
-    for table in LIVE_TABLES {
+    for table in REACHABLE_TABLES {
         collect(tables, WeightList::TertiaryElements, table, &mut alone)?;
         collect(tables, WeightList::WithSecondary, table, &mut beside)?;
         if let Some(found) = first_low(&alone, &beside) {

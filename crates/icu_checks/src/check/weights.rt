@@ -1,4 +1,4 @@
-//! The weights of live elements, level by level, as they are compared with one another.
+//! The weights of reachable elements, level by level, as they are compared with one another.
 ghost use Rattle.std.specs.Prelude.{◌≡◌, option_map};
 ghost use Rattle.icu_provider.specs.StoredTables.{reordering_of};
 ghost use Rattle.icu_provider.specs.TableSets.{tables_in};
@@ -7,7 +7,7 @@ ghost use Rattle.icu_checks.specs.inner.ComparedLevels.{list_of, overlap_conditi
 
 use crate::check::element_conditions::is_tertiary_element;
 use crate::condition::PairCondition;
-use icu_data::live_weights::Weigh;
+use icu_data::reachable_weights::Weigh;
 use icu_entries::CollationElement;
 use icu_provider::{CollationReordering, TableSet};
 

@@ -7,8 +7,8 @@ use Rattle.unicode_normalization.specs.Forms.{nfd}
 use Rattle.icu_entries.specs.Elements.{Element}
 use Rattle.icu_levels.specs.ListOrder.{list_order}
 use Rattle.icu_elements.specs.TextElements.{elements_of}
-use Rattle.icu_cursor.specs.declared.letter_cursor.LetterCursor.{LetterCursor}
-use Rattle.icu_cursor.specs.LetterCursors.{letters_give}
+use Rattle.icu_cursor.specs.declared.facts_cursor.FactsCursor.{FactsCursor}
+use Rattle.icu_cursor.specs.FactsCursors.{facts_give}
 use Rattle.icu_weighting.specs.Collations.{Collation}
 use Rattle.icu_weighting.specs.Forms.{last_variable_by}
 use Rattle.icu_weighting.specs.Handled.{handled, stayed_elements}
@@ -41,18 +41,18 @@ Decides ps qs o = (o ≡ list_order ps qs) × (o ≢ Equal)
 abbrev pub unequal_order : ℕ → ℕ → Option Ordering
 unequal_order p q = if p == q then None else Some (nat_cmp p q)
 
--- whatever stands before, the primaries of what a cursor over letters gives are these, and then those of what it gives
+-- whatever stands before, the primaries of what a cursor over characters gives are these, and then those of what it gives
 -- later
-abbrev pub GivesPrimaries : {T : Type 0} → Collation → (T → List ℕ) → LetterCursor T → List ℕ → LetterCursor T → Type 0
+abbrev pub GivesPrimaries : {T : Type 0} → Collation → (T → List ℕ) → FactsCursor T → List ℕ → FactsCursor T → Type 0
 GivesPrimaries c text old ps new =
     (before : List ℕ) (after : Bool) → (b : List ℕ) × (a : Bool)
-    × (primaries_given c after (letters_give text old before) ≡ ps ++ primaries_given c a (letters_give text new b))
+    × (primaries_given c after (facts_give text old before) ≡ ps ++ primaries_given c a (facts_give text new b))
 
 -- a single one
-abbrev pub GivesPrimary : {T : Type 0} → Collation → (T → List ℕ) → LetterCursor T → ℕ → LetterCursor T → Type 0
+abbrev pub GivesPrimary : {T : Type 0} → Collation → (T → List ℕ) → FactsCursor T → ℕ → FactsCursor T → Type 0
 GivesPrimary c text old p new = GivesPrimaries c text old (p ∷ []) new
 
--- the primaries of a text are these, and then those of what a cursor over letters gives
-abbrev pub ReadsOn : {T : Type 0} → Collation → List ℕ → List ℕ → (T → List ℕ) → LetterCursor T → Type 0
+-- the primaries of a text are these, and then those of what a cursor over characters gives
+abbrev pub ReadsOn : {T : Type 0} → Collation → List ℕ → List ℕ → (T → List ℕ) → FactsCursor T → Type 0
 ReadsOn collation t ps text c =
-    (b : List ℕ) × (a : Bool) × (primaries_of collation t ≡ ps ++ primaries_given collation a (letters_give text c b))
+    (b : List ℕ) × (a : Bool) × (primaries_of collation t ≡ ps ++ primaries_given collation a (facts_give text c b))

@@ -4,9 +4,9 @@ use Rattle.std.specs.List.{list_all}
 use Rattle.unicode_normalization.specs.Forms.{nfd}
 use Rattle.icu_entries.specs.Elements.{Element, of_primary}
 use Rattle.icu_elements.specs.TextElements.{Reading, continues_number, digit_of_char, elements_after}
-use Rattle.icu_shortcuts.specs.Letters.{IsNumberDigit}
+use Rattle.icu_shortcuts.specs.KeptFacts.{IsNumberDigit}
 use Rattle.icu_cursor.specs.declared.digit_run.NumberElements.{NumberElements}
-use Rattle.icu_cursor.specs.inner.Places.{BeginsSafely}
+use Rattle.icu_cursor.specs.inner.Places.{BeginsAtBoundary}
 
 -- the elements of a number that were not given yet
 unfoldable pub number_left : NumberElements → List Element
@@ -26,9 +26,9 @@ pub record IsDigitRun (reading : Reading) (text rest old new : List ℕ) : Type 
   pub continues : list_all (continues_number reading.tables) chars ≡ true
   pub values : new ≡ old ++ map (digit_of_char reading.tables) chars
 
--- a text begins with a piece that has these elements, and what follows it begins safely
+-- a text begins with a piece that has these elements, and what follows it begins at a boundary
 pub record IsNumberPiece (reading : Reading) (text rest : List ℕ) (es : List Element) : Type 0 where
   pub piece : List ℕ
   pub parts : text ≡ piece ++ rest
-  pub safe : BeginsSafely reading rest
+  pub boundary : BeginsAtBoundary reading rest
   pub elements : (before : List ℕ) → es ≡ elements_after reading before (nfd piece)

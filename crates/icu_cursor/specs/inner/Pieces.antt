@@ -6,12 +6,12 @@ use Rattle.icu_elements.specs.TextElements.{Reading}
 use Rattle.icu_cursor.specs.declared.piece.Piece.{Piece}
 use Rattle.icu_cursor.specs.declared.piece.Piece.TheVariants.{Text, Number}
 use Rattle.icu_cursor.specs.inner.NumberElements.{number_left}
-use Rattle.icu_cursor.specs.inner.Places.{BeginsSafely}
+use Rattle.icu_cursor.specs.inner.Places.{BeginsAtBoundary}
 
--- a text is this piece, and then the rest, which begins safely
+-- a text is this piece, and then the rest, which begins at a boundary
 pub record IsPiece (reading : Reading) (text piece rest : List ℕ) : Type 0 where
   pub parts : text ≡ piece ++ rest
-  pub safe : BeginsSafely reading rest
+  pub boundary : BeginsAtBoundary reading rest
 
 -- what a piece still gives
 abbrev pub begun_gives : Piece → List Element

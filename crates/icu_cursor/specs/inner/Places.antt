@@ -11,6 +11,6 @@ MayBeCut reading c =
     → elements_after reading before (nfd (piece ++ c ∷ text)) ≡ elements_after reading before (nfd piece) ++ elements_after reading after (nfd (c ∷ text))
 
 -- the text ends, or may be cut before its first character
-abbrev pub BeginsSafely : Reading → List ℕ → Type 0
-BeginsSafely reading [] = ⊤
-BeginsSafely reading (c ∷ cs) = MayBeCut reading c
+abbrev pub BeginsAtBoundary : Reading → List ℕ → Type 0
+BeginsAtBoundary reading [] = ⊤
+BeginsAtBoundary reading (c ∷ cs) = MayBeCut reading c

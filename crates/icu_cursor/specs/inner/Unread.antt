@@ -2,6 +2,6 @@
 use Rattle.icu_cursor.specs.declared.cursor.ElementCursor.{ElementCursor}
 use Rattle.icu_cursor.specs.inner.Ready.{HasNothingLeft}
 
--- neither a letter nor a piece has elements left
+-- neither a character nor a piece has elements left
 abbrev pub HasNothingReady : {T : Type 0} → ElementCursor T → Type 0
 HasNothingReady c = HasNothingLeft c.ready c.piece

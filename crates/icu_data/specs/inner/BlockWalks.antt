@@ -11,7 +11,7 @@ use Rattle.icu_data.specs.declared.block_walk.Part.TheVariants.{Stated, ByCharac
 use Rattle.icu_data.specs.declared.visited_entries.VisitedEntries.{VisitedEntries}
 use Rattle.icu_data.specs.declared.data.CollationData.{CollationData}
 use Rattle.icu_data.specs.Data.{Data}
-use Rattle.icu_data.specs.Live.{leads_to_character}
+use Rattle.icu_data.specs.Reachable.{leads_to_character}
 use Rattle.icu_data.specs.StoredData.{data_of, block_in}
 use Rattle.icu_data.specs.Walks.{after_chars, StandsFor, EachOfBlock}
 use Rattle.icu_data.specs.inner.VisitedEntries.{IsRemembered}
@@ -22,7 +22,7 @@ is_wanted Stated home e = elim (kind_of e) [ ImplicitKind ↦ false | _ ↦ true
 is_wanted ByCharacter home e = elim (kind_of e) [ ImplicitKind ↦ false | _ ↦ leads_to_character home e ]
 is_wanted Implicit home e = elim (kind_of e) [ ImplicitKind ↦ true | _ ↦ false ]
 
--- A visitor went from one state to another by visits of entries that are live with these characters and stand for those
+-- A visitor went from one state to another by visits of entries that are reachable with these characters and stand for those
 -- of a part from one code point up to another.
 pub record WalkedTo {V : Type 0} (after : V → Data → ℕ → ℕ → V) (falls_back : Bool) (part : Part) (home : Data) (old new : V) (from end : ℕ) : Type 0 where
   pub chars : List ℕ

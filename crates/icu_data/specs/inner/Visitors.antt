@@ -7,7 +7,7 @@ use Rattle.icu_entries.specs.Elements.{Element}
 use Rattle.icu_entries.specs.Entries.{kind_of, entry_index}
 use Rattle.icu_entries.specs.EntryConditions.{has_offset_weight}
 use Rattle.icu_data.specs.DataConditions.{is_inside}
-use Rattle.icu_data.specs.Data.{Data, Row, homed}
+use Rattle.icu_data.specs.Data.{Data, Mapping, homed}
 use Rattle.icu_data.specs.Final.{final_elements}
 use Rattle.icu_data.specs.CollectedWeights.{is_stated}
 use Rattle.icu_entries.specs.ElementConditions.{element_meets}
@@ -22,9 +22,9 @@ all_meet s x = ((s.0.0 && element_meets Shape x, s.0.1 && element_meets Leads x)
 abbrev pub judged : {J F : Type 0} → (F → ℕ) → (J → Data → ℕ → ℕ → Option F) → J × Option F → Data → ℕ → ℕ → J × Option F
 judged rank violation s home c e = (s.0, earlier rank s.1 (violation s.0 home c e))
 
--- what a visitor is after what each row's entry leads to, in order
-abbrev pub after_rows : {V : Type 0} → (V → Data → ℕ → ℕ → V) → (Data → ℕ → List ℕ) → Data → ℕ → List Row → V → V
-after_rows after lead home c rows v = after_all after v home c (flat_map (lead home) (map (λ (row : Row). row.entry) rows))
+-- what a visitor is after what each mapping's entry leads to, in order
+abbrev pub after_mappings : {V : Type 0} → (V → Data → ℕ → ℕ → V) → (Data → ℕ → List ℕ) → Data → ℕ → List Mapping → V → V
+after_mappings after lead home c mappings v = after_all after v home c (flat_map (lead home) (map (λ (mapping : Mapping). mapping.entry) mappings))
 
 -- which weights a list holds
 unfoldable pub holds : List ℕ → ℕ → Bool

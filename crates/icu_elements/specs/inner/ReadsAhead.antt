@@ -5,9 +5,9 @@ use Rattle.std.specs.List.{list_any}
 use Rattle.unicode_normalization.specs.Order.{is_starter}
 use Rattle.icu_entries.specs.declared.entry.EntryKind.TheVariants.{Digit}
 use Rattle.icu_entries.specs.Entries.{kind_of}
-use Rattle.icu_data.specs.Data.{Context, longest_row}
+use Rattle.icu_data.specs.Data.{Context, longest_mapping}
 use Rattle.icu_provider.specs.Tables.{Tables}
-use Rattle.icu_matches.specs.MatchesAhead.{are_decided, row_length}
+use Rattle.icu_matches.specs.MatchesAhead.{are_decided, mapping_length}
 use Rattle.icu_elements.specs.TextElements.{Reading, continues_number}
 use Rattle.icu_elements.specs.inner.Iterating.{StillReads}
 
@@ -44,14 +44,14 @@ IsBegun text = 0 < length text
 abbrev pub IsDotRead : Reading → ℕ → List ℕ → Type 0
 IsDotRead reading c text = (reading.lithuanian && c == 0x307) ≡ true → IsBegun text
 
--- the rows of a context are decided, the longest one takes so many characters, and a starter stands behind them
+-- the mappings of a context are decided, the longest one takes so many characters, and a starter stands behind them
 pub record IsMatchRead (context : Context) (taken : ℕ) (text : List ℕ) : Type 0 where
-  pub decided : are_decided context.rows text ≡ true
-  pub longest : row_length (longest_row context.rows text) ≡ taken
+  pub decided : are_decided context.mappings text ≡ true
+  pub longest : mapping_length (longest_mapping context.mappings text) ≡ taken
   pub behind : list_any is_starter (drop taken text) ≡ true
 
--- and where no row begins the text, the run of a digit is read
+-- and where no mapping begins the text, the run of a digit is read
 pub record HasWholeContraction (reading : Reading) (context : Context) (text : List ℕ) : Type 0 where
-  pub decided : are_decided context.rows text ≡ true
-  pub behind : list_any is_starter (drop (row_length (longest_row context.rows text)) text) ≡ true
-  pub run : longest_row context.rows text ≡ None → IsRunRead reading context.default text
+  pub decided : are_decided context.mappings text ≡ true
+  pub behind : list_any is_starter (drop (mapping_length (longest_mapping context.mappings text)) text) ≡ true
+  pub run : longest_mapping context.mappings text ≡ None → IsRunRead reading context.default text

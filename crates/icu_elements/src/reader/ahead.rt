@@ -2,7 +2,7 @@
 
 ghost use Rattle.std.specs.Prelude.{◌≡◌, ◌≤◌, ◌<◌, ◌+◌, ◌&&◌, length, drop, IsTrue, OnOk, IfOk, is_some, true};
 ghost use Rattle.std.specs.List.{list_any};
-ghost use Rattle.icu_data.specs.Contexts.{has_ascending_rows};
+ghost use Rattle.icu_data.specs.Contexts.{has_ascending_mappings};
 ghost use Rattle.icu_data.specs.StoredData.{found_context};
 ghost use Rattle.icu_entries.specs.Entries.{kind_of};
 ghost use Rattle.icu_elements.specs.ReadAhead.{HasWholeStep};
@@ -10,8 +10,8 @@ ghost use Rattle.icu_elements.specs.TextElements.{is_digit_kind};
 ghost use Rattle.icu_elements.specs.inner.Positions.{recent_chars};
 ghost use Rattle.icu_elements.specs.inner.ReadsAhead.{ReadsTo, ReadsOne, IsBegun, has_run_end, IsRunRead, IsMatchRead, HasWholeContraction, IsDotRead};
 ghost use Rattle.icu_elements.specs.Reading.{element_tables, reading_of};
-ghost use Rattle.icu_data.specs.Data.{longest_row};
-ghost use Rattle.icu_matches.specs.MatchesAhead.{are_decided, row_length};
+ghost use Rattle.icu_data.specs.Data.{longest_mapping};
+ghost use Rattle.icu_matches.specs.MatchesAhead.{are_decided, mapping_length};
 ghost use Rattle.icu_matches.specs.Texts.{unread};
 ghost use Rattle.unicode_normalization.specs.Decompositions.{CanDecompose, decompositions_size};
 ghost use Rattle.unicode_normalization.specs.Order.{is_starter};
@@ -21,7 +21,7 @@ use crate::reader::recent::RecentChars;
 use crate::text_reading::TextReading;
 use icu_data::FoundContext;
 use icu_entries::{CollationElement32, EntryKind};
-use icu_matches::{Text, after_prefix, find_longest, row_goes_on};
+use icu_matches::{Text, after_prefix, find_longest, mapping_goes_on};
 use std::alloc::AllocError;
 use unicode_normalization::Decompositions;
 use unicode_normalization::char::canonical_combining_class;
@@ -137,23 +137,23 @@ fn read_starter<I: Iterator<Item = char> + Drop>(
     Ok(())
 }
 
-/// Reads on until no row of a context goes on where the text ends.
-fn read_rows<I: Iterator<Item = char> + Drop>(
+/// Reads on until no mapping of a context goes on where the text ends.
+fn read_mappings<I: Iterator<Item = char> + Drop>(
     context: FoundContext<'_>,
     source: &mut Decompositions<I>,
     text: &mut Text,
 ) -> Result<(), AllocError>
     requires can { CanDecompose I.can_next I.remaining source.old }
-    requires ascending { IsTrue (has_ascending_rows (found_context context)) }
+    requires ascending { IsTrue (has_ascending_mappings (found_context context)) }
     ensures ready { OnOk result (CanDecompose I.can_next I.remaining source.new) }
     ensures text { OnOk result (ReadsTo I.next_gives
-        (λ l. are_decided (found_context context.entry).rows l ≡ true)
+        (λ l. are_decided (found_context context.entry).mappings l ≡ true)
         source.old (unread text.old) source.new (unread text.new)) }
     ensures size { OnOk result
         (decompositions_size I.remaining source.new + length (unread text.new)
         ≤ decompositions_size I.remaining source.old + length (unread text.old)) }
 {
-    'rows: while row_goes_on(context, text.as_slice()) {
+    'mappings: while mapping_goes_on(context, text.as_slice()) {
         if read_one(source, text)?.is_none() {
             return Ok(());
         }
@@ -161,28 +161,28 @@ fn read_rows<I: Iterator<Item = char> + Drop>(
     Ok(())
 }
 
-/// How many characters the longest row takes that begins a text.
+/// How many characters the longest mapping takes that begins a text.
 fn longest_len(context: FoundContext<'_>, text: &Text) -> usize
-    requires { IsTrue (has_ascending_rows (found_context context)) }
-    ensures longest { result ≡ row_length (longest_row (found_context context.entry).rows
+    requires { IsTrue (has_ascending_mappings (found_context context)) }
+    ensures longest { result ≡ mapping_length (longest_mapping (found_context context.entry).mappings
         (unread text.now)) }
     ensures inside { result ≤ length (unread text.now) }
 {
     match find_longest(context, text.as_slice()) {
-        Some(index) => context.row(index).chars.len(),
+        Some(index) => context.mapping(index).chars.len(),
         None => 0,
     }
 }
 
-/// Reads on until a contraction's row is decided, and with it the marks that may join. Returns how many characters the
-/// row takes.
+/// Reads on until a contraction's mapping is decided, and with it the marks that may join. Returns how many characters the
+/// mapping takes.
 fn read_match<I: Iterator<Item = char> + Drop>(
     context: FoundContext<'_>,
     source: &mut Decompositions<I>,
     text: &mut Text,
 ) -> Result<usize, AllocError>
     requires can { CanDecompose I.can_next I.remaining source.old }
-    requires ascending { IsTrue (has_ascending_rows (found_context context)) }
+    requires ascending { IsTrue (has_ascending_mappings (found_context context)) }
     ensures ready { OnOk result (CanDecompose I.can_next I.remaining source.new) }
     ensures text { IfOk result (λ taken.
         ReadsTo I.next_gives (IsMatchRead (found_context context.entry) taken)
@@ -191,7 +191,7 @@ fn read_match<I: Iterator<Item = char> + Drop>(
         (decompositions_size I.remaining source.new + length (unread text.new)
         ≤ decompositions_size I.remaining source.old + length (unread text.old)) }
 {
-    read_rows(context, source, text)?;
+    read_mappings(context, source, text)?;
     let taken = longest_len(context, text);
     read_starter(taken, source, text)?;
     Ok(taken)
@@ -233,7 +233,7 @@ fn read_contraction<I: Iterator<Item = char> + Drop>(
     text: &mut Text,
 ) -> Result<(), AllocError>
     requires can { CanDecompose I.can_next I.remaining source.old }
-    requires ascending { IsTrue (has_ascending_rows (found_context context)) }
+    requires ascending { IsTrue (has_ascending_mappings (found_context context)) }
     ensures ready { OnOk result (CanDecompose I.can_next I.remaining source.new) }
     ensures text { OnOk result (ReadsTo I.next_gives (HasWholeContraction (reading_of reading.entry)
         (found_context context.entry)) source.old (unread text.old) source.new (unread text.new)) }

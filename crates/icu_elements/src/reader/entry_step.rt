@@ -5,7 +5,7 @@ ghost use Rattle.icu_data.specs.DataConditions.{is_readable};
 ghost use Rattle.icu_data.specs.StoredData.{data_of};
 ghost use Rattle.icu_entries.specs.declared.entry.EntryKind.TheVariants.{Digit};
 ghost use Rattle.icu_entries.specs.Entries.{kind_of};
-ghost use Rattle.icu_matches.specs.GoodEntries.{IsGoodMatch};
+ghost use Rattle.icu_matches.specs.WellFormedEntries.{IsWellFormedMatch};
 ghost use Rattle.icu_elements.specs.Reading.{element_tables, reading_of};
 ghost use Rattle.icu_elements.specs.TextElements.{number_elements, number_step, entry_step, final_step};
 ghost use Rattle.icu_elements.specs.inner.Positions.{IsStep, consumed_last, unread_at};
@@ -54,7 +54,7 @@ fn read_number(
     list: &mut ElementList,
 ) -> Result<(), AllocError>
     requires is_digit { kind_of found.now.ce32 ≡ Digit }
-    requires good { IsGoodMatch (data_of home) c found.now.ce32 }
+    requires well_formed { IsWellFormedMatch (data_of home) c found.now.ce32 }
     ensures { OnOk result (IsStep (number_step (element_tables tables.entry) lead
         (matched found.now (unread_at at.old)))
         c (consumed_last at.old) list.old.elements.items list.new.elements.items at.new) }
@@ -91,7 +91,7 @@ fn read_digit(
     list: &mut ElementList,
 ) -> Result<(), AllocError>
     requires is_digit { kind_of found.now.ce32 ≡ Digit }
-    requires good { IsGoodMatch (data_of home) c found.now.ce32 }
+    requires well_formed { IsWellFormedMatch (data_of home) c found.now.ce32 }
     ensures { OnOk result (IsStep (digit_step (reading_of reading.entry) (data_of home.entry) c
         (matched found.now (unread_at at.old)))
         c (consumed_last at.old) list.old.elements.items list.new.elements.items at.new) }
@@ -112,7 +112,7 @@ pub(crate) fn read_entry(
     found: &Matched,
     list: &mut ElementList,
 ) -> Result<(), AllocError>
-    requires { IsGoodMatch (data_of home) c found.now.ce32 }
+    requires { IsWellFormedMatch (data_of home) c found.now.ce32 }
     ensures { OnOk result (IsStep (entry_step (reading_of reading.entry) (data_of home.entry) c
         (matched found.now (unread_at at.old)))
         c (consumed_last at.old) list.old.elements.items list.new.elements.items at.new) }

@@ -11,4 +11,4 @@ pub returns-clause-order : goal.returns-clause-order
 returns-clause-order c = λ collation is t u. identical_texts collation is t u
 
 pub returns-clause-key : goal.returns-clause-key
-returns-clause-key c = λ collation good is t u p q. identical_keys collation is t u good p q
+returns-clause-key c = λ collation well_formed is t u p q. identical_keys collation is t u well_formed p q

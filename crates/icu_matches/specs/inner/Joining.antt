@@ -1,7 +1,7 @@
 -- Marks that join a match.
 use Rattle.std.specs.Prelude.{◌≡◌, ℕ, Bool, true, false, List, [], ◌∷◌, ◌++◌, max, take, drop, Some, None}
 use Rattle.ucd_normal.specs.CanonicalCombiningClass.{canonical_combining_class as class_of}
-use Rattle.icu_data.specs.Data.{Row, row_entry}
+use Rattle.icu_data.specs.Data.{Mapping, mapping_entry}
 use Rattle.icu_matches.specs.Matches.{Match, with_marks}
 use Rattle.icu_matches.specs.declared.matched.Matched.{Matched}
 
@@ -11,10 +11,10 @@ greatest_class [] = 0
 greatest_class (m ∷ ms) = max (class_of m) (greatest_class ms)
 
 -- the match that it becomes by the marks of this text, of which so many were passed over
-abbrev pub match_on : List Row → Matched → ℕ → List ℕ → Match
-match_on rows m passed text = with_marks rows m.ce32 m.suffix.items (take passed text) (drop passed text)
+abbrev pub match_on : List Mapping → Matched → ℕ → List ℕ → Match
+match_on mappings m passed text = with_marks mappings m.ce32 m.suffix.items (take passed text) (drop passed text)
 
--- the mark joins, which makes a row; or it doesn't, and nothing changes
-abbrev pub Joins : List Row → ℕ → Matched → Matched → Bool → Type 0
-Joins rows m old new true = (row_entry rows (old.suffix.items ++ m ∷ []) ≡ Some new.ce32) × (new.suffix.items ≡ old.suffix.items ++ m ∷ [])
-Joins rows m old new false = (row_entry rows (old.suffix.items ++ m ∷ []) ≡ None) × (new.ce32 ≡ old.ce32) × (new.suffix.items ≡ old.suffix.items)
+-- the mark joins, which makes a mapping; or it doesn't, and nothing changes
+abbrev pub Joins : List Mapping → ℕ → Matched → Matched → Bool → Type 0
+Joins mappings m old new true = (mapping_entry mappings (old.suffix.items ++ m ∷ []) ≡ Some new.ce32) × (new.suffix.items ≡ old.suffix.items ++ m ∷ [])
+Joins mappings m old new false = (mapping_entry mappings (old.suffix.items ++ m ∷ []) ≡ None) × (new.ce32 ≡ old.ce32) × (new.suffix.items ≡ old.suffix.items)

@@ -7,16 +7,16 @@ use Rattle.unicode_normalization.specs.Order.{is_starter}
 use Rattle.icu_entries.specs.Elements.{Element}
 use Rattle.icu_elements.specs.TextElements.{Reading}
 use Rattle.icu_cuts.specs.Alone.{elements_by_char, is_alone}
-use Rattle.icu_shortcuts.specs.Letters.{IsLetter}
-use Rattle.icu_shortcuts.specs.declared.letter_facts.Letter.{Letter}
-use Rattle.icu_shortcuts.specs.declared.letter_facts.LetterKind.TheVariants.{Starters}
+use Rattle.icu_shortcuts.specs.KeptFacts.{AreTrueFacts}
+use Rattle.icu_shortcuts.specs.declared.char_facts.CharFacts.{CharFacts}
+use Rattle.icu_shortcuts.specs.declared.char_facts.FactsKind.TheVariants.{Starters}
 
 -- a starter that decomposes to itself and has one element
-pub record IsOwnLetter (reading : Reading) (c : ℕ) (l : Letter) : Type 0 where
+pub record AreOwnFacts (reading : Reading) (c : ℕ) (l : CharFacts) : Type 0 where
   pub itself : decompose Nfd c ≡ c ∷ []
   pub kind : l.kind ≡ Starters
   pub count : l.count ≡ 1
-  pub is : IsLetter reading c l
+  pub is : AreTrueFacts reading c l
 
 -- starters that stand alone, whose elements these are
 pub record StandByThemselves (reading : Reading) (cs : List ℕ) (es : List Element) : Type 0 where

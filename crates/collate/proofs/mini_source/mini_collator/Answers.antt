@@ -3,14 +3,14 @@
 use Rattle.std.proofs.Common.{◌≡◌, Some, ap}
 use Rattle.icu_entries.specs.declared.error.DataErrorKind.TheVariants.{NoMemory}
 use Rattle.icu_provider.specs.CollatorTables.{CollatorTables}
-use Rattle.icu_checks.specs.GoodTables.{IsGoodTables}
+use Rattle.icu_checks.specs.WellFormedTables.{IsWellFormedTables}
 use Rattle.icu_provider.specs.LoadedTables.{loaded_tables}
 use Rattle.icu_provider.specs.FixedLoads.{fixed_loads}
 use Rattle.icu_options.specs.declared.options.CollatorOptions.{CollatorOptions}
 use Rattle.icu_comparison.specs.Collators.{collation_kept, request_in}
-use Rattle.collate.specs.Refusals.{IsForCause, mini_refuses}
+use Rattle.collate.specs.MiniErrors.{IsForCause, mini_refuses}
 use Rattle.collate.proofs.MiniLemmas.{mini-loaded}
-use Rattle.collate.proofs.RefusalLemmas.{of_ok, refusal_says}
+use Rattle.collate.proofs.CollatorErrorLemmas.{of_ok, error_says}
 use Rattle.collate.proofs.SettingLemmas.{mini-compares}
 use Rattle.collate.proofs.mini_source.mini_collator.Goals as goal
 
@@ -29,16 +29,16 @@ pub returns-clause-refused : goal.returns-clause-refused
 returns-clause-refused c =
     let provider = c.provider.result in
     let request = request_in c.default-2.result in
-    let kind = c.in-Err.refusal.kind in
-    let fails : CollatorTables → Type 0 = λ all. (kind ≡ NoMemory → ⊥) → IsGoodTables all → ⊥ in
-    refusal_says (IsForCause kind) (mini_refuses c.args.strength) (λ line h. (
+    let kind = c.in-Err.error.kind in
+    let fails : CollatorTables → Type 0 = λ all. (kind ≡ NoMemory → ⊥) → IsWellFormedTables all → ⊥ in
+    error_says (IsForCause kind) (mini_refuses c.args.strength) (λ line h. (
       record {
         tables = c.in_ok-mini.mini;
         provider = provider;
         request = request;
         mini = c.in_ok-mini.ensures;
         holds = c.provider.ensures;
-        fails = λ all loaded good. of_ok fails (loaded_tables (fixed_loads provider) request) all c.in-Err.ensures.exact loaded h.0 good;
+        fails = λ all loaded well_formed. of_ok fails (loaded_tables (fixed_loads provider) request) all c.in-Err.ensures.exact loaded h.0 well_formed;
       },
       h.1,
     )) _ c.refused.ensures

@@ -10,5 +10,5 @@ returns-clause-refused g c = λ one.
     let asked = command_of (map (string_bytes {Z = Global}) c.args.request.words.now) in
     subst (λ lines. IfSome asked (Fails lines (ComparesAs c.args.request.chosen) (λ strength. IsLineOf c.args.request.file.now)
     (g.I.Read.remaining c.args.input.now) (g.I.Read.remaining c.run.new.input) (g.W.Write.contents c.args.output.now)
-    (g.W.Write.contents c.run.new.output) (g.E.Write.contents c.args.faults.now) (g.E.Write.contents c.run.new.faults)))
+    (g.W.Write.contents c.run.new.output) (g.E.Write.contents c.args.errors.now) (g.E.Write.contents c.run.new.errors)))
     c.wording.ensures (c.run.ensures.refused one)

@@ -1,7 +1,7 @@
 use Rattle.icu_provider.specs.TableSets.{tables_in}
 use Rattle.icu_checks.specs.inner.Violations.{IsTrueViolation}
 use Rattle.icu_checks.proofs.ViolationPairs.{both_none, either_true}
-use Rattle.icu_checks.proofs.CheckLemmas.{good_tables}
+use Rattle.icu_checks.proofs.CheckLemmas.{well_formed_tables}
 use Rattle.icu_checks.proofs.check.first_violation.Goals as goal
 
 pub returns : goal.returns
@@ -11,7 +11,7 @@ returns c =
       none = λ h.
           let both = both_none _ _ _ c.earlier-2.ensures h in
           let first = both_none _ _ _ c.earlier.ensures both.0 in
-          good_tables (tables_in c.args.tables) c.show_tables.ensures (c.count_violation.ensures.none c.in_default.is)
-          (c.live_violation-live.ensures.none first.0) (c.leads_violation.ensures.none first.1) (c.in_ok-pairs.ensures.none both.1);
-      some = either_true T _ _ _ c.earlier-2.ensures (either_true T _ _ _ c.earlier.ensures c.live_violation-live.ensures.some c.leads_violation.ensures.some) c.in_ok-pairs.ensures.some;
+          well_formed_tables (tables_in c.args.tables) c.show_tables.ensures (c.count_violation.ensures.none c.in_default.is)
+          (c.reachable_violation-reachable.ensures.none first.0) (c.leads_violation.ensures.none first.1) (c.in_ok-pairs.ensures.none both.1);
+      some = either_true T _ _ _ c.earlier-2.ensures (either_true T _ _ _ c.earlier.ensures c.reachable_violation-reachable.ensures.some c.leads_violation.ensures.some) c.in_ok-pairs.ensures.some;
     }

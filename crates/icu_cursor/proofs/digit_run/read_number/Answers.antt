@@ -13,4 +13,4 @@ returns-clause-piece g c =
     let one = c.in_ok-push.ensures.ok ∙ ap (λ (l : List ℕ). l ++ c.args.first ∷ []) c.new-digits.ensures.items in
     let run = subst (λ (old : List ℕ). IsDigitRun reading (text c.args.text) (text c.in_ok-rest.rest) old digits) one c.in_ok-rest.ensures.run in
     number_piece reading c.args.lead c.args.c c.args.first (text c.args.text) (text c.in_ok-rest.rest) digits _ c.requires.numeric c.requires.digit run
-    (c.begins_safely.ensures c.if-not-begins_safely.false) (c.in_ok-number.ensures ∙ ap (number_elements c.args.lead) c.as_slice.ensures)
+    (c.begins_at_boundary.ensures c.if-not-begins_at_boundary.false) (c.in_ok-number.ensures ∙ ap (number_elements c.args.lead) c.as_slice.ensures)

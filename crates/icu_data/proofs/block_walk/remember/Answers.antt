@@ -1,6 +1,6 @@
 use Rattle.std.proofs.Common.{◌≡◌, false, inl, inr, sym, subst, rules}
 use Rattle.icu_data.specs.StoredData.{data_of}
-use Rattle.icu_data.specs.Live.{leads_to_character}
+use Rattle.icu_data.specs.Reachable.{leads_to_character}
 use Rattle.icu_data.proofs.block_walk.remember.Goals as goal
 
 pub returns-then-not-leads_to_character : goal.returns-then-not-leads_to_character

@@ -1,7 +1,7 @@
 use Rattle.std.proofs.Common.{◌≡◌, inl, inr, subst, ap, ◌∙◌}
 use Rattle.icu_entries.specs.declared.entry.EntryKind.TheVariants.{Implicit}
 use Rattle.icu_entries.specs.Entries.{kind_of}
-use Rattle.icu_data.specs.Live.{live_at}
+use Rattle.icu_data.specs.Reachable.{reachable_at}
 use Rattle.icu_data.specs.StoredData.{data_of}
 use Rattle.icu_data.specs.Walks.{after_all}
 use Rattle.icu_data.specs.inner.VisitedEntries.{IsRemembered}
@@ -25,7 +25,7 @@ returns-clause-walks g c =
     let value = c.bits_for_char-bits.ensures ∙ ap (data_of c.args.home).value at in
     held_char g.V.Visit.after c.args.falls_back (data_of c.args.home) _ _ _ _ c.args.code c.in-Some.ensures.value.0
     (λ e has. elim (c.remember.ensures e has) [ inl before ↦ inl before | inr same ↦ inr (same.0 ∙ value, same.1) ])
-    (c.in_ok-visit_char.ensures ∙ ap (λ d. after_all g.V.Visit.after (g.V.Visit.seen c.args.visitor.now) (data_of c.args.home) d (live_at c.args.falls_back (data_of c.args.home) d)) at)
+    (c.in_ok-visit_char.ensures ∙ ap (λ d. after_all g.V.Visit.after (g.V.Visit.seen c.args.visitor.now) (data_of c.args.home) d (reachable_at c.args.falls_back (data_of c.args.home) d)) at)
 
 pub returns-in_default-clause-walks : goal.returns-in_default-clause-walks
 returns-in_default-clause-walks g c =

@@ -8,7 +8,7 @@ use Rattle.icu_index.proofs.InsertionLemmas.{sorts, total_by_keys}
 use Rattle.icu_index.proofs.laws.inserts_sort.Goals as goal
 
 pub returns : goal.returns
-returns c = λ collation names good.
+returns c = λ collation names well_formed.
     sorts (name_order collation)
     (total_by_keys (name_order collation) (key_of collation)
-    (λ x y. sym (keys_keep collation good (utf8_text x) (utf8_text y) (utf8_scalars x) (utf8_scalars y)))) names
+    (λ x y. sym (keys_keep collation well_formed (utf8_text x) (utf8_text y) (utf8_scalars x) (utf8_scalars y)))) names

@@ -6,7 +6,7 @@ use Rattle.icu_levels.proofs.KeepLemmas.{tie, tied_segments}
 use Rattle.icu_levels.proofs.levels.segments_keep_order.Goals as goal
 
 pub returns : goal.returns
-returns g c good vss wss p q l m =
+returns g c well_formed vss wss p q l m =
     let determined : Determines (backward_level vss) (backward_level wss) (segments_order vss wss) =
-    λ s t u v. backward_order g.W.LevelWeights.is_live good vss wss s t l m p q u v in
+    λ s t u v. backward_order g.W.LevelWeights.is_reachable well_formed vss wss s t l m p q u v in
     (determined, λ same. tied_segments vss wss (tie (backward_level vss) (backward_level wss) (segments_order vss wss) determined same))

@@ -4,6 +4,6 @@ use Rattle.icu_levels.proofs.KeepLemmas.{keeps}
 use Rattle.icu_levels.proofs.levels.tertiaries_keep_order.Goals as goal
 
 pub returns : goal.returns
-returns g c form good vs ws p q =
+returns g c form well_formed vs ws p q =
     keeps (tertiary_level form vs) (tertiary_level form ws) vs ws
-    (λ s t u v. tertiary_order g.W.LevelWeights.is_live form good vs ws s t p q u v)
+    (λ s t u v. tertiary_order g.W.LevelWeights.is_reachable form well_formed vs ws s t p q u v)

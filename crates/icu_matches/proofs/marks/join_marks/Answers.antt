@@ -7,7 +7,7 @@ use Rattle.std.proofs.Math.ListN.{drop_of_length-le}
 use Rattle.ucd_normal.specs.CanonicalCombiningClass.{canonical_combining_class as class_of}
 use Rattle.unicode_normalization.specs.Order.{is_starter}
 use Rattle.icu_data.specs.StoredData.{found_context}
-use Rattle.icu_data.specs.Data.{Row}
+use Rattle.icu_data.specs.Data.{Mapping}
 use Rattle.icu_matches.specs.Texts.{unread}
 use Rattle.icu_matches.specs.Matches.{Match, is_blocked, with_marks}
 use Rattle.icu_matches.specs.inner.Joining.{greatest_class}
@@ -21,7 +21,7 @@ marks-init c = record { inside = omega arith; greatest = refl; whole = refl }
 
 pub returns-then-class-eq0 : goal.returns-then-class-eq0
 returns-then-class-eq0 c =
-    let rows : List Row = (found_context c.args.context).rows in
+    let mappings : List Mapping = (found_context c.args.context).mappings in
     let l = c.marks in
     let text : List ℕ = unread l.text in
     let m : ℕ = c.in-Some.mark in
@@ -29,7 +29,7 @@ returns-then-class-eq0 c =
     let starter : is_starter m ≡ true = search rules in
     let ended : List ℕ → Match = λ r. record { entry = l.matched.ce32; suffix = l.matched.suffix.items; rest = r } in
     ap ended (sym (take-append-drop l.passed text))
-    ∙ (sym (at_starter rows l.matched.ce32 l.matched.suffix.items (take l.passed text) text l.passed m is starter) ∙ l.invariant.whole)
+    ∙ (sym (at_starter mappings l.matched.ce32 l.matched.suffix.items (take l.passed text) text l.passed m is starter) ∙ l.invariant.whole)
 
 pub remove-requires : goal.remove-requires
 remove-requires c =
@@ -50,7 +50,7 @@ marks-smaller-then-branch c =
 
 pub marks-preserved-then-branch : goal.marks-preserved-then-branch
 marks-preserved-then-branch c =
-    let rows : List Row = (found_context c.args.context).rows in
+    let mappings : List Mapping = (found_context c.args.context).mappings in
     let l = c.marks in
     let text : List ℕ = unread l.text in
     let m : ℕ = c.in-Some.mark in
@@ -73,9 +73,9 @@ marks-preserved-then-branch c =
       inside = omega (arith, long, length-take-le l.passed text (omega (arith, within)));
       greatest = l.invariant.greatest ∙ ap greatest_class (sym before);
       whole =
-          ap₂ (with_marks rows entry suffix) before after
-          ∙ ap (λ (s : List ℕ). with_marks rows entry s (take l.passed text) (drop (l.passed + 1) text)) joins.1
-          ∙ sym (at_joining rows l.matched.ce32 l.matched.suffix.items (take l.passed text) text l.passed m is entry starter free joins.0)
+          ap₂ (with_marks mappings entry suffix) before after
+          ∙ ap (λ (s : List ℕ). with_marks mappings entry s (take l.passed text) (drop (l.passed + 1) text)) joins.1
+          ∙ sym (at_joining mappings l.matched.ce32 l.matched.suffix.items (take l.passed text) text l.passed m is entry starter free joins.0)
           ∙ l.invariant.whole;
     }
 
@@ -96,7 +96,7 @@ marks-smaller c =
 
 pub marks-preserved : goal.marks-preserved
 marks-preserved c =
-    let rows : List Row = (found_context c.args.context).rows in
+    let mappings : List Mapping = (found_context c.args.context).mappings in
     let l = c.marks in
     let text : List ℕ = unread l.text in
     let passed : List ℕ = take l.passed text in
@@ -127,27 +127,27 @@ marks-preserved c =
           rw w.matched-is joins.2
       | else-class-greatest w ↦ rw w.matched-is refl
     ] in
-    let turn : with_marks rows entry suffix passed (drop l.passed text) ≡ with_marks rows entry suffix (passed ++ m ∷ []) rest = elim c.if-class-greatest.branch [
+    let turn : with_marks mappings entry suffix passed (drop l.passed text) ≡ with_marks mappings entry suffix (passed ++ m ∷ []) rest = elim c.if-class-greatest.branch [
       | then-class-greatest+in_ok-join_mark+else-branch w ↦
           let joins = rw w.if-branch.false at w.in_ok-join_mark.ensures in
           let free : is_blocked passed m ≡ false = blocking ∙ lt-leb _ _ (omega (arith, w.if-class-greatest.true, class, l.invariant.greatest)) in
-          at_other rows entry suffix passed text l.passed m is starter free joins.0
+          at_other mappings entry suffix passed text l.passed m is starter free joins.0
       | else-class-greatest w ↦
           let blocked : is_blocked passed m ≡ true = blocking ∙ le-leb _ _ (omega (arith, w.if-class-greatest.false, class, l.invariant.greatest)) in
-          at_blocked rows entry suffix passed text l.passed m is starter blocked
+          at_blocked mappings entry suffix passed text l.passed m is starter blocked
     ] in
     record {
       inside = omega (arith, within);
       greatest = greatest ∙ sym (ap greatest_class more ∙ greatest_more passed m);
       whole =
-          ap₂ (λ (e : ℕ) (s : List ℕ). with_marks rows e s (take (l.passed + 1) text) rest) same kept
-          ∙ ap (λ (p : List ℕ). with_marks rows entry suffix p rest) more
+          ap₂ (λ (e : ℕ) (s : List ℕ). with_marks mappings e s (take (l.passed + 1) text) rest) same kept
+          ∙ ap (λ (p : List ℕ). with_marks mappings entry suffix p rest) more
           ∙ sym turn ∙ l.invariant.whole;
     }
 
 pub returns : goal.returns
 returns c =
-    let rows : List Row = (found_context c.args.context).rows in
+    let mappings : List Mapping = (found_context c.args.context).mappings in
     let l = c.marks in
     let text : List ℕ = unread l.text in
     let none : slice_get text l.passed ≡ None = search rules in
@@ -155,4 +155,4 @@ returns c =
     let ended : List ℕ → Match = λ r. record { entry = l.matched.ce32; suffix = l.matched.suffix.items; rest = r } in
     let whole : take l.passed text ≡ text =
     sym (append-nil (take l.passed text)) ∙ (ap (λ (r : List ℕ). take l.passed text ++ r) (sym (drop_of_length-le text past)) ∙ take-append-drop l.passed text) in
-    ap ended (sym whole) ∙ (sym (at_end rows l.matched.ce32 l.matched.suffix.items (take l.passed text) text l.passed past) ∙ l.invariant.whole)
+    ap ended (sym whole) ∙ (sym (at_end mappings l.matched.ce32 l.matched.suffix.items (take l.passed text) text l.passed past) ∙ l.invariant.whole)

@@ -9,7 +9,7 @@ abbrev pub invariant-marks : goal.invariant-marks
 invariant-marks l = record {
   inside : l.passed ≤ length (unread l.text);
   greatest : l.greatest ≡ greatest_class (take l.passed (unread l.text));
-  whole : match_on (found_context l.context).rows l.matched l.passed (unread l.text) ≡ match_on (found_context l.context).rows l.fn.matched 0 (unread l.fn.text);
+  whole : match_on (found_context l.context).mappings l.matched l.passed (unread l.text) ≡ match_on (found_context l.context).mappings l.fn.matched 0 (unread l.fn.text);
 }
 
 abbrev pub decreases-marks : goal.decreases-marks

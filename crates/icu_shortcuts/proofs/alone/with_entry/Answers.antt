@@ -1,5 +1,5 @@
 -- An entry that meets the conditions may be read.
-use Rattle.icu_data.specs.Live.{live_from}
+use Rattle.icu_data.specs.Reachable.{reachable_from}
 use Rattle.icu_data.specs.StoredData.{data_of}
 use Rattle.icu_elements.proofs.ReadableLemmas.{itself, readable_among}
 use Rattle.icu_shortcuts.proofs.alone.with_entry.Goals as goal
@@ -7,4 +7,4 @@ use Rattle.icu_shortcuts.proofs.alone.with_entry.Goals as goal
 pub with_final-requires : goal.with_final-requires
 with_final-requires c =
     let home = data_of c.args.home in
-    readable_among home c.args.c c.args.ce32 (live_from home c.args.ce32) c.requires (itself home c.args.ce32)
+    readable_among home c.args.c c.args.ce32 (reachable_from home c.args.ce32) c.requires (itself home c.args.ce32)

@@ -1,5 +1,5 @@
 use Rattle.std.proofs.Common.{◌≡◌, ℕ, drop}
-use Rattle.icu_shortcuts.specs.Letters.{rises_to}
+use Rattle.icu_shortcuts.specs.KeptFacts.{rises_to}
 use Rattle.icu_shortcuts.proofs.shapes.last_class.Given as goal
 
 abbrev pub invariant-loop-m : goal.invariant-loop-m

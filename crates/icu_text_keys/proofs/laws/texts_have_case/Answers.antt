@@ -2,4 +2,4 @@ use Rattle.icu_text_keys.proofs.CaseLemmas.{text_has_case}
 use Rattle.icu_text_keys.proofs.laws.texts_have_case.Goals as goal
 
 pub returns : goal.returns
-returns c = λ collation good t text. text_has_case collation good t text
+returns c = λ collation well_formed t text. text_has_case collation well_formed t text

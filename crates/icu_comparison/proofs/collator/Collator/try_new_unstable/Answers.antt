@@ -4,7 +4,7 @@ use Rattle.std.specs.Result.{IsErrAnd}
 use Rattle.icu_entries.specs.declared.error.DataError.{DataError}
 use Rattle.icu_entries.specs.declared.error.DataErrorKind.TheVariants.{NoMemory}
 use Rattle.icu_provider.specs.CollatorTables.{CollatorTables}
-use Rattle.icu_checks.specs.GoodTables.{IsGoodTables}
+use Rattle.icu_checks.specs.WellFormedTables.{IsWellFormedTables}
 use Rattle.icu_provider.specs.TableSets.{tables_in}
 use Rattle.icu_comparison.specs.Collators.{loaded_for}
 use Rattle.icu_comparison.proofs.collator.Collator.try_new_unstable.Goals as goal
@@ -17,5 +17,5 @@ pub returns-in_err-tables-clause-exact : goal.returns-in_err-tables-clause-exact
 returns-in_err-tables-clause-exact g c =
     let loaded : loaded_for (g.P.CollationProvider.loads c.args.provider.now) c.args.preferences ≡ Ok (tables_in c.in_ok-loaded.loaded) = sym c.in_ok-loaded.ensures in
     handed_on c.from_residual-in_err-tables.result c.in_err-tables.field-0.0
-    (λ e. IfOk (loaded_for (g.P.CollationProvider.loads c.args.provider.now) c.args.preferences) (λ (all : CollatorTables). (e.kind ≡ NoMemory → ⊥) → IsGoodTables all → ⊥))
+    (λ e. IfOk (loaded_for (g.P.CollationProvider.loads c.args.provider.now) c.args.preferences) (λ (all : CollatorTables). (e.kind ≡ NoMemory → ⊥) → IsWellFormedTables all → ⊥))
     c.from_residual-in_err-tables.ensures.1 (rw loaded c.in_err-tables.ensures.exact)

@@ -6,5 +6,5 @@ use Rattle.icu_comparison.proofs.collator.CollatorBorrowed.compare_texts.Goals a
 pub returns-clause-keys : goal.returns-clause-keys
 returns-clause-keys g c =
     c.in_ok-order.ensures.order
-    ∙ sym (c.keys_keep_text_order.ensures.order (collation_borrowed c.args.self.now) c.are_good.ensures
+    ∙ sym (c.keys_keep_text_order.ensures.order (collation_borrowed c.args.self.now) c.are_well_formed.ensures
     (g.L.EncodedText.text c.args.left) (g.R.EncodedText.text c.args.right) c.has_scalar_values.ensures c.has_scalar_values-2.ensures)

@@ -6,5 +6,5 @@ use Rattle.icu_comparison.proofs.collator.CollatorBorrowed.is_equal_to_itself.Go
 pub returns : goal.returns
 returns g c =
     let text = g.T.EncodedText.text c.args.text in
-    (c.keys_keep_text_order.ensures.same (collation_borrowed c.args.self.now) c.are_good.ensures
+    (c.keys_keep_text_order.ensures.same (collation_borrowed c.args.self.now) c.are_well_formed.ensures
     text text c.has_scalar_values.ensures c.has_scalar_values.ensures).1 refl

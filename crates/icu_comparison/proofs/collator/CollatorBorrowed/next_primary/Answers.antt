@@ -5,15 +5,15 @@ use Rattle.icu_comparison.proofs.TailLemmas.{nothing_given, none_next, after_non
 use Rattle.icu_comparison.proofs.collator.CollatorBorrowed.next_primary.Goals as goal
 
 pub elements-init : goal.elements-init
-elements-init g c = nothing_given (collation_borrowed c.args.self.now) g.T.EncodedText.text c.args.letters.now
+elements-init g c = nothing_given (collation_borrowed c.args.self.now) g.T.EncodedText.text c.args.kept_facts.now
 
 pub elements-preserved : goal.elements-preserved
 elements-preserved g c =
     let collation = collation_borrowed c.args.self.now in
-    after_none collation g.T.EncodedText.text c.args.letters.now c.elements.letters c.next.new.self [] c.elements.invariant
-    (none_next collation g.T.EncodedText.text c.elements.letters c.next.new.self c.in_ok-element.element c.in_ok-element.ensures (search rules))
+    after_none collation g.T.EncodedText.text c.args.kept_facts.now c.elements.kept_facts c.next.new.self [] c.elements.invariant
+    (none_next collation g.T.EncodedText.text c.elements.kept_facts c.next.new.self c.in_ok-element.element c.in_ok-element.ensures (search rules))
 
 pub returns-then-primary-ne0-clause-given : goal.returns-then-primary-ne0-clause-given
 returns-then-primary-ne0-clause-given g c =
-    primary_found (collation_borrowed c.args.self.now) g.T.EncodedText.text c.args.letters.now c.elements.letters c.next.new.self
+    primary_found (collation_borrowed c.args.self.now) g.T.EncodedText.text c.args.kept_facts.now c.elements.kept_facts c.next.new.self
     c.in_ok-element.element c.elements.invariant c.in_ok-element.ensures c.known_primary.result _ (search rules) c.known_primary.ensures

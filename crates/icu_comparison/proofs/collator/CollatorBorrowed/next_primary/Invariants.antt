@@ -5,4 +5,4 @@ use Rattle.icu_comparison.proofs.collator.CollatorBorrowed.next_primary.Given as
 
 -- the elements that were passed over have no primaries
 abbrev pub invariant-elements : goal.invariant-elements
-invariant-elements g l = GivesPrimaries (collation_borrowed l.self) g.T.EncodedText.text l.fn.letters [] l.letters
+invariant-elements g l = GivesPrimaries (collation_borrowed l.self) g.T.EncodedText.text l.fn.kept_facts [] l.kept_facts

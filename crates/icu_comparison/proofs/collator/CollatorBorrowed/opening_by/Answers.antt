@@ -18,7 +18,7 @@ returns-clause-tail c = λ rest is.
     let handled : (last_variable_by collation ≡ 0) ⊎ (begins_with_primary (elements_of (reading_by collation) (nfd (first ∷ rest))) ≡ true) =
     ⊎_elim (λ nonzero. inr (first_has_primary collation c.first_starters_lead.ensures first rest p (c.front-front.ensures.leads nonzero) nonzero))
     (λ zero. inl zero) known.1 in
-    tail_of collation first rest (c.front-front.ensures.safe known.0) handled
+    tail_of collation first rest (c.front-front.ensures.boundary known.0) handled
 
 pub returns-clause-leads : goal.returns-clause-leads
 returns-clause-leads c = λ rest.

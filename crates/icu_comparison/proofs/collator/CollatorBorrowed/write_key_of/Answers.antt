@@ -8,7 +8,7 @@ use Rattle.icu_comparison.proofs.collator.CollatorBorrowed.write_key_of.Goals as
 
 pub write_with_characters-requires : goal.write_with_characters-requires
 write_with_characters-requires g c = record {
-  cases = c.texts_have_case.ensures (collation_borrowed c.args.self.now) c.are_good.ensures (g.T.EncodedText.text c.args.text) c.has_scalar_values.ensures;
+  cases = c.texts_have_case.ensures (collation_borrowed c.args.self.now) c.are_well_formed.ensures (g.T.EncodedText.text c.args.text) c.has_scalar_values.ensures;
 }
 
 pub returns : goal.returns

@@ -14,4 +14,4 @@ returns-in-Some-2-clause-same g c =
     let reading = cursor_reading c.args.self.now.tables.now in
     let before = context_read c.args.self.now.recent in
     let p = rw c.in-Some-2.is at c.in_ok-number.ensures.piece in
-    piece_begun reading _ _ before c.requires.nothing.letter c.requires.nothing.piece _ _ p.piece _ _ c.requires.text (record { parts = p.parts; safe = p.safe }) (p.elements before)
+    piece_begun reading _ _ before c.requires.nothing.facts c.requires.nothing.piece _ _ p.piece _ _ c.requires.text (record { parts = p.parts; boundary = p.boundary }) (p.elements before)

@@ -11,5 +11,5 @@ unfolding cursor_gives
 returns-clause-same g c =
     let reading = cursor_reading c.args.self.now.tables.now in
     let before = context_read c.args.self.now.recent in
-    piece_begun reading _ _ before c.requires.nothing.letter c.requires.nothing.piece _ _ c.in_ok-piece.piece.items _ _ c.requires.text c.in_ok-piece.ensures.piece
+    piece_begun reading _ _ before c.requires.nothing.facts c.requires.nothing.piece _ _ c.in_ok-piece.piece.items _ _ c.requires.text c.in_ok-piece.ensures.piece
     (c.in_ok-begun.ensures ∙ ap (λ l. elements_after reading before (nfd l)) c.as_slice.ensures.value)

@@ -10,4 +10,4 @@ returns-in_default-split_first_char-clause-end g c =
     let nothing = c.in_ok-element.ensures.end c.in_default.is in
     λ _.
     sym c.turns.invariant ∙ c.in_ok-element.ensures.next ∙ ap (λ o. option_to_list o ++ gives) c.in_default.is
-    ∙ all_read _ _ _ _ nothing.letter nothing.piece _ c.in_default-split_first_char.ensures
+    ∙ all_read _ _ _ _ nothing.facts nothing.piece _ c.in_default-split_first_char.ensures

@@ -7,9 +7,9 @@ pub returns-in-Starters : goal.returns-in-Starters
 unfolding cursor_gives
 returns-in-Starters g c =
     let rest = g.T.EncodedText.text c.in_ok-byte.rest in
-    let l = c.in_ok-letter.letter.now in
+    let l = c.in_ok-facts.facts.now in
     let first = c.in_ok-byte.ensures.first ∙ ap (λ b. b ∷ rest) (sym c.from-c.ensures) in
-    let stands = c.in_ok-letter.ensures.starters c.in-Starters.is rest in record {
-      next = lone_read (cursor_reading c.args.self.now.tables.now) _ _ _ c.requires.letter c.requires.piece
-          c.from-c.result l _ rest _ _ _ first stands c.push.ensures c.if-letter-eq1.true (search rules) c.index-elements-0.is;
+    let stands = c.in_ok-facts.ensures.starters c.in-Starters.is rest in record {
+      next = lone_read (cursor_reading c.args.self.now.tables.now) _ _ _ c.requires.facts c.requires.piece
+          c.from-c.result l _ rest _ _ _ first stands c.push.ensures c.if-facts-eq1.true (search rules) c.index-elements-0.is;
     }

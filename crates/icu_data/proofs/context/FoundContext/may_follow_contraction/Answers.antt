@@ -6,4 +6,4 @@ use Rattle.icu_data.proofs.context.FoundContext.may_follow_contraction.Goals as 
 
 pub returns-then-may_follow_contraction : goal.returns-then-may_follow_contraction
 returns-then-may_follow_contraction c =
-    rw (all_entries (λ f. may_follow_contraction (kind_of f)) c.args.self.chars.now c.args.self.rows.now) (search rules)
+    rw (all_entries (λ f. may_follow_contraction (kind_of f)) c.args.self.chars.now c.args.self.mappings.now) (search rules)

@@ -6,4 +6,4 @@ use Rattle.icu_data.proofs.context.FoundContext.may_follow_prefix.Goals as goal
 
 pub returns-then-may_follow_prefix : goal.returns-then-may_follow_prefix
 returns-then-may_follow_prefix c =
-    rw (all_entries (λ f. may_follow_prefix (kind_of f)) c.args.self.chars.now c.args.self.rows.now) (search rules)
+    rw (all_entries (λ f. may_follow_prefix (kind_of f)) c.args.self.chars.now c.args.self.mappings.now) (search rules)

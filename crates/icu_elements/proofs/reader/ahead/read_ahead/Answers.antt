@@ -20,14 +20,14 @@ returns-then-is_some-clause-text g c =
     c.read_dot.ensures.text
 
 pub after_prefix-ce32-requires : goal.after_prefix-ce32-requires
-after_prefix-ce32-requires g c = prefix_inside (data_of c.entry-entry.result.home) c.args.c c.entry-entry.result.ce32 c.entry-entry.ensures.good
+after_prefix-ce32-requires g c = prefix_inside (data_of c.entry-entry.result.home) c.args.c c.entry-entry.result.ce32 c.entry-entry.ensures.well_formed
 
 pub get_context-requires : goal.get_context-requires
 get_context-requires g c =
     let home : Data = data_of c.entry-entry.result.home in
     let same = c.after_prefix-ce32.ensures in
     subst (λ n. n < length home.contexts) (sym c.index.ensures.value) (subst (λ e. entry_index e < length home.contexts) (sym same)
-    (contraction_inside home c.args.c c.entry-entry.result.ce32 c.as_slice.result.now c.entry-entry.ensures.good (sym (ap kind_of same) ∙ search rules)))
+    (contraction_inside home c.args.c c.entry-entry.result.ce32 c.as_slice.result.now c.entry-entry.ensures.well_formed (sym (ap kind_of same) ∙ search rules)))
 
 pub returns-in-Contraction-clause-text : goal.returns-in-Contraction-clause-text
 returns-in-Contraction-clause-text g c =

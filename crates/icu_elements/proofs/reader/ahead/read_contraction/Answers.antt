@@ -1,6 +1,6 @@
 use Rattle.icu_data.specs.StoredData.{found_context}
 use Rattle.icu_elements.specs.Reading.{reading_of}
-use Rattle.icu_elements.proofs.AheadLemmas.{IsMatchRead-longer, HasWholeContraction-row, HasWholeContraction-run}
+use Rattle.icu_elements.proofs.AheadLemmas.{IsMatchRead-longer, HasWholeContraction-mapping, HasWholeContraction-run}
 use Rattle.icu_elements.proofs.ReaderLemmas.{on_ok}
 use Rattle.icu_elements.proofs.ReadsAheadLemmas.{ReadsTo-weaker, ReadsTo-then}
 use Rattle.icu_elements.proofs.reader.ahead.read_contraction.Goals as goal
@@ -8,7 +8,7 @@ use Rattle.icu_elements.proofs.reader.ahead.read_contraction.Goals as goal
 pub returns-then-taken-gt0-clause-text : goal.returns-then-taken-gt0-clause-text
 returns-then-taken-gt0-clause-text g c =
     ReadsTo-weaker g.I.Iterator.next_gives _ _ _ _ _ _
-    (HasWholeContraction-row (reading_of c.args.reading) (found_context c.args.context) c.in_ok-taken.taken _ c.if-taken-gt0.true)
+    (HasWholeContraction-mapping (reading_of c.args.reading) (found_context c.args.context) c.in_ok-taken.taken _ c.if-taken-gt0.true)
     c.in_ok-taken.ensures.text
 
 pub returns-clause-text : goal.returns-clause-text

@@ -1,7 +1,7 @@
 use Rattle.std.proofs.Common.{sym}
 use Rattle.icu_data.specs.StoredData.{found_context}
 use Rattle.icu_matches.specs.Texts.{unread}
-use Rattle.icu_elements.proofs.AheadLemmas.{IsRowRead, IsRowRead-at, IsRowRead-longer, IsMatchRead-row}
+use Rattle.icu_elements.proofs.AheadLemmas.{IsMappingRead, IsMappingRead-at, IsMappingRead-longer, IsMatchRead-mapping}
 use Rattle.icu_elements.proofs.ReadsAheadLemmas.{ReadsTo-weaker, ReadsTo-then}
 use Rattle.icu_elements.proofs.reader.ahead.read_match.Goals as goal
 
@@ -10,7 +10,7 @@ returns-clause-text g c =
     let context = found_context c.args.context in
     let taken = c.longest_len-taken.result in
     let steps = g.I.Iterator.next_gives in
-    let row = IsRowRead context taken in
-    ReadsTo-weaker steps _ _ _ _ _ _ (IsMatchRead-row context taken _)
-    (ReadsTo-then steps _ row _ _ _ _ (unread c.read_rows.new.text) _ (λ more. IsRowRead-longer context taken (unread c.read_rows.new.text) more)
-    (ReadsTo-weaker steps row _ _ _ _ _ (IsRowRead-at context taken (unread c.read_rows.new.text) (sym c.longest_len-taken.ensures.longest)) c.in_ok-read_rows.ensures.text) c.in_ok-read_starter.ensures.text)
+    let mapping = IsMappingRead context taken in
+    ReadsTo-weaker steps _ _ _ _ _ _ (IsMatchRead-mapping context taken _)
+    (ReadsTo-then steps _ mapping _ _ _ _ (unread c.read_mappings.new.text) _ (λ more. IsMappingRead-longer context taken (unread c.read_mappings.new.text) more)
+    (ReadsTo-weaker steps mapping _ _ _ _ _ (IsMappingRead-at context taken (unread c.read_mappings.new.text) (sym c.longest_len-taken.ensures.longest)) c.in_ok-read_mappings.ensures.text) c.in_ok-read_starter.ensures.text)

@@ -4,4 +4,4 @@ use Rattle.icu_elements.proofs.reader.entry_step.read_number.Goals as goal
 
 pub take_number-requires-clause-decimal : goal.take_number-requires-clause-decimal
 take_number-requires-clause-decimal c =
-    match_decimal (data_of c.args.home) c.args.c c.args.found.now.ce32 c.requires.good c.requires.is_digit
+    match_decimal (data_of c.args.home) c.args.c c.args.found.now.ce32 c.requires.well_formed c.requires.is_digit

@@ -10,12 +10,12 @@ returns-in-Some c =
     ap names_of c.as_slice.ensures.value
     ∙ (ap (λ o. option_map_or (λ v. names_of v.items) o []) c.in-Some.ensures.value
     ∙ (found_names c.args.self.now.groups.entries c.in_ok-key.key
-    ∙ lists_equal c.args.self.now.collator c.has_good_tables.ensures c.args.name.now c.in_ok-key.key.items c.in_ok-key.ensures (groups_of c.args.self.now.groups.entries)
+    ∙ lists_equal c.args.self.now.collator c.has_well_formed_tables.ensures c.args.name.now c.in_ok-key.key.items c.in_ok-key.ensures (groups_of c.args.self.now.groups.entries)
     (groups_ascend c.args.self.now.groups.entries c.args.self.now.ascending) c.args.self.now.keyed))
 
 pub returns : goal.returns
 returns c =
     ap (λ o. option_map_or (λ v. names_of v.items) o []) c.in-None.ensures.value
     ∙ (found_names c.args.self.now.groups.entries c.in_ok-key.key
-    ∙ lists_equal c.args.self.now.collator c.has_good_tables.ensures c.args.name.now c.in_ok-key.key.items c.in_ok-key.ensures (groups_of c.args.self.now.groups.entries)
+    ∙ lists_equal c.args.self.now.collator c.has_well_formed_tables.ensures c.args.name.now c.in_ok-key.key.items c.in_ok-key.ensures (groups_of c.args.self.now.groups.entries)
     (groups_ascend c.args.self.now.groups.entries c.args.self.now.ascending) c.args.self.now.keyed)

@@ -10,12 +10,12 @@ invariant_of-self-2 c =
     let copied : c.in_ok-name.name.items ≡ c.args.name.now = search rules in
     let more : c.in_ok-len.len ≡ c.args.self.now.len + 1 = search rules in
     record {
-      keyed = still_keyed c.args.self.now.collator c.has_good_tables.ensures c.args.name.now c.in_ok-name.name.items c.in_ok-key.key.items copied c.in_ok-key.ensures
+      keyed = still_keyed c.args.self.now.collator c.has_well_formed_tables.ensures c.args.name.now c.in_ok-name.name.items c.in_ok-key.key.items copied c.in_ok-key.ensures
           (groups_of old) (groups_of c.add_name.new.groups.entries) (groups_ascend old c.args.self.now.ascending) c.args.self.now.keyed
           c.in_ok-add_name.ensures.ok;
       ascending = c.add_name.ensures.ascending;
       counted = more ∙ (add-one c.args.self.now.len ∙ (ap suc c.args.self.now.counted
-          ∙ sym (one_more c.args.self.now.collator c.has_good_tables.ensures c.args.name.now c.in_ok-name.name.items c.in_ok-key.key.items copied c.in_ok-key.ensures
+          ∙ sym (one_more c.args.self.now.collator c.has_well_formed_tables.ensures c.args.name.now c.in_ok-name.name.items c.in_ok-key.key.items copied c.in_ok-key.ensures
           (groups_of old) (groups_of c.add_name.new.groups.entries) (groups_ascend old c.args.self.now.ascending) c.args.self.now.keyed
           c.in_ok-add_name.ensures.ok)));
     }
@@ -24,6 +24,6 @@ pub returns-clause-ok : goal.returns-clause-ok
 returns-clause-ok c =
     let old = c.args.self.now.groups.entries in
     let copied : c.in_ok-name.name.items ≡ c.args.name.now = search rules in
-    lists_one_more c.args.self.now.collator c.has_good_tables.ensures c.args.name.now c.in_ok-name.name.items c.in_ok-key.key.items copied c.in_ok-key.ensures
+    lists_one_more c.args.self.now.collator c.has_well_formed_tables.ensures c.args.name.now c.in_ok-name.name.items c.in_ok-key.key.items copied c.in_ok-key.ensures
     (groups_of old) (groups_of c.add_name.new.groups.entries) (groups_ascend old c.args.self.now.ascending) c.args.self.now.keyed
     c.in_ok-add_name.ensures.ok

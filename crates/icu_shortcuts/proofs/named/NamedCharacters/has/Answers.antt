@@ -1,7 +1,7 @@
 -- A search finds what a list in ascending order has.
 use Rattle.std.proofs.Common.{◌≡◌, ◌∙◌, sym, subst, false, List, ℕ}
 use Rattle.icu_shortcuts.specs.Named.{may_name}
-use Rattle.icu_shortcuts.specs.RowCharacters.{has_character, Ascends}
+use Rattle.icu_shortcuts.specs.MappingCharacters.{has_character, Ascends}
 use Rattle.icu_shortcuts.proofs.NamedLemmas.{absent_by_search}
 use Rattle.icu_shortcuts.proofs.named.NamedCharacters.has.Goals as goal
 

@@ -1,9 +1,9 @@
--- The sorted list has the characters of all rows.
+-- The sorted list has the characters of all mappings.
 use Rattle.std.proofs.Common.{◌≡◌, ◌∙◌, sym, ap, false, ℕ, ◌==◌}
 use Rattle.std.proofs.lemmas.List.Sorted.{list_any-IsPermutation}
 use Rattle.icu_cuts.specs.Cuts.{is_named, is_named_by_tailoring}
 use Rattle.icu_shortcuts.specs.Named.{may_name}
-use Rattle.icu_shortcuts.specs.RowCharacters.{has_character}
+use Rattle.icu_shortcuts.specs.MappingCharacters.{has_character}
 use Rattle.icu_shortcuts.proofs.NamedLemmas.{sorted_ascends}
 use Rattle.icu_shortcuts.proofs.named.NamedCharacters.new.Goals as goal
 
@@ -18,7 +18,7 @@ returns c =
     list_any-IsPermutation (λ d. d == x) all c.sort_unstable.new.self.items c.sort_unstable.ensures.permutation ∙ absent in
     record {
       root = λ x absent.
-          ap (is_named x) (sym c.root.ensures) ∙ c.in_ok-push_named.ensures.rows x (c.in_ok-push_named_by_tailoring.ensures.keeps x (unsorted x absent));
+          ap (is_named x) (sym c.root.ensures) ∙ c.in_ok-push_named.ensures.mappings x (c.in_ok-push_named_by_tailoring.ensures.keeps x (unsorted x absent));
       tailoring = λ x absent.
-          ap (is_named_by_tailoring x) (sym c.tailoring.ensures) ∙ c.in_ok-push_named_by_tailoring.ensures.rows x (unsorted x absent);
+          ap (is_named_by_tailoring x) (sym c.tailoring.ensures) ∙ c.in_ok-push_named_by_tailoring.ensures.mappings x (unsorted x absent);
     }

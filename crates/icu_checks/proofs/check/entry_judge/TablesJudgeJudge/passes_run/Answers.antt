@@ -4,8 +4,8 @@ use Rattle.icu_entries.specs.Elements.{of_primary}
 use Rattle.icu_entries.specs.Entries.{kind_of}
 use Rattle.icu_data.specs.Data.{Data}
 use Rattle.icu_data.specs.StoredData.{data_of}
-use Rattle.icu_data.specs.declared.live_condition.LiveCondition.TheVariants.{Indices, Offsets}
-use Rattle.icu_data.specs.LiveConditions.{first_failing}
+use Rattle.icu_data.specs.declared.reachable_condition.ReachableCondition.TheVariants.{Indices, Offsets}
+use Rattle.icu_data.specs.ReachableConditions.{first_failing}
 use Rattle.icu_data.proofs.ViolationLemmas.{passes_meets}
 use Rattle.icu_provider.specs.CollatorTables.{CollatorTables}
 use Rattle.icu_provider.specs.TableSets.{tables_in}

@@ -3,7 +3,7 @@ use Rattle.icu_data.specs.StoredData.{data_of}
 use Rattle.icu_data.specs.Violations.{earlier}
 use Rattle.icu_provider.specs.TableSets.{tables_in}
 use Rattle.icu_checks.specs.inner.Violations.{violation_rank}
-use Rattle.icu_checks.specs.inner.EntryViolations.{rows_violation}
+use Rattle.icu_checks.specs.inner.EntryViolations.{mappings_violation}
 use Rattle.icu_checks.proofs.EntryViolationLemmas.{without_own}
 use Rattle.icu_checks.proofs.check.entry_judge.TablesJudgeJudge.violation.Goals as goal
 
@@ -12,6 +12,6 @@ returns-in-None c =
     let all = tables_in c.args.self.now.tables in
     let home = data_of c.args.home in
     c.earlier.ensures
-    ∙ ap (λ rows. earlier violation_rank rows c.elements_violation.result) c.rows_violation.ensures
-    ∙ ap (earlier violation_rank (rows_violation all home c.args.entry)) c.elements_violation.ensures
+    ∙ ap (λ mappings. earlier violation_rank mappings c.elements_violation.result) c.mappings_violation.ensures
+    ∙ ap (earlier violation_rank (mappings_violation all home c.args.entry)) c.elements_violation.ensures
     ∙ sym (without_own all c.args.self.now.table home c.args.c c.args.entry (sym c.first_failing.ensures ∙ c.in-None.is))

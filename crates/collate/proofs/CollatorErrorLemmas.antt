@@ -1,0 +1,17 @@
+-- What a refused collator says of its tables.
+use Rattle.std.proofs.Common.{◌≡◌, ℕ, List, string_bytes, Result, Ok, IfOk, subst}
+use Rattle.collate_commands.specs.CollatorErrors.{IsCollatorError}
+use Rattle.collate_commands.specs.declared.program_error.ProgramError.{ProgramError}
+use Rattle.collate_commands.specs.declared.program_error.ProgramError.TheVariants.{WrongWords, NoMemory, Refused, ReadFailed, WriteFailed}
+
+-- what each line says of its cause holds of the error
+pub error_says : (P Q : List ℕ → Type 0) → ((line : List ℕ) → P line → Q line) → (error : ProgramError) → IsCollatorError P error → IsCollatorError Q error
+error_says P Q f WrongWords is = is
+error_says P Q f NoMemory is = is
+error_says P Q f (Refused line) is = f (string_bytes line) is
+error_says P Q f ReadFailed is = is
+error_says P Q f WriteFailed is = is
+
+-- what holds of each value holds of the one that there is
+pub of_ok : {T E : Type 0} (P : T → Type 0) (r : Result T E) (t : T) → IfOk r P → r ≡ Ok t → P t
+of_ok P r t holds is = subst (λ v. IfOk v P) is holds

@@ -1,0 +1,117 @@
+//! The first violation of all that is reachable in a collator's tables.
+ghost use Rattle.std.specs.Prelude.{◌≡◌, ◌+◌, ◌<◌, None, Some, IfSome, slice_index, length};
+ghost use Rattle.icu_provider.specs.StoredTables.{jamo_of, diacritics_of};
+ghost use Rattle.icu_provider.specs.TableSets.{tables_in};
+ghost use Rattle.icu_checks.specs.inner.Violations.{IsTrueViolation};
+ghost use Rattle.icu_checks.specs.inner.EntryViolations.{JamoPasses, MeetsIn, DiacriticMeets, ReachableMeets};
+
+use crate::check::entry_judge::{TablesJudge, element_violation, implicit_passes};
+use crate::check::lookups::jamo_char;
+use crate::violation::Violation;
+use icu_data::violation::{earlier, first_violation, first_violation_from};
+use icu_entries::{CollationElement, CollationElement32, DataTable};
+use icu_provider::TableSet;
+use icu_provider::diacritics::is_replaced_index;
+
+fn root_violation(tables: TableSet<'_>) -> Option<Violation>
+    ensures none { result ≡ None → MeetsIn DataTable.Root (tables_in tables.entry) }
+    ensures some { IfSome result (IsTrueViolation (tables_in tables.entry)) }
+{
+    let judge = TablesJudge {
+        tables,
+        table: DataTable::Root,
+        implicit_passes: implicit_passes(tables),
+    };
+    first_violation(&judge, None, tables.root, false)
+}
+
+fn tailoring_violation(tables: TableSet<'_>) -> Option<Violation>
+    ensures none { result ≡ None → MeetsIn DataTable.Tailoring (tables_in tables.entry) }
+    ensures some { IfSome result (IsTrueViolation (tables_in tables.entry)) }
+{
+    match tables.tailoring {
+        Some(tailoring) => {
+            let judge = TablesJudge {
+                tables,
+                table: DataTable::Tailoring,
+                implicit_passes: implicit_passes(tables),
+            };
+            first_violation(&judge, None, tailoring, true)
+        }
+        None => None,
+    }
+}
+
+/// The first violation of what is reachable with one of the conjoining jamo.
+fn violation_of_jamo(
+    tables: TableSet<'_>,
+    place: usize,
+    entry: CollationElement32,
+) -> Option<Violation>
+    requires inside { place < 256 }
+    requires entry { entry ≡ slice_index (jamo_of tables.jamo) place }
+    ensures none { result ≡ None → JamoPasses (tables_in tables.entry) place }
+    ensures some { IfSome result (IsTrueViolation (tables_in tables.entry)) }
+{
+    let judge = TablesJudge {
+        tables,
+        table: DataTable::Jamo,
+        // of one entry and those that it leads to, there is nothing to pass over
+        implicit_passes: false,
+    };
+    match jamo_char(place) {
+        Some(c) => first_violation_from(&judge, None, tables.root, c, entry),
+        None => None,
+    }
+}
+
+fn jamo_violation(tables: TableSet<'_>) -> Option<Violation>
+    ensures none { result ≡ None → MeetsIn DataTable.Jamo (tables_in tables.entry) }
+    ensures some { IfSome result (IsTrueViolation (tables_in tables.entry)) }
+{
+    let mut first = None;
+    for (place, entry) in tables.jamo.ce32s().iter().enumerate() {
+        first = earlier(
+            first,
+            violation_of_jamo(tables, place, CollationElement32::new(*entry)),
+        );
+    }
+    first
+}
+
+/// The violation of the element of a diacritic.
+fn diacritic_violation(tables: TableSet<'_>, place: usize, secondary: u16) -> Option<Violation>
+    requires inside { place < length (diacritics_of tables.diacritics) }
+    requires secondary { secondary ≡ slice_index (diacritics_of tables.diacritics) place }
+    ensures none { result ≡ None → DiacriticMeets (tables_in tables.entry) place }
+    ensures some { IfSome result (IsTrueViolation (tables_in tables.entry)) }
+{
+    if is_replaced_index(place) {
+        None
+    } else {
+        let element = CollationElement::new_from_secondary(secondary);
+        element_violation(tables, DataTable::Diacritics, element)
+    }
+}
+
+/// The first violation of the elements of diacritics that decomposed texts have.
+fn diacritics_violation(tables: TableSet<'_>) -> Option<Violation>
+    ensures none { result ≡ None → MeetsIn DataTable.Diacritics (tables_in tables.entry) }
+    ensures some { IfSome result (IsTrueViolation (tables_in tables.entry)) }
+{
+    let mut first = None;
+    for (place, secondary) in tables.diacritics.secondaries().iter().enumerate() {
+        first = earlier(first, diacritic_violation(tables, place, *secondary));
+    }
+    first
+}
+
+/// The first violation of all that is reachable.
+pub(crate) fn reachable_violation(tables: TableSet<'_>) -> Option<Violation>
+    ensures none { result ≡ None → ReachableMeets (tables_in tables.entry) }
+    ensures some { IfSome result (IsTrueViolation (tables_in tables.entry)) }
+{
+    let of_root = earlier(root_violation(tables), jamo_violation(tables));
+    let of_others = earlier(tailoring_violation(tables), diacritics_violation(tables));
+    earlier(of_root, of_others)
+}

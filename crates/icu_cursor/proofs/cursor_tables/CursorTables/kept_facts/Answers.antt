@@ -1,0 +1,15 @@
+use Rattle.std.proofs.Common.{Bor}
+use Rattle.icu_shortcuts.specs.declared.char_facts.CharFacts.{CharFacts}
+use Rattle.icu_shortcuts.specs.KeptFacts.{AreTrueFacts}
+use Rattle.icu_cursor.specs.Cursors.{cursor_reading}
+use Rattle.icu_cursor.specs.inner.Standing.{Serves}
+use Rattle.icu_cursor.proofs.StandLemmas.{serves, Serves-prop, found}
+use Rattle.icu_cursor.proofs.cursor_tables.CursorTables.kept_facts.Goals as goal
+
+pub returns : goal.returns
+unfolding cursor_reading
+returns c =
+    let reading = cursor_reading c.args.self.now in
+    let is : Bor CharFacts → Type 0 = λ l. AreTrueFacts reading c.args.c l.now in
+    let does : Bor CharFacts → Type 0 = λ l. Serves reading c.args.c l.now in
+    found c.args.self.now.facts_by c.get.result is does (λ l. Serves-prop reading c.args.c l.now) (λ l. serves reading c.args.c l.now) (c.get.ensures.known reading)

@@ -1,0 +1,86 @@
+//! The elements of a character, one by one.
+
+ghost use Rattle.std.specs.Prelude.{◌≡◌, ◌≤◌, [], ◌++◌, None, IsTrue, drop, option_to_list};
+ghost use Rattle.icu_shortcuts.specs.KeptFacts.{char_elements};
+
+use icu_entries::CollationElement;
+use icu_shortcuts::CharFacts;
+
+/// The elements of a character that were not given yet.
+#[derive(Debug, Clone, Copy)]
+pub(crate) struct CharElements {
+    elements: [CollationElement; 3],
+    count: u8,
+    next: u8,
+    ghost at_most_three: { count ≤ 3 },
+}
+
+impl CharElements {
+    ghost use Rattle.icu_cursor.specs.inner.Ready.{elements_ready};
+
+    /// None.
+    #[tactic(auto, unfolding(crate::specs::inner::Ready::elements_ready))]
+    pub(crate) fn none() -> CharElements
+        ensures { elements_ready result ≡ [] }
+    {
+        CharElements {
+            elements: [CollationElement::default(); 3],
+            count: 0,
+            next: 0,
+        }
+    }
+
+    /// Those of a character after its first.
+    #[inline(always)]
+    #[tactic(auto, unfolding(crate::specs::inner::Ready::elements_ready))]
+    fn after_first(facts: &CharFacts) -> CharElements
+        ensures { elements_ready result ≡ drop 1 (char_elements facts.now) }
+    {
+        CharElements {
+            elements: facts.elements,
+            count: facts.count,
+            next: 1,
+        }
+    }
+
+    /// The first element of a character, where none of another is left. The others are kept.
+    #[inline(always)]
+    pub(crate) fn begin(&mut self, facts: &CharFacts) -> Option<CollationElement>
+        requires { elements_ready self.old ≡ [] }
+        ensures { char_elements facts.now ≡ option_to_list result ++ elements_ready self.new }
+    {
+        if facts.count == 0 {
+            return None;
+        }
+        let elements = &facts.elements[..];
+        let first = elements[0];
+        if facts.count == 1 {
+            return Some(first);
+        }
+        *self = CharElements::after_first(facts);
+        Some(first)
+    }
+
+    /// Whether none is left.
+    #[inline(always)]
+    pub(crate) fn is_empty(&self) -> bool
+        ensures { IsTrue result → elements_ready self.now ≡ [] }
+    {
+        self.next >= self.count
+    }
+
+    /// The first of them, which is given.
+    #[inline(always)]
+    pub(crate) fn take_first(&mut self) -> Option<CollationElement>
+        ensures next { elements_ready self.old ≡ option_to_list result ++ elements_ready self.new }
+        ensures end { result ≡ None → elements_ready self.old ≡ [] }
+    {
+        if self.next >= self.count {
+            return None;
+        }
+        let elements = &self.elements[..];
+        let element = elements[self.next as usize];
+        self.next += 1;
+        Some(element)
+    }
+}
