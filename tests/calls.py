@@ -16,10 +16,10 @@ KEY, CHECK, FILE, READ = "`key`", "`check`", "`root`", "`next` and `whole`"
 PROGRAM, TYPES = "the program `collate-cldr`", "`test_types`"
 # The crate and the name of a call, and the question of the driver that comes to it, or what else makes it.
 LEFT_OUT = {
-    ("icu_data", "collect_weights"): CHECK,
-    ("icu_data", "collect_weights_from"): CHECK,
+    ("icu_collation_data", "collect_weights"): CHECK,
+    ("icu_collation_data", "collect_weights_from"): CHECK,
     ("icu_checks", "from_owned"): PROGRAM,
-    ("icu_comparison", "try_from_tables"): PROGRAM,
+    ("icu_collator", "try_from_tables"): PROGRAM,
     ("icu_small_tables", "checked_small_tables"): TYPES,
     ("icu_weights", "first_overlap"): CHECK,
     ("icu_weights", "first_common_overlap"): CHECK,
@@ -34,11 +34,11 @@ LEFT_OUT = {
     ("icu_text_keys", "push_shifted"): KEY,
     ("icu_text_keys", "close"): KEY,
     ("icu_text_keys", "write_key"): KEY,
-    ("icu_fractional", "parse_all"): "`line`",
-    ("icu_owned_data", "add_elements"): FILE,
-    ("icu_owned_data", "add_entries"): FILE,
-    ("icu_owned_data", "add_context"): FILE,
-    ("icu_owned_data", "build"): FILE,
+    ("icu_cldr", "parse_all"): "`line`",
+    ("icu_table_builder", "add_elements"): FILE,
+    ("icu_table_builder", "add_entries"): FILE,
+    ("icu_table_builder", "add_context"): FILE,
+    ("icu_table_builder", "build"): FILE,
 }
 
 

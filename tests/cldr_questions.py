@@ -2,7 +2,7 @@
 import collections
 
 from driver import text
-from row_questions import Case, is_printed, row_parts
+from row_questions import Case, is_printed, mapping_parts
 
 # What each file begins with: without these lines none is read.
 FIRST_LINES = """# a small file
@@ -15,7 +15,7 @@ FDD1 20AC; [0D 89 02, 05, 05]
 FDD1 0034; [0E 02 02, 05, 05]
 FDD0 0034; [0F, 05, 05]
 """ + "".join(f"{0x300 + at:04X}; [, {0x46 + at:02X}, 05]\n" for at in range(79))
-DATA = ["ces", "ce32s", "contexts", "rows", "chars"]
+DATA = ["ces", "ce32s", "contexts", "mappings", "chars"]
 Lists = collections.namedtuple("Lists", DATA)
 
 
@@ -60,7 +60,7 @@ def context_printed(entry, lists):
     if not what:
         return ""
     at = 3 * (entry >> 13)
-    default, parts = row_parts(lists.contexts[at : at + 3], lists.rows, lists.chars)
+    default, parts = mapping_parts(lists.contexts[at : at + 3], lists.mappings, lists.chars)
     printed = [" ".join(f"{it:04X}" for it in before) + f"={member_printed(entry, lists)}" for before, entry in parts]
     return " ".join([what, member_printed(default, lists), *printed])
 

@@ -3,7 +3,7 @@ random numbers, which the caller seeds."""
 
 # The lead bytes of the separator, of variable characters, of numbers and digits, of letters, of implicit weights and the highest.
 LEADS = [0x00, 0x01, 0x02, 0x03, 0x0F, 0x14, 0x61, 0x62, 0x7F, 0xFE, 0xFF]
-# What a place in the characters of rows is changed to: letters, marks, the last code point.
+# What a place in the characters of mappings is changed to: letters, marks, the last code point.
 ROW_CHARACTERS = [0x61, 0x62, 0x6C, 0x301, 0x323, 0x10FFFF]
 ENTRIES = [0xCF, 0xCF, 0xC0, 0xC3, 0xCE, 0x86, 0xBF, 0x02000505, 0xFE100505, 0x61FF0505, 0x0F100505, 0x960005C2]
 ELEMENTS = [0x46000500, 0x46100500, 0x0500, 0x1C06, 0x7010FE000003B184, 0x6210000005001C06]
@@ -66,7 +66,7 @@ def damage_contexts(dice, fields, table):
     if sort == 0:
         damage_list(dice, fields, table + "contexts", [entry(dice), dice.randrange(3), dice.randrange(3)])
     elif sort == 1:
-        damage_list(dice, fields, table + "rows", [dice.randrange(3), dice.randrange(4), entry(dice)])
+        damage_list(dice, fields, table + "mappings", [dice.randrange(3), dice.randrange(4), entry(dice)])
     else:
         damage_list(dice, fields, table + "chars", [dice.choice(ROW_CHARACTERS)])
 

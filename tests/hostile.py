@@ -40,7 +40,7 @@ COLLATORS = [
     ("double l", "2 0 3 0 0 0"),
     ("b after a", "0 0 3 0 0 0"),
     ("swapped leads", "4 0 3 0 0 0"),
-    ("two rows", "4 0 3 0 0 1"),
+    ("two mappings", "4 0 3 0 0 1"),
     ("c after ab", "3 1 3 0 0 0"),
     ("backward", "4 1 3 1 0 0"),
     ("high currency", "4 2 3 0 0 0"),

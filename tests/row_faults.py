@@ -68,7 +68,7 @@ PLANTED = [
     ("a request that is made twice", "requests.txt", "request - -", lambda it: it.replace("Jamo", "Jamo Jamo")),
     ("diacritics without their type", "requests.txt", "request", lambda it: it.replace("Diacritics+type", "Diacritics")),
     ("a cut line that says more", "cldr/lines.txt", "line", says_more),
-    ("a context that loses a row", "cldr/entries.txt", "show rows", lambda it: " ".join(it.split()[3:])),
+    ("a context that loses a mapping", "cldr/entries.txt", "show mappings", lambda it: " ".join(it.split()[3:])),
     ("a lead byte that compresses", "cldr/tables.txt", "compressible", lambda it: "true"),
     ("implicit weights that don't compress", "cldr/tables.txt", "compressible FE", lambda it: "false"),
     ("jamo that are left out from U+11F0 on", "cldr/tables.txt", "show jamo", without_last_jamo),

@@ -195,7 +195,7 @@ def values(every, row):
     if what == "lengths":
         return shown(setup, table, ["blocks", "values", "ces", "ce32s", "contexts"], lengths, wanted)
     if what == "context":
-        names = ["contexts", "rows", "chars"]
+        names = ["contexts", "mappings", "chars"]
         return shown(setup, table, names, lambda *lists: context(*lists, int(rest[0])), wanted)
     name, digits = {"ce": ("ces", 16), "ce32": ("ce32s", 8), "jamo": ("jamo", 8), "diacritic": ("diacritics", 4)}[what]
     return shown(setup, table, [name], lambda members: f"{members[int(rest[0])]:0{digits}X}", wanted)
@@ -230,16 +230,16 @@ def lengths(blocks, values, ces, ce32s, contexts):
     return " ".join(str(it) for it in (len(blocks), len(values), len(ces), len(ce32s), len(contexts) // 3))
 
 
-def row_parts(context, rows, chars):
-    """The default of a context, and the characters and the entry of each of its rows."""
+def mapping_parts(context, mappings, chars):
+    """The default of a context, and the characters and the entry of each of its mappings."""
     default, start, count = context
-    three = [rows[at : at + 3] for at in range(3 * start, 3 * (start + count), 3)]
+    three = [mappings[at : at + 3] for at in range(3 * start, 3 * (start + count), 3)]
     return default, [(chars[first : first + length], entry) for first, length, entry in three]
 
 
-def context(contexts, rows, chars, at):
-    """A context: its default, and its rows."""
-    default, parts = row_parts(contexts[3 * at : 3 * at + 3], rows, chars)
+def context(contexts, mappings, chars, at):
+    """A context: its default, and its mappings."""
+    default, parts = mapping_parts(contexts[3 * at : 3 * at + 3], mappings, chars)
     printed = ["".join(f"{{{it:X}}}" for it in before) + f":{entry:08X}" for before, entry in parts]
     return " ".join([f"{default:08X}", *printed])
 

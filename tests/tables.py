@@ -1,13 +1,13 @@
 """The tables of Mini and of its variants, as lists of numbers that a test may change, and the changes that rows write.
 
-The lists have the names of the driver's fields. A context is three numbers: its default, where its rows begin, and how many they
-are; a row is three: where its characters begin, how many they are, and its entry.
+The lists have the names of the driver's fields. A context is three numbers: its default, where its mappings begin, and how many they
+are; a mapping is three: where its characters begin, how many they are, and its entry.
 """
 from driver import characters, numbers, written
 
-BASES = ["Mini", "backward", "Lithuanian", "a ring", "double l", "b after a", "offsets", "sharp s", "swapped leads", "two rows",
+BASES = ["Mini", "backward", "Lithuanian", "a ring", "double l", "b after a", "offsets", "sharp s", "swapped leads", "two mappings",
          "c after ab", "jamo list", "kana", "high currency", "secondary alone", "tertiary alone", "split lead"]
-DATA = ["blocks", "values", "ces", "ce32s", "chars", "contexts", "rows"]
+DATA = ["blocks", "values", "ces", "ce32s", "chars", "contexts", "mappings"]
 TAILORING = [f"tailoring.{it}" for it in DATA]
 REORDERING = ["reordering.leads", "reordering.ranges", "reordering.limit"]
 FIELDS = [*DATA, *TAILORING, "jamo", "diacritics", "last", "numeric", "metadata", *REORDERING]
@@ -153,11 +153,11 @@ def change_data(fields, table, what, *words):
         set_list(lists, code(words[0]), listed(words[1:]), *{"elements": ("ces", 0xC6), "entries": ("ce32s", 0xC5)}[what])
     elif what == "context":
         add_context(lists, number(words[0]), words[1:])
-    elif what in ("stored-context", "stored-row"):
+    elif what in ("stored-context", "stored-mapping"):
         three = [number(it) for it in words]
         if len(three) != 3:
             raise ValueError(words)
-        lists[{"stored-context": "contexts", "stored-row": "rows"}[what]] += three
+        lists[{"stored-context": "contexts", "stored-mapping": "mappings"}[what]] += three
     else:
         raise ValueError(what)
 
@@ -179,11 +179,11 @@ def set_list(lists, c, members, name, tag):
     set_entry(lists, c, start << 13 | len(members) << 8 | tag)
 
 
-def add_context(lists, default, rows):
-    """Adds a context with its rows, each characters, a colon and an entry."""
-    context = [default, len(lists["rows"]) // 3, len(rows)]
-    for row in rows:
-        before, _, entry = row.partition(":")
-        lists["rows"] += [len(lists["chars"]), len(codes(before)), number(entry)]
+def add_context(lists, default, mappings):
+    """Adds a context with its mappings, each characters, a colon and an entry."""
+    context = [default, len(lists["mappings"]) // 3, len(mappings)]
+    for mapping in mappings:
+        before, _, entry = mapping.partition(":")
+        lists["mappings"] += [len(lists["chars"]), len(codes(before)), number(entry)]
         lists["chars"] += codes(before)
     lists["contexts"] += context

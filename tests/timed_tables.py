@@ -9,7 +9,7 @@ from timing import RUNS, Slowed, least_times
 # store, and how often all are measured at most, since other work slows a machine down for a while.
 CHECKS, DEARER, ATTEMPTS = 60, 10, 3
 BLOCK, CODES = 64, 0x110000
-DATA = ["blocks", "values", "ces", "ce32s", "chars", "contexts", "rows"]
+DATA = ["blocks", "values", "ces", "ce32s", "chars", "contexts", "mappings"]
 
 
 class Builder:
@@ -17,7 +17,7 @@ class Builder:
     another. Blocks of 64 equal entries are stored once."""
 
     def __init__(self, others):
-        self.entries, self.ces, self.ce32s, self.contexts, self.rows, self.chars = [others] * CODES, [], [], [], [], []
+        self.entries, self.ces, self.ce32s, self.contexts, self.mappings, self.chars = [others] * CODES, [], [], [], [], []
 
     def set_entry(self, c, entry):
         self.entries[c] = entry
@@ -25,12 +25,12 @@ class Builder:
     def set_entries(self, first, last, entry):
         self.entries[first : last + 1] = [entry] * (last + 1 - first)
 
-    def add_context(self, default, rows):
-        """Adds a context, and returns its index: an entry for all texts but those of its rows, and the rows, each a list of
+    def add_context(self, default, mappings):
+        """Adds a context, and returns its index: an entry for all texts but those of its mappings, and the mappings, each a list of
         characters and its entry."""
-        self.contexts += [default, len(self.rows) // 3, len(rows)]
-        for characters, entry in rows:
-            self.rows += [len(self.chars), len(characters), entry]
+        self.contexts += [default, len(self.mappings) // 3, len(mappings)]
+        for characters, entry in mappings:
+            self.mappings += [len(self.chars), len(characters), entry]
             self.chars += characters
         return len(self.contexts) // 3 - 1
 
@@ -39,7 +39,7 @@ class Builder:
         for first in range(0, CODES, BLOCK):
             blocks.append(found.setdefault(tuple(self.entries[first : first + BLOCK]), len(found)))
         values = [entry for block in found for entry in block]
-        return dict(zip(DATA, (blocks, values, self.ces, self.ce32s, self.chars, self.contexts, self.rows)))
+        return dict(zip(DATA, (blocks, values, self.ces, self.ce32s, self.chars, self.contexts, self.mappings)))
 
     def questions(self, table=""):
         """What makes this the driver's root, or its tailoring."""
@@ -52,7 +52,7 @@ class Builder:
 
 # ---- hostile tables
 
-LISTED, ROWED = 0x1FC6, 0xC9
+LISTED, MAPPED = 0x1FC6, 0xC9
 
 
 def unlike_primary(lead, number):
@@ -83,16 +83,16 @@ def of_lists():
     return builder
 
 
-def of_rows(count):
-    """A root in which all characters have one contraction of so many rows."""
-    builder = Builder(ROWED)
+def of_mappings(count):
+    """A root in which all characters have one contraction of so many mappings."""
+    builder = Builder(MAPPED)
     builder.add_context(unlike_entry(0x31, 0), [([0x20000 + number], unlike_entry(0x30, number)) for number in range(count)])
     return builder
 
 
-def of_listed_rows():
-    """A root in which all characters have one contraction whose default and three rows are lists of 31 unlike elements."""
-    builder = Builder(ROWED)
+def of_listed_mappings():
+    """A root in which all characters have one contraction whose default and three mappings are lists of 31 unlike elements."""
+    builder = Builder(MAPPED)
     builder.ces = unlike_elements(4 * 31)
     builder.add_context(list_entry(0), [([0x20000 + number], list_entry(number + 1)) for number in range(3)])
     return builder
@@ -105,11 +105,11 @@ OFFSET_ENTRY, OFFSET_ELEMENT = 0xCE, 0xA002_0200_0034_0001
 IDEOGRAPHS = [(0x3400, 0x4DBF), (0x4E00, 0x9FFF), (0x20000, 0x2A6DF), (0x2A700, 0x2EBE0), (0x30000, 0x3134A)]
 # The characters of other scripts. Each sixth has an entry of its own.
 SCRIPTS = [range(0x100, 0x3400), range(0x10000, 0x17000), range(0x1D000, 0x1E000)]
-ROW_CHARACTERS = [ord(it) for it in "abcdefghijklmnopq"]
+MAPPED_CHARACTERS = [ord(it) for it in "abcdefghijklmnopq"]
 
 
 def root_like_cldr():
-    """A root of 7,600 entries, 1,140 elements in lists, 64 contexts with 1,088 rows, and 93,000 ideographs by an offset entry, in
+    """A root of 7,600 entries, 1,140 elements in lists, 64 contexts with 1,088 mappings, and 93,000 ideographs by an offset entry, in
     some 720 blocks."""
     builder = Builder(0xCF)
     builder.ces = [OFFSET_ELEMENT]
@@ -132,9 +132,9 @@ def set_char(builder, c):
         builder.set_entry(c, len(builder.ces) << 13 | 0x3C6)
         builder.ces += [unlike_primary(0x22, it) << 32 | 0x0500_0500 for it in range(first, first + 3)]
     elif sort == 2 and number % 119 == 0:
-        of_row = [unlike_entry(0x23, number // 119 * 17 + place) for place in range(17)]
-        rows = [([letter], entry) for letter, entry in zip(ROW_CHARACTERS, of_row)]
-        builder.set_entry(c, builder.add_context(unlike_entry(0x24, number // 119), rows) << 13 | ROWED)
+        of_mapping = [unlike_entry(0x23, number // 119 * 17 + place) for place in range(17)]
+        mappings = [([letter], entry) for letter, entry in zip(MAPPED_CHARACTERS, of_mapping)]
+        builder.set_entry(c, builder.add_context(unlike_entry(0x24, number // 119), mappings) << 13 | MAPPED)
 
 
 def tailoring_like_cldr():
@@ -188,9 +188,9 @@ def check_times(report, driver):
     """Small hostile tables, whose checks are held against Mini's, and large good ones, of which the times are printed alone."""
     hostile = [
         TimedTables("lists", "Mini", of_lists()),
-        TimedTables("rows", "Mini", of_rows(100)),
-        TimedTables("listed-rows", "Mini", of_listed_rows()),
-        TimedTables("many-rows", "Mini", of_rows(0x10000)),
+        TimedTables("mappings", "Mini", of_mappings(100)),
+        TimedTables("listed-mappings", "Mini", of_listed_mappings()),
+        TimedTables("many-mappings", "Mini", of_mappings(0x10000)),
     ]
     root = root_like_cldr()
     large = [TimedTables("root", "Mini", root), TimedTables("tailored", "swapped leads", root, tailoring_like_cldr())]

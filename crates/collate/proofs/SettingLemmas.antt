@@ -14,7 +14,7 @@ use Rattle.icu_options.specs.declared.settings.CollationNumericOrdering.{Collati
 use Rattle.icu_options.specs.declared.settings.MaxVariable.TheVariants.{Punctuation}
 use Rattle.icu_provider.specs.CollatorTables.{CollatorTables}
 use Rattle.icu_mini.specs.declared.mini.Mini.{Mini}
-use Rattle.icu_order.specs.Collations.{Collation}
+use Rattle.icu_text_order.specs.Collations.{Collation}
 use Rattle.collate.specs.Answers.{ComparesBy, mini_tables}
 
 -- options that set a strength alone

@@ -8,7 +8,7 @@ use Rattle.icu_options.specs.declared.settings.MaxVariable.TheVariants.{Punctuat
 use Rattle.icu_provider.specs.CollatorTables.{CollatorTables}
 use Rattle.icu_mini.specs.declared.mini.Mini.{Mini}
 use Rattle.icu_mini.specs.Mini.{IsMini, collator_tables, special_held}
-use Rattle.icu_order.specs.Collations.{Collation}
+use Rattle.icu_text_order.specs.Collations.{Collation}
 
 -- all of Mini's tables: its metadata names neither a tailoring nor a reordering
 abbrev pub mini_tables : Mini → CollatorTables

@@ -1,13 +1,13 @@
 //! Mini's tables as a source of collators.
 ghost use Rattle.std.specs.Prelude.{◌≡◌, IfOk, IfErr};
 ghost use Rattle.icu_checks.specs.WellFormedTables.{IsWellFormedTables};
-ghost use Rattle.icu_comparison.specs.Collators.{collation_kept, tables_kept};
+ghost use Rattle.icu_collator.specs.Collators.{collation_kept, tables_kept};
 ghost use Rattle.collate_commands.specs.CollatorErrors.{IsCollatorError};
 ghost use Rattle.collate.specs.Answers.{mini_compares};
 ghost use Rattle.collate.specs.MiniErrors.{IsForCause, mini_refuses};
 
 use collate_commands::{CollatorSource, ProgramError};
-use icu_comparison::Collator;
+use icu_collator::Collator;
 use icu_entries::{DataError, DataErrorKind};
 use icu_mini::mini::Mini;
 use icu_options::{CollatorOptions, CollatorPreferences, Strength};

@@ -13,7 +13,7 @@ use Rattle.icu_options.specs.declared.settings.CollationCaseFirst.TheVariants as
 use Rattle.icu_options.specs.declared.settings.CollationNumericOrdering.{CollationNumericOrdering}
 use Rattle.icu_options.specs.declared.settings.MaxVariable.TheVariants.{Punctuation}
 use Rattle.icu_options.specs.declared.settings.Strength.{Strength}
-use Rattle.icu_order.specs.Collations.{Collation}
+use Rattle.icu_text_order.specs.Collations.{Collation}
 use Rattle.collate_cldr.specs.Files.{chosen_settings}
 use Rattle.collate_cldr.specs.declared.choice.Chosen.{Chosen}
 

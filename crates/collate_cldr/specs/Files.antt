@@ -7,7 +7,7 @@ use Rattle.icu_options.specs.declared.settings.Strength.{Strength}
 use Rattle.icu_options.specs.declared.settings.AlternateHandling.TheVariants.{NonIgnorable}
 use Rattle.icu_options.specs.declared.settings.CollationCaseFirst.TheVariants as case_first
 use Rattle.icu_options.specs.declared.settings.MaxVariable.TheVariants.{Punctuation}
-use Rattle.icu_order.specs.Collations.{Collation}
+use Rattle.icu_text_order.specs.Collations.{Collation}
 use Rattle.collate_cldr.specs.declared.choice.Chosen.{Chosen}
 
 -- the settings that were chosen, at a strength, and those of the root where none was

@@ -2,14 +2,14 @@
 ghost use Rattle.std.specs.Prelude.{◌≡◌, ◌++◌, ◌∷◌, [], codes, string_bytes, IfOk, IfErr};
 ghost use Rattle.icu_cldr.specs.Roots.{IsRoot, root_tables};
 ghost use Rattle.icu_checks.specs.WellFormedTables.{IsWellFormedTables};
-ghost use Rattle.icu_comparison.specs.Collators.{collation_kept, tables_kept};
+ghost use Rattle.icu_collator.specs.Collators.{collation_kept, tables_kept};
 ghost use Rattle.collate_commands.specs.CollatorErrors.{IsCollatorError};
 ghost use Rattle.collate_cldr.specs.Files.{ComparesAs, IsLineOf};
 
 use crate::choice::Chosen;
 use collate_commands::{CollatorSource, ProgramError};
 use icu_cldr::{CldrRoot, ReadError, read_root};
-use icu_comparison::Collator;
+use icu_collator::Collator;
 use icu_entries::{DataError, DataErrorKind};
 use icu_options::Strength;
 use std::alloc::{AllocError, Global};

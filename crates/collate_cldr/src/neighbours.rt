@@ -1,6 +1,6 @@
 //! Whether lines are in order, as those of CLDR's test files should be.
 use collate_commands::ProgramError;
-use icu_comparison::Collator;
+use icu_collator::Collator;
 use std::alloc::{AllocError, Global};
 use std::cmp::Ordering;
 use std::io::{self, BufRead, BufReader, ErrorKind, Read};

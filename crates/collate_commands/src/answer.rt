@@ -1,10 +1,10 @@
 //! The answer to a command, by a collator.
 ghost use Rattle.std.specs.Prelude.{◌≡◌, ℕ, List, IfOk, IfErr, ◌++◌, ◌∷◌, [], chars, map};
 ghost use Rattle.icu_checks.specs.WellFormedTables.{IsWellFormedTables};
-ghost use Rattle.icu_comparison.specs.Collators.{collation_kept, tables_kept};
+ghost use Rattle.icu_collator.specs.Collators.{collation_kept, tables_kept};
 ghost use Rattle.icu_index.specs.Listings.{listing_of, name_order};
 ghost use Rattle.icu_index.specs.NameIndexes.{index_collation, listing};
-ghost use Rattle.icu_order.specs.TextOrder.{text_key};
+ghost use Rattle.icu_text_order.specs.TextOrder.{text_key};
 ghost use Rattle.collate_commands.specs.Answers.{IsAnswerBy, SortsLines, sign_of};
 ghost use Rattle.collate_commands.specs.inner.Asked.{asked};
 ghost use Rattle.collate_commands.specs.InputLines.{lines_text};
@@ -13,10 +13,10 @@ ghost use Rattle.collate_commands.specs.CollatorErrors.{IsUnanswered, IsUnread};
 ghost use Rattle.collate_commands.specs.inner.Shown.{shown};
 
 use crate::command::Command;
-use crate::program_error::ProgramError;
 use crate::key_line::key_line;
 use crate::lines::{lines, read_whole};
-use icu_comparison::Collator;
+use crate::program_error::ProgramError;
+use icu_collator::Collator;
 use icu_index::NameIndex;
 use icu_index::laws::inserts_sort;
 use std::alloc::{AllocError, Global};

@@ -5,15 +5,15 @@
 mod answer;
 pub mod arguments;
 mod command;
-pub mod program_error;
 mod key_line;
 mod lines;
 pub mod program;
+pub mod program_error;
 pub mod source;
 mod writing;
 
 pub use arguments::{Input, words};
 pub use command::strength_named;
-pub use program_error::{ProgramError, Wording};
 pub use program::{report, run};
+pub use program_error::{ProgramError, Wording};
 pub use source::CollatorSource;

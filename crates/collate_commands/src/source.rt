@@ -1,13 +1,13 @@
 //! Where the collators of a program come from.
 ghost use Rattle.std.specs.Prelude.{IfOk, IfErr, ℕ, List};
 ghost use Rattle.icu_checks.specs.WellFormedTables.{IsWellFormedTables};
-ghost use Rattle.icu_comparison.specs.Collators.{collation_kept, tables_kept};
+ghost use Rattle.icu_collator.specs.Collators.{collation_kept, tables_kept};
 ghost use Rattle.icu_options.specs.declared.settings.Strength.{Strength};
-ghost use Rattle.icu_order.specs.Collations.{Collation};
+ghost use Rattle.icu_text_order.specs.Collations.{Collation};
 ghost use Rattle.collate_commands.specs.CollatorErrors.{IsCollatorError};
 
 use crate::program_error::ProgramError;
-use icu_comparison::Collator;
+use icu_collator::Collator;
 use icu_options::Strength;
 use std::alloc::Global;
 

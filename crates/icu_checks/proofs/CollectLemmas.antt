@@ -4,18 +4,18 @@ use Rattle.std.proofs.lemmas.Bool.{cases_eq}
 use Rattle.std.proofs.lemmas.Bool.Decides.{nat_tests}
 use Rattle.std.proofs.lemmas.List.Elements.{Contains-append_left, Contains-append_right, Contains-append_cases}
 use Rattle.std.specs.List.{Contains}
-use Rattle.icu_data.proofs.WalkLemmas.{on_ok}
-use Rattle.icu_data.specs.declared.data.CollationData.{CollationData}
+use Rattle.icu_collation_data.proofs.WalkLemmas.{on_ok}
+use Rattle.icu_collation_data.specs.declared.data.CollationData.{CollationData}
 use Rattle.icu_entries.specs.declared.error.DataTable.TheVariants.{Root, Jamo, SpecialPrimaries, Metadata, Tailoring, Reordering, Diacritics}
 use Rattle.icu_entries.specs.Elements.{of_secondary}
-use Rattle.icu_data.specs.CollectedWeights.{is_stated}
-use Rattle.icu_data.specs.Final.{final_elements}
-use Rattle.icu_data.specs.Data.{Data, homed}
+use Rattle.icu_collation_data.specs.CollectedWeights.{is_stated}
+use Rattle.icu_collation_data.specs.Final.{final_elements}
+use Rattle.icu_collation_data.specs.Data.{Data, homed}
 use Rattle.icu_provider.specs.Tables.{is_jamo}
-use Rattle.icu_data.specs.Reachable.{reachable_from, reachable_at}
-use Rattle.icu_data.specs.CollectedWeights.{IsWeightAmong, IsReachableWeight}
+use Rattle.icu_collation_data.specs.Reachable.{reachable_from, reachable_at}
+use Rattle.icu_collation_data.specs.CollectedWeights.{IsWeightAmong, IsReachableWeight}
 use Rattle.icu_provider.specs.Diacritics.{is_replaced_index}
-use Rattle.icu_data.specs.StoredData.{data_of}
+use Rattle.icu_collation_data.specs.StoredData.{data_of}
 use Rattle.icu_provider.specs.StoredTables.{jamo_of, diacritics_of}
 use Rattle.icu_provider.specs.declared.table_set.TableSet.{TableSet}
 use Rattle.icu_checks.specs.declared.check.weights.WeightList.{WeightList}

@@ -12,10 +12,10 @@ use Rattle.icu_entries.specs.declared.entry.EntryKind.{EntryKind}
 use Rattle.icu_entries.specs.declared.entry.EntryKind.TheVariants.{Simple, Fallback, LongPrimary, LongSecondary, Expansion32, Expansion, Prefix, Contraction, Digit, Offset, Implicit, Reserved}
 use Rattle.icu_entries.specs.Entries.{kind_of}
 use Rattle.icu_entries.specs.Weights.{implicit_weight}
-use Rattle.icu_data.specs.Data.{Data, homed}
-use Rattle.icu_data.specs.DataConditions.{is_readable}
-use Rattle.icu_data.specs.Final.{final_elements}
-use Rattle.icu_data.specs.CollectedWeights.{is_stated}
+use Rattle.icu_collation_data.specs.Data.{Data, homed}
+use Rattle.icu_collation_data.specs.DataConditions.{is_readable}
+use Rattle.icu_collation_data.specs.Final.{final_elements}
+use Rattle.icu_collation_data.specs.CollectedWeights.{is_stated}
 use Rattle.icu_entries.specs.ElementConditions.{tertiary_of}
 use Rattle.icu_provider.specs.Tables.{Tables}
 use Rattle.icu_provider.specs.Reorderings.{lead_byte}
@@ -26,7 +26,7 @@ use Rattle.icu_checks.specs.ElementConditions.{implicit_lead, is_tertiary_elemen
 use Rattle.icu_checks.specs.ReachableElements.{IsElementBy}
 use Rattle.icu_checks.specs.inner.EntryViolations.{MeetsIn, ReachableMeets}
 use Rattle.icu_checks.specs.inner.ComparedWeights.{left_aligned, nonzero, uncommon, compared_weight, IsReadBy}
-use Rattle.icu_data.proofs.ViolationLemmas.{meets_readable}
+use Rattle.icu_collation_data.proofs.ViolationLemmas.{meets_readable}
 use Rattle.icu_checks.proofs.ImplicitLemmas.{implicit_bytes, weighs_nothing}
 
 -- ---- elements

@@ -3,17 +3,17 @@ use Rattle.std.proofs.Common.{◌≡◌, ℕ, Bool, true, false, not, ◌&&◌, 
 use Rattle.std.specs.List.{AllByRecursion, Contains}
 use Rattle.icu_entries.specs.declared.error.DataTable.{DataTable}
 use Rattle.icu_entries.specs.declared.error.DataTable.TheVariants.{Root, Jamo, SpecialPrimaries, Metadata, Tailoring, Reordering, Diacritics}
-use Rattle.icu_data.specs.declared.reachable_condition.ReachableCondition.{ReachableCondition}
+use Rattle.icu_collation_data.specs.declared.reachable_condition.ReachableCondition.{ReachableCondition}
 use Rattle.icu_entries.specs.Elements.{Element}
-use Rattle.icu_data.specs.Data.{Data, homed}
-use Rattle.icu_data.specs.Final.{final_elements}
-use Rattle.icu_data.specs.DataConditions.{avoids_diacritics, is_readable}
-use Rattle.icu_data.specs.Violations.{earlier}
-use Rattle.icu_data.specs.Reachable.{goes_by_character}
-use Rattle.icu_data.specs.ReachableConditions.{meets, first_failing}
-use Rattle.icu_data.proofs.ViolationLemmas.{find_passes, find_none, not_false, not_true, weaker_some, passes_meets, meets_readable, failing_fails, earlier-none, earlier-keeps}
-use Rattle.icu_data.proofs.SameEntryLemmas.{failing_alike, readable_alike, elements_alike}
-use Rattle.icu_data.proofs.ListLemmas.{weaker, all_members}
+use Rattle.icu_collation_data.specs.Data.{Data, homed}
+use Rattle.icu_collation_data.specs.Final.{final_elements}
+use Rattle.icu_collation_data.specs.DataConditions.{avoids_diacritics, is_readable}
+use Rattle.icu_collation_data.specs.Violations.{earlier}
+use Rattle.icu_collation_data.specs.Reachable.{goes_by_character}
+use Rattle.icu_collation_data.specs.ReachableConditions.{meets, first_failing}
+use Rattle.icu_collation_data.proofs.ViolationLemmas.{find_passes, find_none, not_false, not_true, weaker_some, passes_meets, meets_readable, failing_fails, earlier-none, earlier-keeps}
+use Rattle.icu_collation_data.proofs.SameEntryLemmas.{failing_alike, readable_alike, elements_alike}
+use Rattle.icu_collation_data.proofs.ListLemmas.{weaker, all_members}
 use Rattle.icu_checks.specs.declared.condition.Condition.TheVariants as conditions
 use Rattle.icu_checks.specs.declared.condition.ReachableElementCondition.{ReachableElementCondition}
 use Rattle.icu_checks.specs.declared.condition.ReachableElementCondition.TheVariants.{Width, BackwardLead, TertiaryElement, MiddleLead, ImplicitLength, NumericLead, SharedLead, SecondByte}

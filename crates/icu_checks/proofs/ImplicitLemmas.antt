@@ -6,14 +6,14 @@ use Rattle.icu_entries.specs.declared.error.DataTable.{DataTable}
 use Rattle.icu_entries.specs.Elements.{of_primary}
 use Rattle.icu_entries.specs.declared.entry.EntryKind.TheVariants.{Implicit}
 use Rattle.icu_entries.specs.Entries.{kind_of}
-use Rattle.icu_data.specs.DataConditions.{avoids_diacritics}
-use Rattle.icu_data.specs.Violations.{earlier}
-use Rattle.icu_data.specs.Final.{final_elements}
+use Rattle.icu_collation_data.specs.DataConditions.{avoids_diacritics}
+use Rattle.icu_collation_data.specs.Violations.{earlier}
+use Rattle.icu_collation_data.specs.Final.{final_elements}
 use Rattle.icu_provider.specs.Reorderings.{lead_byte}
-use Rattle.icu_data.specs.Data.{Data}
+use Rattle.icu_collation_data.specs.Data.{Data}
 use Rattle.icu_entries.specs.Weights.{weight, implicit_weight}
-use Rattle.icu_data.proofs.ViolationLemmas.{none_found, negated}
-use Rattle.icu_data.proofs.ImplicitLemmas.{implicit_passes}
+use Rattle.icu_collation_data.proofs.ViolationLemmas.{none_found, negated}
+use Rattle.icu_collation_data.proofs.ImplicitLemmas.{implicit_passes}
 use Rattle.icu_checks.specs.declared.condition.ReachableElementCondition.{ReachableElementCondition}
 use Rattle.icu_checks.specs.declared.condition.ReachableElementCondition.TheVariants.{Width, BackwardLead, TertiaryElement, MiddleLead, ImplicitLength, NumericLead, SharedLead, SecondByte}
 use Rattle.icu_checks.specs.declared.violation.Violation.{Violation}

@@ -13,9 +13,9 @@ use Rattle.icu_entries.specs.declared.entry.EntryKind.TheVariants.{Simple, Fallb
 use Rattle.icu_entries.specs.Elements.{of_primary}
 use Rattle.icu_entries.specs.Entries.{kind_of}
 use Rattle.icu_entries.specs.Weights.{implicit_weight}
-use Rattle.icu_data.specs.declared.data.CollationData.{CollationData}
-use Rattle.icu_data.specs.Reachable.{reachable_from}
-use Rattle.icu_data.specs.StoredData.{data_of}
+use Rattle.icu_collation_data.specs.declared.data.CollationData.{CollationData}
+use Rattle.icu_collation_data.specs.Reachable.{reachable_from}
+use Rattle.icu_collation_data.specs.StoredData.{data_of}
 use Rattle.icu_provider.specs.Reorderings.{lead_byte}
 use Rattle.icu_provider.specs.StoredTables.{jamo_of}
 use Rattle.icu_provider.specs.Tables.{Tables, is_jamo}

@@ -10,12 +10,12 @@ use Rattle.icu_levels.specs.WeightBytes.{weight_bytes}
 use Rattle.icu_levels.specs.Premises.{IsPrefixFree}
 use Rattle.icu_entries.specs.declared.error.DataTable.{DataTable}
 use Rattle.icu_entries.specs.declared.error.DataTable.TheVariants.{Root, Jamo, SpecialPrimaries, Metadata, Tailoring, Reordering, Diacritics}
-use Rattle.icu_data.specs.declared.reachable_condition.ReachableCondition.TheVariants as reachable
+use Rattle.icu_collation_data.specs.declared.reachable_condition.ReachableCondition.TheVariants as reachable
 use Rattle.icu_provider.specs.Diacritics.{is_replaced_index, is_diacritic_weight}
 use Rattle.icu_entries.specs.Elements.{Element, common, of_secondary}
 use Rattle.icu_entries.specs.ElementConditions.{tertiary_of, has_shape, has_leads, has_secondary_lead, has_tertiary_lead}
-use Rattle.icu_data.specs.Final.{final_elements}
-use Rattle.icu_data.specs.Data.{homed}
+use Rattle.icu_collation_data.specs.Final.{final_elements}
+use Rattle.icu_collation_data.specs.Data.{homed}
 use Rattle.icu_checks.specs.declared.condition.Condition.TheVariants as conditions
 use Rattle.icu_checks.specs.declared.condition.ReachableElementCondition.TheVariants as of_element
 use Rattle.icu_checks.specs.declared.condition.PairCondition.TheVariants as of_pair

@@ -3,21 +3,21 @@ use Rattle.std.proofs.Common.{◌≡◌, ◌⊎◌, ℕ, ◌+◌, ◌-◌, ◌<�
 use Rattle.std.proofs.lemmas.Bool.{cases_eq}
 use Rattle.std.proofs.lemmas.Bool.Decides.{nat_tests}
 use Rattle.std.specs.List.{AllByRecursion}
-use Rattle.icu_data.specs.declared.data.CollationData.{CollationData}
+use Rattle.icu_collation_data.specs.declared.data.CollationData.{CollationData}
 use Rattle.icu_entries.specs.declared.error.DataTable.TheVariants.{Root, Jamo, Tailoring, Diacritics}
 use Rattle.icu_provider.specs.Tables.{is_jamo}
-use Rattle.icu_data.specs.Reachable.{reachable_from, EachReachable}
+use Rattle.icu_collation_data.specs.Reachable.{reachable_from, EachReachable}
 use Rattle.icu_provider.specs.Diacritics.{is_replaced_index}
 use Rattle.icu_entries.specs.Elements.{Element, of_secondary}
-use Rattle.icu_data.specs.StoredData.{data_of}
+use Rattle.icu_collation_data.specs.StoredData.{data_of}
 use Rattle.icu_provider.specs.StoredTables.{jamo_of, diacritics_of}
-use Rattle.icu_data.specs.Violations.{IsViolationAmong, IsReachableViolation}
-use Rattle.icu_data.proofs.ViolationLemmas.{weaker_some, not_before, earlier-none}
+use Rattle.icu_collation_data.specs.Violations.{IsViolationAmong, IsReachableViolation}
+use Rattle.icu_collation_data.proofs.ViolationLemmas.{weaker_some, not_before, earlier-none}
 use Rattle.icu_checks.specs.declared.condition.ReachableElementCondition.{ReachableElementCondition}
 use Rattle.icu_checks.specs.declared.violation.Violation.{Violation}
 use Rattle.icu_provider.specs.declared.table_set.TableSet.{TableSet}
 use Rattle.icu_provider.specs.TableSets.{tables_in}
-use Rattle.icu_data.specs.Violations.{earlier}
+use Rattle.icu_collation_data.specs.Violations.{earlier}
 use Rattle.icu_checks.specs.inner.Violations.{violation_rank, IsTrueViolation}
 use Rattle.icu_checks.specs.ElementConditions.{reachable_element_meets}
 use Rattle.icu_checks.specs.inner.EntryViolations.{of_element, element_violation, entry_violation, JamoPasses, DiacriticMeets, MeetsIn}

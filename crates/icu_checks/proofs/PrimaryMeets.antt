@@ -9,13 +9,13 @@ use Rattle.icu_levels.specs.Premises.{IsPrefixFree}
 use Rattle.icu_entries.specs.declared.error.DataTable.{DataTable}
 use Rattle.icu_entries.specs.declared.error.DataTable.TheVariants.{Root, Jamo, SpecialPrimaries, Metadata, Tailoring, Diacritics}
 use Rattle.icu_entries.specs.declared.error.DataTable.TheVariants as tables
-use Rattle.icu_data.specs.declared.reachable_condition.ReachableCondition.TheVariants as reachable
+use Rattle.icu_collation_data.specs.declared.reachable_condition.ReachableCondition.TheVariants as reachable
 use Rattle.icu_entries.specs.Elements.{Element, common}
 use Rattle.icu_entries.specs.ElementConditions.{separator_primary, is_separator, has_primary_lead}
-use Rattle.icu_data.specs.Final.{final_elements}
+use Rattle.icu_collation_data.specs.Final.{final_elements}
 use Rattle.icu_provider.specs.Reorderings.{Reordering, lead_byte}
 use Rattle.icu_provider.specs.SpecialPrimaries.{is_compressible}
-use Rattle.icu_data.specs.Data.{homed}
+use Rattle.icu_collation_data.specs.Data.{homed}
 use Rattle.icu_checks.specs.declared.condition.Condition.TheVariants as conditions
 use Rattle.icu_checks.specs.declared.condition.ReachableElementCondition.TheVariants.{Width, MiddleLead, ImplicitLength, SharedLead}
 use Rattle.icu_checks.specs.declared.condition.LeadCondition.TheVariants.{ImplicitLead, Separator, HighLead}

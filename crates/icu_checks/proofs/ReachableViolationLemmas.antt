@@ -4,13 +4,13 @@ use Rattle.std.specs.List.{AllByRecursion, Contains}
 use Rattle.icu_entries.specs.declared.error.DataTable.{DataTable}
 use Rattle.icu_entries.specs.declared.error.DataTable.TheVariants.{Root, Jamo, Tailoring}
 use Rattle.icu_entries.specs.Elements.{Element}
-use Rattle.icu_data.specs.Data.{Data, homed}
+use Rattle.icu_collation_data.specs.Data.{Data, homed}
 use Rattle.icu_provider.specs.Tables.{is_jamo}
-use Rattle.icu_data.specs.Final.{final_elements}
-use Rattle.icu_data.specs.Reachable.{reachable_from, reachable_at, EachReachable}
+use Rattle.icu_collation_data.specs.Final.{final_elements}
+use Rattle.icu_collation_data.specs.Reachable.{reachable_from, reachable_at, EachReachable}
 use Rattle.icu_provider.specs.ReachableTables.{jamo_entry}
-use Rattle.icu_data.specs.Violations.{IsViolationAmong, IsReachableViolation}
-use Rattle.icu_data.proofs.ListLemmas.{of_member}
+use Rattle.icu_collation_data.specs.Violations.{IsViolationAmong, IsReachableViolation}
+use Rattle.icu_collation_data.proofs.ListLemmas.{of_member}
 use Rattle.icu_checks.specs.declared.condition.ReachableElementCondition.{ReachableElementCondition}
 use Rattle.icu_checks.specs.declared.violation.Violation.{Violation}
 use Rattle.icu_provider.specs.CollatorTables.{CollatorTables}

@@ -9,13 +9,13 @@ use Rattle.icu_entries.specs.Elements.{Element, of_primary}
 use Rattle.icu_entries.specs.declared.entry.EntryKind.TheVariants.{Offset}
 use Rattle.icu_entries.specs.Entries.{kind_of, entry_index}
 use Rattle.icu_entries.specs.Weights.{weight_at, offset_compressible, offset_ordinal, offset_weight, offset_element}
-use Rattle.icu_data.specs.Data.{Data, homed}
-use Rattle.icu_data.specs.DataConditions.{avoids_diacritics}
-use Rattle.icu_data.specs.Final.{final_elements}
-use Rattle.icu_data.specs.ReachableConditions.{first_failing}
-use Rattle.icu_data.specs.Violations.{earlier}
-use Rattle.icu_data.proofs.ViolationLemmas.{none_found, negated}
-use Rattle.icu_data.proofs.RunLemmas.{ordinal_rises}
+use Rattle.icu_collation_data.specs.Data.{Data, homed}
+use Rattle.icu_collation_data.specs.DataConditions.{avoids_diacritics}
+use Rattle.icu_collation_data.specs.Final.{final_elements}
+use Rattle.icu_collation_data.specs.ReachableConditions.{first_failing}
+use Rattle.icu_collation_data.specs.Violations.{earlier}
+use Rattle.icu_collation_data.proofs.ViolationLemmas.{none_found, negated}
+use Rattle.icu_collation_data.proofs.RunLemmas.{ordinal_rises}
 use Rattle.icu_weights.proofs.LeadLemmas.{replaced, stays, lead-with_lead}
 use Rattle.icu_provider.specs.Reorderings.{Reordering, lead_byte, with_lead, reordered}
 use Rattle.icu_provider.specs.SpecialPrimaries.{is_compressible}

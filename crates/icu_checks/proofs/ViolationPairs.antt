@@ -1,7 +1,7 @@
 -- The earlier of two violations.
 use Rattle.std.proofs.Common.{◌≡◌, Option, None, Result, Ok, Err, IfOk, IfSome, sym, ◌∙◌, subst}
-use Rattle.icu_data.specs.Violations.{earlier}
-use Rattle.icu_data.proofs.ViolationLemmas.{earlier-none, earlier-keeps}
+use Rattle.icu_collation_data.specs.Violations.{earlier}
+use Rattle.icu_collation_data.proofs.ViolationLemmas.{earlier-none, earlier-keeps}
 use Rattle.icu_checks.specs.declared.violation.Violation.{Violation}
 use Rattle.icu_provider.specs.CollatorTables.{CollatorTables}
 use Rattle.icu_checks.specs.inner.Violations.{violation_rank}

@@ -1,6 +1,6 @@
 -- The tables that a value of checked tables keeps.
 use Rattle.std.specs.Prelude.{Option}
-use Rattle.icu_data.specs.declared.data.CollationData.{CollationData}
+use Rattle.icu_collation_data.specs.declared.data.CollationData.{CollationData}
 use Rattle.icu_provider.specs.declared.diacritics.CollationDiacritics.{CollationDiacritics}
 use Rattle.icu_provider.specs.declared.jamo.CollationJamo.{CollationJamo}
 use Rattle.icu_provider.specs.declared.metadata.CollationMetadata.{CollationMetadata}

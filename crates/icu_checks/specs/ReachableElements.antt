@@ -4,9 +4,9 @@ use Rattle.std.specs.List.{Contains}
 use Rattle.icu_entries.specs.declared.error.DataTable.{DataTable}
 use Rattle.icu_entries.specs.declared.error.DataTable.TheVariants.{Root, Jamo, Tailoring, Diacritics}
 use Rattle.icu_entries.specs.Elements.{Element, of_secondary}
-use Rattle.icu_data.specs.Data.{Data, homed}
+use Rattle.icu_collation_data.specs.Data.{Data, homed}
 use Rattle.icu_provider.specs.Tables.{Tables}
-use Rattle.icu_data.specs.Final.{final_elements}
+use Rattle.icu_collation_data.specs.Final.{final_elements}
 use Rattle.icu_provider.specs.Diacritics.{is_replaced_index}
 use Rattle.icu_provider.specs.ReachableTables.{IsReachableInRoot, IsReachableInJamo, IsReachableInTailoring}
 

@@ -6,15 +6,15 @@ use Rattle.icu_entries.specs.declared.error.DataErrorKind.{DataErrorKind}
 use Rattle.icu_entries.specs.declared.error.DataErrorKind.TheVariants as kinds
 use Rattle.icu_entries.specs.declared.error.DataTable.{DataTable}
 use Rattle.icu_entries.specs.declared.error.DataTable.TheVariants as tables
-use Rattle.icu_data.specs.declared.reachable_condition.ReachableCondition.{ReachableCondition}
-use Rattle.icu_data.specs.declared.reachable_condition.ReachableCondition.TheVariants as of_entry
+use Rattle.icu_collation_data.specs.declared.reachable_condition.ReachableCondition.{ReachableCondition}
+use Rattle.icu_collation_data.specs.declared.reachable_condition.ReachableCondition.TheVariants as of_entry
 use Rattle.icu_entries.specs.Elements.{Element}
-use Rattle.icu_data.specs.Data.{Context, Data}
-use Rattle.icu_data.specs.Contexts.{has_ascending_mappings}
+use Rattle.icu_collation_data.specs.Data.{Context, Data}
+use Rattle.icu_collation_data.specs.Contexts.{has_ascending_mappings}
 use Rattle.icu_provider.specs.Diacritics.{IsDiacritics}
 use Rattle.icu_provider.specs.Jamo.{IsJamo}
-use Rattle.icu_data.specs.DataConditions.{avoids_diacritics}
-use Rattle.icu_data.specs.ReachableConditions.{meets}
+use Rattle.icu_collation_data.specs.DataConditions.{avoids_diacritics}
+use Rattle.icu_collation_data.specs.ReachableConditions.{meets}
 use Rattle.icu_provider.specs.Metadata.{has_tailored_diacritics}
 use Rattle.icu_provider.specs.Reorderings.{Reordering}
 use Rattle.icu_provider.specs.SpecialPrimaries.{IsSpecialPrimaries}

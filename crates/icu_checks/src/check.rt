@@ -1,7 +1,7 @@
 //! The check of all tables of a collator.
 ghost use Rattle.std.specs.Prelude.{◌≡◌, None, IfSome, IfOk, option_map};
 ghost use Rattle.std.specs.Option.{ForSome};
-ghost use Rattle.icu_data.specs.StoredData.{data_of};
+ghost use Rattle.icu_collation_data.specs.StoredData.{data_of};
 ghost use Rattle.icu_provider.specs.StoredTables.{reordering_of};
 ghost use Rattle.icu_provider.specs.TableSets.{tables_in};
 ghost use Rattle.icu_checks.specs.inner.Violations.{IsTrueViolation};
@@ -17,24 +17,24 @@ mod implicit_chars;
 pub(crate) mod implicit_overlaps;
 mod lead_conditions;
 mod listed_weights;
-mod reachable_violations;
 mod lookups;
 mod overlap_tables;
 pub(crate) mod overlap_violations;
 pub(crate) mod primary_violations;
+mod reachable_violations;
 pub(crate) mod tertiary_violations;
 pub(crate) mod weights;
 
 use crate::check::listed_weights::listed_weights;
-use crate::check::reachable_violations::reachable_violation;
 use crate::check::overlap_violations::level_violation;
 use crate::check::primary_violations::primary_violation;
+use crate::check::reachable_violations::reachable_violation;
 use crate::check::tertiary_violations::tertiary_violation;
 use crate::check::weights::ComparedLevel;
 use crate::condition::{Condition, LeadCondition};
 use crate::violation::Violation;
-use icu_data::CollationData;
-use icu_data::violation::earlier;
+use icu_collation_data::CollationData;
+use icu_collation_data::violation::earlier;
 use icu_entries::DataTable;
 use icu_provider::diacritics::OPTIMIZED_DIACRITICS_MAX_COUNT;
 use icu_provider::{CollationReordering, TableSet};

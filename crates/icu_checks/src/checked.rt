@@ -1,5 +1,5 @@
 ghost use Rattle.std.specs.Prelude.{◌≡◌, IsOk, IfOk, IfErr, option_map};
-ghost use Rattle.icu_data.specs.StoredData.{data_of};
+ghost use Rattle.icu_collation_data.specs.StoredData.{data_of};
 ghost use Rattle.icu_provider.specs.OwnedTables.{owned_tables};
 ghost use Rattle.icu_provider.specs.StoredTables.{jamo_of, special_of, reordering_of, diacritics_of};
 ghost use Rattle.icu_provider.specs.TableSets.{tables_in};
@@ -7,7 +7,7 @@ ghost use Rattle.icu_checks.specs.WellFormedTables.{IsWellFormedTables, IsTrueEr
 ghost use Rattle.icu_checks.specs.WellFormedProps.{well_formed_prop};
 
 use crate::check::first_violation;
-use icu_data::CollationData;
+use icu_collation_data::CollationData;
 use icu_entries::{DataError, DataErrorKind, DataTable};
 use icu_provider::{
     CollationDiacritics, CollationJamo, CollationMetadata, CollationReordering,
@@ -50,7 +50,8 @@ impl CheckedTables {
         ensures well_formed { IsOk result → IsWellFormedTables (tables_in tables.entry) }
         ensures error { IfErr result (IsTrueError (tables_in tables.entry)) }
         ensures exact { IfErr result (λ e.
-            (e.kind ≡ DataErrorKind.NoMemory → ⊥) → IsWellFormedTables (tables_in tables.entry) → ⊥) }
+            (e.kind ≡ DataErrorKind.NoMemory → ⊥)
+            → IsWellFormedTables (tables_in tables.entry) → ⊥) }
         ensures keeps { IfOk result (λ t. checked_tables t ≡ tables_in tables.entry) }
     {
         match check(alloc, tables) {
@@ -92,7 +93,8 @@ impl CheckedTables {
         reordering: Option<CollationReordering<'_>>,
         diacritics: CollationDiacritics<'_>,
     ) -> Result<CheckedTables, DataError>
-        ensures well_formed { IsOk result → IsWellFormedTables (tables_of root.entry jamo.entry special.entry
+        ensures well_formed { IsOk result
+            → IsWellFormedTables (tables_of root.entry jamo.entry special.entry
             metadata tailoring.entry reordering.entry diacritics.entry) }
         ensures error { IfErr result (IsTrueError (tables_of root.entry jamo.entry special.entry
             metadata tailoring.entry reordering.entry diacritics.entry)) }

@@ -2,7 +2,7 @@ ghost use Rattle.std.specs.Prelude.{◌≡◌, ◌<◌};
 ghost use Rattle.icu_checks.specs.WellFormedTables.{reported_kind};
 ghost use Rattle.icu_checks.specs.inner.ConditionGroups.{group_of_entry, group_of_element, group_of_pair, group_of_lead, group_of, group_place};
 
-use icu_data::reachable_condition::ReachableCondition;
+use icu_collation_data::reachable_condition::ReachableCondition;
 use icu_entries::DataErrorKind;
 
 /// A condition on one element that is reachable, beside what other tables say.

@@ -3,7 +3,7 @@ ghost use Rattle.icu_checks.specs.inner.Violations.{violation_rank};
 ghost use Rattle.icu_checks.specs.WellFormedTables.{table_rank, reported_kind, later, table_of_element, table_of_lead};
 
 use crate::condition::{Condition, LeadCondition, ReachableElementCondition};
-use icu_data::violation::Ranked;
+use icu_collation_data::violation::Ranked;
 use icu_entries::{DataError, DataTable};
 
 /// A condition that fails, and the table by which it is named.

@@ -1,3 +1,6 @@
+pub mod HexDigits
+pub mod LineParts
+pub mod Ranges
 pub mod Errors
 pub mod Roots
 pub mod inner

@@ -7,12 +7,12 @@ ghost use Rattle.icu_cldr.specs.Roots.{IsRoot};
 use crate::collected::Collected;
 use crate::contexts::{Contexts, entry_in_contexts};
 use crate::digits::make_digits;
-use crate::error::{UnnumberedError, ReadError, named};
+use crate::error::{ReadError, UnnumberedError, named};
 use icu_entries::{CollationElement32, DataTable};
 use icu_options::MaxVariable;
-use icu_owned_data::{DataBuilder, OwnedData};
 use icu_provider::jamo::{JAMO_BASE, JAMO_COUNT};
 use icu_provider::{CollationMetadata, MetadataFields, OwnedDiacritics, OwnedJamo, OwnedTables};
+use icu_table_builder::{DataBuilder, OwnedData};
 use std::alloc::Global;
 use std::collections::BTreeMap;
 
@@ -88,7 +88,9 @@ impl Collected {
             ideographs: _,
         } = self;
         make_digits(alloc, &mut builder, &mut entries).map_err(UnnumberedError::at_end)?;
-        resolve_contexts(alloc, &mut builder, &mut entries, &contexts).map_err(UnnumberedError::at_end)?;
+        resolve_contexts(alloc, &mut builder, &mut entries, &contexts).map_err(
+            UnnumberedError::at_end,
+        )?;
         Ok(OwnedTables {
             jamo: jamo(alloc, &entries)?,
             diacritics: diacritics(alloc, &secondaries)?,

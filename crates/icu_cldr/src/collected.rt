@@ -3,14 +3,14 @@ ghost use Rattle.std.specs.Prelude.{◌≡◌, ◌+◌, ◌<◌, ◌≤◌, IfSo
 ghost use Rattle.icu_cldr.specs.inner.Diacritics.{SaysOfMark};
 
 use crate::contexts::{Contexts, Surroundings};
-use crate::error::{UnnumberedError, LineErrorKind};
+use crate::error::{LineErrorKind, UnnumberedError};
 use crate::ideograph_weights::{IdeographWeights, STEP, WeightedRange, char_count};
 use crate::special::Special;
+use crate::{CharRange, FractionalElement, Line, Mapping, Primary};
 use icu_entries::element::COMMON_WEIGHT16;
 use icu_entries::{CollationElement, CollationElement32, INDEX_COUNT, LIST_LENGTH_MAX};
-use icu_fractional::{CharRange, FractionalElement, Line, Mapping, Primary};
-use icu_owned_data::DataBuilder;
 use icu_provider::diacritics::{OPTIMIZED_DIACRITICS_MAX_COUNT, is_replaced_index};
+use icu_table_builder::DataBuilder;
 use std::alloc::{AllocError, Global};
 use std::collections::BTreeMap;
 
@@ -64,7 +64,10 @@ fn diacritic_index(c: char) -> Option<usize>
 
 /// The secondary weight of a combining mark. One that has a decomposition is in no text that is compared, and its
 /// weight isn't read.
-fn secondary_of_diacritic(index: usize, elements: &[CollationElement]) -> Result<u16, UnnumberedError>
+fn secondary_of_diacritic(
+    index: usize,
+    elements: &[CollationElement],
+) -> Result<u16, UnnumberedError>
     ensures { IfOk result (SaysOfMark index elements.now) }
 {
     match elements {
@@ -163,7 +166,10 @@ impl Collected {
     }
 
     /// The elements of a line.
-    fn elements(&self, read: &[FractionalElement]) -> Result<Vec<CollationElement>, UnnumberedError> {
+    fn elements(
+        &self,
+        read: &[FractionalElement],
+    ) -> Result<Vec<CollationElement>, UnnumberedError> {
         let mut elements = Vec::new(self.alloc);
         for element in read {
             elements.push(self.element(*element)?)?;
@@ -195,7 +201,10 @@ impl Collected {
     }
 
     /// The entry of elements. Those that one entry doesn't spell become a list.
-    fn add_elements(&mut self, elements: &[CollationElement]) -> Result<CollationElement32, UnnumberedError> {
+    fn add_elements(
+        &mut self,
+        elements: &[CollationElement],
+    ) -> Result<CollationElement32, UnnumberedError> {
         if elements.len() > LIST_LENGTH_MAX {
             return Err(UnnumberedError::Refused(LineErrorKind::FewerElements));
         }
@@ -241,7 +250,11 @@ impl Collected {
     }
 
     /// Takes in the entry of a text.
-    fn add_entry(&mut self, mapping: Mapping, entry: CollationElement32) -> Result<(), UnnumberedError> {
+    fn add_entry(
+        &mut self,
+        mapping: Mapping,
+        entry: CollationElement32,
+    ) -> Result<(), UnnumberedError> {
         let Mapping {
             prefix,
             first,

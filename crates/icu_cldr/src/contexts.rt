@@ -1,9 +1,9 @@
 //! Mappings that depend on the characters around.
 ghost use Rattle.std.specs.Prelude.{◌<◌, ◌^◌, IfOk, IfSome};
 
-use crate::error::{UnnumberedError, LineErrorKind};
+use crate::error::{LineErrorKind, UnnumberedError};
 use icu_entries::{CollationElement32, INDEX_COUNT};
-use icu_owned_data::DataBuilder;
+use icu_table_builder::DataBuilder;
 use std::alloc::{AllocError, Global};
 use std::collections::BTreeMap;
 

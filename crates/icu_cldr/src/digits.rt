@@ -1,7 +1,7 @@
 //! The digits that make numbers: characters with General_Category Nd.
-use crate::error::{UnnumberedError, LineErrorKind};
+use crate::error::{LineErrorKind, UnnumberedError};
 use icu_entries::{CollationElement32, INDEX_COUNT};
-use icu_owned_data::DataBuilder;
+use icu_table_builder::DataBuilder;
 use std::alloc::Global;
 use std::collections::BTreeMap;
 use ucd_perl::digit_ranges;

@@ -2,8 +2,8 @@
 ghost use Rattle.std.specs.Prelude.{◌≡◌, ◌<◌, IfErr, IfOk, Ok};
 ghost use Rattle.icu_cldr.specs.Errors.{IsNumbered};
 
+use crate::{Expected, LineError};
 use icu_entries::{DataError, DataErrorKind, DataTable};
-use icu_fractional::{Expected, LineError};
 use std::alloc::{AllocError, AllocFailed};
 use std::io;
 use thiserror::Error;
@@ -123,7 +123,9 @@ impl From<LineError> for UnnumberedError {
     fn from(error: LineError) -> UnnumberedError {
         match error {
             LineError::NoMemory => UnnumberedError::NoMemory,
-            LineError::Expected(expected) => UnnumberedError::Refused(LineErrorKind::Written(expected)),
+            LineError::Expected(expected) => UnnumberedError::Refused(LineErrorKind::Written(
+                expected,
+            )),
         }
     }
 }

@@ -2,8 +2,8 @@
 ghost use Rattle.std.specs.Prelude.{◌≡◌, ◌+◌, ◌*◌, ◌%◌, ◌<◌, ◌≤◌, false, IfSome, IfOk};
 ghost use Rattle.icu_entries.specs.Weights.{weight_at};
 
-use crate::error::{UnnumberedError, LineErrorKind};
-use icu_fractional::CharRange;
+use crate::CharRange;
+use crate::error::{LineErrorKind, UnnumberedError};
 use std::alloc::Global;
 
 /// The lead byte of implicit weights.
@@ -88,7 +88,10 @@ impl IdeographWeights {
     }
 
     /// Gives the ideographs of ranges their weights, in this order.
-    pub(crate) fn assign(alloc: Global, ranges: &[CharRange]) -> Result<IdeographWeights, UnnumberedError> {
+    pub(crate) fn assign(
+        alloc: Global,
+        ranges: &[CharRange],
+    ) -> Result<IdeographWeights, UnnumberedError> {
         let Some(lead) = first_lead(count(ranges)) else {
             return Err(UnnumberedError::Refused(LineErrorKind::FewerIdeographs));
         };

@@ -5,7 +5,7 @@ ghost use Rattle.icu_cldr.specs.Errors.{IsNumbered};
 ghost use Rattle.icu_cldr.specs.Roots.{IsRoot};
 
 use crate::collected::Collected;
-use crate::error::{UnnumberedError, ReadError, LineErrorKind};
+use crate::error::{LineErrorKind, ReadError, UnnumberedError};
 use icu_provider::OwnedTables;
 use std::alloc::Global;
 use std::io::{BufRead, ErrorKind};

@@ -3,9 +3,9 @@ ghost use Rattle.std.specs.Prelude.{◌≡◌, ◌≤◌, length, IfOk, IfErr};
 ghost use Rattle.icu_provider.specs.OwnedTables.{owned_special};
 ghost use Rattle.icu_cldr.specs.Errors.{IsNumbered};
 
-use crate::error::{UnnumberedError, Missing, ReadError, LineErrorKind, named};
+use crate::LeadByte;
+use crate::error::{LineErrorKind, Missing, ReadError, UnnumberedError, named};
 use icu_entries::DataTable;
-use icu_fractional::LeadByte;
 use icu_provider::OwnedSpecialPrimaries;
 use std::alloc::Global;
 

@@ -3,37 +3,68 @@
 //!
 //! A `Collator` is made of the tables that a `CollationProvider` returns, which are checked together, and of settings.
 //! `as_borrowed` borrows it, `compare` returns the order of two texts, and `write_sort_key_to` writes the sort key of
-//! one. The crate `sort_names` is a program over these names alone.
+//! one. The public names of the crates below stand here under `options`, `preferences`, `provider`, `elements`,
+//! `comparison` and `laws`, so that a caller lists this crate alone.
 #![tactic(auto)]
 
-pub use comparison::{CollationKeySink, Collator, CollatorBorrowed};
+pub mod collator;
+pub mod compare;
+mod element_order;
+mod forward_levels;
+pub mod handled;
+mod identical_level;
+mod in_step;
+mod segments;
+pub mod sort_key;
+mod tails;
+mod texts;
+
+pub use collator::{Collator, CollatorBorrowed};
+pub use handled::HandledElements;
 pub use icu_elements as elements;
-pub use icu_index as index;
+pub use icu_keys::{CollationKeySink, SortKeyError, TooSmall};
 pub use icu_options as options;
 pub use icu_options::CollatorPreferences;
 
 /// Collators, what they compare, and where the bytes of sort keys go.
 pub mod comparison {
-    pub use icu_comparison::{Collator, CollatorBorrowed};
+    pub use crate::collator::{Collator, CollatorBorrowed};
+    pub use crate::handled::HandledElements;
     pub use icu_encodings::{Latin1Chars, Latin1Iter};
     pub use icu_keys::accumulator::AnyQuaternaryAccumulator;
     pub use icu_keys::{CollationKeySink, SortKeyError, TooSmall};
-    pub use icu_order::laws;
+    pub use icu_weighting::{Handled, HandledSource, key_form};
 }
 
-/// Where the tables of collators come from, and the check that they pass.
+/// Where the tables of collators come from, the check that they pass, and what builds them.
 pub mod provider {
     pub use icu_checks::CheckedTables;
-    pub use icu_data::{CodePointTable, CollationData, Context, ContextMapping, ContextTable};
+    pub use icu_collation_data::{
+        CodePointTable, CollationData, Context, ContextMapping, ContextTable,
+    };
     pub use icu_entries::{DataError, DataErrorKind, DataTable};
     pub use icu_provider::{
         CollationDiacritics, CollationJamo, CollationMetadata, CollationProvider,
-        CollationReordering, CollationSpecialPrimaries, DataRequest, FixedLoads, FixedProvider,
-        OwnedTables, TableSet, load_tables,
+        CollationReordering, CollationSpecialPrimaries, DataRequest, MetadataFields, OwnedTables,
+        TableSet, load_tables,
     };
+    pub use icu_table_builder::{DataBuilder, DataVectors, OwnedData};
 }
 
 /// What a user prefers beside the options that a caller names.
 pub mod preferences {
     pub use icu_options::{CollationCaseFirst, CollationNumericOrdering};
+}
+
+/// What holds of the order of all texts and of their keys. A law is a function with an empty body, called for its
+/// contract.
+pub mod laws {
+    pub use icu_laws::{
+        common_weights_add_few_bytes, equivalent_texts_are_equal, identical_level_determines_texts,
+        number_texts_order_by_value, sinks_hold_one_key, strength_keeps_order, texts_are_ordered,
+    };
+    pub use icu_text_order::laws::{
+        common_beginnings_do_not_count, keys_keep_text_order, levels_keep_text_order,
+        well_formed_tables_serve_levels,
+    };
 }

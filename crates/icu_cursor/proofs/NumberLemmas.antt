@@ -10,10 +10,10 @@ use Rattle.unicode_normalization.proofs.TableFacts.{class_of_latin}
 use Rattle.icu_entries.specs.Elements.{Element, of_primary}
 use Rattle.icu_elements.specs.TextElements.{Reading, continues_number, digit_of_char, begins_with_mark, number_elements, last_two, elements_after}
 use Rattle.icu_elements.proofs.StepLemmas.{elements_after_nil}
-use Rattle.icu_cuts.proofs.NumberRunLemmas.{elements_after-digits}
-use Rattle.icu_cuts.proofs.LetterLemmas.{low_text}
-use Rattle.icu_cuts.proofs.NfdLemmas.{nfd-nil}
-use Rattle.icu_shortcuts.specs.KeptFacts.{IsNumberDigit}
+use Rattle.icu_boundaries.proofs.NumberRunLemmas.{elements_after-digits}
+use Rattle.icu_boundaries.proofs.LetterLemmas.{low_text}
+use Rattle.icu_boundaries.proofs.NfdLemmas.{nfd-nil}
+use Rattle.icu_cursor.specs.KeptFacts.{IsNumberDigit}
 use Rattle.icu_cursor.specs.inner.NumberElements.{IsDigitRun, IsNumberPiece}
 use Rattle.icu_cursor.specs.inner.Places.{BeginsAtBoundary}
 

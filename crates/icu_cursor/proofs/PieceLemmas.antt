@@ -4,9 +4,9 @@ use Rattle.unicode_normalization.specs.Forms.{nfd}
 use Rattle.icu_entries.specs.Elements.{Element}
 use Rattle.icu_elements.specs.TextElements.{Reading, elements_after}
 use Rattle.icu_elements.proofs.StepLemmas.{elements_after_nil}
-use Rattle.icu_cuts.proofs.CutLemmas.{boundary_cut, boundary_start}
-use Rattle.icu_cuts.proofs.NfdLemmas.{nfd-nil}
-use Rattle.icu_shortcuts.specs.BoundaryTables.{HasBoundaryBefore}
+use Rattle.icu_boundaries.proofs.CutLemmas.{boundary_cut, boundary_start}
+use Rattle.icu_boundaries.proofs.NfdLemmas.{nfd-nil}
+use Rattle.icu_cursor.specs.BoundaryTables.{HasBoundaryBefore}
 use Rattle.icu_cursor.specs.inner.Places.{MayBeCut, BeginsAtBoundary}
 use Rattle.icu_cursor.specs.inner.Pieces.{IsPiece}
 

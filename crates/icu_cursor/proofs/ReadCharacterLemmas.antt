@@ -6,7 +6,7 @@ use Rattle.unicode_normalization.specs.Decompose.{decompose}
 use Rattle.unicode_normalization.proofs.DecomposeLemmas.{length-from_decompose}
 use Rattle.icu_elements.specs.TextElements.{last_two}
 use Rattle.icu_elements.proofs.ReaderLemmas.{last_two-append}
-use Rattle.icu_cuts.specs.Alone.{context_after}
+use Rattle.icu_boundaries.specs.Alone.{context_after}
 use Rattle.icu_cursor.specs.declared.last_characters.LastCharacters.{LastCharacters}
 use Rattle.icu_cursor.specs.inner.ReadCharacters.{facts_read, context_read}
 

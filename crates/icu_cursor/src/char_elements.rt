@@ -1,10 +1,10 @@
 //! The elements of a character, one by one.
 
 ghost use Rattle.std.specs.Prelude.{◌≡◌, ◌≤◌, [], ◌++◌, None, IsTrue, drop, option_to_list};
-ghost use Rattle.icu_shortcuts.specs.KeptFacts.{char_elements};
+ghost use Rattle.icu_cursor.specs.KeptFacts.{char_elements};
 
+use crate::CharFacts;
 use icu_entries::CollationElement;
-use icu_shortcuts::CharFacts;
 
 /// The elements of a character that were not given yet.
 #[derive(Debug, Clone, Copy)]

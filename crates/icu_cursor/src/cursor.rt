@@ -5,20 +5,20 @@ ghost use Rattle.unicode_normalization.specs.Forms.{nfd};
 ghost use Rattle.icu_elements.specs.TextElements.{elements_of};
 ghost use Rattle.icu_cursor.specs.inner.Ready.{elements_ready, HasNothingLeft};
 
+use crate::char_elements::CharElements;
 use crate::cursor_tables::CursorTables;
 use crate::digit_run::read_number;
-use crate::char_elements::CharElements;
-use crate::piece::{Piece, next_of_piece, read_piece, split_piece};
 use crate::last_characters::LastCharacters;
+use crate::piece::{Piece, next_of_piece, read_piece, split_piece};
 use crate::stands::stands_before;
+use crate::{CharFacts, FactsKind};
 use icu_encodings::EncodedText;
 use icu_entries::CollationElement;
-use icu_shortcuts::{CharFacts, FactsKind};
 use std::alloc::AllocError;
 
 /// Reads an encoded text and gives its collation elements, one by one (UTS #10, "Produce Collation Element Arrays"). A
-/// character that gives the same elements wherever it stands is read from what is kept of it; any other with what follows
-/// it up to the next character before which the text may be cut.
+/// character that gives the same elements wherever it stands is read from what is kept of it; any other with what
+/// follows it up to the next character before which the text may be cut.
 #[derive(Drop)]
 pub struct ElementCursor<'c, 'd, T> {
     tables: &'c CursorTables<'d>,
@@ -33,7 +33,7 @@ pub struct ElementCursor<'c, 'd, T> {
 
 impl<'c, 'd, T: EncodedText> ElementCursor<'c, 'd, T> {
     ghost use Rattle.icu_cursor.specs.Cursors.{cursor_reading, cursor_gives};
-    ghost use Rattle.icu_shortcuts.specs.KeptFacts.{IsNumberDigit};
+    ghost use Rattle.icu_cursor.specs.KeptFacts.{IsNumberDigit};
     ghost use Rattle.icu_cursor.specs.inner.Unread.{HasNothingReady};
     ghost use Rattle.icu_cursor.specs.inner.Standing.{Serves};
 

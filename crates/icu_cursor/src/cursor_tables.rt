@@ -2,15 +2,15 @@
 
 ghost use Rattle.std.specs.Prelude.{◌≡◌, ℕ, IfSome, IsTrue};
 ghost use Rattle.icu_elements.specs.Reading.{reading_of};
-ghost use Rattle.icu_shortcuts.specs.KeptFacts.{IsNumberDigit};
-ghost use Rattle.icu_shortcuts.specs.FactsTables.{AreFacts};
-ghost use Rattle.icu_shortcuts.specs.BoundaryTables.{boundary_reading};
+ghost use Rattle.icu_cursor.specs.KeptFacts.{IsNumberDigit};
+ghost use Rattle.icu_cursor.specs.FactsTables.{AreFacts};
+ghost use Rattle.icu_cursor.specs.BoundaryTables.{boundary_reading};
 ghost use Rattle.icu_cursor.specs.inner.Places.{MayBeCut};
 ghost use Rattle.icu_cursor.specs.inner.MarkRuns.{IsInRun};
 ghost use Rattle.icu_cursor.specs.inner.Standing.{Serves};
 
+use crate::{Boundaries, CharFacts, KeptFacts, facts_of};
 use icu_elements::TextReading;
-use icu_shortcuts::{CharFacts, KeptFacts, Boundaries, facts_of};
 use std::alloc::Global;
 use unicode_normalization::Form;
 use unicode_normalization::char::{canonical_combining_class, decomposition};
@@ -26,8 +26,8 @@ pub struct CursorTables<'d> {
 impl<'d> CursorTables<'d> {
     ghost use Rattle.icu_cursor.specs.Cursors.{cursor_reading};
 
-    /// Texts are read as those are whose boundaries these are, and with facts of characters that were worked out for them. Does
-    /// not allocate.
+    /// Texts are read as those are whose boundaries these are, and with facts of characters that were worked out for
+    /// them. Does not allocate.
     #[inline(always)]
     #[tactic(auto, unfolding(crate::specs::Cursors::cursor_reading))]
     pub fn new(places: Boundaries<'d>, kept_facts: &'d KeptFacts) -> CursorTables<'d>

@@ -7,12 +7,12 @@ ghost use Rattle.icu_cursor.specs.Cursors.{cursor_reading};
 ghost use Rattle.icu_cursor.specs.inner.Ready.{elements_ready};
 ghost use Rattle.icu_cursor.specs.inner.Standing.{Serves};
 
-use crate::cursor_tables::CursorTables;
+use crate::CharFacts;
 use crate::char_elements::CharElements;
+use crate::cursor_tables::CursorTables;
 use crate::stands::stands_before;
 use icu_encodings::EncodedText;
 use icu_entries::CollationElement;
-use icu_shortcuts::CharFacts;
 
 /// Gives the elements of the characters that a text begins with, as long as each may be read by itself: less than an
 /// `ElementCursor`, but at little cost. It never allocates.

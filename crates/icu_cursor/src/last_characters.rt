@@ -4,7 +4,7 @@ ghost use Rattle.std.specs.Prelude.{◌≡◌, [], ◌++◌, OnOk, IfOk, flat_ma
 ghost use Rattle.ucd_normal.specs.declared.forms.Form.TheVariants.{Nfd};
 ghost use Rattle.unicode_normalization.specs.Decompose.{decompose};
 ghost use Rattle.icu_elements.specs.TextElements.{last_two};
-ghost use Rattle.icu_cuts.specs.Alone.{context_after};
+ghost use Rattle.icu_boundaries.specs.Alone.{context_after};
 
 use std::alloc::{AllocError, Global};
 use unicode_normalization::Form;

@@ -7,8 +7,8 @@ ghost use Rattle.icu_cursor.specs.inner.MarkRuns.{Rises};
 ghost use Rattle.icu_cursor.specs.inner.Standing.{Serves, StandsBefore};
 
 use crate::cursor_tables::CursorTables;
+use crate::{CharFacts, FactsKind};
 use icu_encodings::EncodedText;
-use icu_shortcuts::{CharFacts, FactsKind};
 
 /// How many marks of a run are looked at, at most. A longer run is read as a piece, so that no mark is looked at more
 /// often than this.

@@ -7,8 +7,8 @@ use Rattle.unicode_normalization.specs.Order.{is_starter}
 use Rattle.icu_entries.specs.declared.entry.EntryKind.{EntryKind}
 use Rattle.icu_entries.specs.declared.entry.EntryKind.TheVariants.{Contraction, Digit}
 use Rattle.icu_entries.specs.Entries.{kind_of, entry_index}
-use Rattle.icu_data.specs.Contexts.{has_ascending_mappings}
-use Rattle.icu_data.specs.Data.{Data, Context, HomedEntry, homed, no_context, context_of, longest_mapping}
+use Rattle.icu_collation_data.specs.Contexts.{has_ascending_mappings}
+use Rattle.icu_collation_data.specs.Data.{Data, Context, HomedEntry, homed, no_context, context_of, longest_mapping}
 use Rattle.icu_provider.specs.Tables.{entry_of, diacritic_of}
 use Rattle.icu_matches.specs.Matches.{after_prefix}
 use Rattle.icu_matches.specs.MatchesAhead.{are_decided, mapping_length}

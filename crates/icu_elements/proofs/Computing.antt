@@ -3,8 +3,8 @@ use Rattle.unicode_normalization.proofs.Computing.{unicode_normalization}
 use Rattle.icu_entries.specs.Entries.{kind_of, self_contained}
 use Rattle.icu_entries.specs.Weights.{implicit_weight, ordinal_of, weight_at, offset_ordinal, offset_weight}
 use Rattle.icu_provider.specs.Tables.{entry_of, diacritic_of}
-use Rattle.icu_data.specs.Data.{mapping_entry, longest_from}
-use Rattle.icu_data.specs.Final.{final_elements}
+use Rattle.icu_collation_data.specs.Data.{mapping_entry, longest_from}
+use Rattle.icu_collation_data.specs.Final.{final_elements}
 use Rattle.icu_levels.specs.Numbers.{pair_count}
 use Rattle.icu_matches.specs.Matches.{after_prefix, is_blocked, with_marks, contracted, match_from}
 use Rattle.icu_elements.specs.TextElements.{number_step, entry_step, matched_step, elements_along, elements_after}

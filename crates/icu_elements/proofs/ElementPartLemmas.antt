@@ -11,12 +11,12 @@ use Rattle.icu_entries.specs.declared.entry.EntryKind.TheVariants.{Prefix, Contr
 use Rattle.icu_entries.specs.Elements.{Element, of_secondary}
 use Rattle.icu_entries.specs.Entries.{kind_of, digit_value}
 use Rattle.icu_entries.specs.EntryConditions.{has_digit}
-use Rattle.icu_data.specs.Data.{Data, HomedEntry, homed, plain_of}
+use Rattle.icu_collation_data.specs.Data.{Data, HomedEntry, homed, plain_of}
 use Rattle.icu_provider.specs.Tables.{Tables, is_jamo, tailored_entry, entry_of, diacritic_of}
-use Rattle.icu_data.specs.Final.{final_elements}
-use Rattle.icu_data.specs.Reachable.{reachable_digit, reachable_contraction, reachable_from, EachReachable}
-use Rattle.icu_data.proofs.ListLemmas.{weaker}
-use Rattle.icu_data.proofs.ViolationLemmas.{weaker_some}
+use Rattle.icu_collation_data.specs.Final.{final_elements}
+use Rattle.icu_collation_data.specs.Reachable.{reachable_digit, reachable_contraction, reachable_from, EachReachable}
+use Rattle.icu_collation_data.proofs.ListLemmas.{weaker}
+use Rattle.icu_collation_data.proofs.ViolationLemmas.{weaker_some}
 use Rattle.icu_matches.specs.Matches.{Match, match_of}
 use Rattle.icu_elements.specs.TextElements.{Reading, Step, is_silent_dot, continues_number, begins_with_mark, digit_of_char, number_elements, number_step, entry_step, diacritic_step, matched_step, step, consumed, last_two, elements_along, elements_after, elements_of}
 use Rattle.icu_provider.specs.ReachableTables.{jamo_entry, AllReachable, HasDigits}

@@ -4,11 +4,11 @@ use Rattle.std.specs.Char.{IsScalar}
 use Rattle.std.specs.List.{AllByRecursion, Contains}
 use Rattle.unicode_normalization.specs.Forms.{nfd}
 use Rattle.icu_entries.specs.Elements.{of_secondary}
-use Rattle.icu_data.specs.Data.{Data, homed}
+use Rattle.icu_collation_data.specs.Data.{Data, homed}
 use Rattle.icu_provider.specs.Tables.{Tables, diacritic_of}
-use Rattle.icu_data.specs.Final.{final_elements}
-use Rattle.icu_data.specs.Reachable.{reachable_from, reachable_at, EachReachable}
-use Rattle.icu_data.proofs.ListLemmas.{all_append, of_member}
+use Rattle.icu_collation_data.specs.Final.{final_elements}
+use Rattle.icu_collation_data.specs.Reachable.{reachable_from, reachable_at, EachReachable}
+use Rattle.icu_collation_data.proofs.ListLemmas.{all_append, of_member}
 use Rattle.icu_elements.specs.TextElements.{Reading, number_elements, elements_of}
 use Rattle.icu_provider.specs.ReachableTables.{jamo_entry, AllReachable, HasDigits, IsReachable}
 use Rattle.icu_elements.specs.TextParts.{IsDecomposed, NumbersHold, IsTextElement}

@@ -9,8 +9,8 @@ use Rattle.std.specs.List.{list_any}
 use Rattle.icu_entries.specs.declared.entry.EntryKind.TheVariants.{Contraction, Digit}
 use Rattle.icu_entries.specs.Elements.{of_secondary}
 use Rattle.icu_entries.specs.Entries.{kind_of, digit_value}
-use Rattle.icu_data.specs.Contexts.{ascend_from}
-use Rattle.icu_data.specs.Data.{Data, homed, context_of}
+use Rattle.icu_collation_data.specs.Contexts.{ascend_from}
+use Rattle.icu_collation_data.specs.Data.{Data, homed, context_of}
 use Rattle.icu_provider.specs.Tables.{Tables, entry_of, diacritic_of}
 use Rattle.icu_matches.specs.Matches.{Match, after_prefix, match_of}
 use Rattle.icu_matches.specs.MatchesAhead.{and_then, HasWholeMatch}

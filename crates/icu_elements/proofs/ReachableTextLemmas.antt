@@ -10,10 +10,10 @@ use Rattle.icu_entries.specs.declared.error.DataTable.TheVariants.{Root, Jamo, T
 use Rattle.icu_provider.specs.Diacritics.{is_replaced_index}
 use Rattle.icu_entries.specs.Elements.{Element, of_primary, of_secondary}
 use Rattle.icu_provider.specs.ReachableTables.{IsReachable}
-use Rattle.icu_data.specs.Data.{Data, homed}
+use Rattle.icu_collation_data.specs.Data.{Data, homed}
 use Rattle.icu_provider.specs.Tables.{Tables, diacritic_of}
-use Rattle.icu_data.specs.Final.{final_elements}
-use Rattle.icu_data.proofs.ListLemmas.{all_members, of_member, weaker}
+use Rattle.icu_collation_data.specs.Final.{final_elements}
+use Rattle.icu_collation_data.proofs.ListLemmas.{all_members, of_member, weaker}
 use Rattle.icu_provider.specs.CollatorTables.{CollatorTables}
 use Rattle.icu_checks.specs.WellFormedTables.{IsWellFormedTables}
 use Rattle.icu_elements.specs.TextElements.{Reading, elements_of}

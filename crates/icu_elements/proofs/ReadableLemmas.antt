@@ -5,20 +5,20 @@ use Rattle.std.proofs.lemmas.Bool.Decides.{nat_tests}
 use Rattle.std.specs.Char.{IsScalar}
 use Rattle.std.specs.List.{AllByRecursion, Contains}
 use Rattle.icu_entries.specs.declared.error.DataTable.TheVariants.{Root, Jamo, Tailoring}
-use Rattle.icu_data.specs.declared.reachable_condition.ReachableCondition.{ReachableCondition}
-use Rattle.icu_data.specs.declared.reachable_condition.ReachableCondition.TheVariants.{Indices, Digits, Bytes, Offsets}
+use Rattle.icu_collation_data.specs.declared.reachable_condition.ReachableCondition.{ReachableCondition}
+use Rattle.icu_collation_data.specs.declared.reachable_condition.ReachableCondition.TheVariants.{Indices, Digits, Bytes, Offsets}
 use Rattle.icu_entries.specs.declared.entry.EntryKind.{EntryKind}
 use Rattle.icu_entries.specs.declared.entry.EntryKind.TheVariants.{Expansion32, Expansion, Prefix, Contraction, Digit, Offset}
 use Rattle.icu_entries.specs.Entries.{kind_of, entry_index, digit_value}
-use Rattle.icu_data.specs.DataConditions.{is_inside, is_readable}
+use Rattle.icu_collation_data.specs.DataConditions.{is_inside, is_readable}
 use Rattle.icu_entries.specs.EntryConditions.{has_digit}
-use Rattle.icu_data.specs.Reachable.{reachable_digit, reachable_from}
-use Rattle.icu_data.specs.ReachableConditions.{meets}
+use Rattle.icu_collation_data.specs.Reachable.{reachable_digit, reachable_from}
+use Rattle.icu_collation_data.specs.ReachableConditions.{meets}
 use Rattle.icu_provider.specs.ReachableTables.{HasDigits, IsReachable}
-use Rattle.icu_data.specs.Data.{Data, HomedEntry, homed, plain_of}
+use Rattle.icu_collation_data.specs.Data.{Data, HomedEntry, homed, plain_of}
 use Rattle.icu_provider.specs.Tables.{Tables, entry_of}
-use Rattle.icu_data.proofs.ListLemmas.{all_members, of_member}
-use Rattle.icu_data.proofs.EntryLemmas.{test_inside}
+use Rattle.icu_collation_data.proofs.ListLemmas.{all_members, of_member}
+use Rattle.icu_collation_data.proofs.EntryLemmas.{test_inside}
 use Rattle.icu_checks.specs.declared.condition.Condition.TheVariants as conditions
 use Rattle.icu_provider.specs.CollatorTables.{CollatorTables}
 use Rattle.icu_checks.specs.WellFormedTables.{IsWellFormedTables}

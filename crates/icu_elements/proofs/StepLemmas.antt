@@ -5,7 +5,7 @@ use Rattle.icu_entries.specs.declared.entry.EntryKind.{EntryKind}
 use Rattle.icu_entries.specs.declared.entry.EntryKind.TheVariants.{Contraction, Digit}
 use Rattle.icu_entries.specs.Elements.{Element, of_secondary}
 use Rattle.icu_entries.specs.Entries.{kind_of, digit_value}
-use Rattle.icu_data.specs.Data.{Mapping, Context, Data, HomedEntry, mapping_entry, longest_mapping}
+use Rattle.icu_collation_data.specs.Data.{Mapping, Context, Data, HomedEntry, mapping_entry, longest_mapping}
 use Rattle.icu_provider.specs.Tables.{Tables, entry_of, diacritic_of}
 use Rattle.unicode_normalization.specs.Order.{is_starter}
 use Rattle.icu_matches.specs.Matches.{Match, after_prefix, is_blocked, with_marks, contracted, match_from, match_of}

@@ -1,11 +1,11 @@
 -- Reachable entries of small tables, computed.
 use Rattle.std.proofs.Common.{◌≡◌, [], ◌∷◌, refl}
 use Rattle.icu_entries.specs.Entries.{kind_of}
-use Rattle.icu_data.specs.Data.{Data}
-use Rattle.icu_data.specs.Reachable.{reachable_digit, reachable_contraction, reachable_from}
+use Rattle.icu_collation_data.specs.Data.{Data}
+use Rattle.icu_collation_data.specs.Reachable.{reachable_digit, reachable_contraction, reachable_from}
 
--- The first context is a contraction's, with a mapping that comes to a digit. The second is a prefix's: its default is that
--- contraction, and its mapping comes to a prefix.
+-- The first context is a contraction's, with a mapping that comes to a digit. The second is a prefix's: its default is
+-- that contraction, and its mapping comes to a prefix.
 abbrev small : Data
 small = record {
   value = λ c. 0;

@@ -2,7 +2,7 @@
 use Rattle.std.proofs.Common.{ℕ, ◌+◌, ◌-◌, ◌*◌, ◌/◌, ◌%◌, List, [], ◌∷◌, ◌++◌, Some, None, Bool, true, false, map, if◌then◌else◌, nat_le, ◌==◌, ◌&&◌}
 use Rattle.std.specs.List.{range_with_len}
 use Rattle.icu_entries.specs.Elements.{Element, element_of}
-use Rattle.icu_data.specs.Data.{Context, Data}
+use Rattle.icu_collation_data.specs.Data.{Context, Data}
 use Rattle.icu_provider.specs.Tables.{Tables}
 use Rattle.icu_elements.specs.TextElements.{Reading}
 

@@ -7,9 +7,9 @@ use Rattle.icu_entries.specs.Elements.{Element, of_primary, of_secondary}
 use Rattle.icu_entries.specs.declared.entry.EntryKind.{EntryKind}
 use Rattle.icu_entries.specs.declared.entry.EntryKind.TheVariants.{Digit}
 use Rattle.icu_entries.specs.Entries.{kind_of, digit_value}
-use Rattle.icu_data.specs.Data.{Data, homed, plain_of}
+use Rattle.icu_collation_data.specs.Data.{Data, homed, plain_of}
 use Rattle.icu_provider.specs.Tables.{Tables, entry_of, diacritic_of}
-use Rattle.icu_data.specs.Final.{final_elements}
+use Rattle.icu_collation_data.specs.Final.{final_elements}
 use Rattle.icu_matches.specs.Matches.{Match, match_of}
 
 -- How a text is read: the tables, the lead byte of numbers where digits are read as numbers, and whether U+0307 before

@@ -1,12 +1,12 @@
--- What the elements of decomposed texts are put together from: the elements of reachable entries, those of diacritics, and
--- numbers.
+-- What the elements of decomposed texts are put together from: the elements of reachable entries, those of diacritics,
+-- and numbers.
 use Rattle.std.specs.Prelude.{ℕ, ◌≡◌, ◌⊎◌, ◌<◌, Bool, not, ◌||◌, ◌==◌, List, [], ◌∷◌, ◌++◌, Option, Some, IfSome, IsTrue}
 use Rattle.std.specs.Char.{IsScalar}
 use Rattle.std.specs.List.{AllByRecursion, Contains, list_all}
 use Rattle.icu_entries.specs.Elements.{Element, of_secondary}
-use Rattle.icu_data.specs.Data.{Data, homed}
+use Rattle.icu_collation_data.specs.Data.{Data, homed}
 use Rattle.icu_provider.specs.Tables.{Tables, diacritic_of}
-use Rattle.icu_data.specs.Final.{final_elements}
+use Rattle.icu_collation_data.specs.Final.{final_elements}
 use Rattle.icu_elements.specs.TextElements.{Reading, number_elements}
 use Rattle.icu_provider.specs.ReachableTables.{AllReachable, HasDigits, IsReachable}
 
@@ -31,7 +31,8 @@ AreDigits ds = AllByRecursion (λ d. d < 10) ds
 abbrev pub NumbersHold : (List Element → Type 0) → Option ℕ → Type 0
 NumbersHold Holds numeric = IfSome numeric (λ lead. (ds : List ℕ) → AreDigits ds → Holds (number_elements lead ds))
 
--- Each part that a text's elements are put together from is well-formed, and so is what well-formed parts make one after another.
+-- Each part that a text's elements are put together from is well-formed, and so is what well-formed parts make one
+-- after another.
 pub record HasParts (Holds : List Element → Type 0) (reading : Reading) : Type 0 where
   pub none : Holds []
   pub append : (es fs : List Element) → Holds es → Holds fs → Holds (es ++ fs)

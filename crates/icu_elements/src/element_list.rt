@@ -4,7 +4,7 @@ ghost use Rattle.std.specs.Prelude.{List};
 ghost use Rattle.std.specs.List.{push};
 ghost use Rattle.icu_entries.specs.Elements.{Element};
 
-use icu_data::element_walk::VisitElement;
+use icu_collation_data::element_walk::VisitElement;
 use icu_entries::CollationElement;
 use std::alloc::AllocError;
 

@@ -2,14 +2,14 @@
 
 ghost use Rattle.std.specs.Prelude.{◌≡◌, ◌<◌, if◌then◌else◌, IfSome, Some, None};
 ghost use Rattle.icu_provider.specs.Tables.{entry_of, diacritic_of};
-ghost use Rattle.icu_data.specs.Data.{homed};
+ghost use Rattle.icu_collation_data.specs.Data.{homed};
 ghost use Rattle.icu_entries.specs.Entries.{kind_of};
-ghost use Rattle.icu_data.specs.StoredData.{data_of};
+ghost use Rattle.icu_collation_data.specs.StoredData.{data_of};
 ghost use Rattle.icu_checks.specs.Checked.{checked_tables};
 ghost use Rattle.icu_matches.specs.WellFormedEntries.{IsWellFormedFrom};
 
 use icu_checks::CheckedTables;
-use icu_data::CollationData;
+use icu_collation_data::CollationData;
 use icu_entries::{CollationElement32, EntryKind};
 use icu_provider::jamo::{JAMO_BASE, JAMO_COUNT};
 use std::alloc::Global;

@@ -10,15 +10,15 @@ pub fn texts_decompose()
 {}
 
 /// A property that holds of each part of a text's elements, and of two lists together where it holds of both, holds of
-/// the elements of each decomposed text. The parts are the elements of each reachable entry, of each diacritic, and of each
-/// number (UTS #10, "Produce Collation Element Arrays").
+/// the elements of each decomposed text. The parts are the elements of each reachable entry, of each diacritic, and of
+/// each number (UTS #10, "Produce Collation Element Arrays").
 pub fn parts_make_texts()
     ensures lists { PartsMakeTexts }
     ensures elements { ElementsPass }
 {}
 
-/// Where each reachable digit entry's digit is at most 9, each element of each text is one of a reachable entry, of a diacritic
-/// or of a number (UTS #10, "Produce Collation Element Arrays").
+/// Where each reachable digit entry's digit is at most 9, each element of each text is one of a reachable entry, of a
+/// diacritic or of a number (UTS #10, "Produce Collation Element Arrays").
 pub fn elements_have_sources()
     ensures { ElementsHaveSources }
 {}

@@ -1,14 +1,14 @@
 //! What the tables hold for a character, for those who read characters by themselves.
 
 ghost use Rattle.std.specs.Prelude.{◌≡◌};
-ghost use Rattle.icu_data.specs.Data.{homed};
-ghost use Rattle.icu_data.specs.StoredData.{data_of};
+ghost use Rattle.icu_collation_data.specs.Data.{homed};
+ghost use Rattle.icu_collation_data.specs.StoredData.{data_of};
 ghost use Rattle.icu_matches.specs.WellFormedEntries.{IsWellFormedFrom};
 ghost use Rattle.icu_provider.specs.Tables.{entry_of, diacritic_of};
 ghost use Rattle.icu_elements.specs.Reading.{element_tables};
 
 use crate::element_tables::ElementTables;
-use icu_data::CollationData;
+use icu_collation_data::CollationData;
 use icu_entries::CollationElement32;
 
 impl<'d> ElementTables<'d> {

@@ -10,7 +10,7 @@ use Rattle.std.specs.List.Sorted.{IsStrictlySortedBy}
 use Rattle.std.specs.Ordering.{match_ordering, is_eq, is_gt, ordering_reverse}
 use Rattle.std.specs.declared.cmp.Ordering.{Ordering}
 use Rattle.std.specs.declared.cmp.Ordering.TheVariants.{Less, Equal, Greater}
-use Rattle.icu_data.proofs.ListLemmas.{all_append, weaker}
+use Rattle.icu_collation_data.proofs.ListLemmas.{all_append, weaker}
 use Rattle.icu_levels.specs.ListOrder.{list_order}
 use Rattle.icu_index.specs.Listings.{inserted, equal_names}
 use Rattle.icu_index.specs.inner.NameGroups.{Group, added, names_in, IsKeyed}

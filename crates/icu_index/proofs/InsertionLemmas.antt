@@ -11,7 +11,7 @@ use Rattle.std.specs.declared.cmp.Ordering.{Ordering}
 use Rattle.std.specs.declared.cmp.Ordering.TheVariants.{Less, Equal, Greater}
 use Rattle.icu_levels.specs.ListOrder.{list_order}
 use Rattle.icu_index.specs.Listings.{inserted, listing_of, IsStablySorted}
-use Rattle.icu_data.proofs.ListLemmas.{weaker}
+use Rattle.icu_collation_data.proofs.ListLemmas.{weaker}
 
 -- an order by keys is total, with ties
 pub total_by_keys : (order : List ℕ → List ℕ → Ordering) (key : List ℕ → List ℕ)

@@ -1,13 +1,13 @@
 -- The order of names is that of their keys.
 use Rattle.std.proofs.Common.{◌≡◌, ℕ, suc, List, [], ◌∷◌, length, sym, ap, ◌∙◌, subst}
 use Rattle.std.specs.declared.cmp.Ordering.{Ordering}
-use Rattle.icu_comparison.specs.declared.collator.CollatorBorrowed.{CollatorBorrowed}
-use Rattle.icu_comparison.specs.Collators.{tables_borrowed, collation_borrowed}
+use Rattle.icu_collator.specs.declared.collator.CollatorBorrowed.{CollatorBorrowed}
+use Rattle.icu_collator.specs.Collators.{tables_borrowed, collation_borrowed}
 use Rattle.icu_checks.specs.WellFormedTables.{IsWellFormedTables}
 use Rattle.icu_encodings.proofs.Utf8Lemmas.{utf8_scalars}
 use Rattle.icu_encodings.specs.DecodedTexts.{utf8_text}
 use Rattle.icu_levels.specs.ListOrder.{list_order}
-use Rattle.icu_order.proofs.TextOrders.{keys_keep}
+use Rattle.icu_text_order.proofs.TextOrders.{keys_keep}
 use Rattle.icu_index.specs.Listings.{name_order, inserted, equal_names}
 use Rattle.icu_index.specs.inner.NameGroups.{Group, key_of, added, names_in, IsKeyed}
 use Rattle.icu_index.proofs.GroupLemmas.{Ascend, found_at, added_is_inserted, added_keyed, found_are_equal, length_inserted}

@@ -1,6 +1,6 @@
-pub use Rattle.icu_comparison.specs.Collators
+pub use Rattle.icu_collator.specs.Collators
 pub use Rattle.icu_encodings.specs.DecodedTexts
-pub use Rattle.icu_order.specs.TextOrder
+pub use Rattle.icu_text_order.specs.TextOrder
 pub mod Listings
 pub mod NameIndexes
 pub mod inner

@@ -6,8 +6,8 @@ use Rattle.std.specs.Ordering.{is_eq, is_gt}
 use Rattle.std.specs.declared.cmp.Ordering.{Ordering}
 use Rattle.icu_checks.specs.WellFormedTables.{IsWellFormedTables}
 use Rattle.icu_encodings.specs.DecodedTexts.{utf8_text}
-use Rattle.icu_order.specs.Collations.{Collation}
-use Rattle.icu_order.specs.TextOrder.{text_order}
+use Rattle.icu_text_order.specs.Collations.{Collation}
+use Rattle.icu_text_order.specs.TextOrder.{text_order}
 
 -- the order of two names, which are bytes in UTF-8 that may be damaged: that of their texts
 abbrev pub name_order : Collation → List ℕ → List ℕ → Ordering

@@ -2,8 +2,8 @@
 use Rattle.std.specs.Prelude.{ℕ, List, ◌++◌}
 use Rattle.std.specs.List.{flat_map}
 use Rattle.std.specs.declared.cmp.Ordering.{Ordering}
-use Rattle.icu_order.specs.Collations.{Collation}
-use Rattle.icu_comparison.specs.Collators.{collation_borrowed}
+use Rattle.icu_text_order.specs.Collations.{Collation}
+use Rattle.icu_collator.specs.Collators.{collation_borrowed}
 use Rattle.icu_index.specs.declared.index.NameIndex.{NameIndex}
 use Rattle.icu_index.specs.declared.names.NameIter.{NameIter}
 use Rattle.icu_index.specs.Listings.{name_order}

@@ -3,13 +3,13 @@
 ghost use Rattle.std.specs.Prelude.{◌≡◌, [], length, map, IfOk, IsErr, IsTrue, OnOk, OnErr, ◌↔◌};
 ghost use Rattle.std.proofs.Props.{props};
 ghost use Rattle.std.specs.BTreeMap.{IsOrdered};
-ghost use Rattle.icu_comparison.specs.Collators.{collation_borrowed, collation_kept};
+ghost use Rattle.icu_collator.specs.Collators.{collation_borrowed, collation_kept};
 ghost use Rattle.icu_index.specs.Listings.{equal_names, inserted};
 ghost use Rattle.icu_index.specs.inner.NameGroups.{groups_of, key_of, key_order, names_in, IsKeyed};
 
 use crate::groups::{Groups, add_name};
 use crate::names::NameIter;
-use icu_comparison::{Collator, CollatorBorrowed};
+use icu_collator::{Collator, CollatorBorrowed};
 use std::alloc::{AllocError, Global};
 use std::collections::BTreeMap;
 

@@ -8,9 +8,9 @@ use Rattle.icu_entries.specs.Elements.{Element}
 use Rattle.icu_entries.specs.declared.entry.EntryKind.{EntryKind}
 use Rattle.icu_entries.specs.declared.entry.EntryKind.TheVariants.{Prefix, Contraction, Digit}
 use Rattle.icu_entries.specs.Entries.{kind_of, digit_value}
-use Rattle.icu_data.specs.Data.{Data, HomedEntry}
-use Rattle.icu_data.specs.Reachable.{reachable_from}
-use Rattle.icu_data.proofs.ListLemmas.{of_member}
+use Rattle.icu_collation_data.specs.Data.{Data, HomedEntry}
+use Rattle.icu_collation_data.specs.Reachable.{reachable_from}
+use Rattle.icu_collation_data.proofs.ListLemmas.{of_member}
 use Rattle.icu_provider.specs.ReachableTables.{IsReachable}
 use Rattle.icu_provider.specs.Tables.{Tables, entry_of, diacritic_of}
 use Rattle.icu_matches.specs.Matches.{Match, after_prefix, match_from, match_of}

@@ -14,7 +14,7 @@ use Rattle.icu_levels.proofs.OwnOrder.{own_secondaries, own_cases, own_tertiarie
 use Rattle.icu_levels.proofs.IdenticalOrder.{same_from_ranks}
 use Rattle.icu_weighting.specs.Collations.{Collation}
 use Rattle.icu_weighting.specs.Forms.{compression_of, form_by, is_identical}
-use Rattle.icu_order.specs.TextOrder.{lists_by, text_order, text_key}
+use Rattle.icu_text_order.specs.TextOrder.{lists_by, text_order, text_key}
 
 -- ---- a text ties with itself, whatever its characters where they don't count
 

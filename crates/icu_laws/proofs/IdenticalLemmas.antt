@@ -8,15 +8,15 @@ use Rattle.icu_levels.specs.Keys.{Determines}
 use Rattle.icu_levels.proofs.IdenticalOrder.{identical_order, same_from_ranks}
 use Rattle.icu_levels.proofs.KeepLemmas.{tie}
 use Rattle.icu_levels.proofs.Order.{tied_lists}
-use Rattle.icu_data.proofs.CharLemmas.{scalar_below}
-use Rattle.icu_data.proofs.ListLemmas.{weaker}
+use Rattle.icu_collation_data.proofs.CharLemmas.{scalar_below}
+use Rattle.icu_collation_data.proofs.ListLemmas.{weaker}
 use Rattle.icu_checks.specs.WellFormedTables.{IsWellFormedTables}
 use Rattle.icu_elements.specs.TextElementLaws.{IsText}
 use Rattle.icu_elements.specs.TextParts.{IsDecomposed}
 use Rattle.icu_elements.proofs.DecomposedLemmas.{IsDecomposedText-nfd}
 use Rattle.icu_weighting.specs.Collations.{Collation}
-use Rattle.icu_order.specs.TextOrder.{text_order, text_key}
-use Rattle.icu_order.proofs.TextOrders.{equal_keys}
+use Rattle.icu_text_order.specs.TextOrder.{text_order, text_key}
+use Rattle.icu_text_order.proofs.TextOrders.{equal_keys}
 use Rattle.icu_laws.specs.IdenticalLaws.{decomposed_order}
 use Rattle.icu_laws.specs.OrderLaws.{AreEquivalent}
 use Rattle.icu_laws.proofs.EquivalentLemmas.{equivalent_tie, identical_equivalent}

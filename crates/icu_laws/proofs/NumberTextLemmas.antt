@@ -25,11 +25,11 @@ use Rattle.icu_weighting.specs.Collations.{Collation}
 use Rattle.icu_weighting.specs.Forms.{compression_of, form_by, is_identical}
 use Rattle.icu_weighting.specs.Handled.{handled, stayed_elements}
 use Rattle.icu_weighting.specs.Levels.{weights, primaries, level_lists}
-use Rattle.icu_order.specs.ReachableWeights.{IsReachablePrimary}
-use Rattle.icu_order.specs.TextOrder.{reading_by, handled_elements, lists_by, text_order}
-use Rattle.icu_order.proofs.NumberLists.{number_all, run_leads}
-use Rattle.icu_order.proofs.PrimaryWeights.{reachable_primaries}
-use Rattle.icu_order.proofs.SpecialBounds.{numeric_low}
+use Rattle.icu_text_order.specs.ReachableWeights.{IsReachablePrimary}
+use Rattle.icu_text_order.specs.TextOrder.{reading_by, handled_elements, lists_by, text_order}
+use Rattle.icu_text_order.proofs.NumberLists.{number_all, run_leads}
+use Rattle.icu_text_order.proofs.PrimaryWeights.{reachable_primaries}
+use Rattle.icu_text_order.proofs.SpecialBounds.{numeric_low}
 use Rattle.icu_laws.specs.NumberTexts.{IsNumberText, IsDigitText, digits_in}
 use Rattle.icu_laws.proofs.DigitTextLemmas.{digits_give, digits_decimal}
 use Rattle.icu_laws.proofs.EquivalentLemmas.{uncounted_tie}

@@ -19,7 +19,7 @@ use Rattle.icu_weighting.specs.Collations.{Collation}
 use Rattle.icu_weighting.specs.Handled.{HandledElement}
 use Rattle.icu_weighting.specs.Levels.{level_lists}
 use Rattle.icu_weighting.specs.Forms.{compression_of, direction, secondary_form, case_form, cased_form, tertiary_form, quaternary_form, handling_form, is_identical}
-use Rattle.icu_order.specs.TextOrder.{handled_by, lists_by, text_order}
+use Rattle.icu_text_order.specs.TextOrder.{handled_by, lists_by, text_order}
 use Rattle.icu_laws.specs.OrderLaws.{strength_rank, with_strength}
 
 -- ---- orders one after another

@@ -7,8 +7,8 @@ use Rattle.icu_levels.proofs.Order.{same_lists_order}
 use Rattle.icu_checks.specs.WellFormedTables.{IsWellFormedTables}
 use Rattle.icu_elements.specs.TextElementLaws.{IsText}
 use Rattle.icu_weighting.specs.Collations.{Collation}
-use Rattle.icu_order.specs.TextOrder.{text_order, text_key}
-use Rattle.icu_order.proofs.TextOrders.{keys_keep}
+use Rattle.icu_text_order.specs.TextOrder.{text_order, text_key}
+use Rattle.icu_text_order.proofs.TextOrders.{keys_keep}
 use Rattle.icu_laws.specs.OrderLaws.{IsOrderOfTexts}
 
 module _ (collation : Collation) (well_formed : IsWellFormedTables collation.tables) where

@@ -10,9 +10,9 @@ use Rattle.icu_levels.specs.declared.forms.QuaternaryForm.TheVariants.{MayShift,
 use Rattle.icu_levels.specs.declared.forms.TertiaryForm.TheVariants.{WithoutCase}
 use Rattle.icu_elements.specs.TextElements.{elements_of, number_elements}
 use Rattle.icu_weighting.specs.Collations.{Collation}
-use Rattle.icu_order.specs.TextOrder.{reading_by, text_order}
-use Rattle.icu_order.proofs.Computing.{icu_order}
-use Rattle.icu_order.proofs.WorkedSettings.{numeric_at, case_level_at, plain_at, mini}
+use Rattle.icu_text_order.specs.TextOrder.{reading_by, text_order}
+use Rattle.icu_text_order.proofs.Computing.{icu_text_order}
+use Rattle.icu_text_order.proofs.WorkedSettings.{numeric_at, case_level_at, plain_at, mini}
 use Rattle.icu_laws.specs.IdenticalLaws.{decomposed_order}
 use Rattle.icu_laws.specs.NumberTexts.{IsDigitText, digits_in}
 
@@ -20,7 +20,7 @@ use Rattle.icu_laws.specs.NumberTexts.{IsDigitText, digits_in}
 
 -- "012"
 of_digits : IsDigitText mini (48 ∷ 49 ∷ 50 ∷ [])
-unfolding icu_order
+unfolding icu_text_order
 of_digits = record {
   some = lit< tt;
   characters = (
@@ -31,21 +31,21 @@ of_digits = record {
 }
 
 its_value : value_of (digits_in mini (48 ∷ 49 ∷ 50 ∷ [])) ≡ 12
-unfolding icu_order
+unfolding icu_text_order
 its_value = refl
 
 its_elements : elements_of (reading_by (numeric_at Primary mini)) (48 ∷ 49 ∷ 50 ∷ []) ≡ number_elements 0x0F (0 ∷ 1 ∷ 2 ∷ [])
-unfolding icu_order
+unfolding icu_text_order
 its_elements = refl
 
 -- "9" and "012"
 nine_and_twelve : text_order (numeric_at Primary mini) (57 ∷ []) (48 ∷ 49 ∷ 50 ∷ []) ≡ Less
-unfolding icu_order
+unfolding icu_text_order
 nine_and_twelve = refl
 
 -- "12" and "012"
 one_value : text_order (numeric_at Quaternary mini) (49 ∷ 50 ∷ []) (48 ∷ 49 ∷ 50 ∷ []) ≡ Equal
-unfolding icu_order
+unfolding icu_text_order
 one_value = refl
 
 -- and where cases count as well
@@ -53,24 +53,24 @@ abbrev with_cases : Collation
 with_cases = let c = case_level_at Primary mini in record c { settings = record c.settings { numeric = true } }
 
 one_value_with_cases : text_order with_cases (49 ∷ 50 ∷ []) (48 ∷ 49 ∷ 50 ∷ []) ≡ Equal
-unfolding icu_order
+unfolding icu_text_order
 one_value_with_cases = refl
 
 -- at the identical level first zeros count
 one_value_at_identical : text_order (numeric_at Identical mini) (49 ∷ 50 ∷ []) (48 ∷ 49 ∷ 50 ∷ []) ≡ Greater
-unfolding icu_order
+unfolding icu_text_order
 one_value_at_identical = refl
 
 -- as letters first zeros count too
 as_letters : text_order (plain_at Primary mini) (57 ∷ []) (48 ∷ 49 ∷ 50 ∷ []) ≡ Greater
-unfolding icu_order
+unfolding icu_text_order
 as_letters = refl
 
 -- ---- the identical level
 
 -- U+FFFE and U+0000
 lowest : decomposed_order (0xFFFE ∷ []) (0 ∷ []) ≡ Less
-unfolding icu_order
+unfolding icu_text_order
 lowest = refl
 
 lowest_bytes : identical_level (0xFFFE ∷ []) ≡ 2 ∷ []
@@ -81,11 +81,11 @@ next_bytes = refl
 
 -- a acute, composed and in parts, and "a" alone
 in_parts : decomposed_order (0xE1 ∷ []) (97 ∷ 0x301 ∷ []) ≡ Equal
-unfolding icu_order
+unfolding icu_text_order
 in_parts = refl
 
 longer : decomposed_order (0xE1 ∷ []) (97 ∷ []) ≡ Greater
-unfolding icu_order
+unfolding icu_text_order
 longer = refl
 
 -- ---- runs of common weights

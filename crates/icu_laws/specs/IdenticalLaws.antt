@@ -10,7 +10,7 @@ use Rattle.icu_levels.specs.ListOrder.{list_order}
 use Rattle.icu_checks.specs.WellFormedTables.{IsWellFormedTables}
 use Rattle.icu_elements.specs.TextElementLaws.{IsText}
 use Rattle.icu_weighting.specs.Collations.{Collation}
-use Rattle.icu_order.specs.TextOrder.{text_order, text_key}
+use Rattle.icu_text_order.specs.TextOrder.{text_order, text_key}
 use Rattle.icu_laws.specs.OrderLaws.{AreEquivalent}
 
 -- the dictionary order of two decomposed texts, U+FFFE lowest

@@ -6,7 +6,7 @@ use Rattle.icu_levels.specs.Numbers.{value_of}
 use Rattle.icu_checks.specs.WellFormedTables.{IsWellFormedTables}
 use Rattle.icu_elements.specs.TextElementLaws.{IsText}
 use Rattle.icu_weighting.specs.Collations.{Collation}
-use Rattle.icu_order.specs.TextOrder.{text_order}
+use Rattle.icu_text_order.specs.TextOrder.{text_order}
 use Rattle.icu_laws.specs.NumberTexts.{IsNumberText, IsDigitText, digits_in}
 
 -- where digits are read as numbers, a text of digits alone is read as the number of those digits

@@ -9,7 +9,7 @@ use Rattle.icu_provider.specs.Tables.{Tables}
 use Rattle.icu_provider.specs.CollatorTables.{CollatorTables}
 use Rattle.icu_elements.specs.TextElements.{continues_number, digit_of_char, number_elements, elements_of}
 use Rattle.icu_weighting.specs.Collations.{Collation}
-use Rattle.icu_order.specs.TextOrder.{reading_by}
+use Rattle.icu_text_order.specs.TextOrder.{reading_by}
 
 -- The text has the elements of one number and no others: of that with these digits, at most 254 after their first zeros
 pub record IsNumberText (c : Collation) (text digits : List ℕ) : Type 0 where

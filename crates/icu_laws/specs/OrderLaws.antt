@@ -8,7 +8,7 @@ use Rattle.icu_options.specs.declared.settings.Strength.TheVariants.{Primary, Se
 use Rattle.icu_checks.specs.WellFormedTables.{IsWellFormedTables}
 use Rattle.icu_elements.specs.TextElementLaws.{IsText}
 use Rattle.icu_weighting.specs.Collations.{Collation}
-use Rattle.icu_order.specs.TextOrder.{text_order, text_key}
+use Rattle.icu_text_order.specs.TextOrder.{text_order, text_key}
 
 -- ---- a total order with ties
 

@@ -1,5 +1,5 @@
-//! Laws of the order of texts and of their sort keys, over the definitions of `icu_order` and of the levels and sinks
-//! beneath it. Each is the contract of a function that takes no value and makes no call.
+//! Laws of the order of texts and of their sort keys, over the definitions of `icu_text_order` and of the levels and
+//! sinks beneath it. Each is the contract of a function that takes no value and makes no call.
 #![tactic(auto)]
 
 ghost use Rattle.icu_laws.specs.IdenticalLaws.{IdenticalKeysDetermineTexts, IdenticalLevelsDetermineTexts, IdenticalLevelsKeepOrder, IdenticalOrderDeterminesTexts};

@@ -46,8 +46,8 @@ pub record AreTertiaries (form : TertiaryForm) (IsReachable : ℕ → Type 0) : 
   pub leads : (w : ℕ) → IsReachable w → w ≢ (tertiary_runs form).common → w / 256 ≢ (tertiary_runs form).common / 256
   pub prefix_free : IsPrefixFree (weight_bytes 2) IsReachable
 
--- Tertiaries as a form has them, where those without case bits are reachable: the two high bits are the case, lower 0, mixed
--- 1 and upper 2; with upper case first lower is 3, mixed 2 and upper 1, and what has no secondary is 3
+-- Tertiaries as a form has them, where those without case bits are reachable: the two high bits are the case, lower 0,
+-- mixed 1 and upper 2; with upper case first lower is 3, mixed 2 and upper 1, and what has no secondary is 3
 abbrev pub IsCasedTertiary : TertiaryForm → (ℕ → Type 0) → ℕ → Type 0
 IsCasedTertiary WithoutCase IsReachable w = IsReachable w
 IsCasedTertiary LowerFirst IsReachable w = IsReachable (w % 0x4000) × (w / 0x4000 < 3)
@@ -104,9 +104,10 @@ IsPrimaryList numeric IsReachable inside (w ∷ ws) =
 abbrev pub number_lead : Compression → ℕ → ℕ
 number_lead c numeric = lead (c.reorder (numeric * 256 ^ 3))
 
--- Reachable primaries lead with 02 at least, 02 being the merge separator's alone, and are prefix free after reordering.
--- The second byte of a compressible one is neither 03 or less nor FF, and one lead after reordering is compressible
--- for all or for none. Reordering changes leads alone, and keeps the weights of numbers apart from reachable ones
+-- Reachable primaries lead with 02 at least, 02 being the merge separator's alone, and are prefix free after
+-- reordering. The second byte of a compressible one is neither 03 or less nor FF, and one lead after reordering is
+-- compressible for all or for none. Reordering changes leads alone, and keeps the weights of numbers apart from
+-- reachable ones
 pub record ArePrimaries (c : Compression) (numeric : ℕ) (IsReachable : ℕ → Type 0) : Type 0 where
   pub reordered_fits : (w : ℕ) → w < 256 ^ 4 → c.reorder w < 256 ^ 4
   pub lead_alone : (w : ℕ) → w < 256 ^ 4 → below_lead (c.reorder w) ≡ below_lead w

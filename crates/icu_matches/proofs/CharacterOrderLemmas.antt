@@ -7,7 +7,7 @@ use Rattle.std.specs.Cmp.Lexicographic.{bytes_decides}
 use Rattle.std.proofs.lemmas.Bool.{and_parts, and_from, eqb-true, eq-eqb, le-ltb, lt-ltb, cases_order, cases_Bool, false≢true}
 use Rattle.std.proofs.lemmas.Cmp.{nat_list_cmp_total}
 use Rattle.std.proofs.lemmas.Map.Text.{is_eq-slice_cmp}
-use Rattle.icu_data.specs.Contexts.{is_before}
+use Rattle.icu_collation_data.specs.Contexts.{is_before}
 use Rattle.icu_matches.specs.inner.Beginnings.{common_beginning}
 
 -- ---- the order
@@ -83,8 +83,8 @@ shorter_before (x ∷ xs) (y ∷ ys) (z ∷ zs) h k b =
 
 -- ---- what a mapping and a text have in common
 
--- a mapping that begins the text, and doesn't come after another mapping that doesn't come after the text, begins what these
--- have in common
+-- a mapping that begins the text, and doesn't come after another mapping that doesn't come after the text, begins what
+-- these have in common
 pub begins_common : (mapping text other : List ℕ) → starts_with nat_eq text other ≡ true → is_before mapping other ≡ false → is_before text mapping ≡ false → starts_with nat_eq (common_beginning mapping text) other ≡ true
 unfolding common_beginning
 begins_common mapping text [] h k b = refl

@@ -4,8 +4,8 @@ use Rattle.std.specs.Prelude.{slice_get, nat_eq}
 use Rattle.std.specs.List.{starts_with}
 use Rattle.std.proofs.lemmas.Bool.{and_parts, and_from, and_left, eqb-true, eq-eqb, cases_Bool, cases_lt, cases_eq}
 use Rattle.std.proofs.lemmas.Option.{slice_get_within, slice_get_cases}
-use Rattle.icu_data.specs.Contexts.{is_before, ascend_from}
-use Rattle.icu_data.specs.Data.{Mapping}
+use Rattle.icu_collation_data.specs.Contexts.{is_before, ascend_from}
+use Rattle.icu_collation_data.specs.Data.{Mapping}
 use Rattle.icu_matches.specs.MatchesAhead.{is_decided, are_decided}
 use Rattle.icu_matches.specs.inner.Mappings.{SplitsMappings}
 use Rattle.icu_matches.proofs.CharacterOrderLemmas.{before_trans, not_before_back, not_before_itself, same_head, not_before_head}

@@ -3,9 +3,9 @@ use Rattle.std.proofs.Common.{◌≡◌, ℕ, zero, suc, ◌+◌, ◌<◌, true,
 use Rattle.std.specs.Prelude.{slice_get, nat_eq}
 use Rattle.std.specs.List.{starts_with}
 use Rattle.std.proofs.lemmas.Bool.{and_parts, and_from, cases_Bool, cases_eq, cases_lt, cases_order, lt-ltb, false≢true}
-use Rattle.icu_data.proofs.CollectedWeightLemmas.{same_bool}
-use Rattle.icu_data.specs.Contexts.{is_before, ascend_from}
-use Rattle.icu_data.specs.Data.{Mapping, mapping_entry, is_longer, better, longest_from}
+use Rattle.icu_collation_data.proofs.CollectedWeightLemmas.{same_bool}
+use Rattle.icu_collation_data.specs.Contexts.{is_before, ascend_from}
+use Rattle.icu_collation_data.specs.Data.{Mapping, mapping_entry, is_longer, better, longest_from}
 use Rattle.icu_matches.specs.inner.Beginnings.{common_beginning}
 use Rattle.icu_matches.specs.inner.Mappings.{IsUpTo, ComeAfter, SplitsMappings}
 use Rattle.icu_matches.proofs.CharacterOrderLemmas.{before_trans, not_before_back, not_before_itself, before_differs, same_lists, beginning_not_after, shorter_before, begins_common, begins_whole}
@@ -133,7 +133,8 @@ module _ (mappings : List Mapping) (text : List ℕ) (ascend : ascend_from [] ma
     | inr more ↦ absurd (false≢true (sym (begins_not text r.chars (split.above k r more is)) ∙ b))
   ]
 
-  -- where the last mapping doesn't begin the text, the longest that does begins what that mapping and the text have in common
+  -- where the last mapping doesn't begin the text, the longest that does begins what that mapping and the text have in
+  -- common
   pub longest_cut : longest_from None mappings text ≡ longest_from None mappings (common_beginning mapping.chars text)
   longest_cut = same_longest None mappings text (common_beginning mapping.chars text)
       (λ k r is. same_bool _ _ (begins_cut k r is) (begins_whole mapping.chars text r.chars))

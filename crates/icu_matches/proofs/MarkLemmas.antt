@@ -9,7 +9,7 @@ use Rattle.std.proofs.Math.ListN.{drop_of_length-le}
 use Rattle.std.proofs.Math.Seq.{take-append_seam, drop-append_seam}
 use Rattle.ucd_normal.specs.CanonicalCombiningClass.{canonical_combining_class as class_of}
 use Rattle.unicode_normalization.specs.Order.{is_starter}
-use Rattle.icu_data.specs.Data.{Mapping, mapping_entry}
+use Rattle.icu_collation_data.specs.Data.{Mapping, mapping_entry}
 use Rattle.icu_matches.specs.Matches.{Match, is_blocked, with_marks}
 use Rattle.icu_matches.specs.inner.Joining.{greatest_class}
 

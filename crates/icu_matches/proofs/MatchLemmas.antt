@@ -5,13 +5,13 @@ use Rattle.std.proofs.lemmas.Bool.{ltb-true}
 use Rattle.icu_entries.specs.declared.entry.EntryKind.{EntryKind}
 use Rattle.icu_entries.specs.declared.entry.EntryKind.TheVariants.{Expansion32, Expansion, Prefix, Contraction, Digit, Offset}
 use Rattle.icu_entries.specs.Entries.{kind_of, entry_index}
-use Rattle.icu_data.specs.declared.reachable_condition.ReachableCondition.{ReachableCondition}
-use Rattle.icu_data.specs.declared.reachable_condition.ReachableCondition.TheVariants.{Indices}
-use Rattle.icu_data.specs.Data.{Data, homed}
-use Rattle.icu_data.specs.DataConditions.{is_inside}
-use Rattle.icu_data.specs.Reachable.{reachable_digit, reachable_contraction, reachable_from}
-use Rattle.icu_data.specs.ReachableConditions.{meets}
-use Rattle.icu_data.proofs.ListLemmas.{all_members, of_member, weaker, all_of}
+use Rattle.icu_collation_data.specs.declared.reachable_condition.ReachableCondition.{ReachableCondition}
+use Rattle.icu_collation_data.specs.declared.reachable_condition.ReachableCondition.TheVariants.{Indices}
+use Rattle.icu_collation_data.specs.Data.{Data, homed}
+use Rattle.icu_collation_data.specs.DataConditions.{is_inside}
+use Rattle.icu_collation_data.specs.Reachable.{reachable_digit, reachable_contraction, reachable_from}
+use Rattle.icu_collation_data.specs.ReachableConditions.{meets}
+use Rattle.icu_collation_data.proofs.ListLemmas.{all_members, of_member, weaker, all_of}
 use Rattle.icu_matches.specs.WellFormedEntries.{IsWellFormedFrom, IsWellFormedMatch, MeetAll}
 use Rattle.icu_matches.specs.Matches.{after_prefix, match_of}
 use Rattle.icu_matches.proofs.ReachableLemmas.{after_prefix-reachable, match_of-reachable}

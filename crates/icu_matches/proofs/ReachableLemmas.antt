@@ -6,9 +6,9 @@ use Rattle.unicode_normalization.specs.Order.{is_starter}
 use Rattle.icu_entries.specs.declared.entry.EntryKind.{EntryKind}
 use Rattle.icu_entries.specs.declared.entry.EntryKind.TheVariants.{Prefix, Contraction}
 use Rattle.icu_entries.specs.Entries.{kind_of}
-use Rattle.icu_data.specs.Data.{Mapping, Context, Data, HomedEntry, homed, context_of, mapping_entry, better, longest_from, longest_mapping}
-use Rattle.icu_data.specs.Reachable.{context_entries, named_entries, reachable_digit, reachable_contraction, reachable_from}
-use Rattle.icu_data.proofs.ListLemmas.{all_append, all_first, all_second}
+use Rattle.icu_collation_data.specs.Data.{Mapping, Context, Data, HomedEntry, homed, context_of, mapping_entry, better, longest_from, longest_mapping}
+use Rattle.icu_collation_data.specs.Reachable.{context_entries, named_entries, reachable_digit, reachable_contraction, reachable_from}
+use Rattle.icu_collation_data.proofs.ListLemmas.{all_append, all_first, all_second}
 use Rattle.icu_matches.proofs.ChoiceLemmas.{either, maybe}
 use Rattle.icu_matches.specs.Matches.{Match, after_prefix, is_blocked, with_marks, contracted, match_from, match_of}
 

@@ -9,8 +9,8 @@ use Rattle.unicode_normalization.specs.Order.{is_starter}
 use Rattle.icu_entries.specs.declared.entry.EntryKind.{EntryKind}
 use Rattle.icu_entries.specs.declared.entry.EntryKind.TheVariants.{Contraction}
 use Rattle.icu_entries.specs.Entries.{kind_of}
-use Rattle.icu_data.specs.Contexts.{is_before, ascend_from}
-use Rattle.icu_data.specs.Data.{Mapping, Context, HomedEntry, homed, mapping_entry, better, is_longer, longest_from, longest_mapping, context_of}
+use Rattle.icu_collation_data.specs.Contexts.{is_before, ascend_from}
+use Rattle.icu_collation_data.specs.Data.{Mapping, Context, HomedEntry, homed, mapping_entry, better, is_longer, longest_from, longest_mapping, context_of}
 use Rattle.icu_matches.specs.Matches.{Match, after_prefix, is_blocked, with_marks, contracted, match_from, match_of}
 use Rattle.icu_matches.specs.MatchesAhead.{and_then, lone_match, HasWholeMatch, is_decided, are_decided, mapping_length}
 use Rattle.icu_matches.proofs.ChoiceLemmas.{either, either_by, maybe_by, maybe_any}

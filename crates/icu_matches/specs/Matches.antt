@@ -6,7 +6,7 @@ use Rattle.ucd_normal.specs.CanonicalCombiningClass.{canonical_combining_class a
 use Rattle.unicode_normalization.specs.Order.{is_starter}
 use Rattle.icu_entries.specs.declared.entry.EntryKind.TheVariants.{Prefix, Contraction}
 use Rattle.icu_entries.specs.Entries.{kind_of}
-use Rattle.icu_data.specs.Data.{Mapping, Context, Data, HomedEntry, homed, context_of, mapping_entry, longest_mapping}
+use Rattle.icu_collation_data.specs.Data.{Mapping, Context, Data, HomedEntry, homed, context_of, mapping_entry, longest_mapping}
 
 -- the entry that a match comes to, the characters that it consumes after its first, and the text that it leaves
 pub record Match : Type 0 where
@@ -27,8 +27,8 @@ after_prefix h before =
 unfoldable pub is_blocked : List ℕ → ℕ → Bool
 is_blocked passed m = list_any (λ p. nat_le (class_of m) (class_of p)) passed
 
--- Each mark up to the next starter in turn joins the suffix, where it isn't blocked and the suffix with it is a mapping;
--- else it is passed over (UTS #10, "Produce Collation Element Arrays").
+-- Each mark up to the next starter in turn joins the suffix, where it isn't blocked and the suffix with it is a
+-- mapping; else it is passed over (UTS #10, "Produce Collation Element Arrays").
 unfoldable pub with_marks : List Mapping → ℕ → List ℕ → List ℕ → List ℕ → Match
 with_marks mappings entry suffix passed [] = record { entry = entry; suffix = suffix; rest = passed }
 with_marks mappings entry suffix passed (m ∷ ms) =

@@ -1,7 +1,7 @@
 -- How far a match looks into a text, where more of it may follow.
 use Rattle.std.specs.Prelude.{◌≡◌, ℕ, Bool, true, false, not, ◌||◌, nat_eq, List, [], ◌∷◌, ◌++◌, Option, Some, None, length}
 use Rattle.std.specs.List.{list_all}
-use Rattle.icu_data.specs.Data.{Mapping, HomedEntry}
+use Rattle.icu_collation_data.specs.Data.{Mapping, HomedEntry}
 use Rattle.icu_matches.specs.Matches.{Match, match_of}
 
 -- a match that leaves more

@@ -1,11 +1,11 @@
 -- What reading by an entry asks of its home.
 use Rattle.std.specs.Prelude.{ℕ, ◌<◌, List, length, IsTrue}
 use Rattle.std.specs.List.{Contains}
-use Rattle.icu_data.specs.declared.reachable_condition.ReachableCondition.{ReachableCondition}
+use Rattle.icu_collation_data.specs.declared.reachable_condition.ReachableCondition.{ReachableCondition}
 use Rattle.icu_entries.specs.Entries.{entry_index}
-use Rattle.icu_data.specs.Reachable.{reachable_from, reachable_digit}
-use Rattle.icu_data.specs.ReachableConditions.{meets}
-use Rattle.icu_data.specs.Data.{Data}
+use Rattle.icu_collation_data.specs.Reachable.{reachable_from, reachable_digit}
+use Rattle.icu_collation_data.specs.ReachableConditions.{meets}
+use Rattle.icu_collation_data.specs.Data.{Data}
 
 -- the context that the entry refers to is there
 abbrev pub HasContext : Data → ℕ → Type 0

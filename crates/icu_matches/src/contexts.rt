@@ -1,20 +1,20 @@
 //! Prefixes and contractions.
 
 ghost use Rattle.std.specs.Prelude.{◌≡◌, IsTrue, IfOk};
-ghost use Rattle.icu_data.specs.Contexts.{has_ascending_mappings};
-ghost use Rattle.icu_data.specs.Data.{homed};
-ghost use Rattle.icu_data.specs.StoredData.{data_of, found_context};
+ghost use Rattle.icu_collation_data.specs.Contexts.{has_ascending_mappings};
+ghost use Rattle.icu_collation_data.specs.Data.{homed};
+ghost use Rattle.icu_collation_data.specs.StoredData.{data_of, found_context};
 ghost use Rattle.icu_entries.specs.Entries.{kind_of};
 ghost use Rattle.icu_matches.specs.WellFormedEntries.{HasContext};
 ghost use Rattle.icu_matches.specs.Matches.{after_prefix, contracted};
 ghost use Rattle.icu_matches.specs.Texts.{unread, match_left};
 ghost use Rattle.icu_matches.specs.inner.Joining.{match_on};
 
+use crate::mappings::find_longest;
 use crate::marks::join_marks;
 use crate::matched::Matched;
-use crate::mappings::find_longest;
 use crate::text::Text;
-use icu_data::{CollationData, FoundContext};
+use icu_collation_data::{CollationData, FoundContext};
 use icu_entries::{CollationElement32, EntryKind};
 use std::alloc::{AllocError, Global};
 
@@ -49,7 +49,8 @@ fn begin_match(
     text: &mut Text,
 ) -> Result<Matched, AllocError>
     requires { IsTrue (has_ascending_mappings (found_context context)) }
-    ensures { IfOk result (λ m. match_on (found_context context.entry).mappings m 0 (unread text.new)
+    ensures { IfOk result (λ m.
+        match_on (found_context context.entry).mappings m 0 (unread text.new)
         ≡ contracted (found_context context.entry) (unread text.old)) }
 {
     match find_longest(context, text.as_slice()) {

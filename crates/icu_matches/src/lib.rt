@@ -3,12 +3,12 @@
 #![tactic(auto)]
 
 pub mod contexts;
+pub mod mappings;
 mod marks;
 pub mod matched;
-pub mod mappings;
 pub mod text;
 
 pub use contexts::after_prefix;
-pub use matched::{Matched, find_match};
 pub use mappings::{find_longest, mapping_goes_on};
+pub use matched::{Matched, find_match};
 pub use text::Text;

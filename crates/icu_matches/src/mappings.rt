@@ -1,15 +1,15 @@
-//! Mappings of a context, found by bisection: they ascend by the numbers of their characters, a list before those that it
-//! begins.
+//! Mappings of a context, found by bisection: they ascend by the numbers of their characters, a list before those that
+//! it begins.
 
 ghost use Rattle.std.specs.Prelude.{◌≡◌, ◌<◌, ◌≤◌, IsTrue, IfSome, length, not, take};
-ghost use Rattle.icu_data.specs.Contexts.{has_ascending_mappings, is_before};
-ghost use Rattle.icu_data.specs.Data.{mapping_entry, longest_mapping};
-ghost use Rattle.icu_data.specs.StoredData.{found_context};
+ghost use Rattle.icu_collation_data.specs.Contexts.{has_ascending_mappings, is_before};
+ghost use Rattle.icu_collation_data.specs.Data.{mapping_entry, longest_mapping};
+ghost use Rattle.icu_collation_data.specs.StoredData.{found_context};
 ghost use Rattle.icu_matches.specs.MatchesAhead.{are_decided};
 ghost use Rattle.icu_matches.specs.inner.Beginnings.{common_beginning};
 ghost use Rattle.icu_matches.specs.inner.Mappings.{SplitsMappings, mapping_at};
 
-use icu_data::FoundContext;
+use icu_collation_data::FoundContext;
 use icu_entries::CollationElement32;
 
 fn comes_after(mapping: &[char], text: &[char]) -> bool
@@ -67,8 +67,9 @@ fn common_len(mapping: &[char], text: &[char]) -> usize
     end
 }
 
-/// The index of the longest mapping that begins the text. Say the last mapping that does not come after the text does not begin
-/// it. Then each mapping that begins the text begins that mapping too, so it begins the common prefix of the two.
+/// The index of the longest mapping that begins the text. Say the last mapping that does not come after the text does
+/// not begin it. Then each mapping that begins the text begins that mapping too, so it begins the common prefix of the
+/// two.
 pub fn find_longest(context: FoundContext<'_>, text: &[char]) -> Option<usize>
     requires { IsTrue (has_ascending_mappings (found_context context)) }
     ensures value { longest_mapping (found_context context.entry).mappings text.now
@@ -89,8 +90,8 @@ pub fn find_longest(context: FoundContext<'_>, text: &[char]) -> Option<usize>
     }
 }
 
-/// Whether a mapping of a context goes on where the text ends, so that more of the text decides which mapping begins it. The
-/// first mapping after the text does, where any does.
+/// Whether a mapping of a context goes on where the text ends, so that more of the text decides which mapping begins
+/// it. The first mapping after the text does, where any does.
 pub fn mapping_goes_on(context: FoundContext<'_>, text: &[char]) -> bool
     requires { IsTrue (has_ascending_mappings (found_context context)) }
     ensures { result ≡ not (are_decided (found_context context.entry).mappings text.now) }

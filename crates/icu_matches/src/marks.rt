@@ -1,15 +1,15 @@
 //! Marks that join a match: those that don't follow it directly too, where nothing blocks them.
 
 ghost use Rattle.std.specs.Prelude.{◌≡◌, IsTrue, IfOk, OnOk};
-ghost use Rattle.icu_data.specs.Contexts.{has_ascending_mappings};
-ghost use Rattle.icu_data.specs.StoredData.{found_context};
+ghost use Rattle.icu_collation_data.specs.Contexts.{has_ascending_mappings};
+ghost use Rattle.icu_collation_data.specs.StoredData.{found_context};
 ghost use Rattle.icu_matches.specs.Texts.{unread, match_left};
 ghost use Rattle.icu_matches.specs.inner.Joining.{match_on, Joins};
 
-use crate::matched::Matched;
 use crate::mappings::find_mapping;
+use crate::matched::Matched;
 use crate::text::Text;
-use icu_data::FoundContext;
+use icu_collation_data::FoundContext;
 use std::alloc::AllocError;
 use unicode_normalization::char::canonical_combining_class;
 
@@ -20,7 +20,8 @@ fn join_mark(
     matched: &mut Matched,
 ) -> Result<bool, AllocError>
     requires { IsTrue (has_ascending_mappings (found_context context)) }
-    ensures { IfOk result (Joins (found_context context.entry).mappings mark matched.old matched.new) }
+    ensures { IfOk result
+        (Joins (found_context context.entry).mappings mark matched.old matched.new) }
 {
     matched.suffix.push(mark)?;
     match find_mapping(context, matched.suffix.as_slice()) {
@@ -36,8 +37,8 @@ fn join_mark(
 }
 
 /// The marks up to the next starter join the match one by one, and leave the text, where they aren't blocked and the
-/// suffix with them is a mapping. A mark is blocked if its class isn't above the greatest class of those that were passed
-/// over.
+/// suffix with them is a mapping. A mark is blocked if its class isn't above the greatest class of those that were
+/// passed over.
 pub(crate) fn join_marks(
     context: FoundContext<'_>,
     text: &mut Text,

@@ -1,8 +1,8 @@
 //! The match of an entry.
 
 ghost use Rattle.std.specs.Prelude.{◌≡◌, IfOk};
-ghost use Rattle.icu_data.specs.Data.{homed};
-ghost use Rattle.icu_data.specs.StoredData.{data_of};
+ghost use Rattle.icu_collation_data.specs.Data.{homed};
+ghost use Rattle.icu_collation_data.specs.StoredData.{data_of};
 ghost use Rattle.icu_matches.specs.WellFormedEntries.{HasContext, IsWellFormedFrom, IsWellFormedMatch};
 ghost use Rattle.icu_entries.specs.Entries.{kind_of};
 ghost use Rattle.icu_matches.specs.Matches.{match_from, match_of};
@@ -10,7 +10,7 @@ ghost use Rattle.icu_matches.specs.Texts.{unread, match_left};
 
 use crate::contexts::{after_prefix, contract};
 use crate::text::Text;
-use icu_data::CollationData;
+use icu_collation_data::CollationData;
 use icu_entries::{CollationElement32, EntryKind};
 use std::alloc::{AllocError, Global};
 
@@ -47,10 +47,11 @@ fn found(
 /// The match of a character's entry, after the characters that were consumed, nearest first, and before a decomposed
 /// text, from which the characters that the match consumes are taken out.
 ///
-/// A prefix comes first (UTS #35 part 5, "Context-Sensitive Mappings"): its entry becomes that of its longest mapping that
-/// begins what was consumed, or its default. Then a contraction takes its longest mapping that begins the text, or none.
-/// Then each mark up to the next starter joins, if it isn't blocked and makes a mapping of what was taken (UTS #10,
-/// "Produce Collation Element Arrays"). Hint bits of the entry decide nothing. If an allocation fails, nothing is said of the text.
+/// A prefix comes first (UTS #35 part 5, "Context-Sensitive Mappings"): its entry becomes that of its longest mapping
+/// that begins what was consumed, or its default. Then a contraction takes its longest mapping that begins the text, or
+/// none. Then each mark up to the next starter joins, if it isn't blocked and makes a mapping of what was taken (UTS
+/// #10, "Produce Collation Element Arrays"). Hint bits of the entry decide nothing. If an allocation fails, nothing is
+/// said of the text.
 pub fn find_match(
     alloc: Global,
     home: CollationData<'_>,

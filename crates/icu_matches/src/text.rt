@@ -99,8 +99,8 @@ impl Text {
     }
 
     /// One more character comes after those that are still to be read. The room of characters that were read is used
-    /// again once they are as many as those to come. So a text takes at most twice the room of what is still to be read.
-    /// If an allocation fails, what is still to be read is as it was.
+    /// again once they are as many as those to come. So a text takes at most twice the room of what is still to be
+    /// read. If an allocation fails, what is still to be read is as it was.
     #[tactic(auto, unfolding(crate::specs::Texts::unread))]
     pub fn push(&mut self, c: char) -> Result<(), AllocError>
         ensures { unread self.new

@@ -1,7 +1,7 @@
 -- One character more gets its entry after those before it.
 use Rattle.std.proofs.Common.{◌≡◌, ℕ, ◌+◌, ◌<◌, ◌++◌, ◌∷◌, [], List, length, take, get_or, refl, sym, ap, ◌∙◌}
 use Rattle.std.proofs.lemmas.List.{take_more}
-use Rattle.icu_owned_data.specs.Building.{with_entries}
+use Rattle.icu_table_builder.specs.Building.{with_entries}
 use Rattle.icu_mini.specs.Characters.{with_characters}
 
 pub with_characters_none : (value : ℕ → ℕ) → with_characters [] value ≡ value

@@ -1,8 +1,8 @@
 -- Characters with their entries, and those of Mini.
 use Rattle.std.specs.Prelude.{ℕ, ◌+◌, ◌*◌, List, [], ◌∷◌, ◌++◌, map}
 use Rattle.std.specs.List.{range_with_len}
-use Rattle.icu_data.specs.Data.{Data}
-use Rattle.icu_owned_data.specs.Building.{with_entries}
+use Rattle.icu_collation_data.specs.Data.{Data}
+use Rattle.icu_table_builder.specs.Building.{with_entries}
 
 -- the characters of the list have the entries that it gives them, the last one of several, and others what they had
 unfoldable pub with_characters : List (ℕ × ℕ) → (ℕ → ℕ) → ℕ → ℕ

@@ -2,10 +2,10 @@
 -- own, and every other character has an implicit weight.
 use Rattle.std.specs.Prelude.{◌≡◌, ℕ, List, [], ◌∷◌, ◌++◌, Option, Some, None}
 use Rattle.std.specs.Option.{option_map}
-use Rattle.icu_owned_data.specs.Building.{SaysOfCharacters}
-use Rattle.icu_data.specs.Data.{Context, Data}
-use Rattle.icu_owned_data.specs.OwnedData.{vectors_data}
-use Rattle.icu_owned_data.specs.declared.data_vectors.DataVectors.{DataVectors}
+use Rattle.icu_table_builder.specs.Building.{SaysOfCharacters}
+use Rattle.icu_collation_data.specs.Data.{Context, Data}
+use Rattle.icu_table_builder.specs.OwnedData.{vectors_data}
+use Rattle.icu_table_builder.specs.declared.data_vectors.DataVectors.{DataVectors}
 use Rattle.icu_entries.specs.Elements.{Element}
 use Rattle.icu_entries.specs.Entries.{fallback_entry}
 use Rattle.icu_entries.specs.EncodedEntries.{implicit_entry, common_entry}

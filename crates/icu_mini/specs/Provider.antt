@@ -9,12 +9,12 @@ use Rattle.icu_provider.specs.Diacritics.{IsDiacritics, FailsDiacritics}
 use Rattle.icu_provider.specs.Jamo.{IsJamo, FailsJamo}
 use Rattle.icu_provider.specs.SpecialPrimaries.{IsSpecialPrimaries, FailsSpecial}
 use Rattle.icu_provider.specs.StoredTables.{diacritics_of, jamo_of, reordering_of, special_of}
-use Rattle.icu_data.specs.StoredData.{data_of}
+use Rattle.icu_collation_data.specs.StoredData.{data_of}
 use Rattle.icu_mini.specs.declared.mini.Mini.{Mini}
 use Rattle.icu_provider.specs.declared.fixed_provider.FixedLoads.{FixedLoads}
 use Rattle.icu_mini.specs.Mini.{special_held}
 use Rattle.icu_mini.specs.ReorderingData.{reordering_held, HasAllLeads}
-use Rattle.icu_owned_data.specs.OwnedData.{vectors_data, MayBeData, FailsVectors}
+use Rattle.icu_table_builder.specs.OwnedData.{vectors_data, MayBeData, FailsVectors}
 
 -- the error names the table, and a kind of which this holds
 abbrev pub Names : DataTable → (DataErrorKind → Type 0) → DataError → Type 0

@@ -1,6 +1,6 @@
 -- The variants of the test table Mini, each with one thing that Mini lacks.
 use Rattle.std.specs.Prelude.{ℕ, true, List, [], ◌∷◌, Some, replicate, slice_set}
-use Rattle.icu_data.specs.Data.{Mapping, Context, Data}
+use Rattle.icu_collation_data.specs.Data.{Mapping, Context, Data}
 use Rattle.icu_entries.specs.Elements.{common, of_primary}
 use Rattle.icu_entries.specs.EncodedEntries.{of_weights, simple_entry, common_entry, long_secondary_entry, entry_list, element_list}
 use Rattle.icu_entries.specs.EncodedEntries.{prefix_entry, contraction_entry, offset_entry, offset_of}

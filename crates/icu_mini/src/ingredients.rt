@@ -1,16 +1,16 @@
 //! What Mini and its variants are put together from.
 ghost use Rattle.std.specs.Prelude.{◌≡◌, ◌++◌, ◌+◌, ◌*◌, ◌^◌, ◌<◌, ◌∷◌, [], IfOk};
-ghost use Rattle.icu_owned_data.specs.AddedContexts.{given_context};
-ghost use Rattle.icu_owned_data.specs.Building.{SaysOfCharacters};
-ghost use Rattle.icu_owned_data.specs.OwnedData.{vectors_data};
+ghost use Rattle.icu_table_builder.specs.AddedContexts.{given_context};
+ghost use Rattle.icu_table_builder.specs.Building.{SaysOfCharacters};
+ghost use Rattle.icu_table_builder.specs.OwnedData.{vectors_data};
 ghost use Rattle.icu_entries.specs.EncodedEntries.{common_entry};
 ghost use Rattle.icu_mini.specs.Characters.{run};
 ghost use Rattle.icu_mini.specs.Mini.{mini_root, mini_tailoring};
 
 use crate::mini_characters::{plain_digits, set_characters, set_mini_characters};
 use icu_entries::{CollationElement, CollationElement32};
-use icu_owned_data::{DataBuilder, DataVectors};
 use icu_provider::diacritics::OPTIMIZED_DIACRITICS_MAX_COUNT;
+use icu_table_builder::{DataBuilder, DataVectors};
 use std::alloc::{AllocError, Global};
 
 /// How much a simple entry rises where its primary weight does by one in the second byte.

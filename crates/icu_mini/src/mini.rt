@@ -1,8 +1,8 @@
 //! Mini's tables.
 ghost use Rattle.std.specs.Prelude.{◌≡◌, ◌↔◌, IsOk, IfOk, IfErr, IfSome};
 ghost use Rattle.std.specs.Option.{option_map};
-ghost use Rattle.icu_owned_data.specs.OwnedData.{vectors_data, MayBeData, FailsVectors};
-ghost use Rattle.icu_data.specs.StoredData.{data_of};
+ghost use Rattle.icu_table_builder.specs.OwnedData.{vectors_data, MayBeData, FailsVectors};
+ghost use Rattle.icu_collation_data.specs.StoredData.{data_of};
 ghost use Rattle.icu_provider.specs.Diacritics.{IsDiacritics, FailsDiacritics};
 ghost use Rattle.icu_provider.specs.Jamo.{IsJamo, FailsJamo};
 ghost use Rattle.icu_provider.specs.SpecialPrimaries.{IsSpecialPrimaries, FailsSpecial};
@@ -10,14 +10,14 @@ ghost use Rattle.icu_provider.specs.StoredTables.{diacritics_of, jamo_of, reorde
 
 use crate::ingredients::{diacritics, jamo, root};
 use crate::reordering_data::ReorderingData;
-use icu_data::CollationData;
+use icu_collation_data::CollationData;
 use icu_entries::{CollationElement, CollationElement32, DataErrorKind};
 use icu_options::MaxVariable;
-use icu_owned_data::DataVectors;
 use icu_provider::{
     CollationDiacritics, CollationJamo, CollationMetadata, CollationReordering,
     CollationSpecialPrimaries, MetadataFields,
 };
+use icu_table_builder::DataVectors;
 use std::alloc::{AllocError, Global};
 
 /// The tables of Mini, a small collation for tests, or of a variant of it. It owns them and returns each in the form in

@@ -1,11 +1,11 @@
 //! The characters of Mini.
 ghost use Rattle.std.specs.Prelude.{◌≡◌};
-ghost use Rattle.icu_owned_data.specs.Building.{built_data};
+ghost use Rattle.icu_table_builder.specs.Building.{built_data};
 ghost use Rattle.icu_mini.specs.Characters.{mini_characters, run, with_characters_in};
 ghost use Rattle.icu_entries.specs.EncodedEntries.{common_entry};
 
 use icu_entries::CollationElement32;
-use icu_owned_data::DataBuilder;
+use icu_table_builder::DataBuilder;
 
 /// Mini's characters that have entries of their own: ignored, the separator of merged texts, the replacement character;
 /// space, "-", "."; digits, each with its value and the index of its plain entry; letters, and a circled "A". Entries

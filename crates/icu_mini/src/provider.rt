@@ -4,11 +4,11 @@ ghost use Rattle.icu_provider.specs.Diacritics.{FailsDiacritics, IsDiacritics};
 ghost use Rattle.icu_provider.specs.Jamo.{FailsJamo, IsJamo};
 ghost use Rattle.icu_provider.specs.SpecialPrimaries.{FailsSpecial, IsSpecialPrimaries};
 ghost use Rattle.icu_provider.specs.StoredTables.{diacritics_of, jamo_of, reordering_of, special_of};
-ghost use Rattle.icu_owned_data.specs.OwnedData.{FailsVectors, MayBeData, vectors_data};
-ghost use Rattle.icu_data.specs.StoredData.{data_of};
+ghost use Rattle.icu_table_builder.specs.OwnedData.{FailsVectors, MayBeData, vectors_data};
+ghost use Rattle.icu_collation_data.specs.StoredData.{data_of};
 
 use crate::mini::Mini;
-use icu_data::CollationData;
+use icu_collation_data::CollationData;
 use icu_entries::{DataError, DataErrorKind, DataTable};
 use icu_provider::{
     CollationDiacritics, CollationJamo, CollationReordering, CollationSpecialPrimaries, FixedLoads,
@@ -70,7 +70,7 @@ impl Mini {
         ensures { IsLoaded special_of (special_held self.now)
             (IsSpecialPrimaries self.now.last_primaries.items self.now.numeric_primary)
             (Names DataTable.SpecialPrimaries
-                (FailsSpecial self.now.last_primaries.items self.now.numeric_primary))
+            (FailsSpecial self.now.last_primaries.items self.now.numeric_primary))
             result }
     {
         match self.load_special_primaries() {

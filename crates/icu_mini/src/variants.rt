@@ -1,6 +1,6 @@
 //! The variants of Mini, each with one thing that Mini lacks.
 ghost use Rattle.std.specs.Prelude.{◌≡◌, true, ◌∷◌, [], IfOk, replicate, slice_set};
-ghost use Rattle.icu_owned_data.specs.AddedContexts.{given_context};
+ghost use Rattle.icu_table_builder.specs.AddedContexts.{given_context};
 ghost use Rattle.icu_provider.specs.MetadataFields.{metadata_bits};
 ghost use Rattle.icu_mini.specs.Characters.{run};
 ghost use Rattle.icu_mini.specs.Mini.{mini_fields};

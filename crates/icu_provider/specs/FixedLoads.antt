@@ -1,6 +1,6 @@
 -- What a provider returns that has the same tables for each request.
 use Rattle.std.specs.Prelude.{◌≡◌}
-use Rattle.icu_data.specs.StoredData.{data_of}
+use Rattle.icu_collation_data.specs.StoredData.{data_of}
 use Rattle.icu_provider.specs.declared.fixed_provider.FixedLoads.{FixedLoads}
 use Rattle.icu_provider.specs.Loads.{Loads, answer}
 use Rattle.icu_provider.specs.Requests.{Request}

@@ -1,6 +1,6 @@
 -- What tables say that own their vectors.
 use Rattle.std.specs.Prelude.{ℕ, List, option_map}
-use Rattle.icu_owned_data.specs.OwnedData.{owned_data}
+use Rattle.icu_table_builder.specs.OwnedData.{owned_data}
 use Rattle.icu_provider.specs.declared.diacritics.OwnedDiacritics.{OwnedDiacritics}
 use Rattle.icu_provider.specs.declared.jamo.OwnedJamo.{OwnedJamo}
 use Rattle.icu_provider.specs.declared.reordering.OwnedReordering.{OwnedReordering}

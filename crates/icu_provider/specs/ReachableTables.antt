@@ -1,12 +1,12 @@
--- The entries that are reachable in tables: those of a root, of the conjoining jamo, and of a tailoring, which falls back to
--- the root.
+-- The entries that are reachable in tables: those of a root, of the conjoining jamo, and of a tailoring, which falls
+-- back to the root.
 use Rattle.std.specs.Prelude.{ℕ, ◌-◌, ◌≡◌, ◌⊎◌, true, false, slice_index, Some, IfSome, IsTrue}
 use Rattle.std.specs.Char.{IsScalar}
 use Rattle.std.specs.List.{AllByRecursion, Contains}
-use Rattle.icu_data.specs.Data.{Data}
+use Rattle.icu_collation_data.specs.Data.{Data}
 use Rattle.icu_provider.specs.Tables.{Tables, jamo_base, is_jamo}
 use Rattle.icu_entries.specs.EntryConditions.{has_digit}
-use Rattle.icu_data.specs.Reachable.{reachable_from, reachable_at, EachReachable}
+use Rattle.icu_collation_data.specs.Reachable.{reachable_from, reachable_at, EachReachable}
 
 -- the entry of a conjoining jamo
 abbrev pub jamo_entry : Tables → ℕ → ℕ

@@ -4,7 +4,7 @@ use Rattle.icu_entries.specs.declared.error.DataError.{DataError}
 use Rattle.icu_entries.specs.declared.error.DataErrorKind.TheVariants.{Absent}
 use Rattle.icu_entries.specs.declared.error.DataTable.{DataTable}
 use Rattle.icu_entries.specs.declared.error.DataTable.TheVariants.{Tailoring, Reordering}
-use Rattle.icu_data.specs.StoredData.{data_of}
+use Rattle.icu_collation_data.specs.StoredData.{data_of}
 use Rattle.icu_provider.specs.declared.table_set.TableSet.{TableSet}
 use Rattle.icu_provider.specs.StoredTables.{jamo_of, diacritics_of, special_of, reordering_of}
 use Rattle.icu_provider.specs.CollatorTables.{CollatorTables}

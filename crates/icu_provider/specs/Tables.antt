@@ -1,8 +1,8 @@
 -- What the tables of a collator say together, apart from how they are stored.
 use Rattle.std.specs.Prelude.{ℕ, ◌-◌, Bool, ◌&&◌, nat_le, nat_lt, ◌==◌, List, Option, Some, None, if◌then◌else◌, slice_index, length}
 use Rattle.icu_entries.specs.Entries.{fallback_entry}
-use Rattle.icu_data.specs.DataConditions.{diacritics_base}
-use Rattle.icu_data.specs.Data.{Data, HomedEntry, homed}
+use Rattle.icu_collation_data.specs.DataConditions.{diacritics_base}
+use Rattle.icu_collation_data.specs.Data.{Data, HomedEntry, homed}
 
 -- the tables that elements are read from
 pub record Tables : Type 0 where

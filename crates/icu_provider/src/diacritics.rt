@@ -40,7 +40,8 @@ impl<'d> CollationDiacritics<'d> {
     /// - `Element`: a weight is 0, has a nonzero byte after a zero byte, or has a lead byte that secondary weights may
     ///   not have (they may have 02 to 04, 46 to FF, and 05 in 0500).
     ///
-    /// The weights of U+0340, U+0341, U+0343 and U+0344 are free, since no canonical decomposition has these characters.
+    /// The weights of U+0340, U+0341, U+0343 and U+0344 are free, since no canonical decomposition has these
+    /// characters.
     pub fn new(secondaries: &'d [u16]) -> Result<CollationDiacritics<'d>, DataErrorKind>
         ensures accepts { IsOk result ↔ IsDiacritics secondaries.entry.now }
         ensures kind { IfErr result (FailsDiacritics secondaries.entry.now) }

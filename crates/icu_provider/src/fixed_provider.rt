@@ -10,7 +10,7 @@ use crate::provider::CollationProvider;
 use crate::reordering::CollationReordering;
 use crate::request::DataRequest;
 use crate::special_primaries::CollationSpecialPrimaries;
-use icu_data::CollationData;
+use icu_collation_data::CollationData;
 use icu_entries::DataError;
 
 /// What each load returns, whatever the request: tables, or errors. The fields are public, so that a test may have it

@@ -4,7 +4,7 @@ ghost use Rattle.icu_provider.specs.Loads.{answer};
 ghost use Rattle.icu_provider.specs.Metadata.{has_reordering, is_tailored};
 ghost use Rattle.icu_provider.specs.Requests.{request_of, without_type};
 ghost use Rattle.icu_provider.specs.StoredTables.{diacritics_of, reordering_of};
-ghost use Rattle.icu_data.specs.StoredData.{data_of};
+ghost use Rattle.icu_collation_data.specs.StoredData.{data_of};
 ghost use Rattle.icu_provider.specs.LoadedTables.{diacritics_request, if_named, loaded_tables, typed_first};
 ghost use Rattle.icu_provider.specs.TableSets.{tables_in};
 
@@ -14,7 +14,7 @@ use crate::provider::CollationProvider;
 use crate::reordering::CollationReordering;
 use crate::request::DataRequest;
 use crate::table_set::TableSet;
-use icu_data::CollationData;
+use icu_collation_data::CollationData;
 use icu_entries::DataError;
 
 /// The request for the locale alone.

@@ -3,7 +3,7 @@ ghost use Rattle.std.specs.Prelude.{◌≡◌};
 ghost use Rattle.icu_provider.specs.Loads.{Loads, answer};
 ghost use Rattle.icu_provider.specs.Requests.{request_of};
 ghost use Rattle.icu_provider.specs.StoredTables.{diacritics_of, jamo_of, reordering_of, special_of};
-ghost use Rattle.icu_data.specs.StoredData.{data_of};
+ghost use Rattle.icu_collation_data.specs.StoredData.{data_of};
 
 use crate::diacritics::CollationDiacritics;
 use crate::jamo::CollationJamo;
@@ -11,7 +11,7 @@ use crate::metadata::CollationMetadata;
 use crate::reordering::CollationReordering;
 use crate::request::DataRequest;
 use crate::special_primaries::CollationSpecialPrimaries;
-use icu_data::CollationData;
+use icu_collation_data::CollationData;
 use icu_entries::DataError;
 
 /// What gives the tables that collators are made from (UTS #35 part 5).

@@ -61,7 +61,8 @@ impl<'d> CollationSpecialPrimaries<'d> {
     /// and then, if there are 20 in all, bits for the compressible lead bytes. They are refused:
     ///
     /// - `Length`: there are fewer than four.
-    /// - `SpecialPrimary`: the numeric lead is not 03 to FD, or one of the first four numbers is 0 or above 256 times it.
+    /// - `SpecialPrimary`: the numeric lead is not 03 to FD, or one of the first four numbers is 0 or above 256 times
+    ///   it.
     pub fn new(
         last_primaries: &'d [u16],
         numeric_primary: u8,

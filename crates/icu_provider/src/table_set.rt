@@ -1,7 +1,7 @@
 //! The seven tables of a collator together: borrowed, and in vectors of their own.
 ghost use Rattle.std.specs.Prelude.{◌≡◌, Ok, Some, None, IfOk, IfErr, option_map};
-ghost use Rattle.icu_owned_data.specs.OwnedData.{owned_data};
-ghost use Rattle.icu_data.specs.StoredData.{data_of};
+ghost use Rattle.icu_table_builder.specs.OwnedData.{owned_data};
+ghost use Rattle.icu_collation_data.specs.StoredData.{data_of};
 ghost use Rattle.icu_provider.specs.CollatorTables.{is_forward, reorder, new_lead};
 ghost use Rattle.icu_provider.specs.OwnedTables.{owned_reordering, owned_tables};
 ghost use Rattle.icu_provider.specs.StoredTables.{reordering_of};
@@ -14,9 +14,9 @@ use crate::jamo::{CollationJamo, OwnedJamo};
 use crate::metadata::CollationMetadata;
 use crate::reordering::{CollationReordering, OwnedReordering, lead_byte};
 use crate::special_primaries::{CollationSpecialPrimaries, OwnedSpecialPrimaries};
-use icu_data::CollationData;
+use icu_collation_data::CollationData;
 use icu_entries::{DataError, DataErrorKind, DataTable};
-use icu_owned_data::OwnedData;
+use icu_table_builder::OwnedData;
 use std::alloc::{AllocError, Global};
 
 /// The seven tables of a collator, each of which has passed its own checks. As a provider it gives them for each

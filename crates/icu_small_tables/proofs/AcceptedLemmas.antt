@@ -4,8 +4,8 @@ use Rattle.std.specs.Prelude.{IfOk, IfErr}
 use Rattle.icu_entries.specs.declared.error.DataError.{DataError}
 use Rattle.icu_entries.specs.declared.error.DataErrorKind.{DataErrorKind}
 use Rattle.icu_entries.specs.declared.error.DataErrorKind.TheVariants.{NoMemory}
-use Rattle.icu_data.specs.Data.{Data}
-use Rattle.icu_owned_data.specs.Building.{SaysOfCharacters}
+use Rattle.icu_collation_data.specs.Data.{Data}
+use Rattle.icu_table_builder.specs.Building.{SaysOfCharacters}
 use Rattle.icu_provider.specs.CollatorTables.{CollatorTables}
 use Rattle.icu_checks.specs.declared.checked.CheckedTables.{CheckedTables}
 use Rattle.icu_checks.specs.Checked.{checked_tables}

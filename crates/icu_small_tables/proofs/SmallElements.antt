@@ -7,7 +7,7 @@ use Rattle.icu_entries.specs.Elements.{Element, common, of_primary, of_secondary
 use Rattle.icu_entries.specs.ElementConditions.{tertiary_of}
 use Rattle.icu_entries.specs.Entries.{simple_element}
 use Rattle.icu_entries.specs.Weights.{implicit_weight}
-use Rattle.icu_data.specs.Data.{Data}
+use Rattle.icu_collation_data.specs.Data.{Data}
 use Rattle.icu_levels.specs.WeightBytes.{weight_bytes}
 use Rattle.icu_provider.specs.SpecialPrimaries.{is_compressible}
 use Rattle.icu_checks.specs.declared.condition.ReachableElementCondition.{ReachableElementCondition}
@@ -19,7 +19,7 @@ use Rattle.icu_checks.specs.declared.condition.LeadCondition.TheVariants as of_l
 use Rattle.icu_checks.specs.ElementConditions.{has_low_bytes, is_tertiary_element, reachable_element_meets}
 use Rattle.icu_checks.specs.LeadConditions.{LeadMeets}
 use Rattle.icu_checks.specs.PairConditions.{BeginsNot, PairMeets}
-use Rattle.icu_data.proofs.ListLemmas.{of_member}
+use Rattle.icu_collation_data.proofs.ListLemmas.{of_member}
 use Rattle.icu_checks.proofs.ComparedLevelLemmas.{passes}
 use Rattle.icu_checks.proofs.EntryViolationLemmas.{passes_element}
 use Rattle.icu_checks.proofs.ImplicitLemmas.{AreBytes, implicit_bytes, implicit_pass}

@@ -12,21 +12,21 @@ use Rattle.icu_entries.specs.Elements.{Element, of_secondary}
 use Rattle.icu_entries.specs.Entries.{kind_of, self_contained, is_self_contained, simple_element}
 use Rattle.icu_entries.specs.EntryConditions.{has_digit, has_known_byte}
 use Rattle.icu_entries.specs.ElementConditions.{has_shape, ends_at_zero, has_secondary_lead, has_tertiary_lead, has_primary_lead}
-use Rattle.icu_data.specs.declared.reachable_condition.ReachableCondition.{ReachableCondition}
-use Rattle.icu_data.specs.declared.reachable_condition.ReachableCondition.TheVariants as of_entry
-use Rattle.icu_data.specs.CodePointTables.{code_point_count}
-use Rattle.icu_data.specs.Data.{Data, homed}
-use Rattle.icu_data.specs.DataConditions.{is_inside, has_short_mappings, leads_on, has_known_members, fits_offset, avoids_diacritics}
-use Rattle.icu_data.specs.Final.{final_elements}
-use Rattle.icu_data.specs.Reachable.{reachable_from, reachable_contraction, reachable_digit}
-use Rattle.icu_data.specs.ReachableConditions.{meets}
+use Rattle.icu_collation_data.specs.declared.reachable_condition.ReachableCondition.{ReachableCondition}
+use Rattle.icu_collation_data.specs.declared.reachable_condition.ReachableCondition.TheVariants as of_entry
+use Rattle.icu_collation_data.specs.CodePointTables.{code_point_count}
+use Rattle.icu_collation_data.specs.Data.{Data, homed}
+use Rattle.icu_collation_data.specs.DataConditions.{is_inside, has_short_mappings, leads_on, has_known_members, fits_offset, avoids_diacritics}
+use Rattle.icu_collation_data.specs.Final.{final_elements}
+use Rattle.icu_collation_data.specs.Reachable.{reachable_from, reachable_contraction, reachable_digit}
+use Rattle.icu_collation_data.specs.ReachableConditions.{meets}
 use Rattle.icu_checks.specs.ReachableElements.{IsReachableBy, IsElementBy, IsOfEntryBy, IsOfReachableDiacritic}
 use Rattle.icu_provider.specs.ReachableTables.{jamo_entry}
 use Rattle.icu_provider.specs.Tables.{is_jamo}
-use Rattle.icu_data.proofs.CharLemmas.{scalar_below}
-use Rattle.icu_data.proofs.ImplicitLemmas.{implicit_passes}
-use Rattle.icu_data.proofs.ListLemmas.{all_members, of_member}
-use Rattle.icu_data.proofs.ViolationLemmas.{passes_meets}
+use Rattle.icu_collation_data.proofs.CharLemmas.{scalar_below}
+use Rattle.icu_collation_data.proofs.ImplicitLemmas.{implicit_passes}
+use Rattle.icu_collation_data.proofs.ListLemmas.{all_members, of_member}
+use Rattle.icu_collation_data.proofs.ViolationLemmas.{passes_meets}
 use Rattle.icu_checks.proofs.ComparedLevelLemmas.{implicit_elements, passes}
 use Rattle.icu_small_tables.specs.SmallTables.{letter_a, letter_b, letter_a_grave, grave, entry_of_a, implicit_entry, context_of_a, small_entry, tables_with}
 use Rattle.icu_small_tables.proofs.SmallElements.{IsSmallElement, stated, implicit, stated_elements}

@@ -7,9 +7,9 @@ use Rattle.icu_entries.specs.EntryConditions.{has_digit, has_known_byte}
 use Rattle.icu_entries.specs.ElementConditions.{has_shape, ends_at_zero, has_secondary_lead, has_tertiary_lead}
 use Rattle.icu_entries.specs.Elements.{Element}
 use Rattle.icu_entries.specs.Entries.{kind_of}
-use Rattle.icu_data.specs.CodePointTables.{code_point_count}
-use Rattle.icu_data.specs.Contexts.{ascend_from, has_ascending_mappings}
-use Rattle.icu_data.specs.Data.{Context, Data}
+use Rattle.icu_collation_data.specs.CodePointTables.{code_point_count}
+use Rattle.icu_collation_data.specs.Contexts.{ascend_from, has_ascending_mappings}
+use Rattle.icu_collation_data.specs.Data.{Context, Data}
 use Rattle.icu_provider.specs.CollatorTables.{CollatorTables}
 use Rattle.icu_provider.specs.Diacritics.{is_diacritic_weight, is_replaced_index}
 use Rattle.icu_provider.specs.SpecialPrimaries.{ends_below, is_numeric_lead}

@@ -5,17 +5,17 @@ use Rattle.std.proofs.lemmas.Bool.Decides.{nat_tests}
 use Rattle.std.specs.List.{Contains}
 use Rattle.icu_entries.specs.declared.error.DataTable.TheVariants as tables
 use Rattle.icu_entries.specs.Elements.{element_of}
-use Rattle.icu_data.specs.declared.context.Context.{Context as StoredContext}
-use Rattle.icu_data.specs.declared.context.ContextMapping.{ContextMapping}
-use Rattle.icu_data.specs.declared.reachable_condition.ReachableCondition.{ReachableCondition}
-use Rattle.icu_data.specs.CodePointTables.{IsCodePointTable, code_point_count, stored_value}
-use Rattle.icu_data.specs.Contexts.{IsContextTable, HasMappingsInside, HasCharsInside, has_ascending_mappings, stored_context, stored_contexts}
-use Rattle.icu_data.specs.Reachable.{reachable_at}
-use Rattle.icu_data.specs.ReachableConditions.{meets, EachMeets, IsWellFormedData}
-use Rattle.icu_owned_data.specs.declared.data_vectors.DataVectors.{DataVectors}
-use Rattle.icu_owned_data.specs.Building.{SaysOfCharacters}
-use Rattle.icu_owned_data.specs.OwnedData.{vectors_data, MayBeData}
-use Rattle.icu_data.proofs.ListLemmas.{all_members, weaker}
+use Rattle.icu_collation_data.specs.declared.context.Context.{Context as StoredContext}
+use Rattle.icu_collation_data.specs.declared.context.ContextMapping.{ContextMapping}
+use Rattle.icu_collation_data.specs.declared.reachable_condition.ReachableCondition.{ReachableCondition}
+use Rattle.icu_collation_data.specs.CodePointTables.{IsCodePointTable, code_point_count, stored_value}
+use Rattle.icu_collation_data.specs.Contexts.{IsContextTable, HasMappingsInside, HasCharsInside, has_ascending_mappings, stored_context, stored_contexts}
+use Rattle.icu_collation_data.specs.Reachable.{reachable_at}
+use Rattle.icu_collation_data.specs.ReachableConditions.{meets, EachMeets, IsWellFormedData}
+use Rattle.icu_table_builder.specs.declared.data_vectors.DataVectors.{DataVectors}
+use Rattle.icu_table_builder.specs.Building.{SaysOfCharacters}
+use Rattle.icu_table_builder.specs.OwnedData.{vectors_data, MayBeData}
+use Rattle.icu_collation_data.proofs.ListLemmas.{all_members, weaker}
 use Rattle.icu_small_tables.specs.SmallTables.{letter_a, letter_a_grave, context_of_a, implicit_entry, small_entry, small_root}
 use Rattle.icu_small_tables.specs.StoredRoot.{HoldsFirst, small_block, StoresSmallRoot}
 use Rattle.icu_small_tables.proofs.SmallEntries.{root_by, entry_is_well_formed}

@@ -1,7 +1,7 @@
 -- Small tables: a root with two letters and a contraction, a mark, and implicit weights for all else.
 use Rattle.std.specs.Prelude.{◌≡◌, ℕ, ◌<◌, ◌≤◌, ◌==◌, [], ◌∷◌, None, replicate, if◌then◌else◌}
-use Rattle.icu_data.specs.Data.{Context, Data}
-use Rattle.icu_owned_data.specs.Building.{SaysOfCharacters}
+use Rattle.icu_collation_data.specs.Data.{Context, Data}
+use Rattle.icu_table_builder.specs.Building.{SaysOfCharacters}
 use Rattle.icu_provider.specs.CollatorTables.{CollatorTables}
 use Rattle.icu_provider.specs.Tables.{Tables}
 

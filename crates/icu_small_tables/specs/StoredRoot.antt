@@ -1,6 +1,6 @@
 -- The small root as it is stored.
 use Rattle.std.specs.Prelude.{◌≡◌, ℕ, ◌<◌, ◌==◌, List, [], ◌∷◌, length, slice_index_or, if◌then◌else◌}
-use Rattle.icu_owned_data.specs.declared.data_vectors.DataVectors.{DataVectors}
+use Rattle.icu_table_builder.specs.declared.data_vectors.DataVectors.{DataVectors}
 use Rattle.icu_small_tables.specs.SmallTables.{letter_a, letter_a_grave, small_entry}
 
 -- a list of the values of a function at the first n numbers

@@ -5,7 +5,7 @@ ghost use Rattle.std.specs.Prelude.{◌≡◌, ℕ, IfOk, IfErr};
 ghost use Rattle.icu_checks.specs.Checked.{checked_tables};
 ghost use Rattle.icu_checks.specs.WellFormedTables.{IsWellFormedTables};
 ghost use Rattle.icu_provider.specs.CollatorTables.{CollatorTables};
-ghost use Rattle.icu_owned_data.specs.OwnedData.{owned_data};
+ghost use Rattle.icu_table_builder.specs.OwnedData.{owned_data};
 ghost use Rattle.icu_provider.specs.TableSets.{tables_in};
 ghost use Rattle.icu_small_tables.specs.SmallTables.{small_tables, with_root, AreSmallTables, IsLowLead};
 
@@ -13,10 +13,10 @@ mod small_root;
 
 use icu_checks::CheckedTables;
 use icu_entries::{DataError, DataErrorKind};
-use icu_owned_data::OwnedData;
 use icu_provider::{
     CollationDiacritics, CollationJamo, CollationMetadata, CollationSpecialPrimaries, TableSet,
 };
+use icu_table_builder::OwnedData;
 use std::alloc::Global;
 
 /// The conditions on all tables of a collator can be met: the small tables meet them, and so do tables that say the

@@ -1,14 +1,14 @@
 //! The small root, stored.
 ghost use Rattle.std.specs.Prelude.{◌≡◌, IsOk, IfOk, IfErr};
-ghost use Rattle.icu_owned_data.specs.Building.{SaysOfCharacters};
-ghost use Rattle.icu_owned_data.specs.OwnedData.{owned_data};
+ghost use Rattle.icu_table_builder.specs.Building.{SaysOfCharacters};
+ghost use Rattle.icu_table_builder.specs.OwnedData.{owned_data};
 ghost use Rattle.icu_small_tables.specs.SmallTables.{small_entry, small_root};
 ghost use Rattle.icu_small_tables.specs.StoredRoot.{small_block, HoldsFirst, StoresSmallRoot};
 
-use icu_data::code_point_table::BLOCK_COUNT;
-use icu_data::{Context, ContextMapping};
+use icu_collation_data::code_point_table::BLOCK_COUNT;
+use icu_collation_data::{Context, ContextMapping};
 use icu_entries::{DataError, DataErrorKind, DataTable};
-use icu_owned_data::{DataVectors, OwnedData};
+use icu_table_builder::{DataVectors, OwnedData};
 use std::alloc::{AllocError, Global};
 
 /// The entry of a character: "a" contracts by context 0, "b" is a letter, and the weights of all others follow from

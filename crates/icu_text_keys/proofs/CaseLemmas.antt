@@ -4,17 +4,17 @@ use Rattle.std.specs.List.{AllByRecursion}
 use Rattle.unicode_normalization.specs.Forms.{nfd}
 use Rattle.icu_levels.specs.declared.forms.CaseForm.TheVariants.{LowerFirst}
 use Rattle.icu_entries.specs.Elements.{Element}
-use Rattle.icu_data.proofs.ListLemmas.{weaker}
+use Rattle.icu_collation_data.proofs.ListLemmas.{weaker}
 use Rattle.icu_checks.specs.WellFormedTables.{IsWellFormedTables}
 use Rattle.icu_elements.specs.TextElements.{elements_of}
 use Rattle.icu_elements.specs.TextElementLaws.{IsText}
 use Rattle.icu_weighting.specs.Collations.{Collation}
 use Rattle.icu_weighting.specs.Forms.{last_variable_by}
 use Rattle.icu_weighting.specs.Handled.{HandledElement, stayed, shifted_primary}
-use Rattle.icu_order.specs.TextOrder.{reading_by, handled_by}
-use Rattle.icu_order.proofs.ElementHalves.{has_rank}
-use Rattle.icu_order.proofs.HandledLemmas.{HoldsOf, handled_hold}
-use Rattle.icu_order.proofs.TextSources.{IsSource, text_sources}
+use Rattle.icu_text_order.specs.TextOrder.{reading_by, handled_by}
+use Rattle.icu_text_order.proofs.ElementHalves.{has_rank}
+use Rattle.icu_text_order.proofs.HandledLemmas.{HoldsOf, handled_hold}
+use Rattle.icu_text_order.proofs.TextSources.{IsSource, text_sources}
 use Rattle.icu_weighting.specs.HandledSources.{HasCase}
 
 module _ (collation : Collation) (well_formed : IsWellFormedTables collation.tables) where

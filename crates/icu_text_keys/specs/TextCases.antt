@@ -5,7 +5,7 @@ use Rattle.unicode_normalization.specs.Forms.{nfd}
 use Rattle.icu_checks.specs.WellFormedTables.{IsWellFormedTables}
 use Rattle.icu_elements.specs.TextElementLaws.{IsText}
 use Rattle.icu_weighting.specs.Collations.{Collation}
-use Rattle.icu_order.specs.TextOrder.{handled_by}
+use Rattle.icu_text_order.specs.TextOrder.{handled_by}
 use Rattle.icu_weighting.specs.HandledSources.{HasCase}
 
 -- of any text, by each collation whose tables meet the conditions

@@ -2,14 +2,14 @@
 #![tactic(auto)]
 
 ghost use Rattle.std.specs.Prelude.{◌≡◌, map, IfOk};
-ghost use Rattle.icu_comparison.specs.Collators.{collation_kept};
+ghost use Rattle.icu_collator.specs.Collators.{collation_kept};
 ghost use Rattle.icu_index.specs.Listings.{listing_of, name_order};
 ghost use Rattle.icu_index.specs.NameIndexes.{index_collation, listing};
 
-use icu_collator::index::NameIndex;
 use icu_collator::options::{CollatorOptions, Strength};
 use icu_collator::provider::{DataError, DataErrorKind};
 use icu_collator::{Collator, CollatorPreferences};
+use icu_index::NameIndex;
 use icu_mini::mini::Mini;
 use std::alloc::{AllocError, Global};
 use std::io;

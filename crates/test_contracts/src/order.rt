@@ -2,12 +2,12 @@
 
 ghost use Rattle.std.specs.Prelude.{◌≡◌, IfOk, OnOk, OnErr, Ok, chars};
 ghost use Rattle.icu_keys.specs.KeyWrites.{WritesKey};
-ghost use Rattle.icu_order.specs.TextOrder.{text_order, text_key};
-ghost use Rattle.icu_comparison.specs.Collators.{collation_kept};
+ghost use Rattle.icu_text_order.specs.TextOrder.{text_order, text_key};
+ghost use Rattle.icu_collator.specs.Collators.{collation_kept};
 ghost use Rattle.icu_index.specs.Listings.{inserted};
 ghost use Rattle.icu_index.specs.NameIndexes.{index_order, listing};
 
-use icu_comparison::Collator;
+use icu_collator::Collator;
 use icu_index::NameIndex;
 use icu_keys::{CollationKeySink, SortKeyError};
 use std::alloc::AllocError;

@@ -4,7 +4,7 @@ ghost use Rattle.std.specs.Prelude.{◌≡◌, IsOk, IfOk, IfErr};
 ghost use Rattle.icu_provider.specs.TableSets.{tables_in};
 ghost use Rattle.icu_checks.specs.Checked.{checked_tables};
 ghost use Rattle.icu_checks.specs.WellFormedTables.{IsWellFormedTables, IsTrueError};
-ghost use Rattle.icu_order.specs.Forms.{form_by};
+ghost use Rattle.icu_text_order.specs.Forms.{form_by};
 ghost use Rattle.icu_weighting.specs.CheckedCollations.{collation_of};
 
 use icu_checks::CheckedTables;

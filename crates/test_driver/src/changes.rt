@@ -46,7 +46,12 @@ pub(crate) fn change(
 }
 
 /// Changes the tables.
-fn change_tables(alloc: Global, mini: &mut Mini, question: &str, rest: &str) -> Result<(), DriverError> {
+fn change_tables(
+    alloc: Global,
+    mini: &mut Mini,
+    question: &str,
+    rest: &str,
+) -> Result<(), DriverError> {
     match question {
         "base" => *mini = base(alloc, rest)?,
         "set" => set(alloc, mini, rest)?,

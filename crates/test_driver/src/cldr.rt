@@ -2,11 +2,11 @@
 use crate::driver_error::DriverError;
 use crate::tables::vectors;
 use icu_cldr::{CldrRoot, ReadError, read_root};
-use icu_data::CollationData;
+use icu_collation_data::CollationData;
 use icu_entries::DataError;
 use icu_mini::mini::Mini;
-use icu_owned_data::DataVectors;
 use icu_provider::{CollationProvider, DataRequest};
+use icu_table_builder::DataVectors;
 use std::alloc::{AllocError, Global};
 use std::io::BufRead;
 
@@ -18,7 +18,10 @@ pub(crate) enum CldrFile {
 }
 
 /// Reads a file.
-pub(crate) fn read_cldr<R: BufRead + Drop>(alloc: Global, reader: R) -> Result<CldrFile, DriverError> {
+pub(crate) fn read_cldr<R: BufRead + Drop>(
+    alloc: Global,
+    reader: R,
+) -> Result<CldrFile, DriverError> {
     match read_root(alloc, reader) {
         Ok(root) => Ok(CldrFile::Root(tables(alloc, &root)?, absent(alloc, &root)?)),
         Err(ReadError::NoMemory) => Err(DriverError::NoMemory),
@@ -37,7 +40,12 @@ fn loaded<T>(loaded: Result<T, DataError>) -> Result<T, DriverError> {
 fn vectors_of(alloc: Global, data: CollationData<'_>) -> Result<DataVectors, AllocError> {
     let (trie, ces, ce32s, contexts) = data.parts();
     let (contexts, mappings, chars) = contexts.parts();
-    vectors(alloc, trie.parts(), (ces, ce32s), (contexts, mappings, chars))
+    vectors(
+        alloc,
+        trie.parts(),
+        (ces, ce32s),
+        (contexts, mappings, chars),
+    )
 }
 
 /// The tables of a root: no tailoring, and no reordering.

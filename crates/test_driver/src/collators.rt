@@ -2,12 +2,12 @@
 use crate::driver_error::{DriverError, answered};
 use crate::settings::Named;
 use icu_checks::CheckedTables;
-use icu_comparison::Collator;
-use icu_data::{CodePointTable, CollationData, ContextTable};
+use icu_collation_data::{CodePointTable, CollationData, ContextTable};
+use icu_collator::Collator;
 use icu_entries::{DataError, DataErrorKind, DataTable};
 use icu_mini::mini::Mini;
-use icu_owned_data::DataVectors;
 use icu_provider::{CollationReordering, TableSet};
+use icu_table_builder::DataVectors;
 use std::alloc::Global;
 
 /// A collator by these tables and settings. All questions make theirs here: a function with this call is dear to prove.

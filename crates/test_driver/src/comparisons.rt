@@ -1,7 +1,7 @@
 //! The order of two texts.
 use crate::driver_error::DriverError;
 use crate::texts::{WrittenText, two};
-use icu_comparison::Collator;
+use icu_collator::Collator;
 use std::alloc::{AllocError, Global};
 use std::cmp::Ordering;
 

@@ -163,7 +163,11 @@ impl Readings {
 }
 
 /// The elements of texts that spell the same, each read in its ways: once, or all that differ.
-pub(crate) fn all_readings(alloc: Global, reader: &Reader, texts: &str) -> Result<String, DriverError> {
+pub(crate) fn all_readings(
+    alloc: Global,
+    reader: &Reader,
+    texts: &str,
+) -> Result<String, DriverError> {
     let mut readings = Readings {
         alloc,
         lists: Vec::new(alloc),

@@ -2,7 +2,7 @@
 use crate::driver_error::DriverError;
 use crate::numbers::{size, written};
 use crate::texts::WrittenText;
-use icu_comparison::{CollationKeySink, Collator, SortKeyError, TooSmall};
+use icu_collator::{CollationKeySink, Collator, SortKeyError, TooSmall};
 use std::alloc::{AllocError, Global};
 
 /// Writes the key of a text into a sink, by the call for its encoding. None writes keys of Latin-1.

@@ -7,7 +7,7 @@ use crate::driver_error::DriverError;
 use crate::keys::{no_call, write};
 use crate::numbers::{size, written};
 use crate::texts::WrittenText;
-use icu_comparison::{CollationKeySink, Collator, SortKeyError};
+use icu_collator::{CollationKeySink, Collator, SortKeyError};
 use std::alloc::Global;
 
 /// Why the sink took no more.

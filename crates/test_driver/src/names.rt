@@ -2,7 +2,7 @@
 use crate::driver_error::DriverError;
 use crate::numbers::written;
 use crate::texts::{WrittenText, bytes_of, several};
-use icu_comparison::Collator;
+use icu_collator::Collator;
 use icu_index::NameIndex;
 use std::alloc::{AllocError, Global};
 
@@ -85,7 +85,11 @@ fn lost(alloc: Global) -> Result<String, DriverError> {
 }
 
 /// How many names an index of these has, and its listing.
-pub(crate) fn names(alloc: Global, collator: &Collator, names: &str) -> Result<String, DriverError> {
+pub(crate) fn names(
+    alloc: Global,
+    collator: &Collator,
+    names: &str,
+) -> Result<String, DriverError> {
     let names = several(alloc, names)?;
     let Some(index) = index(alloc, collator, names.as_slice())? else {
         return lost(alloc);
@@ -107,7 +111,11 @@ fn equal_names(alloc: Global, index: &NameIndex<'_>, name: &[u8]) -> Result<Stri
 }
 
 /// The names that are equal to the first one, of an index of the others.
-pub(crate) fn equals(alloc: Global, collator: &Collator, names: &str) -> Result<String, DriverError> {
+pub(crate) fn equals(
+    alloc: Global,
+    collator: &Collator,
+    names: &str,
+) -> Result<String, DriverError> {
     let names = several(alloc, names)?;
     let (name, names) = names.as_slice().split_first().ok_or(DriverError::Unread)?;
     match index(alloc, collator, names)? {

@@ -2,9 +2,9 @@
 use crate::changes::{CHANGES, change};
 use crate::collators::{alone, check, checked, kept, printed, together};
 use crate::comparisons::compare;
+use crate::driver_error::DriverError;
 use crate::elements::{all_readings, cursor, next, taken, whole};
 use crate::encodings::{FrontPart, after, at_front, characters, common};
-use crate::driver_error::DriverError;
 use crate::keys::{key, slice};
 use crate::letters::letter;
 use crate::limited::into_limited;
@@ -18,7 +18,7 @@ use crate::sinks::{bytes, list as list_of_key};
 use crate::state::State;
 use crate::tables::show;
 use crate::values::{compressible, entry, last, metadata, reordered};
-use icu_comparison::Collator;
+use icu_collator::Collator;
 use icu_mini::mini::Mini;
 use icu_numbers::digit_run_weights;
 use std::alloc::Global;
@@ -32,7 +32,11 @@ const BY_COLLATOR: [&str; 8] = [
 const BY_READER: [&str; 6] = ["whole", "next", "cursor", "readings", "taken", "letter"];
 
 /// What a line asks. Where an allocation fails, the state stays as it was.
-pub(crate) fn answer(rt: &HostRuntime, state: &mut State, line: &str) -> Result<String, DriverError> {
+pub(crate) fn answer(
+    rt: &HostRuntime,
+    state: &mut State,
+    line: &str,
+) -> Result<String, DriverError> {
     let alloc = rt.alloc();
     if line.is_empty() || line.starts_with('#') {
         return Ok(String::new(alloc));
@@ -53,7 +57,12 @@ pub(crate) fn answer(rt: &HostRuntime, state: &mut State, line: &str) -> Result<
 }
 
 /// What is asked of the state beside a collator and the elements of texts, or of nothing that it holds.
-fn other_answer(alloc: Global, state: &State, question: &str, rest: &str) -> Result<String, DriverError> {
+fn other_answer(
+    alloc: Global,
+    state: &State,
+    question: &str,
+    rest: &str,
+) -> Result<String, DriverError> {
     match question {
         "request" => {
             let typed = state.typed.as_ref();
@@ -107,7 +116,11 @@ fn by_tables(
         "check" => check(alloc, mini, times),
         "kept" => kept(alloc, mini),
         "entry" => entry(alloc, &mini.root, rest),
-        "tailoring.entry" => entry(alloc, mini.tailoring.as_ref().ok_or(DriverError::Unread)?, rest),
+        "tailoring.entry" => entry(
+            alloc,
+            mini.tailoring.as_ref().ok_or(DriverError::Unread)?,
+            rest,
+        ),
         "reorder" => reordered(alloc, mini, rest),
         "compressible" => compressible(alloc, mini, rest),
         "last" => last(alloc, mini, rest),
@@ -117,7 +130,12 @@ fn by_tables(
 }
 
 /// What is asked of the elements of a text. What texts are read by is kept, so that it is made once for many questions.
-fn read(alloc: Global, state: &mut State, question: &str, rest: &str) -> Result<String, DriverError> {
+fn read(
+    alloc: Global,
+    state: &mut State,
+    question: &str,
+    rest: &str,
+) -> Result<String, DriverError> {
     let (numbers, rest) = rest.split_once(' ').ok_or(DriverError::Unread)?;
     let numbers = number(numbers)? != 0;
     if let Some(reader) = &state.reader {
@@ -136,7 +154,12 @@ fn read(alloc: Global, state: &mut State, question: &str, rest: &str) -> Result<
     }
 }
 
-fn read_by(alloc: Global, reader: &Reader, question: &str, rest: &str) -> Result<String, DriverError> {
+fn read_by(
+    alloc: Global,
+    reader: &Reader,
+    question: &str,
+    rest: &str,
+) -> Result<String, DriverError> {
     match question {
         "whole" => whole(alloc, reader, rest),
         "next" => next(alloc, reader, rest),

@@ -2,15 +2,14 @@
 ghost use Rattle.std.specs.Prelude.{◌≡◌, IfOk};
 ghost use Rattle.icu_checks.specs.Checked.{checked_tables};
 ghost use Rattle.icu_elements.specs.Reading.{element_tables, reading_of};
-ghost use Rattle.icu_shortcuts.specs.FactsTables.{AreFacts};
-ghost use Rattle.icu_shortcuts.specs.Named.{NamesAll};
-ghost use Rattle.icu_shortcuts.specs.BoundaryTables.{boundary_reading};
+ghost use Rattle.icu_cursor.specs.FactsTables.{AreFacts};
+ghost use Rattle.icu_cursor.specs.Named.{NamesAll};
+ghost use Rattle.icu_cursor.specs.BoundaryTables.{boundary_reading};
 ghost use Rattle.test_driver.specs.Readers.{reading_with};
 
 use icu_checks::CheckedTables;
-use icu_cursor::CursorTables;
+use icu_cursor::{Boundaries, CursorTables, KeptFacts, NamedCharacters};
 use icu_elements::{ElementTables, TextReading};
-use icu_shortcuts::{KeptFacts, NamedCharacters, Boundaries};
 use std::alloc::{AllocError, Global};
 
 /// What texts are read by: tables, whether digits are read as numbers, and what is kept of letters.
@@ -51,7 +50,8 @@ fn boundaries<'d>(
     lithuanian_dot_above: bool,
 ) -> Boundaries<'d>
     requires { NamesAll named.now (checked_tables tables.now).tables }
-    ensures { boundary_reading result ≡ reading_with tables.now numeric_primary lithuanian_dot_above }
+    ensures { boundary_reading result
+        ≡ reading_with tables.now numeric_primary lithuanian_dot_above }
 {
     Boundaries::new(
         reading(tables, numeric_primary, lithuanian_dot_above),

@@ -6,7 +6,7 @@ ghost use Rattle.icu_provider.specs.Requests.{request_of};
 
 use crate::collators::printed;
 use crate::driver_error::DriverError;
-use icu_data::CollationData;
+use icu_collation_data::CollationData;
 use icu_entries::{DataError, DataErrorKind, DataTable};
 use icu_mini::mini::Mini;
 use icu_provider::{

@@ -128,7 +128,11 @@ pub(crate) fn merge(alloc: Global, written: &str) -> Result<String, DriverError>
 }
 
 /// What metadata and six numbers come to, where the numbers are named over other settings.
-fn merged(alloc: Global, before: Named, written: &str) -> Result<CollatorOptionsBitField, DriverError> {
+fn merged(
+    alloc: Global,
+    before: Named,
+    written: &str,
+) -> Result<CollatorOptionsBitField, DriverError> {
     let (bits, six) = written.trim().split_once(' ').ok_or(DriverError::Unread)?;
     let metadata = MetadataSettings::from_bits(single(bits)?);
     let named = named_over(before, named_settings(alloc, six)?);

@@ -3,7 +3,7 @@ use crate::driver_error::DriverError;
 use crate::keys::{key_of, no_call, write};
 use crate::numbers::written;
 use crate::texts::WrittenText;
-use icu_comparison::{CollationKeySink, Collator};
+use icu_collator::{CollationKeySink, Collator};
 use smallvec::SmallVec;
 use std::alloc::{AllocError, Global};
 use std::collections::VecDeque;
@@ -104,7 +104,11 @@ fn in_list(alloc: Global, kind: &str, filling: Filling<'_>) -> Result<String, Dr
 }
 
 /// A list of a kind with the key of a text.
-pub(crate) fn list(alloc: Global, collator: &Collator, question: &str) -> Result<String, DriverError> {
+pub(crate) fn list(
+    alloc: Global,
+    collator: &Collator,
+    question: &str,
+) -> Result<String, DriverError> {
     let (kind, text) = question.split_once(' ').ok_or(DriverError::Unread)?;
     let text = WrittenText::read(alloc, text)?;
     match key_of(alloc, collator, &text)? {

@@ -1,7 +1,7 @@
 //! What the program holds from one question to the next.
 use crate::readers::Reader;
 use crate::requests::Refusing;
-use icu_comparison::Collator;
+use icu_collator::Collator;
 use icu_mini::mini::Mini;
 use std::alloc::Global;
 

@@ -1,10 +1,10 @@
 //! The tables that questions are asked of.
 use crate::driver_error::DriverError;
 use crate::numbers::{list, numbers, only, written};
-use icu_data::{Context, ContextMapping};
+use icu_collation_data::{Context, ContextMapping};
 use icu_mini::mini::Mini;
 use icu_mini::reordering_data::ReorderingData;
-use icu_owned_data::DataVectors;
+use icu_table_builder::DataVectors;
 use std::alloc::{AllocError, Global};
 
 /// Mini, or the variant of it with this name.
@@ -26,7 +26,7 @@ fn variant(alloc: Global, name: &str) -> Option<Result<Mini, AllocError>> {
         "offsets" => Some(Mini::with_offsets(alloc)),
         "sharp s" => Some(Mini::with_sharp_s(alloc)),
         "swapped leads" => Some(Mini::with_swapped_leads(alloc)),
-        "two rows" => Some(Mini::with_two_mappings(alloc)),
+        "two mappings" => Some(Mini::with_two_mappings(alloc)),
         "c after ab" => Some(Mini::with_c_after_ab(alloc)),
         "jamo list" => Some(Mini::with_jamo_list(alloc)),
         "kana" => Some(Mini::with_kana(alloc)),
@@ -50,7 +50,12 @@ pub(crate) fn set(alloc: Global, mini: &mut Mini, written: &str) -> Result<(), D
     }
 }
 
-fn set_field(alloc: Global, mini: &mut Mini, field: &str, numbers: &[u64]) -> Result<(), DriverError> {
+fn set_field(
+    alloc: Global,
+    mini: &mut Mini,
+    field: &str,
+    numbers: &[u64],
+) -> Result<(), DriverError> {
     match field {
         "jamo" => mini.jamo = list(alloc, numbers)?,
         "diacritics" => mini.diacritics = list(alloc, numbers)?,
@@ -137,7 +142,7 @@ fn set_data(
         "ce32s" => data.ce32s = list(alloc, numbers)?,
         "chars" => data.chars = list(alloc, numbers)?,
         "contexts" => data.contexts = contexts(alloc, numbers)?,
-        "rows" => data.mappings = mappings(alloc, numbers)?,
+        "mappings" => data.mappings = mappings(alloc, numbers)?,
         _ => return Err(DriverError::Unread),
     }
     Ok(())
@@ -226,7 +231,7 @@ fn show_data(alloc: Global, data: &DataVectors, field: &str) -> Result<String, D
         "ce32s" => written(alloc, data.ce32s.as_slice())?,
         "chars" => written(alloc, data.chars.as_slice())?,
         "contexts" => show_contexts(alloc, data.contexts.as_slice())?,
-        "rows" => show_mappings(alloc, data.mappings.as_slice())?,
+        "mappings" => show_mappings(alloc, data.mappings.as_slice())?,
         _ => return Err(DriverError::Unread),
     };
     Ok(shown)
@@ -235,7 +240,11 @@ fn show_data(alloc: Global, data: &DataVectors, field: &str) -> Result<String, D
 fn show_contexts(alloc: Global, contexts: &[Context]) -> Result<String, AllocError> {
     let mut numbers: Vec<u32> = Vec::new(alloc);
     for context in contexts {
-        numbers.extend_from_slice(&[context.default, context.mappings_start, context.mappings_len])?;
+        numbers.extend_from_slice(&[
+            context.default,
+            context.mappings_start,
+            context.mappings_len,
+        ])?;
     }
     written(alloc, numbers.as_slice())
 }

@@ -4,7 +4,7 @@
 mod library {
     use icu_collator::{
         CollationKeySink, Collator, CollatorBorrowed, CollatorPreferences, comparison, elements,
-        index, options, preferences, provider,
+        laws, options, preferences, provider,
     };
 }
 
@@ -25,14 +25,14 @@ mod provider_names {
         CheckedTables, CodePointTable, CollationData, CollationDiacritics, CollationJamo,
         CollationMetadata, CollationProvider, CollationReordering, CollationSpecialPrimaries,
         Context, ContextMapping, ContextTable, DataError, DataErrorKind, DataRequest, DataTable,
-        FixedLoads, FixedProvider, OwnedTables, TableSet, load_tables,
+        OwnedTables, TableSet, load_tables,
     };
 }
 
 mod element_names {
     use icu_collator::elements::laws::{
-        elements_have_sources, parts_make_texts, well_formed_tables_give_reachable_elements,
-        texts_decompose,
+        elements_have_sources, parts_make_texts, texts_decompose,
+        well_formed_tables_give_reachable_elements,
     };
     use icu_collator::elements::{
         CollationElement, CollationElement32, CollationElements, ElementReader, ElementTables,
@@ -41,17 +41,17 @@ mod element_names {
 }
 
 mod comparison_names {
-    use icu_collator::comparison::laws::{
-        common_beginnings_do_not_count, well_formed_tables_serve_levels, keys_keep_text_order,
-        levels_keep_text_order,
-    };
     use icu_collator::comparison::{
         AnyQuaternaryAccumulator, CollationKeySink, Collator, CollatorBorrowed, Latin1Chars,
         Latin1Iter, SortKeyError, TooSmall,
     };
+    use icu_collator::laws::{
+        common_beginnings_do_not_count, keys_keep_text_order, levels_keep_text_order,
+        well_formed_tables_serve_levels,
+    };
 }
 
 mod index_names {
-    use icu_collator::index::laws::inserts_sort;
-    use icu_collator::index::{NameIndex, NameIter};
+    use icu_index::laws::inserts_sort;
+    use icu_index::{NameIndex, NameIter};
 }

@@ -6,11 +6,11 @@ use Rattle.icu_entries.specs.declared.error.DataTable.TheVariants.{Diacritics}
 use Rattle.icu_provider.specs.Diacritics.{is_replaced_index}
 use Rattle.icu_entries.specs.Elements.{Element, common, of_secondary}
 use Rattle.icu_entries.specs.ElementConditions.{tertiary_of}
-use Rattle.icu_data.specs.Final.{final_elements}
-use Rattle.icu_data.specs.Reachable.{reachable_from}
-use Rattle.icu_data.specs.CollectedWeights.{is_stated, IsWeightAmong}
-pub use Rattle.icu_data.specs.CollectedWeights.{Adds}
-use Rattle.icu_data.specs.Data.{Data, homed}
+use Rattle.icu_collation_data.specs.Final.{final_elements}
+use Rattle.icu_collation_data.specs.Reachable.{reachable_from}
+use Rattle.icu_collation_data.specs.CollectedWeights.{is_stated, IsWeightAmong}
+pub use Rattle.icu_collation_data.specs.CollectedWeights.{Adds}
+use Rattle.icu_collation_data.specs.Data.{Data, homed}
 use Rattle.icu_provider.specs.Tables.{Tables}
 use Rattle.icu_checks.specs.declared.check.weights.WeightList.{WeightList}
 use Rattle.icu_checks.specs.declared.check.weights.WeightList.TheVariants.{Primaries, Secondaries, Tertiaries, TertiaryElements, WithSecondary}

@@ -1,7 +1,7 @@
 -- The order in which failing conditions are reported.
 use Rattle.std.specs.Prelude.{ℕ}
-use Rattle.icu_data.specs.declared.reachable_condition.ReachableCondition.{ReachableCondition}
-use Rattle.icu_data.specs.declared.reachable_condition.ReachableCondition.TheVariants as of_entry
+use Rattle.icu_collation_data.specs.declared.reachable_condition.ReachableCondition.{ReachableCondition}
+use Rattle.icu_collation_data.specs.declared.reachable_condition.ReachableCondition.TheVariants as of_entry
 use Rattle.icu_checks.specs.declared.condition.Condition.{Condition}
 use Rattle.icu_checks.specs.declared.condition.Condition.TheVariants as conditions
 use Rattle.icu_checks.specs.declared.condition.ConditionGroup.{ConditionGroup}

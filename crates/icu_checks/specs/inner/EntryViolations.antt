@@ -3,16 +3,16 @@ use Rattle.std.specs.Prelude.{ℕ, ◌+◌, not, find, fold, length, Option, Som
 use Rattle.std.specs.List.{AllByRecursion}
 use Rattle.icu_entries.specs.declared.error.DataTable.{DataTable}
 use Rattle.icu_entries.specs.declared.error.DataTable.TheVariants as tables
-use Rattle.icu_data.specs.declared.reachable_condition.ReachableCondition.{ReachableCondition}
+use Rattle.icu_collation_data.specs.declared.reachable_condition.ReachableCondition.{ReachableCondition}
 use Rattle.icu_provider.specs.Diacritics.{is_replaced_index}
 use Rattle.icu_entries.specs.Elements.{Element, of_primary, of_secondary}
 use Rattle.icu_entries.specs.Weights.{implicit_weight}
-use Rattle.icu_data.specs.Data.{Data, homed}
-use Rattle.icu_data.specs.Final.{final_elements}
-use Rattle.icu_data.specs.Reachable.{reachable_from}
-use Rattle.icu_data.specs.DataConditions.{avoids_diacritics, is_readable}
-use Rattle.icu_data.specs.Violations.{earlier}
-use Rattle.icu_data.specs.ReachableConditions.{first_failing}
+use Rattle.icu_collation_data.specs.Data.{Data, homed}
+use Rattle.icu_collation_data.specs.Final.{final_elements}
+use Rattle.icu_collation_data.specs.Reachable.{reachable_from}
+use Rattle.icu_collation_data.specs.DataConditions.{avoids_diacritics, is_readable}
+use Rattle.icu_collation_data.specs.Violations.{earlier}
+use Rattle.icu_collation_data.specs.ReachableConditions.{first_failing}
 use Rattle.icu_checks.specs.declared.condition.Condition.TheVariants as conditions
 use Rattle.icu_checks.specs.declared.condition.ReachableElementCondition.{ReachableElementCondition}
 use Rattle.icu_checks.specs.declared.violation.Violation.{Violation}
@@ -64,7 +64,8 @@ mappings_violation all home e =
     if avoids_diacritics (length all.tables.diacritics) home e then None
     else Some (record { condition = conditions.PrefixMappings; table = tables.Diacritics })
 
--- The first violation of an entry that is reachable with a character. Elements that can't be read have none of their own.
+-- The first violation of an entry that is reachable with a character. Elements that can't be read have none of their
+-- own.
 unfoldable pub entry_violation : CollatorTables → DataTable → Data → ℕ → ℕ → Option Violation
 entry_violation all table home c e =
     earlier violation_rank (earlier violation_rank (option_map (of_entry table) (first_failing home c e)) (mappings_violation all home e))

@@ -5,7 +5,7 @@ use Rattle.icu_levels.specs.ListOrder.{IsBeginning}
 use Rattle.icu_entries.specs.declared.entry.EntryKind.TheVariants.{Implicit}
 use Rattle.icu_entries.specs.Entries.{kind_of}
 use Rattle.icu_entries.specs.Weights.{implicit_weight}
-use Rattle.icu_data.specs.Data.{Data}
+use Rattle.icu_collation_data.specs.Data.{Data}
 use Rattle.icu_provider.specs.Tables.{Tables}
 use Rattle.icu_checks.specs.declared.check.implicit_overlaps.ImplicitClash.{ImplicitClash}
 use Rattle.icu_checks.specs.declared.check.weights.ComparedLevel.TheVariants.{Primary}

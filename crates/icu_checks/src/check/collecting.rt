@@ -6,7 +6,7 @@ ghost use Rattle.icu_checks.specs.inner.ComparedWeights.{Adds, IsWeightBy, IsJam
 
 use crate::check::lookups::jamo_char;
 use crate::check::weights::WeightList;
-use icu_data::reachable_weights::{Weigh, collect_weights, collect_weights_from};
+use icu_collation_data::reachable_weights::{Weigh, collect_weights, collect_weights_from};
 use icu_entries::{CollationElement, CollationElement32, DataTable};
 use icu_provider::TableSet;
 use icu_provider::diacritics::is_replaced_index;

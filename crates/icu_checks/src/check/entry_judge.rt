@@ -3,9 +3,9 @@ ghost use Rattle.std.specs.Prelude.{ℕ, ◌≡◌, ◌≤◌, true, Option, Som
 ghost use Rattle.icu_checks.specs.declared.violation.Violation.{Violation};
 ghost use Rattle.icu_entries.specs.declared.error.DataTable.{DataTable};
 ghost use Rattle.icu_entries.specs.Elements.{Element, of_primary};
-ghost use Rattle.icu_data.specs.DataConditions.{is_readable};
-ghost use Rattle.icu_data.specs.ReachableConditions.{first_failing};
-ghost use Rattle.icu_data.specs.StoredData.{data_of};
+ghost use Rattle.icu_collation_data.specs.DataConditions.{is_readable};
+ghost use Rattle.icu_collation_data.specs.ReachableConditions.{first_failing};
+ghost use Rattle.icu_collation_data.specs.StoredData.{data_of};
 ghost use Rattle.icu_provider.specs.CollatorTables.{CollatorTables};
 ghost use Rattle.icu_provider.specs.TableSets.{tables_in};
 ghost use Rattle.icu_checks.specs.inner.EntryViolations.{first_failing_element, element_violation, after_element, judged_element, elements_violation, mappings_violation, entry_violation, ImplicitPasses, KeepsLeadTogether};
@@ -13,10 +13,10 @@ ghost use Rattle.icu_checks.specs.inner.EntryViolations.{first_failing_element, 
 use crate::check::lead_conditions::numeric_lead;
 use crate::condition::{Condition, LeadCondition, ReachableElementCondition};
 use crate::violation::{Violation, later};
-use icu_data::CollationData;
-use icu_data::element_walk::{VisitElement, visit_elements};
-use icu_data::reachable_condition::{EntryJudge, ReachableCondition};
-use icu_data::violation::{Judge, earlier};
+use icu_collation_data::CollationData;
+use icu_collation_data::element_walk::{VisitElement, visit_elements};
+use icu_collation_data::reachable_condition::{EntryJudge, ReachableCondition};
+use icu_collation_data::violation::{Judge, earlier};
 use icu_entries::{CollationElement, CollationElement32, DataTable, EntryKind};
 use icu_provider::TableSet;
 use icu_provider::reordering::lead_byte;
@@ -202,8 +202,8 @@ fn violation_beside(
     earlier(found, of_elements)
 }
 
-/// What finds the violations of the entries that are reachable in a table, by all tables of a collator. Entries for implicit
-/// weights, a million of them, are passed over where reordering leaves these weights a lead byte of their own.
+/// What finds the violations of the entries that are reachable in a table, by all tables of a collator. Entries for
+/// implicit weights, a million of them, are passed over where reordering leaves these weights a lead byte of their own.
 #[derive(Drop)]
 pub(crate) struct TablesJudge<'d> {
     pub(crate) tables: TableSet<'d>,

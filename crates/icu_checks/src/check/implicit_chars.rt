@@ -1,11 +1,11 @@
-//! Which characters have an implicit weight (UTS #10, "Implicit Weights") that is reachable, as they are looked up where
-//! weights are compared with these.
+//! Which characters have an implicit weight (UTS #10, "Implicit Weights") that is reachable, as they are looked up
+//! where weights are compared with these.
 ghost use Rattle.std.specs.Prelude.{ℕ, ◌<◌, ◌^◌, ⊤};
 
 use crate::check::lookups::jamo_char;
-use icu_data::CollationData;
-use icu_data::block_walk::visit_chars;
-use icu_data::walk::{Visit, visit_from};
+use icu_collation_data::CollationData;
+use icu_collation_data::block_walk::visit_chars;
+use icu_collation_data::walk::{Visit, visit_from};
 use icu_entries::{CollationElement, CollationElement32, DataTable};
 use icu_provider::TableSet;
 use std::alloc::{AllocError, Global};

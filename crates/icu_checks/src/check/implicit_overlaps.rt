@@ -4,8 +4,8 @@
 //! weight that begins with given bytes is arithmetic.
 ghost use Rattle.std.specs.Prelude.{◌≡◌, ◌||◌, Bool, IfOk, IfSome, IsTrue};
 ghost use Rattle.std.specs.List.{list_any};
-ghost use Rattle.icu_data.specs.Reachable.{reachable_from};
-ghost use Rattle.icu_data.specs.StoredData.{data_of};
+ghost use Rattle.icu_collation_data.specs.Reachable.{reachable_from};
+ghost use Rattle.icu_collation_data.specs.StoredData.{data_of};
 ghost use Rattle.icu_provider.specs.TableSets.{tables_in};
 ghost use Rattle.icu_checks.specs.inner.Violations.{IsTrueViolation};
 ghost use Rattle.icu_checks.specs.inner.PairViolations.{AreListed, IsListedWeight};
@@ -19,9 +19,9 @@ use crate::check::overlap_violations::REACHABLE_TABLES;
 use crate::check::weights::{ComparedLevel, WeightList};
 use crate::condition::{Condition, LeadCondition, PairCondition};
 use crate::violation::Violation;
-use icu_data::CollationData;
-use icu_data::reachable_weights::sort_and_dedup;
-use icu_data::walk::{Visit, visit_from};
+use icu_collation_data::CollationData;
+use icu_collation_data::reachable_weights::sort_and_dedup;
+use icu_collation_data::walk::{Visit, visit_from};
 use icu_entries::{CollationElement, CollationElement32, DataTable, EntryKind};
 use icu_provider::TableSet;
 use icu_provider::reordering::lead_byte;
@@ -29,8 +29,8 @@ use icu_weights::overlap::{Overlap, is_beginning};
 use std::alloc::{AllocError, Global};
 use std::convert::Infallible;
 
-/// A primary weight of a table that begins the implicit weight of a character, which is reachable by another table or the
-/// same one.
+/// A primary weight of a table that begins the implicit weight of a character, which is reachable by another table or
+/// the same one.
 #[derive(Clone, Copy)]
 pub(crate) struct ImplicitClash {
     pub(crate) primary: u32,
@@ -157,7 +157,8 @@ fn table_of_implicit(tables: TableSet<'_>, by: &[DataTable], c: char) -> Option<
     None
 }
 
-/// A weight and the implicit one of a character, if the first begins the second and that is reachable by some of the tables.
+/// A weight and the implicit one of a character, if the first begins the second and that is reachable by some of the
+/// tables.
 fn clash_with(
     tables: TableSet<'_>,
     by: &[DataTable],

@@ -1,18 +1,18 @@
 //! The weights that are compared with one another, all lists on two walks over a table.
 ghost use Rattle.std.specs.Prelude.{◌≡◌, [], IfOk, OnOk};
 ghost use Rattle.std.specs.List.Sorted.{IsStrictlyIncreasing};
-ghost use Rattle.icu_data.specs.CollectedWeights.{IsReachableWeight};
-ghost use Rattle.icu_data.specs.StoredData.{data_of};
+ghost use Rattle.icu_collation_data.specs.CollectedWeights.{IsReachableWeight};
+ghost use Rattle.icu_collation_data.specs.StoredData.{data_of};
 ghost use Rattle.icu_provider.specs.TableSets.{tables_in};
 ghost use Rattle.icu_checks.specs.inner.ComparedWeights.{compared_weight, Adds};
 ghost use Rattle.icu_checks.specs.inner.ListedWeights.{HasNone, AreSame, AddsEach, HasSame, HoldsEach};
 
 use crate::check::collecting::collect;
 use crate::check::weights::WeightList;
-use icu_data::CollationData;
-use icu_data::block_walk::visit_chars;
-use icu_data::both::Both;
-use icu_data::reachable_weights::{Collector, collect_weights, sort_and_dedup};
+use icu_collation_data::CollationData;
+use icu_collation_data::block_walk::visit_chars;
+use icu_collation_data::both::Both;
+use icu_collation_data::reachable_weights::{Collector, collect_weights, sort_and_dedup};
 use icu_entries::DataTable;
 use icu_provider::TableSet;
 use std::alloc::{AllocError, Global};
@@ -65,8 +65,8 @@ impl ListedWeights {
     }
 }
 
-/// Adds the weights of all that is reachable in a root or a tailoring, by a walk for primary weights and one for all others,
-/// which passes over ideographs.
+/// Adds the weights of all that is reachable in a root or a tailoring, by a walk for primary weights and one for all
+/// others, which passes over ideographs.
 fn collect_home(
     lists: &mut ListedWeights,
     home: CollationData<'_>,
@@ -82,10 +82,12 @@ fn collect_home(
         (IsReachableWeight (compared_weight WeightList.Tertiaries) falls_back (data_of home.entry))
         lists.old.tertiaries.items lists.new.tertiaries.items) }
     ensures tertiary_elements { OnOk result (Adds
-        (IsReachableWeight (compared_weight WeightList.TertiaryElements) falls_back (data_of home.entry))
+        (IsReachableWeight (compared_weight WeightList.TertiaryElements) falls_back
+        (data_of home.entry))
         lists.old.tertiary_elements.items lists.new.tertiary_elements.items) }
     ensures with_secondary { OnOk result (Adds
-        (IsReachableWeight (compared_weight WeightList.WithSecondary) falls_back (data_of home.entry))
+        (IsReachableWeight (compared_weight WeightList.WithSecondary) falls_back
+        (data_of home.entry))
         lists.old.with_secondary.items lists.new.with_secondary.items) }
 {
     collect_weights(

@@ -53,8 +53,8 @@ pub(crate) fn table_of(
     }
 }
 
-/// The table by which an overlap is named whose weights are reachable by two tables: the later one, but the reordering where
-/// they are primary weights that overlap only by it.
+/// The table by which an overlap is named whose weights are reachable by two tables: the later one, but the reordering
+/// where they are primary weights that overlap only by it.
 pub(crate) fn clash_table(
     level: ComparedLevel,
     first: DataTable,

@@ -10,7 +10,7 @@ use crate::check::collecting::collect;
 use crate::check::overlap_tables::clash_violation;
 use crate::check::weights::ComparedLevel;
 use crate::violation::Violation;
-use icu_data::reachable_weights::sort_and_dedup;
+use icu_collation_data::reachable_weights::sort_and_dedup;
 use icu_entries::DataTable;
 use icu_provider::TableSet;
 use icu_weights::overlap::{Overlap, first_common_overlap, first_overlap};

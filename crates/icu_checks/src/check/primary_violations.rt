@@ -11,7 +11,7 @@ use crate::check::overlap_violations::overlap_violation;
 use crate::check::weights::ComparedLevel;
 use crate::condition::{Condition, PairCondition};
 use crate::violation::Violation;
-use icu_data::violation::earlier;
+use icu_collation_data::violation::earlier;
 use icu_entries::DataTable;
 use icu_provider::TableSet;
 use icu_weights::alike::compress_alike;

@@ -8,7 +8,7 @@ ghost use Rattle.icu_checks.specs.inner.EntryViolations.{JamoPasses, MeetsIn, Di
 use crate::check::entry_judge::{TablesJudge, element_violation, implicit_passes};
 use crate::check::lookups::jamo_char;
 use crate::violation::Violation;
-use icu_data::violation::{earlier, first_violation, first_violation_from};
+use icu_collation_data::violation::{earlier, first_violation, first_violation_from};
 use icu_entries::{CollationElement, CollationElement32, DataTable};
 use icu_provider::TableSet;
 use icu_provider::diacritics::is_replaced_index;

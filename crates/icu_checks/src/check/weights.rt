@@ -7,7 +7,7 @@ ghost use Rattle.icu_checks.specs.inner.ComparedLevels.{list_of, overlap_conditi
 
 use crate::check::element_conditions::is_tertiary_element;
 use crate::condition::PairCondition;
-use icu_data::reachable_weights::Weigh;
+use icu_collation_data::reachable_weights::Weigh;
 use icu_entries::CollationElement;
 use icu_provider::{CollationReordering, TableSet};
 

@@ -2,7 +2,7 @@
 use Rattle.std.specs.Prelude.{◌≡◌, ◌≢◌, ◌≤◌, ℕ, true, List, ◌∷◌, flat_map}
 use Rattle.ucd_normal.specs.declared.forms.Form.TheVariants.{Nfd}
 use Rattle.unicode_normalization.specs.Decompose.{decompose}
-use Rattle.icu_cuts.specs.Alone.{rises_from}
+use Rattle.icu_boundaries.specs.Alone.{rises_from}
 
 -- the classes of the marks that a text begins with, once it is decomposed, rise from this one
 abbrev pub Rises : ℕ → List ℕ → Type 0

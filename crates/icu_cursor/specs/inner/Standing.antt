@@ -4,10 +4,10 @@ use Rattle.ucd_normal.specs.declared.forms.Form.TheVariants.{Nfd}
 use Rattle.unicode_normalization.specs.Decompose.{decompose}
 use Rattle.unicode_normalization.specs.Forms.{nfd}
 use Rattle.icu_elements.specs.TextElements.{Reading, elements_after}
-use Rattle.icu_cuts.specs.Alone.{context_after}
-use Rattle.icu_shortcuts.specs.declared.char_facts.CharFacts.{CharFacts}
-use Rattle.icu_shortcuts.specs.declared.char_facts.FactsKind.TheVariants.{Starters, Marked, Mark, Base}
-use Rattle.icu_shortcuts.specs.KeptFacts.{char_elements, IsNumberDigit}
+use Rattle.icu_boundaries.specs.Alone.{context_after}
+use Rattle.icu_cursor.specs.declared.char_facts.CharFacts.{CharFacts}
+use Rattle.icu_cursor.specs.declared.char_facts.FactsKind.TheVariants.{Starters, Marked, Mark, Base}
+use Rattle.icu_cursor.specs.KeptFacts.{char_elements, IsNumberDigit}
 use Rattle.icu_cursor.specs.inner.Places.{MayBeCut, BeginsAtBoundary}
 use Rattle.icu_cursor.specs.inner.MarkRuns.{Rises, EndsRuns}
 

@@ -1,9 +1,9 @@
 -- What reading texts asks of tables.
 use Rattle.std.specs.Prelude.{ℕ, ◌≡◌, length, IsTrue}
-use Rattle.icu_data.specs.declared.reachable_condition.ReachableCondition.{ReachableCondition}
-use Rattle.icu_data.specs.ReachableConditions.{meets}
+use Rattle.icu_collation_data.specs.declared.reachable_condition.ReachableCondition.{ReachableCondition}
+use Rattle.icu_collation_data.specs.ReachableConditions.{meets}
 use Rattle.icu_provider.specs.ReachableTables.{IsReachable}
-use Rattle.icu_data.specs.Data.{Data}
+use Rattle.icu_collation_data.specs.Data.{Data}
 use Rattle.icu_provider.specs.Tables.{Tables}
 
 -- each conjoining jamo has an entry, and each entry that is reachable meets each condition on entries

@@ -5,7 +5,7 @@ use Rattle.std.specs.List.{list_any}
 use Rattle.unicode_normalization.specs.Order.{is_starter}
 use Rattle.icu_entries.specs.declared.entry.EntryKind.TheVariants.{Digit}
 use Rattle.icu_entries.specs.Entries.{kind_of}
-use Rattle.icu_data.specs.Data.{Context, longest_mapping}
+use Rattle.icu_collation_data.specs.Data.{Context, longest_mapping}
 use Rattle.icu_provider.specs.Tables.{Tables}
 use Rattle.icu_matches.specs.MatchesAhead.{are_decided, mapping_length}
 use Rattle.icu_elements.specs.TextElements.{Reading, continues_number}

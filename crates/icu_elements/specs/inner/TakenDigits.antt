@@ -5,7 +5,7 @@ use Rattle.icu_provider.specs.Tables.{Tables}
 use Rattle.icu_matches.specs.Matches.{Match}
 use Rattle.icu_matches.specs.declared.matched.Matched.{Matched}
 use Rattle.icu_elements.specs.declared.reader.position.Position.{Position}
-use Rattle.icu_data.specs.Data.{Data, plain_of}
+use Rattle.icu_collation_data.specs.Data.{Data, plain_of}
 use Rattle.icu_elements.specs.TextElements.{Reading, Step, continues_number, begins_with_mark, digit_of_char, last_two, number_step, final_step}
 use Rattle.icu_elements.specs.inner.Positions.{consumed_last, unread_at}
 

@@ -2,15 +2,15 @@
 
 ghost use Rattle.std.specs.Prelude.{◌≡◌, ◌≤◌, ◌<◌, ◌+◌, ◌&&◌, length, drop, IsTrue, OnOk, IfOk, is_some, true};
 ghost use Rattle.std.specs.List.{list_any};
-ghost use Rattle.icu_data.specs.Contexts.{has_ascending_mappings};
-ghost use Rattle.icu_data.specs.StoredData.{found_context};
+ghost use Rattle.icu_collation_data.specs.Contexts.{has_ascending_mappings};
+ghost use Rattle.icu_collation_data.specs.StoredData.{found_context};
 ghost use Rattle.icu_entries.specs.Entries.{kind_of};
 ghost use Rattle.icu_elements.specs.ReadAhead.{HasWholeStep};
 ghost use Rattle.icu_elements.specs.TextElements.{is_digit_kind};
 ghost use Rattle.icu_elements.specs.inner.Positions.{recent_chars};
 ghost use Rattle.icu_elements.specs.inner.ReadsAhead.{ReadsTo, ReadsOne, IsBegun, has_run_end, IsRunRead, IsMatchRead, HasWholeContraction, IsDotRead};
 ghost use Rattle.icu_elements.specs.Reading.{element_tables, reading_of};
-ghost use Rattle.icu_data.specs.Data.{longest_mapping};
+ghost use Rattle.icu_collation_data.specs.Data.{longest_mapping};
 ghost use Rattle.icu_matches.specs.MatchesAhead.{are_decided, mapping_length};
 ghost use Rattle.icu_matches.specs.Texts.{unread};
 ghost use Rattle.unicode_normalization.specs.Decompositions.{CanDecompose, decompositions_size};
@@ -19,7 +19,7 @@ ghost use Rattle.unicode_normalization.specs.Order.{is_starter};
 use crate::element_tables::ElementTables;
 use crate::reader::recent::RecentChars;
 use crate::text_reading::TextReading;
-use icu_data::FoundContext;
+use icu_collation_data::FoundContext;
 use icu_entries::{CollationElement32, EntryKind};
 use icu_matches::{Text, after_prefix, find_longest, mapping_goes_on};
 use std::alloc::AllocError;
@@ -164,7 +164,8 @@ fn read_mappings<I: Iterator<Item = char> + Drop>(
 /// How many characters the longest mapping takes that begins a text.
 fn longest_len(context: FoundContext<'_>, text: &Text) -> usize
     requires { IsTrue (has_ascending_mappings (found_context context)) }
-    ensures longest { result ≡ mapping_length (longest_mapping (found_context context.entry).mappings
+    ensures longest { result ≡ mapping_length
+        (longest_mapping (found_context context.entry).mappings
         (unread text.now)) }
     ensures inside { result ≤ length (unread text.now) }
 {
@@ -174,8 +175,8 @@ fn longest_len(context: FoundContext<'_>, text: &Text) -> usize
     }
 }
 
-/// Reads on until a contraction's mapping is decided, and with it the marks that may join. Returns how many characters the
-/// mapping takes.
+/// Reads on until a contraction's mapping is decided, and with it the marks that may join. Returns how many characters
+/// the mapping takes.
 fn read_match<I: Iterator<Item = char> + Drop>(
     context: FoundContext<'_>,
     source: &mut Decompositions<I>,

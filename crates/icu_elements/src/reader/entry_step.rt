@@ -1,8 +1,8 @@
 //! What the entry that a match came to gives.
 
 ghost use Rattle.std.specs.Prelude.{◌≡◌, ◌<◌, ◌++◌, All, IsTrue, OnOk};
-ghost use Rattle.icu_data.specs.DataConditions.{is_readable};
-ghost use Rattle.icu_data.specs.StoredData.{data_of};
+ghost use Rattle.icu_collation_data.specs.DataConditions.{is_readable};
+ghost use Rattle.icu_collation_data.specs.StoredData.{data_of};
 ghost use Rattle.icu_entries.specs.declared.entry.EntryKind.TheVariants.{Digit};
 ghost use Rattle.icu_entries.specs.Entries.{kind_of};
 ghost use Rattle.icu_matches.specs.WellFormedEntries.{IsWellFormedMatch};
@@ -16,8 +16,8 @@ use crate::element_tables::ElementTables;
 use crate::reader::position::Position;
 use crate::reader::taken_digits::take_number;
 use crate::text_reading::TextReading;
-use icu_data::CollationData;
-use icu_data::element_walk::visit_elements;
+use icu_collation_data::CollationData;
+use icu_collation_data::element_walk::visit_elements;
 use icu_entries::{CollationElement, CollationElement32, EntryKind};
 use icu_matches::Matched;
 use icu_numbers::digit_run_weights;

@@ -6,8 +6,8 @@ use Rattle.std.specs.Global.{Vec}
 use Rattle.std.specs.declared.cmp.Ordering.{Ordering}
 use Rattle.icu_encodings.specs.DecodedTexts.{utf8_text}
 use Rattle.icu_levels.specs.ListOrder.{list_order}
-use Rattle.icu_order.specs.Collations.{Collation}
-use Rattle.icu_order.specs.TextOrder.{text_key}
+use Rattle.icu_text_order.specs.Collations.{Collation}
+use Rattle.icu_text_order.specs.TextOrder.{text_key}
 
 -- the sort key of a name
 abbrev pub key_of : Collation → List ℕ → List ℕ

@@ -1,7 +1,7 @@
 -- Marks that join a match.
 use Rattle.std.specs.Prelude.{◌≡◌, ℕ, Bool, true, false, List, [], ◌∷◌, ◌++◌, max, take, drop, Some, None}
 use Rattle.ucd_normal.specs.CanonicalCombiningClass.{canonical_combining_class as class_of}
-use Rattle.icu_data.specs.Data.{Mapping, mapping_entry}
+use Rattle.icu_collation_data.specs.Data.{Mapping, mapping_entry}
 use Rattle.icu_matches.specs.Matches.{Match, with_marks}
 use Rattle.icu_matches.specs.declared.matched.Matched.{Matched}
 

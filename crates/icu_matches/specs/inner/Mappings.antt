@@ -1,7 +1,7 @@
 -- Where a text stands among mappings that ascend.
 use Rattle.std.specs.Prelude.{◌≡◌, ℕ, ◌+◌, ◌≤◌, true, false, List, length, Option, Some, None, slice_get}
-use Rattle.icu_data.specs.Contexts.{is_before}
-use Rattle.icu_data.specs.Data.{Mapping}
+use Rattle.icu_collation_data.specs.Contexts.{is_before}
+use Rattle.icu_collation_data.specs.Data.{Mapping}
 
 -- the last mapping before this index doesn't come after the text
 abbrev pub IsUpTo : List Mapping → List ℕ → ℕ → Type 0

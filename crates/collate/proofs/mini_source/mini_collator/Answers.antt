@@ -7,7 +7,7 @@ use Rattle.icu_checks.specs.WellFormedTables.{IsWellFormedTables}
 use Rattle.icu_provider.specs.LoadedTables.{loaded_tables}
 use Rattle.icu_provider.specs.FixedLoads.{fixed_loads}
 use Rattle.icu_options.specs.declared.options.CollatorOptions.{CollatorOptions}
-use Rattle.icu_comparison.specs.Collators.{collation_kept, request_in}
+use Rattle.icu_collator.specs.Collators.{collation_kept, request_in}
 use Rattle.collate.specs.MiniErrors.{IsForCause, mini_refuses}
 use Rattle.collate.proofs.MiniLemmas.{mini-loaded}
 use Rattle.collate.proofs.CollatorErrorLemmas.{of_ok, error_says}

@@ -1,7 +1,7 @@
 -- The collator has the tables of the root, and the chosen settings.
 use Rattle.std.proofs.Common.{◌∙◌, subst, sym}
 use Rattle.icu_cldr.specs.Roots.{IsRoot, root_tables}
-use Rattle.icu_comparison.specs.Collators.{collation_kept}
+use Rattle.icu_collator.specs.Collators.{collation_kept}
 use Rattle.collate_cldr.proofs.RootLemmas.{chosen_merged}
 use Rattle.collate_cldr.proofs.file_source.root_collator.Goals as goal
 

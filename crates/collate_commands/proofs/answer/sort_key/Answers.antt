@@ -1,8 +1,8 @@
 -- What the sink took is the key.
 use Rattle.std.proofs.Common.{◌≡◌, ◌++◌, ℕ, Vec, Global, chars, ap, ◌∙◌}
-use Rattle.icu_order.specs.Collations.{Collation}
-use Rattle.icu_order.specs.TextOrder.{text_key}
-use Rattle.icu_comparison.specs.Collators.{collation_borrowed}
+use Rattle.icu_text_order.specs.Collations.{Collation}
+use Rattle.icu_text_order.specs.TextOrder.{text_key}
+use Rattle.icu_collator.specs.Collators.{collation_borrowed}
 use Rattle.collate_commands.proofs.answer.sort_key.Goals as goal
 
 pub returns-in-Ok : goal.returns-in-Ok

@@ -1,6 +1,6 @@
 -- The lines that were cut are listed, and those that are listed are written.
 use Rattle.std.proofs.Common.{ap, ◌∙◌, subst, sym}
-use Rattle.icu_comparison.specs.Collators.{collation_kept}
+use Rattle.icu_collator.specs.Collators.{collation_kept}
 use Rattle.icu_index.specs.Listings.{IsStablySorted, listing_of, name_order}
 use Rattle.icu_index.specs.NameIndexes.{listing}
 use Rattle.collate_commands.specs.InputLines.{lines_of}

@@ -1,9 +1,9 @@
 use Rattle.std.proofs.Common.{◌≡◌, ◌+◌, ◌-◌, ◌<◌, true, false, ℕ, List, length, ap, subst, sym, ◌∙◌, rules, arith}
 use Rattle.std.specs.Prelude.{nat_eq}
 use Rattle.std.specs.List.{starts_with}
-use Rattle.icu_data.specs.StoredData.{found_context, found_mapping}
-use Rattle.icu_data.specs.Contexts.{is_before}
-use Rattle.icu_data.specs.Data.{Mapping, longest_mapping}
+use Rattle.icu_collation_data.specs.StoredData.{found_context, found_mapping}
+use Rattle.icu_collation_data.specs.Contexts.{is_before}
+use Rattle.icu_collation_data.specs.Data.{Mapping, longest_mapping}
 use Rattle.icu_matches.specs.inner.Mappings.{SplitsMappings}
 use Rattle.icu_matches.proofs.CharacterOrderLemmas.{common_shorter}
 use Rattle.icu_matches.proofs.MappingLemmas.{longest_none, longest_found, longest_cut}

@@ -1,6 +1,6 @@
 use Rattle.std.proofs.Common.{◌≡◌, length}
-use Rattle.icu_data.specs.Data.{longest_mapping}
-use Rattle.icu_data.specs.StoredData.{found_context}
+use Rattle.icu_collation_data.specs.Data.{longest_mapping}
+use Rattle.icu_collation_data.specs.StoredData.{found_context}
 use Rattle.icu_matches.proofs.mappings.find_longest.Given as goal
 
 -- the longest mapping that begins the text begins what is left of it

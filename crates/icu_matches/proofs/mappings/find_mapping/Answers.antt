@@ -1,6 +1,6 @@
 use Rattle.std.proofs.Common.{◌≡◌, ◌+◌, ◌-◌, true, false, ℕ, List, subst, sym, bytes_eq, rules, arith}
-use Rattle.icu_data.specs.StoredData.{found_context, found_mapping}
-use Rattle.icu_data.specs.Data.{Mapping}
+use Rattle.icu_collation_data.specs.StoredData.{found_context, found_mapping}
+use Rattle.icu_collation_data.specs.Data.{Mapping}
 use Rattle.icu_matches.specs.inner.Mappings.{SplitsMappings}
 use Rattle.icu_matches.proofs.MappingLemmas.{entry_none, entry_found, entry_none_there}
 use Rattle.icu_matches.proofs.mappings.find_mapping.Goals as goal

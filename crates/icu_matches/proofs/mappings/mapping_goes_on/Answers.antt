@@ -2,8 +2,8 @@ use Rattle.std.proofs.Common.{◌≡◌, ◌≤◌, not, ℕ, List, length, sym,
 use Rattle.std.specs.Prelude.{nat_eq}
 use Rattle.std.specs.List.{starts_with}
 use Rattle.std.proofs.lemmas.Bool.{cases_Bool}
-use Rattle.icu_data.specs.StoredData.{found_context, found_mapping}
-use Rattle.icu_data.specs.Data.{Mapping}
+use Rattle.icu_collation_data.specs.StoredData.{found_context, found_mapping}
+use Rattle.icu_collation_data.specs.Data.{Mapping}
 use Rattle.icu_matches.proofs.DecidedLemmas.{none_after, next_goes_on, next_decides}
 use Rattle.icu_matches.proofs.mappings.mapping_goes_on.Goals as goal
 

@@ -1,7 +1,7 @@
 use Rattle.std.proofs.Common.{◌≡◌, ◌+◌, ◌-◌, ◌/◌, true, ℕ, List, rules, arith}
-use Rattle.icu_data.specs.StoredData.{found_context, found_mapping}
-use Rattle.icu_data.specs.Contexts.{is_before}
-use Rattle.icu_data.specs.Data.{Mapping}
+use Rattle.icu_collation_data.specs.StoredData.{found_context, found_mapping}
+use Rattle.icu_collation_data.specs.Contexts.{is_before}
+use Rattle.icu_collation_data.specs.Data.{Mapping}
 use Rattle.icu_matches.proofs.MappingLemmas.{after_middle}
 use Rattle.icu_matches.proofs.mappings.mappings_up_to.Goals as goal
 

@@ -1,5 +1,5 @@
 use Rattle.std.proofs.Common.{◌-◌, ◌≤◌, length}
-use Rattle.icu_data.specs.StoredData.{found_context}
+use Rattle.icu_collation_data.specs.StoredData.{found_context}
 use Rattle.icu_matches.specs.inner.Mappings.{IsUpTo, ComeAfter}
 use Rattle.icu_matches.proofs.mappings.mappings_up_to.Given as goal
 

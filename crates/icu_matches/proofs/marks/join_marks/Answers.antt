@@ -6,8 +6,8 @@ use Rattle.std.proofs.lemmas.Option.{slice_get_within}
 use Rattle.std.proofs.Math.ListN.{drop_of_length-le}
 use Rattle.ucd_normal.specs.CanonicalCombiningClass.{canonical_combining_class as class_of}
 use Rattle.unicode_normalization.specs.Order.{is_starter}
-use Rattle.icu_data.specs.StoredData.{found_context}
-use Rattle.icu_data.specs.Data.{Mapping}
+use Rattle.icu_collation_data.specs.StoredData.{found_context}
+use Rattle.icu_collation_data.specs.Data.{Mapping}
 use Rattle.icu_matches.specs.Texts.{unread}
 use Rattle.icu_matches.specs.Matches.{Match, is_blocked, with_marks}
 use Rattle.icu_matches.specs.inner.Joining.{greatest_class}

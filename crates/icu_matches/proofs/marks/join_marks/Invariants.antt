@@ -1,5 +1,5 @@
 use Rattle.std.proofs.Common.{◌≡◌, ◌-◌, ◌≤◌, take, length}
-use Rattle.icu_data.specs.StoredData.{found_context}
+use Rattle.icu_collation_data.specs.StoredData.{found_context}
 use Rattle.icu_matches.specs.Texts.{unread}
 use Rattle.icu_matches.specs.inner.Joining.{greatest_class, match_on}
 use Rattle.icu_matches.proofs.marks.join_marks.Given as goal

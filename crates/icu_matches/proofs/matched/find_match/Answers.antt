@@ -1,7 +1,7 @@
 use Rattle.std.proofs.Common.{◌≡◌, ℕ, List, subst, sym, ap}
 use Rattle.std.proofs.lemmas.Result.{IfOk-weaker}
-use Rattle.icu_data.specs.Data.{Data, homed}
-use Rattle.icu_data.specs.StoredData.{data_of}
+use Rattle.icu_collation_data.specs.Data.{Data, homed}
+use Rattle.icu_collation_data.specs.StoredData.{data_of}
 use Rattle.icu_matches.specs.WellFormedEntries.{IsWellFormedMatch}
 use Rattle.icu_matches.specs.Matches.{Match, match_of}
 use Rattle.icu_matches.specs.declared.matched.Matched.{Matched}

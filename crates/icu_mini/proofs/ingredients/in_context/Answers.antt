@@ -1,9 +1,9 @@
 -- The one character, and the one context.
 use Rattle.std.proofs.Common.{◌++◌, ◌∷◌, [], ap, subst, ◌∙◌, IfOk}
-use Rattle.icu_owned_data.specs.AddedContexts.{given_context}
-use Rattle.icu_owned_data.specs.Building.{SaysOfCharacters, empty_data}
-use Rattle.icu_data.specs.Data.{Context, Data}
-use Rattle.icu_owned_data.specs.OwnedData.{vectors_data}
+use Rattle.icu_table_builder.specs.AddedContexts.{given_context}
+use Rattle.icu_table_builder.specs.Building.{SaysOfCharacters, empty_data}
+use Rattle.icu_collation_data.specs.Data.{Context, Data}
+use Rattle.icu_table_builder.specs.OwnedData.{vectors_data}
 use Rattle.icu_mini.specs.Characters.{with_characters}
 use Rattle.icu_mini.proofs.ingredients.in_context.Goals as goal
 

@@ -1,7 +1,7 @@
 -- One character more gets its entry after those before it.
 use Rattle.std.proofs.Common.{ℕ, refl, sym, ap, ◌∙◌}
-use Rattle.icu_owned_data.specs.Building.{built_data, with_entries}
-use Rattle.icu_data.specs.Data.{Data}
+use Rattle.icu_table_builder.specs.Building.{built_data, with_entries}
+use Rattle.icu_collation_data.specs.Data.{Data}
 use Rattle.icu_mini.specs.Characters.{with_characters}
 use Rattle.icu_mini.proofs.CharacterLemmas.{with_characters_item}
 use Rattle.icu_mini.proofs.mini_characters.set_characters.Goals as goal

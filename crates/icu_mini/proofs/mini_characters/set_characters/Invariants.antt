@@ -1,6 +1,6 @@
 -- The characters gone through have their entries.
 use Rattle.std.proofs.Common.{◌≡◌, take}
-use Rattle.icu_owned_data.specs.Building.{built_data}
+use Rattle.icu_table_builder.specs.Building.{built_data}
 use Rattle.icu_mini.specs.Characters.{with_characters}
 use Rattle.icu_mini.proofs.mini_characters.set_characters.Given as goal
 

@@ -1,5 +1,5 @@
 use Rattle.std.proofs.Common.{sym, subst}
-use Rattle.icu_owned_data.specs.Building.{SaysOfCharacters}
+use Rattle.icu_table_builder.specs.Building.{SaysOfCharacters}
 use Rattle.icu_small_tables.specs.SmallTables.{small_root}
 use Rattle.icu_small_tables.proofs.StoredLemmas.{may_be_data, says_small_root}
 use Rattle.icu_small_tables.proofs.small_root.checked.Goals as goal

@@ -1,7 +1,7 @@
 -- A walk of all collectors is a walk of each.
-use Rattle.icu_data.specs.StoredData.{data_of}
-use Rattle.icu_data.proofs.BothLemmas.{on_first, on_second}
-use Rattle.icu_data.proofs.CollectedWeightLemmas.{collected_reachable}
+use Rattle.icu_collation_data.specs.StoredData.{data_of}
+use Rattle.icu_collation_data.proofs.BothLemmas.{on_first, on_second}
+use Rattle.icu_collation_data.proofs.CollectedWeightLemmas.{collected_reachable}
 use Rattle.icu_checks.specs.declared.check.weights.WeightList.TheVariants.{Secondaries, Tertiaries, TertiaryElements, WithSecondary}
 use Rattle.icu_checks.specs.inner.ComparedWeights.{compared_weight}
 use Rattle.icu_checks.proofs.check.listed_weights.collect_home.Goals as goal

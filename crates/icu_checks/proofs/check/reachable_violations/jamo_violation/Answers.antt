@@ -1,5 +1,5 @@
 use Rattle.std.proofs.Common.{◌≡◌, ℕ, ◌<◌, ◌≤◌, List, length, IfSome, sym, ap, subst, arith}
-use Rattle.icu_data.proofs.ViolationLemmas.{earlier-keeps}
+use Rattle.icu_collation_data.proofs.ViolationLemmas.{earlier-keeps}
 use Rattle.icu_provider.specs.TableSets.{tables_in}
 use Rattle.icu_checks.specs.inner.Violations.{violation_rank, IsTrueViolation}
 use Rattle.icu_checks.specs.inner.EntryViolations.{JamoPasses}

@@ -1,6 +1,6 @@
 use Rattle.std.proofs.Common.{rules}
-use Rattle.icu_data.specs.StoredData.{data_of}
-use Rattle.icu_data.specs.Reachable.{reachable_from}
+use Rattle.icu_collation_data.specs.StoredData.{data_of}
+use Rattle.icu_collation_data.specs.Reachable.{reachable_from}
 use Rattle.icu_elements.proofs.ReadableLemmas.{decimal_among, itself}
 use Rattle.icu_elements.proofs.element_tables.ElementTables.digit.Goals as goal
 

@@ -1,4 +1,4 @@
-use Rattle.icu_data.specs.StoredData.{data_of}
+use Rattle.icu_collation_data.specs.StoredData.{data_of}
 use Rattle.icu_elements.proofs.ReadableLemmas.{well_formed_found}
 use Rattle.icu_elements.proofs.element_tables.ElementTables.entry.Goals as goal
 

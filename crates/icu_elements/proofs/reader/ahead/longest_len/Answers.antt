@@ -1,6 +1,6 @@
 use Rattle.std.proofs.Common.{◌≡◌, Some, rules}
-use Rattle.icu_data.specs.Data.{longest_mapping}
-use Rattle.icu_data.specs.StoredData.{found_context, found_mapping}
+use Rattle.icu_collation_data.specs.Data.{longest_mapping}
+use Rattle.icu_collation_data.specs.StoredData.{found_context, found_mapping}
 use Rattle.icu_matches.specs.Texts.{unread}
 use Rattle.icu_matches.proofs.ReadAheadLemmas.{longest_mapping-fits}
 use Rattle.icu_elements.proofs.reader.ahead.longest_len.Goals as goal

@@ -1,8 +1,8 @@
 use Rattle.std.proofs.Common.{◌≡◌, ◌<◌, true, false, is_some, length, slice_index_or, sym, ap, subst, ◌∙◌, rules}
 use Rattle.icu_entries.specs.Entries.{kind_of, entry_index}
 use Rattle.icu_entries.specs.declared.entry.EntryKind.TheVariants.{Contraction}
-use Rattle.icu_data.specs.Data.{Data, no_context}
-use Rattle.icu_data.specs.StoredData.{data_of, found_context}
+use Rattle.icu_collation_data.specs.Data.{Data, no_context}
+use Rattle.icu_collation_data.specs.StoredData.{data_of, found_context}
 use Rattle.icu_provider.specs.Tables.{diacritic_of}
 use Rattle.icu_matches.proofs.MatchLemmas.{prefix_inside, contraction_inside}
 use Rattle.icu_elements.specs.Reading.{element_tables, reading_of}

@@ -1,4 +1,4 @@
-use Rattle.icu_data.specs.StoredData.{found_context}
+use Rattle.icu_collation_data.specs.StoredData.{found_context}
 use Rattle.icu_elements.specs.Reading.{reading_of}
 use Rattle.icu_elements.proofs.AheadLemmas.{IsMatchRead-longer, HasWholeContraction-mapping, HasWholeContraction-run}
 use Rattle.icu_elements.proofs.ReaderLemmas.{on_ok}

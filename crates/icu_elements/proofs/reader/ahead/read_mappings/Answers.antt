@@ -1,5 +1,5 @@
 use Rattle.std.proofs.Common.{◌≡◌, true, None, rules, arith}
-use Rattle.icu_data.specs.StoredData.{found_context}
+use Rattle.icu_collation_data.specs.StoredData.{found_context}
 use Rattle.icu_matches.specs.MatchesAhead.{are_decided}
 use Rattle.icu_matches.specs.Texts.{unread}
 use Rattle.icu_elements.proofs.ReadsAheadLemmas.{ReadsTo-none, so_far_is, so_far_all, so_far_more}

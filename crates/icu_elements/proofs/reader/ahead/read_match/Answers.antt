@@ -1,5 +1,5 @@
 use Rattle.std.proofs.Common.{sym}
-use Rattle.icu_data.specs.StoredData.{found_context}
+use Rattle.icu_collation_data.specs.StoredData.{found_context}
 use Rattle.icu_matches.specs.Texts.{unread}
 use Rattle.icu_elements.proofs.AheadLemmas.{IsMappingRead, IsMappingRead-at, IsMappingRead-longer, IsMatchRead-mapping}
 use Rattle.icu_elements.proofs.ReadsAheadLemmas.{ReadsTo-weaker, ReadsTo-then}

@@ -1,5 +1,5 @@
 use Rattle.std.proofs.Common.{rules}
-use Rattle.icu_data.specs.StoredData.{data_of}
+use Rattle.icu_collation_data.specs.StoredData.{data_of}
 use Rattle.icu_elements.proofs.ReadableLemmas.{plain_inside, plain_readable}
 use Rattle.icu_elements.proofs.reader.entry_step.read_digit.Goals as goal
 

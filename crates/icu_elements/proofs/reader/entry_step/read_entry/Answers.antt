@@ -1,4 +1,4 @@
-use Rattle.icu_data.specs.StoredData.{data_of}
+use Rattle.icu_collation_data.specs.StoredData.{data_of}
 use Rattle.icu_elements.proofs.ReadableLemmas.{match_readable}
 use Rattle.icu_elements.proofs.reader.entry_step.read_entry.Goals as goal
 

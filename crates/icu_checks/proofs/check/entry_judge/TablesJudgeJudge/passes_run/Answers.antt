@@ -2,11 +2,11 @@ use Rattle.std.proofs.Common.{rules, ◌≡◌, ◌≤◌, ◌+◌, true, None, 
 use Rattle.icu_entries.specs.declared.entry.EntryKind.TheVariants.{Offset}
 use Rattle.icu_entries.specs.Elements.{of_primary}
 use Rattle.icu_entries.specs.Entries.{kind_of}
-use Rattle.icu_data.specs.Data.{Data}
-use Rattle.icu_data.specs.StoredData.{data_of}
-use Rattle.icu_data.specs.declared.reachable_condition.ReachableCondition.TheVariants.{Indices, Offsets}
-use Rattle.icu_data.specs.ReachableConditions.{first_failing}
-use Rattle.icu_data.proofs.ViolationLemmas.{passes_meets}
+use Rattle.icu_collation_data.specs.Data.{Data}
+use Rattle.icu_collation_data.specs.StoredData.{data_of}
+use Rattle.icu_collation_data.specs.declared.reachable_condition.ReachableCondition.TheVariants.{Indices, Offsets}
+use Rattle.icu_collation_data.specs.ReachableConditions.{first_failing}
+use Rattle.icu_collation_data.proofs.ViolationLemmas.{passes_meets}
 use Rattle.icu_provider.specs.CollatorTables.{CollatorTables}
 use Rattle.icu_provider.specs.TableSets.{tables_in}
 use Rattle.icu_checks.specs.inner.EntryViolations.{first_failing_element}

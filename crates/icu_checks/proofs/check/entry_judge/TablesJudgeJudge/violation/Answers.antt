@@ -1,6 +1,6 @@
 use Rattle.std.proofs.Common.{sym, ap, ◌∙◌}
-use Rattle.icu_data.specs.StoredData.{data_of}
-use Rattle.icu_data.specs.Violations.{earlier}
+use Rattle.icu_collation_data.specs.StoredData.{data_of}
+use Rattle.icu_collation_data.specs.Violations.{earlier}
 use Rattle.icu_provider.specs.TableSets.{tables_in}
 use Rattle.icu_checks.specs.inner.Violations.{violation_rank}
 use Rattle.icu_checks.specs.inner.EntryViolations.{mappings_violation}

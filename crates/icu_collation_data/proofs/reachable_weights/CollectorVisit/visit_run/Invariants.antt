@@ -1,0 +1,10 @@
+use Rattle.std.proofs.Common.{◌-◌}
+use Rattle.icu_collation_data.specs.StoredData.{data_of}
+use Rattle.icu_collation_data.specs.inner.Visitors.{holds}
+use Rattle.icu_collation_data.proofs.RunLemmas.{RanTo}
+use Rattle.icu_collation_data.proofs.reachable_weights.CollectorVisit.visit_run.Given as goal
+
+-- the characters so far were visited
+abbrev pub invariant-loop-code : goal.invariant-loop-code
+invariant-loop-code g l =
+    RanTo g.W.Weigh.weight (data_of l.fn.home) l.fn.first l.fn.entry (l.fn.self.weigh.now, holds l.fn.self.weights.items) (l.self.weigh.now, holds l.self.weights.items) (l.code - l.start)

@@ -1,0 +1,229 @@
+//! The weights of the elements of reachable entries, collected.
+ghost use Rattle.std.specs.Prelude.{◌≡◌, ◌↔◌, ℕ, Bool, true, false, Option, None, OnOk, IsTrue};
+ghost use Rattle.std.specs.List.{Contains};
+ghost use Rattle.std.specs.List.Sorted.{IsStrictlyIncreasing};
+ghost use Rattle.icu_entries.specs.Elements.{Element, of_primary};
+ghost use Rattle.icu_collation_data.specs.Reachable.{reachable_from};
+ghost use Rattle.icu_collation_data.specs.StoredData.{data_of};
+ghost use Rattle.icu_collation_data.specs.DataConditions.{is_readable};
+ghost use Rattle.icu_collation_data.specs.CollectedWeights.{is_stated, IsWeightAmong, IsReachableWeight, Adds};
+ghost use Rattle.icu_collation_data.specs.inner.Visitors.{holds, and_weight, collected, collected_at};
+
+use crate::block_walk::{goes_by_character, visit_chars};
+use crate::data::CollationData;
+use crate::element_walk::{VisitElement, visit_elements};
+use crate::reachable_condition::run_data;
+use crate::walk::{Visit, visit_from};
+use icu_entries::{CollationElement, CollationElement32, EntryKind};
+use std::alloc::AllocError;
+use std::mem::replace;
+
+/// Which weight of an element is collected.
+pub trait Weigh {
+    /// The weight of an element, if it is collected.
+    ghost weight: { Self → Element → Option ℕ };
+
+    /// The weight of an element, if it is collected.
+    fn weight(&self, element: CollationElement) -> Option<u32>
+        ensures { result ≡ weight self.now element };
+
+    /// Whether a weight of an element with a primary weight and common weights below may be collected, as those of
+    /// entries that go by their character are. `true` leaves that open.
+    fn weighs_primaries(&self) -> bool
+        ensures { result ≡ false → (p : ℕ) → weight self.now (of_primary p) ≡ None }
+    {
+        true
+    }
+}
+
+/// Puts weights in ascending order, each once.
+pub fn sort_and_dedup(weights: &mut Vec<u32>)
+    ensures ascending { IsStrictlyIncreasing weights.new.items }
+    ensures members { (w : ℕ) → Contains weights.new.items w ↔ Contains weights.old.items w }
+{
+    weights.sort_unstable();
+    weights.dedup();
+}
+
+/// Makes room for one more weight. Where the list is full, each stays once, and it grows only where more than half of
+/// it is different weights: so it has room for at most four times as many as are different.
+fn make_room(weights: &mut Vec<u32>) -> Result<(), AllocError>
+    ensures { OnOk result ((w : ℕ) → Contains weights.new.items w ↔ Contains weights.old.items w) }
+{
+    if weights.len() < weights.capacity() {
+        return Ok(());
+    }
+    // most of them stand in order, which the stable sort makes use of
+    weights.sort()?;
+    sort_and_dedup(weights);
+    if weights.capacity() / 2 < weights.len() {
+        weights.reserve(weights.len())?;
+    }
+    Ok(())
+}
+
+fn add_weight(weights: &mut Vec<u32>, weight: u32) -> Result<(), AllocError>
+    ensures { OnOk result (holds weights.new.items ≡ and_weight (holds weights.old.items) weight) }
+{
+    if let Some(last) = weights.last() {
+        if *last == weight {
+            return Ok(());
+        }
+    }
+    make_room(weights)?;
+    weights.push(weight)?;
+    Ok(())
+}
+
+/// Whether the table states the elements of an entry: they can be read, and aren't for an implicit weight.
+#[tactic(auto, unfolding(crate::specs::CollectedWeights::is_stated))]
+fn is_stated(home: CollationData<'_>, c: char, entry: CollationElement32) -> bool
+    ensures value { result ≡ is_stated (data_of home.entry) c entry }
+    ensures readable { result ≡ true → IsTrue (is_readable (data_of home.entry) c entry) }
+{
+    match entry.kind() {
+        EntryKind::Implicit => false,
+        _ => home.is_readable(c, entry),
+    }
+}
+
+/// A visitor that collects weights.
+#[derive(Drop)]
+pub struct Collector<'w, W> {
+    /// Which weights are collected.
+    pub weigh: &'w W,
+    /// The weights so far.
+    pub weights: Vec<u32>,
+}
+
+impl<'w, W: Weigh> Collector<'w, W> {
+    /// A collector that goes on with a list, which is left empty.
+    pub fn over(weigh: &'w W, weights: &mut Vec<u32>) -> Collector<'w, W>
+        ensures weigh { result.weigh.now ≡ weigh.now }
+        ensures weights { result.weights.items ≡ weights.old.items }
+    {
+        let none = Vec::new(*weights.allocator());
+        Collector {
+            weigh,
+            weights: replace(weights, none),
+        }
+    }
+}
+
+impl<'w, W: Weigh> VisitElement for Collector<'w, W> {
+    type Error = AllocError;
+
+    ghost Seen = { W × (ℕ → Bool) };
+
+    ghost seen = { λ v. (v.weigh.now, holds v.weights.items) };
+
+    ghost after = { collected W.weight };
+
+    fn visit(&mut self, element: CollationElement) -> Result<(), AllocError> {
+        match self.weigh.weight(element) {
+            Some(weight) => add_weight(&mut self.weights, weight),
+            None => Ok(()),
+        }
+    }
+}
+
+impl<'w, W: Weigh> Visit for Collector<'w, W> {
+    type Error = AllocError;
+
+    ghost Seen = { W × (ℕ → Bool) };
+
+    ghost seen = { λ v. (v.weigh.now, holds v.weights.items) };
+
+    ghost after = { collected_at W.weight };
+
+    #[tactic(auto, unfolding(crate::specs::inner::Visitors::given_elements))]
+    fn visit(
+        &mut self,
+        home: CollationData<'_>,
+        c: char,
+        entry: CollationElement32,
+    ) -> Result<(), AllocError> {
+        if goes_by_character(entry) && !self.weigh.weighs_primaries() {
+            return Ok(());
+        }
+        if is_stated(home, c, entry) {
+            visit_elements(self, home, c, entry)
+        } else {
+            Ok(())
+        }
+    }
+
+    fn passes_implicit(&self) -> bool {
+        true
+    }
+
+    fn passes_run(
+        &self,
+        _home: CollationData<'_>,
+        _first: char,
+        entry: CollationElement32,
+    ) -> bool {
+        if self.weigh.weighs_primaries() {
+            return false;
+        }
+        goes_by_character(entry)
+    }
+
+    fn visit_run(
+        &mut self,
+        home: CollationData<'_>,
+        first: char,
+        entry: CollationElement32,
+    ) -> Result<bool, AllocError> {
+        let Some(data) = run_data(home, first, entry) else {
+            return Ok(false);
+        };
+        let start = first as u32;
+        for code in start..start + 64 {
+            if let Some(c) = char::from_u32(code) {
+                VisitElement::visit(self, data.offset_element(c))?;
+            }
+        }
+        Ok(true)
+    }
+}
+
+/// Adds to a list the weights that are collected of the elements of all entries that are reachable in a root or a
+/// tailoring, in any order, with or without repetition. A tailoring falls back: a fallback entry of its code point
+/// table is none. An entry whose elements can't be read, one that is not final, and one for an implicit weight, gives
+/// none. After an `Err`, out of memory, nothing is said of the list.
+pub fn collect_weights<W: Weigh>(
+    weights: &mut Vec<u32>,
+    weigh: &W,
+    home: CollationData<'_>,
+    falls_back: bool,
+) -> Result<(), AllocError>
+    ensures { OnOk result
+        (Adds (IsReachableWeight (W.weight weigh.now) falls_back (data_of home.entry))
+        weights.old.items weights.new.items) }
+{
+    let mut collector = Collector::over(weigh, weights);
+    let outcome = visit_chars(&mut collector, home, falls_back);
+    *weights = collector.weights;
+    outcome
+}
+
+/// Adds to a list the weights that are collected of the elements of the entries that are reachable with a character
+/// from one entry on, as `collect_weights` does.
+pub fn collect_weights_from<W: Weigh>(
+    weights: &mut Vec<u32>,
+    weigh: &W,
+    home: CollationData<'_>,
+    c: char,
+    entry: CollationElement32,
+) -> Result<(), AllocError>
+    ensures { OnOk result (Adds
+        (IsWeightAmong (W.weight weigh.now) (data_of home.entry) c
+        (reachable_from (data_of home.entry) entry))
+        weights.old.items weights.new.items) }
+{
+    let mut collector = Collector::over(weigh, weights);
+    let outcome = visit_from(&mut collector, home, c, entry);
+    *weights = collector.weights;
+    outcome
+}

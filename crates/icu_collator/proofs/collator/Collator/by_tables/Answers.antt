@@ -1,0 +1,25 @@
+-- What is kept beside the tables is what was worked out from them.
+use Rattle.std.proofs.Common.{◌≡◌, Result, Ok, subst, IfOk, rules}
+use Rattle.icu_elements.specs.TextElements.{Reading}
+use Rattle.icu_checks.specs.Checked.{checked_tables}
+use Rattle.icu_cursor.specs.FactsTables.{AreFacts}
+use Rattle.icu_cursor.specs.Named.{NamesAll}
+use Rattle.icu_cursor.specs.BoundaryTables.{boundary_reading}
+use Rattle.icu_collator.proofs.collator.Collator.by_tables.Goals as goal
+
+-- what was kept is what was made
+kept : {T E : Type 0} (r : Result T E) (x : T) (P : T → Type 0) → r ≡ Ok x → IfOk r P → P x
+kept r x P e h = subst (λ r. IfOk r P) e h
+
+pub boundaries-places-requires : goal.boundaries-places-requires
+boundaries-places-requires c =
+    kept c.new.result c.in_ok-named.named (λ n. NamesAll n (checked_tables c.args.tables).tables) c.in_ok-named.ensures.kept c.new.ensures
+
+pub invariant_of-result : goal.invariant_of-result
+invariant_of-result c =
+    let kept_facts = kept c.new-2.result c.in_ok-kept_facts.kept_facts (λ l. AreFacts (boundary_reading c.boundaries-places.result) l) c.in_ok-kept_facts.ensures.kept c.new-2.ensures in
+    record {
+      backward = search rules;
+      names = kept c.new.result c.in_ok-named.named (λ n. NamesAll n (checked_tables c.args.tables).tables) c.in_ok-named.ensures.kept c.new.ensures;
+      known = subst (λ (r : Reading). AreFacts r c.in_ok-kept_facts.kept_facts) c.boundaries-places.ensures kept_facts;
+    }

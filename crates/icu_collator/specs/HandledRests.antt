@@ -1,0 +1,20 @@
+-- What is left of elements that variable weighting handles one by one.
+use Rattle.std.specs.Prelude.{ℕ, List, map}
+use Rattle.icu_cursor.specs.Cursors.{cursor_gives}
+use Rattle.icu_weighting.specs.Handled.{HandledElement, stayed}
+use Rattle.icu_collator.specs.declared.handled.HandledElements.{HandledElements}
+use Rattle.icu_collator.specs.declared.handled.HandledText.{HandledText}
+use Rattle.icu_collator.specs.declared.handled.PlainText.{PlainText}
+use Rattle.icu_weighting.specs.VariableWeightings.{handled_after}
+
+-- the handled elements that are still to come
+abbrev pub handled_rest : HandledElements → List HandledElement
+handled_rest h = handled_after h.weighting h.rest.now
+
+-- the handled elements that are still to come of a text, where a cursor gives its elements
+abbrev pub handled_to_come : {T : Type 0} → (T → List ℕ) → HandledText T → List HandledElement
+handled_to_come text h = handled_after h.weighting (cursor_gives text h.elements)
+
+-- the handled elements that are still to come of a text, where a cursor gives its elements and none is variable
+abbrev pub plain_to_come : {T : Type 0} → (T → List ℕ) → PlainText T → List HandledElement
+plain_to_come text p = map stayed (cursor_gives text p.elements)

@@ -1,0 +1,399 @@
+//! Collators: each has a collation, tables and settings together.
+
+ghost use Rattle.std.specs.Prelude.{◌≡◌, ◌<◌, ◌∷◌, [], ℕ, true, false, Err, Ok, IfErr, IfOk, IsSome};
+ghost use Rattle.icu_options.specs.Conversions.{resolved_of};
+ghost use Rattle.icu_options.specs.Merge.{merge};
+ghost use Rattle.icu_options.specs.FlaggedSettings.{values_of};
+ghost use Rattle.icu_options.specs.Metadata.{metadata_settings, is_backward};
+ghost use Rattle.icu_entries.specs.declared.error.DataErrorKind.TheVariants.{NoMemory};
+ghost use Rattle.icu_checks.specs.Checked.{checked_tables};
+ghost use Rattle.icu_checks.specs.WellFormedTables.{IsWellFormedTables, IsTrueError};
+ghost use Rattle.icu_provider.specs.OwnedTables.{owned_tables};
+ghost use Rattle.icu_cursor.specs.Cursors.{cursor_reading};
+ghost use Rattle.icu_elements.specs.Reading.{element_tables, reading_of};
+ghost use Rattle.icu_elements.specs.TextElements.{Reading, elements_of};
+ghost use Rattle.icu_text_order.specs.Forms.{form_by, last_variable_by};
+ghost use Rattle.icu_text_order.specs.TextOrder.{reading_by, handled_elements, handled_by};
+ghost use Rattle.icu_weighting.specs.CheckedCollations.{collation_of};
+ghost use Rattle.icu_levels.specs.CommonBeginnings.{ReadsForward};
+ghost use Rattle.icu_collator.specs.inner.TextFronts.{IsFront};
+ghost use Rattle.icu_cursor.specs.Named.{NamesAll};
+ghost use Rattle.icu_cursor.specs.KeptFacts.{AreTrueFacts};
+ghost use Rattle.icu_cursor.specs.FactsTables.{AreFacts};
+ghost use Rattle.icu_cursor.specs.BoundaryTables.{boundary_reading};
+ghost use Rattle.unicode_normalization.specs.Forms.{nfd};
+
+use crate::handled::{HandledElements, HandledText, PlainText};
+use icu_checks::CheckedTables;
+use icu_cursor::{
+    Boundaries, CharFacts, CursorTables, ElementCursor, KeptFacts, NamedCharacters, outline_of,
+};
+use icu_elements::{ElementTables, TextReading, all_elements};
+use icu_encodings::{Characters, EncodedText};
+use icu_entries::{CollationElement, DataError, DataErrorKind, DataTable};
+use icu_levels::forms::{KeyForm, SecondaryForm};
+use icu_options::{
+    CollatorOptions, CollatorOptionsBitField, CollatorPreferences, ResolvedCollatorOptions,
+    merged_options,
+};
+use icu_provider::{CollationProvider, OwnedTables, load_tables};
+use icu_weighting::{key_form, last_variable};
+use std::alloc::{AllocError, Global};
+
+/// Compares texts by a language's rules (UTS #10). Owns copies of its tables, which were checked
+/// together, and its settings.
+#[derive(Debug, Drop)]
+pub struct Collator {
+    tables: CheckedTables,
+    named: NamedCharacters,
+    kept_facts: KeptFacts,
+    settings: CollatorOptionsBitField,
+    ghost backward: { (values_of settings).backward_second_level
+        ≡ is_backward (checked_tables tables).bits },
+    ghost names: { NamesAll named (checked_tables tables).tables },
+    ghost known: { AreFacts (reading_by (collation_of tables settings)) kept_facts },
+}
+
+impl Collator {
+    ghost use Rattle.icu_collator.specs.Collators.{loaded_for, tables_kept, settings_kept};
+    ghost use Rattle.icu_collator.specs.Collators.{collation_kept, collation_borrowed};
+
+    /// A collator by the tables that a provider returns for the locale and the type of `preferences`
+    /// (`load_tables` says which are asked for, and in which order). They are checked together, and
+    /// copied; nothing is kept that wasn't checked. Each setting is that of the first source that sets
+    /// it: `options` or `preferences`, then the metadata that the provider returned, then the default
+    /// (`merged_options`).
+    ///
+    /// Where the provider refuses a table, its last error of it is returned. Tables that don't meet
+    /// the conditions together are refused with the name of one that takes part in a condition that
+    /// fails, and the condition's kind. `NoMemory` says that an allocation failed.
+    pub fn try_new_unstable<P: CollationProvider>(
+        alloc: Global,
+        provider: &P,
+        preferences: CollatorPreferences<'_>,
+        options: CollatorOptions,
+    ) -> Result<Collator, DataError>
+        // What the provider returns, or its error.
+        ensures not_loaded { IfErr (loaded_for (P.loads provider.now) preferences.entry)
+            (λ e. result ≡ Err e) }
+        ensures keeps { IfOk result (λ c.
+            loaded_for (P.loads provider.now) preferences.entry ≡ Ok (tables_kept c)) }
+
+        // It is checked: unless an allocation fails, a collator is made of well-formed tables, and only
+        // of them.
+        ensures well_formed { IfOk result (λ c. IsWellFormedTables (tables_kept c)) }
+        ensures error { IfErr result (λ e.
+            IfOk (loaded_for (P.loads provider.now) preferences.entry)
+            (λ all. IsTrueError all e)) }
+        ensures exact { IfErr result (λ e.
+            IfOk (loaded_for (P.loads provider.now) preferences.entry) (λ all.
+            (e.kind ≡ NoMemory → ⊥) → IsWellFormedTables all → ⊥)) }
+
+        ensures settings { IfOk result (λ c. settings_kept c
+            ≡ merge options preferences.entry (metadata_settings (tables_kept c).bits)) }
+    {
+        let loaded = load_tables(provider, preferences.locale, preferences.collation_type)?;
+        let tables = CheckedTables::from_set(alloc, loaded)?;
+        Collator::by_tables(alloc, tables, preferences, options)
+    }
+
+    /// A collator by these tables, which are checked together and kept: nothing is copied, and
+    /// nothing is kept that wasn't checked. The tables are those of one collation, so the locale and
+    /// the type of `preferences` aren't read; a tailoring and a reordering are to be there exactly
+    /// where the metadata names them. Settings are those of `try_new_unstable`.
+    ///
+    /// Tables that don't meet the conditions together are refused as `try_new_unstable` refuses them,
+    /// and dropped. `NoMemory` says that an allocation failed.
+    pub fn try_from_tables(
+        alloc: Global,
+        tables: OwnedTables,
+        preferences: CollatorPreferences<'_>,
+        options: CollatorOptions,
+    ) -> Result<Collator, DataError>
+        ensures keeps { IfOk result (λ c. tables_kept c ≡ owned_tables tables) }
+
+        // Unless an allocation fails, a collator is made of well-formed tables, and only of them.
+        ensures well_formed { IfOk result (λ c. IsWellFormedTables (tables_kept c)) }
+        ensures error { IfErr result (IsTrueError (owned_tables tables)) }
+        ensures exact { IfErr result (λ e.
+            (e.kind ≡ NoMemory → ⊥) → IsWellFormedTables (owned_tables tables) → ⊥) }
+
+        ensures settings { IfOk result (λ c. settings_kept c
+            ≡ merge options preferences.entry (metadata_settings (tables_kept c).bits)) }
+    {
+        let tables = CheckedTables::from_owned(alloc, tables)?;
+        Collator::by_tables(alloc, tables, preferences, options)
+    }
+
+    /// A collator by tables that were checked.
+    fn by_tables(
+        alloc: Global,
+        tables: CheckedTables,
+        preferences: CollatorPreferences<'_>,
+        options: CollatorOptions,
+    ) -> Result<Collator, DataError>
+        ensures keeps { IfOk result (λ c. tables_kept c ≡ checked_tables tables) }
+        ensures settings { IfOk result (λ c. settings_kept c
+            ≡ merge options preferences.entry (metadata_settings (checked_tables tables).bits)) }
+        ensures memory { IfErr result (λ e. e.kind ≡ NoMemory) }
+    {
+        let settings = merged_options(options, preferences, tables.metadata().settings());
+        let named = refused_as_root(NamedCharacters::new(alloc, &tables))?;
+        let places = boundaries(&tables, &named, settings);
+        let kept_facts = refused_as_root(KeptFacts::new(alloc, places))?;
+        Ok(Collator {
+            tables,
+            named,
+            kept_facts,
+            settings,
+        })
+    }
+
+    /// The same collator, borrowed: copies nothing of the tables. What each comparison asks of the settings is worked
+    /// out here, so that one borrowed collator serves for many comparisons.
+    pub fn as_borrowed(&self) -> CollatorBorrowed<'_>
+        ensures { collation_borrowed result ≡ collation_kept self.now }
+    {
+        CollatorBorrowed {
+            tables: &self.tables,
+            named: &self.named,
+            kept_facts: &self.kept_facts,
+            settings: self.settings,
+            form: key_form(&self.tables, self.settings),
+            last_variable: last_variable(&self.tables, self.settings),
+        }
+    }
+}
+
+/// What is kept beside the tables. Where an allocation fails, that is said of the root.
+fn refused_as_root<T>(kept: Result<T, AllocError>) -> Result<T, DataError>
+    ensures kept { IfOk result (λ x. kept ≡ Ok x) }
+    ensures error { IfErr result (λ e. e.kind ≡ NoMemory) }
+{
+    match kept {
+        Ok(kept) => Ok(kept),
+        Err(AllocError) => Err(DataError {
+            table: DataTable::Root,
+            kind: DataErrorKind::NoMemory,
+        }),
+    }
+}
+
+/// How texts are read by this collation.
+#[inline]
+fn text_reading(tables: &CheckedTables, settings: CollatorOptionsBitField) -> TextReading<'_>
+    ensures reading { reading_of result ≡ reading_by (collation_of tables.now settings) }
+    ensures tables { element_tables result.tables ≡ (checked_tables tables.now).tables }
+{
+    TextReading {
+        tables: ElementTables::new(tables),
+        numeric_primary: numeric_primary(tables, settings),
+        lithuanian_dot_above: tables.metadata().lithuanian_dot_above(),
+    }
+}
+
+/// Before which characters texts may be cut that are read by this collation.
+fn boundaries<'d>(
+    tables: &'d CheckedTables,
+    named: &'d NamedCharacters,
+    settings: CollatorOptionsBitField,
+) -> Boundaries<'d>
+    requires { NamesAll named.now (checked_tables tables.now).tables }
+    ensures { boundary_reading result ≡ reading_by (collation_of tables.now settings) }
+{
+    Boundaries::new(text_reading(tables, settings), named)
+}
+
+/// What a character says of the front of a text that begins with it: whether the text may be cut before it, and the
+/// primary weight that the text's elements begin with, or 0 where that is not known.
+#[derive(Debug, Clone, Copy)]
+pub(crate) struct Front {
+    pub(crate) has_boundary_before: bool,
+    pub(crate) leading_primary: u32,
+}
+
+/// What is known of a character says what its front is.
+#[inline(always)]
+fn front_of(facts: &CharFacts) -> Front
+    ensures { (reading : Reading) (c : ℕ) → AreTrueFacts reading c facts.now
+        → IsFront reading c result }
+{
+    Front {
+        has_boundary_before: facts.has_boundary_before,
+        leading_primary: facts.leading_primary,
+    }
+}
+
+/// The lead byte of numbers, where digits are read as numbers.
+fn numeric_primary(tables: &CheckedTables, settings: CollatorOptionsBitField) -> Option<u8>
+    ensures { result ≡ (reading_by (collation_of tables.now settings)).numeric }
+{
+    if settings.numeric() {
+        Some(tables.special_primaries().numeric_primary())
+    } else {
+        None
+    }
+}
+
+/// A collator that borrows its tables, with what each comparison asks of the settings: the levels that count, which
+/// elements are variable, and how texts are read.
+#[derive(Debug, Clone, Copy)]
+pub struct CollatorBorrowed<'a> {
+    pub(crate) tables: &'a CheckedTables,
+    named: &'a NamedCharacters,
+    kept_facts: &'a KeptFacts,
+    settings: CollatorOptionsBitField,
+    form: KeyForm,
+    last_variable: u32,
+    ghost backward: { (values_of settings).backward_second_level
+        ≡ is_backward (checked_tables tables.now).bits },
+    ghost known: { AreFacts (reading_by (collation_of tables.now settings)) kept_facts.now },
+    ghost levels: { form ≡ form_by (collation_of tables.now settings) },
+    ghost variable: { last_variable ≡ last_variable_by (collation_of tables.now settings) },
+    ghost names: { NamesAll named.now (checked_tables tables.now).tables },
+}
+
+impl<'a> CollatorBorrowed<'a> {
+    ghost use Rattle.icu_collator.specs.Collators.{collation_borrowed, settings_borrowed, tables_borrowed};
+    ghost use Rattle.icu_collator.specs.HandledRests.{handled_rest, handled_to_come, plain_to_come};
+
+    /// The settings that the collator works by.
+    pub fn resolved_options(&self) -> ResolvedCollatorOptions
+        ensures { result ≡ resolved_of (settings_borrowed self.now) }
+    {
+        self.settings.into()
+    }
+
+    /// The tables meet the conditions on all tables of a collator: no collator has others.
+    pub fn has_well_formed_tables(&self)
+        ensures { IsWellFormedTables (tables_borrowed self.now) }
+    {
+        self.tables.are_well_formed();
+    }
+
+    /// The tables that elements are read from.
+    pub fn tables(&self) -> ElementTables<'a>
+        ensures { element_tables result ≡ (tables_borrowed self.now).tables }
+    {
+        ElementTables::new(self.tables)
+    }
+
+    /// The levels that count, and their forms.
+    pub(crate) fn key_form(&self) -> KeyForm
+        ensures { result ≡ form_by (collation_borrowed self.now) }
+    {
+        self.form
+    }
+
+    /// The elements of a text as the collation handles variable ones (UTS #10, "Variable Weighting").
+    pub(crate) fn handled<'e>(&self, elements: &'e [CollationElement]) -> HandledElements<'e>
+        ensures { handled_rest result
+            ≡ handled_elements (collation_borrowed self.now) false elements.entry.now }
+    {
+        let handling = self.settings.alternate_handling();
+        HandledElements::new(elements, handling, self.last_variable())
+    }
+
+    /// The last primary weight of the groups that are variable, or 0 where none is.
+    pub(crate) fn last_variable(&self) -> u32
+        ensures { result ≡ last_variable_by (collation_borrowed self.now) }
+    {
+        self.last_variable
+    }
+
+    /// Whether secondary weights are read backward.
+    pub(crate) fn reads_backward(&self) -> bool
+        ensures { result ≡ false → ReadsForward (form_by (collation_borrowed self.now)).secondary }
+    {
+        self.key_form().secondary == Some(SecondaryForm::Backward)
+    }
+
+    /// What a character says of the front of a text that begins with it.
+    #[inline(always)]
+    pub(crate) fn front(&self, c: char) -> Front
+        ensures { IsFront (reading_by (collation_borrowed self.now)) c result }
+    {
+        match self.kept_facts.get(c) {
+            Some(facts) => front_of(facts),
+            None => self.other_front(c),
+        }
+    }
+
+    /// What a character says that isn't among those that are read most.
+    #[inline]
+    fn other_front(&self, c: char) -> Front
+        ensures { IsFront (reading_by (collation_borrowed self.now)) c result }
+    {
+        match self.kept_facts.syllable(c) {
+            Some(facts) => front_of(&facts),
+            None => front_of(&self.outline(c)),
+        }
+    }
+
+    /// What is known of a character by the first one of its decomposition.
+    #[inline(never)]
+    fn outline(&self, c: char) -> CharFacts
+        ensures { AreTrueFacts (reading_by (collation_borrowed self.now)) c result }
+    {
+        outline_of(&boundaries(self.tables, self.named, self.settings), c)
+    }
+
+    /// The elements of a text.
+    pub(crate) fn elements<T: EncodedText>(
+        &self,
+        text: T,
+    ) -> Result<Vec<CollationElement>, AllocError>
+        ensures { let reading = reading_by (collation_borrowed self.now) in
+            IfOk result (λ es. es.items ≡ elements_of reading (nfd (T.text text))) }
+    {
+        all_elements(
+            text_reading(self.tables, self.settings),
+            Characters::new(text),
+        )
+    }
+
+    /// What texts are read by.
+    #[inline(always)]
+    pub(crate) fn cursor_tables(&self) -> CursorTables<'a>
+        ensures { cursor_reading result ≡ reading_by (collation_borrowed self.now) }
+    {
+        CursorTables::new(
+            boundaries(self.tables, self.named, self.settings),
+            self.kept_facts,
+        )
+    }
+
+    /// Reads the elements of a text, as the collation handles variable ones.
+    #[inline(always)]
+    pub(crate) fn handled_text<'c, T: EncodedText>(
+        &self,
+        tables: &'c CursorTables<'a>,
+        text: T,
+    ) -> HandledText<'c, 'a, T>
+        requires { cursor_reading tables.now ≡ reading_by (collation_borrowed self.now) }
+        ensures { handled_to_come T.text result
+            ≡ handled_by (collation_borrowed self.now) (nfd (T.text text)) }
+    {
+        let handling = self.settings.alternate_handling();
+        HandledText::new(
+            ElementCursor::new(tables, text),
+            handling,
+            self.last_variable(),
+        )
+    }
+
+    /// Reads the elements of a text, where none is variable.
+    #[inline(always)]
+    pub(crate) fn plain_text<'c, T: EncodedText>(
+        &self,
+        tables: &'c CursorTables<'a>,
+        text: T,
+    ) -> PlainText<'c, 'a, T>
+        requires reading { cursor_reading tables.now ≡ reading_by (collation_borrowed self.now) }
+        requires plain { last_variable_by (collation_borrowed self.now) ≡ 0 }
+        ensures { plain_to_come T.text result
+            ≡ handled_by (collation_borrowed self.now) (nfd (T.text text)) }
+    {
+        PlainText::new(ElementCursor::new(tables, text))
+    }
+}

@@ -1,0 +1,193 @@
+//! The order of texts.
+
+ghost use Rattle.std.specs.Prelude.{◌≡◌, IfOk, Ok, chars};
+ghost use Rattle.icu_encodings.specs.DecodedTexts.{latin1_text, utf16_text, utf8_text};
+ghost use Rattle.icu_levels.specs.ListOrder.{list_order};
+ghost use Rattle.icu_levels.specs.Keys.{characters_order};
+ghost use Rattle.icu_text_order.specs.Forms.{form_by};
+ghost use Rattle.icu_text_order.specs.TextOrder.{lists_by, text_order, text_key};
+ghost use Rattle.unicode_normalization.specs.Forms.{nfd};
+
+use crate::collator::CollatorBorrowed;
+use crate::identical_level::compare_characters;
+use crate::texts::str_text;
+use icu_encodings::{CommonUnits, EncodedText, Latin1Text, Utf8Text, Utf16Text};
+use icu_text_order::laws::keys_keep_text_order;
+use std::alloc::AllocError;
+use std::cmp::Ordering;
+
+impl<'a> CollatorBorrowed<'a> {
+    ghost use Rattle.icu_collator.specs.Collators.{collation_borrowed};
+
+    /// The order of two texts by the collation (UTS #10, "Compare Sort Keys"), for each collation. The first
+    /// level that differs decides: primary weights, reordered, then secondary weights, forward or backward, cases,
+    /// tertiary weights, quaternary weights, and the characters of the decomposed texts, as far as the settings name
+    /// these levels. It is the dictionary order of the two texts' sort keys. Fails only where an allocation does.
+    pub fn compare(&self, left: &str, right: &str) -> Result<Ordering, AllocError>
+        ensures order { IfOk result (λ o. o ≡ text_order (collation_borrowed self.now)
+            (chars left.now) (chars right.now)) }
+        ensures keys { IfOk result (λ o. o ≡ list_order
+            (text_key (collation_borrowed self.now) (chars left.now))
+            (text_key (collation_borrowed self.now) (chars right.now))) }
+        ensures same { left.now ≡ right.now → result ≡ Ok Ordering.Equal }
+    {
+        self.compare_texts(str_text(left), str_text(right))
+    }
+
+    /// The order of two texts in UTF-8 that may be damaged: each maximal ill-formed part is one U+FFFD (Unicode
+    /// Standard, "Unicode Encoding Forms"). Fails only where an allocation does.
+    pub fn compare_utf8(&self, left: &[u8], right: &[u8]) -> Result<Ordering, AllocError>
+        ensures order { IfOk result (λ o. o ≡ text_order (collation_borrowed self.now)
+            (utf8_text left.now) (utf8_text right.now)) }
+        ensures keys { IfOk result (λ o. o ≡ list_order
+            (text_key (collation_borrowed self.now) (utf8_text left.now))
+            (text_key (collation_borrowed self.now) (utf8_text right.now))) }
+        ensures same { left.now ≡ right.now → result ≡ Ok Ordering.Equal }
+    {
+        self.compare_texts(Utf8Text(left), Utf8Text(right))
+    }
+
+    /// The order of two texts in UTF-16: each unpaired surrogate is U+FFFD (Unicode Standard, "Unicode Encoding
+    /// Forms"). Fails only where an allocation does.
+    pub fn compare_utf16(&self, left: &[u16], right: &[u16]) -> Result<Ordering, AllocError>
+        ensures order { IfOk result (λ o. o ≡ text_order (collation_borrowed self.now)
+            (utf16_text left.now) (utf16_text right.now)) }
+        ensures keys { IfOk result (λ o. o ≡ list_order
+            (text_key (collation_borrowed self.now) (utf16_text left.now))
+            (text_key (collation_borrowed self.now) (utf16_text right.now))) }
+        ensures same { left.now ≡ right.now → result ≡ Ok Ordering.Equal }
+    {
+        self.compare_texts(Utf16Text(left), Utf16Text(right))
+    }
+
+    /// The order of two texts in Latin-1: each byte is the character of its number (Unicode Standard,
+    /// "Latin"). Fails only where an allocation does.
+    pub fn compare_latin1(&self, left: &[u8], right: &[u8]) -> Result<Ordering, AllocError>
+        ensures order { IfOk result (λ o. o ≡ text_order (collation_borrowed self.now)
+            (latin1_text left.now) (latin1_text right.now)) }
+        ensures keys { IfOk result (λ o. o ≡ list_order
+            (text_key (collation_borrowed self.now) (latin1_text left.now))
+            (text_key (collation_borrowed self.now) (latin1_text right.now))) }
+        ensures same { left.now ≡ right.now → result ≡ Ok Ordering.Equal }
+    {
+        self.compare_texts(Latin1Text(left), Latin1Text(right))
+    }
+
+    /// The order of a text in Latin-1 and one in UTF-16. Fails only where an allocation does.
+    pub fn compare_latin1_utf16(&self, left: &[u8], right: &[u16]) -> Result<Ordering, AllocError>
+        ensures order { IfOk result (λ o. o ≡ text_order (collation_borrowed self.now)
+            (latin1_text left.now) (utf16_text right.now)) }
+        ensures keys { IfOk result (λ o. o ≡ list_order
+            (text_key (collation_borrowed self.now) (latin1_text left.now))
+            (text_key (collation_borrowed self.now) (utf16_text right.now))) }
+        ensures same { left.now ≡ right.now → result ≡ Ok Ordering.Equal }
+    {
+        self.compare_texts(Latin1Text(left), Utf16Text(right))
+    }
+
+    /// The order of two texts, whatever their encodings.
+    fn compare_texts<L: CommonUnits<R>, R: EncodedText>(
+        &self,
+        left: L,
+        right: R,
+    ) -> Result<Ordering, AllocError>
+        ensures order { IfOk result (λ o. o ≡ text_order (collation_borrowed self.now)
+            (L.text left) (R.text right)) }
+        ensures keys { IfOk result (λ o. o ≡ list_order
+            (text_key (collation_borrowed self.now) (L.text left))
+            (text_key (collation_borrowed self.now) (R.text right))) }
+        ensures same { L.units left ≡ R.units right → result ≡ Ok Ordering.Equal }
+    {
+        let order = self.compare_tails(left, right)?;
+        keys_keep_text_order();
+        self.tables.are_well_formed();
+        left.has_scalar_values();
+        right.has_scalar_values();
+        Ok(order)
+    }
+
+    /// The order of two texts by what follows their common beginning, as far as that may be passed over.
+    fn compare_tails<L: CommonUnits<R>, R: EncodedText>(
+        &self,
+        left: L,
+        right: R,
+    ) -> Result<Ordering, AllocError>
+        ensures order { IfOk result (λ o. o ≡ text_order (collation_borrowed self.now)
+            (L.text left) (R.text right)) }
+        ensures same { L.units left ≡ R.units right → result ≡ Ok Ordering.Equal }
+    {
+        let common = left.common_units(right);
+        if common == left.unit_count() && common == right.unit_count() {
+            self.is_equal_to_itself(left);
+            return Ok(Ordering::Equal);
+        }
+        if !self.reads_backward() {
+            if let Some((one, other, order)) = self.tails(left, right, common) {
+                return match order {
+                    Some(order) => Ok(order),
+                    None => self.compare_rest(one, other),
+                };
+            }
+        }
+        self.compare_levels(left, right)
+    }
+
+    /// A text is equal to itself.
+    fn is_equal_to_itself<T: EncodedText>(&self, text: T)
+        ensures { text_order (collation_borrowed self.now)
+            (T.text text) (T.text text) ≡ Ordering.Equal }
+    {
+        keys_keep_text_order();
+        self.tables.are_well_formed();
+        text.has_scalar_values();
+    }
+
+    /// The order of two texts: by their first characters where these decide, or else by their levels in turn.
+    fn compare_levels<L: EncodedText, R: EncodedText>(
+        &self,
+        left: L,
+        right: R,
+    ) -> Result<Ordering, AllocError>
+        ensures { IfOk result (λ o. o ≡ text_order (collation_borrowed self.now)
+            (L.text left) (R.text right)) }
+    {
+        if let Some(order) = self.compare_fronts(left, right) {
+            return Ok(order);
+        }
+        self.compare_rest(left, right)
+    }
+
+    /// The order of two texts by their levels in turn.
+    fn compare_rest<L: EncodedText, R: EncodedText>(
+        &self,
+        left: L,
+        right: R,
+    ) -> Result<Ordering, AllocError>
+        ensures { IfOk result (λ o. o ≡ text_order (collation_borrowed self.now)
+            (L.text left) (R.text right)) }
+    {
+        let order = self.compare_elements(left, right)?;
+        if order != Ordering::Equal {
+            return Ok(order);
+        }
+        self.compare_characters(left, right)
+    }
+
+    /// The order of two texts by their decomposed characters, where these count.
+    #[tactic(auto, unfolding(icu_text_order::specs::TextOrder::lists_by))]
+    fn compare_characters<L: EncodedText, R: EncodedText>(
+        &self,
+        left: L,
+        right: R,
+    ) -> Result<Ordering, AllocError>
+        ensures { let collation = collation_borrowed self.now in
+            IfOk result (λ o. o ≡ characters_order (form_by collation).identical
+            (lists_by collation (nfd (L.text left))) (lists_by collation (nfd (R.text right)))) }
+    {
+        if self.key_form().identical {
+            compare_characters(self.tables.allocator(), left, right)
+        } else {
+            Ok(Ordering::Equal)
+        }
+    }
+}

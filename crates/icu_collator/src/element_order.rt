@@ -1,0 +1,215 @@
+//! The order of two texts' elements, level by level.
+
+ghost use Rattle.std.specs.Prelude.{◌≡◌, ℕ, List, IfOk, IfSome, MatchOption};
+ghost use Rattle.std.specs.declared.cmp.Ordering.TheVariants.{Equal};
+ghost use Rattle.icu_levels.specs.ListOrder.{list_order, segments_order};
+ghost use Rattle.icu_levels.specs.Keys.{secondaries_order, cases_order, tertiaries_order, quaternaries_order};
+ghost use Rattle.icu_weighting.specs.Forms.{form_by};
+ghost use Rattle.icu_text_order.specs.TextOrder.{handled_by, lists_by};
+ghost use Rattle.icu_collator.specs.inner.LevelWeights.{level_weights};
+ghost use Rattle.unicode_normalization.specs.Forms.{nfd};
+
+use crate::collator::CollatorBorrowed;
+use crate::forward_levels::Level;
+use crate::in_step::{compare_from_difference, compare_in_step};
+use crate::segments::compare_segments;
+use icu_encodings::EncodedText;
+use icu_levels::forms::{SecondaryForm, TertiaryForm};
+use std::alloc::AllocError;
+use std::cmp::Ordering;
+
+impl<'a> CollatorBorrowed<'a> {
+    ghost use Rattle.icu_collator.specs.Collators.{collation_borrowed};
+    ghost use Rattle.icu_collator.specs.inner.ElementOrders.{elements_order, leading_order, lower_order};
+    ghost use Rattle.icu_collator.specs.inner.InStep.{order_on, IsThreeLevel};
+
+    /// The order of two texts on a level that is compared from the front.
+    fn compare_on<L: EncodedText, R: EncodedText>(
+        &self,
+        level: Level<'_>,
+        left: L,
+        right: R,
+    ) -> Result<Ordering, AllocError>
+        ensures { let collation = collation_borrowed self.now in
+            IfOk result (λ o. o ≡ list_order
+            (level_weights level.entry (handled_by collation (nfd (L.text left))))
+            (level_weights level.entry (handled_by collation (nfd (R.text right))))) }
+    {
+        let tables = self.cursor_tables();
+        let mut left = self.handled_text(&tables, left);
+        let mut right = self.handled_text(&tables, right);
+        level.compare(&mut left, &mut right)
+    }
+
+    /// The order of the secondary weights, forward or backward, where they count.
+    fn compare_secondaries<L: EncodedText, R: EncodedText>(
+        &self,
+        left: L,
+        right: R,
+    ) -> Result<Ordering, AllocError>
+        ensures { let collation = collation_borrowed self.now in
+            IfOk result (λ o. o ≡ secondaries_order (form_by collation).secondary
+            (lists_by collation (nfd (L.text left))) (lists_by collation (nfd (R.text right)))) }
+    {
+        match self.key_form().secondary {
+            None => Ok(Ordering::Equal),
+            Some(SecondaryForm::Forward) => self.compare_on(Level::Secondary, left, right),
+            Some(SecondaryForm::Backward) => self.compare_backward(left, right),
+        }
+    }
+
+    /// The order of the secondary weights, backward. The elements are read into lists, since they are gone through from
+    /// the end.
+    fn compare_backward<L: EncodedText, R: EncodedText>(
+        &self,
+        left: L,
+        right: R,
+    ) -> Result<Ordering, AllocError>
+        ensures { let collation = collation_borrowed self.now in
+            IfOk result (λ o. o ≡ segments_order (lists_by collation (nfd (L.text left))).segments
+            (lists_by collation (nfd (R.text right))).segments) }
+    {
+        let left = self.elements(left)?;
+        let right = self.elements(right)?;
+        let left = self.handled(left.as_slice());
+        let right = self.handled(right.as_slice());
+        Ok(compare_segments(left, right))
+    }
+
+    /// The order of the cases, where they count by themselves.
+    fn compare_cases<L: EncodedText, R: EncodedText>(
+        &self,
+        left: L,
+        right: R,
+    ) -> Result<Ordering, AllocError>
+        ensures { let collation = collation_borrowed self.now in
+            IfOk result (λ o. o ≡ cases_order (form_by collation).cases
+            (lists_by collation (nfd (L.text left))) (lists_by collation (nfd (R.text right)))) }
+    {
+        let form = self.key_form();
+        match form.cases {
+            None => Ok(Ordering::Equal),
+            Some(cases) => self.compare_on(Level::Case(form.secondary, cases), left, right),
+        }
+    }
+
+    /// The order of the tertiary weights, with case bits where they count among them.
+    fn compare_tertiaries<L: EncodedText, R: EncodedText>(
+        &self,
+        left: L,
+        right: R,
+    ) -> Result<Ordering, AllocError>
+        ensures { let collation = collation_borrowed self.now in
+            IfOk result (λ o. o ≡ tertiaries_order (form_by collation).tertiary
+            (lists_by collation (nfd (L.text left))) (lists_by collation (nfd (R.text right)))) }
+    {
+        match self.key_form().tertiary {
+            None => Ok(Ordering::Equal),
+            Some(form) => self.compare_on(Level::Tertiary(form), left, right),
+        }
+    }
+
+    /// The order of the quaternary weights, where they count.
+    fn compare_quaternaries<L: EncodedText, R: EncodedText>(
+        &self,
+        left: L,
+        right: R,
+    ) -> Result<Ordering, AllocError>
+        ensures { let collation = collation_borrowed self.now in
+            IfOk result (λ o. o ≡ quaternaries_order (form_by collation).quaternary
+            (lists_by collation (nfd (L.text left))) (lists_by collation (nfd (R.text right)))) }
+    {
+        match self.key_form().quaternary {
+            None => Ok(Ordering::Equal),
+            Some(_) => self.compare_on(Level::Quaternary(self.tables.reordering()), left, right),
+        }
+    }
+
+    /// The order of two texts by their elements: all levels but the identical one.
+    #[inline(never)]
+    pub(crate) fn compare_elements<L: EncodedText, R: EncodedText>(
+        &self,
+        left: L,
+        right: R,
+    ) -> Result<Ordering, AllocError>
+        ensures { IfOk result (λ o. o ≡ elements_order (collation_borrowed self.now)
+            (nfd (L.text left)) (nfd (R.text right))) }
+    {
+        match self.compare_at_once(left, right)? {
+            Some(order) => Ok(order),
+            None => self.compare_lower(left, right),
+        }
+    }
+
+    /// The order of the elements of two texts, where one pass over both shows it. It goes past the elements that both
+    /// have, and compares primary weights from the first on that differ; where only secondary and tertiary weights
+    /// count after them, it compares these as well, as far as elements are in step. None where the primary weights tie,
+    /// and no more is known.
+    fn compare_at_once<L: EncodedText, R: EncodedText>(
+        &self,
+        left: L,
+        right: R,
+    ) -> Result<Option<Ordering>, AllocError>
+        ensures { let collation = collation_borrowed self.now in
+            IfOk result (λ found. MatchOption found
+            (leading_order collation (nfd (L.text left)) (nfd (R.text right)) ≡ Equal)
+            (λ o. o ≡ elements_order collation (nfd (L.text left)) (nfd (R.text right)))) }
+    {
+        let tables = self.cursor_tables();
+        let mut left = self.handled_text(&tables, left);
+        let mut right = self.handled_text(&tables, right);
+        let first = self.primary_level();
+        match self.three_level_form() {
+            Some(form) => compare_in_step(first, form, &mut left, &mut right),
+            None => compare_from_difference(first, &mut left, &mut right),
+        }
+    }
+
+    /// The level of the primary weights, reordered.
+    fn primary_level(&self) -> Level<'a>
+        ensures { let collation = collation_borrowed self.now in (t u : List ℕ) →
+            order_on result (handled_by collation t) (handled_by collation u)
+            ≡ leading_order collation t u }
+    {
+        Level::Primary(self.tables.reordering())
+    }
+
+    /// The form of the tertiary level, where that, the primary and the secondary level are all before the identical
+    /// one, and secondary weights are compared forward.
+    fn three_level_form(&self) -> Option<TertiaryForm>
+        ensures { IfSome result
+            (λ form. IsThreeLevel (form_by (collation_borrowed self.now)) form) }
+    {
+        let form = self.key_form();
+        match (form.secondary, form.cases, form.tertiary, form.quaternary) {
+            (Some(SecondaryForm::Forward), None, Some(tertiary), None) => Some(tertiary),
+            _ => None,
+        }
+    }
+
+    /// The levels between the primary and the identical one in turn: the first that differs decides.
+    #[inline(never)]
+    #[tactic(auto, unfolding(crate::specs::inner::ElementOrders::lower_order))]
+    fn compare_lower<L: EncodedText, R: EncodedText>(
+        &self,
+        left: L,
+        right: R,
+    ) -> Result<Ordering, AllocError>
+        ensures { IfOk result (λ o. o ≡ lower_order (collation_borrowed self.now)
+            (nfd (L.text left)) (nfd (R.text right))) }
+    {
+        let order = self.compare_secondaries(left, right)?;
+        if order != Ordering::Equal {
+            return Ok(order);
+        }
+        let order = self.compare_cases(left, right)?;
+        if order != Ordering::Equal {
+            return Ok(order);
+        }
+        let order = self.compare_tertiaries(left, right)?;
+        if order != Ordering::Equal {
+            return Ok(order);
+        }
+        self.compare_quaternaries(left, right)
+    }
+}

@@ -1,7 +1,0 @@
-mod NamedLemmas
-mod TableLemmas
-mod DigitEntryLemmas
-mod FewLemmas
-pub mod KeptLemmas
-pub mod SyllableLemmas
-pub mod KeptBaseLemmas

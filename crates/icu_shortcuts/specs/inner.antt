@@ -1,4 +1,0 @@
--- Words of private contracts and proofs only: no public contract names them.
-pub mod FewElements
-pub mod ReadFacts
-pub mod Syllables
