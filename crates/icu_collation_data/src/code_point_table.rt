@@ -40,7 +40,7 @@ impl<'d> CodePointTable<'d> {
         if !blocks.iter().all(|block| (*block as usize) < whole) {
             return Err(DataErrorKind::Index);
         }
-        Ok(CodePointTable::new_unchecked(blocks, values))
+        Ok(CodePointTable::from_parts(blocks, values))
     }
 
     /// The value of a character.
@@ -67,8 +67,8 @@ impl<'d> CodePointTable<'d> {
         (self.blocks, self.values)
     }
 
-    /// A table of slices that are known to fit, without a check.
-    pub fn new_unchecked(blocks: &'d [u16], values: &'d [u32]) -> CodePointTable<'d>
+    /// The table of parts that its caller has shown to fit, as those that `parts` returns do: nothing is checked again.
+    pub fn from_parts(blocks: &'d [u16], values: &'d [u32]) -> CodePointTable<'d>
         requires { IsCodePointTable blocks.now values.now }
         ensures { table_value result ≡ stored_value blocks.entry.now values.entry.now }
     {

@@ -160,7 +160,7 @@ impl<'d> ContextTable<'d> {
         if !have_ascending_mappings(contexts, mappings, chars) {
             return Err(DataErrorKind::Context);
         }
-        Ok(ContextTable::new_unchecked(contexts, mappings, chars))
+        Ok(ContextTable::from_parts(contexts, mappings, chars))
     }
 
     /// The contexts, their mappings, and the mappings' characters, as `new` takes them. In each context the mappings
@@ -175,8 +175,8 @@ impl<'d> ContextTable<'d> {
         (self.contexts, self.mappings, self.chars)
     }
 
-    /// A table of slices that are known to fit, without a check.
-    pub fn new_unchecked(
+    /// The table of parts that its caller has shown to fit, as those that `parts` returns do: nothing is checked again.
+    pub fn from_parts(
         contexts: &'d [Context],
         mappings: &'d [ContextMapping],
         chars: &'d [char],

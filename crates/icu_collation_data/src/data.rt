@@ -31,7 +31,7 @@ impl<'d> CollationData<'d> {
     /// Borrows a root or a tailoring whose entries nothing has checked. Its look-ups ask their callers for what they
     /// need, so that it does no harm; `new` checks the entries.
     #[tactic(auto, unfolding(crate::specs::StoredData::data_of))]
-    pub fn new_unchecked(
+    pub fn from_unverified_parts(
         trie: CodePointTable<'d>,
         ces: &'d [u64],
         ce32s: &'d [u32],
@@ -72,7 +72,7 @@ impl<'d> CollationData<'d> {
         ensures keeps { IfOk result
             (λ d. data_of d ≡ data_by trie.entry ces.entry.now ce32s.entry.now contexts.entry) }
     {
-        let data = CollationData::new_unchecked(trie, ces, ce32s, contexts);
+        let data = CollationData::from_unverified_parts(trie, ces, ce32s, contexts);
         data.check()?;
         Ok(data)
     }

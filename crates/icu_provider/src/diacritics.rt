@@ -55,11 +55,11 @@ impl<'d> CollationDiacritics<'d> {
                 return Err(DataErrorKind::Element);
             }
         }
-        Ok(CollationDiacritics::new_unchecked(secondaries))
+        Ok(CollationDiacritics::from_parts(secondaries))
     }
 
-    /// A table of weights that are known to meet the conditions, without a check.
-    pub fn new_unchecked(secondaries: &'d [u16]) -> CollationDiacritics<'d>
+    /// The table of weights that its caller has shown to meet the conditions: nothing is checked again.
+    pub fn from_parts(secondaries: &'d [u16]) -> CollationDiacritics<'d>
         requires { IsDiacritics secondaries.now }
         ensures { diacritics_of result ≡ secondaries.entry.now }
     {
@@ -118,6 +118,6 @@ impl OwnedDiacritics {
     pub fn as_diacritics(&self) -> CollationDiacritics<'_>
         ensures { diacritics_of result ≡ owned_diacritics self.now }
     {
-        CollationDiacritics::new_unchecked(self.secondaries.as_slice())
+        CollationDiacritics::from_parts(self.secondaries.as_slice())
     }
 }

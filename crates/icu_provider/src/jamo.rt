@@ -43,11 +43,11 @@ impl<'d> CollationJamo<'d> {
         {
             return Err(DataErrorKind::Tag);
         }
-        Ok(CollationJamo::new_unchecked(ce32s))
+        Ok(CollationJamo::from_parts(ce32s))
     }
 
-    /// A table of entries that are known to meet the conditions, without a check.
-    pub fn new_unchecked(ce32s: &'d [u32]) -> CollationJamo<'d>
+    /// The table of entries that its caller has shown to meet the conditions: nothing is checked again.
+    pub fn from_parts(ce32s: &'d [u32]) -> CollationJamo<'d>
         requires { IsJamo ce32s.now }
         ensures { jamo_of result ≡ ce32s.entry.now }
     {
@@ -103,6 +103,6 @@ impl OwnedJamo {
     pub fn as_jamo(&self) -> CollationJamo<'_>
         ensures { jamo_of result ≡ owned_jamo self.now }
     {
-        CollationJamo::new_unchecked(self.ce32s.as_slice())
+        CollationJamo::from_parts(self.ce32s.as_slice())
     }
 }

@@ -86,11 +86,11 @@ impl<'d> CollationReordering<'d> {
         if reorder_table.len() != LEAD_COUNT {
             return Err(DataErrorKind::Length);
         }
-        Ok(CollationReordering::new_unchecked(min_high_no_reorder, reorder_table, reorder_ranges))
+        Ok(CollationReordering::from_parts(min_high_no_reorder, reorder_table, reorder_ranges))
     }
 
-    /// A reordering of slices that are known to fit, without a check: there are 256 lead bytes.
-    pub fn new_unchecked(
+    /// The reordering of parts that its caller has shown to fit, 256 lead bytes: nothing is checked again.
+    pub fn from_parts(
         min_high_no_reorder: u32,
         reorder_table: &'d [u8],
         reorder_ranges: &'d [u32],
@@ -182,7 +182,7 @@ impl OwnedReordering {
     pub fn as_reordering(&self) -> CollationReordering<'_>
         ensures { reordering_of result ≡ owned_reordering self.now }
     {
-        CollationReordering::new_unchecked(
+        CollationReordering::from_parts(
             self.min_high_no_reorder,
             self.reorder_table.as_slice(),
             self.reorder_ranges.as_slice(),

@@ -79,11 +79,11 @@ impl<'d> CollationSpecialPrimaries<'d> {
         if !has_group_ends(last_primaries, numeric_primary) {
             return Err(DataErrorKind::SpecialPrimary);
         }
-        Ok(CollationSpecialPrimaries::new_unchecked(last_primaries, numeric_primary))
+        Ok(CollationSpecialPrimaries::from_parts(last_primaries, numeric_primary))
     }
 
-    /// Numbers that are known to meet the conditions, without a check.
-    pub fn new_unchecked(
+    /// Numbers that their caller has shown to meet the conditions: nothing is checked again.
+    pub fn from_parts(
         last_primaries: &'d [u16],
         numeric_primary: u8,
     ) -> CollationSpecialPrimaries<'d>
@@ -189,7 +189,7 @@ impl OwnedSpecialPrimaries {
     pub fn as_special_primaries(&self) -> CollationSpecialPrimaries<'_>
         ensures { special_of result ≡ owned_special self.now }
     {
-        CollationSpecialPrimaries::new_unchecked(
+        CollationSpecialPrimaries::from_parts(
             self.last_primaries.as_slice(),
             self.numeric_primary,
         )

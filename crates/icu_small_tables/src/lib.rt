@@ -37,12 +37,12 @@ fn set_with(root: &OwnedData, numeric: u8) -> TableSet<'_>
 {
     TableSet {
         root: root.as_data(),
-        jamo: CollationJamo::new_unchecked(&JAMO),
-        special: CollationSpecialPrimaries::new_unchecked(&[1, 1, 1, 1], numeric),
+        jamo: CollationJamo::from_parts(&JAMO),
+        special: CollationSpecialPrimaries::from_parts(&[1, 1, 1, 1], numeric),
         metadata: CollationMetadata { bits: 0x10 },
         tailoring: None,
         reordering: None,
-        diacritics: CollationDiacritics::new_unchecked(&[0x8800]),
+        diacritics: CollationDiacritics::from_parts(&[0x8800]),
     }
 }
 

@@ -112,11 +112,11 @@ impl OwnedData {
         ensures { data_of result ≡ owned_data self.now }
     {
         let vectors = &self.vectors;
-        CollationData::new_unchecked(
-            CodePointTable::new_unchecked(vectors.blocks.as_slice(), vectors.values.as_slice()),
+        CollationData::from_unverified_parts(
+            CodePointTable::from_parts(vectors.blocks.as_slice(), vectors.values.as_slice()),
             vectors.ces.as_slice(),
             vectors.ce32s.as_slice(),
-            ContextTable::new_unchecked(
+            ContextTable::from_parts(
                 vectors.contexts.as_slice(),
                 vectors.mappings.as_slice(),
                 vectors.chars.as_slice(),
