@@ -1,5 +1,5 @@
--- The numbers of the bytes by which each level writes runs of its common weight (UTS #10, "Run-Length Compression"). They
--- are those of ICU's keys.
+-- The numbers of the bytes by which each level writes runs of its common weight (UTS #10, "Run-Length Compression"):
+-- those of ICU's keys.
 use Rattle.std.specs.Prelude.{ℕ, ◌^◌}
 use Rattle.icu_levels.specs.declared.run_bytes.RunBytes.{RunBytes}
 
