@@ -1,5 +1,5 @@
 -- One letter more gets its entry.
-use Rattle.std.proofs.Common.{ℕ, sym, ap, ◌∙◌, rules}
+use Rattle.std.proofs.Common.{sym, ap, ◌∙◌, rules}
 use Rattle.icu_entries.specs.EncodedEntries.{simple_entry}
 use Rattle.icu_table_builder.specs.Building.{built_data, set_in}
 use Rattle.icu_collation_data.specs.Data.{Data}
