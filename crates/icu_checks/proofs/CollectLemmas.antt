@@ -1,6 +1,5 @@
 -- The weights that a list comes to hold, table by table.
 use Rattle.std.proofs.Common.{◌≡◌, ◌↔◌, ◌⊎◌, ℕ, ◌+◌, ◌-◌, ◌<◌, ◌++◌, false, true, Bool, Result, OnOk, List, [], ◌∷◌, length, slice_index, Option, Some, None, IsTrue, refl, sym, ap, ◌∙◌, subst, inl, inr, arith, option_map}
-use Rattle.std.proofs.lemmas.Bool.{cases_eq}
 use Rattle.std.proofs.lemmas.Bool.Decides.{nat_tests}
 use Rattle.std.proofs.lemmas.List.Elements.{Contains-append_left, Contains-append_right, Contains-append_cases}
 use Rattle.std.specs.List.{Contains}

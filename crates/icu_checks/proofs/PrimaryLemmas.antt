@@ -7,7 +7,6 @@ use Rattle.icu_levels.specs.WeightBytes.{weight_bytes}
 use Rattle.icu_provider.specs.Reorderings.{lead_byte}
 use Rattle.icu_provider.specs.CollatorTables.{CollatorTables, reorder, new_lead}
 use Rattle.icu_checks.specs.ElementConditions.{implicit_lead, has_low_bytes}
-use Rattle.icu_weights.specs.Leads.{is_middle}
 use Rattle.icu_checks.specs.LeadConditions.{TakesTogether}
 use Rattle.icu_weights.proofs.WrittenWeightLemmas.{same_first, same_weight}
 

@@ -13,7 +13,7 @@ use icu_provider::{
     CollationDiacritics, CollationJamo, CollationMetadata, CollationReordering,
     CollationSpecialPrimaries, OwnedTables, TableSet,
 };
-use std::alloc::Global;
+use std::alloc::{AllocError, Global};
 
 /// The tables of one collator, checked together and kept in vectors of its own.
 #[derive(Debug, Drop)]
@@ -31,7 +31,7 @@ fn check(alloc: Global, tables: TableSet<'_>) -> Result<(), DataError>
     match first_violation(alloc, tables) {
         Ok(None) => Ok(()),
         Ok(Some(violation)) => Err(violation.error()),
-        Err(_) => Err(DataError {
+        Err(AllocError) => Err(DataError {
             table: DataTable::Root,
             kind: DataErrorKind::NoMemory,
         }),

@@ -1,6 +1,6 @@
 -- Which violation a walk reports, by any judge, and the judge of a root or a tailoring alone: the first condition that
 -- an entry fails.
-use Rattle.std.proofs.Common.{◌≡◌, ℕ, ◌<◌, ◌≤◌, Bool, true, false, not, List, [], ◌∷◌, ◌⊎◌, Option, Some, None, if◌then◌else◌, refl, sym, ap, ◌∙◌, subst, IfSome, IsTrue, ◌↔◌, nat_lt, inl, inr, arith}
+use Rattle.std.proofs.Common.{◌≡◌, ℕ, ◌<◌, ◌≤◌, Bool, true, false, not, List, [], ◌∷◌, ◌⊎◌, Option, Some, None, if◌then◌else◌, refl, sym, ap, ◌∙◌, subst, IfSome, IsTrue, ◌↔◌, nat_lt, inl, inr, arith, lit≤}
 use Rattle.std.proofs.lemmas.Bool.{and_parts, and_from}
 use Rattle.std.proofs.lemmas.Bool.Decides.{nat_tests}
 use Rattle.std.specs.Prelude.{find}
@@ -13,12 +13,38 @@ use Rattle.icu_collation_data.specs.ReachableConditions.{meets, reachable_condit
 use Rattle.icu_collation_data.specs.DataConditions.{is_inside, is_readable, has_known_members, fits_offset}
 use Rattle.icu_entries.specs.EntryConditions.{has_known_byte}
 use Rattle.icu_collation_data.specs.Walks.{after_all, after_chars, StandsFor, IsPassed, Walked}
-use Rattle.icu_collation_data.specs.Violations.{earlier, ComesFirst, IsViolationAmong, IsReachableViolation}
+use Rattle.icu_collation_data.specs.Violations.{condition_rank, earlier, ComesFirst, IsViolationAmong, IsReachableViolation}
 use Rattle.icu_collation_data.specs.inner.Visitors.{judged}
 use Rattle.icu_collation_data.proofs.ListLemmas.{weaker, all_of, all_members, of_member}
 use Rattle.icu_collation_data.proofs.WalkLemmas.{fold_keeps, fold_back, walk_keeps, walk_back}
 
 -- ---- the first member that passes a test
+
+-- members in the order of their ranks, from this rank on
+abbrev Ascends : {X : Type 0} → (X → ℕ) → ℕ → List X → Type 0
+Ascends rank n [] = Unit {0}
+Ascends rank n (x ∷ xs) = (n ≤ rank x) × Ascends rank (rank x) xs
+
+-- none of these has a lesser rank
+none_before : {X : Type 0} (rank : X → ℕ) (P : X → Type 0) (f : X) (n : ℕ) (xs : List X) → rank f ≤ n → Ascends rank n xs
+    → AllByRecursion (λ x. rank x < rank f → P x) xs
+none_before rank P f n [] high up = tt
+none_before rank P f n (x ∷ xs) high up =
+    let least : n ≤ rank x = up.0 in (λ less. absurd (omega arith), none_before rank P f (rank x) xs (omega arith) up.1)
+
+of_first : {X : Type 0} (P : X → Type 0) (A : Type 0) (b : Bool) (x : X) (o : Option X) → IfSome (if b then Some x else o) P
+    → (P x → A) → (b ≡ false → IfSome o P → A) → A
+of_first P A true x o h here later = here h
+of_first P A false x o h here later = later refl h
+
+-- those of a lesser rank than the first one that passes don't pass
+find_before : {X : Type 0} (rank : X → ℕ) (p : X → Bool) (f : X) (n : ℕ) (xs : List X) → Ascends rank n xs
+    → IfSome (find p xs) (λ g. rank f ≤ rank g) → AllByRecursion (λ x. rank x < rank f → p x ≡ false) xs
+find_before rank p f n [] up h = tt
+find_before rank p f n (x ∷ xs) up h =
+    of_first (λ g. rank f ≤ rank g) _ (p x) x (find p xs) h
+    (λ high. (λ less. absurd (omega arith), none_before rank (λ y. p y ≡ false) f (rank x) xs high up.1))
+    (λ fails rest. (λ less. fails, find_before rank p f (rank x) xs up.1 rest))
 
 find_if : {X : Type 0} (P : X → Type 0) (b : Bool) (x : X) (o : Option X) → (b ≡ true → P x) → IfSome o P → IfSome (if b then Some x else o) P
 find_if P true x o p q = p refl
@@ -61,16 +87,21 @@ negated false h = cc
 abbrev pub Fails : Data → ℕ → ℕ → ReachableCondition → Type 0
 Fails home c e condition = meets condition home c e ≡ false
 
+-- what holds of each condition of the list holds of each condition
+listed : (P : ReachableCondition → Type 0) → AllByRecursion P reachable_conditions → (condition : ReachableCondition) → P condition
+listed P all Indices = all.0
+listed P all PrefixMappings = all.1.0
+listed P all Chains = all.1.1.0
+listed P all Digits = all.1.1.1.0
+listed P all Bytes = all.1.1.1.1.0
+listed P all Offsets = all.1.1.1.1.1.0
+listed P all Shapes = all.1.1.1.1.1.1.0
+listed P all Leads = all.1.1.1.1.1.1.1.0
+listed P all Primaries = all.1.1.1.1.1.1.1.1.0
+
 listed_meets : (home : Data) (c e : ℕ) → AllByRecursion (λ condition. not (meets condition home c e) ≡ false) reachable_conditions → (condition : ReachableCondition) → IsTrue (meets condition home c e)
-listed_meets home c e all Indices = not_false _ all.0
-listed_meets home c e all PrefixMappings = not_false _ all.1.0
-listed_meets home c e all Chains = not_false _ all.1.1.0
-listed_meets home c e all Digits = not_false _ all.1.1.1.0
-listed_meets home c e all Bytes = not_false _ all.1.1.1.1.0
-listed_meets home c e all Offsets = not_false _ all.1.1.1.1.1.0
-listed_meets home c e all Shapes = not_false _ all.1.1.1.1.1.1.0
-listed_meets home c e all Leads = not_false _ all.1.1.1.1.1.1.1.0
-listed_meets home c e all Primaries = not_false _ all.1.1.1.1.1.1.1.1.0
+listed_meets home c e all condition =
+    not_false (meets condition home c e) (listed (λ other. not (meets other home c e) ≡ false) all condition)
 
 pub passes_meets : (home : Data) (c e : ℕ) → first_failing home c e ≡ None → (condition : ReachableCondition) → IsTrue (meets condition home c e)
 unfolding first_failing
@@ -88,6 +119,19 @@ pub failing_fails : (home : Data) (c e : ℕ) → IfSome (first_failing home c e
 unfolding first_failing
 failing_fails home c e =
     weaker_some _ (Fails home c e) (λ condition h. not_true (meets condition home c e) h) _ (find_passes (λ condition. not (meets condition home c e)) reachable_conditions)
+
+-- where no entry fails a condition of a lesser rank, each condition of a lesser rank is met
+conditions_ascend : Ascends condition_rank 0 reachable_conditions
+conditions_ascend =
+    (lit≤ tt, (lit≤ tt, (lit≤ tt, (lit≤ tt, (lit≤ tt, (lit≤ tt, (lit≤ tt, (lit≤ tt, (lit≤ tt, tt)))))))))
+
+pub meets_before : (home : Data) (c e : ℕ) (first other : ReachableCondition) → condition_rank other < condition_rank first
+    → ComesFirst condition_rank first (first_failing home c e) → IsTrue (meets other home c e)
+unfolding first_failing
+meets_before home c e first other less h =
+    let all : AllByRecursion (λ x. condition_rank x < condition_rank first → not (meets x home c e) ≡ false) reachable_conditions
+    = find_before condition_rank (λ x. not (meets x home c e)) first 0 reachable_conditions conditions_ascend h in
+    not_false (meets other home c e) (listed (λ x. condition_rank x < condition_rank first → not (meets x home c e) ≡ false) all other less)
 
 -- an entry that meets each condition can be read
 pub meets_readable : (home : Data) (c e : ℕ) → ((condition : ReachableCondition) → IsTrue (meets condition home c e)) → IsTrue (is_readable home c e)
@@ -309,3 +353,10 @@ module _ (falls_back : Bool) (home : Data) where
       let met : IsTrue (meets condition home is.c among.e) = of_member (λ e. IsTrue (meets condition home is.c e)) _ among.e (each is.c is.scalar) among.reachable in
       let fails : meets condition home is.c among.e ≡ false = subst (λ o. IfSome o (Fails home is.c among.e)) among.found (failing_fails home is.c among.e) in
       clash (meets condition home is.c among.e) met fails
+
+  -- each condition that is reported before the first violation's is met
+  pub met_before : (condition : ReachableCondition) → EachReachable (λ c e. ComesFirst condition_rank condition (first_failing home c e)) falls_back home
+      → (other : ReachableCondition) → condition_rank other < condition_rank condition → EachMeets other falls_back home
+  met_before condition least other less c scalar =
+      weaker (λ e. ComesFirst condition_rank condition (first_failing home c e)) (λ e. IsTrue (meets other home c e))
+      (λ e h. meets_before home c e condition other less h) (reachable_at falls_back home c) (least c scalar)

@@ -1,7 +1,7 @@
 -- Worked rows of the definitions on a root or a tailoring, computed.
 use Rattle.std.proofs.Common.{◌≡◌, ℕ, true, false, [], ◌∷◌, Option, Some, None, refl}
 use Rattle.icu_collation_data.specs.declared.reachable_condition.ReachableCondition.{ReachableCondition}
-use Rattle.icu_collation_data.specs.declared.reachable_condition.ReachableCondition.TheVariants.{Indices, Chains, Digits, Bytes, Leads}
+use Rattle.icu_collation_data.specs.declared.reachable_condition.ReachableCondition.TheVariants.{Indices, Chains, Digits, Bytes, Offsets, Leads}
 use Rattle.icu_entries.specs.Elements.{element_of}
 use Rattle.icu_entries.specs.Entries.{kind_of, self_contained}
 use Rattle.icu_entries.specs.Weights.{ordinal_of, weight_at, offset_ordinal, offset_weight}
@@ -76,6 +76,20 @@ reserved = refl
 well_formed_offset : fails_with 0xCE None
 unfolding first_failing is_inside has_short_mappings leads_on has_digit has_known_byte has_known_members fits_offset has_offset_weight offset_ordinal ordinal_of final_elements offset_weight weight_at has_shape ends_at_zero has_secondary_lead has_tertiary_lead has_primary_lead kind_of
 well_formed_offset = refl
+
+-- entries that can't be read fail a condition before those on elements: a character before the base of offset data, and
+-- a list of entries, or of elements, that runs past its end
+before_the_base : first_failing (with_entry 0xCE) 0x3B0 0xCE ≡ Some Offsets
+unfolding first_failing is_inside has_short_mappings leads_on has_digit has_known_byte has_known_members fits_offset has_offset_weight kind_of
+before_the_base = refl
+
+entries_past_the_end : fails_with 0x02C5 (Some Indices)
+unfolding first_failing is_inside kind_of
+entries_past_the_end = refl
+
+elements_past_the_end : fails_with 0x02C6 (Some Indices)
+unfolding first_failing is_inside kind_of
+elements_past_the_end = refl
 
 bad_secondary : fails_with 0x61103005 (Some Leads)
 unfolding first_failing is_inside has_short_mappings leads_on has_digit has_known_byte has_known_members fits_offset final_elements self_contained has_shape ends_at_zero has_secondary_lead kind_of

@@ -1,5 +1,5 @@
 -- The conditions on entries that are reachable in a root or a tailoring.
-use Rattle.std.specs.Prelude.{ℕ, ◌≡◌, Bool, not, ◌&&◌, List, [], ◌∷◌, find, Option, IsTrue}
+use Rattle.std.specs.Prelude.{ℕ, ◌≡◌, ◌<◌, Bool, not, ◌&&◌, List, [], ◌∷◌, find, Option, IsTrue}
 use Rattle.std.specs.List.{list_all}
 use Rattle.icu_entries.specs.declared.error.DataErrorKind.{DataErrorKind}
 use Rattle.icu_entries.specs.declared.error.DataErrorKind.TheVariants as kinds
@@ -13,6 +13,7 @@ use Rattle.icu_entries.specs.EntryConditions.{has_digit, has_known_byte}
 use Rattle.icu_collation_data.specs.Data.{Data, homed}
 use Rattle.icu_collation_data.specs.Final.{final_elements}
 use Rattle.icu_collation_data.specs.Reachable.{EachReachable}
+use Rattle.icu_collation_data.specs.Violations.{condition_rank}
 
 -- each element that an entry of this home gives with the character meets the condition on elements
 abbrev pub elements_meet : ElementCondition → Data → ℕ → ℕ → Bool
@@ -58,8 +59,10 @@ EachMeets condition falls_back home = EachReachable (λ c e. IsTrue (meets condi
 pub record IsWellFormedData (falls_back : Bool) (home : Data) : Type 0 where
   pub each : (condition : ReachableCondition) → EachMeets condition falls_back home
 
--- a condition of this kind fails
+-- A condition of this kind fails, and each that is reported before it is met. So an error that speaks of elements comes
+-- only where the entries that are reachable can be read.
 pub record FailsData (falls_back : Bool) (home : Data) (kind : DataErrorKind) : Type 0 where
   pub condition : ReachableCondition
   pub of_kind : kind_for condition ≡ kind
   pub fails : ¬ (EachMeets condition falls_back home)
+  pub before : (other : ReachableCondition) → condition_rank other < condition_rank condition → EachMeets other falls_back home

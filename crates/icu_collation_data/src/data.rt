@@ -57,7 +57,8 @@ impl<'d> CollationData<'d> {
     /// - `Tag`: its low byte, or that of a list's member, has no meaning where it stands.
     /// - `Element`: no weight by its offset data, a malformed element, or a lead byte that no weight may have.
     ///
-    /// Secondary weights may lead with 02.
+    /// The kind is that of the first condition that fails, in this order: `Element` comes only where each entry that is
+    /// reachable can be read. Secondary weights may lead with 02.
     pub fn new(
         trie: CodePointTable<'d>,
         ces: &'d [u64],

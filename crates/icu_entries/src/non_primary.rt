@@ -6,13 +6,13 @@ use crate::element::{NO_CE_SECONDARY, NO_CE_TERTIARY};
 use std::marker::Model;
 
 /// The case bits of a lower half.
-const CASE_MASK: u16 = 0xC000;
+pub const CASE_MASK: u16 = 0xC000;
 
 /// The tertiary weight in a lower half.
 const TERTIARY_MASK: u16 = 0x3F3F;
 
 /// The quaternary bits of a lower half.
-const QUATERNARY_MASK: u16 = 0xC0;
+pub const QUATERNARY_MASK: u16 = 0xC0;
 
 /// What a collation element has beside its primary weight: the secondary weight (16 bits), and a lower half
 /// with case (two highest bits), tertiary weight (under 3F3F) and quaternary bits (7 and 6). Calls

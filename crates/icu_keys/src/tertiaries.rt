@@ -28,8 +28,8 @@ pub(crate) fn common_of(form: TertiaryForm) -> u16
     ensures { result ≡ (tertiary_runs form).common }
 {
     match form {
-        TertiaryForm::UpperFirst => 0xC500,
-        _ => 0x0500,
+        TertiaryForm::UpperFirst => UPPER_FIRST_TERTIARY_RUNS.common as u16,
+        _ => TERTIARY_RUNS.common as u16,
     }
 }
 

@@ -4,7 +4,7 @@ use Rattle.icu_levels.specs.Runs.{level_bytes}
 use Rattle.icu_levels.specs.declared.forms.CaseForm.{CaseForm}
 use Rattle.icu_levels.specs.declared.forms.CaseForm.TheVariants.{LowerFirst, UpperFirst}
 use Rattle.icu_levels.specs.declared.run_bytes.RunBytes.{RunBytes}
-use Rattle.icu_levels.specs.declared.run_bytes.TheConstants.{LOWER_FIRST_CASE_RUNS, UPPER_FIRST_CASE_RUNS}
+use Rattle.icu_levels.specs.RunNumbers.{lower_first_case_run_bytes, upper_first_case_run_bytes}
 
 -- the bytes of nibbles, the first of two in the high half, and an odd last one before a 0
 abbrev pub packed : List ℕ → List ℕ
@@ -19,8 +19,8 @@ is_only n (x ∷ xs) = (x == n) && is_only n xs
 
 -- how a form writes runs of lower case
 abbrev pub case_runs : CaseForm → RunBytes
-case_runs LowerFirst = LOWER_FIRST_CASE_RUNS
-case_runs UpperFirst = UPPER_FIRST_CASE_RUNS
+case_runs LowerFirst = lower_first_case_run_bytes
+case_runs UpperFirst = upper_first_case_run_bytes
 
 -- The nibble of a case other than lower. Lower case first lower is 0, mixed 1 and upper 2, upper case first upper is 0,
 -- mixed 1 and lower 2

@@ -1,6 +1,7 @@
 pub mod ListOrder
 pub mod WeightBytes
 pub mod Runs
+pub mod RunNumbers
 pub mod Primaries
 pub mod Secondaries
 pub mod Tertiaries

@@ -3,6 +3,7 @@ use Rattle.std.specs.Prelude.{Bool, true, false, ◌&&◌, ◌||◌, ◌≡◌, 
 use Rattle.icu_levels.specs.ListOrder.{IsBeginning}
 use Rattle.icu_levels.specs.WeightBytes.{weight_bytes}
 use Rattle.icu_levels.specs.Primaries.{Compression, lead, below_lead, second_byte}
+use Rattle.icu_levels.specs.RunNumbers.{common_weight}
 use Rattle.icu_levels.specs.Tertiaries.{tertiary_runs}
 use Rattle.icu_levels.specs.declared.forms.TertiaryForm.{TertiaryForm}
 use Rattle.icu_levels.specs.declared.forms.TertiaryForm.TheVariants.{LowerFirst, UpperFirst, WithoutCase}
@@ -16,7 +17,7 @@ IsPrefixFree spell IsReachable = (v w : ℕ) → IsReachable v → IsReachable w
 -- backward, where 02 parts segments
 pub record AreSecondaries (least : ℕ) (IsReachable : ℕ → Type 0) : Type 0 where
   pub fits : (w : ℕ) → IsReachable w → w < 2 ^ 16
-  pub leads : (w : ℕ) → IsReachable w → (w ≡ 0x500) ⊎ (((least ≤ w / 256) × (w / 256 ≤ 4)) ⊎ (0x46 ≤ w / 256))
+  pub leads : (w : ℕ) → IsReachable w → (w ≡ common_weight) ⊎ (((least ≤ w / 256) × (w / 256 ≤ 4)) ⊎ (0x46 ≤ w / 256))
   pub prefix_free : IsPrefixFree (weight_bytes 2) IsReachable
 
 -- the least lead of secondaries that are written from the front

@@ -6,7 +6,7 @@ use Rattle.icu_levels.specs.Primaries.{lead}
 use Rattle.icu_levels.specs.Cases.{is_only}
 use Rattle.icu_levels.specs.declared.forms.QuaternaryForm.{QuaternaryForm}
 use Rattle.icu_levels.specs.declared.forms.QuaternaryForm.TheVariants.{MayShift, Unshifted}
-use Rattle.icu_levels.specs.declared.run_bytes.TheConstants.{QUATERNARY_RUNS}
+use Rattle.icu_levels.specs.RunNumbers.{quaternary_run_bytes}
 
 -- A shifted primary in full, after 1B where its lead is 1B or more, so that it begins below the bytes of runs
 abbrev pub shifted_bytes : ℕ → List ℕ
@@ -19,7 +19,7 @@ quaternary_bytes w = if nat_lt (2 ^ 32) w then (0xFC + w - 2 ^ 32) ∷ [] else s
 
 -- the runs and the other weights of a level
 abbrev pub quaternary_runs : List ℕ → List ℕ
-quaternary_runs = level_bytes QUATERNARY_RUNS quaternary_bytes 0
+quaternary_runs = level_bytes quaternary_run_bytes quaternary_bytes 0
 
 -- the bytes of a level: in the unshifted form nothing is written for common weights alone
 abbrev pub quaternary_level : QuaternaryForm → List ℕ → List ℕ

@@ -3,11 +3,11 @@
 use Rattle.std.specs.Prelude.{ℕ, List, [], ◌∷◌, ◌++◌}
 use Rattle.icu_levels.specs.Runs.{level_bytes}
 use Rattle.icu_levels.specs.WeightBytes.{weight_bytes}
-use Rattle.icu_levels.specs.declared.run_bytes.TheConstants.{SECONDARY_RUNS}
+use Rattle.icu_levels.specs.RunNumbers.{secondary_run_bytes}
 
 -- the secondaries of a text, or of one reversed segment of it
 abbrev pub secondary_level : List ℕ → List ℕ
-secondary_level = level_bytes SECONDARY_RUNS (weight_bytes 2) 0
+secondary_level = level_bytes secondary_run_bytes (weight_bytes 2) 0
 
 -- each segment's bytes after 02, the byte that parts segments
 abbrev pub further_segments : List (List ℕ) → List ℕ

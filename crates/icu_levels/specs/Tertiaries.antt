@@ -3,15 +3,15 @@ use Rattle.std.specs.Prelude.{ℕ, ◌+◌, ◌-◌, ◌/◌, nat_lt, if◌then�
 use Rattle.icu_levels.specs.declared.run_bytes.RunBytes.{RunBytes}
 use Rattle.icu_levels.specs.Runs.{level_bytes}
 use Rattle.icu_levels.specs.WeightBytes.{weight_bytes}
-use Rattle.icu_levels.specs.declared.run_bytes.TheConstants.{LOWER_FIRST_TERTIARY_RUNS, TERTIARY_RUNS, UPPER_FIRST_TERTIARY_RUNS}
+use Rattle.icu_levels.specs.RunNumbers.{secondary_run_bytes, tertiary_run_bytes, upper_first_tertiary_run_bytes}
 use Rattle.icu_levels.specs.declared.forms.TertiaryForm.{TertiaryForm}
 use Rattle.icu_levels.specs.declared.forms.TertiaryForm.TheVariants.{WithoutCase, LowerFirst, UpperFirst}
 
 -- how a form writes runs of the common weight
 abbrev pub tertiary_runs : TertiaryForm → RunBytes
-tertiary_runs WithoutCase = TERTIARY_RUNS
-tertiary_runs LowerFirst = LOWER_FIRST_TERTIARY_RUNS
-tertiary_runs UpperFirst = UPPER_FIRST_TERTIARY_RUNS
+tertiary_runs WithoutCase = tertiary_run_bytes
+tertiary_runs LowerFirst = secondary_run_bytes
+tertiary_runs UpperFirst = upper_first_tertiary_run_bytes
 
 -- by how much leads above that of the common weight go up
 abbrev pub raised_above : TertiaryForm → ℕ

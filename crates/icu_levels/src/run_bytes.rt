@@ -1,4 +1,7 @@
-//! The bytes by which each level writes the runs of its common weight: one set of constants for code and definitions.
+//! The bytes by which each level writes the runs of its common weight, as constants of the code.
+
+ghost use Rattle.std.specs.Prelude.{◌≡◌};
+ghost use Rattle.icu_levels.specs.RunNumbers.{secondary_run_bytes, tertiary_run_bytes, upper_first_tertiary_run_bytes, quaternary_run_bytes, lower_first_case_run_bytes, upper_first_case_run_bytes};
 
 /// The bytes by which a level writes runs of its common weight (UTS #10, "Run-Length Compression").
 ///
@@ -18,9 +21,12 @@ pub struct RunBytes {
     pub count: u8,
 }
 
+/// The common secondary weight, and the common tertiary weight.
+const COMMON_WEIGHT: u64 = 0x0500;
+
 /// The runs of secondaries.
 pub const SECONDARY_RUNS: RunBytes = RunBytes {
-    common: 0x0500,
+    common: COMMON_WEIGHT,
     low: 0x05,
     middle: 0x25,
     high: 0x45,
@@ -29,7 +35,7 @@ pub const SECONDARY_RUNS: RunBytes = RunBytes {
 
 /// The runs of tertiaries without case bits.
 pub const TERTIARY_RUNS: RunBytes = RunBytes {
-    common: 0x0500,
+    common: COMMON_WEIGHT,
     low: 0x05,
     middle: 0x65,
     high: 0xC5,
@@ -75,3 +81,14 @@ pub const UPPER_FIRST_CASE_RUNS: RunBytes = RunBytes {
     high: 27,
     count: 13,
 };
+
+/// The constants of the code are the numbers of the definitions, level by level.
+pub fn run_bytes_are_as_defined()
+    ensures secondary { SECONDARY_RUNS ≡ secondary_run_bytes }
+    ensures tertiary { TERTIARY_RUNS ≡ tertiary_run_bytes }
+    ensures lower_first_tertiary { LOWER_FIRST_TERTIARY_RUNS ≡ secondary_run_bytes }
+    ensures upper_first_tertiary { UPPER_FIRST_TERTIARY_RUNS ≡ upper_first_tertiary_run_bytes }
+    ensures quaternary { QUATERNARY_RUNS ≡ quaternary_run_bytes }
+    ensures lower_first_case { LOWER_FIRST_CASE_RUNS ≡ lower_first_case_run_bytes }
+    ensures upper_first_case { UPPER_FIRST_CASE_RUNS ≡ upper_first_case_run_bytes }
+{}

@@ -1,6 +1,7 @@
 -- Characters with their entries, and those of Mini.
 use Rattle.std.specs.Prelude.{ℕ, ◌+◌, ◌*◌, List, [], ◌∷◌, ◌++◌, map}
 use Rattle.std.specs.List.{range_with_len}
+use Rattle.icu_entries.specs.EncodedEntries.{common_entry, digit_entry, simple_entry}
 use Rattle.icu_collation_data.specs.Data.{Data}
 use Rattle.icu_table_builder.specs.Building.{with_entries}
 
@@ -21,17 +22,23 @@ rising first entry step count = map (λ i. (first + i, entry + step * i)) (range
 unfoldable pub run : ℕ → ℕ → ℕ → List ℕ
 run first step count = map (λ i. first + step * i) (range_with_len 0 count)
 
+-- Mini's characters that have entries of their own and are neither digits nor letters from a to z: one that is ignored,
+-- the separator of merged texts, the replacement character; space, '-' and '.'; a circled 'A'
+unfoldable pub mini_others : List (ℕ × ℕ)
+mini_others =
+    (0, 0)
+    ∷ (0xFFFE, common_entry 0x0200)
+    ∷ (0xFFFD, common_entry 0xFFFD)
+    ∷ (0x20, common_entry 0x0310)
+    ∷ (0x2D, common_entry 0x0410)
+    ∷ (0x2E, common_entry 0x0420)
+    ∷ (0x24B6, simple_entry 0x6110 5 0x9D)
+    ∷ []
+
 -- Mini's characters that have entries of their own
 unfoldable pub mini_characters : List (ℕ × ℕ)
 mini_characters =
-    (0, 0)  -- ignored
-    ∷ (0xFFFE, 0x02000505)  -- the separator of merged texts
-    ∷ (0xFFFD, 0xFFFD0505)
-    ∷ (0x20, 0x03100505)  -- space, '-', '.'
-    ∷ (0x2D, 0x04100505)
-    ∷ (0x2E, 0x04200505)
-    ∷ rising 0x30 0xCA 0x2100 10  -- digits, each with its value and the index of its plain entry
-    ++ rising 0x61 0x61100505 0x40000 26  -- 'a' to 'z'
-    ++ rising 0x41 0x6110059C 0x40000 26  -- 'A' to 'Z', upper case
-    ++ (0x24B6, 0x6110059D)  -- a circled 'A'
-    ∷ []
+    mini_others
+    ++ rising 0x30 (digit_entry 0 0) 0x2100 10  -- digits, each with its value and the index of its plain entry
+    ++ rising 0x61 (simple_entry 0x6110 5 0x05) 0x40000 26  -- 'a' to 'z'
+    ++ rising 0x41 (simple_entry 0x6110 5 0x9C) 0x40000 26  -- 'A' to 'Z', upper case

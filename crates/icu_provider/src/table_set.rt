@@ -2,7 +2,7 @@
 ghost use Rattle.std.specs.Prelude.{◌≡◌, Ok, Some, None, IfOk, IfErr, option_map};
 ghost use Rattle.icu_table_builder.specs.OwnedData.{owned_data};
 ghost use Rattle.icu_collation_data.specs.StoredData.{data_of};
-ghost use Rattle.icu_provider.specs.CollatorTables.{is_forward, reorder, new_lead};
+ghost use Rattle.icu_provider.specs.CollatorTables.{is_forward, reorder, reorder_by, new_lead};
 ghost use Rattle.icu_provider.specs.OwnedTables.{owned_reordering, owned_tables};
 ghost use Rattle.icu_provider.specs.StoredTables.{reordering_of};
 ghost use Rattle.icu_provider.specs.TableSets.{loads_of, or_absent, tables_in};
@@ -58,6 +58,17 @@ pub struct OwnedTables {
     pub diacritics: OwnedDiacritics,
 }
 
+/// A primary weight as it is compared: reordered, where there is a reordering (UTS #35 part 5, "Collation Reordering").
+#[inline(always)]
+pub fn reordered(reordering: Option<CollationReordering<'_>>, primary: u32) -> u32
+    ensures { result ≡ reorder_by (option_map reordering_of reordering.entry) primary }
+{
+    match reordering {
+        Some(reordering) => reordering.reorder(primary),
+        None => primary,
+    }
+}
+
 impl<'d> TableSet<'d> {
     /// Whether the secondary level is compared from the front.
     #[tactic(auto, unfolding(crate::specs::TableSets::tables_in))]
@@ -72,10 +83,7 @@ impl<'d> TableSet<'d> {
     pub fn reorder(self, primary: u32) -> u32
         ensures { result ≡ reorder (tables_in self.entry) primary }
     {
-        match self.reordering {
-            Some(reordering) => reordering.reorder(primary),
-            None => primary,
-        }
+        reordered(self.reordering, primary)
     }
 
     /// The lead byte to which the least primary weight with this one is reordered.
@@ -123,7 +131,7 @@ fn or_no_memory<T>(table: DataTable, copy: Result<T, AllocError>) -> Result<T, D
 {
     match copy {
         Ok(copy) => Ok(copy),
-        Err(_) => Err(DataError {
+        Err(AllocError) => Err(DataError {
             table,
             kind: DataErrorKind::NoMemory,
         }),

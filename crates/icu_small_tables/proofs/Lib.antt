@@ -1,6 +1,6 @@
 pub mod SmallElements
 pub mod SmallEntries
 pub mod SmallTableLemmas
-pub mod FirstLemmas
+pub mod BuiltLemmas
 pub mod StoredLemmas
 pub mod AcceptedLemmas

@@ -12,6 +12,7 @@ use Rattle.icu_entries.specs.Elements.{Element, of_secondary}
 use Rattle.icu_entries.specs.Entries.{kind_of, self_contained, is_self_contained, simple_element}
 use Rattle.icu_entries.specs.EntryConditions.{has_digit, has_known_byte}
 use Rattle.icu_entries.specs.ElementConditions.{has_shape, ends_at_zero, has_secondary_lead, has_tertiary_lead, has_primary_lead}
+use Rattle.icu_entries.specs.EncodedEntries.{implicit_entry}
 use Rattle.icu_collation_data.specs.declared.reachable_condition.ReachableCondition.{ReachableCondition}
 use Rattle.icu_collation_data.specs.declared.reachable_condition.ReachableCondition.TheVariants as of_entry
 use Rattle.icu_collation_data.specs.CodePointTables.{code_point_count}
@@ -28,7 +29,7 @@ use Rattle.icu_collation_data.proofs.ImplicitLemmas.{implicit_passes}
 use Rattle.icu_collation_data.proofs.ListLemmas.{all_members, of_member}
 use Rattle.icu_collation_data.proofs.ViolationLemmas.{passes_meets}
 use Rattle.icu_checks.proofs.ComparedLevelLemmas.{implicit_elements, passes}
-use Rattle.icu_small_tables.specs.SmallTables.{letter_a, letter_b, letter_a_grave, grave, entry_of_a, implicit_entry, context_of_a, small_entry, tables_with}
+use Rattle.icu_small_tables.specs.SmallTables.{letter_a, letter_b, letter_a_grave, grave, entry_of_a, context_of_a, small_entry, tables_with}
 use Rattle.icu_small_tables.proofs.SmallElements.{IsSmallElement, stated, implicit, stated_elements}
 
 -- a root with these entries of characters

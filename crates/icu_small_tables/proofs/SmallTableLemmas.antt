@@ -7,6 +7,7 @@ use Rattle.icu_entries.specs.EntryConditions.{has_digit, has_known_byte}
 use Rattle.icu_entries.specs.ElementConditions.{has_shape, ends_at_zero, has_secondary_lead, has_tertiary_lead}
 use Rattle.icu_entries.specs.Elements.{Element}
 use Rattle.icu_entries.specs.Entries.{kind_of}
+use Rattle.icu_entries.specs.EncodedEntries.{implicit_entry}
 use Rattle.icu_collation_data.specs.CodePointTables.{code_point_count}
 use Rattle.icu_collation_data.specs.Contexts.{ascend_from, has_ascending_mappings}
 use Rattle.icu_collation_data.specs.Data.{Context, Data}
@@ -16,7 +17,7 @@ use Rattle.icu_provider.specs.SpecialPrimaries.{ends_below, is_numeric_lead}
 use Rattle.icu_checks.specs.declared.condition.Condition.{Condition}
 use Rattle.icu_checks.specs.declared.condition.Condition.TheVariants as conditions
 use Rattle.icu_checks.specs.WellFormedTables.{Meets, AreTables, IsWellFormedTables}
-use Rattle.icu_small_tables.specs.SmallTables.{context_of_a, grave, implicit_entry, small_entry, with_root, small_tables, AreSmallTables, IsLowLead}
+use Rattle.icu_small_tables.specs.SmallTables.{context_of_a, grave, small_entry, with_root, small_tables, AreSmallTables, IsLowLead}
 use Rattle.icu_small_tables.proofs.SmallElements.{lead_meets, element_is_well_formed, pair_is_well_formed}
 use Rattle.icu_small_tables.proofs.SmallEntries.{root_by, entry_is_well_formed, mappings_are_plain, reachable_element}
 

@@ -1,2 +1,1 @@
 pub mod SmallTables
-pub mod StoredRoot

@@ -1,5 +1,6 @@
 -- Small tables: a root with two letters and a contraction, a mark, and implicit weights for all else.
 use Rattle.std.specs.Prelude.{◌≡◌, ℕ, ◌<◌, ◌≤◌, ◌==◌, [], ◌∷◌, None, replicate, if◌then◌else◌}
+use Rattle.icu_entries.specs.EncodedEntries.{common_entry, contraction_entry, implicit_entry}
 use Rattle.icu_collation_data.specs.Data.{Context, Data}
 use Rattle.icu_table_builder.specs.Building.{SaysOfCharacters}
 use Rattle.icu_provider.specs.CollatorTables.{CollatorTables}
@@ -7,15 +8,15 @@ use Rattle.icu_provider.specs.Tables.{Tables}
 
 -- the entry of "a": its primary weight is one byte
 abbrev pub letter_a : ℕ
-letter_a = 0x29000505
+letter_a = common_entry 0x2900
 
 -- that of "b"
 abbrev pub letter_b : ℕ
-letter_b = 0x2A000505
+letter_b = common_entry 0x2A00
 
 -- that of "a" with a grave, U+0300
 abbrev pub letter_a_grave : ℕ
-letter_a_grave = 0x2B000505
+letter_a_grave = common_entry 0x2B00
 
 -- the secondary weight of the grave, a mark of combining class 230
 abbrev pub grave : ℕ
@@ -23,11 +24,7 @@ grave = 0x8800
 
 -- the entry of a character that contracts by context 0
 abbrev pub entry_of_a : ℕ
-entry_of_a = 0xC9
-
--- the entry of a character whose weight follows from its number
-abbrev pub implicit_entry : ℕ
-implicit_entry = 0xCF
+entry_of_a = contraction_entry 0
 
 -- "a", and "a" before a grave
 abbrev pub context_of_a : Context

@@ -114,9 +114,9 @@ fn push_mapping(
         entry: entry.bits(),
     };
     chars.extend_from_slice(list)?;
-    if mappings.push(mapping).is_err() {
+    if let Err(refused) = mappings.push(mapping) {
         chars.truncate(start);
-        return Err(AllocError);
+        return Err(refused.into());
     }
     Ok(())
 }

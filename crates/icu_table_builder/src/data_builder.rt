@@ -1,6 +1,7 @@
 //! A root or a tailoring as it is put together.
 ghost use Rattle.std.specs.Prelude.{◌≡◌, ℕ, ◌<◌, ◌≤◌, ◌++◌, ◌∷◌, [], length, slice_index_or, map, IfOk, OnOk, OnErr};
 ghost use Rattle.icu_entries.specs.Elements.{element_of};
+ghost use Rattle.icu_collation_data.specs.CodePointTables.{IsCodePointTable};
 ghost use Rattle.icu_collation_data.specs.Contexts.{HasRangesInside};
 ghost use Rattle.icu_table_builder.specs.AddedContexts.{given_context};
 ghost use Rattle.icu_table_builder.specs.Blocks.{HasDistinctBlocks};
@@ -38,9 +39,9 @@ fn push_elements(ces: &mut Vec<u64>, elements: &[CollationElement]) -> Result<()
 {
     let count = ces.len();
     for element in elements {
-        if ces.push(element.bits()).is_err() {
+        if let Err(refused) = ces.push(element.bits()) {
             ces.truncate(count);
-            return Err(AllocError);
+            return Err(refused.into());
         }
     }
     Ok(())
@@ -53,9 +54,9 @@ fn push_entries(ce32s: &mut Vec<u32>, entries: &[CollationElement32]) -> Result<
 {
     let count = ce32s.len();
     for entry in entries {
-        if ce32s.push(entry.bits()).is_err() {
+        if let Err(refused) = ce32s.push(entry.bits()) {
             ce32s.truncate(count);
-            return Err(AllocError);
+            return Err(refused.into());
         }
     }
     Ok(())
@@ -178,10 +179,14 @@ impl DataBuilder {
         Ok(index)
     }
 
-    /// The root or the tailoring, with each different block of 64 entries once.
+    /// The root or the tailoring, with each different block of 64 entries once. `OwnedData::new` refuses it only for
+    /// what was put in: mappings that don't ascend, or an entry that fails a condition.
     #[tactic(auto, unfolding(crate::specs::Building::built_data, crate::specs::OwnedData::vectors_data))]
     pub fn build(self) -> Result<DataVectors, AllocError>
         ensures says { IfOk result (λ v. SaysOfCharacters (built_data self) (vectors_data v)) }
+        ensures table { IfOk result (λ v. IsCodePointTable v.blocks.items v.values.items) }
+        ensures ranges { IfOk result (λ v.
+            HasRangesInside v.contexts.items v.mappings.items v.chars.items) }
         ensures distinct { IfOk result (λ v. HasDistinctBlocks v.values.items) }
     {
         let DataBuilder {

@@ -11,7 +11,7 @@ use Rattle.icu_collation_data.specs.Reachable.{reachable_from}
 use Rattle.icu_collation_data.specs.CollectedWeights.{is_stated, IsWeightAmong}
 pub use Rattle.icu_collation_data.specs.CollectedWeights.{Adds}
 use Rattle.icu_collation_data.specs.Data.{Data, homed}
-use Rattle.icu_provider.specs.Tables.{Tables}
+use Rattle.icu_provider.specs.Tables.{Tables, jamo_base}
 use Rattle.icu_checks.specs.declared.check.weights.WeightList.{WeightList}
 use Rattle.icu_checks.specs.declared.check.weights.WeightList.TheVariants.{Primaries, Secondaries, Tertiaries, TertiaryElements, WithSecondary}
 use Rattle.icu_provider.specs.CollatorTables.{CollatorTables}
@@ -70,7 +70,7 @@ pub record IsBelow (P : ℕ → ℕ → Type 0) (n w : ℕ) : Type 0 where
 -- a weight of what is reachable with the conjoining jamo at a place of the jamo table
 abbrev pub IsJamoWeight : WeightList → CollatorTables → ℕ → ℕ → Type 0
 IsJamoWeight list all place w =
-    IsWeightAmong (compared_weight list) all.tables.root (0x1100 + place) (reachable_from all.tables.root (slice_index all.tables.jamo place)) w
+    IsWeightAmong (compared_weight list) all.tables.root (jamo_base + place) (reachable_from all.tables.root (slice_index all.tables.jamo place)) w
 
 -- the weight of the diacritic at a place
 pub record IsDiacriticWeight (list : WeightList) (all : CollatorTables) (place w : ℕ) : Type 0 where

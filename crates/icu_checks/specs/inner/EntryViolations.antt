@@ -17,6 +17,7 @@ use Rattle.icu_checks.specs.declared.condition.Condition.TheVariants as conditio
 use Rattle.icu_checks.specs.declared.condition.ReachableElementCondition.{ReachableElementCondition}
 use Rattle.icu_checks.specs.declared.violation.Violation.{Violation}
 use Rattle.icu_provider.specs.Reorderings.{Reordering, lead_byte}
+use Rattle.icu_provider.specs.Tables.{jamo_base}
 use Rattle.icu_provider.specs.CollatorTables.{CollatorTables, reorder_by}
 use Rattle.icu_checks.specs.ElementConditions.{reachable_element_meets, element_conditions}
 use Rattle.icu_checks.specs.WellFormedTables.{later, table_of_element, EachEntry, EachElement, EntryMeets, HasPlainMappings}
@@ -74,7 +75,7 @@ entry_violation all table home c e =
 -- nothing that is reachable with the conjoining jamo at this place has a violation
 abbrev pub JamoPasses : CollatorTables → ℕ → Type 0
 JamoPasses all i =
-    AllByRecursion (λ e. entry_violation all tables.Jamo all.tables.root (0x1100 + i) e ≡ None) (reachable_from all.tables.root (slice_index all.tables.jamo i))
+    AllByRecursion (λ e. entry_violation all tables.Jamo all.tables.root (jamo_base + i) e ≡ None) (reachable_from all.tables.root (slice_index all.tables.jamo i))
 
 -- the element of the diacritic at this place, if decomposed texts have it, meets the conditions on elements
 abbrev pub DiacriticMeets : CollatorTables → ℕ → Type 0

@@ -7,6 +7,7 @@ ghost use Rattle.icu_checks.specs.ElementConditions.{is_tertiary_element, is_hig
 use crate::check::lookups::is_apart;
 use crate::condition::ReachableElementCondition;
 use icu_entries::CollationElement;
+use icu_entries::element::COMMON_WEIGHT16;
 use icu_provider::TableSet;
 use icu_provider::reordering::lead_byte;
 use icu_weights::leads::is_middle;
@@ -25,7 +26,7 @@ pub(crate) fn is_tertiary_element(element: CollationElement) -> bool
 fn is_high_tertiary_element(element: CollationElement) -> bool
     ensures { result ≡ is_high_tertiary_element element }
 {
-    element.non_primary().case() == 0x8000 && element.non_primary().tertiary() > 0x500
+    element.non_primary().case() == 0x8000 && element.non_primary().tertiary() > COMMON_WEIGHT16
 }
 
 fn has_low_bytes(primary: u32) -> bool

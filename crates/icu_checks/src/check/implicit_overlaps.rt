@@ -24,6 +24,7 @@ use icu_collation_data::reachable_weights::sort_and_dedup;
 use icu_collation_data::walk::{Visit, visit_from};
 use icu_entries::{CollationElement, CollationElement32, DataTable, EntryKind};
 use icu_provider::TableSet;
+use icu_provider::jamo::{JAMO_BASE, JAMO_COUNT};
 use icu_provider::reordering::lead_byte;
 use icu_weights::overlap::{Overlap, is_beginning};
 use std::alloc::{AllocError, Global};
@@ -101,10 +102,10 @@ fn is_implicit_jamo(tables: TableSet<'_>, c: char) -> bool
     ensures { IsTrue result → IsImplicitBy DataTable.Jamo (tables_in tables.entry).tables c }
 {
     let code = c as u32;
-    if code < 0x1100 || code >= 0x1200 {
+    if code < JAMO_BASE || code >= JAMO_BASE + JAMO_COUNT as u32 {
         return false;
     }
-    let entry = tables.jamo.ce32s()[(code - 0x1100) as usize];
+    let entry = tables.jamo.ce32s()[(code - JAMO_BASE) as usize];
     leads_to_implicit(tables.root, c, CollationElement32::new(entry))
 }
 

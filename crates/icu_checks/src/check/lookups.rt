@@ -1,6 +1,7 @@
 //! Look-ups in the tables of a collator that the check goes by.
 ghost use Rattle.std.specs.Prelude.{◌≡◌, ◌<◌, ◌+◌, Some};
 ghost use Rattle.icu_provider.specs.TableSets.{tables_in};
+ghost use Rattle.icu_provider.specs.Tables.{jamo_base};
 ghost use Rattle.icu_checks.specs.ElementConditions.{is_apart};
 
 use icu_provider::TableSet;
@@ -10,7 +11,7 @@ use icu_provider::reordering::lead_byte;
 /// The character with an index in the jamo table.
 pub(crate) fn jamo_char(index: usize) -> Option<char>
     requires { index < 256 }
-    ensures { result ≡ Some (0x1100 + index) }
+    ensures { result ≡ Some (jamo_base + index) }
 {
     char::from_u32(JAMO_BASE + index as u32)
 }

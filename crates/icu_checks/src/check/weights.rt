@@ -9,6 +9,7 @@ use crate::check::element_conditions::is_tertiary_element;
 use crate::condition::PairCondition;
 use icu_collation_data::reachable_weights::Weigh;
 use icu_entries::CollationElement;
+use icu_entries::element::COMMON_WEIGHT16;
 use icu_provider::{CollationReordering, TableSet};
 
 /// A level of weights, none of which may begin another.
@@ -76,7 +77,7 @@ impl ComparedLevel {
 fn left_aligned(weight: u16) -> Option<u32>
     ensures { result ≡ left_aligned weight }
 {
-    if weight == 0 || weight == 0x500 {
+    if weight == 0 || weight == COMMON_WEIGHT16 {
         None
     } else {
         Some(u32::from(weight) << 16)
@@ -94,7 +95,7 @@ fn nonzero(primary: u32) -> Option<u32>
 fn uncommon(tertiary: u16) -> Option<u32>
     ensures { result ≡ uncommon tertiary }
 {
-    if tertiary == 0 || tertiary == 0x500 {
+    if tertiary == 0 || tertiary == COMMON_WEIGHT16 {
         None
     } else {
         Some(u32::from(tertiary))

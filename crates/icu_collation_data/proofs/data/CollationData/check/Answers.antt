@@ -1,6 +1,6 @@
 use Rattle.std.proofs.Common.{true, refl, sym}
 use Rattle.icu_collation_data.specs.StoredData.{data_of}
-use Rattle.icu_collation_data.proofs.ViolationLemmas.{well_formed_data, refutes, not_before}
+use Rattle.icu_collation_data.proofs.ViolationLemmas.{well_formed_data, refutes, met_before, not_before}
 use Rattle.icu_collation_data.proofs.data.CollationData.check.Goals as goal
 
 pub returns-in-None-clause-accepts : goal.returns-in-None-clause-accepts
@@ -16,4 +16,9 @@ returns-in-Some-clause-accepts c = (
 pub returns-in-Some-clause-kind : goal.returns-in-Some-clause-kind
 returns-in-Some-clause-kind c =
     let is = not_before c.in-Some.condition _ c.in-Some.ensures.some in
-    record { condition = c.in-Some.condition; of_kind = sym c.kind.ensures; fails = refutes true (data_of c.args.self) c.in-Some.condition is }
+    record {
+      condition = c.in-Some.condition;
+      of_kind = sym c.kind.ensures;
+      fails = refutes true (data_of c.args.self) c.in-Some.condition is;
+      before = met_before true (data_of c.args.self) c.in-Some.condition c.in-Some.ensures.least.1;
+    }
