@@ -10,4 +10,3 @@ pub mod HeldLemmas
 pub mod PrimarySteps
 pub mod CommonSteps
 pub mod WeightSteps
-pub mod MovedTertiaries

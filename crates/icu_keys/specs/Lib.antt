@@ -7,7 +7,6 @@ pub mod CaseRanks
 pub mod QuaternaryWeights
 pub mod WriterRests
 pub mod HeldRests
-pub mod ThreeLists
-pub mod ThreeLevels
+pub mod HeldWeights
 pub mod Accumulated
 pub mod inner

@@ -28,7 +28,7 @@ pub mod secondaries;
 pub mod sink;
 pub mod slice_sink;
 pub mod tertiaries;
-pub mod three_levels;
+pub mod two_levels;
 mod writes;
 
 pub use error::SortKeyError;

@@ -1,4 +1,3 @@
 pub mod KeyPartLemmas
 pub mod KeySourceLemmas
 pub mod CaseLemmas
-pub mod ThreeLevelLemmas

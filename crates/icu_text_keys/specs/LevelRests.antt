@@ -1,10 +1,16 @@
--- The levels after the primary one, held until their end: what each is to be in the key, given what is still to come.
+-- The levels after the primary one, held until their end: what each is to be in the key, by the key's form, given what is
+-- still to come.
 use Rattle.std.specs.Prelude.{ℕ, Bool, true, false, List, [], ◌∷◌, Option, Some, None}
 use Rattle.icu_levels.specs.Identical.{identical_level}
 use Rattle.icu_levels.specs.Keys.{LevelPart, absent, opened, closed}
+use Rattle.icu_levels.specs.declared.forms.CaseForm.{CaseForm}
+use Rattle.icu_levels.specs.declared.forms.KeyForm.{KeyForm}
+use Rattle.icu_levels.specs.declared.forms.QuaternaryForm.{QuaternaryForm}
 use Rattle.icu_levels.specs.declared.forms.SecondaryForm.{SecondaryForm}
+use Rattle.icu_levels.specs.declared.forms.SecondaryForm.TheVariants.{Forward, Backward}
+use Rattle.icu_levels.specs.declared.forms.TertiaryForm.{TertiaryForm}
 use Rattle.icu_entries.specs.Elements.{Element}
-use Rattle.icu_keys.specs.HeldRests.{held_secondaries, held_segments, held_cases, held_case_form, held_tertiaries, held_tertiary_form, held_quaternaries}
+use Rattle.icu_keys.specs.HeldRests.{held_secondaries, held_segments, held_cases, held_case_form, held_tertiaries, held_quaternaries}
 use Rattle.icu_keys.specs.declared.held_secondaries.HeldSecondaries.{HeldSecondaries}
 use Rattle.icu_keys.specs.declared.held_segments.HeldSegments.{HeldSegments}
 use Rattle.icu_keys.specs.declared.held_cases.HeldCases.{HeldCases}
@@ -13,53 +19,44 @@ use Rattle.icu_keys.specs.declared.held_quaternaries.HeldQuaternaries.{HeldQuate
 use Rattle.icu_weighting.specs.Handled.{HandledElement, stayed_elements}
 use Rattle.icu_weighting.specs.Levels.{secondaries, parted, weights, case_reads, case_rank, tertiaries, quaternaries}
 use Rattle.icu_text_keys.specs.declared.later_levels.LaterLevels.{LaterLevels}
-use Rattle.icu_text_keys.specs.declared.level.SecondaryLevel.{SecondaryLevel}
-use Rattle.icu_text_keys.specs.declared.level.SecondaryLevel.TheVariants.{Absent, Forward, Backward}
-use Rattle.icu_text_keys.specs.declared.finished_levels.LevelBytes.{LevelBytes}
-use Rattle.icu_text_keys.specs.declared.finished_levels.LevelBytes.TheVariants.{NoLevel, Opened, Closed}
 
--- a level of secondaries from the front, given the further elements
-abbrev pub forward_left : HeldSecondaries → List Element → List ℕ
-forward_left l es = held_secondaries l (secondaries es)
-
--- a backward level, given the further elements
-abbrev pub segments_left : HeldSegments → List Element → List ℕ
-segments_left l es = held_segments l (parted es)
+-- a backward level, where it is held, given the further elements
+abbrev pub segments_left : Option HeldSegments → List Element → LevelPart
+segments_left None es = absent
+segments_left (Some l) es = closed (held_segments l (parted es))
 
 -- the secondary level, given the further elements
-abbrev pub secondaries_left : SecondaryLevel → List Element → LevelPart
-secondaries_left Absent es = absent
-secondaries_left (Forward l) es = closed (forward_left l es)
-secondaries_left (Backward l) es = closed (segments_left l es)
+abbrev pub secondaries_left : Option SecondaryForm → HeldSecondaries → Option HeldSegments → List Element → LevelPart
+secondaries_left None l backward es = absent
+secondaries_left (Some Forward) l backward es = closed (held_secondaries l (secondaries es))
+secondaries_left (Some Backward) l backward es = segments_left backward es
 
--- the form of the secondary level before, and further elements
-abbrev pub cases_left : Option SecondaryForm → Option HeldCases → List Element → LevelPart
-cases_left before None es = absent
-cases_left before (Some l) es = opened (held_cases l (weights (case_reads before) (case_rank (held_case_form l)) es))
+-- the case level, by the form of the secondary level before it, given the further elements
+abbrev pub cases_left : Option SecondaryForm → Option CaseForm → Option HeldCases → List Element → LevelPart
+cases_left before None l es = absent
+cases_left before (Some form) None es = absent
+cases_left before (Some form) (Some l) es = opened (held_cases l (weights (case_reads before) (case_rank (held_case_form l)) es))
 
--- further elements
-abbrev pub tertiaries_left : Option HeldTertiaries → List Element → LevelPart
-tertiaries_left None es = absent
-tertiaries_left (Some l) es = closed (held_tertiaries l (tertiaries (held_tertiary_form l) es))
+-- the tertiary level, given the further elements
+abbrev pub tertiaries_left : Option TertiaryForm → HeldTertiaries → List Element → LevelPart
+tertiaries_left None l es = absent
+tertiaries_left (Some form) l es = closed (held_tertiaries l (tertiaries form es))
 
--- how primaries are reordered, and further elements, as they are handled
-abbrev pub quaternaries_left : (ℕ → ℕ) → Option HeldQuaternaries → List HandledElement → LevelPart
-quaternaries_left reorder None hs = absent
-quaternaries_left reorder (Some l) hs = closed (held_quaternaries l (quaternaries reorder hs))
+-- the quaternary level, by how primaries are reordered, given the further elements, as they are handled
+abbrev pub quaternaries_left : (ℕ → ℕ) → Option QuaternaryForm → Option HeldQuaternaries → List HandledElement → LevelPart
+quaternaries_left reorder None l hs = absent
+quaternaries_left reorder (Some form) None hs = absent
+quaternaries_left reorder (Some form) (Some l) hs = closed (held_quaternaries l (quaternaries reorder hs))
 
--- all characters
+-- the identical level, where there is one, of all characters
 abbrev pub characters_left : Bool → List ℕ → LevelPart
 characters_left false cs = absent
 characters_left true cs = opened (identical_level cs)
 
 -- all levels after the primary one, in their order: further elements, as they are handled, and all characters
-abbrev pub levels_left : (ℕ → ℕ) → LaterLevels → List ℕ → List HandledElement → List LevelPart
-levels_left reorder l cs hs =
-    secondaries_left l.secondary (stayed_elements hs) ∷ cases_left l.before l.cases (stayed_elements hs)
-    ∷ tertiaries_left l.tertiary (stayed_elements hs) ∷ quaternaries_left reorder l.quaternary hs ∷ characters_left l.identical cs ∷ []
-
--- a level whose bytes are held, at its end
-abbrev pub part_of : LevelBytes → LevelPart
-part_of NoLevel = absent
-part_of (Opened bytes) = opened bytes.items
-part_of (Closed bytes) = closed bytes.items
+abbrev pub levels_left : (ℕ → ℕ) → KeyForm → LaterLevels → List ℕ → List HandledElement → List LevelPart
+levels_left reorder form l cs hs =
+    secondaries_left form.secondary l.secondaries l.segments (stayed_elements hs)
+    ∷ cases_left form.secondary form.cases l.cases (stayed_elements hs)
+    ∷ tertiaries_left form.tertiary l.tertiaries (stayed_elements hs)
+    ∷ quaternaries_left reorder form.quaternary l.quaternaries hs ∷ characters_left form.identical cs ∷ []

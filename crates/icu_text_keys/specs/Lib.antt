@@ -2,4 +2,4 @@ pub mod Compressions
 pub mod LevelRests
 pub mod KeyRests
 pub mod TextCases
-pub mod inner
+pub mod UsualForms

@@ -1,14 +1,19 @@
 //! The levels after the primary one, held until their end.
 
-ghost use Rattle.std.specs.Prelude.{◌≡◌, ◌<◌, ℕ, List, [], ◌∷◌, ◌++◌, Option, map, OnOk, IfOk};
-ghost use Rattle.icu_levels.specs.Keys.{secondary_part, case_part, tertiary_part, quaternary_part, identical_part, later_parts, parts_bytes};
+ghost use Rattle.std.specs.Prelude.{◌≡◌, ◌<◌, ℕ, List, [], ◌∷◌, IfSome, OnOk};
+ghost use Rattle.icu_levels.specs.Keys.{secondary_part, case_part, tertiary_part, quaternary_part, later_parts, parts_bytes};
+ghost use Rattle.icu_levels.specs.Secondaries.{secondary_level};
+ghost use Rattle.icu_entries.specs.Elements.{Element};
+ghost use Rattle.icu_keys.specs.HeldRests.{held_secondaries, held_tertiary_form};
 ghost use Rattle.icu_weighting.specs.Handled.{HandledElement, stayed, shifted_primary, stayed_elements};
 ghost use Rattle.icu_weighting.specs.Levels.{level_lists};
-ghost use Rattle.icu_text_keys.specs.LevelRests.{secondaries_left, cases_left, tertiaries_left, quaternaries_left, characters_left, part_of};
+ghost use Rattle.icu_text_keys.specs.LevelRests.{secondaries_left, cases_left, tertiaries_left, quaternaries_left};
 
-use crate::finished_levels::{LevelBytes, write_later};
 use crate::level::{
-    SecondaryLevel, push_case, push_quaternary, push_secondary, push_shifted, push_tertiary,
+    push_both, push_case, push_quaternary, push_secondary_of, push_shifted, push_tertiary_of,
+};
+use crate::written_levels::{
+    write_cases, write_identical, write_quaternaries, write_secondaries, write_tertiaries,
 };
 use icu_entries::CollationElement;
 use icu_keys::held_cases::HeldCases;
@@ -18,26 +23,26 @@ use icu_keys::held_segments::HeldSegments;
 use icu_keys::held_tertiaries::HeldTertiaries;
 use icu_keys::primaries::PrimaryCompression;
 use icu_keys::{CollationKeySink, SortKeyError};
-use icu_levels::forms::{KeyForm, SecondaryForm};
+use icu_levels::forms::{KeyForm, SecondaryForm, TertiaryForm};
 use std::alloc::{AllocError, Global};
 
-/// The secondary level of a form, with no weight.
-fn new_secondary(alloc: Global, form: KeyForm) -> SecondaryLevel
-    ensures { (reorder : ℕ → ℕ) (cs : List ℕ) (hs : List HandledElement) →
-        secondaries_left result (stayed_elements hs)
+/// A backward level with no weight, where a form has one.
+fn new_segments(alloc: Global, form: KeyForm) -> Option<HeldSegments>
+    ensures { (l : HeldSecondaries) (reorder : ℕ → ℕ) (cs : List ℕ) (hs : List HandledElement) →
+        ((ws : List ℕ) → held_secondaries l ws ≡ secondary_level ws) →
+        secondaries_left form.secondary l result (stayed_elements hs)
         ≡ secondary_part form.secondary (level_lists reorder form hs cs) }
 {
     match form.secondary {
-        None => SecondaryLevel::Absent,
-        Some(SecondaryForm::Forward) => SecondaryLevel::Forward(HeldSecondaries::new(alloc)),
-        Some(SecondaryForm::Backward) => SecondaryLevel::Backward(HeldSegments::new(alloc)),
+        Some(SecondaryForm::Backward) => Some(HeldSegments::new(alloc)),
+        Some(SecondaryForm::Forward) | None => None,
     }
 }
 
 /// The case level of a form, with no case.
 fn new_cases(alloc: Global, form: KeyForm) -> Option<HeldCases>
     ensures { (reorder : ℕ → ℕ) (cs : List ℕ) (hs : List HandledElement) →
-        cases_left form.secondary result (stayed_elements hs)
+        cases_left form.secondary form.cases result (stayed_elements hs)
         ≡ case_part form.cases (level_lists reorder form hs cs) }
 {
     match form.cases {
@@ -46,22 +51,23 @@ fn new_cases(alloc: Global, form: KeyForm) -> Option<HeldCases>
     }
 }
 
-/// The tertiary level of a form, with no weight.
-fn new_tertiary(alloc: Global, form: KeyForm) -> Option<HeldTertiaries>
-    ensures { (reorder : ℕ → ℕ) (cs : List ℕ) (hs : List HandledElement) →
-        tertiaries_left result (stayed_elements hs)
+/// The tertiary level of a form, with no weight. Where the form has none, it stays empty.
+fn new_tertiaries(alloc: Global, form: KeyForm) -> HeldTertiaries
+    ensures form { IfSome form.tertiary (λ t. held_tertiary_form result ≡ t) }
+    ensures begins { (reorder : ℕ → ℕ) (cs : List ℕ) (hs : List HandledElement) →
+        tertiaries_left form.tertiary result (stayed_elements hs)
         ≡ tertiary_part form.tertiary (level_lists reorder form hs cs) }
 {
     match form.tertiary {
-        Some(tertiary) => Some(HeldTertiaries::new(alloc, tertiary)),
-        None => None,
+        Some(tertiary) => HeldTertiaries::new(alloc, tertiary),
+        None => HeldTertiaries::new(alloc, TertiaryForm::WithoutCase),
     }
 }
 
 /// The quaternary level of a form, with no weight.
-fn new_quaternary(alloc: Global, form: KeyForm) -> Option<HeldQuaternaries>
+fn new_quaternaries(alloc: Global, form: KeyForm) -> Option<HeldQuaternaries>
     ensures { (reorder : ℕ → ℕ) (cs : List ℕ) (hs : List HandledElement) →
-        quaternaries_left reorder result hs
+        quaternaries_left reorder form.quaternary result hs
         ≡ quaternary_part form.quaternary (level_lists reorder form hs cs) }
 {
     match form.quaternary {
@@ -70,127 +76,111 @@ fn new_quaternary(alloc: Global, form: KeyForm) -> Option<HeldQuaternaries>
     }
 }
 
-/// The bytes of the secondary level.
-#[tactic(auto, unfolding(icu_weighting::specs::Levels::weights, icu_weighting::specs::Levels::parted))]
-fn finish_secondary(level: SecondaryLevel) -> Result<LevelBytes, AllocError>
-    ensures { IfOk result (λ bytes. part_of bytes ≡ secondaries_left level []) }
-{
-    match level {
-        SecondaryLevel::Absent => Ok(LevelBytes::NoLevel),
-        SecondaryLevel::Forward(level) => Ok(LevelBytes::Closed(level.finish()?)),
-        SecondaryLevel::Backward(level) => Ok(LevelBytes::Closed(level.finish()?)),
-    }
-}
-
-/// The bytes of the case level.
-#[tactic(auto, unfolding(icu_weighting::specs::Levels::weights))]
-fn finish_cases(level: Option<HeldCases>) -> Result<LevelBytes, AllocError>
-    ensures { (before : Option SecondaryForm) →
-        IfOk result (λ bytes. part_of bytes ≡ cases_left before level []) }
-{
-    match level {
-        Some(level) => Ok(LevelBytes::Opened(level.finish()?)),
-        None => Ok(LevelBytes::NoLevel),
-    }
-}
-
-/// The bytes of the tertiary level.
-#[tactic(auto, unfolding(icu_weighting::specs::Levels::weights))]
-fn finish_tertiary(level: Option<HeldTertiaries>) -> Result<LevelBytes, AllocError>
-    ensures { IfOk result (λ bytes. part_of bytes ≡ tertiaries_left level []) }
-{
-    match level {
-        Some(level) => Ok(LevelBytes::Closed(level.finish()?)),
-        None => Ok(LevelBytes::NoLevel),
-    }
-}
-
-/// The bytes of the quaternary level.
-#[tactic(auto, unfolding(icu_weighting::specs::Levels::quaternaries))]
-fn finish_quaternary(level: Option<HeldQuaternaries>) -> Result<LevelBytes, AllocError>
-    ensures { (reorder : ℕ → ℕ) →
-        IfOk result (λ bytes. part_of bytes ≡ quaternaries_left reorder level []) }
-{
-    match level {
-        Some(level) => Ok(LevelBytes::Closed(level.finish()?)),
-        None => Ok(LevelBytes::NoLevel),
-    }
-}
-
-/// The levels that a key has after the primary one.
+/// The levels that a key has after the primary one, held until their end. Which it has is said by its form, which each
+/// call is given: a caller that knows the form asks for no level at an element. Those that it hasn't stay empty.
 #[derive(Drop)]
 pub struct LaterLevels {
-    secondary: SecondaryLevel,
-    before: Option<SecondaryForm>,
+    secondaries: HeldSecondaries,
+    segments: Option<HeldSegments>,
     cases: Option<HeldCases>,
-    tertiary: Option<HeldTertiaries>,
-    quaternary: Option<HeldQuaternaries>,
-    identical: bool,
+    tertiaries: HeldTertiaries,
+    quaternaries: Option<HeldQuaternaries>,
 }
 
 impl LaterLevels {
     ghost use Rattle.icu_text_keys.specs.LevelRests.{levels_left};
+    ghost use Rattle.icu_text_keys.specs.KeyRests.{HasForm};
     ghost use Rattle.icu_keys.specs.KeyWrites.{KeyWrites};
 
     /// The levels of a form, with nothing fed. It allocates nothing.
+    #[inline(always)]
     pub(crate) fn new(alloc: Global, form: KeyForm) -> Self
-        ensures { (reorder : ℕ → ℕ) (cs : List ℕ) (hs : List HandledElement) →
-            levels_left reorder result cs hs ≡ later_parts form (level_lists reorder form hs cs) }
+        ensures form { HasForm form result }
+        ensures begins { (reorder : ℕ → ℕ) (cs : List ℕ) (hs : List HandledElement) →
+            levels_left reorder form result cs hs ≡ later_parts form (level_lists reorder form hs cs) }
     {
         LaterLevels {
-            secondary: new_secondary(alloc, form),
-            before: form.secondary,
+            secondaries: HeldSecondaries::new(alloc),
+            segments: new_segments(alloc, form),
             cases: new_cases(alloc, form),
-            tertiary: new_tertiary(alloc, form),
-            quaternary: new_quaternary(alloc, form),
-            identical: form.identical,
+            tertiaries: new_tertiaries(alloc, form),
+            quaternaries: new_quaternaries(alloc, form),
+        }
+    }
+
+    /// Holds the secondary and the tertiary of an element, where there are these levels.
+    #[inline(always)]
+    fn push_weights(&mut self, form: KeyForm, element: CollationElement) -> Result<(), AllocError>
+        requires case { element.lower < 0xC000 }
+        requires form { HasForm form self.old }
+        ensures form { HasForm form self.new }
+        ensures secondaries { OnOk result ((es : List Element) →
+            secondaries_left form.secondary self.old.secondaries self.old.segments (element ∷ es)
+            ≡ secondaries_left form.secondary self.new.secondaries self.new.segments es) }
+        ensures tertiaries { OnOk result ((es : List Element) →
+            tertiaries_left form.tertiary self.old.tertiaries (element ∷ es)
+            ≡ tertiaries_left form.tertiary self.new.tertiaries es) }
+        ensures others { (self.new.cases ≡ self.old.cases) × (self.new.quaternaries ≡ self.old.quaternaries) }
+    {
+        let (secondaries, tertiaries) = (&mut self.secondaries, &mut self.tertiaries);
+        match (form.secondary, form.tertiary) {
+            (Some(SecondaryForm::Forward), Some(tertiary)) => {
+                push_both(tertiary, secondaries, tertiaries, &self.segments, element)
+            }
+            (secondary, tertiary) => {
+                push_secondary_of(secondary, secondaries, &mut self.segments, element)?;
+                push_tertiary_of(tertiary, tertiaries, element)
+            }
         }
     }
 
     /// Holds what each level has for an element that stayed. After an error, discard the levels.
-    pub(crate) fn push_stayed(&mut self, element: CollationElement) -> Result<(), AllocError>
-        requires { element.lower < 0xC000 }
-        ensures { OnOk result ((reorder : ℕ → ℕ) (cs : List ℕ) (hs : List HandledElement) →
-            levels_left reorder self.old cs (stayed element ∷ hs)
-            ≡ levels_left reorder self.new cs hs) }
+    #[inline(always)]
+    pub(crate) fn push_stayed(
+        &mut self,
+        form: KeyForm,
+        element: CollationElement,
+    ) -> Result<(), AllocError>
+        requires case { element.lower < 0xC000 }
+        requires form { HasForm form self.old }
+        ensures form { HasForm form self.new }
+        ensures levels { OnOk result ((reorder : ℕ → ℕ) (cs : List ℕ) (hs : List HandledElement) →
+            levels_left reorder form self.old cs (stayed element ∷ hs)
+            ≡ levels_left reorder form self.new cs hs) }
     {
-        push_secondary(&mut self.secondary, element)?;
-        push_case(&mut self.cases, self.before, element)?;
-        push_tertiary(&mut self.tertiary, element)?;
-        push_quaternary(&mut self.quaternary, element)
+        self.push_weights(form, element)?;
+        push_case(form.secondary, form.cases, &mut self.cases, element)?;
+        push_quaternary(form.quaternary, &mut self.quaternaries, element)
     }
 
     /// Holds the primary of an element that is shifted. After an error, discard the levels.
+    #[inline(always)]
     pub(crate) fn push_shifted<C: PrimaryCompression>(
         &mut self,
+        form: KeyForm,
         compression: &C,
         primary: u32,
     ) -> Result<(), AllocError>
-        ensures { OnOk result ((cs : List ℕ) (hs : List HandledElement) →
-            levels_left (C.compression compression.now).reorder self.old cs
+        requires { HasForm form self.old }
+        ensures form { HasForm form self.new }
+        ensures levels { OnOk result ((cs : List ℕ) (hs : List HandledElement) →
+            levels_left (C.compression compression.now).reorder form self.old cs
             (shifted_primary primary ∷ hs)
-            ≡ levels_left (C.compression compression.now).reorder self.new cs hs) }
+            ≡ levels_left (C.compression compression.now).reorder form self.new cs hs) }
     {
-        push_shifted(&mut self.quaternary, compression, primary)
-    }
-
-    /// The bytes of the levels before the identical one.
-    fn finish(self) -> Result<[LevelBytes; 4], AllocError>
-        ensures { (reorder : ℕ → ℕ) (cs : List ℕ) → IfOk result (λ parts.
-            map part_of parts ++ (characters_left self.identical cs ∷ [])
-            ≡ levels_left reorder self cs []) }
-    {
-        Ok([
-            finish_secondary(self.secondary)?,
-            finish_cases(self.cases)?,
-            finish_tertiary(self.tertiary)?,
-            finish_quaternary(self.quaternary)?,
-        ])
+        push_shifted(
+            form.quaternary,
+            &mut self.quaternaries,
+            compression,
+            primary,
+        )
     }
 
     /// Writes the levels, given all characters of the text.
+    #[inline(always)]
     pub(crate) fn write<S: CollationKeySink>(
         self,
+        form: KeyForm,
         sink: &mut S,
         state: &mut S::State,
         characters: &[char],
@@ -198,15 +188,18 @@ impl LaterLevels {
         requires { S.is_sound sink.old state.old }
         ensures sound { S.is_sound sink.new state.new }
         ensures bytes { (reorder : ℕ → ℕ) → KeyWrites S.effects sink.old state.old
-            (parts_bytes (levels_left reorder self characters.now [])) result sink.new state.new }
+            (parts_bytes (levels_left reorder form self characters.now []))
+            result sink.new state.new }
     {
-        let identical = self.identical;
-        match self.finish() {
-            Ok(parts) => match write_later(sink, state, &parts, identical, characters) {
-                Ok(()) => Ok(()),
-                Err(error) => Err(SortKeyError::Sink(error)),
-            },
-            Err(_) => Err(SortKeyError::NoMemory),
-        }
+        let secondaries = self.secondaries;
+        let segments = self.segments;
+        let cases = self.cases;
+        let tertiaries = self.tertiaries;
+        let quaternaries = self.quaternaries;
+        write_secondaries(form.secondary, &secondaries, segments, sink, state)?;
+        write_cases(form.secondary, form.cases, cases, sink, state)?;
+        write_tertiaries(form.tertiary, &tertiaries, sink, state)?;
+        write_quaternaries(form.quaternary, quaternaries, sink, state)?;
+        write_identical(form.identical, sink, state, characters)
     }
 }

@@ -1,11 +1,14 @@
-//! Elements fed to single levels after the primary one.
+//! Elements fed to single levels after the primary one. Which levels a key has, and in which form, its callers say: where
+//! they know it, none is asked for at an element.
 
-ghost use Rattle.std.specs.Prelude.{◌≡◌, ◌<◌, ℕ, List, ◌∷◌, OnOk};
+ghost use Rattle.std.specs.Prelude.{◌≡◌, ◌<◌, ℕ, List, ◌∷◌, Some, IfSome, OnOk};
 ghost use Rattle.icu_entries.specs.Elements.{Element};
+ghost use Rattle.icu_keys.specs.HeldRests.{held_tertiary_form};
+ghost use Rattle.icu_levels.specs.declared.forms.SecondaryForm.TheVariants.{Forward};
 ghost use Rattle.icu_weighting.specs.Handled.{HandledElement, stayed, shifted_primary};
-ghost use Rattle.icu_text_keys.specs.LevelRests.{forward_left, segments_left, secondaries_left, cases_left, tertiaries_left, quaternaries_left};
+ghost use Rattle.icu_text_keys.specs.LevelRests.{segments_left, secondaries_left, cases_left, tertiaries_left, quaternaries_left};
 
-use crate::written_weights::{case_of, quaternary_weight, tertiary_weight};
+use crate::written_weights::{case_of, quaternary_weight, secondary_or_none, tertiary_or_none};
 use icu_entries::CollationElement;
 use icu_entries::element::MERGE_SEPARATOR_PRIMARY;
 use icu_keys::held_cases::HeldCases;
@@ -15,77 +18,115 @@ use icu_keys::held_segments::HeldSegments;
 use icu_keys::held_tertiaries::HeldTertiaries;
 use icu_keys::primaries::PrimaryCompression;
 use icu_keys::quaternaries::QuaternaryWeight;
-use icu_levels::forms::SecondaryForm;
-use icu_weighting::element_weights::{case_read, masked_tertiary};
+use icu_keys::two_levels::{push_secondary, push_tertiary, push_two};
+use icu_levels::forms::{CaseForm, QuaternaryForm, SecondaryForm, TertiaryForm};
+use icu_weighting::element_weights::case_read;
 use std::alloc::AllocError;
-
-/// The secondary level.
-#[derive(Drop)]
-pub enum SecondaryLevel {
-    /// The key has none.
-    Absent,
-    /// From the front.
-    Forward(HeldSecondaries),
-    /// Segment by segment, each from its end.
-    Backward(HeldSegments),
-}
 
 /// Holds the secondary of an element, or ends the segment at a merge separator, which gives no secondary itself.
 #[tactic(auto, unfolding(icu_weighting::specs::Levels::parted))]
-fn push_backward(level: &mut HeldSegments, element: CollationElement) -> Result<(), AllocError>
-    ensures { OnOk result ((es : List Element) →
-        segments_left level.old (element ∷ es) ≡ segments_left level.new es) }
-{
-    if element.primary() == MERGE_SEPARATOR_PRIMARY {
-        return level.end_segment();
-    }
-    let weight = element.secondary();
-    if weight == 0 {
-        return Ok(());
-    }
-    level.push(weight)
-}
-
-/// Holds the secondary of an element.
-#[tactic(auto, unfolding(icu_weighting::specs::Levels::weights))]
-fn push_forward(level: &mut HeldSecondaries, element: CollationElement) -> Result<(), AllocError>
-    ensures { OnOk result
-        ((es : List Element) → forward_left level.old (element ∷ es) ≡ forward_left level.new es) }
-{
-    let weight = element.secondary();
-    if weight == 0 {
-        return Ok(());
-    }
-    level.push(weight)
-}
-
-/// Holds the secondary of an element, where there is the level.
-pub(crate) fn push_secondary(
-    level: &mut SecondaryLevel,
+fn push_segment(
+    level: &mut Option<HeldSegments>,
     element: CollationElement,
 ) -> Result<(), AllocError>
     ensures { OnOk result ((es : List Element) →
-        secondaries_left level.old (element ∷ es) ≡ secondaries_left level.new es) }
+        segments_left level.old (element ∷ es) ≡ segments_left level.new es) }
 {
     match level {
-        SecondaryLevel::Absent => Ok(()),
-        SecondaryLevel::Forward(level) => push_forward(level, element),
-        SecondaryLevel::Backward(level) => push_backward(level, element),
+        None => Ok(()),
+        Some(level) => {
+            if element.primary() == MERGE_SEPARATOR_PRIMARY {
+                return level.end_segment();
+            }
+            let weight = element.secondary();
+            if weight == 0 {
+                return Ok(());
+            }
+            level.push(weight)
+        }
     }
 }
 
+/// Holds the secondary of an element, where there is the level.
+#[inline(always)]
+pub(crate) fn push_secondary_of(
+    form: Option<SecondaryForm>,
+    level: &mut HeldSecondaries,
+    backward: &mut Option<HeldSegments>,
+    element: CollationElement,
+) -> Result<(), AllocError>
+    ensures { OnOk result ((es : List Element) →
+        secondaries_left form level.old backward.old (element ∷ es)
+        ≡ secondaries_left form level.new backward.new es) }
+{
+    match form {
+        None => Ok(()),
+        Some(SecondaryForm::Forward) => push_secondary(level, secondary_or_none(element)),
+        Some(SecondaryForm::Backward) => push_segment(backward, element),
+    }
+}
+
+/// Holds the tertiary of an element, where there is the level.
+#[inline(always)]
+pub(crate) fn push_tertiary_of(
+    form: Option<TertiaryForm>,
+    level: &mut HeldTertiaries,
+    element: CollationElement,
+) -> Result<(), AllocError>
+    requires case { element.lower < 0xC000 }
+    requires form { IfSome form (λ t. held_tertiary_form level.old ≡ t) }
+    ensures form { held_tertiary_form level.new ≡ held_tertiary_form level.old }
+    ensures bytes { OnOk result ((es : List Element) →
+        tertiaries_left form level.old (element ∷ es) ≡ tertiaries_left form level.new es) }
+{
+    match form {
+        None => Ok(()),
+        Some(form) => push_tertiary(level, form, tertiary_or_none(form, element)),
+    }
+}
+
+/// Holds the secondary and the tertiary of an element, of a key that has both levels, secondaries from the front.
+#[inline(always)]
+pub(crate) fn push_both(
+    form: TertiaryForm,
+    secondaries: &mut HeldSecondaries,
+    tertiaries: &mut HeldTertiaries,
+    backward: &Option<HeldSegments>,
+    element: CollationElement,
+) -> Result<(), AllocError>
+    requires case { element.lower < 0xC000 }
+    requires form { held_tertiary_form tertiaries.old ≡ form }
+    ensures form { held_tertiary_form tertiaries.new ≡ held_tertiary_form tertiaries.old }
+    ensures secondaries { OnOk result ((es : List Element) →
+        secondaries_left (Some Forward) secondaries.old backward.now (element ∷ es)
+        ≡ secondaries_left (Some Forward) secondaries.new backward.now es) }
+    ensures tertiaries { OnOk result ((es : List Element) →
+        tertiaries_left (Some form) tertiaries.old (element ∷ es)
+        ≡ tertiaries_left (Some form) tertiaries.new es) }
+{
+    push_two(
+        secondaries,
+        tertiaries,
+        form,
+        secondary_or_none(element),
+        tertiary_or_none(form, element),
+    )
+}
+
 /// Holds the case of an element, where there is the level.
+#[inline(always)]
 #[tactic(auto, unfolding(icu_weighting::specs::Levels::weights))]
 pub(crate) fn push_case(
-    level: &mut Option<HeldCases>,
     before: Option<SecondaryForm>,
+    form: Option<CaseForm>,
+    level: &mut Option<HeldCases>,
     element: CollationElement,
 ) -> Result<(), AllocError>
     requires { element.lower < 0xC000 }
     ensures { OnOk result ((es : List Element) →
-        cases_left before level.old (element ∷ es) ≡ cases_left before level.new es) }
+        cases_left before form level.old (element ∷ es) ≡ cases_left before form level.new es) }
 {
-    if case_read(before, element) == 0 {
+    if form.is_none() || case_read(before, element) == 0 {
         return Ok(());
     }
     match level {
@@ -94,39 +135,19 @@ pub(crate) fn push_case(
     }
 }
 
-/// Holds the tertiary of an element, where there is the level.
-#[tactic(auto, unfolding(icu_weighting::specs::Levels::weights))]
-pub(crate) fn push_tertiary(
-    level: &mut Option<HeldTertiaries>,
-    element: CollationElement,
-) -> Result<(), AllocError>
-    requires { element.lower < 0xC000 }
-    ensures { OnOk result ((es : List Element) →
-        tertiaries_left level.old (element ∷ es) ≡ tertiaries_left level.new es) }
-{
-    match level {
-        Some(level) => {
-            let form = level.form();
-            if masked_tertiary(form, element) == 0 {
-                return Ok(());
-            }
-            level.push(tertiary_weight(form, element))
-        }
-        None => Ok(()),
-    }
-}
-
 /// Holds the quaternary of an element that stayed, where there is the level.
+#[inline(always)]
 #[tactic(auto, unfolding(icu_weighting::specs::Levels::quaternaries))]
 pub(crate) fn push_quaternary(
+    form: Option<QuaternaryForm>,
     level: &mut Option<HeldQuaternaries>,
     element: CollationElement,
 ) -> Result<(), AllocError>
     ensures { OnOk result ((reorder : ℕ → ℕ) (hs : List HandledElement) →
-        quaternaries_left reorder level.old (stayed element ∷ hs)
-        ≡ quaternaries_left reorder level.new hs) }
+        quaternaries_left reorder form level.old (stayed element ∷ hs)
+        ≡ quaternaries_left reorder form level.new hs) }
 {
-    if element.non_primary().tertiary() == 0 {
+    if form.is_none() || element.non_primary().tertiary() == 0 {
         return Ok(());
     }
     match level {
@@ -136,17 +157,22 @@ pub(crate) fn push_quaternary(
 }
 
 /// Holds the primary of an element that is shifted, where there is the quaternary level.
+#[inline(always)]
 #[tactic(auto, unfolding(icu_weighting::specs::Levels::quaternaries))]
 pub(crate) fn push_shifted<C: PrimaryCompression>(
+    form: Option<QuaternaryForm>,
     level: &mut Option<HeldQuaternaries>,
     compression: &C,
     primary: u32,
 ) -> Result<(), AllocError>
     ensures { OnOk result ((hs : List HandledElement) →
-        quaternaries_left (C.compression compression.now).reorder level.old
+        quaternaries_left (C.compression compression.now).reorder form level.old
         (shifted_primary primary ∷ hs)
-        ≡ quaternaries_left (C.compression compression.now).reorder level.new hs) }
+        ≡ quaternaries_left (C.compression compression.now).reorder form level.new hs) }
 {
+    if form.is_none() {
+        return Ok(());
+    }
     match level {
         Some(level) => level.push(QuaternaryWeight::Shifted(compression.reorder(primary))),
         None => Ok(()),

@@ -6,14 +6,14 @@
 #![tactic(auto)]
 
 pub mod compression;
-pub mod finished_levels;
 pub mod later_levels;
 pub mod laws;
 mod level;
 mod next_element;
-mod three_level_key;
+mod usual_forms;
 pub mod whole_key;
 pub mod writer;
+mod written_levels;
 mod written_weights;
 
 pub use compression::TableCompression;

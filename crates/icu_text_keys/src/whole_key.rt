@@ -6,10 +6,11 @@ ghost use Rattle.icu_levels.specs.Keys.{key_bytes};
 ghost use Rattle.icu_keys.specs.KeyWrites.{KeyWrites, WritesKey};
 ghost use Rattle.icu_weighting.specs.Levels.{level_lists};
 ghost use Rattle.icu_weighting.specs.HandledSources.{HasCase};
-ghost use Rattle.icu_text_keys.specs.KeyRests.{key_rest};
+ghost use Rattle.icu_text_keys.specs.KeyRests.{key_rest, HasForm};
+ghost use Rattle.icu_text_keys.specs.UsualForms.{form_of};
 
 use crate::next_element::next_element;
-use crate::three_level_key::{three_level_tertiaries, write_three_levels};
+use crate::usual_forms::{UsualForm, usual_form};
 use crate::writer::KeyWriter;
 use icu_keys::parts::end_key;
 use icu_keys::primaries::PrimaryCompression;
@@ -19,7 +20,9 @@ use icu_weighting::HandledSource;
 use std::alloc::Global;
 
 /// Writes the rest of a key, of the elements that are still to come.
+#[inline(always)]
 fn write_elements<S: CollationKeySink, C: PrimaryCompression, H: HandledSource>(
+    form: KeyForm,
     sink: &mut S,
     state: &mut S::State,
     compression: &C,
@@ -28,27 +31,28 @@ fn write_elements<S: CollationKeySink, C: PrimaryCompression, H: HandledSource>(
     characters: &[char],
 ) -> Result<(), SortKeyError<S::Error>>
     requires sound { S.is_sound sink.old state.old }
+    requires form { HasForm form writer.levels }
     requires cases { AllByRecursion HasCase (H.handled_left elements.old) }
     ensures sound { S.is_sound sink.new state.new }
     ensures bytes { KeyWrites S.effects sink.old state.old
-        (key_rest (C.compression compression.now) writer characters.now
+        (key_rest (C.compression compression.now) form writer characters.now
         (H.handled_left elements.old))
         result sink.new state.new }
 {
     'writing: while let Some(element) = next_element(elements)? {
-        writer.push(sink, state, compression, element)?;
+        writer.push(form, sink, state, compression, element)?;
     }
-    writer.close(sink, state, characters)
+    writer.close(form, sink, state, characters)
 }
 
-/// Writes all levels of a key. One of three levels, as keys mostly are, has a writer of its own, which asks for no
-/// level at an element.
-fn write_levels<S: CollationKeySink, C: PrimaryCompression, H: HandledSource>(
+/// Writes all levels of a key of this form.
+#[inline(always)]
+fn write_in_form<S: CollationKeySink, C: PrimaryCompression, H: HandledSource>(
     alloc: Global,
+    form: KeyForm,
     sink: &mut S,
     state: &mut S::State,
     compression: &C,
-    form: KeyForm,
     elements: &mut H,
     characters: &[char],
 ) -> Result<(), SortKeyError<S::Error>>
@@ -61,14 +65,96 @@ fn write_levels<S: CollationKeySink, C: PrimaryCompression, H: HandledSource>(
         (H.handled_left elements.old) characters.now))
         result sink.new state.new }
 {
-    match three_level_tertiaries(form) {
-        Some(tertiary) => {
-            write_three_levels(alloc, sink, state, compression, tertiary, elements)
+    let writer = KeyWriter::begin(alloc, form);
+    write_elements(form, sink, state, compression, writer, elements, characters)
+}
+
+/// Writes all levels of a key of a usual form, each by a loop of its own.
+fn write_usual<S: CollationKeySink, C: PrimaryCompression, H: HandledSource>(
+    alloc: Global,
+    usual: UsualForm,
+    identical: bool,
+    sink: &mut S,
+    state: &mut S::State,
+    compression: &C,
+    elements: &mut H,
+    characters: &[char],
+) -> Result<(), SortKeyError<S::Error>>
+    requires sound { S.is_sound sink.old state.old }
+    requires cases { AllByRecursion HasCase (H.handled_left elements.old) }
+    ensures sound { S.is_sound sink.new state.new }
+    ensures bytes { KeyWrites S.effects sink.old state.old
+        (key_bytes (C.compression compression.now) (form_of usual identical)
+        (level_lists (C.compression compression.now).reorder (form_of usual identical)
+        (H.handled_left elements.old) characters.now))
+        result sink.new state.new }
+{
+    match usual {
+        UsualForm::Primary => {
+            let form = UsualForm::Primary.form(identical);
+            write_in_form(alloc, form, sink, state, compression, elements, characters)
         }
-        None => {
-            let writer = KeyWriter::begin(alloc, form);
-            write_elements(sink, state, compression, writer, elements, characters)
+        UsualForm::Secondary => {
+            let form = UsualForm::Secondary.form(identical);
+            write_in_form(alloc, form, sink, state, compression, elements, characters)
         }
+        UsualForm::Tertiary => {
+            let form = UsualForm::Tertiary.form(identical);
+            write_in_form(alloc, form, sink, state, compression, elements, characters)
+        }
+        UsualForm::LowerFirst => {
+            let form = UsualForm::LowerFirst.form(identical);
+            write_in_form(alloc, form, sink, state, compression, elements, characters)
+        }
+        UsualForm::UpperFirst => {
+            let form = UsualForm::UpperFirst.form(identical);
+            write_in_form(alloc, form, sink, state, compression, elements, characters)
+        }
+        UsualForm::Quaternary => {
+            let form = UsualForm::Quaternary.form(identical);
+            write_in_form(alloc, form, sink, state, compression, elements, characters)
+        }
+        UsualForm::CaseLevel => {
+            let form = UsualForm::CaseLevel.form(identical);
+            write_in_form(alloc, form, sink, state, compression, elements, characters)
+        }
+    }
+}
+
+/// Writes all levels of a key. The forms that keys mostly have are told apart here, once, so that each has a loop of its
+/// own, which asks for no level at an element.
+fn write_levels<S: CollationKeySink, C: PrimaryCompression, H: HandledSource>(
+    alloc: Global,
+    form: KeyForm,
+    sink: &mut S,
+    state: &mut S::State,
+    compression: &C,
+    elements: &mut H,
+    characters: &[char],
+) -> Result<(), SortKeyError<S::Error>>
+    requires sound { S.is_sound sink.old state.old }
+    requires cases { AllByRecursion HasCase (H.handled_left elements.old) }
+    ensures sound { S.is_sound sink.new state.new }
+    ensures bytes { KeyWrites S.effects sink.old state.old
+        (key_bytes (C.compression compression.now) form
+        (level_lists (C.compression compression.now).reorder form
+        (H.handled_left elements.old) characters.now))
+        result sink.new state.new }
+{
+    match usual_form(form) {
+        Some(usual) => {
+            write_usual(
+                alloc,
+                usual,
+                form.identical,
+                sink,
+                state,
+                compression,
+                elements,
+                characters,
+            )
+        }
+        None => write_in_form(alloc, form, sink, state, compression, elements, characters),
     }
 }
 
@@ -98,10 +184,10 @@ pub fn write_key<S: CollationKeySink, C: PrimaryCompression, H: HandledSource>(
     let mut state = S::State::default();
     let written = write_levels(
         alloc,
+        form,
         sink,
         &mut state,
         compression,
-        form,
         elements,
         characters,
     );

@@ -20,6 +20,7 @@ use icu_weighting::Handled;
 use std::alloc::Global;
 
 /// Writes the primary of an element, where it has one. An error is the sink's own.
+#[inline(always)]
 #[tactic(auto, unfolding(icu_weighting::specs::Levels::weights))]
 fn push_primary<S: CollationKeySink, C: PrimaryCompression>(
     writer: &mut PrimaryWriter,
@@ -54,12 +55,15 @@ pub struct KeyWriter {
 }
 
 impl KeyWriter {
-    ghost use Rattle.icu_text_keys.specs.KeyRests.{key_rest};
+    ghost use Rattle.icu_text_keys.specs.KeyRests.{key_rest, HasForm};
 
-    /// The writer of a key of this form, with nothing written. It allocates nothing.
+    /// The writer of a key of this form, with nothing written. It allocates nothing. Each further call is given the same
+    /// form.
+    #[inline(always)]
     pub fn begin(alloc: Global, form: KeyForm) -> KeyWriter
-        ensures { (c : Compression) (cs : List ℕ) (hs : List HandledElement) →
-            key_rest c result cs hs ≡ key_bytes c form (level_lists c.reorder form hs cs) }
+        ensures form { HasForm form result.levels }
+        ensures begins { (c : Compression) (cs : List ℕ) (hs : List HandledElement) →
+            key_rest c form result cs hs ≡ key_bytes c form (level_lists c.reorder form hs cs) }
     {
         KeyWriter {
             primaries: PrimaryWriter::new(),
@@ -68,25 +72,29 @@ impl KeyWriter {
     }
 
     /// Writes what the next element gives, which stayed: it is not variable. After an error, discard the writer.
+    #[inline(always)]
     pub fn push_stayed<S: CollationKeySink, C: PrimaryCompression>(
         &mut self,
+        form: KeyForm,
         sink: &mut S,
         state: &mut S::State,
         compression: &C,
         element: CollationElement,
     ) -> Result<(), SortKeyError<S::Error>>
         requires sound { S.is_sound sink.old state.old }
+        requires form { HasForm form self.old.levels }
         requires case { element.lower < 0xC000 }
         ensures sound { S.is_sound sink.new state.new }
+        ensures form { HasForm form self.new.levels }
         ensures bytes { (cs : List ℕ) → KeyFeeds S.effects sink.old state.old
-            (λ (hs : List HandledElement). key_rest (C.compression compression.now) self.old cs
+            (λ (hs : List HandledElement). key_rest (C.compression compression.now) form self.old cs
             (stayed element ∷ hs))
-            (key_rest (C.compression compression.now) self.new cs) result sink.new state.new }
+            (key_rest (C.compression compression.now) form self.new cs) result sink.new state.new }
     {
         if let Err(error) = push_primary(&mut self.primaries, sink, state, compression, element) {
             return Err(SortKeyError::Sink(error));
         }
-        match self.levels.push_stayed(element) {
+        match self.levels.push_stayed(form, element) {
             Ok(()) => Ok(()),
             Err(_) => Err(SortKeyError::NoMemory),
         }
@@ -94,53 +102,63 @@ impl KeyWriter {
 
     /// Holds the primary of the next element, which is shifted: it is variable. The sink takes nothing. After an error,
     /// discard the writer.
+    #[inline(always)]
     pub fn push_shifted<S: CollationKeySink, C: PrimaryCompression>(
         &mut self,
+        form: KeyForm,
         sink: &mut S,
         state: &mut S::State,
         compression: &C,
         primary: u32,
     ) -> Result<(), SortKeyError<S::Error>>
-        requires { S.is_sound sink.old state.old }
+        requires sound { S.is_sound sink.old state.old }
+        requires form { HasForm form self.old.levels }
         ensures sound { S.is_sound sink.new state.new }
+        ensures form { HasForm form self.new.levels }
         ensures bytes { (cs : List ℕ) → KeyFeeds S.effects sink.old state.old
-            (λ (hs : List HandledElement). key_rest (C.compression compression.now) self.old cs
+            (λ (hs : List HandledElement). key_rest (C.compression compression.now) form self.old cs
             (shifted_primary primary ∷ hs))
-            (key_rest (C.compression compression.now) self.new cs) result sink.new state.new }
+            (key_rest (C.compression compression.now) form self.new cs) result sink.new state.new }
     {
-        match self.levels.push_shifted(compression, primary) {
+        match self.levels.push_shifted(form, compression, primary) {
             Ok(()) => Ok(()),
             Err(_) => Err(SortKeyError::NoMemory),
         }
     }
 
     /// Writes what the next element gives. After an error, discard the writer.
+    #[inline(always)]
     pub fn push<S: CollationKeySink, C: PrimaryCompression>(
         &mut self,
+        form: KeyForm,
         sink: &mut S,
         state: &mut S::State,
         compression: &C,
         element: Handled,
     ) -> Result<(), SortKeyError<S::Error>>
         requires sound { S.is_sound sink.old state.old }
+        requires form { HasForm form self.old.levels }
         requires case { HasCase (handled_as element) }
         ensures sound { S.is_sound sink.new state.new }
+        ensures form { HasForm form self.new.levels }
         ensures bytes { (cs : List ℕ) → KeyFeeds S.effects sink.old state.old
-            (λ (hs : List HandledElement). key_rest (C.compression compression.now) self.old cs
+            (λ (hs : List HandledElement). key_rest (C.compression compression.now) form self.old cs
             (handled_as element ∷ hs))
-            (key_rest (C.compression compression.now) self.new cs) result sink.new state.new }
+            (key_rest (C.compression compression.now) form self.new cs) result sink.new state.new }
     {
         match element {
-            Handled::Stayed(element) => self.push_stayed(sink, state, compression, element),
-            Handled::Shifted(primary) => self.push_shifted(sink, state, compression, primary),
+            Handled::Stayed(element) => self.push_stayed(form, sink, state, compression, element),
+            Handled::Shifted(primary) => self.push_shifted(form, sink, state, compression, primary),
         }
     }
 
     /// Writes the rest of the key, given all characters of the decomposed text, which count at the identical level
     /// alone.
     #[tactic(auto, unfolding(icu_weighting::specs::Levels::weights))]
+    #[inline(always)]
     pub fn close<S: CollationKeySink>(
         self,
+        form: KeyForm,
         sink: &mut S,
         state: &mut S::State,
         characters: &[char],
@@ -148,8 +166,8 @@ impl KeyWriter {
         requires { S.is_sound sink.old state.old }
         ensures sound { S.is_sound sink.new state.new }
         ensures bytes { (c : Compression) → KeyWrites S.effects sink.old state.old
-            (key_rest c self characters.now []) result sink.new state.new }
+            (key_rest c form self characters.now []) result sink.new state.new }
     {
-        self.levels.write(sink, state, characters)
+        self.levels.write(form, sink, state, characters)
     }
 }

@@ -5,8 +5,8 @@ ghost use Rattle.icu_levels.specs.Tertiaries.{moved_tertiary};
 ghost use Rattle.icu_entries.specs.Elements.{Element};
 ghost use Rattle.icu_keys.specs.CaseRanks.{rank_of};
 ghost use Rattle.icu_keys.specs.QuaternaryWeights.{weight_of};
-ghost use Rattle.icu_keys.specs.ThreeLists.{weight_before};
-ghost use Rattle.icu_weighting.specs.Levels.{case_rank, masked_tertiary, tertiary_in, tertiaries, quaternary_weight};
+ghost use Rattle.icu_keys.specs.HeldWeights.{weight_before};
+ghost use Rattle.icu_weighting.specs.Levels.{case_rank, masked_tertiary, secondaries, tertiary_in, tertiaries, quaternary_weight};
 
 use icu_entries::CollationElement;
 use icu_keys::cases::LetterCase;
@@ -24,6 +24,16 @@ pub(crate) fn case_of(element: CollationElement) -> LetterCase
         1 => LetterCase::Mixed,
         _ => LetterCase::Upper,
     }
+}
+
+/// The secondary weight of an element, or 0 where it has none.
+#[inline(always)]
+#[tactic(auto, unfolding(icu_weighting::specs::Levels::weights))]
+pub(crate) fn secondary_or_none(element: CollationElement) -> u16
+    ensures { (es : List Element) →
+        secondaries (element ∷ es) ≡ weight_before result (secondaries es) }
+{
+    element.secondary()
 }
 
 /// What a form of the tertiary level has for an element, in 16 bits.

@@ -2,16 +2,17 @@ use Rattle.std.proofs.Common.{length}
 use Rattle.std.specs.List.{AllByRecursion}
 use Rattle.icu_keys.proofs.Writing.{Owes}
 use Rattle.icu_weighting.specs.HandledSources.{HasCase}
-use Rattle.icu_text_keys.specs.KeyRests.{key_rest}
+use Rattle.icu_text_keys.specs.KeyRests.{key_rest, HasForm}
 use Rattle.icu_text_keys.proofs.whole_key.write_elements.Given as goal
 
 -- what the elements that are left give is still owed
 abbrev pub invariant-writing : goal.invariant-writing
 invariant-writing g l = record {
   sound : g.S.CollationKeySink.is_sound l.sink l.state;
+  form : HasForm l.form l.writer.levels;
   cases : AllByRecursion HasCase (g.H.HandledSource.handled_left l.elements);
-  owes : Owes g.S.CollationKeySink.effects l.fn.sink l.fn.state (key_rest (g.C.PrimaryCompression.compression l.compression) l.fn.writer l.characters (g.H.HandledSource.handled_left l.fn.elements))
-      (key_rest (g.C.PrimaryCompression.compression l.compression) l.writer l.characters (g.H.HandledSource.handled_left l.elements)) l.sink l.state;
+  owes : Owes g.S.CollationKeySink.effects l.fn.sink l.fn.state (key_rest (g.C.PrimaryCompression.compression l.compression) l.form l.fn.writer l.characters (g.H.HandledSource.handled_left l.fn.elements))
+      (key_rest (g.C.PrimaryCompression.compression l.compression) l.form l.writer l.characters (g.H.HandledSource.handled_left l.elements)) l.sink l.state;
 }
 
 abbrev pub decreases-writing : goal.decreases-writing

@@ -5,14 +5,14 @@ use Rattle.icu_levels.specs.declared.forms.KeyForm.{KeyForm}
 use Rattle.icu_keys.specs.KeyWrites.{KeyWrites}
 use Rattle.icu_weighting.specs.Handled.{HandledElement}
 use Rattle.icu_weighting.specs.Levels.{level_lists}
-use Rattle.icu_text_keys.specs.inner.ThreeLevelKeys.{form_of_three_levels}
+use Rattle.icu_text_keys.specs.UsualForms.{form_of}
 use Rattle.icu_text_keys.proofs.whole_key.write_levels.Goals as goal
 
 pub returns-in-Some-clause-bytes : goal.returns-in-Some-clause-bytes
 returns-in-Some-clause-bytes g c =
     let compression : Compression = g.C.PrimaryCompression.compression c.args.compression.now in
     let hs : List HandledElement = g.H.HandledSource.handled_left c.args.elements.now in
-    let same : c.args.form ≡ form_of_three_levels c.in-Some.tertiary = (c.three_level_tertiaries.ensures c.in-Some.tertiary).0 c.in-Some.is in
+    let same : c.args.form ≡ form_of c.in-Some.usual c.args.form.identical = c.in-Some.ensures in
     subst (λ (form : KeyForm). KeyWrites g.S.CollationKeySink.effects c.args.sink.now c.args.state.now
-    (key_bytes compression form (level_lists compression.reorder form hs c.args.characters.now)) c.write_three_levels.result c.write_three_levels.new.sink c.write_three_levels.new.state)
-    (sym same) (c.write_three_levels.ensures.bytes c.args.characters.now)
+    (key_bytes compression form (level_lists compression.reorder form hs c.args.characters.now)) c.write_usual.result c.write_usual.new.sink c.write_usual.new.state)
+    (sym same) c.write_usual.ensures.bytes

@@ -2,7 +2,7 @@ use Rattle.std.proofs.Common.{drop}
 use Rattle.icu_levels.specs.Identical.{identical_level}
 use Rattle.icu_keys.specs.WriterRests.{identical_rest}
 use Rattle.icu_keys.proofs.Writing.{Owes}
-use Rattle.icu_text_keys.proofs.finished_levels.write_characters.Given as goal
+use Rattle.icu_text_keys.proofs.written_levels.write_characters.Given as goal
 
 -- what the characters that are left give is still owed
 abbrev pub invariant-loop-character : goal.invariant-loop-character

@@ -4,7 +4,7 @@ use Rattle.std.proofs.lemmas.Result.{err_from_is_err_and}
 use Rattle.icu_levels.specs.Identical.{identical_level}
 use Rattle.icu_keys.specs.WriterRests.{identical_rest}
 use Rattle.icu_keys.proofs.Writing.{Owes, owes_fed, owes_fails}
-use Rattle.icu_text_keys.proofs.finished_levels.write_characters.Goals as goal
+use Rattle.icu_text_keys.proofs.written_levels.write_characters.Goals as goal
 
 pub returns-in_err-push-clause-bytes : goal.returns-in_err-push-clause-bytes
 returns-in_err-push-clause-bytes g c =

@@ -1,2 +1,0 @@
--- Words of private contracts and proofs only: no public contract names them.
-pub mod ThreeLevelKeys
