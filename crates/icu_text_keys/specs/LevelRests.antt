@@ -1,5 +1,5 @@
--- The levels after the primary one, held until their end: what each is to be in the key, by the key's form, given what is
--- still to come.
+-- The levels after the primary one, held until their end: what each is to be in the key, by the key's form, given what
+-- is still to come.
 use Rattle.std.specs.Prelude.{ℕ, Bool, true, false, List, [], ◌∷◌, Option, Some, None}
 use Rattle.icu_levels.specs.Identical.{identical_level}
 use Rattle.icu_levels.specs.Keys.{LevelPart, absent, opened, closed}

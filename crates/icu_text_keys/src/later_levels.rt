@@ -97,7 +97,8 @@ impl LaterLevels {
     pub(crate) fn new(alloc: Global, form: KeyForm) -> Self
         ensures form { HasForm form result }
         ensures begins { (reorder : ℕ → ℕ) (cs : List ℕ) (hs : List HandledElement) →
-            levels_left reorder form result cs hs ≡ later_parts form (level_lists reorder form hs cs) }
+            levels_left reorder form result cs hs
+            ≡ later_parts form (level_lists reorder form hs cs) }
     {
         LaterLevels {
             secondaries: HeldSecondaries::new(alloc),
@@ -120,7 +121,8 @@ impl LaterLevels {
         ensures tertiaries { OnOk result ((es : List Element) →
             tertiaries_left form.tertiary self.old.tertiaries (element ∷ es)
             ≡ tertiaries_left form.tertiary self.new.tertiaries es) }
-        ensures others { (self.new.cases ≡ self.old.cases) × (self.new.quaternaries ≡ self.old.quaternaries) }
+        ensures cases { self.new.cases ≡ self.old.cases }
+        ensures quaternaries { self.new.quaternaries ≡ self.old.quaternaries }
     {
         let (secondaries, tertiaries) = (&mut self.secondaries, &mut self.tertiaries);
         match (form.secondary, form.tertiary) {

@@ -121,8 +121,8 @@ fn write_usual<S: CollationKeySink, C: PrimaryCompression, H: HandledSource>(
     }
 }
 
-/// Writes all levels of a key. The forms that keys mostly have are told apart here, once, so that each has a loop of its
-/// own, which asks for no level at an element.
+/// Writes all levels of a key. The forms that keys mostly have are told apart here, once, so that each has a loop of
+/// its own, which asks for no level at an element.
 fn write_levels<S: CollationKeySink, C: PrimaryCompression, H: HandledSource>(
     alloc: Global,
     form: KeyForm,

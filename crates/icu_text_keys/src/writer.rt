@@ -57,8 +57,8 @@ pub struct KeyWriter {
 impl KeyWriter {
     ghost use Rattle.icu_text_keys.specs.KeyRests.{key_rest, HasForm};
 
-    /// The writer of a key of this form, with nothing written. It allocates nothing. Each further call is given the same
-    /// form.
+    /// The writer of a key of this form, with nothing written. It allocates nothing. Each further call is given the
+    /// same form.
     #[inline(always)]
     pub fn begin(alloc: Global, form: KeyForm) -> KeyWriter
         ensures form { HasForm form result.levels }

@@ -33,7 +33,8 @@ fn write_held<S: CollationKeySink>(
     requires { S.is_sound sink.old state.old }
     ensures sound { S.is_sound sink.new state.new }
     ensures bytes { (level : List ℕ) → IfOk bytes (λ b. b.items ≡ level) →
-        KeyWrites S.effects sink.old state.old (part_bytes (closed level)) result sink.new state.new }
+        KeyWrites S.effects sink.old state.old (part_bytes (closed level))
+        result sink.new state.new }
 {
     match bytes {
         Ok(bytes) => match write_closed(sink, state, bytes.as_slice()) {
