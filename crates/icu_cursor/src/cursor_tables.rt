@@ -9,7 +9,7 @@ ghost use Rattle.icu_cursor.specs.inner.Places.{MayBeCut};
 ghost use Rattle.icu_cursor.specs.inner.MarkRuns.{IsInRun};
 ghost use Rattle.icu_cursor.specs.inner.Standing.{Serves};
 
-use crate::{Boundaries, CharFacts, KeptFacts, facts_of};
+use crate::{Boundaries, CharFacts, KeptFacts};
 use icu_elements::TextReading;
 use std::alloc::Global;
 use unicode_normalization::Form;
@@ -79,21 +79,13 @@ impl<'d> CursorTables<'d> {
         facts.digit
     }
 
-    /// What is known of a character that is neither among those that are read most nor a Hangul syllable.
+    /// What is known of a character that isn't among those that are read most.
+    #[inline]
     #[tactic(auto, unfolding(crate::specs::Cursors::cursor_reading))]
-    pub(crate) fn rare_facts(&self, c: char) -> CharFacts
+    pub(crate) fn other_facts(&self, c: char) -> CharFacts
         ensures { Serves (cursor_reading self.now) c result }
     {
-        facts_of(&self.places, c)
-    }
-
-    /// What is known of a Hangul syllable, where each of its jamo has one element wherever it stands.
-    #[inline(always)]
-    #[tactic(auto, unfolding(crate::specs::Cursors::cursor_reading))]
-    pub(crate) fn syllable(&self, c: char) -> Option<CharFacts>
-        ensures { IfSome result (λ l. Serves (cursor_reading self.now) c l) }
-    {
-        self.kept_facts.syllable(c)
+        self.kept_facts.work_out(&self.places, c)
     }
 
     /// Whether a text may be cut before this character. False says nothing.

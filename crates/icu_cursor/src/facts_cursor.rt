@@ -60,18 +60,18 @@ impl<'c, 'd, T: EncodedText> FactsCursor<'c, 'd, T> {
         let tables = self.tables;
         match tables.kept_facts(c) {
             Some(facts) => self.begin(c, facts, rest),
-            None => self.read_syllable(c, rest),
+            None => self.read_other(c, rest),
         }
     }
 
-    /// The first element of a text that begins with a Hangul syllable.
+    /// The first element of a character that isn't among those that are read most. Out of line, as in `ElementCursor`.
     #[inline(never)]
-    fn read_syllable(&mut self, c: char, rest: T) -> Option<CollationElement>
+    fn read_other(&mut self, c: char, rest: T) -> Option<CollationElement>
         requires nothing { elements_ready self.old.ready ≡ [] }
         requires text { T.text self.old.text ≡ c ∷ T.text rest }
         ensures { IfSome result (λ e. GoesOn T.text self.old e self.new) }
     {
-        let facts = self.tables.syllable(c)?;
+        let facts = self.tables.other_facts(c);
         self.begin(c, &facts, rest)
     }
 

@@ -9,6 +9,7 @@ ghost use Rattle.icu_cursor.specs.KeptChars.{KeptChar, AreFactsFrom, IsOneMore};
 use crate::bases::facts_to_keep;
 use crate::boundaries::Boundaries;
 use crate::char_facts::CharFacts;
+use crate::read_char::facts_of;
 use std::alloc::{AllocError, Global};
 
 /// What is known of the characters that are read most: U+0000 to U+037F, U+1100 to U+11FF, and U+1E00 to U+1EFF.
@@ -55,6 +56,19 @@ impl KeptFacts {
             Some(&self.jamo[code - 0x1100])
         } else {
             None
+        }
+    }
+
+    /// What is known of a character that isn't kept, as texts are read whose boundaries these are: of a Hangul syllable
+    /// by its jamo, of any other character by the tables. Does not allocate.
+    #[inline]
+    pub fn work_out(&self, places: &Boundaries<'_>, c: char) -> CharFacts
+        ensures { AreFacts (boundary_reading places.now) self.now
+            → AreTrueFacts (boundary_reading places.now) c result }
+    {
+        match self.syllable(c) {
+            Some(facts) => facts,
+            None => facts_of(places, c),
         }
     }
 }

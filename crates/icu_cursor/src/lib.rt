@@ -29,4 +29,4 @@ pub use cursor_tables::CursorTables;
 pub use facts_cursor::FactsCursor;
 pub use facts_table::KeptFacts;
 pub use named::NamedCharacters;
-pub use read_char::{facts_of, outline_of};
+pub use read_char::facts_of;

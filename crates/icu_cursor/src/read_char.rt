@@ -111,32 +111,6 @@ fn facts_from(places: &Boundaries<'_>, c: char, first: char, more: &[char]) -> C
     }
 }
 
-/// What the first character of a decomposition shows of a character that decomposes to it and others.
-fn outline_from(places: &Boundaries<'_>, c: char, first: char, more: &[char]) -> CharFacts
-    requires { decompose Nfd c ≡ first ∷ more.now }
-    ensures { AreTrueFacts (boundary_reading places.now) c result }
-{
-    match with_char(places, first, FewElements::new()) {
-        Some(few) => {
-            let primary = leading_primary(places, first, &few);
-            outline(places, first, primary)
-        }
-        None => outline(places, first, 0),
-    }
-}
-
-/// What is known of a character by the first one of its decomposition alone, as texts are read whose boundaries these
-/// are: whether a text may be cut before it, and its leading primary weight. Does not allocate.
-pub fn outline_of(places: &Boundaries<'_>, c: char) -> CharFacts
-    ensures { AreTrueFacts (boundary_reading places.now) c result }
-{
-    let mut room = [c; 3];
-    match decomposition(c, Form::Nfd, &mut room) {
-        [first, more @ ..] => outline_from(places, c, *first, more),
-        [] => unreachable!(),
-    }
-}
-
 /// What is known of a character as texts are read whose boundaries these are. Does not allocate.
 pub fn facts_of(places: &Boundaries<'_>, c: char) -> CharFacts
     ensures { AreTrueFacts (boundary_reading places.now) c result }

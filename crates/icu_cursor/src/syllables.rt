@@ -109,7 +109,7 @@ impl KeptFacts {
 
     /// What is known of a Hangul syllable, where each of its jamo has one element wherever it stands.
     #[inline]
-    pub fn syllable(&self, c: char) -> Option<CharFacts>
+    pub(crate) fn syllable(&self, c: char) -> Option<CharFacts>
         ensures { IfSome result (λ l. (reading : Reading) → AreFacts reading self.now
             → AreTrueFacts reading c l) }
     {
