@@ -8,7 +8,7 @@ use Rattle.unicode_normalization.specs.Forms.{nfd}
 use Rattle.unicode_normalization.specs.Hangul.{is_syllable}
 use Rattle.icu_entries.specs.Elements.{Element}
 use Rattle.icu_collation_data.specs.Data.{context_of}
-use Rattle.icu_provider.specs.Tables.{entry_of}
+use Rattle.icu_provider.specs.Tables.{entry_of, jamo_base, jamo_limit}
 use Rattle.icu_elements.specs.TextElements.{Reading, continues_number, digit_of_char, begins_with_mark, number_elements, step, consumed, last_two, elements_after, elements_of}
 use Rattle.icu_elements.specs.ReadAhead.{IsEnough, HasWholeStep}
 use Rattle.icu_boundaries.specs.Alone.{elements_by_char, elements_of_char, is_alone, context_after, stays_first, all_stay}
@@ -83,7 +83,7 @@ LowLettersAreReadAlone =
 -- so is a conjoining jamo
 abbrev pub JamoAreReadAlone : Type 0
 JamoAreReadAlone =
-    (reading : Reading) (before : List ℕ) (c : ℕ) (cs : List ℕ) → 0x1100 ≤ c → c < 0x1200 → is_alone reading c ≡ true
+    (reading : Reading) (before : List ℕ) (c : ℕ) (cs : List ℕ) → jamo_base ≤ c → c < jamo_limit → is_alone reading c ≡ true
     → elements_after reading before (nfd (c ∷ cs)) ≡ elements_of_char reading.tables c ++ elements_after reading (last_two before (c ∷ [])) (nfd cs)
 
 -- and a Hangul syllable whose jamo stand alone, by its jamo
