@@ -189,9 +189,6 @@ impl OwnedSpecialPrimaries {
     pub fn as_special_primaries(&self) -> CollationSpecialPrimaries<'_>
         ensures { special_of result ≡ owned_special self.now }
     {
-        CollationSpecialPrimaries::from_parts(
-            self.last_primaries.as_slice(),
-            self.numeric_primary,
-        )
+        CollationSpecialPrimaries::from_parts(self.last_primaries.as_slice(), self.numeric_primary)
     }
 }
