@@ -42,8 +42,7 @@ pub fn digit_runs_are_numbers()
 {}
 
 /// A base of contractions gives what it gives at the end of a text, before a starter that none of its mappings names
-/// (UTS
-/// #10, "Produce Collation Element Arrays").
+/// (UTS #10, "Produce Collation Element Arrays").
 pub fn bases_before_unnamed_starters()
     ensures { BasesBeforeUnnamedStarters }
 {}
