@@ -17,7 +17,7 @@ use Rattle.icu_collation_data.specs.Violations.{earlier}
 use Rattle.icu_collation_data.proofs.ViolationLemmas.{none_found, negated}
 use Rattle.icu_collation_data.proofs.RunLemmas.{ordinal_rises}
 use Rattle.icu_weights.proofs.LeadLemmas.{replaced, stays, lead-with_lead}
-use Rattle.icu_provider.specs.Reorderings.{Reordering, lead_byte, with_lead, reordered}
+use Rattle.icu_provider.specs.Reorderings.{Reordering, lead_byte, reordered}
 use Rattle.icu_provider.specs.SpecialPrimaries.{is_compressible}
 use Rattle.icu_provider.specs.CollatorTables.{CollatorTables, is_forward, reorder}
 use Rattle.icu_checks.specs.declared.condition.ReachableElementCondition.{ReachableElementCondition}

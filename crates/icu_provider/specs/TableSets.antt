@@ -1,5 +1,5 @@
 -- The tables of a collator, as they are borrowed, and as a provider gives them.
-use Rattle.std.specs.Prelude.{ℕ, Option, Some, None, Result, Ok, Err, option_map}
+use Rattle.std.specs.Prelude.{Option, Some, None, Result, Ok, Err, option_map}
 use Rattle.icu_entries.specs.declared.error.DataError.{DataError}
 use Rattle.icu_entries.specs.declared.error.DataErrorKind.TheVariants.{Absent}
 use Rattle.icu_entries.specs.declared.error.DataTable.{DataTable}

@@ -1,6 +1,5 @@
-use Rattle.std.proofs.Common.{subst, sym, arith}
+use Rattle.std.proofs.Common.{arith}
 use Rattle.icu_collation_data.specs.StoredData.{data_of}
-use Rattle.icu_collation_data.specs.inner.BlockWalks.{WalkedTo}
 use Rattle.icu_collation_data.specs.declared.block_walk.Part.TheVariants.{ByCharacter}
 use Rattle.icu_collation_data.proofs.BlockWalkLemmas.{passed_run, visited_run}
 use Rattle.icu_collation_data.proofs.block_walk.visit_again.Goals as goal

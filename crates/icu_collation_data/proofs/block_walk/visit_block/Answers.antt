@@ -1,4 +1,4 @@
-use Rattle.std.proofs.Common.{rules, ◌≡◌, ◌+◌, ◌*◌, ◌∙◌, OnOk, sym, subst, arith}
+use Rattle.std.proofs.Common.{◌+◌, ◌∙◌, OnOk, sym, subst}
 use Rattle.std.specs.Prelude.{◌<◌}
 use Rattle.icu_collation_data.specs.StoredData.{data_of}
 use Rattle.icu_collation_data.specs.inner.BlockWalks.{WalkedTo}
