@@ -1,6 +1,6 @@
 //! The secondary level where it is compared from the end, segment by segment.
 
-ghost use Rattle.std.specs.Prelude.{◌≡◌, true, false, ◌≤◌, ◌<◌, ◌+◌, ◌-◌, ℕ, List, [], ◌∷◌, length, drop, reverse, IfSome, IsTrue, Some, None};
+ghost use Rattle.std.specs.Prelude.{◌≡◌, true, false, ◌≤◌, ◌<◌, ◌+◌, ◌-◌, [], ◌∷◌, length, drop, reverse, IfSome, IsTrue, Some, None};
 ghost use Rattle.std.specs.Ordering.{ordering_then};
 ghost use Rattle.icu_levels.specs.ListOrder.{list_order, segments_order};
 ghost use Rattle.icu_weighting.specs.Levels.{segments};
