@@ -1,6 +1,6 @@
 //! Collators: each has a collation, tables and settings together.
 
-ghost use Rattle.std.specs.Prelude.{◌≡◌, ◌<◌, false, Err, Ok, IfErr, IfOk, IfSome};
+ghost use Rattle.std.specs.Prelude.{◌≡◌, false, Err, Ok, IfErr, IfOk, IfSome};
 ghost use Rattle.icu_options.specs.Conversions.{resolved_of};
 ghost use Rattle.icu_options.specs.Merge.{merge};
 ghost use Rattle.icu_options.specs.FlaggedSettings.{values_of};

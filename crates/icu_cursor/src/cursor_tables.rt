@@ -1,6 +1,6 @@
 //! What texts are read by, character by character.
 
-ghost use Rattle.std.specs.Prelude.{◌≡◌, ℕ, IfSome, IsTrue};
+ghost use Rattle.std.specs.Prelude.{◌≡◌, IfSome, IsTrue};
 ghost use Rattle.icu_elements.specs.Reading.{reading_of};
 ghost use Rattle.icu_cursor.specs.KeptFacts.{IsNumberDigit};
 ghost use Rattle.icu_cursor.specs.FactsTables.{AreFacts};

@@ -1,6 +1,6 @@
 //! The common beginning of two texts.
 
-ghost use Rattle.std.specs.Prelude.{◌≡◌, ◌≤◌, ℕ, take, length, IsTrue, MatchOption};
+ghost use Rattle.std.specs.Prelude.{◌≡◌, ◌≤◌, ℕ, take, length, MatchOption};
 ghost use Rattle.icu_encodings.specs.inner.ListBeginnings.{BeginAlike, EndTogether, HaveBeginning};
 ghost use Rattle.icu_encodings.specs.DecodedTexts.{latin1_text, utf16_text};
 
