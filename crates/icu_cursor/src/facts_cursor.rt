@@ -65,8 +65,8 @@ impl<'c, 'd, T: EncodedText> FactsCursor<'c, 'd, T> {
         }
     }
 
-    /// The first element of a text that begins with a Hangul syllable, whose facts cost little. Those of rarer characters
-    /// would be worked out twice, here and by an `ElementCursor`.
+    /// The first element of a text that begins with a Hangul syllable, whose facts cost little. Those of a rarer
+    /// character would be worked out twice, here and by an `ElementCursor`.
     #[inline(never)]
     fn read_syllable(&mut self, c: char, rest: T) -> Option<CollationElement>
         requires nothing { elements_ready self.old.ready ≡ [] }
