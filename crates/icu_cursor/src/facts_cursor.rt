@@ -11,6 +11,7 @@ use crate::CharFacts;
 use crate::char_elements::CharElements;
 use crate::cursor_tables::CursorTables;
 use crate::stands::stands_before;
+use crate::syllables::is_syllable;
 use icu_encodings::EncodedText;
 use icu_entries::CollationElement;
 
@@ -60,17 +61,21 @@ impl<'c, 'd, T: EncodedText> FactsCursor<'c, 'd, T> {
         let tables = self.tables;
         match tables.kept_facts(c) {
             Some(facts) => self.begin(c, facts, rest),
-            None => self.read_other(c, rest),
+            None => self.read_syllable(c, rest),
         }
     }
 
-    /// The first element of a character that isn't among those that are read most. Out of line, as in `ElementCursor`.
+    /// The first element of a text that begins with a Hangul syllable, whose facts cost little. Those of a rarer
+    /// character would be worked out twice, here and by an `ElementCursor`.
     #[inline(never)]
-    fn read_other(&mut self, c: char, rest: T) -> Option<CollationElement>
+    fn read_syllable(&mut self, c: char, rest: T) -> Option<CollationElement>
         requires nothing { elements_ready self.old.ready ≡ [] }
         requires text { T.text self.old.text ≡ c ∷ T.text rest }
         ensures { IfSome result (λ e. GoesOn T.text self.old e self.new) }
     {
+        if !is_syllable(c) {
+            return None;
+        }
         let facts = self.tables.other_facts(c);
         self.begin(c, &facts, rest)
     }

@@ -45,6 +45,12 @@ fn syllable_number(c: char) -> Option<u32>
     }
 }
 
+/// Whether a character is a Hangul syllable.
+#[inline]
+pub(crate) fn is_syllable(c: char) -> bool {
+    syllable_number(c).is_some()
+}
+
 /// The element of a character that has one.
 #[inline(always)]
 fn only_element(facts: &CharFacts) -> CollationElement
