@@ -3,4 +3,5 @@ pub mod LineParts
 pub mod Ranges
 pub mod Errors
 pub mod Roots
+pub mod Given
 pub mod inner

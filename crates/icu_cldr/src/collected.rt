@@ -2,7 +2,7 @@
 ghost use Rattle.std.specs.Prelude.{◌≡◌, ◌+◌, ◌<◌, ◌≤◌, IfSome, IfOk, length};
 ghost use Rattle.icu_cldr.specs.inner.Diacritics.{SaysOfMark};
 
-use crate::contexts::{Contexts, Surroundings};
+use crate::contexts::Contexts;
 use crate::error::{LineErrorKind, UnnumberedError};
 use crate::ideograph_weights::{IdeographWeights, STEP, WeightedRange, char_count};
 use crate::special::Special;
@@ -282,12 +282,9 @@ impl Collected {
     ) -> Result<Option<CollationElement32>, UnnumberedError> {
         let mut before = prefix;
         before.reverse();
-        let surroundings = Surroundings {
-            before,
-            after: suffix,
-        };
         let alloc = self.alloc;
         let contexts = self.contexts.entry(first)?.or_insert(BTreeMap::new(alloc));
-        Ok(contexts.insert(surroundings, entry)?)
+        let suffixes = contexts.entry(before)?.or_insert(BTreeMap::new(alloc));
+        Ok(suffixes.insert(suffix, entry)?)
     }
 }
