@@ -16,7 +16,7 @@ use Rattle.icu_entries.specs.declared.entry.EntryKind.{EntryKind}
 use Rattle.icu_entries.specs.declared.entry.EntryKind.TheVariants.{Contraction, Prefix}
 use Rattle.icu_entries.specs.Entries.{kind_of, entry_index}
 use Rattle.icu_collation_data.specs.Data.{Mapping, Context, Data, context_in, mapping_entry, no_context}
-use Rattle.icu_table_builder.specs.Building.{and_context}
+use Rattle.icu_table_builder.specs.Building.{and_context, and_entries}
 use Rattle.icu_table_builder.specs.AddedContexts.{given_mapping}
 use Rattle.icu_cldr.specs.Given.{RefersTo, Leads, Gives, entry_in}
 use Rattle.icu_cldr.specs.inner.Surroundings.{AddsContext, Extends, Suffixes, Surroundings, entry_at, entry_between, mappings_of, nearest_of, own_entry, value_among}
@@ -184,6 +184,19 @@ extends_by_context d new x e = record {
   entries = ap (λ (n : Data). n.entries) e ∙ sym (append-nil d.entries);
   contexts = ap (λ (n : Data). n.contexts) e;
 }
+
+pub extends_by_entries : (d new : Data) (es : List ℕ) → new ≡ and_entries d es → Extends d new
+extends_by_entries d new es e = record {
+  more_elements = [];
+  more_entries = es;
+  more_contexts = [];
+  elements = ap (λ (n : Data). n.elements) e ∙ sym (append-nil d.elements);
+  entries = ap (λ (n : Data). n.entries) e;
+  contexts = ap (λ (n : Data). n.contexts) e ∙ sym (append-nil d.contexts);
+}
+
+pub extends_from : (a b d : Data) → a ≡ b → Extends a d → Extends b d
+extends_from a b d e grows = subst (λ x. Extends x d) e grows
 
 -- what an entry leads to stays
 pub leads_further : (kind : EntryKind) (d new : Data) (e : ℕ) (chars : List ℕ) (f : ℕ) → Extends d new → Leads kind d e chars f → Leads kind new e chars f

@@ -1,16 +1,16 @@
 -- What a table gives for the characters of a mapping (UTS #35 part 5, "Context-Sensitive Mappings"; UTS #10,
 -- "Expansions" and "Contractions").
-use Rattle.std.specs.Prelude.{◌≡◌, ℕ, ◌+◌, ◌<◌, ◌≤◌, List, [], ◌∷◌, Option, Some, ◌⊎◌, flat_map, length, IsTrue}
+use Rattle.std.specs.Prelude.{◌≡◌, ℕ, ◌+◌, ◌<◌, ◌≤◌, List, [], ◌∷◌, Option, Some, ◌⊎◌, flat_map, length}
 use Rattle.icu_entries.specs.Elements.{Element}
 use Rattle.icu_entries.specs.declared.entry.EntryKind.{EntryKind}
 use Rattle.icu_entries.specs.declared.entry.EntryKind.TheVariants.{Expansion32, Expansion, Prefix, Contraction, Digit}
-use Rattle.icu_entries.specs.Entries.{kind_of, entry_index, list_length, is_self_contained, self_contained}
+use Rattle.icu_entries.specs.Entries.{kind_of, entry_index, list_length, self_contained}
 use Rattle.icu_collation_data.specs.Data.{Data, Context, context_in, mapping_entry, plain_of}
 use Rattle.icu_collation_data.specs.Final.{listed}
 
--- the entry has these elements by itself
+-- the entry has these elements by itself, and has some
 pub record SpellsAlone (e : ℕ) (es : List Element) : Type 0 where
-  pub kind : IsTrue (is_self_contained e)
+  pub some : 0 < length es
   pub elements : self_contained e ≡ es
 
 -- the entry names a list of entries, which the table has and which have these elements by themselves

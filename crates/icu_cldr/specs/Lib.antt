@@ -4,4 +4,6 @@ pub mod Ranges
 pub mod Errors
 pub mod Roots
 pub mod Given
+pub mod LineElements
+pub mod CharacterEntries
 pub mod inner

@@ -1,6 +1,12 @@
 //! What the lines said so far.
-ghost use Rattle.std.specs.Prelude.{◌≡◌, ◌+◌, ◌<◌, ◌≤◌, IfSome, IfOk, length};
+ghost use Rattle.std.specs.Prelude.{◌≡◌, ◌+◌, ◌<◌, ◌≤◌, IfSome, IfOk, OnOk, length};
+ghost use Rattle.std.specs.List.{flat_map};
+ghost use Rattle.icu_entries.specs.Entries.{self_contained};
+ghost use Rattle.icu_table_builder.specs.Building.{built_data};
+ghost use Rattle.icu_cldr.specs.Given.{Spells, SpellsByEntries, SpellsByElements};
+ghost use Rattle.icu_cldr.specs.LineElements.{respelt};
 ghost use Rattle.icu_cldr.specs.inner.Diacritics.{SaysOfMark};
+ghost use Rattle.icu_cldr.specs.inner.Surroundings.{Extends};
 
 use crate::contexts::Contexts;
 use crate::error::{LineErrorKind, UnnumberedError};
@@ -39,7 +45,9 @@ pub(crate) struct Collected {
 
 /// Weights with lead byte EF stand behind all others, and are spelt with FF, since implicit weights have FE here. The
 /// first weight behind those of assigned characters, E4, is the implicit weight before that of U+0000.
-fn respelt(primary: u32) -> u32 {
+fn respelt(primary: u32) -> u32
+    ensures { result ≡ respelt primary }
+{
     if primary == 0xE400_0000 {
         0xFE04_0202
     } else if primary >> 24 == 0xEF {
@@ -204,7 +212,11 @@ impl Collected {
     fn add_elements(
         &mut self,
         elements: &[CollationElement],
-    ) -> Result<CollationElement32, UnnumberedError> {
+    ) -> Result<CollationElement32, UnnumberedError>
+        ensures extends { OnOk result
+            (Extends (built_data self.old.builder) (built_data self.new.builder)) }
+        ensures spells { IfOk result (λ e. Spells (built_data self.new.builder) e elements.now) }
+    {
         if elements.len() > LIST_LENGTH_MAX {
             return Err(UnnumberedError::Refused(LineErrorKind::FewerElements));
         }
@@ -227,6 +239,10 @@ impl Collected {
         entries: &[CollationElement32],
     ) -> Result<CollationElement32, UnnumberedError>
         requires { length entries.now ≤ 31 }
+        ensures extends { OnOk result
+            (Extends (built_data self.old.builder) (built_data self.new.builder)) }
+        ensures spells { IfOk result (λ e. SpellsByEntries (built_data self.new.builder) e
+            (flat_map self_contained entries.now)) }
     {
         let index = self.builder.add_entries(entries)?;
         if index >= INDEX_COUNT {
@@ -241,6 +257,10 @@ impl Collected {
         elements: &[CollationElement],
     ) -> Result<CollationElement32, UnnumberedError>
         requires { length elements.now ≤ 31 }
+        ensures extends { OnOk result
+            (Extends (built_data self.old.builder) (built_data self.new.builder)) }
+        ensures spells { IfOk result (λ e.
+            SpellsByElements (built_data self.new.builder) e elements.now) }
     {
         let index = self.builder.add_elements(elements)?;
         if index >= INDEX_COUNT {
