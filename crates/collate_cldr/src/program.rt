@@ -42,8 +42,9 @@ pub(crate) fn wording() -> Wording
 /// Makes one run of the program over the words after its name, and returns the status that it ends with.
 ///
 /// - 0: the answer stands on `output`, or the usage text where that was asked for.
-/// - 1: neighbours are out of order, whose counts stand on `output`. Or an allocation, a read of `input` or a write failed, or the file isn't there, isn't read or has tables that fail
-///   a condition. `errors` says which, and of the file where.
+/// - 1: neighbours are out of order, and their counts stand on `output`. Or an allocation, a read of `input` or a write
+///   failed, or the file isn't there, isn't read or has tables that fail a condition. `errors` says which, and of the
+///   file where.
 /// - 2: the words are no command. `errors` says what commands there are.
 ///
 /// A failed write to `errors` changes no status.

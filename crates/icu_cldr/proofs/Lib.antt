@@ -1,4 +1,4 @@
 pub mod HexDigitLemmas
 pub mod SurroundingLemmas
-pub mod ContextLemmas
+pub mod AddedContextLemmas
 pub mod PrefixLemmas

@@ -9,7 +9,7 @@ use Rattle.icu_entries.specs.declared.entry.EntryKind.TheVariants.{Contraction, 
 use Rattle.icu_collation_data.specs.Data.{Data}
 use Rattle.icu_cldr.specs.Given.{Leads, Gives}
 use Rattle.icu_cldr.specs.inner.Surroundings.{Extends, IsBehind, LeadsNearest, Suffixes, Surroundings, entry_at, is_among, nearest, own_entry, value_among}
-use Rattle.icu_cldr.proofs.ContextLemmas.{leads_further}
+use Rattle.icu_cldr.proofs.AddedContextLemmas.{leads_further}
 use Rattle.icu_cldr.proofs.SurroundingLemmas.{inserted_among, key_order, same_from_true}
 
 -- a map with one entry more

@@ -125,3 +125,9 @@ pub last_end : {X : Type 0} (chars : List ℕ) (left new more : List (Vec ℕ ×
 unfolding last_among
 last_end chars left new more other done up all =
     sym (ap (λ es. last_among es (value_among new chars) chars) done) ∙ all ∙ last_is_first more other chars up
+
+-- what was inserted is found
+pub found_inserted : {X : Type 0} (es : List (Vec ℕ × X)) (k : Vec ℕ) (v : X) → value_among (insert_entry key_order es k v) k.items ≡ Some v
+found_inserted es k v =
+    inserted_among k.items es k v
+    ∙ ap (λ b. if b then Some v else value_among es k.items) ((bytes_eq-Decides k.items k.items).1 refl)

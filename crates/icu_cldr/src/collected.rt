@@ -1,14 +1,16 @@
 //! What the lines said so far.
-ghost use Rattle.std.specs.Prelude.{◌≡◌, ◌+◌, ◌<◌, ◌≤◌, IfSome, IfOk, OnOk, length};
+ghost use Rattle.std.specs.Prelude.{◌≡◌, ◌+◌, ◌<◌, ◌≤◌, IfSome, IfOk, OnOk, length, reverse};
 ghost use Rattle.std.specs.List.{flat_map};
 ghost use Rattle.icu_entries.specs.Entries.{self_contained};
 ghost use Rattle.icu_table_builder.specs.Building.{built_data};
 ghost use Rattle.icu_cldr.specs.Given.{Spells, SpellsByEntries, SpellsByElements};
 ghost use Rattle.icu_cldr.specs.LineElements.{respelt};
 ghost use Rattle.icu_cldr.specs.inner.Diacritics.{SaysOfMark};
-ghost use Rattle.icu_cldr.specs.inner.Surroundings.{Extends};
+ghost use Rattle.icu_cldr.specs.inner.Surroundings.{Extends, HasEntryBetween};
+ghost use Rattle.std.specs.BTreeMap.{get};
+ghost use Rattle.std.specs.Ordering.{nat_cmp};
 
-use crate::contexts::Contexts;
+use crate::contexts::{Contexts, put_between};
 use crate::error::{LineErrorKind, UnnumberedError};
 use crate::ideograph_weights::{IdeographWeights, STEP, WeightedRange, char_count};
 use crate::special::Special;
@@ -299,12 +301,19 @@ impl Collected {
         prefix: Vec<char>,
         suffix: Vec<char>,
         entry: CollationElement32,
-    ) -> Result<Option<CollationElement32>, UnnumberedError> {
+    ) -> Result<Option<CollationElement32>, UnnumberedError>
+        ensures { OnOk result (HasEntryBetween (get nat_cmp self.new.contexts first)
+            (reverse prefix.items) suffix.items entry) }
+    {
         let mut before = prefix;
         before.reverse();
         let alloc = self.alloc;
-        let contexts = self.contexts.entry(first)?.or_insert(BTreeMap::new(alloc));
-        let suffixes = contexts.entry(before)?.or_insert(BTreeMap::new(alloc));
-        Ok(suffixes.insert(suffix, entry)?)
+        let mut contexts = self
+            .contexts
+            .remove(&first)
+            .unwrap_or(BTreeMap::new(alloc));
+        let had = put_between(alloc, &mut contexts, before, suffix, entry)?;
+        self.contexts.insert(first, contexts)?;
+        Ok(had)
     }
 }

@@ -4,7 +4,7 @@ ghost use Rattle.std.specs.Option.{option_or};
 ghost use Rattle.icu_table_builder.specs.AddedContexts.{given_mapping};
 ghost use Rattle.icu_table_builder.specs.Building.{built_data};
 ghost use Rattle.icu_cldr.specs.Given.{Gives};
-ghost use Rattle.icu_cldr.specs.inner.Surroundings.{entry_at, entry_between, nearest, own_entry, mappings_of, AddsContext, Extends, IsBehind, LeadsNearest};
+ghost use Rattle.icu_cldr.specs.inner.Surroundings.{entry_at, entry_between, nearest, own_entry, mappings_by, AddsContext, Extends, IsBehind, LeadsNearest};
 
 use crate::error::{LineErrorKind, UnnumberedError};
 use icu_entries::{CollationElement32, INDEX_COUNT};
@@ -17,6 +17,25 @@ pub(crate) type Suffixes = BTreeMap<Vec<char>, CollationElement32>;
 
 /// The entries of a character by the characters before it, the nearest first, and by those after it.
 pub(crate) type Contexts = BTreeMap<Vec<char>, Suffixes>;
+
+/// Takes in the entry behind just these characters, the nearest first, and before just those, and returns the one that
+/// stood there.
+pub(crate) fn put_between(
+    alloc: Global,
+    contexts: &mut Contexts,
+    before: Vec<char>,
+    after: Vec<char>,
+    entry: CollationElement32,
+) -> Result<Option<CollationElement32>, UnnumberedError>
+    ensures { OnOk result (entry_between contexts.new before.items after.items ≡ Some entry) }
+{
+    let mut suffixes = contexts
+        .remove(before.as_slice())
+        .unwrap_or(BTreeMap::new(alloc));
+    let had = suffixes.insert(after, entry)?;
+    contexts.insert(before, suffixes)?;
+    Ok(had)
+}
 
 /// Takes in entries, in the place of those that stand at the same characters.
 fn add_all(alloc: Global, suffixes: &mut Suffixes, more: &Suffixes) -> Result<(), UnnumberedError>
@@ -79,12 +98,12 @@ fn entries_behind(
 }
 
 /// The mappings of a context in which characters have these entries.
-fn mappings_of<'a>(
+fn mappings_by<'a>(
     alloc: Global,
     entries: &'a Suffixes,
 ) -> Result<Vec<(&'a [char], CollationElement32)>, AllocError>
     ensures { IfOk result (λ list. map given_mapping list.items
-        ≡ mappings_of entries.now.entries) }
+        ≡ mappings_by entries.now.entries) }
 {
     let mut list = Vec::new(alloc);
     for (chars, entry) in entries.iter() {
@@ -109,7 +128,7 @@ fn add_context(
     ensures adds { IfOk result (AddsContext
         (built_data builder.old) (built_data builder.new) entries.now) }
 {
-    let list = mappings_of(alloc, entries)?;
+    let list = mappings_by(alloc, entries)?;
     if list.is_empty() {
         return Ok(None);
     }

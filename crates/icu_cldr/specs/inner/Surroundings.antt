@@ -31,13 +31,18 @@ abbrev pub entry_at : Suffixes → List ℕ → Option ℕ
 entry_at suffixes chars = value_among suffixes.entries chars
 
 -- the mappings of a context in which characters have these entries: those of some characters
-unfoldable pub mappings_of : List (Vec ℕ × ℕ) → List Mapping
-mappings_of [] = []
-mappings_of (e ∷ es) = elim e.0.items [ [] ↦ mappings_of es | c ∷ cs ↦ record { chars = c ∷ cs; entry = e.1 } ∷ mappings_of es ]
+unfoldable pub mappings_by : List (Vec ℕ × ℕ) → List Mapping
+mappings_by [] = []
+mappings_by (e ∷ es) = elim e.0.items [ [] ↦ mappings_by es | c ∷ cs ↦ record { chars = c ∷ cs; entry = e.1 } ∷ mappings_by es ]
 
 -- the entry behind just these characters and before just those
 abbrev pub entry_between : Surroundings → List ℕ → List ℕ → Option ℕ
 entry_between all before after = option_and_then (λ suffixes. entry_at suffixes after) (value_among all.entries before)
+
+-- there are entries by what stands around, and this one behind just these characters and before just those
+abbrev pub HasEntryBetween : Option Surroundings → List ℕ → List ℕ → ℕ → Type 0
+HasEntryBetween None before after e = ⊥
+HasEntryBetween (Some all) before after e = entry_between all before after ≡ Some e
 
 -- the entry that the character has by itself, before nothing
 abbrev pub own_entry : ℕ → List ℕ → Option ℕ
@@ -64,7 +69,7 @@ pub record Extends (d e : Data) : Type 0 where
   pub entries : e.entries ≡ d.entries ++ more_entries
   pub contexts : e.contexts ≡ d.contexts ++ more_contexts
 
--- behind these characters there is an entry of the character, if only its own: they are none, or a mapping has them before
+-- behind these characters there is an entry of the character, if only its own: they are none, or those before a mapping
 abbrev pub IsBehind : Surroundings → List ℕ → Type 0
 IsBehind all before = (before ≡ []) ⊎ (is_some (value_among all.entries before) ≡ true)
 
@@ -77,7 +82,7 @@ is_among (k ∷ ks) chars = bytes_eq k.items chars || is_among ks chars
 abbrev pub LeadsNearest : Surroundings → ℕ → Data → List ℕ → ℕ → Type 0
 LeadsNearest all own d before e = (after : List ℕ) (f : ℕ) → nearest all own before after ≡ Some f → Leads Contraction d e after f
 
--- a context with these entries was added, which has the index, or none was needed where only no characters have an entry
+-- a context with these entries was added, which has the index, or none was needed: only no characters have an entry
 abbrev pub AddsContext : Data → Data → Suffixes → Option ℕ → Type 0
 AddsContext old new entries None = (chars : List ℕ) (f : ℕ) → entry_at entries chars ≡ Some f → chars ≡ []
 AddsContext old new entries (Some index) =

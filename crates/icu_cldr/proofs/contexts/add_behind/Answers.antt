@@ -1,7 +1,7 @@
 use Rattle.std.proofs.Common.{ap, sym, ◌∙◌}
 use Rattle.std.specs.Option.{option_or}
 use Rattle.icu_cldr.specs.inner.Surroundings.{entry_at}
-use Rattle.icu_cldr.proofs.ContextLemmas.{between_from_get}
+use Rattle.icu_cldr.proofs.AddedContextLemmas.{between_from_get}
 use Rattle.icu_cldr.proofs.contexts.add_behind.Goals as goal
 
 pub returns-in_ok-add_all-in-Some : goal.returns-in_ok-add_all-in-Some

@@ -1,6 +1,6 @@
 use Rattle.std.proofs.Common.{◌≡◌, ap, sym, ◌∙◌, length, vec_len, map, arith}
 use Rattle.icu_table_builder.specs.AddedContexts.{given_mapping}
-use Rattle.icu_cldr.proofs.ContextLemmas.{context_added, extends_by_context, extends_itself, no_context_added, none_given, nothing_left}
+use Rattle.icu_cldr.proofs.AddedContextLemmas.{context_added, extends_by_context, extends_itself, no_context_added, none_given, nothing_left}
 use Rattle.icu_table_builder.specs.Building.{built_data}
 use Rattle.icu_cldr.proofs.contexts.add_context.Goals as goal
 

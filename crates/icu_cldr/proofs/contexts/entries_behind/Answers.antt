@@ -2,7 +2,7 @@ use Rattle.std.proofs.Common.{◌≡◌, ◌+◌, ◌∙◌, ap, sym, [], take, 
 use Rattle.std.specs.Option.{option_or}
 use Rattle.std.proofs.lemmas.Grind.{common_steps}
 use Rattle.icu_cldr.specs.inner.Surroundings.{entry_at, entry_between, nearest_of}
-use Rattle.icu_cldr.proofs.ContextLemmas.{nearest_more}
+use Rattle.icu_cldr.proofs.AddedContextLemmas.{nearest_more}
 use Rattle.icu_cldr.proofs.contexts.entries_behind.Goals as goal
 
 pub loop-index-init : goal.loop-index-init

@@ -2,7 +2,7 @@ use Rattle.std.proofs.Common.{◌≡◌, ◌<◌, [], ap, sym, subst, ◌∙◌,
 use Rattle.icu_entries.specs.declared.entry.EntryKind.TheVariants.{Prefix}
 use Rattle.icu_table_builder.specs.Building.{built_data}
 use Rattle.icu_cldr.specs.inner.Surroundings.{AddsContext, LeadsNearest, is_among}
-use Rattle.icu_cldr.proofs.ContextLemmas.{extends_further, leads_by, leads_to_default, nothing_left, positive}
+use Rattle.icu_cldr.proofs.AddedContextLemmas.{extends_further, leads_by, leads_to_default, nothing_left, positive}
 use Rattle.icu_cldr.proofs.PrefixLemmas.{Inserts, alone_turn, covers_end, covers_skip, covers_turn, gives_nearest, leads_first, leads_turn}
 use Rattle.icu_cldr.proofs.contexts.entry_in_contexts.Goals as goal
 

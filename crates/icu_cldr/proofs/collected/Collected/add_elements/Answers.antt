@@ -3,7 +3,7 @@ use Rattle.icu_collation_data.specs.Data.{Data}
 use Rattle.icu_table_builder.specs.Building.{built_data}
 use Rattle.icu_cldr.specs.declared.collected.Collected.{Collected}
 use Rattle.icu_cldr.specs.inner.Surroundings.{Extends}
-use Rattle.icu_cldr.proofs.ContextLemmas.{extends_from, extends_itself}
+use Rattle.icu_cldr.proofs.AddedContextLemmas.{extends_from, extends_itself}
 use Rattle.icu_cldr.proofs.collected.Collected.add_elements.Goals as goal
 
 pub returns-in-None-clause-extends : goal.returns-in-None-clause-extends

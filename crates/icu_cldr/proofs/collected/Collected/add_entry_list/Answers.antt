@@ -1,4 +1,4 @@
-use Rattle.icu_cldr.proofs.ContextLemmas.{extends_by_entries}
+use Rattle.icu_cldr.proofs.AddedContextLemmas.{extends_by_entries}
 use Rattle.icu_cldr.proofs.collected.Collected.add_entry_list.Goals as goal
 
 pub returns-clause-extends : goal.returns-clause-extends

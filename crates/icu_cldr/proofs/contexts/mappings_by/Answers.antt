@@ -1,8 +1,8 @@
 use Rattle.std.proofs.Common.{◌≡◌, ◌<◌, ◌++◌, ap, sym, ◌∙◌, refl, length, vec_len, map, arith}
 use Rattle.icu_table_builder.specs.AddedContexts.{given_mapping}
-use Rattle.icu_cldr.specs.inner.Surroundings.{mappings_of}
-use Rattle.icu_cldr.proofs.ContextLemmas.{put_turn, put_end, mappings_skip, positive, nothing_left}
-use Rattle.icu_cldr.proofs.contexts.mappings_of.Goals as goal
+use Rattle.icu_cldr.specs.inner.Surroundings.{mappings_by}
+use Rattle.icu_cldr.proofs.AddedContextLemmas.{put_turn, put_end, mappings_skip, positive, nothing_left}
+use Rattle.icu_cldr.proofs.contexts.mappings_by.Goals as goal
 
 pub loop-chars-preserved-in-Continue-1 : goal.loop-chars-preserved-in-Continue-1
 loop-chars-preserved-in-Continue-1 c =
@@ -22,4 +22,4 @@ loop-chars-preserved c =
     ∙ c.loop-chars.invariant
 
 pub returns : goal.returns
-returns c = put_end (map given_mapping c.loop-chars.list.items) (mappings_of c.args.entries.now.entries) c.loop-chars.chars-iterator c.in-None.ensures.steps.0 c.loop-chars.invariant
+returns c = put_end (map given_mapping c.loop-chars.list.items) (mappings_by c.args.entries.now.entries) c.loop-chars.chars-iterator c.in-None.ensures.steps.0 c.loop-chars.invariant

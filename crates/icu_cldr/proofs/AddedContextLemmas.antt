@@ -19,7 +19,7 @@ use Rattle.icu_collation_data.specs.Data.{Mapping, Context, Data, context_in, ma
 use Rattle.icu_table_builder.specs.Building.{and_context, and_entries}
 use Rattle.icu_table_builder.specs.AddedContexts.{given_mapping}
 use Rattle.icu_cldr.specs.Given.{RefersTo, Leads, Gives, entry_in}
-use Rattle.icu_cldr.specs.inner.Surroundings.{AddsContext, Extends, Suffixes, Surroundings, entry_at, entry_between, mappings_of, nearest_of, own_entry, value_among}
+use Rattle.icu_cldr.specs.inner.Surroundings.{AddsContext, Extends, Suffixes, Surroundings, entry_at, entry_between, mappings_by, nearest_of, own_entry, value_among}
 use Rattle.icu_cldr.proofs.SurroundingLemmas.{found_among}
 
 -- ---- look-ups
@@ -56,9 +56,9 @@ there (Some w) d x h e = ap Some (sym e)
 -- ---- the mappings of a context
 
 -- an entry before no characters is no mapping
-pub mappings_skip : (left next : List (Vec ℕ × ℕ)) (k : Vec ℕ) (v : ℕ) → left ≡ (k, v) ∷ next → length k.items ≡ 0 → mappings_of left ≡ mappings_of next
-unfolding mappings_of
-mappings_skip left next k v e none = ap mappings_of e ∙ here k.items v (mappings_of next) none where
+pub mappings_skip : (left next : List (Vec ℕ × ℕ)) (k : Vec ℕ) (v : ℕ) → left ≡ (k, v) ∷ next → length k.items ≡ 0 → mappings_by left ≡ mappings_by next
+unfolding mappings_by
+mappings_skip left next k v e none = ap mappings_by e ∙ here k.items v (mappings_by next) none where
   here : (xs : List ℕ) (v : ℕ) (ms : List Mapping) → length xs ≡ 0
       → (elim xs as (λ _. List Mapping) [ [] ↦ ms | c ∷ cs ↦ record { chars = c ∷ cs; entry = v } ∷ ms ]) ≡ ms
   here [] v ms none = refl
@@ -66,9 +66,9 @@ mappings_skip left next k v e none = ap mappings_of e ∙ here k.items v (mappin
 
 -- any other is one
 pub mappings_put : (left next : List (Vec ℕ × ℕ)) (k : Vec ℕ) (v : ℕ) → left ≡ (k, v) ∷ next → 0 < length k.items
-    → mappings_of left ≡ record { chars = k.items; entry = v } ∷ mappings_of next
-unfolding mappings_of
-mappings_put left next k v e some = ap mappings_of e ∙ here k.items v (mappings_of next) some where
+    → mappings_by left ≡ record { chars = k.items; entry = v } ∷ mappings_by next
+unfolding mappings_by
+mappings_put left next k v e some = ap mappings_by e ∙ here k.items v (mappings_by next) some where
   here : (xs : List ℕ) (v : ℕ) (ms : List Mapping) → 0 < length xs
       → (elim xs as (λ _. List Mapping) [ [] ↦ ms | c ∷ cs ↦ record { chars = c ∷ cs; entry = v } ∷ ms ]) ≡ record { chars = xs; entry = v } ∷ ms
   here [] v ms some = absurd (omega arith)
@@ -85,22 +85,22 @@ nothing_left n h = grind (arith, nat_tests)
 -- one mapping more
 pub put_turn : (list new : List (Bor (List ℕ) × ℕ)) (x : Bor (List ℕ) × ℕ) (left next : List (Vec ℕ × ℕ)) (k : Vec ℕ) (v : ℕ) (all : List Mapping)
     → new ≡ list ++ x ∷ [] → x.0.now ≡ k.items → x.1 ≡ v → left ≡ (k, v) ∷ next → 0 < length k.items
-    → map given_mapping list ++ mappings_of left ≡ all → map given_mapping new ++ mappings_of next ≡ all
+    → map given_mapping list ++ mappings_by left ≡ all → map given_mapping new ++ mappings_by next ≡ all
 put_turn list new x left next k v all added chars entry steps some before =
     let front : List Mapping = map given_mapping list in
     let is : given_mapping x ≡ record { chars = k.items; entry = v } =
     ap (λ cs. let m : Mapping = record { chars = cs; entry = x.1 } in m) chars ∙ ap (λ e. let m : Mapping = record { chars = k.items; entry = e } in m) entry in
-    ap (λ xs. map given_mapping xs ++ mappings_of next) added
-    ∙ ap (λ ms. ms ++ mappings_of next) (map-append given_mapping list (x ∷ []))
-    ∙ append_assoc front (given_mapping x ∷ []) (mappings_of next)
-    ∙ ap (λ m. front ++ m ∷ mappings_of next) is
+    ap (λ xs. map given_mapping xs ++ mappings_by next) added
+    ∙ ap (λ ms. ms ++ mappings_by next) (map-append given_mapping list (x ∷ []))
+    ∙ append_assoc front (given_mapping x ∷ []) (mappings_by next)
+    ∙ ap (λ m. front ++ m ∷ mappings_by next) is
     ∙ sym (ap (λ ms. front ++ ms) (mappings_put left next k v steps some))
     ∙ before
 
 -- no entry is left
-pub put_end : (front all : List Mapping) (left : List (Vec ℕ × ℕ)) → left ≡ [] → front ++ mappings_of left ≡ all → front ≡ all
-unfolding mappings_of
-put_end front all left done before = sym (append-nil front) ∙ ap (λ es. front ++ mappings_of es) (sym done) ∙ before
+pub put_end : (front all : List Mapping) (left : List (Vec ℕ × ℕ)) → left ≡ [] → front ++ mappings_by left ≡ all → front ≡ all
+unfolding mappings_by
+put_end front all left done before = sym (append-nil front) ∙ ap (λ es. front ++ mappings_by es) (sym done) ∙ before
 
 -- a list without an item has no mapping
 pub none_given : (list : List (Bor (List ℕ) × ℕ)) → length list ≡ 0 → length (map given_mapping list) ≡ 0
@@ -108,10 +108,10 @@ none_given [] h = refl
 none_given (x ∷ xs) h = absurd (omega arith)
 
 -- a mapping is found as its entry was
-pub mapping_found : (es : List (Vec ℕ × ℕ)) (c : ℕ) (cs : List ℕ) → mapping_entry (mappings_of es) (c ∷ cs) ≡ value_among es (c ∷ cs)
-unfolding mappings_of mapping_entry value_among
+pub mapping_found : (es : List (Vec ℕ × ℕ)) (c : ℕ) (cs : List ℕ) → mapping_entry (mappings_by es) (c ∷ cs) ≡ value_among es (c ∷ cs)
+unfolding mappings_by mapping_entry value_among
 mapping_found [] c cs = refl
-mapping_found (e ∷ es) c cs = here e.0.items e.1 (mappings_of es) (value_among es (c ∷ cs)) (mapping_found es c cs) where
+mapping_found (e ∷ es) c cs = here e.0.items e.1 (mappings_by es) (value_among es (c ∷ cs)) (mapping_found es c cs) where
   here : (xs : List ℕ) (v : ℕ) (ms : List Mapping) (rest : Option ℕ) → mapping_entry ms (c ∷ cs) ≡ rest
       → mapping_entry (elim xs as (λ _. List Mapping) [ [] ↦ ms | x ∷ ys ↦ record { chars = x ∷ ys; entry = v } ∷ ms ]) (c ∷ cs)
       ≡ (if bytes_eq xs (c ∷ cs) then Some v else rest)
@@ -120,13 +120,13 @@ mapping_found (e ∷ es) c cs = here e.0.items e.1 (mappings_of es) (value_among
 
 -- in the context characters have the entries that they had
 pub entry_in_mappings : (es : List (Vec ℕ × ℕ)) (default : ℕ) → value_among es [] ≡ Some default
-    → (chars : List ℕ) → entry_in (record { default = default; mappings = mappings_of es }) chars ≡ value_among es chars
+    → (chars : List ℕ) → entry_in (record { default = default; mappings = mappings_by es }) chars ≡ value_among es chars
 entry_in_mappings es default h [] = sym h
 entry_in_mappings es default h (c ∷ cs) = mapping_found es c cs
 
 -- a context that was added last
 pub context_added : (d new : Data) (index default : ℕ) (ms : List Mapping) (entries : Suffixes) → index ≡ length d.contexts
-    → new ≡ and_context d (record { default = default; mappings = ms }) → ms ≡ mappings_of entries.entries → entry_at entries [] ≡ Some default
+    → new ≡ and_context d (record { default = default; mappings = ms }) → ms ≡ mappings_by entries.entries → entry_at entries [] ≡ Some default
     → AddsContext d new entries (Some index)
 context_added d new index default ms entries at added same alone =
     let x : Context = record { default = default; mappings = ms } in
@@ -142,12 +142,12 @@ context_added d new index default ms entries at added same alone =
     )
 
 -- no context is needed
-pub no_context_added : (d new : Data) (ms : List Mapping) (entries : Suffixes) → ms ≡ mappings_of entries.entries → length ms ≡ 0 → AddsContext d new entries None
+pub no_context_added : (d new : Data) (ms : List Mapping) (entries : Suffixes) → ms ≡ mappings_by entries.entries → length ms ≡ 0 → AddsContext d new entries None
 unfolding mapping_entry
 no_context_added d new [] entries same none [] f h = refl
 no_context_added d new [] entries same none (c ∷ cs) f h =
-    let e : mapping_entry (mappings_of entries.entries) (c ∷ cs) ≡ None = sym (ap (λ ms. mapping_entry ms (c ∷ cs)) same) ∙ nothing c cs in
-    let g : mapping_entry (mappings_of entries.entries) (c ∷ cs) ≡ Some f = mapping_found entries.entries c cs ∙ h in
+    let e : mapping_entry (mappings_by entries.entries) (c ∷ cs) ≡ None = sym (ap (λ ms. mapping_entry ms (c ∷ cs)) same) ∙ nothing c cs in
+    let g : mapping_entry (mappings_by entries.entries) (c ∷ cs) ≡ Some f = mapping_found entries.entries c cs ∙ h in
     cc where
       nothing : (c : ℕ) (cs : List ℕ) → mapping_entry [] (c ∷ cs) ≡ None
       nothing c cs = refl
