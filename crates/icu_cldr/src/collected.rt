@@ -308,10 +308,7 @@ impl Collected {
         let mut before = prefix;
         before.reverse();
         let alloc = self.alloc;
-        let mut contexts = self
-            .contexts
-            .remove(&first)
-            .unwrap_or(BTreeMap::new(alloc));
+        let mut contexts = self.contexts.remove(&first).unwrap_or(BTreeMap::new(alloc));
         let had = put_between(alloc, &mut contexts, before, suffix, entry)?;
         self.contexts.insert(first, contexts)?;
         Ok(had)
