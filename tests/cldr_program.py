@@ -31,6 +31,8 @@ RUNS = [
     (["--shifted", "--max-variable=space", LETTERS, "compare", "3", "a-b", "ab"], b"", 0, b"<\n", b""),
     (["--case-level", LETTERS, "compare", "1", "a", "A"], b"", 0, b"<\n", b""),
     ([LETTERS, "neighbours", "3"], b"0061\n0041\n0062\n", 0, b"2 pairs, out of order by compare 0, by keys 0; 0 lines passed over\n", b""),
+    ([LETTERS, "neighbours", "3"], b"0062\n0061\n", 1, b"1 pairs, out of order by compare 1, by keys 1; 0 lines passed over\n", b""),
+    ([LETTERS, "neighbours", "1"], b"0041\n0061\n", 0, b"1 pairs, out of order by compare 0, by keys 0; 0 lines passed over\n", b""),
     (["--help"], b"", 0, USAGE, b""),
     (["--help", "--help"], b"", 2, b"", USAGE),
     (["--help", LETTERS, "sort", "3"], NAMES, 2, b"", USAGE),
@@ -159,7 +161,7 @@ def wrong_counts(program):
     found = []
     for options, strength, *counts in DISORDER:
         ran = run(program, [*options, LETTERS, "neighbours", strength], TEXTS)
-        if ran.came_to() != (0, counts_of(*counts), b""):
+        if ran.came_to() != (1, counts_of(*counts), b""):
             found.append(f"{options} at {strength}: {ran}; wanted: {counts_of(*counts)}")
     return found
 

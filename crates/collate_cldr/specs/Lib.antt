@@ -1,3 +1,4 @@
 pub mod Choices
 pub mod CldrLines
 pub mod Files
+pub mod Neighbours

@@ -1,4 +1,9 @@
 //! Whether lines are in order, as those of CLDR's test files should be.
+ghost use Rattle.std.specs.Prelude.{◌≡◌, IfOk, chars, string_bytes};
+ghost use Rattle.icu_collator.specs.Collators.{collation_kept};
+ghost use Rattle.collate_cldr.specs.Neighbours.{is_greater, is_greater_key, one_more};
+ghost use Rattle.std.specs.Ordering.{is_gt};
+
 use collate_commands::ProgramError;
 use icu_collator::Collator;
 use std::alloc::{AllocError, Global};
@@ -59,6 +64,8 @@ fn with_key(alloc: Global, collator: &Collator, text: String) -> Result<Keyed, P
 }
 
 impl Counts {
+    ghost use Rattle.collate_cldr.specs.Neighbours.{with_pair, are_in_order};
+
     /// Nothing is seen.
     fn new() -> Counts {
         Counts {
@@ -69,25 +76,69 @@ impl Counts {
         }
     }
 
-    /// Takes in a pair of neighbours.
-    fn add(
-        &mut self,
-        collator: &Collator,
-        left: &Keyed,
-        right: &Keyed,
-    ) -> Result<(), ProgramError> {
-        let order = collator
-            .as_borrowed()
-            .compare(left.text.as_str(), right.text.as_str())?;
-        self.pairs = self.pairs.saturating_add(1);
-        if order == Ordering::Greater {
-            self.greater = self.greater.saturating_add(1);
+    /// With a pair of neighbours more: whether the first is greater, by comparison and by keys.
+    fn with_pair(self, greater: bool, greater_key: bool) -> Counts
+        ensures { result ≡ with_pair self greater greater_key }
+    {
+        Counts {
+            pairs: one_more(true, self.pairs),
+            greater: one_more(greater, self.greater),
+            greater_by_keys: one_more(greater_key, self.greater_by_keys),
+            passed_over: self.passed_over,
         }
-        if left.key.as_slice().cmp(right.key.as_slice()) == Ordering::Greater {
-            self.greater_by_keys = self.greater_by_keys.saturating_add(1);
-        }
-        Ok(())
     }
+
+    /// With a pair of neighbours more.
+    fn with(self, collator: &Collator, left: &Keyed, right: &Keyed) -> Result<Counts, ProgramError>
+        ensures { IfOk result (λ counts. counts ≡ with_pair self
+            (is_greater (collation_kept collator.now)
+            (chars (string_bytes left.now.text)) (chars (string_bytes right.now.text)))
+            (is_greater_key left.now.key.items right.now.key.items)) }
+    {
+        let greater = is_greater(collator, left.text.as_str(), right.text.as_str())?;
+        let greater_key = is_greater_key(left.key.as_slice(), right.key.as_slice());
+        Ok(self.with_pair(greater, greater_key))
+    }
+
+    /// Whether no pair was out of order.
+    pub(crate) fn are_in_order(self) -> bool
+        ensures { result ≡ are_in_order self }
+    {
+        self.greater == 0 && self.greater_by_keys == 0
+    }
+}
+
+/// Whether an order is `Greater`.
+fn is_gt(order: Ordering) -> bool
+    ensures { result ≡ is_gt order }
+{
+    match order {
+        Ordering::Less | Ordering::Equal => false,
+        Ordering::Greater => true,
+    }
+}
+
+/// Whether the first text is greater.
+fn is_greater(collator: &Collator, left: &str, right: &str) -> Result<bool, ProgramError>
+    ensures { IfOk result (λ greater. greater
+        ≡ is_greater (collation_kept collator.now) (chars left.now) (chars right.now)) }
+{
+    let order = collator.as_borrowed().compare(left, right)?;
+    Ok(is_gt(order))
+}
+
+/// Whether the first key is greater.
+fn is_greater_key(left: &[u8], right: &[u8]) -> bool
+    ensures { result ≡ is_greater_key left.now right.now }
+{
+    is_gt(left.cmp(right))
+}
+
+/// One more, where there is one.
+fn one_more(more: bool, count: u64) -> u64
+    ensures { result ≡ one_more more count }
+{
+    if more { count.saturating_add(1) } else { count }
 }
 
 /// Why a line isn't had: an allocation failed, or a read did.
@@ -124,7 +175,7 @@ pub(crate) fn neighbours<R: Read + Drop>(
         };
         let next = with_key(alloc, collator, text)?;
         if let Some(last) = &last {
-            counts.add(collator, last, &next)?;
+            counts = counts.with(collator, last, &next)?;
         }
         last = Some(next);
     }

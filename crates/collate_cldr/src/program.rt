@@ -1,5 +1,5 @@
 //! One run of the program.
-ghost use Rattle.std.specs.Prelude.{◌≡◌, ◌≤◌, ◌↔◌, None, IfSome, map, string_bytes};
+ghost use Rattle.std.specs.Prelude.{◌≡◌, ◌≤◌, ◌↔◌, None, IfSome, map, string_bytes, if◌then◌else◌};
 ghost use Rattle.std.specs.Io.KnownBytes.{Keeps};
 ghost use Rattle.collate_commands.specs.Commands.{command_of};
 ghost use Rattle.collate_commands.specs.ProgramErrors.{lines_in};
@@ -7,6 +7,7 @@ ghost use Rattle.collate_commands.specs.ProgramRuns.{PrintsAnswer, Fails};
 ghost use Rattle.collate_commands.specs.PartialWrites.{AppendsBeginning};
 ghost use Rattle.collate_cldr.specs.CldrLines.{cldr_lines, usage_text};
 ghost use Rattle.collate_cldr.specs.Files.{ComparesAs, IsLineOf};
+ghost use Rattle.collate_cldr.specs.Neighbours.{are_in_order};
 
 use crate::asked::{Asked, Request};
 use crate::file_source::FileSource;
@@ -41,8 +42,9 @@ pub(crate) fn wording() -> Wording
 /// Makes one run of the program over the words after its name, and returns the status that it ends with.
 ///
 /// - 0: the answer stands on `output`, or the usage text where that was asked for.
-/// - 1: an allocation, a read of `input` or a write failed, or the file isn't there, isn't read or has tables that fail
-///   a condition. `errors` says which, and of the file where.
+/// - 1: neighbours are out of order, and their counts stand on `output`. Or an allocation, a read of `input` or a write
+///   failed, or the file isn't there, isn't read or has tables that fail a condition. `errors` says which, and of the
+///   file where.
 /// - 2: the words are no command. `errors` says what commands there are.
 ///
 /// A failed write to `errors` changes no status.
@@ -59,8 +61,10 @@ pub(crate) fn run<R: Files + AllocGlobal, I: Read + Drop, W: Write, E: Write>(
         Some(Asked::Help) => status_of(print(USAGE, output), errors),
         Some(Asked::Over(request)) => match neighbours_asked(request.words) {
             Some(strength) => {
-                let printed = print_neighbours(rt, request, strength, input, output);
-                status_of(printed, errors)
+                match print_neighbours(rt, request, strength, input, output) {
+                    Ok(counts) => status_of_counts(counts),
+                    Err(error) => report(error, wording(), errors),
+                }
             }
             None => run_command(rt, request, &mut input, output, errors),
         },
@@ -129,14 +133,23 @@ fn print_neighbours<R: Files + AllocGlobal, I: Read + Drop, W: Write>(
     strength: Strength,
     input: I,
     output: &mut W,
-) -> Result<(), ProgramError> {
+) -> Result<Counts, ProgramError> {
     let source = FileSource {
         rt,
         file: request.file,
         chosen: request.chosen,
     };
     let collator = source.collator(rt.alloc(), strength)?;
-    print_counts(neighbours(rt.alloc(), &collator, input)?, output)
+    let counts = neighbours(rt.alloc(), &collator, input)?;
+    print_counts(counts, output)?;
+    Ok(counts)
+}
+
+/// The status after counts were printed: 0 exactly where no pair was out of order.
+fn status_of_counts(counts: Counts) -> u8
+    ensures { result ≡ (if are_in_order counts then 0 else 1) }
+{
+    if counts.are_in_order() { 0 } else { 1 }
 }
 
 /// Writes what was seen of lines to the output, and flushes it.

@@ -1,1 +1,4 @@
 pub mod HexDigitLemmas
+pub mod SurroundingLemmas
+pub mod AddedContextLemmas
+pub mod PrefixLemmas

@@ -3,4 +3,7 @@ pub mod LineParts
 pub mod Ranges
 pub mod Errors
 pub mod Roots
+pub mod Given
+pub mod LineElements
+pub mod CharacterEntries
 pub mod inner

@@ -1,6 +1,7 @@
 //! The tables of what the lines said.
-ghost use Rattle.std.specs.Prelude.{◌≡◌, IfOk, IfErr};
-ghost use Rattle.icu_provider.specs.OwnedTables.{owned_tables, owned_special};
+ghost use Rattle.std.specs.Prelude.{◌≡◌, ℕ, ◌+◌, ◌<◌, slice_index, IfOk, IfErr};
+ghost use Rattle.icu_provider.specs.OwnedTables.{owned_tables, owned_jamo, owned_special};
+ghost use Rattle.icu_cldr.specs.CharacterEntries.{entry_of_char};
 ghost use Rattle.icu_cldr.specs.Errors.{IsNumbered};
 ghost use Rattle.icu_cldr.specs.Roots.{IsRoot};
 
@@ -13,23 +14,47 @@ use icu_options::MaxVariable;
 use icu_provider::jamo::{JAMO_BASE, JAMO_COUNT};
 use icu_provider::{CollationMetadata, MetadataFields, OwnedDiacritics, OwnedJamo, OwnedTables};
 use icu_table_builder::{DataBuilder, OwnedData};
-use std::alloc::Global;
+use std::alloc::{AllocError, Global};
 use std::collections::BTreeMap;
 
-/// The entries of the conjoining jamo.
-fn jamo(alloc: Global, entries: &BTreeMap<char, CollationElement32>) -> Result<OwnedJamo, ReadError>
-    ensures { IfErr result IsNumbered }
+/// The entry of a character, which is implicit where no line maps the character.
+fn entry_of_char(entries: &BTreeMap<char, CollationElement32>, c: char) -> CollationElement32
+    ensures { result ≡ entry_of_char entries.now c }
 {
-    let implicit = CollationElement32::implicit();
+    entries
+        .get(&c)
+        .copied()
+        .unwrap_or(CollationElement32::implicit())
+}
+
+/// The entries of the conjoining jamo.
+fn jamo_entries(
+    alloc: Global,
+    entries: &BTreeMap<char, CollationElement32>,
+) -> Result<Vec<u32>, AllocError>
+    ensures { IfOk result (λ v. (k : ℕ) → k < 256
+        → slice_index v.items k ≡ entry_of_char entries.now (0x1100 + k)) }
+{
     let mut jamo = Vec::new(alloc);
     for code in JAMO_BASE..JAMO_BASE + JAMO_COUNT as u32 {
         let entry = match char::from_u32(code) {
-            Some(c) => entries.get(&c).copied().unwrap_or(implicit),
-            None => implicit,
+            Some(c) => entry_of_char(entries, c),
+            None => CollationElement32::implicit(),
         };
         jamo.push(entry.bits())?;
     }
-    named(DataTable::Jamo, OwnedJamo::new(jamo))
+    Ok(jamo)
+}
+
+/// The table of the conjoining jamo.
+fn jamo(alloc: Global, entries: &BTreeMap<char, CollationElement32>) -> Result<OwnedJamo, ReadError>
+    ensures says { IfOk result (λ o. (k : ℕ) → k < 256
+        → slice_index (owned_jamo o) k ≡ entry_of_char entries.now (0x1100 + k)) }
+    ensures numbered { IfErr result IsNumbered }
+{
+    let jamo = jamo_entries(alloc, entries)?;
+    let jamo = named(DataTable::Jamo, OwnedJamo::new(jamo))?;
+    Ok(jamo)
 }
 
 /// The secondary weights of diacritics.
@@ -48,10 +73,7 @@ fn resolve_contexts(
     contexts: &BTreeMap<char, Contexts>,
 ) -> Result<(), UnnumberedError> {
     for (c, contexts) in contexts.iter() {
-        let own = entries
-            .get(c)
-            .copied()
-            .unwrap_or(CollationElement32::implicit());
+        let own = entry_of_char(entries, *c);
         let entry = entry_in_contexts(alloc, builder, own, contexts)?;
         entries.insert(*c, entry)?;
     }

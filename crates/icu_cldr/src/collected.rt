@@ -1,8 +1,16 @@
 //! What the lines said so far.
-ghost use Rattle.std.specs.Prelude.{◌≡◌, ◌+◌, ◌<◌, ◌≤◌, IfSome, IfOk, length};
+ghost use Rattle.std.specs.Prelude.{◌≡◌, ◌+◌, ◌<◌, ◌≤◌, IfSome, IfOk, OnOk, length, reverse};
+ghost use Rattle.std.specs.List.{flat_map};
+ghost use Rattle.icu_entries.specs.Entries.{self_contained};
+ghost use Rattle.icu_table_builder.specs.Building.{built_data};
+ghost use Rattle.icu_cldr.specs.Given.{Spells, SpellsByEntries, SpellsByElements};
+ghost use Rattle.icu_cldr.specs.LineElements.{respelt};
 ghost use Rattle.icu_cldr.specs.inner.Diacritics.{SaysOfMark};
+ghost use Rattle.icu_cldr.specs.inner.Surroundings.{Extends, HasEntryBetween};
+ghost use Rattle.std.specs.BTreeMap.{get};
+ghost use Rattle.std.specs.Ordering.{nat_cmp};
 
-use crate::contexts::{Contexts, Surroundings};
+use crate::contexts::{Contexts, put_between};
 use crate::error::{LineErrorKind, UnnumberedError};
 use crate::ideograph_weights::{IdeographWeights, STEP, WeightedRange, char_count};
 use crate::special::Special;
@@ -39,7 +47,9 @@ pub(crate) struct Collected {
 
 /// Weights with lead byte EF stand behind all others, and are spelt with FF, since implicit weights have FE here. The
 /// first weight behind those of assigned characters, E4, is the implicit weight before that of U+0000.
-fn respelt(primary: u32) -> u32 {
+fn respelt(primary: u32) -> u32
+    ensures { result ≡ respelt primary }
+{
     if primary == 0xE400_0000 {
         0xFE04_0202
     } else if primary >> 24 == 0xEF {
@@ -204,7 +214,11 @@ impl Collected {
     fn add_elements(
         &mut self,
         elements: &[CollationElement],
-    ) -> Result<CollationElement32, UnnumberedError> {
+    ) -> Result<CollationElement32, UnnumberedError>
+        ensures extends { OnOk result
+            (Extends (built_data self.old.builder) (built_data self.new.builder)) }
+        ensures spells { IfOk result (λ e. Spells (built_data self.new.builder) e elements.now) }
+    {
         if elements.len() > LIST_LENGTH_MAX {
             return Err(UnnumberedError::Refused(LineErrorKind::FewerElements));
         }
@@ -227,6 +241,10 @@ impl Collected {
         entries: &[CollationElement32],
     ) -> Result<CollationElement32, UnnumberedError>
         requires { length entries.now ≤ 31 }
+        ensures extends { OnOk result
+            (Extends (built_data self.old.builder) (built_data self.new.builder)) }
+        ensures spells { IfOk result (λ e. SpellsByEntries (built_data self.new.builder) e
+            (flat_map self_contained entries.now)) }
     {
         let index = self.builder.add_entries(entries)?;
         if index >= INDEX_COUNT {
@@ -241,6 +259,10 @@ impl Collected {
         elements: &[CollationElement],
     ) -> Result<CollationElement32, UnnumberedError>
         requires { length elements.now ≤ 31 }
+        ensures extends { OnOk result
+            (Extends (built_data self.old.builder) (built_data self.new.builder)) }
+        ensures spells { IfOk result (λ e.
+            SpellsByElements (built_data self.new.builder) e elements.now) }
     {
         let index = self.builder.add_elements(elements)?;
         if index >= INDEX_COUNT {
@@ -279,15 +301,16 @@ impl Collected {
         prefix: Vec<char>,
         suffix: Vec<char>,
         entry: CollationElement32,
-    ) -> Result<Option<CollationElement32>, UnnumberedError> {
+    ) -> Result<Option<CollationElement32>, UnnumberedError>
+        ensures { OnOk result (HasEntryBetween (get nat_cmp self.new.contexts first)
+            (reverse prefix.items) suffix.items entry) }
+    {
         let mut before = prefix;
         before.reverse();
-        let surroundings = Surroundings {
-            before,
-            after: suffix,
-        };
         let alloc = self.alloc;
-        let contexts = self.contexts.entry(first)?.or_insert(BTreeMap::new(alloc));
-        Ok(contexts.insert(surroundings, entry)?)
+        let mut contexts = self.contexts.remove(&first).unwrap_or(BTreeMap::new(alloc));
+        let had = put_between(alloc, &mut contexts, before, suffix, entry)?;
+        self.contexts.insert(first, contexts)?;
+        Ok(had)
     }
 }

@@ -1,5 +1,10 @@
 //! Mappings that depend on the characters around.
-ghost use Rattle.std.specs.Prelude.{◌<◌, ◌^◌, IfOk, IfSome};
+ghost use Rattle.std.specs.Prelude.{◌≡◌, ◌<◌, ◌^◌, [], ℕ, List, Some, IfOk, IfSome, OnOk, map, unwrap_or};
+ghost use Rattle.std.specs.Option.{option_or};
+ghost use Rattle.icu_table_builder.specs.AddedContexts.{given_mapping};
+ghost use Rattle.icu_table_builder.specs.Building.{built_data};
+ghost use Rattle.icu_cldr.specs.Given.{Gives};
+ghost use Rattle.icu_cldr.specs.inner.Surroundings.{entry_at, entry_between, nearest, own_entry, mappings_by, AddsContext, Extends, IsBehind, LeadsNearest};
 
 use crate::error::{LineErrorKind, UnnumberedError};
 use icu_entries::{CollationElement32, INDEX_COUNT};
@@ -7,32 +12,126 @@ use icu_table_builder::DataBuilder;
 use std::alloc::{AllocError, Global};
 use std::collections::BTreeMap;
 
-/// What stands around a character: the characters before it, the nearest first, and those after it.
-#[derive(Debug, PartialEq, Eq, PartialOrd, Ord, Drop)]
-pub(crate) struct Surroundings {
-    pub(crate) before: Vec<char>,
-    pub(crate) after: Vec<char>,
+/// The entries of a character by the characters after it.
+pub(crate) type Suffixes = BTreeMap<Vec<char>, CollationElement32>;
+
+/// The entries of a character by the characters before it, the nearest first, and by those after it.
+pub(crate) type Contexts = BTreeMap<Vec<char>, Suffixes>;
+
+/// Takes in the entry behind just these characters, the nearest first, and before just those, and returns the one that
+/// stood there.
+pub(crate) fn put_between(
+    alloc: Global,
+    contexts: &mut Contexts,
+    before: Vec<char>,
+    after: Vec<char>,
+    entry: CollationElement32,
+) -> Result<Option<CollationElement32>, UnnumberedError>
+    ensures { OnOk result (entry_between contexts.new before.items after.items ≡ Some entry) }
+{
+    let mut suffixes = contexts
+        .remove(before.as_slice())
+        .unwrap_or(BTreeMap::new(alloc));
+    let had = suffixes.insert(after, entry)?;
+    contexts.insert(before, suffixes)?;
+    Ok(had)
 }
 
-/// The entries of a character by what stands around it. Equal beginnings follow one another, the shorter first.
-pub(crate) type Contexts = BTreeMap<Surroundings, CollationElement32>;
+/// Takes in entries, in the place of those that stand at the same characters.
+fn add_all(alloc: Global, suffixes: &mut Suffixes, more: &Suffixes) -> Result<(), UnnumberedError>
+    ensures { OnOk result ((chars : List ℕ) → entry_at suffixes.new chars
+        ≡ option_or (entry_at more.now chars) (entry_at suffixes.old chars)) }
+{
+    for (chars, entry) in more.iter() {
+        suffixes.insert(Vec::from_slice(alloc, chars.as_slice())?, *entry)?;
+    }
+    Ok(())
+}
 
-/// The index of a context with these mappings, or nothing where there are none.
+/// Takes in the entries behind just these characters.
+fn add_behind(
+    alloc: Global,
+    entries: &mut Suffixes,
+    contexts: &Contexts,
+    before: &[char],
+) -> Result<(), UnnumberedError>
+    ensures { OnOk result ((after : List ℕ) → entry_at entries.new after
+        ≡ option_or (entry_between contexts.now before.now after) (entry_at entries.old after)) }
+{
+    match contexts.get(before) {
+        Some(more) => {
+            add_all(alloc, entries, more)?;
+            Ok(())
+        }
+        None => Ok(()),
+    }
+}
+
+/// The entry that a character has by itself, before nothing.
+#[tactic(auto, unfolding(crate::specs::inner::Surroundings::value_among))]
+fn own_alone(alloc: Global, own: CollationElement32) -> Result<Suffixes, UnnumberedError>
+    ensures { IfOk result (λ entries. (after : List ℕ) → entry_at entries after
+        ≡ own_entry own after) }
+{
+    let mut entries = BTreeMap::new(alloc);
+    entries.insert(Vec::new(alloc), own)?;
+    Ok(entries)
+}
+
+/// The entries of a character behind these characters, the nearest first: by what stands after it, where a mapping with
+/// a longer prefix counts before one with a shorter.
+fn entries_behind(
+    alloc: Global,
+    own: CollationElement32,
+    contexts: &Contexts,
+    before: &[char],
+) -> Result<Suffixes, UnnumberedError>
+    ensures { IfOk result (λ entries. (after : List ℕ) → entry_at entries after
+        ≡ nearest contexts.now own before.now after) }
+{
+    let mut entries = own_alone(alloc, own)?;
+    add_behind(alloc, &mut entries, contexts, &before[..0])?;
+    for index in 0..before.len() {
+        add_behind(alloc, &mut entries, contexts, &before[..index + 1])?;
+    }
+    Ok(entries)
+}
+
+/// The mappings of a context in which characters have these entries.
+fn mappings_by<'a>(
+    alloc: Global,
+    entries: &'a Suffixes,
+) -> Result<Vec<(&'a [char], CollationElement32)>, AllocError>
+    ensures { IfOk result (λ list. map given_mapping list.items
+        ≡ mappings_by entries.now.entries) }
+{
+    let mut list = Vec::new(alloc);
+    for (chars, entry) in entries.iter() {
+        if !chars.is_empty() {
+            list.extend_from_slice(&[(chars.as_slice(), *entry)])?;
+        }
+    }
+    Ok(list)
+}
+
+/// The index of a context in which characters have these entries, or nothing where only no characters have one.
+#[tactic(auto, unfolding(icu_table_builder::specs::Building::built_data))]
 fn add_context(
     alloc: Global,
     builder: &mut DataBuilder,
     default: CollationElement32,
-    mappings: &BTreeMap<Vec<char>, CollationElement32>,
+    entries: &Suffixes,
 ) -> Result<Option<usize>, UnnumberedError>
-    ensures { IfOk result (λ added. IfSome added (λ index. index < 2 ^ 19)) }
+    requires { entry_at entries.now [] ≡ Some default }
+    ensures bound { IfOk result (λ added. IfSome added (λ index. index < 2 ^ 19)) }
+    ensures extends { OnOk result (Extends (built_data builder.old) (built_data builder.new)) }
+    ensures adds { IfOk result (AddsContext
+        (built_data builder.old) (built_data builder.new) entries.now) }
 {
-    if mappings.is_empty() {
+    let list = mappings_by(alloc, entries)?;
+    if list.is_empty() {
         return Ok(None);
     }
-    let list: Vec<(&[char], CollationElement32)> = mappings
-        .iter()
-        .map(|(chars, entry)| (chars.as_slice(), *entry))
-        .collect(alloc)?;
     let index = builder.add_context(default, list.as_slice())?;
     if index >= INDEX_COUNT {
         return Err(UnnumberedError::Refused(LineErrorKind::FullTables));
@@ -40,28 +139,29 @@ fn add_context(
     Ok(Some(index))
 }
 
-/// The entry of a character behind these characters, the nearest first: by what stands after it, where a mapping with a
-/// longer prefix counts before one with a shorter.
+/// The entry at no characters, or this one where none stands there.
+fn entry_alone(entries: &Suffixes, otherwise: CollationElement32) -> CollationElement32
+    ensures { result ≡ unwrap_or (entry_at entries.now []) otherwise }
+{
+    let none: &[char] = &[];
+    entries.get(none).copied().unwrap_or(otherwise)
+}
+
+/// The entry of a character behind these characters, the nearest first.
 fn contraction(
     alloc: Global,
     builder: &mut DataBuilder,
     own: CollationElement32,
     contexts: &Contexts,
     before: &[char],
-) -> Result<CollationElement32, UnnumberedError> {
-    let mut default = own;
-    let mut mappings: BTreeMap<Vec<char>, CollationElement32> = BTreeMap::new(alloc);
-    for (surroundings, entry) in contexts.iter() {
-        if !before.starts_with(surroundings.before.as_slice()) {
-            continue;
-        }
-        if surroundings.after.is_empty() {
-            default = *entry;
-        } else {
-            mappings.insert(surroundings.after.clone()?, *entry)?;
-        }
-    }
-    match add_context(alloc, builder, default, &mappings)? {
+) -> Result<CollationElement32, UnnumberedError>
+    ensures extends { OnOk result (Extends (built_data builder.old) (built_data builder.new)) }
+    ensures gives { IfOk result
+        (LeadsNearest contexts.now own (built_data builder.new) before.now) }
+{
+    let entries = entries_behind(alloc, own, contexts, before)?;
+    let default = entry_alone(&entries, own);
+    match add_context(alloc, builder, default, &entries)? {
         Some(index) => Ok(CollationElement32::contraction(index)),
         None => Ok(default),
     }
@@ -73,17 +173,21 @@ pub(crate) fn entry_in_contexts(
     builder: &mut DataBuilder,
     own: CollationElement32,
     contexts: &Contexts,
-) -> Result<CollationElement32, UnnumberedError> {
-    let mut mappings: BTreeMap<Vec<char>, CollationElement32> = BTreeMap::new(alloc);
-    for surroundings in contexts.keys() {
-        let before = surroundings.before.as_slice();
-        if !before.is_empty() && !mappings.contains_key(before) {
-            let entry = contraction(alloc, builder, own, contexts, before)?;
-            mappings.insert(surroundings.before.clone()?, entry)?;
+) -> Result<CollationElement32, UnnumberedError>
+    ensures extends { OnOk result (Extends (built_data builder.old) (built_data builder.new)) }
+    ensures gives { IfOk result (λ e. (before after : List ℕ) (f : ℕ)
+        → IsBehind contexts.now before → nearest contexts.now own before after ≡ Some f
+        → Gives (built_data builder.new) e before after f) }
+{
+    let default = contraction(alloc, builder, own, contexts, &[])?;
+    let mut entries = own_alone(alloc, default)?;
+    for before in contexts.keys() {
+        if !before.is_empty() {
+            let entry = contraction(alloc, builder, own, contexts, before.as_slice())?;
+            entries.insert(Vec::from_slice(alloc, before.as_slice())?, entry)?;
         }
     }
-    let default = contraction(alloc, builder, own, contexts, &[])?;
-    match add_context(alloc, builder, default, &mappings)? {
+    match add_context(alloc, builder, default, &entries)? {
         Some(index) => Ok(CollationElement32::prefix(index)),
         None => Ok(default),
     }

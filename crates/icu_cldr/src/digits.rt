@@ -1,4 +1,9 @@
 //! The digits that make numbers: characters with General_Category Nd.
+ghost use Rattle.std.specs.Prelude.{◌%◌, IfOk, OnOk};
+ghost use Rattle.icu_table_builder.specs.Building.{built_data};
+ghost use Rattle.icu_cldr.specs.CharacterEntries.{IsDigitEntry};
+ghost use Rattle.icu_cldr.specs.inner.Surroundings.{Extends};
+
 use crate::error::{LineErrorKind, UnnumberedError};
 use icu_entries::{CollationElement32, INDEX_COUNT};
 use icu_table_builder::DataBuilder;
@@ -11,7 +16,10 @@ fn entry_of_digit(
     builder: &mut DataBuilder,
     value: u32,
     plain: CollationElement32,
-) -> Result<CollationElement32, UnnumberedError> {
+) -> Result<CollationElement32, UnnumberedError>
+    ensures extends { OnOk result (Extends (built_data builder.old) (built_data builder.new)) }
+    ensures digit { IfOk result (IsDigitEntry (built_data builder.new) (value % 10) plain) }
+{
     let index = builder.add_entries(&[plain])?;
     if index >= INDEX_COUNT {
         return Err(UnnumberedError::Refused(LineErrorKind::FullTables));
