@@ -1,9 +1,9 @@
 -- Marks in canonical order, class by class.
-use Rattle.std.proofs.Common.{◌≡◌, ◌≤◌, ◌<◌, ◌+◌, ◌==◌, ◌⊎◌, ℕ, zero, suc, Bool, true, false, List, [], ◌∷◌, ◌++◌, refl, sym, ap, subst, ◌∙◌, arith, inl, inr, append_assoc, append-nil}
+use Rattle.std.proofs.Common.{◌≡◌, ◌≤◌, ◌<◌, ◌==◌, ℕ, zero, suc, true, false, List, [], ◌∷◌, ◌++◌, refl, sym, ap, subst, ◌∙◌, arith, inl, inr, append-nil}
 use Rattle.std.proofs.lemmas.Bool.{cases_Bool, cond-true, cond-false}
 use Rattle.std.proofs.lemmas.Bool.Decides.{nat_tests}
 use Rattle.ucd_normal.specs.CanonicalCombiningClass.{canonical_combining_class as class_of}
-use Rattle.unicode_normalization.specs.Order.{is_reorderable, sink, canonical_order}
+use Rattle.unicode_normalization.specs.Order.{is_reorderable, sink}
 use Rattle.unicode_normalization.proofs.OrderLemmas.{is_reorderable_from, not_reorderable_rising, sink-past, sink-stays, sink-nil, canonical_order-cons, canonical_order-nil}
 use Rattle.icu_decomposed_text.specs.MarkClasses.{of_class, by_classes, AreMarks, MarksGoByClasses}
 

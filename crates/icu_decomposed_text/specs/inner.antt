@@ -1,4 +1,7 @@
 -- Words that only private contracts and proofs use.
 pub mod CharParts
-pub mod Parts
 pub mod FrontMarks
+pub mod MarksLeft
+pub mod OrderedParts
+pub mod Parts
+pub mod Passes
