@@ -1,5 +1,5 @@
 -- What a match leaves of each class.
-use Rattle.std.proofs.Common.{◌≡◌, ◌≤◌, ◌<◌, ◌+◌, ◌==◌, ◌⊎◌, ◌||◌, ℕ, zero, suc, Bool, true, false, List, [], ◌∷◌, ◌++◌, drop, Option, Some, None, refl, sym, ap, subst, ◌∙◌, arith, inl, inr, append_assoc, append-nil, cond, nat_le}
+use Rattle.std.proofs.Common.{◌≡◌, ◌==◌, ◌⊎◌, ◌||◌, ℕ, suc, Bool, true, false, List, [], ◌∷◌, ◌++◌, drop, Option, Some, None, refl, sym, ap, subst, ◌∙◌, arith, inl, inr, append_assoc, append-nil, nat_le}
 use Rattle.std.proofs.lemmas.Bool.{cases_Bool, cond-true, cond-false}
 use Rattle.std.proofs.lemmas.Bool.Decides.{nat_tests}
 use Rattle.std.specs.List.{filter, list_any}
@@ -8,7 +8,7 @@ use Rattle.unicode_normalization.specs.Order.{is_starter}
 use Rattle.icu_collation_data.specs.Data.{Mapping, mapping_entry}
 use Rattle.icu_matches.specs.Matches.{Match, with_marks, is_blocked}
 use Rattle.icu_decomposed_text.specs.MarkClasses.{of_class}
-use Rattle.icu_match_laws.specs.MatchEnds.{IsEndOf, MatchesLeaveEnds}
+use Rattle.icu_match_laws.specs.MatchEnds.{MatchesLeaveEnds}
 
 -- What is left of a class: those that were passed over, and an end of those to come, where none was passed over the whole.
 pub record Left (k : ℕ) (passed text rest : List ℕ) : Type 0 where
@@ -36,13 +36,13 @@ at_none : (mappings : List Mapping) (entry : ℕ) (suffix passed : List ℕ) (m 
 unfolding with_marks
 at_none mappings entry suffix passed m ms h b none =
     cond-false _ _ _ h ∙ cond-false _ _ _ b
-    ∙ ap (λ o. elim o as (λ _. Match) [ | Some joined ↦ with_marks mappings joined (suffix ++ m ∷ []) passed ms | None ↦ with_marks mappings entry suffix (passed ++ m ∷ []) ms ]) none
+    ∙ ap (λ o. elim o as (λ _. Match) [ Some joined ↦ with_marks mappings joined (suffix ++ m ∷ []) passed ms | None ↦ with_marks mappings entry suffix (passed ++ m ∷ []) ms ]) none
 
 at_joined : (mappings : List Mapping) (entry : ℕ) (suffix passed : List ℕ) (m : ℕ) (ms : List ℕ) (e : ℕ) → is_starter m ≡ false → is_blocked passed m ≡ false → mapping_entry mappings (suffix ++ m ∷ []) ≡ Some e → with_marks mappings entry suffix passed (m ∷ ms) ≡ with_marks mappings e (suffix ++ m ∷ []) passed ms
 unfolding with_marks
 at_joined mappings entry suffix passed m ms e h b some =
     cond-false _ _ _ h ∙ cond-false _ _ _ b
-    ∙ ap (λ o. elim o as (λ _. Match) [ | Some joined ↦ with_marks mappings joined (suffix ++ m ∷ []) passed ms | None ↦ with_marks mappings entry suffix (passed ++ m ∷ []) ms ]) some
+    ∙ ap (λ o. elim o as (λ _. Match) [ Some joined ↦ with_marks mappings joined (suffix ++ m ∷ []) passed ms | None ↦ with_marks mappings entry suffix (passed ++ m ∷ []) ms ]) some
 
 filter-append : (p : ℕ → Bool) (xs ys : List ℕ) → filter p (xs ++ ys) ≡ filter p xs ++ filter p ys
 filter-append p [] ys = refl
@@ -80,15 +80,15 @@ more_passed k passed m ms rest h =
           record {
             count = 0;
             is = h.is ∙ ap (λ n. of_class k (passed ++ m ∷ []) ++ drop n (of_class k ms)) none ∙ ap (λ l. l ++ of_class k ms) held
-              ∙ append_assoc (of_class k passed) (m ∷ []) (of_class k ms) ∙ ap (λ l. of_class k passed ++ l) (sym (cond-true _ _ _ same));
-            whole = inl refl
+                ∙ append_assoc (of_class k passed) (m ∷ []) (of_class k ms) ∙ ap (λ l. of_class k passed ++ l) (sym (cond-true _ _ _ same));
+            whole = inl refl;
           }
       | inr other ↦
           let held = filter-append (λ c. class_of c == k) passed (m ∷ []) ∙ ap (λ l. of_class k passed ++ l) (cond-false _ _ _ other) ∙ append-nil _ in
           record {
             count = h.count;
             is = h.is ∙ ap (λ l. l ++ drop h.count (of_class k ms)) held ∙ ap (λ l. of_class k passed ++ drop h.count l) (sym (cond-false _ _ _ other));
-            whole = elim h.whole [ inl e ↦ inl e | inr e ↦ inr (sym held ∙ e) ]
+            whole = elim h.whole [ inl e ↦ inl e | inr e ↦ inr (sym held ∙ e) ];
           }
     ]
 
@@ -108,18 +108,18 @@ leaves mappings entry suffix passed (m ∷ ms) k =
     elim (cases_Bool (is_starter m)) [
       | inl starter ↦ record { count = 0; is = ap (of_class k) (at_starter mappings entry suffix passed m ms starter) ∙ filter-append _ passed (m ∷ ms); whole = inl refl }
       | inr mark ↦ elim (cases_Bool (is_blocked passed m)) [
-          | inl blocked ↦
-              subst (λ (x : Match). Left k passed (m ∷ ms) x.rest) (sym (at_blocked mappings entry suffix passed m ms mark blocked))
-                (more_passed k passed m ms _ (leaves mappings entry suffix (passed ++ m ∷ []) ms k))
-          | inr free ↦ elim (cases_entry (mapping_entry mappings (suffix ++ m ∷ []))) [
-              | inl none ↦
-                  subst (λ (x : Match). Left k passed (m ∷ ms) x.rest) (sym (at_none mappings entry suffix passed m ms mark free none))
-                    (more_passed k passed m ms _ (leaves mappings entry suffix (passed ++ m ∷ []) ms k))
-              | inr some ↦
-                  subst (λ (x : Match). Left k passed (m ∷ ms) x.rest) (sym (at_joined mappings entry suffix passed m ms some.0 mark free some.1))
-                    (more_joined k passed m ms _ free (leaves mappings some.0 (suffix ++ m ∷ []) passed ms k))
-            ]
+        | inl blocked ↦
+            subst (λ (x : Match). Left k passed (m ∷ ms) x.rest) (sym (at_blocked mappings entry suffix passed m ms mark blocked))
+            (more_passed k passed m ms _ (leaves mappings entry suffix (passed ++ m ∷ []) ms k))
+        | inr free ↦ elim (cases_entry (mapping_entry mappings (suffix ++ m ∷ []))) [
+          | inl none ↦
+              subst (λ (x : Match). Left k passed (m ∷ ms) x.rest) (sym (at_none mappings entry suffix passed m ms mark free none))
+              (more_passed k passed m ms _ (leaves mappings entry suffix (passed ++ m ∷ []) ms k))
+          | inr some ↦
+              subst (λ (x : Match). Left k passed (m ∷ ms) x.rest) (sym (at_joined mappings entry suffix passed m ms some.0 mark free some.1))
+              (more_joined k passed m ms _ free (leaves mappings some.0 (suffix ++ m ∷ []) passed ms k))
         ]
+      ]
     ]
 
 pub leaves_ends : MatchesLeaveEnds
