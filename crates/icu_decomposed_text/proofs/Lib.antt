@@ -1,0 +1,3 @@
+pub mod ClassOrderLemmas
+pub mod FrontMarkLemmas
+pub mod PassLemmas

@@ -1,0 +1,2 @@
+pub mod MarkClasses
+pub mod inner

@@ -1,0 +1,12 @@
+//! Laws of matches, over the definitions of `icu_matches`. Each is the contract of a function that takes no value and
+//! makes no call.
+#![tactic(auto)]
+
+ghost use Rattle.icu_match_laws.specs.MatchEnds.{MatchesLeaveEnds};
+
+/// Of the marks of each combining class a match takes those that come first: a mark of a class of which one was passed
+/// over is blocked (UTS #10, "Produce Collation Element Arrays"). So what a match leaves of a run of marks is told by a
+/// count for each class, whatever the mappings.
+pub fn matches_leave_ends()
+    ensures { MatchesLeaveEnds }
+{}
