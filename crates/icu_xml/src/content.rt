@@ -1,0 +1,130 @@
+//! The pieces of an element's content.
+ghost use Rattle.std.specs.Prelude.{◌≡◌, ◌≢◌, ℕ, ◌+◌, ◌<◌, ◌≤◌, ◌⊎◌, ◌++◌, ◌∷◌, [], List, length, IfOk, IfErr, codes, string_bytes};
+ghost use Rattle.icu_xml.specs.SpelledParts.{Begins};
+ghost use Rattle.icu_xml.specs.XmlMarkup.{IsComment, IsEnd, IsText, IsCdata, IsPiece, IsTag};
+ghost use Rattle.icu_xml.specs.XmlErrors.{IsWithin};
+
+use crate::attributes::{name, read_tag};
+use crate::event::Tag;
+use crate::references::value_of;
+use crate::spans::{behind, cut_around, cut_before, run, Class};
+use crate::xml_error::{refused, Fault, Reason};
+use std::alloc::Global;
+
+/// A piece of an element's content.
+#[derive(Debug, Drop)]
+pub(crate) enum Piece<'t> {
+    /// The start of an element.
+    Opening(Tag<'t>),
+    /// An element with nothing in it.
+    Empty(Tag<'t>),
+    /// The end of an element.
+    Closing(&'t str),
+    /// A text, or a CDATA section.
+    Characters(String),
+    /// A comment.
+    Comment,
+}
+
+/// The rest behind a comment, of a text that begins behind its `<!--`.
+pub(crate) fn read_comment(text: &str) -> Result<&str, Fault>
+    ensures comment { IfOk result (λ rest. Begins IsComment (codes "<!--" ++ text.now) rest.now) }
+    ensures shorter { IfOk result (λ rest. length rest.now < length text.now) }
+    ensures place { IfErr result (IsWithin (length text.now)) }
+{
+    let Some((_body, rest)) = cut_around(text, "--") else {
+        return Err(refused(text, Reason::CutOff));
+    };
+    let Some(rest) = behind(rest, ">") else {
+        return Err(refused(rest, Reason::Comment));
+    };
+    Ok(rest)
+}
+
+/// A section, of a text that begins behind its `<![CDATA[`, and the rest.
+fn section<'t>(alloc: Global, text: &'t str) -> Result<(Piece<'t>, &'t str), Fault>
+    ensures piece { IfOk result (λ parts. Begins (λ part. IsPiece part parts.0) (codes "<![CDATA[" ++ text.now) parts.1.now) }
+    ensures shorter { IfOk result (λ parts. length parts.1.now < length text.now) }
+    ensures place { IfErr result (IsWithin (length text.now)) }
+{
+    let Some((value, rest)) = cut_around(text, "]]>") else {
+        return Err(refused(text, Reason::CutOff));
+    };
+    let value = String::from_str(alloc, value)?;
+    Ok((Piece::Characters(value), rest))
+}
+
+/// The end of an element, of a text that begins behind its `</`, and the rest.
+fn closing(text: &str) -> Result<(Piece<'_>, &str), Fault>
+    ensures piece { IfOk result (λ parts. Begins (λ part. IsPiece part parts.0) (codes "</" ++ text.now) parts.1.now) }
+    ensures shorter { IfOk result (λ parts. length parts.1.now < length text.now) }
+    ensures place { IfErr result (IsWithin (length text.now)) }
+{
+    let (name, rest) = name(text)?;
+    let (_, rest) = run(rest, Class::Space);
+    let Some(rest) = behind(rest, ">") else {
+        return Err(refused(rest, Reason::TagEnd));
+    };
+    Ok((Piece::Closing(name), rest))
+}
+
+/// The start of an element, or one with nothing in it, of a text that begins behind its `<`, and the rest.
+fn opening<'t>(alloc: Global, text: &'t str) -> Result<(Piece<'t>, &'t str), Fault>
+    ensures piece { IfOk result (λ parts. Begins (λ part. IsPiece part parts.0) (codes "<" ++ text.now) parts.1.now) }
+    ensures shorter { IfOk result (λ parts. length parts.1.now < length text.now) }
+    ensures place { IfErr result (IsWithin (length text.now)) }
+{
+    let (tag, rest) = read_tag(alloc, text)?;
+    if let Some(rest) = behind(rest, "/>") {
+        return Ok((Piece::Empty(tag), rest));
+    }
+    let Some(rest) = behind(rest, ">") else {
+        return Err(refused(rest, Reason::TagEnd));
+    };
+    Ok((Piece::Opening(tag), rest))
+}
+
+/// A text up to the next tag, and the rest.
+fn characters<'t>(alloc: Global, text: &'t str) -> Result<(Piece<'t>, &'t str), Fault>
+    ensures piece { IfOk result (λ parts. Begins (λ part. IsPiece part parts.0) text.now parts.1.now) }
+    ensures shorter { ((rest : List ℕ) → text.now ≢ codes "<" ++ rest)
+        → IfOk result (λ parts. length parts.1.now < length text.now) }
+    ensures place { IfErr result (IsWithin (length text.now)) }
+{
+    let Some((written, rest)) = cut_before(text, "<") else {
+        return Err(refused("", Reason::CutOff));
+    };
+    if let Some((_, _)) = cut_around(written, "]]>") {
+        return Err(refused(text, Reason::SectionEnd));
+    }
+    let value = value_of(alloc, written, rest.len())?;
+    Ok((Piece::Characters(value), rest))
+}
+
+/// The piece that a text begins with, and the rest.
+pub(crate) fn read_piece<'t>(alloc: Global, text: &'t str) -> Result<(Piece<'t>, &'t str), Fault>
+    ensures piece { IfOk result (λ parts. Begins (λ part. IsPiece part parts.0) text.now parts.1.now) }
+    ensures shorter { IfOk result (λ parts. length parts.1.now < length text.now) }
+    ensures place { IfErr result (IsWithin (length text.now)) }
+{
+    if let Some(body) = behind(text, "<!--") {
+        let rest = read_comment(body)?;
+        return Ok((Piece::Comment, rest));
+    }
+    if let Some(body) = behind(text, "<![CDATA[") {
+        return section(alloc, body);
+    }
+    if behind(text, "<?").is_some() {
+        return Err(refused(text, Reason::ProcessingInstruction));
+    }
+    if behind(text, "<!").is_some() {
+        return Err(refused(text, Reason::Markup));
+    }
+    if let Some(body) = behind(text, "</") {
+        return closing(body);
+    }
+    match behind(text, "<") {
+        Some(body) => opening(alloc, body),
+        None => characters(alloc, text),
+    }
+}
