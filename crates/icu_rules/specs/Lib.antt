@@ -1,0 +1,5 @@
+pub mod RuleCharacters
+pub mod RuleStrings
+pub mod Tokens
+pub mod RuleWords
+pub mod Statements

@@ -2,6 +2,7 @@
 //! Tailorings").
 #![tactic(auto)]
 
+mod chain;
 pub mod rules;
 pub mod rules_error;
 pub mod statement;

@@ -1,5 +1,4 @@
 //! What rules say (UTS #35 part 5, "Collation Tailorings").
-ghost use Rattle.std.specs.Prelude.{◌≤◌};
 
 use icu_options::{
     AlternateHandling, CaseLevel, CollationCaseFirst, CollationNumericOrdering, MaxVariable,
@@ -13,7 +12,6 @@ pub struct CharRange {
     pub first: char,
     /// The last, which isn't below the first.
     pub last: char,
-    ghost ascends: { first ≤ last },
 }
 
 /// A position that is named by what stands there in the root, as in `&[last regular]` (UTS #35 part 5, "Logical Reset
