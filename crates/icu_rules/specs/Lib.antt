@@ -3,3 +3,4 @@ pub mod RuleStrings
 pub mod Tokens
 pub mod RuleWords
 pub mod Statements
+pub mod TakenText

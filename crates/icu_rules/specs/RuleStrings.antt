@@ -21,7 +21,7 @@ pub data SpellsEscape : ℕ → List ℕ → Type 0 where
   eight : {c : ℕ} {digits : List ℕ} → length digits ≡ 8 → WritesInHex c digits → SpellsEscape c (85 ∷ digits)
   two : {c : ℕ} {digits : List ℕ} → length digits ≡ 2 → WritesInHex c digits → SpellsEscape c (120 ∷ digits)
   braced : {c : ℕ} (digits : List ℕ) {text : List ℕ} → 1 ≤ length digits → length digits ≤ 8
-    → WritesInHex c digits → text ≡ 120 ∷ 123 ∷ digits ++ 125 ∷ [] → SpellsEscape c text
+      → WritesInHex c digits → text ≡ 120 ∷ 123 ∷ digits ++ 125 ∷ [] → SpellsEscape c text
 
 -- text that doesn't go on with an apostrophe
 abbrev pub IsNoQuote : List ℕ → Type 0
@@ -33,17 +33,17 @@ IsNoQuote (c ∷ text) = c ≢ 39
 pub data SpellsCharacters : Bool → List ℕ → List ℕ → Type 0 where
   ends : SpellsCharacters false [] []
   plain : {c : ℕ} {cs text : List ℕ} → IsTrue (is_plain c)
-    → SpellsCharacters false cs text → SpellsCharacters false (c ∷ cs) (c ∷ text)
+      → SpellsCharacters false cs text → SpellsCharacters false (c ∷ cs) (c ∷ text)
   quoted : {c : ℕ} {cs text : List ℕ} → c ≢ 39 → c ≢ 92
-    → SpellsCharacters true cs text → SpellsCharacters true (c ∷ cs) (c ∷ text)
+      → SpellsCharacters true cs text → SpellsCharacters true (c ∷ cs) (c ∷ text)
   apostrophe : {within : Bool} {cs text : List ℕ}
-    → SpellsCharacters within cs text → SpellsCharacters within (39 ∷ cs) (39 ∷ 39 ∷ text)
+      → SpellsCharacters within cs text → SpellsCharacters within (39 ∷ cs) (39 ∷ 39 ∷ text)
   escaped : {within : Bool} {c : ℕ} (escape : List ℕ) {cs text whole : List ℕ} → SpellsEscape c escape
-    → SpellsCharacters within cs text → whole ≡ 92 ∷ escape ++ text → SpellsCharacters within (c ∷ cs) whole
+      → SpellsCharacters within cs text → whole ≡ 92 ∷ escape ++ text → SpellsCharacters within (c ∷ cs) whole
   opens : {cs text : List ℕ} → IsNoQuote text
-    → SpellsCharacters true cs text → SpellsCharacters false cs (39 ∷ text)
+      → SpellsCharacters true cs text → SpellsCharacters false cs (39 ∷ text)
   closes : {cs text : List ℕ} → IsNoQuote text
-    → SpellsCharacters false cs text → SpellsCharacters true cs (39 ∷ text)
+      → SpellsCharacters false cs text → SpellsCharacters true cs (39 ∷ text)
 
 -- a character in a set: as itself, or by an escape
 abbrev pub SpellsCharacter : ℕ → List ℕ → Type 0

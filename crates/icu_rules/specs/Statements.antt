@@ -18,7 +18,7 @@ use Rattle.icu_rules.specs.declared.statement.RuleSetting.{RuleSetting}
 use Rattle.icu_rules.specs.declared.statement.RuleSetting.TheVariants as settings
 use Rattle.icu_rules.specs.declared.statement.Statement.{Statement}
 use Rattle.icu_rules.specs.declared.statement.Statement.TheVariants as statements
-use Rattle.icu_rules.specs.Tokens.{Token, reset_sign, relation_sign, prefix_sign, extension_sign, range_sign, vowel_sign, string, bracket, set_bracket, SpellsText}
+use Rattle.icu_rules.specs.Tokens.{Token, reset_sign, relation_sign, prefix_sign, extension_sign, range_sign, vowel_sign, string, bracket, set_bracket, SpellsTokens}
 use Rattle.icu_rules.specs.RuleWords.{NamesPosition, level_word, case_level_word, case_first_word, numeric_word, max_variable_word, IsAlternateWord, switch_word}
 
 -- `[before n]` or nothing
@@ -60,7 +60,7 @@ HasContext (c ∷ prefix) s = BeginsWithStarter (c ∷ prefix) × BeginsWithStar
 abbrev pub AreRelation : Relation → List Token → Type 0
 AreRelation r tokens = HasContext r.prefix.items r.string.items
     × (tokens ≡ relation_sign r.strength false
-        ∷ prefix_tokens r.prefix.items ++ string r.string.items ∷ extension_tokens r.extension.items)
+    ∷ prefix_tokens r.prefix.items ++ string r.string.items ∷ extension_tokens r.extension.items)
 
 -- the range of one character
 abbrev pub single : ℕ → CharRange
@@ -184,6 +184,6 @@ AreInOrder chain (statements.Import tag ∷ more) = IsComplete chain × AreInOrd
 -- The statements and the text say the same: the text spells their tokens, and they may stand so.
 pub record SpellStatements (stated : List Statement) (text : List ℕ) : Type 0 where
   pub tokens : List Token
-  pub spelled : SpellsText tokens text
+  pub spelled : SpellsTokens tokens text
   pub each : AreStatements stated tokens
   pub in_order : AreInOrder chains.Outside stated

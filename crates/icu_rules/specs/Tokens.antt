@@ -68,8 +68,8 @@ SpellsWords (word ∷ words) text = (white rest : List ℕ) × IsWhite white × 
 abbrev pub SpellsRange : CharRange → List ℕ → Type 0
 SpellsRange range text = ((range.first ≡ range.last) × SpellsCharacter range.first text)
     ⊎ ((first before after last : List ℕ) × SpellsCharacter range.first first × IsWhite before × IsWhite after
-        × SpellsCharacter range.last last × (range.first ≤ range.last)
-        × (text ≡ first ++ before ++ 45 ∷ after ++ last))
+    × SpellsCharacter range.last last × (range.first ≤ range.last)
+    × (text ≡ first ++ before ++ 45 ∷ after ++ last))
 
 -- the ranges of a set, with white space round them
 abbrev pub SpellsSet : List CharRange → List ℕ → Type 0
@@ -92,12 +92,8 @@ SpellsToken (bracket words) text =
 SpellsToken (set_bracket word set) text = (named inside after : List ℕ) × SpellsWords (word ∷ []) named
     × SpellsSet set inside × IsWhite after × (text ≡ 91 ∷ named ++ 91 ∷ inside ++ 93 ∷ after ++ 93 ∷ [])
 
--- the tokens one after another, with blanks before each
+-- the tokens one after another with blanks before each, and blanks behind the last
 abbrev pub SpellsTokens : List Token → List ℕ → Type 0
-SpellsTokens [] text = text ≡ []
+SpellsTokens [] text = IsTrail text
 SpellsTokens (token ∷ tokens) text = (blank mine rest : List ℕ) × IsBlank blank × SpellsToken token mine
     × SpellsTokens tokens rest × (text ≡ blank ++ mine ++ rest)
-
--- all of a text: tokens, and blanks behind them
-abbrev pub SpellsText : List Token → List ℕ → Type 0
-SpellsText tokens text = (front trail : List ℕ) × SpellsTokens tokens front × IsTrail trail × (text ≡ front ++ trail)
