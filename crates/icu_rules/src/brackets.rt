@@ -1,0 +1,139 @@
+//! Words and sets in brackets.
+ghost use Rattle.std.specs.Prelude.{◌≡◌, ◌+◌, ◌<◌, ◌≤◌, length, IfOk, IfSome};
+
+use crate::blanks::{is_plain, is_word_character, skip_white};
+use crate::escapes::read_escape;
+use crate::first::{behind, split_first};
+use crate::rules_error::RulesErrorKind;
+use crate::statement::CharRange;
+use crate::unplaced_error::UnplacedError;
+use std::alloc::{AllocError, Global};
+
+/// Whether a word is this one.
+pub(crate) fn is_word(word: &[char], name: &[u8]) -> bool {
+    word.len() == name.len()
+        && word
+            .iter()
+            .zip(name)
+            .all(|(c, byte)| *c as u32 == *byte as u32)
+}
+
+/// The word that a text begins with, and what follows it.
+fn split_word(text: &[char]) -> (&[char], &[char])
+    ensures len { length result.0.now + length result.1.now ≡ length text.now }
+{
+    let mut rest = text;
+    while let Some((c, after)) = split_first(rest) {
+        if !is_word_character(c) {
+            break;
+        }
+        rest = after;
+    }
+    text.split_at(text.len() - rest.len())
+}
+
+/// The words that a text begins with, and what follows them and their white space.
+fn read_words(alloc: Global, text: &[char]) -> Result<(Vec<&[char]>, &[char]), AllocError>
+    ensures len { IfOk result (λ r. length r.1.now ≤ length text.now) }
+{
+    let mut words = Vec::new(alloc);
+    let mut rest = skip_white(text);
+    let (mut word, mut after) = split_word(rest);
+    while !word.is_empty() {
+        words.push(word)?;
+        rest = skip_white(after);
+        (word, after) = split_word(rest);
+    }
+    Ok((words, rest))
+}
+
+/// What stands in brackets.
+#[derive(Debug, Drop)]
+pub(crate) enum Bracket<'t> {
+    /// Words.
+    Words(Vec<&'t [char]>),
+    /// A word and a set.
+    Set(&'t [char], Vec<CharRange>),
+}
+
+/// The character of a set that a text begins with, and what follows it.
+fn read_member(text: &[char]) -> Option<(char, &[char])>
+    ensures len { IfSome result (λ r. length r.1.now < length text.now) }
+{
+    let (c, after) = split_first(text)?;
+    if c == '\\' {
+        read_escape(after)
+    } else if is_plain(c) {
+        Some((c, after))
+    } else {
+        None
+    }
+}
+
+/// The range of a set that a text begins with, and what follows it.
+fn read_range(text: &[char]) -> Result<(CharRange, &[char]), RulesErrorKind>
+    ensures len { IfOk result (λ r. length r.1.now < length text.now) }
+{
+    let Some((first, after)) = read_member(text) else {
+        return Err(RulesErrorKind::CharacterSet);
+    };
+    let Some(dashed) = behind(skip_white(after), '-') else {
+        return Ok((CharRange { first, last: first }, after));
+    };
+    let Some((last, after)) = read_member(skip_white(dashed)) else {
+        return Err(RulesErrorKind::RangeWithoutEnd);
+    };
+    if last < first {
+        return Err(RulesErrorKind::DescendingRange);
+    }
+    Ok((CharRange { first, last }, after))
+}
+
+/// The set behind its opening bracket, and what follows its closing one. An error has the place of the opening bracket.
+fn read_set<'t>(
+    alloc: Global,
+    bracket: &[char],
+    inside: &'t [char],
+) -> Result<(Vec<CharRange>, &'t [char]), UnplacedError>
+    ensures len { IfOk result (λ r. length r.1.now ≤ length inside.now) }
+{
+    let mut ranges = Vec::new(alloc);
+    let mut rest = skip_white(inside);
+    while !rest.is_empty() {
+        if let Some(after) = behind(rest, ']') {
+            return Ok((ranges, after));
+        }
+        match read_range(rest) {
+            Ok((range, after)) => {
+                ranges.push(range)?;
+                rest = skip_white(after);
+            }
+            Err(kind) => return Err(UnplacedError::at(bracket, kind)),
+        }
+    }
+    Err(UnplacedError::at(bracket, RulesErrorKind::UnclosedBracket))
+}
+
+/// What stands in the bracket that a text begins with, and what follows it. The text begins with `[`, and `inside` is
+/// what follows that.
+pub(crate) fn read_bracket<'t>(
+    alloc: Global,
+    text: &'t [char],
+    inside: &'t [char],
+) -> Result<(Bracket<'t>, &'t [char]), UnplacedError>
+    ensures len { IfOk result (λ r. length r.1.now ≤ length inside.now) }
+{
+    let (words, rest) = read_words(alloc, inside)?;
+    if let Some(after) = behind(rest, ']') {
+        return Ok((Bracket::Words(words), after));
+    }
+    let (Some(set), [word]) = (behind(rest, '['), words.as_slice()) else {
+        return Err(UnplacedError::at(text, RulesErrorKind::UnclosedBracket));
+    };
+    let word = *word;
+    let (ranges, after) = read_set(alloc, rest, set)?;
+    match behind(skip_white(after), ']') {
+        Some(after) => Ok((Bracket::Set(word, ranges), after)),
+        None => Err(UnplacedError::at(text, RulesErrorKind::UnclosedBracket)),
+    }
+}

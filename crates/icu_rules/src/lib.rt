@@ -1,0 +1,26 @@
+//! The rules of a tailoring, read: statements and their places, and no meaning (UTS #35 part 5, "Collation
+//! Tailorings").
+#![tactic(auto)]
+
+mod blanks;
+mod bracketed;
+mod brackets;
+mod chain;
+mod escapes;
+mod first;
+mod parsing;
+mod relations;
+mod resets;
+pub mod rules;
+pub mod rules_error;
+mod starred;
+pub mod statement;
+mod strings;
+mod unplaced_error;
+mod words;
+
+pub use rules::{PlacedStatement, Rules};
+pub use rules_error::{RulesError, RulesErrorKind};
+pub use statement::{
+    Anchor, CharRange, LogicalPosition, Relation, Reset, RuleSetting, StarredRelation, Statement,
+};

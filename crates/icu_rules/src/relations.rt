@@ -1,0 +1,139 @@
+//! Relations of strings.
+ghost use Rattle.std.specs.Prelude.{◌<◌, ◌≤◌, length, IfOk, IfSome};
+
+use crate::blanks::skip_blanks;
+use crate::first::{behind, split_first};
+use crate::rules_error::RulesErrorKind;
+use crate::statement::Relation;
+use crate::strings::read_string;
+use crate::unplaced_error::UnplacedError;
+use icu_options::Strength;
+use std::alloc::Global;
+use unicode_normalization::char::canonical_combining_class;
+
+/// The sign of a relation.
+#[derive(Debug, Clone, Copy, PartialEq, Eq)]
+pub(crate) struct Sign {
+    /// Its strength.
+    pub strength: Strength,
+    /// Whether a star follows it.
+    pub is_starred: bool,
+}
+
+/// A sign without the star behind it, and what follows both.
+fn with_star(strength: Strength, text: &[char]) -> (Sign, &[char])
+    ensures len { length result.1.now ≤ length text.now }
+{
+    let (is_starred, after) = match behind(text, '*') {
+        Some(after) => (true, after),
+        None => (false, text),
+    };
+    let sign = Sign {
+        strength,
+        is_starred,
+    };
+    (sign, after)
+}
+
+/// A sign that never has a star.
+fn without_star(strength: Strength) -> Sign {
+    Sign {
+        strength,
+        is_starred: false,
+    }
+}
+
+/// The sign behind its first `<`, and what follows it.
+fn read_less(text: &[char]) -> (Sign, &[char])
+    ensures len { length result.1.now ≤ length text.now }
+{
+    let Some(second) = behind(text, '<') else {
+        return with_star(Strength::Primary, text);
+    };
+    let Some(third) = behind(second, '<') else {
+        return with_star(Strength::Secondary, second);
+    };
+    let Some(fourth) = behind(third, '<') else {
+        return with_star(Strength::Tertiary, third);
+    };
+    with_star(Strength::Quaternary, fourth)
+}
+
+/// The sign of a relation that a text begins with, and what follows it.
+pub(crate) fn read_sign(text: &[char]) -> Option<(Sign, &[char])>
+    ensures len { IfSome result (λ r. length r.1.now < length text.now) }
+{
+    let (c, after) = split_first(text)?;
+    match c {
+        '<' => Some(read_less(after)),
+        '=' => Some(with_star(Strength::Identical, after)),
+        ';' => Some((without_star(Strength::Secondary), after)),
+        ',' => Some((without_star(Strength::Tertiary), after)),
+        _ => None,
+    }
+}
+
+/// The prefix and the string that a text begins with, and what follows them. The prefix may be empty.
+fn read_context(
+    alloc: Global,
+    text: &[char],
+) -> Result<(Vec<char>, Vec<char>, &[char]), UnplacedError>
+    ensures len { IfOk result (λ r. length r.2.now ≤ length text.now) }
+{
+    let (first, rest) = read_string(alloc, text, RulesErrorKind::RelationWithoutString)?;
+    match behind(skip_blanks(rest), '|') {
+        Some(after) => {
+            let (string, rest) = read_string(alloc, after, RulesErrorKind::PrefixWithoutString)?;
+            Ok((first, string, rest))
+        }
+        None => Ok((Vec::new(alloc), first, rest)),
+    }
+}
+
+/// The extension that a text begins with, and what follows it. It may be empty.
+fn read_extension(alloc: Global, text: &[char]) -> Result<(Vec<char>, &[char]), UnplacedError>
+    ensures len { IfOk result (λ r. length r.1.now ≤ length text.now) }
+{
+    match behind(skip_blanks(text), '/') {
+        Some(after) => read_string(alloc, after, RulesErrorKind::EmptyExtension),
+        None => Ok((Vec::new(alloc), text)),
+    }
+}
+
+/// Whether characters begin with one whose combining class is 0, or are none.
+fn begins_with_starter(characters: &[char]) -> bool {
+    match characters {
+        [c, ..] => canonical_combining_class(*c) == 0,
+        [] => true,
+    }
+}
+
+/// Whether a prefix and the string behind it can be found in a text that is decomposed.
+fn has_context(prefix: &[char], string: &[char]) -> bool {
+    prefix.is_empty() || (begins_with_starter(prefix) && begins_with_starter(string))
+}
+
+/// The relation behind its sign, and what follows it. An error of its whole has the place where the sign is left.
+pub(crate) fn read_relation<'t>(
+    alloc: Global,
+    sign: &[char],
+    strength: Strength,
+    text: &'t [char],
+) -> Result<(Relation, &'t [char]), UnplacedError>
+    ensures len { IfOk result (λ r. length r.1.now ≤ length text.now) }
+{
+    let (prefix, string, rest) = read_context(alloc, text)?;
+    let (extension, rest) = read_extension(alloc, rest)?;
+    if !has_context(prefix.as_slice(), string.as_slice()) {
+        return Err(UnplacedError::at(sign, RulesErrorKind::MarkInContext));
+    }
+    Ok((
+        Relation {
+            strength,
+            prefix,
+            string,
+            extension,
+        },
+        rest,
+    ))
+}

@@ -1,0 +1,111 @@
+//! Resets.
+ghost use Rattle.std.specs.Prelude.{◌≤◌, length, IfOk};
+
+use crate::blanks::skip_blanks;
+use crate::brackets::{Bracket, is_word, read_bracket};
+use crate::first::behind;
+use crate::rules_error::RulesErrorKind;
+use crate::statement::{Anchor, LogicalPosition, Reset};
+use crate::strings::read_string;
+use crate::unplaced_error::UnplacedError;
+use crate::words::{before_level, position_of};
+use icu_options::Strength;
+use std::alloc::Global;
+
+/// What a bracket behind `&` says.
+#[derive(Debug, Clone, Copy)]
+enum Said {
+    /// `[before n]`.
+    Before(Strength),
+    /// A position.
+    Position(LogicalPosition),
+}
+
+/// What words in a bracket behind `&` say.
+fn said_by(words: &[&[char]]) -> Result<Said, RulesErrorKind> {
+    match words {
+        [before, rest @ ..] if is_word(before, b"before") => match rest {
+            [level] => before_level(level)
+                .map(Said::Before)
+                .ok_or(RulesErrorKind::BeforeLevel),
+            _ => Err(RulesErrorKind::BeforeLevel),
+        },
+        _ => position_of(words)
+            .map(Said::Position)
+            .ok_or(RulesErrorKind::UnknownPosition),
+    }
+}
+
+/// What the bracket that a text begins with says, and what follows it. `inside` is what follows its `[`.
+fn read_said<'t>(
+    alloc: Global,
+    text: &'t [char],
+    inside: &'t [char],
+) -> Result<(Said, &'t [char]), UnplacedError>
+    ensures len { IfOk result (λ r. length r.1.now ≤ length inside.now) }
+{
+    let (bracket, after) = read_bracket(alloc, text, inside)?;
+    let Bracket::Words(words) = bracket else {
+        return Err(UnplacedError::at(text, RulesErrorKind::UnknownPosition));
+    };
+    match said_by(words.as_slice()) {
+        Ok(said) => Ok((said, after)),
+        Err(kind) => Err(UnplacedError::at(text, kind)),
+    }
+}
+
+/// The anchor that a text begins with, behind blanks, and what follows it.
+fn read_anchor(alloc: Global, text: &[char]) -> Result<(Anchor, &[char]), UnplacedError>
+    ensures len { IfOk result (λ r. length r.1.now ≤ length text.now) }
+{
+    let text = skip_blanks(text);
+    let Some(inside) = behind(text, '[') else {
+        let (string, after) = read_string(alloc, text, RulesErrorKind::ResetWithoutAnchor)?;
+        return Ok((Anchor::String(string), after));
+    };
+    let (said, after) = read_said(alloc, text, inside)?;
+    match said {
+        Said::Position(position) => Ok((Anchor::Position(position), after)),
+        Said::Before(_) => Err(UnplacedError::at(text, RulesErrorKind::UnknownPosition)),
+    }
+}
+
+/// The reset behind its `&`, and what follows it.
+pub(crate) fn read_reset(alloc: Global, text: &[char]) -> Result<(Reset, &[char]), UnplacedError>
+    ensures len { IfOk result (λ r. length r.1.now ≤ length text.now) }
+{
+    let text = skip_blanks(text);
+    let Some(inside) = behind(text, '[') else {
+        let (anchor, after) = read_anchor(alloc, text)?;
+        return Ok((
+            Reset {
+                before: None,
+                anchor,
+            },
+            after,
+        ));
+    };
+    let (said, after) = read_said(alloc, text, inside)?;
+    match said {
+        Said::Position(position) => {
+            let anchor = Anchor::Position(position);
+            Ok((
+                Reset {
+                    before: None,
+                    anchor,
+                },
+                after,
+            ))
+        }
+        Said::Before(level) => {
+            let (anchor, after) = read_anchor(alloc, after)?;
+            Ok((
+                Reset {
+                    before: Some(level),
+                    anchor,
+                },
+                after,
+            ))
+        }
+    }
+}
