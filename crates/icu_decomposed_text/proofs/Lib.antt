@@ -1,5 +1,5 @@
 pub mod ClassOrderLemmas
-pub mod CountLemmas
+pub mod ZeroCountLemmas
 pub mod FrontMarkLemmas
 pub mod LookLemmas
 pub mod MatchableLemmas

@@ -14,7 +14,7 @@ use Rattle.icu_decomposed_text.specs.inner.MarksLeft.{counts_if, left_of_pass}
 use Rattle.icu_decomposed_text.specs.inner.OrderedParts.{IsPlace, left_at, order_left}
 use Rattle.icu_decomposed_text.specs.inner.Parts.{parts_left}
 use Rattle.icu_decomposed_text.specs.inner.Passes.{IsClassPass}
-use Rattle.icu_decomposed_text.specs.inner.Taking.{IsLook, IsEndOf, AreMarksUpTo, is_counted}
+use Rattle.icu_decomposed_text.specs.inner.Taking.{IsLook, EndsInList, AreMarksUpTo, is_counted}
 use Rattle.icu_decomposed_text.proofs.TakeLemmas.{left_same}
 
 cases_counted : (b : Bool) → (b ≡ true) ⊎ (b ≡ false)
@@ -29,18 +29,18 @@ count_from xs init ys e = let lengths = ap length e ∙ length-append init ys in
 pub front_from : (xs init ys : List ℕ) → xs ≡ init ++ ys → take (length xs - length ys) xs ≡ init
 front_from xs init ys e = ap (λ n. take n xs) (count_from xs init ys e) ∙ ap (take (length init)) e ∙ take-append_seam init ys
 
-pub end_from : (xs init ys : List ℕ) → xs ≡ init ++ ys → IsEndOf xs ys
+pub end_from : (xs init ys : List ℕ) → xs ≡ init ++ ys → EndsInList xs ys
 end_from xs init ys e = e ∙ ap (λ l. l ++ ys) (sym (front_from xs init ys e))
 
-pub end_itself : (xs : List ℕ) → IsEndOf xs xs
+pub end_itself : (xs : List ℕ) → EndsInList xs xs
 end_itself xs = end_from xs [] xs refl
 
-pub end_drop : (xs ys : List ℕ) → IsEndOf xs ys → drop (length xs - length ys) xs ≡ ys
+pub end_drop : (xs ys : List ℕ) → EndsInList xs ys → drop (length xs - length ys) xs ≡ ys
 end_drop xs ys e =
     let n = length xs - length ys in
     ap (λ m. drop m xs) (count_from xs (take n xs) ys e) ∙ ap (drop (length (take n xs))) e ∙ drop-append_seam (take n xs) ys
 
-pub end_rest : (xs ys : List ℕ) (c : ℕ) (zs : List ℕ) → IsEndOf xs ys → ys ≡ c ∷ zs → xs ≡ (take (length xs - length ys) xs ++ c ∷ []) ++ zs
+pub end_rest : (xs ys : List ℕ) (c : ℕ) (zs : List ℕ) → EndsInList xs ys → ys ≡ c ∷ zs → xs ≡ (take (length xs - length ys) xs ++ c ∷ []) ++ zs
 end_rest xs ys c zs e is = e ∙ ap (λ l. take (length xs - length ys) xs ++ l) is ∙ sym (append_assoc (take (length xs - length ys) xs) (c ∷ []) zs)
 
 -- ---- a character is passed over
@@ -76,7 +76,7 @@ look_on text taken place old new c look sound e given =
 
 -- ---- the mark that was passed over last
 
-pub parted_at_last : (xs ys : List ℕ) (mark : ℕ) → IsEndOf xs ys → IsUnblocked xs (length xs - length ys) mark → xs ≡ take ((length xs - length ys) - 1) xs ++ mark ∷ ys
+pub parted_at_last : (xs ys : List ℕ) (mark : ℕ) → EndsInList xs ys → IsUnblocked xs (length xs - length ys) mark → xs ≡ take ((length xs - length ys) - 1) xs ++ mark ∷ ys
 parted_at_last xs ys mark e free =
     let n = length xs - length ys in
     let some = free.some in
@@ -85,11 +85,11 @@ parted_at_last xs ys mark e free =
     let last = take_more xs (n - 1) mark inside ∙ ap (λ c. take (n - 1) xs ++ c ∷ []) (get_or_from_slice_get xs (n - 1) mark mark free.last) in
     e ∙ ap (λ m. take m xs ++ ys) (sym count) ∙ ap (λ l. l ++ ys) last ∙ append_assoc (take (n - 1) xs) (mark ∷ []) ys
 
-pub without_last-is : (xs ys : List ℕ) → IsEndOf xs ys → without_last xs (length xs - length ys) ≡ take ((length xs - length ys) - 1) xs ++ ys
+pub without_last-is : (xs ys : List ℕ) → EndsInList xs ys → without_last xs (length xs - length ys) ≡ take ((length xs - length ys) - 1) xs ++ ys
 without_last-is xs ys e = ap (λ l. take ((length xs - length ys) - 1) xs ++ l) (end_drop xs ys e)
 
 -- so many fewer are passed over
-pub one_fewer : (xs ys new : List ℕ) (mark : ℕ) → IsEndOf xs ys → IsUnblocked xs (length xs - length ys) mark → new ≡ take ((length xs - length ys) - 1) xs ++ ys
+pub one_fewer : (xs ys new : List ℕ) (mark : ℕ) → EndsInList xs ys → IsUnblocked xs (length xs - length ys) mark → new ≡ take ((length xs - length ys) - 1) xs ++ ys
     → length new - length ys ≡ (length xs - length ys) - 1
 one_fewer xs ys new mark e free is =
     let n = length xs - length ys in
@@ -125,7 +125,7 @@ pub cleared_left : (taken later : ℕ → ℕ) (b : Bool) (text at : List ℕ) (
 cleared_left taken later b text at class skip none zeros =
     left_same (λ _. 0) later text at class skip (λ i above. zeros i) ∙ ap (λ v. left_of_pass (counts_if v taken) text at class skip) (sym none)
 
--- where nothing that is left changes, and counts don't matter at the place, it stays a place up to which characters were passed over
+-- where nothing that is left changes, and counts don't matter at the place, characters were passed over up to it still
 pub look_kept : {T : Type 0} (text : T → List ℕ) (taken later : ℕ → ℕ) (place new look : OrderedParts T) → IsLook text taken place look → order_left text later new ≡ order_left text taken place
     → is_counted look.pass ≡ false → IsLook text later new look
 look_kept text taken later place new look sound e none =

@@ -8,17 +8,17 @@ use Rattle.icu_decomposed_text.specs.declared.taking.Taking.{Taking}
 use Rattle.icu_decomposed_text.specs.UnreadTexts.{IsUnblocked, without_last}
 use Rattle.icu_decomposed_text.specs.inner.Counts.{counts_of}
 use Rattle.icu_decomposed_text.specs.inner.OrderedParts.{order_left}
-use Rattle.icu_decomposed_text.specs.inner.Taking.{IsTaking, IsLook, IsEndOf, unread_of, ahead_of, passed_of, left_behind}
+use Rattle.icu_decomposed_text.specs.inner.Taking.{IsTaking, IsLook, EndsInList, unread_of, ahead_of, passed_of, left_behind}
 use Rattle.icu_decomposed_text.proofs.LookLemmas.{end_itself, one_fewer, without_last-is}
 use Rattle.icu_decomposed_text.proofs.TakeLemmas.{drop_one_more}
 
 ends_of : {T : Type 0} (text : T → List ℕ) (taken : ℕ → ℕ) (place : OrderedParts T) (o : Option (OrderedParts T)) → ForSome o (IsLook text taken place)
-    → IsEndOf (order_left text taken place) (left_behind text taken place o)
+    → EndsInList (order_left text taken place) (left_behind text taken place o)
 ends_of text taken place None h = end_itself _
 ends_of text taken place (Some look) h = (h look refl).behind
 
 -- what was not passed over is an end of what is still to be read
-pub ahead_ends : {T : Type 0} (text : T → List ℕ) (t : Taking T) → IsTaking text t → IsEndOf (unread_of text t) (ahead_of text t)
+pub ahead_ends : {T : Type 0} (text : T → List ℕ) (t : Taking T) → IsTaking text t → EndsInList (unread_of text t) (ahead_of text t)
 ahead_ends text t taking = ends_of text (counts_of t.taken) t.place t.look taking.look
 
 -- where no place is kept, nothing was passed over
@@ -31,7 +31,7 @@ counted_front : (xs init ys : List ℕ) → xs ≡ init ++ ys → length xs - le
 counted_front xs init ys e = let lengths = ap length e ∙ length-append init ys in omega arith
 
 -- the character that is passed over
-pub passes_next : (xs ys zs : List ℕ) (r : Option ℕ) → IsEndOf xs ys → ys ≡ option_to_list r ++ zs → (r ≡ None → ys ≡ []) → r ≡ slice_get xs (length xs - length ys)
+pub passes_next : (xs ys zs : List ℕ) (r : Option ℕ) → EndsInList xs ys → ys ≡ option_to_list r ++ zs → (r ≡ None → ys ≡ []) → r ≡ slice_get xs (length xs - length ys)
 passes_next xs ys zs None e next end =
     let none : length ys ≡ 0 = ap length (end refl) in
     sym (slice_get_past xs (length xs - length ys) (omega arith))
@@ -45,7 +45,7 @@ passes_next xs ys zs (Some c) e next end =
     let same : get_or xs n c ≡ c = ap (λ m. get_or xs m c) count ∙ ap (λ l. get_or l (length front) c) whole ∙ get_or-append_seam front c zs c in
     sym (slice_get-get_or xs n c inside ∙ ap Some same)
 
-pub passes_count : (xs ys zs new : List ℕ) (r : Option ℕ) → IsEndOf xs ys → ys ≡ option_to_list r ++ zs → new ≡ xs → length new - length zs ≡ (length xs - length ys) + length (option_to_list r)
+pub passes_count : (xs ys zs new : List ℕ) (r : Option ℕ) → EndsInList xs ys → ys ≡ option_to_list r ++ zs → new ≡ xs → length new - length zs ≡ (length xs - length ys) + length (option_to_list r)
 passes_count xs ys zs new r e next same =
     let whole = ap length e ∙ length-append (take (length xs - length ys) xs) ys in
     let rest = ap length next ∙ length-append (option_to_list r) zs in

@@ -3,8 +3,8 @@ use Rattle.std.specs.Prelude.{◌≡◌, ◌<◌, ◌-◌, ℕ, List, ◌++◌, 
 use Rattle.ucd_normal.specs.CanonicalCombiningClass.{canonical_combining_class as class_of}
 use Rattle.icu_decomposed_text.specs.MarkClasses.{AreMarks}
 
--- Of what is still to be read so many characters were passed over. The last of them is this mark, and those before it are
--- marks of lower classes, so that none of them blocks it (UTS #10, "Produce Collation Element Arrays").
+-- Of what is still to be read so many characters were passed over. The last of them is this mark, and those before it
+-- are marks of lower classes, so that none of them blocks it (UTS #10, "Produce Collation Element Arrays").
 pub record IsUnblocked (unread : List ℕ) (passed mark : ℕ) : Type 0 where
   pub some : 0 < passed
   pub last : slice_get unread (passed - 1) ≡ Some mark

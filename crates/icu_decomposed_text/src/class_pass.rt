@@ -7,7 +7,7 @@ ghost use Rattle.icu_decomposed_text.specs.inner.FrontMarks.{front_marks, past_m
 ghost use Rattle.icu_decomposed_text.specs.inner.MarksLeft.{class_limit, counts_if};
 ghost use Rattle.icu_decomposed_text.specs.inner.Parts.{parts_left};
 
-use crate::parts::Parts;
+use crate::char_parts::Parts;
 use crate::taken::TakenMarks;
 use icu_encodings::EncodedText;
 use unicode_normalization::char::canonical_combining_class;
@@ -99,9 +99,10 @@ impl<T: EncodedText> ClassPass<T> {
         ensures run { self.new.run ≡ self.old.run }
         ensures class { self.new.class ≡ self.old.class }
         ensures counted { self.new.counted ≡ self.old.counted }
-        ensures own { IfSome result (λ mark. (0 < class_of mark) × (class_of mark ≡ self.new.class)) }
-        ensures next { (taken : ℕ → ℕ)
-            → pass_left T.text taken self.old ≡ option_to_list result ++ pass_left T.text taken self.new }
+        ensures own { IfSome result (λ mark.
+            (0 < class_of mark) × (class_of mark ≡ self.new.class)) }
+        ensures next { (taken : ℕ → ℕ) → pass_left T.text taken self.old
+            ≡ option_to_list result ++ pass_left T.text taken self.new }
         ensures end { result ≡ None → front_marks (parts_left T.text self.new.at) ≡ [] }
     {
         'marks: loop {

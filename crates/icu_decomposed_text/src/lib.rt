@@ -1,6 +1,7 @@
-//! Decomposed texts that are read without memory (Unicode Standard, "Normalization Forms").
+//! Decomposed texts that are read without memory (UAX #15).
 #![tactic(auto)]
 
+mod char_parts;
 mod class_pass;
 mod counted_text;
 mod decomposed_text;
@@ -8,9 +9,10 @@ mod in_order;
 pub mod laws;
 mod matchable_text;
 mod ordered_parts;
-mod parts;
 mod taken;
 mod taking;
+#[cfg(test)]
+mod tests;
 pub mod text_for_matches;
 
 pub use counted_text::CountedText;

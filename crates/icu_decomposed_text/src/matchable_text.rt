@@ -9,8 +9,8 @@ use crate::taking::Taking;
 use crate::text_for_matches::TextForMatches;
 
 /// A text in canonical decomposition from which marks are taken while it is read. It never allocates: what is left of a
-/// run of marks is in canonical order, so of each combining class those that come first were taken, and a count for each
-/// class tells which.
+/// run of marks is in canonical order, so of each combining class those that come first were taken, and a count for
+/// each class tells which.
 #[derive(Debug, Drop)]
 pub struct MatchableText<T: CountedText> {
     taking: Taking<T>,

@@ -8,9 +8,9 @@ ghost use Rattle.unicode_normalization.specs.Order.{is_ordered, canonical_order}
 ghost use Rattle.icu_decomposed_text.specs.inner.FrontMarks.{front_marks};
 ghost use Rattle.icu_decomposed_text.specs.inner.Parts.{parts_left};
 
+use crate::char_parts::Parts;
 use crate::class_pass::ClassPass;
 use crate::in_order::are_in_order;
-use crate::parts::Parts;
 use crate::taken::TakenMarks;
 use icu_encodings::EncodedText;
 use unicode_normalization::char::canonical_combining_class;
@@ -86,7 +86,8 @@ impl<T: EncodedText> OrderedParts<T> {
         requires place { IsPlace T.text self.now }
         requires at { parts_left T.text self.now.parts ≡ mark ∷ parts_left T.text after }
         requires is_mark { 0 < class_of mark }
-        ensures { IsTrue result → is_ordered (front_marks (parts_left T.text self.now.parts)) ≡ true }
+        ensures { IsTrue result
+            → is_ordered (front_marks (parts_left T.text self.now.parts)) ≡ true }
     {
         self.in_order || are_in_order(mark, after)
     }

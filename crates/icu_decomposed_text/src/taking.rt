@@ -56,7 +56,8 @@ impl<T: CountedText> Taking<T> {
     pub(crate) fn look_back(&mut self)
         requires { IsTaking T.EncodedText.text self.old }
         ensures taking { IsTaking T.EncodedText.text self.new }
-        ensures unread { unread_of T.EncodedText.text self.new ≡ unread_of T.EncodedText.text self.old }
+        ensures unread { unread_of T.EncodedText.text self.new
+            ≡ unread_of T.EncodedText.text self.old }
         ensures look { self.new.look ≡ None }
     {
         self.look = None;
@@ -79,7 +80,8 @@ impl<T: CountedText> Taking<T> {
     pub(crate) fn pass(&mut self) -> Option<char>
         requires { IsTaking T.EncodedText.text self.old }
         ensures taking { IsTaking T.EncodedText.text self.new }
-        ensures unread { unread_of T.EncodedText.text self.new ≡ unread_of T.EncodedText.text self.old }
+        ensures unread { unread_of T.EncodedText.text self.new
+            ≡ unread_of T.EncodedText.text self.old }
         ensures next { ahead_of T.EncodedText.text self.old
             ≡ option_to_list result ++ ahead_of T.EncodedText.text self.new }
         ensures end { result ≡ None → ahead_of T.EncodedText.text self.old ≡ [] }
@@ -109,8 +111,10 @@ impl<T: CountedText> Taking<T> {
     fn begin_taking(&mut self) -> ClassPass<T>
         requires { IsTaking T.EncodedText.text self.old }
         ensures taking { IsTaking T.EncodedText.text self.new }
-        ensures unread { unread_of T.EncodedText.text self.new ≡ unread_of T.EncodedText.text self.old }
-        ensures ahead { ahead_of T.EncodedText.text self.new ≡ ahead_of T.EncodedText.text self.old }
+        ensures unread { unread_of T.EncodedText.text self.new
+            ≡ unread_of T.EncodedText.text self.old }
+        ensures ahead { ahead_of T.EncodedText.text self.new
+            ≡ ahead_of T.EncodedText.text self.old }
         ensures look { self.new.look ≡ self.old.look }
         ensures pass { self.new.place.pass ≡ Some result }
         ensures counted { result.counted ≡ true }
@@ -132,8 +136,10 @@ impl<T: CountedText> Taking<T> {
             (passed_of T.EncodedText.text self.old) mark }
         ensures taking { IsTaking T.EncodedText.text self.new }
         ensures unread { unread_of T.EncodedText.text self.new
-            ≡ without_last (unread_of T.EncodedText.text self.old) (passed_of T.EncodedText.text self.old) }
-        ensures ahead { ahead_of T.EncodedText.text self.new ≡ ahead_of T.EncodedText.text self.old }
+            ≡ without_last (unread_of T.EncodedText.text self.old)
+            (passed_of T.EncodedText.text self.old) }
+        ensures ahead { ahead_of T.EncodedText.text self.new
+            ≡ ahead_of T.EncodedText.text self.old }
     {
         let Some(look) = self.look else {
             return;

@@ -18,6 +18,7 @@ abbrev pub left_behind : {T : Type 0} → (T → List ℕ) → (ℕ → ℕ) →
 left_behind text taken place None = order_left text taken place
 left_behind text taken place (Some look) = order_left text taken look
 
+-- the characters that were not passed over
 abbrev pub ahead_of : {T : Type 0} → (T → List ℕ) → Taking T → List ℕ
 ahead_of text t = left_behind text (counts_of t.taken) t.place t.look
 
@@ -35,14 +36,14 @@ abbrev pub AreMarksUpTo : ℕ → List ℕ → Type 0
 AreMarksUpTo k cs = All (λ c. (0 < class_of c) × (class_of c ≤ k)) cs
 
 -- the second list is an end of the first
-abbrev pub IsEndOf : List ℕ → List ℕ → Type 0
-IsEndOf xs ys = xs ≡ take (length xs - length ys) xs ++ ys
+abbrev pub EndsInList : List ℕ → List ℕ → Type 0
+EndsInList xs ys = xs ≡ take (length xs - length ys) xs ++ ys
 
 -- Up to this place, from another one on, some characters were passed over. Where counts matter at this place, they are
 -- those of the run at the other one, and all that was passed over is marks of this run.
 pub record IsLook {T : Type 0} (text : T → List ℕ) (taken : ℕ → ℕ) (place look : OrderedParts T) : Type 0 where
   pub is_place : IsPlace text look
-  pub behind : IsEndOf (order_left text taken place) (order_left text taken look)
+  pub behind : EndsInList (order_left text taken place) (order_left text taken look)
   pub counted : is_counted look.pass ≡ true → is_counted place.pass ≡ true
   pub passed : ForSome look.pass (λ p. p.counted ≡ true → AreMarksUpTo p.class (take (length (order_left text taken place) - length (order_left text taken look)) (order_left text taken place)))
 

@@ -1,4 +1,4 @@
-use Rattle.icu_decomposed_text.proofs.CountLemmas.{get_or-zeros}
+use Rattle.icu_decomposed_text.proofs.ZeroCountLemmas.{get_or-zeros}
 use Rattle.icu_decomposed_text.proofs.taken.MarkCounts.new.Goals as goal
 
 pub returns : goal.returns

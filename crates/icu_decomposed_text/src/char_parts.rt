@@ -35,7 +35,8 @@ impl<T: EncodedText> Parts<T> {
     /// The next part of the character that was read last, where it has one.
     #[tactic(auto, unfolding(crate::specs::inner::Parts::parts_left))]
     fn next_begun(&mut self) -> Option<char>
-        ensures next { parts_left T.text self.old ≡ option_to_list result ++ parts_left T.text self.new }
+        ensures next { parts_left T.text self.old
+            ≡ option_to_list result ++ parts_left T.text self.new }
         ensures end { result ≡ None → parts_left T.text self.old ≡ parts_of (T.text self.new.rest) }
     {
         let (c, index) = self.begun?;
@@ -63,7 +64,8 @@ impl<T: EncodedText> Parts<T> {
     /// The next part, or `None` after the last one.
     #[tactic(auto, unfolding(crate::specs::inner::Parts::parts_left))]
     pub(crate) fn next(&mut self) -> Option<char>
-        ensures next { parts_left T.text self.old ≡ option_to_list result ++ parts_left T.text self.new }
+        ensures next { parts_left T.text self.old
+            ≡ option_to_list result ++ parts_left T.text self.new }
         ensures end { result ≡ None → parts_left T.text self.old ≡ [] }
     {
         if let Some(part) = self.next_begun() {
