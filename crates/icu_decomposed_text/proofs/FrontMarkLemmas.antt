@@ -41,7 +41,7 @@ pub past-starter : (c : ℕ) (cs : List ℕ) → class_of c ≤ 0 → past_marks
 unfolding past_marks
 past-starter c cs le = cond-true _ _ _ (starter c le)
 
-cases_class : (c : ℕ) → (class_of c ≤ 0) ⊎ (0 < class_of c)
+pub cases_class : (c : ℕ) → (class_of c ≤ 0) ⊎ (0 < class_of c)
 cases_class c = grind arith
 
 -- where a text begins with no mark, all of it stands past its marks

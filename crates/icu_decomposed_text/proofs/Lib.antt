@@ -1,3 +1,9 @@
 pub mod ClassOrderLemmas
+pub mod ZeroCountLemmas
 pub mod FrontMarkLemmas
+pub mod LookLemmas
+pub mod MatchableLemmas
+pub mod PartLemmas
 pub mod PassLemmas
+pub mod TakeLemmas
+pub mod TakingLemmas

@@ -59,7 +59,7 @@ given_other at rest m class skip e mark other =
 
 -- ---- a pass ends
 
-drop-nil : (n : ℕ) → let none : List ℕ = [] in drop n none ≡ none
+pub drop-nil : (n : ℕ) → let none : List ℕ = [] in drop n none ≡ none
 drop-nil zero = refl
 drop-nil (suc n) = refl
 

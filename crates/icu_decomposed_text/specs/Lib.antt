@@ -1,2 +1,4 @@
 pub mod MarkClasses
+pub mod MatchableTexts
+pub mod UnreadTexts
 pub mod inner

@@ -7,7 +7,7 @@ ghost use Rattle.icu_decomposed_text.specs.inner.FrontMarks.{front_marks, past_m
 ghost use Rattle.icu_decomposed_text.specs.inner.MarksLeft.{class_limit, counts_if};
 ghost use Rattle.icu_decomposed_text.specs.inner.Parts.{parts_left};
 
-use crate::parts::Parts;
+use crate::char_parts::Parts;
 use crate::taken::TakenMarks;
 use icu_encodings::EncodedText;
 use unicode_normalization::char::canonical_combining_class;
@@ -25,7 +25,7 @@ pub(crate) struct ClassPass<T> {
     /// The least class above it that stands before the place, if there is one.
     pub(crate) next: Option<u8>,
     /// How many marks of the class are still to be skipped, since they were taken.
-    pub(crate) skip: usize,
+    pub(crate) skip: u128,
     /// Whether marks were taken from this run.
     pub(crate) counted: bool,
 }
@@ -41,6 +41,7 @@ fn lesser(next: Option<u8>, class: u8) -> Option<u8>
 }
 
 impl<T: EncodedText> ClassPass<T> {
+    ghost use Rattle.icu_decomposed_text.specs.inner.GivenMarks.{IsGiven};
     ghost use Rattle.icu_decomposed_text.specs.inner.Passes.{IsClassPass, pass_left};
 
     /// The run with which the parts of a text begin, of which nothing was read and nothing taken. No mark has class 0,
@@ -48,6 +49,7 @@ impl<T: EncodedText> ClassPass<T> {
     pub(crate) fn new(run: Parts<T>) -> ClassPass<T>
         ensures pass { IsClassPass T.text result }
         ensures run { result.run ≡ run }
+        ensures counted { result.counted ≡ false }
         ensures left { (taken : ℕ → ℕ)
             → pass_left T.text taken result ≡ canonical_order (parts_left T.text run) }
     {
@@ -71,6 +73,8 @@ impl<T: EncodedText> ClassPass<T> {
         ensures run { self.new.run ≡ self.old.run }
         ensures class { self.new.class ≡ self.old.class }
         ensures at { self.new.at ≡ after }
+        ensures counted { self.new.counted ≡ self.old.counted }
+        ensures own { IsTrue result → class_of mark ≡ self.new.class }
         ensures given { IsTrue result → (taken : ℕ → ℕ)
             → pass_left T.text taken self.old ≡ mark ∷ pass_left T.text taken self.new }
         ensures passed { result ≡ false → (taken : ℕ → ℕ)
@@ -94,8 +98,11 @@ impl<T: EncodedText> ClassPass<T> {
         ensures pass { IsClassPass T.text self.new }
         ensures run { self.new.run ≡ self.old.run }
         ensures class { self.new.class ≡ self.old.class }
-        ensures next { (taken : ℕ → ℕ)
-            → pass_left T.text taken self.old ≡ option_to_list result ++ pass_left T.text taken self.new }
+        ensures counted { self.new.counted ≡ self.old.counted }
+        ensures own { IfSome result (λ mark.
+            (0 < class_of mark) × (class_of mark ≡ self.new.class)) }
+        ensures next { (taken : ℕ → ℕ) → pass_left T.text taken self.old
+            ≡ option_to_list result ++ pass_left T.text taken self.new }
         ensures end { result ≡ None → front_marks (parts_left T.text self.new.at) ≡ [] }
     {
         'marks: loop {
@@ -112,7 +119,7 @@ impl<T: EncodedText> ClassPass<T> {
     }
 
     /// How many marks of a class were taken from the run.
-    fn count<C: TakenMarks>(&self, class: u8, taken: &C) -> usize
+    fn count<C: TakenMarks>(&self, class: u8, taken: &C) -> u128
         ensures { result ≡ counts_if self.now.counted (C.taken taken.now) class }
     {
         if self.counted { taken.count(class) } else { 0 }
@@ -125,7 +132,9 @@ impl<T: EncodedText> ClassPass<T> {
         requires next { self.old.next ≡ Some class }
         ensures pass { IsClassPass T.text self.new }
         ensures run { self.new.run ≡ self.old.run }
+        ensures counted { self.new.counted ≡ self.old.counted }
         ensures class { self.new.class ≡ class }
+        ensures rises { self.old.class < class }
         ensures left { pass_left T.text (C.taken taken.now) self.old
             ≡ pass_left T.text (C.taken taken.now) self.new }
     {
@@ -141,6 +150,7 @@ impl<T: EncodedText> ClassPass<T> {
         ensures pass { IsClassPass T.text self.new }
         ensures some { IfSome result (λ mark. pass_left T.text (C.taken taken.now) self.old
             ≡ mark ∷ pass_left T.text (C.taken taken.now) self.new) }
+        ensures given { IfSome result (IsGiven self.old self.new) }
         ensures none { result ≡ None → pass_left T.text (C.taken taken.now) self.old
             ≡ canonical_order (parts_left T.text self.new.at) }
         ensures past { result ≡ None

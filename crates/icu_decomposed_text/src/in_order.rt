@@ -5,7 +5,7 @@ ghost use Rattle.unicode_normalization.specs.Order.{is_ordered};
 ghost use Rattle.icu_decomposed_text.specs.inner.FrontMarks.{front_marks};
 ghost use Rattle.icu_decomposed_text.specs.inner.Parts.{parts_left};
 
-use crate::parts::Parts;
+use crate::char_parts::Parts;
 use icu_encodings::EncodedText;
 use unicode_normalization::char::canonical_combining_class;
 

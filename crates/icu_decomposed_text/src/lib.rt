@@ -1,13 +1,21 @@
-//! Decomposed texts that are read without memory (Unicode Standard, "Normalization Forms").
+//! Decomposed texts that are read without memory (UAX #15).
 #![tactic(auto)]
 
+mod char_parts;
 mod class_pass;
+mod counted_text;
 mod decomposed_text;
 mod in_order;
 pub mod laws;
+mod matchable_text;
 mod ordered_parts;
-mod parts;
 mod taken;
+mod taking;
+#[cfg(test)]
+mod tests;
+pub mod text_for_matches;
 
+pub use counted_text::CountedText;
 pub use decomposed_text::DecomposedText;
-pub use taken::TakenMarks;
+pub use matchable_text::MatchableText;
+pub use text_for_matches::TextForMatches;

@@ -1,15 +1,16 @@
 //! The parts of the characters of a text, one by one in canonical order.
 
-ghost use Rattle.std.specs.Prelude.{◌≡◌, ◌<◌, ◌∷◌, ◌++◌, [], ℕ, None, true, IsTrue, IsSome, option_to_list};
+ghost use Rattle.std.specs.Prelude.{◌≡◌, ◌<◌, ◌∷◌, ◌++◌, [], ℕ, None, true, false, IsTrue, IsSome, IfSome, option_to_list};
+ghost use Rattle.std.specs.Option.{ForSome};
 ghost use Rattle.ucd_normal.specs.CanonicalCombiningClass.{canonical_combining_class as class_of};
 ghost use Rattle.unicode_normalization.specs.Forms.{nfd};
 ghost use Rattle.unicode_normalization.specs.Order.{is_ordered, canonical_order};
 ghost use Rattle.icu_decomposed_text.specs.inner.FrontMarks.{front_marks};
 ghost use Rattle.icu_decomposed_text.specs.inner.Parts.{parts_left};
 
+use crate::char_parts::Parts;
 use crate::class_pass::ClassPass;
 use crate::in_order::are_in_order;
-use crate::parts::Parts;
 use crate::taken::TakenMarks;
 use icu_encodings::EncodedText;
 use unicode_normalization::char::canonical_combining_class;
@@ -27,6 +28,7 @@ pub(crate) struct OrderedParts<T> {
 }
 
 impl<T: EncodedText> OrderedParts<T> {
+    ghost use Rattle.icu_decomposed_text.specs.inner.GivenMarks.{GoesOnCounted};
     ghost use Rattle.icu_decomposed_text.specs.inner.OrderedParts.{IsPlace, order_left};
 
     /// The beginning of a text.
@@ -48,17 +50,18 @@ impl<T: EncodedText> OrderedParts<T> {
         ensures next { order_left T.text (C.taken taken.now) self.old
             ≡ option_to_list result ++ order_left T.text (C.taken taken.now) self.new }
         ensures end { result ≡ None → self.new.pass ≡ None }
+        ensures counted { IfSome result (λ c. ForSome self.new.pass
+            (λ p. p.counted ≡ true → GoesOnCounted self.old.pass p c)) }
     {
         let mut pass = self.pass?;
-        let mark = pass.next(taken);
-        if mark.is_some() {
+        if let Some(mark) = pass.next(taken) {
             self.pass = Some(pass);
-        } else {
-            self.pass = None;
-            self.parts = pass.at;
-            self.in_order = false;
+            return Some(mark);
         }
-        mark
+        self.pass = None;
+        self.parts = pass.at;
+        self.in_order = false;
+        None
     }
 
     /// The first mark of a run that is read class by class from now on.
@@ -70,6 +73,7 @@ impl<T: EncodedText> OrderedParts<T> {
         ensures next { canonical_order (parts_left T.text self.old.parts)
             ≡ option_to_list result ++ order_left T.text (C.taken taken.now) self.new }
         ensures some { IsSome result }
+        ensures counted { ForSome self.new.pass (λ p. p.counted ≡ false) }
     {
         let mut pass = ClassPass::new(self.parts);
         let mark = pass.next(taken)?;
@@ -82,7 +86,8 @@ impl<T: EncodedText> OrderedParts<T> {
         requires place { IsPlace T.text self.now }
         requires at { parts_left T.text self.now.parts ≡ mark ∷ parts_left T.text after }
         requires is_mark { 0 < class_of mark }
-        ensures { IsTrue result → is_ordered (front_marks (parts_left T.text self.now.parts)) ≡ true }
+        ensures { IsTrue result
+            → is_ordered (front_marks (parts_left T.text self.now.parts)) ≡ true }
     {
         self.in_order || are_in_order(mark, after)
     }
@@ -95,6 +100,7 @@ impl<T: EncodedText> OrderedParts<T> {
         ensures next { order_left T.text (C.taken taken.now) self.old
             ≡ option_to_list result ++ order_left T.text (C.taken taken.now) self.new }
         ensures end { result ≡ None → order_left T.text (C.taken taken.now) self.old ≡ [] }
+        ensures counted { ForSome self.new.pass (λ p. p.counted ≡ false) }
     {
         let mut after = self.parts;
         let c = after.next()?;
@@ -118,6 +124,8 @@ impl<T: EncodedText> OrderedParts<T> {
         ensures next { order_left T.text (C.taken taken.now) self.old
             ≡ option_to_list result ++ order_left T.text (C.taken taken.now) self.new }
         ensures end { result ≡ None → order_left T.text (C.taken taken.now) self.old ≡ [] }
+        ensures counted { IfSome result (λ c. ForSome self.new.pass
+            (λ p. p.counted ≡ true → GoesOnCounted self.old.pass p c)) }
     {
         if let Some(mark) = self.next_of_run(taken) {
             return Some(mark);

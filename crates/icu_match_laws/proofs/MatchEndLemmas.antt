@@ -10,7 +10,7 @@ use Rattle.icu_matches.specs.Matches.{Match, with_marks, is_blocked}
 use Rattle.icu_decomposed_text.specs.MarkClasses.{of_class}
 use Rattle.icu_match_laws.specs.MatchEnds.{MatchesLeaveEnds}
 
--- What is left of a class: those that were passed over, and an end of those to come, where none was passed over the whole.
+-- What is left of a class: those that were passed over, and an end of those to come, all where one was passed over.
 pub record Left (k : ℕ) (passed text rest : List ℕ) : Type 0 where
   pub count : ℕ
   pub is : of_class k rest ≡ of_class k passed ++ drop count (of_class k text)

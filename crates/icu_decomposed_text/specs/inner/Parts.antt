@@ -1,6 +1,6 @@
 -- The parts of characters that are read one after another.
 use Rattle.std.specs.Prelude.{ℕ, List, ◌++◌}
-use Rattle.icu_decomposed_text.specs.declared.parts.Parts.{Parts}
+use Rattle.icu_decomposed_text.specs.declared.char_parts.Parts.{Parts}
 use Rattle.icu_decomposed_text.specs.inner.CharParts.{begun_left, parts_of}
 
 -- the parts that are still to be read

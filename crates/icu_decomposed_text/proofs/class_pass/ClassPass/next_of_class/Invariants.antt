@@ -9,6 +9,7 @@ invariant-marks g l = record {
   pass : IsClassPass g.T.EncodedText.text l.self;
   run : l.self.run ≡ l.fn.self.run;
   class : l.self.class ≡ l.fn.self.class;
+  counted : l.self.counted ≡ l.fn.self.counted;
   left : (taken : ℕ → ℕ) → pass_left g.T.EncodedText.text taken l.fn.self ≡ pass_left g.T.EncodedText.text taken l.self;
 }
 

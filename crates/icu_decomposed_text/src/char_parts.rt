@@ -1,10 +1,11 @@
 //! The parts of the characters of a text, one by one.
 
-ghost use Rattle.std.specs.Prelude.{◌≡◌, ◌++◌, ◌∷◌, [], None, drop, option_to_list};
+ghost use Rattle.std.specs.Prelude.{◌≡◌, ◌<◌, ◌^◌, ◌++◌, ◌∷◌, [], None, drop, length, option_to_list};
 ghost use Rattle.ucd_normal.specs.declared.forms.Form.TheVariants.{Nfd};
 ghost use Rattle.unicode_normalization.specs.Decompose.{decompose};
 ghost use Rattle.icu_decomposed_text.specs.inner.CharParts.{begun_left, parts_of};
 
+use crate::counted_text::CountedText;
 use icu_encodings::EncodedText;
 use unicode_normalization::Form;
 use unicode_normalization::char::decomposition;
@@ -34,7 +35,8 @@ impl<T: EncodedText> Parts<T> {
     /// The next part of the character that was read last, where it has one.
     #[tactic(auto, unfolding(crate::specs::inner::Parts::parts_left))]
     fn next_begun(&mut self) -> Option<char>
-        ensures next { parts_left T.text self.old ≡ option_to_list result ++ parts_left T.text self.new }
+        ensures next { parts_left T.text self.old
+            ≡ option_to_list result ++ parts_left T.text self.new }
         ensures end { result ≡ None → parts_left T.text self.old ≡ parts_of (T.text self.new.rest) }
     {
         let (c, index) = self.begun?;
@@ -62,7 +64,8 @@ impl<T: EncodedText> Parts<T> {
     /// The next part, or `None` after the last one.
     #[tactic(auto, unfolding(crate::specs::inner::Parts::parts_left))]
     pub(crate) fn next(&mut self) -> Option<char>
-        ensures next { parts_left T.text self.old ≡ option_to_list result ++ parts_left T.text self.new }
+        ensures next { parts_left T.text self.old
+            ≡ option_to_list result ++ parts_left T.text self.new }
         ensures end { result ≡ None → parts_left T.text self.old ≡ [] }
     {
         if let Some(part) = self.next_begun() {
@@ -71,6 +74,18 @@ impl<T: EncodedText> Parts<T> {
         let (c, rest) = self.rest.split_first_char()?;
         self.rest = rest;
         Some(self.begin(c))
+    }
+}
+
+impl<T: CountedText> Parts<T> {
+    ghost use Rattle.icu_decomposed_text.specs.inner.Parts.{parts_left};
+
+    /// There are fewer than 2^70 parts.
+    #[tactic(auto, unfolding(crate::specs::inner::Parts::parts_left))]
+    pub(crate) fn has_countable_length(&self)
+        ensures { length (parts_left T.EncodedText.text self.now) < 2 ^ 70 }
+    {
+        self.rest.has_countable_length();
     }
 }
 

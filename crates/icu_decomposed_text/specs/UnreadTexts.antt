@@ -1,0 +1,16 @@
+-- A decomposed text of which a beginning was read and some marks were taken.
+use Rattle.std.specs.Prelude.{◌≡◌, ◌<◌, ◌-◌, ℕ, List, ◌++◌, take, drop, slice_get, Some}
+use Rattle.ucd_normal.specs.CanonicalCombiningClass.{canonical_combining_class as class_of}
+use Rattle.icu_decomposed_text.specs.MarkClasses.{AreMarks}
+
+-- Of what is still to be read so many characters were passed over. The last of them is this mark, and those before it
+-- are marks of lower classes, so that none of them blocks it (UTS #10, "Produce Collation Element Arrays").
+pub record IsUnblocked (unread : List ℕ) (passed mark : ℕ) : Type 0 where
+  pub some : 0 < passed
+  pub last : slice_get unread (passed - 1) ≡ Some mark
+  pub is_mark : 0 < class_of mark
+  pub before : AreMarks (class_of mark) (take (passed - 1) unread)
+
+-- what is still to be read without the character that was passed over last
+abbrev pub without_last : List ℕ → ℕ → List ℕ
+without_last unread passed = take (passed - 1) unread ++ drop passed unread

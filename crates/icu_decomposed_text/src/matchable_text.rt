@@ -1,0 +1,56 @@
+//! Texts from which matches take marks.
+
+ghost use Rattle.std.specs.Prelude.{◌≡◌};
+ghost use Rattle.unicode_normalization.specs.Forms.{nfd};
+ghost use Rattle.icu_decomposed_text.specs.inner.Taking.{IsTaking};
+
+use crate::counted_text::CountedText;
+use crate::taking::Taking;
+use crate::text_for_matches::TextForMatches;
+
+/// A text in canonical decomposition from which marks are taken while it is read. It never allocates: what is left of a
+/// run of marks is in canonical order, so of each combining class those that come first were taken, and a count for
+/// each class tells which.
+#[derive(Debug, Drop)]
+pub struct MatchableText<T: CountedText> {
+    taking: Taking<T>,
+    ghost places: { IsTaking T.EncodedText.text taking },
+}
+
+impl<T: CountedText> MatchableText<T> {
+    ghost use Rattle.icu_decomposed_text.specs.MatchableTexts.{unread_text, passed_count};
+
+    /// A text of which nothing was read.
+    pub fn new(text: T) -> Self
+        ensures unread { unread_text T.EncodedText.text result ≡ nfd (T.EncodedText.text text) }
+        ensures passed { passed_count T.EncodedText.text result ≡ 0 }
+    {
+        MatchableText {
+            taking: Taking::new(text),
+        }
+    }
+}
+
+impl<T: CountedText> TextForMatches for MatchableText<T> {
+    ghost use Rattle.icu_decomposed_text.specs.MatchableTexts.{unread_text, passed_count};
+
+    ghost unread = { unread_text T.EncodedText.text };
+
+    ghost passed = { passed_count T.EncodedText.text };
+
+    fn next(&mut self) -> Option<char> {
+        self.taking.next()
+    }
+
+    fn look_back(&mut self) {
+        self.taking.look_back()
+    }
+
+    fn pass(&mut self) -> Option<char> {
+        self.taking.pass()
+    }
+
+    fn take(&mut self, mark: char) {
+        self.taking.take(mark)
+    }
+}
