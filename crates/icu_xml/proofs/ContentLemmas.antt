@@ -2,16 +2,16 @@
 use Rattle.std.proofs.Common.{◌≡◌, ℕ, ◌+◌, ◌<◌, ◌≤◌, List, [], ◌∷◌, ◌++◌, length, refl, sym, ◌∙◌, ap, subst, inl, inr, append_assoc, arith, length-append}
 use Rattle.std.specs.Prelude.{codes, string_bytes, IsTrue, ◌⊎◌}
 use Rattle.icu_xml.specs.declared.event.Event.{Event}
-use Rattle.icu_xml.specs.declared.event.Tag.{Tag}
+use Rattle.icu_xml.specs.declared.event.StartTag.{StartTag}
 use Rattle.icu_xml.specs.declared.event.Attribute.{Attribute}
-use Rattle.icu_xml.specs.declared.content.Piece.{Piece}
+use Rattle.icu_xml.specs.declared.content.ContentPiece.{ContentPiece}
 use Rattle.icu_xml.specs.XmlEvents.{AreNewAfter, AreDistinct, IsAmong}
 use Rattle.icu_xml.specs.XmlDocuments.{IsMiscellany, IsDeclaration, AreDeclared, IsDocumentType, IsProlog}
 use Rattle.icu_xml.proofs.PartLemmas.{no_part, last_part}
 use Rattle.icu_xml.specs.SpelledParts.{Begins, SpellsInParts, IsCutAround, IsCutBefore, LacksText}
-use Rattle.icu_xml.specs.XmlCharacters.{IsSpacing, IsName, spaced}
-use Rattle.icu_xml.specs.CharacterReferences.{StandsFor}
-use Rattle.icu_xml.specs.XmlMarkup.{IsQuoted, IsComment, IsEnd, IsText, IsCdata, IsPiece, IsAttribute, IsTag, SpellsAttribute, SpellsContent, SpellsNothing, events_of}
+use Rattle.icu_xml.specs.XmlCharacters.{IsSpacing, IsName, with_spaces}
+use Rattle.icu_xml.specs.CharacterReferences.{WritesValue}
+use Rattle.icu_xml.specs.XmlMarkup.{IsQuoted, IsComment, IsEnd, IsCharacterData, IsCdata, IsContentPiece, IsAttribute, IsTag, SpellsAttribute, SpellsContent, SpellsNothing, events_of}
 
 -- a text between two marks
 between : (mark end text before inside rest : List ℕ) → text ≡ mark ++ inside → inside ≡ before ++ (end ++ rest) → text ≡ (mark ++ (before ++ end)) ++ rest
@@ -27,37 +27,40 @@ quoted_in mark text inside written rest whole cut =
 -- a comment
 pub comment_in : (text body rest behind : List ℕ) → IsCutAround (codes "--") text body rest → rest ≡ codes ">" ++ behind
     → Begins IsComment (codes "<!--" ++ text) behind
-comment_in text body rest behind cut end =
-    (codes "<!--" ++ (body ++ codes "-->"),
-     between (codes "<!--") (codes "-->") (codes "<!--" ++ text) body text behind refl (cut.whole ∙ ap (λ t. body ++ (codes "--" ++ t)) end),
-     (body, refl, cut.first))
+comment_in text body rest behind cut end = (
+  codes "<!--" ++ (body ++ codes "-->"),
+  between (codes "<!--") (codes "-->") (codes "<!--" ++ text) body text behind refl (cut.whole ∙ ap (λ t. body ++ (codes "--" ++ t)) end),
+  (body, refl, cut.first),
+)
 
 -- a section
 pub section_in : (text value rest : List ℕ) → IsCutAround (codes "]]>") text value rest → Begins (λ part. IsCdata part value) (codes "<![CDATA[" ++ text) rest
-section_in text value rest cut =
-    (codes "<![CDATA[" ++ (value ++ codes "]]>"),
-     between (codes "<![CDATA[") (codes "]]>") (codes "<![CDATA[" ++ text) value text rest refl cut.whole,
-     (refl, cut.first))
+section_in text value rest cut = (
+  codes "<![CDATA[" ++ (value ++ codes "]]>"),
+  between (codes "<![CDATA[") (codes "]]>") (codes "<![CDATA[" ++ text) value text rest refl cut.whole,
+  (refl, cut.first),
+)
 
 -- what stands between two marks
 pub wrapped : (P : List ℕ → Type 0) (mark end text rest behind : List ℕ) → Begins P text rest → rest ≡ end ++ behind
     → Begins (λ part. (inside : List ℕ) × (part ≡ mark ++ (inside ++ end)) × P inside) (mark ++ text) behind
-wrapped P mark end text rest behind begins cut =
-    (mark ++ (begins.0 ++ end),
-     between mark end (mark ++ text) begins.0 text behind refl (begins.1 ∙ ap (λ t. begins.0 ++ t) cut),
-     (begins.0, refl, begins.2))
+wrapped P mark end text rest behind begins cut = (
+  mark ++ (begins.0 ++ end),
+  between mark end (mark ++ text) begins.0 text behind refl (begins.1 ∙ ap (λ t. begins.0 ++ t) cut),
+  (begins.0, refl, begins.2),
+)
 
 -- the end of an element
 pub end_in : (text name after space rest behind : List ℕ) → IsName name → text ≡ name ++ after → after ≡ space ++ rest → IsSpacing space → rest ≡ codes ">" ++ behind
     → Begins (λ part. IsEnd part name) (codes "</" ++ text) behind
 end_in text name after space rest behind named first second spacing end =
     let inside : text ≡ (name ++ (space ++ codes ">")) ++ behind =
-      first ∙ (ap (λ t. name ++ t) (second ∙ (ap (λ t. space ++ t) end ∙ sym (append_assoc space (codes ">") behind))) ∙ sym (append_assoc name (space ++ codes ">") behind)) in
+    first ∙ (ap (λ t. name ++ t) (second ∙ (ap (λ t. space ++ t) end ∙ sym (append_assoc space (codes ">") behind))) ∙ sym (append_assoc name (space ++ codes ">") behind)) in
     (codes "</" ++ (name ++ (space ++ codes ">")), ap (λ t. codes "</" ++ t) inside, (space, refl, spacing, named))
 
 -- a text up to a tag
-pub text_in : (text written rest value : List ℕ) → IsCutBefore (codes "<") text written rest → LacksText (codes "]]>") written → StandsFor written value
-    → Begins (λ part. IsText part value) text rest
+pub text_in : (text written rest value : List ℕ) → IsCutBefore (codes "<") text written rest → LacksText (codes "]]>") written → WritesValue written value
+    → Begins (λ part. IsCharacterData part value) text rest
 text_in text written rest value cut lacks stands = (written, cut.whole, (cut.first, lacks, stands))
 
 -- a text that doesn't begin with a mark has characters before it
@@ -83,7 +86,7 @@ pub attribute_in : (attribute : Attribute) (text space named r1 before r2 r3 beh
     → text ≡ space ++ named → 0 < length space → named ≡ attribute.name.now ++ r1 → IsName attribute.name.now → r1 ≡ before ++ r2
     → r2 ≡ codes "=" ++ r3 → r3 ≡ behind ++ quotes → Begins (λ part. IsQuoted part written) quotes rest
     → IsSpacing space → IsSpacing before → IsSpacing behind → LacksText (codes "<") written
-    → StandsFor (spaced written) (string_bytes attribute.value) → Begins (λ part. IsAttribute part attribute) text rest
+    → WritesValue (with_spaces written) (string_bytes attribute.value) → Begins (λ part. IsAttribute part attribute) text rest
 attribute_in attribute text space named r1 before r2 r3 behind quotes written rest e0 apart e1 name e2 e3 e4 quoted s0 s1 s2 lacks stands =
     let n = attribute.name.now in
     let q = quoted.0 in
@@ -91,27 +94,44 @@ attribute_in attribute text space named r1 before r2 r3 behind quotes written re
     let e6 = joined r2 (codes "=") r3 (behind ++ q) rest e3 e5 in
     let e7 = joined r1 before r2 (codes "=" ++ (behind ++ q)) rest e2 e6 in
     let e8 = joined named n r1 (before ++ (codes "=" ++ (behind ++ q))) rest e1 e7 in
-    let e9 = joined text space named (n ++ (before ++ (codes "=" ++ (behind ++ q)))) rest e0 e8 in
-    (space ++ (n ++ (before ++ (codes "=" ++ (behind ++ q)))), e9,
-     record { space = space; before = before; behind = behind; quoted = q; written = written; part_is = refl; apart = apart;
-       spacing = (s0, s1, s2); name = name; quotes = quoted.2; markup = lacks; value = stands })
+    let e9 = joined text space named (n ++ (before ++ (codes "=" ++ (behind ++ q)))) rest e0 e8 in (
+      space ++ (n ++ (before ++ (codes "=" ++ (behind ++ q)))),
+      e9,
+      record {
+        space = space;
+        before = before;
+        behind = behind;
+        quoted = q;
+        written = written;
+        part_is = refl;
+        apart = apart;
+        spacing = (s0, s1, s2);
+        name = name;
+        quotes = quoted.2;
+        markup = lacks;
+        value = stands;
+      },
+    )
 
 -- the name and the attributes of a tag, by its parts
-pub tag_in : (tag : Tag) (text r1 part space rest : List ℕ) → text ≡ tag.name.now ++ r1 → IsName tag.name.now
+pub tag_in : (tag : StartTag) (text r1 part space rest : List ℕ) → text ≡ tag.name.now ++ r1 → IsName tag.name.now
     → r1 ≡ part ++ (space ++ rest) → SpellsInParts SpellsAttribute part tag.attributes.items → IsSpacing space
     → AreDistinct tag.attributes.items → Begins (λ p. IsTag p tag) text rest
-tag_in tag text r1 part space rest e0 name e1 spelled spacing distinct =
-    (tag.name.now ++ (part ++ space),
-     joined text tag.name.now r1 (part ++ space) rest e0 (e1 ∙ sym (append_assoc part space rest)),
-     record { attributes = part; space = space; part_is = refl; name = name; spacing = spacing; spelled = spelled; distinct = distinct })
+tag_in tag text r1 part space rest e0 name e1 spelled spacing distinct = (
+  tag.name.now ++ (part ++ space),
+  joined text tag.name.now r1 (part ++ space) rest e0 (e1 ∙ sym (append_assoc part space rest)),
+  record { attributes = part; space = space; part_is = refl; name = name; spacing = spacing; spelled = spelled; distinct = distinct },
+)
 
 -- one attribute more
 pub attribute_more : (attributes : List Attribute) (attribute : Attribute) (text rest next : List ℕ)
     → Begins (λ part. SpellsInParts SpellsAttribute part attributes) text rest → Begins (λ part. IsAttribute part attribute) rest next
     → Begins (λ part. SpellsInParts SpellsAttribute part (attributes ++ attribute ∷ [])) text next
-attribute_more attributes attribute text rest next before one =
-    (before.0 ++ one.0, joined text before.0 rest one.0 next before.1 one.1,
-     last_part SpellsAttribute before.0 attributes one.0 (attribute ∷ []) before.2 (attribute, refl, one.2))
+attribute_more attributes attribute text rest next before one = (
+  before.0 ++ one.0,
+  joined text before.0 rest one.0 next before.1 one.1,
+  last_part SpellsAttribute before.0 attributes one.0 (attribute ∷ []) before.2 (attribute, refl, one.2),
+)
 
 -- one name more
 pub name_more : (attributes : List Attribute) (attribute : Attribute)
@@ -129,24 +149,28 @@ pub comment_more : (text rest body next space behind : List ℕ) → Begins IsMi
     → Begins IsComment (codes "<!--" ++ body) next → next ≡ space ++ behind → IsSpacing space → Begins IsMiscellany text behind
 comment_more text rest body next space behind before whole comment end spacing =
     let at : rest ≡ comment.0 ++ next = whole ∙ comment.1 in
-    let e0 = joined text before.0 rest comment.0 next before.1 at in
-    ((before.0 ++ comment.0) ++ space, joined text (before.0 ++ comment.0) next space behind e0 end,
-     last_part SpellsNothing (before.0 ++ comment.0) [] space []
-       (last_part SpellsNothing before.0 [] comment.0 [] before.2 (inr comment.2, refl)) (inl spacing, refl))
+    let e0 = joined text before.0 rest comment.0 next before.1 at in (
+      (before.0 ++ comment.0) ++ space,
+      joined text (before.0 ++ comment.0) next space behind e0 end,
+      last_part SpellsNothing (before.0 ++ comment.0) [] space []
+          (last_part SpellsNothing before.0 [] comment.0 [] before.2 (inr comment.2, refl)) (inl spacing, refl),
+    )
 
 -- the first piece of an element
-pub content_first : (piece : Piece) (text rest : List ℕ) → Begins (λ part. IsPiece part piece) text rest
+pub content_first : (piece : ContentPiece) (text rest : List ℕ) → Begins (λ part. IsContentPiece part piece) text rest
     → Begins (λ part. SpellsInParts SpellsContent part (events_of piece)) text rest
 content_first piece text rest one =
     (one.0, one.1, last_part SpellsContent [] [] one.0 (events_of piece) (no_part SpellsContent) (piece, one.2, refl))
 
 -- one piece more
-pub content_more : (events : List Event) (piece : Piece) (text rest next : List ℕ)
-    → Begins (λ part. SpellsInParts SpellsContent part events) text rest → Begins (λ part. IsPiece part piece) rest next
+pub content_more : (events : List Event) (piece : ContentPiece) (text rest next : List ℕ)
+    → Begins (λ part. SpellsInParts SpellsContent part events) text rest → Begins (λ part. IsContentPiece part piece) rest next
     → Begins (λ part. SpellsInParts SpellsContent part (events ++ events_of piece)) text next
-content_more events piece text rest next before one =
-    (before.0 ++ one.0, joined text before.0 rest one.0 next before.1 one.1,
-     last_part SpellsContent before.0 events one.0 (events_of piece) before.2 (piece, one.2, refl))
+content_more events piece text rest next before one = (
+  before.0 ++ one.0,
+  joined text before.0 rest one.0 next before.1 one.1,
+  last_part SpellsContent before.0 events one.0 (events_of piece) before.2 (piece, one.2, refl),
+)
 
 -- a document type, by its parts
 pub document_type_in : (text r0 named r1 after r2 literal r3 rest : List ℕ) (name system : List ℕ)
@@ -168,10 +192,24 @@ document_type_in text r0 named r1 after r2 literal r3 rest name system e0 s0 e1 
     let f4 = joined r1 s1.0 after (codes "SYSTEM" ++ (s2.0 ++ (q.0 ++ p8))) rest s1.1 f5 in
     let f3 = joined named name r1 (s1.0 ++ (codes "SYSTEM" ++ (s2.0 ++ (q.0 ++ p8)))) rest e1 f4 in
     let f2 = joined r0 s0.0 named (name ++ (s1.0 ++ (codes "SYSTEM" ++ (s2.0 ++ (q.0 ++ p8))))) rest s0.1 f3 in
-    let f1 = joined text (codes "<!DOCTYPE") r0 (s0.0 ++ (name ++ (s1.0 ++ (codes "SYSTEM" ++ (s2.0 ++ (q.0 ++ p8)))))) rest e0 f2 in
-    (codes "<!DOCTYPE" ++ (s0.0 ++ (name ++ (s1.0 ++ (codes "SYSTEM" ++ (s2.0 ++ (q.0 ++ p8)))))), f1,
-     record { space = s0.0; name = name; before = s1.0; between = s2.0; quoted = q.0; system = system; end = s3.0; part_is = refl;
-       named = n; apart = (s0.2, s1.2, s2.2); spacing = (s0.3, s1.3, s2.3, s3.2); quotes = q.2 })
+    let f1 = joined text (codes "<!DOCTYPE") r0 (s0.0 ++ (name ++ (s1.0 ++ (codes "SYSTEM" ++ (s2.0 ++ (q.0 ++ p8)))))) rest e0 f2 in (
+      codes "<!DOCTYPE" ++ (s0.0 ++ (name ++ (s1.0 ++ (codes "SYSTEM" ++ (s2.0 ++ (q.0 ++ p8)))))),
+      f1,
+      record {
+        space = s0.0;
+        name = name;
+        before = s1.0;
+        between = s2.0;
+        quoted = q.0;
+        system = system;
+        end = s3.0;
+        part_is = refl;
+        named = n;
+        apart = (s0.2, s1.2, s2.2);
+        spacing = (s0.3, s1.3, s2.3, s3.2);
+        quotes = q.2;
+      },
+    )
 
 -- a declaration, by its parts
 pub declaration_in : (attributes : List Attribute) (text r0 r1 rest : List ℕ) → text ≡ codes "<?xml" ++ r0
@@ -182,10 +220,20 @@ declaration_in attributes text r0 r1 rest e0 spelled distinct declared e1 =
     let space = spelled.1 in
     let f1 = joined (space ++ r1) space r1 (codes "?>") rest refl e1 in
     let f2 = joined r0 part (space ++ r1) (space ++ codes "?>") rest spelled.2 f1 in
-    let f3 = joined text (codes "<?xml") r0 (part ++ (space ++ codes "?>")) rest e0 f2 in
-    (codes "<?xml" ++ (part ++ (space ++ codes "?>")), f3,
-     record { attributes = attributes; written = part; space = space; part_is = refl; spacing = spelled.4; spelled = spelled.3;
-       distinct = distinct; declared = declared })
+    let f3 = joined text (codes "<?xml") r0 (part ++ (space ++ codes "?>")) rest e0 f2 in (
+      codes "<?xml" ++ (part ++ (space ++ codes "?>")),
+      f3,
+      record {
+        attributes = attributes;
+        written = part;
+        space = space;
+        part_is = refl;
+        spacing = spelled.4;
+        spelled = spelled.3;
+        distinct = distinct;
+        declared = declared;
+      },
+    )
 
 -- a prolog, by its parts
 pub prolog_in : (text r0 r1 r2 r3 rest : List ℕ)
@@ -198,7 +246,20 @@ prolog_in text r0 r1 r2 r3 rest m d b t a =
     let f3 = joined r2 t.0 r3 a.0 rest t.1 a.1 in
     let f2 = joined r1 b.0 r2 (t.0 ++ a.0) rest b.1 f3 in
     let f1 = joined r0 d.0 r1 (b.0 ++ (t.0 ++ a.0)) rest d.1 f2 in
-    let f0 = joined text m.0 r0 (d.0 ++ (b.0 ++ (t.0 ++ a.0))) rest m.1 f1 in
-    (m.0 ++ (d.0 ++ (b.0 ++ (t.0 ++ a.0))), f0,
-     record { mark = m.0; declaration = d.0; before = b.0; document_type = t.0; behind = a.0; part_is = refl; mark_is = m.2;
-       declaration_is = d.2; before_is = b.2; document_type_is = t.2; behind_is = a.2 })
+    let f0 = joined text m.0 r0 (d.0 ++ (b.0 ++ (t.0 ++ a.0))) rest m.1 f1 in (
+      m.0 ++ (d.0 ++ (b.0 ++ (t.0 ++ a.0))),
+      f0,
+      record {
+        mark = m.0;
+        declaration = d.0;
+        before = b.0;
+        document_type = t.0;
+        behind = a.0;
+        part_is = refl;
+        mark_is = m.2;
+        declaration_is = d.2;
+        before_is = b.2;
+        document_type_is = t.2;
+        behind_is = a.2;
+      },
+    )

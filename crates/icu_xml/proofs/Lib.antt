@@ -1,5 +1,5 @@
 pub mod PartLemmas
-pub mod CutLemmas
+pub mod MarkCutLemmas
 pub mod DigitLemmas
 pub mod ReferenceLemmas
 pub mod ContentLemmas

@@ -1,15 +1,15 @@
 -- Elements that are open, piece by piece.
 use Rattle.std.proofs.Common.{◌≡◌, ℕ, ◌<◌, List, [], ◌∷◌, ◌++◌, length, refl, subst, sym, ap, ◌∙◌, append_assoc}
 use Rattle.icu_xml.specs.declared.event.Event.{Event}
-use Rattle.icu_xml.specs.declared.content.Piece.{Piece}
-use Rattle.icu_xml.specs.declared.content.Piece.TheVariants.{Opening, Empty, Closing, Characters, Comment}
+use Rattle.icu_xml.specs.declared.content.ContentPiece.{ContentPiece}
+use Rattle.icu_xml.specs.declared.content.ContentPiece.TheVariants.{Opening, Empty, Closing, Characters, Comment}
 use Rattle.icu_xml.specs.SpelledParts.{Begins, SpellsInParts}
 use Rattle.icu_xml.specs.XmlEvents.{Close, AreElement, BeginWithStart}
 use Rattle.icu_xml.specs.XmlMarkup.{Nests, TakesIn, SpellsContent, events_of}
 use Rattle.icu_xml.proofs.ContentLemmas.{content_first, content_more}
 
 -- what closes the elements that are open behind a piece closes, with the piece before it, those open before it
-nests_more : (piece : Piece) (before behind : List (List ℕ)) (more : List Event) → 0 < length before → Nests before piece behind
+nests_more : (piece : ContentPiece) (before behind : List (List ℕ)) (more : List Event) → 0 < length before → Nests before piece behind
     → Close behind more → Close before (events_of piece ++ more)
 nests_more (Opening tag) before behind more some nests closes = (some, subst (λ names. Close names more) nests closes)
 nests_more (Empty tag) before behind more some nests closes = (some, (before, refl, subst (λ names. Close names more) nests closes))
@@ -18,7 +18,7 @@ nests_more (Characters text) before behind more some nests closes = (some, subst
 nests_more Comment before behind more some nests closes = subst (λ names. Close names more) nests closes
 
 -- what closes the elements that are open behind the first piece makes an element of it
-nests_root : (piece : Piece) (behind : List (List ℕ)) (more : List Event) → BeginWithStart (events_of piece) → Nests [] piece behind
+nests_root : (piece : ContentPiece) (behind : List (List ℕ)) (more : List Event) → BeginWithStart (events_of piece) → Nests [] piece behind
     → Close behind more → AreElement (events_of piece ++ more)
 nests_root (Opening tag) behind more start nests closes = subst (λ names. Close names more) nests closes
 nests_root (Empty tag) behind more start nests closes = ([], refl, subst (λ names. Close names more) nests closes)
@@ -36,7 +36,7 @@ pub root_element : (text rest : List ℕ) (events : List Event) (names : List (L
     → BeginWithStart events → (more : List Event) → Close names more → AreElement (events ++ more)
 root_element text rest events names taken start more closes =
     subst (λ found. AreElement (found ++ more)) (sym taken.said)
-      (nests_root taken.piece names more (subst (λ found. BeginWithStart found) taken.said start) taken.nests closes)
+    (nests_root taken.piece names more (subst (λ found. BeginWithStart found) taken.said start) taken.nests closes)
 
 -- one piece more is taken in
 pub more_content : (text middle rest : List ℕ) (before events : List Event) (open_before names : List (List ℕ))
@@ -44,7 +44,7 @@ pub more_content : (text middle rest : List ℕ) (before events : List Event) (o
     → Begins (λ part. SpellsInParts SpellsContent part events) text rest
 more_content text middle rest before events open_before names taken begins =
     subst (λ found. Begins (λ part. SpellsInParts SpellsContent part found) text rest) (sym taken.said)
-      (content_more before taken.piece text middle rest begins taken.begins)
+    (content_more before taken.piece text middle rest begins taken.begins)
 
 pub more_element : (middle rest : List ℕ) (before events : List Event) (open_before names : List (List ℕ))
     → TakesIn middle rest before events open_before names → 0 < length open_before
@@ -52,4 +52,4 @@ pub more_element : (middle rest : List ℕ) (before events : List Event) (open_b
     → (more : List Event) → Close names more → AreElement (events ++ more)
 more_element middle rest before events open_before names taken some element more closes =
     subst (λ found. AreElement found) (sym (ap (λ found. found ++ more) taken.said ∙ append_assoc before (events_of taken.piece) more))
-      (element (events_of taken.piece ++ more) (nests_more taken.piece open_before names more some taken.nests closes))
+    (element (events_of taken.piece ++ more) (nests_more taken.piece open_before names more some taken.nests closes))

@@ -7,8 +7,8 @@ use Rattle.icu_xml.specs.XmlCharacters.{is_character}
 abbrev pub digit_in : ℕ → ℕ → Option ℕ
 digit_in base b =
     let d = if nat_le 48 b && nat_le b 57 then b - 48
-        else (if nat_le 97 b && nat_le b 102 then b - 87
-        else (if nat_le 65 b && nat_le b 70 then b - 55 else 16)) in
+    else (if nat_le 97 b && nat_le b 102 then b - 87
+    else (if nat_le 65 b && nat_le b 70 then b - 55 else 16)) in
     if nat_lt d base then Some d else None
 
 -- the number that digits write behind others which write v
@@ -23,7 +23,8 @@ character_numbered base digits =
     then option_and_then (λ n. if is_character n then Some n else None) (number_after base 0 digits)
     else None
 
--- a reference names a character: one of five by a word (section 4.6), another by its number, in decimal or hexadecimal digits
+-- a reference names a character: one of five by a word (section 4.6), another by its number, in decimal digits or in
+-- hexadecimal ones
 abbrev pub NamesCharacter : List ℕ → ℕ → Type 0
 NamesCharacter name c =
     ((name ≡ codes "lt") × (c ≡ 60)) ⊎ (((name ≡ codes "gt") × (c ≡ 62)) ⊎ (((name ≡ codes "amp") × (c ≡ 38))
@@ -31,12 +32,13 @@ NamesCharacter name c =
     ⊎ (((digits : List ℕ) × (name ≡ codes "#x" ++ digits) × (character_numbered 16 digits ≡ Some c))
     ⊎ ((digits : List ℕ) × (name ≡ codes "#" ++ digits) × (character_numbered 10 digits ≡ Some c)))))))
 
--- a part of a text stands for what it is read as: characters for themselves, a reference for the character that it names
+-- a part of a text stands for what it is read as: characters for themselves, a reference for the character that it
+-- names
 abbrev pub ReadsAs : List ℕ → List ℕ → Type 0
 ReadsAs part value =
     (LacksText (codes "&") part × (value ≡ part))
     ⊎ ((name : List ℕ) × (c : ℕ) × (part ≡ codes "&" ++ (name ++ codes ";")) × NamesCharacter name c × (value ≡ encode_utf8 c))
 
 -- a text with references stands for a value
-abbrev pub StandsFor : List ℕ → List ℕ → Type 0
-StandsFor text value = SpellsInParts ReadsAs text value
+abbrev pub WritesValue : List ℕ → List ℕ → Type 0
+WritesValue text value = SpellsInParts ReadsAs text value

@@ -48,5 +48,5 @@ abbrev pub as_space : ℕ → ℕ
 as_space c = if c == 9 || c == 10 then 32 else c
 
 -- a text with a space for each tab and line feed
-abbrev pub spaced : List ℕ → List ℕ
-spaced text = encode_utf8_all (map as_space (chars text))
+abbrev pub with_spaces : List ℕ → List ℕ
+with_spaces text = encode_utf8_all (map as_space (chars text))

@@ -1,5 +1,5 @@
--- Documents (Extensible Markup Language 1.0, sections 2.1 and 2.8), as far as the files of CLDR need them: a declaration, a
--- document type without a subset of its own, and one element.
+-- Documents (Extensible Markup Language 1.0, sections 2.1 and 2.8), as far as the files of CLDR need them: a
+-- declaration, a document type without a subset of its own, and one element.
 use Rattle.std.specs.Prelude.{◌≡◌, ℕ, ◌<◌, ◌⊎◌, List, [], ◌∷◌, ◌++◌, length, string_bytes, codes, IsTrue}
 use Rattle.std.specs.List.{AllByRecursion, list_all}
 use Rattle.std.specs.Str.{chars, str_to_ascii_lowercase}
@@ -15,7 +15,7 @@ abbrev pub IsFurther : Attribute → Type 0
 IsFurther attribute =
     ((attribute.name.now ≡ codes "encoding") × (str_to_ascii_lowercase (string_bytes attribute.value) ≡ codes "utf-8"))
     ⊎ ((attribute.name.now ≡ codes "standalone")
-      × ((string_bytes attribute.value ≡ codes "yes") ⊎ (string_bytes attribute.value ≡ codes "no")))
+    × ((string_bytes attribute.value ≡ codes "yes") ⊎ (string_bytes attribute.value ≡ codes "no")))
 
 -- the version of a declaration
 abbrev pub IsVersion : Attribute → Type 0
@@ -56,7 +56,8 @@ pub record IsDocumentType (part : List ℕ) : Type 0 where
 abbrev pub IsMiscellany : List ℕ → Type 0
 IsMiscellany part = SpellsInParts SpellsNothing part []
 
--- what stands before the element: a byte order mark, a declaration and a document type, where they are there (section 2.8, prolog)
+-- what stands before the element: a byte order mark, a declaration and a document type, where they are there (section
+-- 2.8, prolog)
 pub record IsProlog (part : List ℕ) : Type 0 where
   pub mark : List ℕ
   pub declaration : List ℕ

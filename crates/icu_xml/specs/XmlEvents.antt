@@ -3,7 +3,7 @@ use Rattle.std.specs.Prelude.{◌≡◌, ◌≢◌, ℕ, ◌<◌, ◌⊎◌, Lis
 use denote.Ref.{Bor}
 use Rattle.icu_xml.specs.declared.event.Event.{Event}
 use Rattle.icu_xml.specs.declared.event.Event.TheVariants.{Start, End, Text}
-use Rattle.icu_xml.specs.declared.event.Tag.{Tag}
+use Rattle.icu_xml.specs.declared.event.StartTag.{StartTag}
 use Rattle.icu_xml.specs.declared.event.Attribute.{Attribute}
 
 -- an attribute of this name is among some
@@ -42,5 +42,5 @@ BeginWithStart (End name ∷ events) = ⊥
 BeginWithStart (Text text ∷ events) = ⊥
 
 -- the bytes of names
-abbrev pub names_of : List (Bor (List ℕ)) → List (List ℕ)
-names_of names = map (λ name. name.now) names
+abbrev pub started_names : List (Bor (List ℕ)) → List (List ℕ)
+started_names names = map (λ name. name.now) names

@@ -6,10 +6,10 @@ ghost use Rattle.icu_xml.specs.XmlEvents.{IsAmong, AreDistinct};
 ghost use Rattle.icu_xml.specs.XmlMarkup.{IsQuoted, IsAttribute, SpellsAttribute, IsTag};
 ghost use Rattle.icu_xml.specs.XmlErrors.{IsWithin};
 
-use crate::event::{Attribute, Tag};
-use crate::references::{spaced, value_of};
-use crate::spans::{behind, cut_around, is_name_start, run, Class};
-use crate::xml_error::{refused, Fault, Reason};
+use crate::event::{Attribute, StartTag};
+use crate::references::{value_of, with_spaces};
+use crate::spans::{Class, behind, cut_around, is_name_start, run};
+use crate::xml_error::{Fault, Reason, refused};
 use std::alloc::Global;
 
 /// How many attributes a tag may have.
@@ -30,7 +30,8 @@ pub(crate) fn name(text: &str) -> Result<(&str, &str), Fault>
 
 /// The text in the quotes that a text begins with, and the rest.
 pub(crate) fn quoted(text: &str) -> Result<(&str, &str), Fault>
-    ensures quoted { IfOk result (λ parts. Begins (λ part. IsQuoted part parts.0.now) text.now parts.1.now) }
+    ensures quoted { IfOk result (λ parts. Begins (λ part. IsQuoted part parts.0.now)
+        text.now parts.1.now) }
     ensures place { IfErr result (IsWithin (length text.now)) }
 {
     if let Some(inside) = behind(text, "\"") {
@@ -50,7 +51,8 @@ pub(crate) fn quoted(text: &str) -> Result<(&str, &str), Fault>
 
 /// The attribute that a text begins with, with white space before it, and the rest.
 fn read_attribute<'t>(alloc: Global, text: &'t str) -> Result<(Attribute<'t>, &'t str), Fault>
-    ensures attribute { IfOk result (λ parts. Begins (λ part. IsAttribute part parts.0) text.now parts.1.now) }
+    ensures attribute { IfOk result (λ parts. Begins (λ part. IsAttribute part parts.0)
+        text.now parts.1.now) }
     ensures place { IfErr result (IsWithin (length text.now)) }
 {
     let (space, named) = run(text, Class::Space);
@@ -67,7 +69,7 @@ fn read_attribute<'t>(alloc: Global, text: &'t str) -> Result<(Attribute<'t>, &'
     if let Some((_, _)) = cut_around(written, "<") {
         return Err(refused(quotes, Reason::MarkupInValue));
     }
-    let plain = spaced(alloc, written)?;
+    let plain = with_spaces(alloc, written)?;
     let Ok(value) = value_of(alloc, plain.as_str(), 0) else {
         return Err(refused(quotes, Reason::Reference));
     };
@@ -91,7 +93,8 @@ pub(crate) fn read_attributes<'t>(
     alloc: Global,
     text: &'t str,
 ) -> Result<(Vec<Attribute<'t>>, &'t str), Fault>
-    ensures spelled { IfOk result (λ parts. (part space : List ℕ) × (text.now ≡ part ++ (space ++ parts.1.now))
+    ensures spelled { IfOk result (λ parts. (part space : List ℕ)
+        × (text.now ≡ part ++ (space ++ parts.1.now))
         × SpellsInParts SpellsAttribute part parts.0.items × IsSpacing space) }
     ensures distinct { IfOk result (λ parts. AreDistinct parts.0.items) }
     ensures place { IfErr result (IsWithin (length text.now)) }
@@ -117,11 +120,12 @@ pub(crate) fn read_attributes<'t>(
 }
 
 /// The name and the attributes of a tag, and the rest behind white space.
-pub(crate) fn read_tag<'t>(alloc: Global, text: &'t str) -> Result<(Tag<'t>, &'t str), Fault>
-    ensures tag { IfOk result (λ parts. Begins (λ part. IsTag part parts.0) text.now parts.1.now) }
+pub(crate) fn read_tag<'t>(alloc: Global, text: &'t str) -> Result<(StartTag<'t>, &'t str), Fault>
+    ensures tag { IfOk result (λ parts. Begins (λ part. IsTag part parts.0)
+        text.now parts.1.now) }
     ensures place { IfErr result (IsWithin (length text.now)) }
 {
     let (name, rest) = name(text)?;
     let (attributes, rest) = read_attributes(alloc, rest)?;
-    Ok((Tag { name, attributes }, rest))
+    Ok((StartTag { name, attributes }, rest))
 }

@@ -1,23 +1,23 @@
 //! The pieces of an element's content.
 ghost use Rattle.std.specs.Prelude.{◌≡◌, ◌≢◌, ℕ, ◌+◌, ◌<◌, ◌≤◌, ◌⊎◌, ◌++◌, ◌∷◌, [], List, length, IfOk, IfErr, codes, string_bytes};
 ghost use Rattle.icu_xml.specs.SpelledParts.{Begins};
-ghost use Rattle.icu_xml.specs.XmlMarkup.{IsComment, IsEnd, IsText, IsCdata, IsPiece, IsTag};
+ghost use Rattle.icu_xml.specs.XmlMarkup.{IsComment, IsEnd, IsCharacterData, IsCdata, IsContentPiece, IsTag};
 ghost use Rattle.icu_xml.specs.XmlErrors.{IsWithin};
 
 use crate::attributes::{name, read_tag};
-use crate::event::Tag;
+use crate::event::StartTag;
 use crate::references::value_of;
-use crate::spans::{behind, cut_around, cut_before, run, Class};
-use crate::xml_error::{refused, Fault, Reason};
+use crate::spans::{Class, behind, cut_around, cut_before, run};
+use crate::xml_error::{Fault, Reason, refused};
 use std::alloc::Global;
 
 /// A piece of an element's content.
 #[derive(Debug, Drop)]
-pub(crate) enum Piece<'t> {
+pub(crate) enum ContentPiece<'t> {
     /// The start of an element.
-    Opening(Tag<'t>),
+    Opening(StartTag<'t>),
     /// An element with nothing in it.
-    Empty(Tag<'t>),
+    Empty(StartTag<'t>),
     /// The end of an element.
     Closing(&'t str),
     /// A text, or a CDATA section.
@@ -42,8 +42,9 @@ pub(crate) fn read_comment(text: &str) -> Result<&str, Fault>
 }
 
 /// A section, of a text that begins behind its `<![CDATA[`, and the rest.
-fn section<'t>(alloc: Global, text: &'t str) -> Result<(Piece<'t>, &'t str), Fault>
-    ensures piece { IfOk result (λ parts. Begins (λ part. IsPiece part parts.0) (codes "<![CDATA[" ++ text.now) parts.1.now) }
+fn section<'t>(alloc: Global, text: &'t str) -> Result<(ContentPiece<'t>, &'t str), Fault>
+    ensures piece { IfOk result (λ parts. Begins (λ part. IsContentPiece part parts.0)
+        (codes "<![CDATA[" ++ text.now) parts.1.now) }
     ensures shorter { IfOk result (λ parts. length parts.1.now < length text.now) }
     ensures place { IfErr result (IsWithin (length text.now)) }
 {
@@ -51,12 +52,13 @@ fn section<'t>(alloc: Global, text: &'t str) -> Result<(Piece<'t>, &'t str), Fau
         return Err(refused(text, Reason::CutOff));
     };
     let value = String::from_str(alloc, value)?;
-    Ok((Piece::Characters(value), rest))
+    Ok((ContentPiece::Characters(value), rest))
 }
 
 /// The end of an element, of a text that begins behind its `</`, and the rest.
-fn closing(text: &str) -> Result<(Piece<'_>, &str), Fault>
-    ensures piece { IfOk result (λ parts. Begins (λ part. IsPiece part parts.0) (codes "</" ++ text.now) parts.1.now) }
+fn closing(text: &str) -> Result<(ContentPiece<'_>, &str), Fault>
+    ensures piece { IfOk result (λ parts. Begins (λ part. IsContentPiece part parts.0)
+        (codes "</" ++ text.now) parts.1.now) }
     ensures shorter { IfOk result (λ parts. length parts.1.now < length text.now) }
     ensures place { IfErr result (IsWithin (length text.now)) }
 {
@@ -65,28 +67,30 @@ fn closing(text: &str) -> Result<(Piece<'_>, &str), Fault>
     let Some(rest) = behind(rest, ">") else {
         return Err(refused(rest, Reason::TagEnd));
     };
-    Ok((Piece::Closing(name), rest))
+    Ok((ContentPiece::Closing(name), rest))
 }
 
 /// The start of an element, or one with nothing in it, of a text that begins behind its `<`, and the rest.
-fn opening<'t>(alloc: Global, text: &'t str) -> Result<(Piece<'t>, &'t str), Fault>
-    ensures piece { IfOk result (λ parts. Begins (λ part. IsPiece part parts.0) (codes "<" ++ text.now) parts.1.now) }
+fn opening<'t>(alloc: Global, text: &'t str) -> Result<(ContentPiece<'t>, &'t str), Fault>
+    ensures piece { IfOk result (λ parts. Begins (λ part. IsContentPiece part parts.0)
+        (codes "<" ++ text.now) parts.1.now) }
     ensures shorter { IfOk result (λ parts. length parts.1.now < length text.now) }
     ensures place { IfErr result (IsWithin (length text.now)) }
 {
     let (tag, rest) = read_tag(alloc, text)?;
     if let Some(rest) = behind(rest, "/>") {
-        return Ok((Piece::Empty(tag), rest));
+        return Ok((ContentPiece::Empty(tag), rest));
     }
     let Some(rest) = behind(rest, ">") else {
         return Err(refused(rest, Reason::TagEnd));
     };
-    Ok((Piece::Opening(tag), rest))
+    Ok((ContentPiece::Opening(tag), rest))
 }
 
 /// A text up to the next tag, and the rest.
-fn characters<'t>(alloc: Global, text: &'t str) -> Result<(Piece<'t>, &'t str), Fault>
-    ensures piece { IfOk result (λ parts. Begins (λ part. IsPiece part parts.0) text.now parts.1.now) }
+fn characters<'t>(alloc: Global, text: &'t str) -> Result<(ContentPiece<'t>, &'t str), Fault>
+    ensures piece { IfOk result (λ parts. Begins (λ part. IsContentPiece part parts.0)
+        text.now parts.1.now) }
     ensures shorter { ((rest : List ℕ) → text.now ≢ codes "<" ++ rest)
         → IfOk result (λ parts. length parts.1.now < length text.now) }
     ensures place { IfErr result (IsWithin (length text.now)) }
@@ -98,18 +102,22 @@ fn characters<'t>(alloc: Global, text: &'t str) -> Result<(Piece<'t>, &'t str), 
         return Err(refused(text, Reason::SectionEnd));
     }
     let value = value_of(alloc, written, rest.len())?;
-    Ok((Piece::Characters(value), rest))
+    Ok((ContentPiece::Characters(value), rest))
 }
 
 /// The piece that a text begins with, and the rest.
-pub(crate) fn read_piece<'t>(alloc: Global, text: &'t str) -> Result<(Piece<'t>, &'t str), Fault>
-    ensures piece { IfOk result (λ parts. Begins (λ part. IsPiece part parts.0) text.now parts.1.now) }
+pub(crate) fn read_piece<'t>(
+    alloc: Global,
+    text: &'t str,
+) -> Result<(ContentPiece<'t>, &'t str), Fault>
+    ensures piece { IfOk result (λ parts. Begins (λ part. IsContentPiece part parts.0)
+        text.now parts.1.now) }
     ensures shorter { IfOk result (λ parts. length parts.1.now < length text.now) }
     ensures place { IfErr result (IsWithin (length text.now)) }
 {
     if let Some(body) = behind(text, "<!--") {
         let rest = read_comment(body)?;
-        return Ok((Piece::Comment, rest));
+        return Ok((ContentPiece::Comment, rest));
     }
     if let Some(body) = behind(text, "<![CDATA[") {
         return section(alloc, body);

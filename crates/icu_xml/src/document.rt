@@ -5,16 +5,16 @@ ghost use Rattle.std.specs.Str.{chars};
 ghost use Rattle.icu_xml.specs.declared.event.Event.{Event};
 ghost use Rattle.icu_xml.specs.SpelledParts.{Begins, SpellsInParts};
 ghost use Rattle.icu_xml.specs.XmlCharacters.{is_plain_character};
-ghost use Rattle.icu_xml.specs.XmlEvents.{AreElement, Close, BeginWithStart, names_of};
+ghost use Rattle.icu_xml.specs.XmlEvents.{AreElement, Close, BeginWithStart, started_names};
 ghost use Rattle.icu_xml.specs.XmlMarkup.{SpellsContent, Nests, TakesIn, events_of};
 ghost use Rattle.icu_xml.specs.XmlDocuments.{IsDocument};
 ghost use Rattle.icu_xml.specs.XmlErrors.{IsWithin, IsPlaceIn, line_behind, column_behind, next_column};
 
-use crate::content::{read_piece, Piece};
+use crate::content::{ContentPiece, read_piece};
 use crate::event::Event;
 use crate::prolog::{behind_prolog, miscellany};
 use crate::references::is_character;
-use crate::xml_error::{refused, Fault, Reason, Refusal, XmlError};
+use crate::xml_error::{Fault, Reason, Refusal, XmlError, refused};
 use std::alloc::Global;
 
 /// Whether a character is read as it stands.
@@ -47,7 +47,8 @@ fn left_at_refused(text: &str) -> usize
 
 /// Closes the element that started last, whose name has to be this.
 fn close(started: &mut Vec<&str>, name: &str, left: usize) -> Result<(), Fault>
-    ensures closed { OnOk result (names_of started.old.items ≡ names_of started.new.items ++ name.now ∷ []) }
+    ensures closed { OnOk result (started_names started.old.items
+        ≡ started_names started.new.items ++ name.now ∷ []) }
     ensures place { IfErr result (IsWithin left) }
 {
     match started.pop() {
@@ -60,45 +61,46 @@ fn close(started: &mut Vec<&str>, name: &str, left: usize) -> Result<(), Fault>
 }
 
 /// Takes in which elements are open behind a piece.
-fn nest<'t>(piece: &Piece<'t>, started: &mut Vec<&'t str>, left: usize) -> Result<(), Fault>
-    ensures nests { OnOk result (Nests (names_of started.old.items) piece.now (names_of started.new.items)) }
+fn nest<'t>(piece: &ContentPiece<'t>, started: &mut Vec<&'t str>, left: usize) -> Result<(), Fault>
+    ensures nests { OnOk result (Nests (started_names started.old.items) piece.now
+        (started_names started.new.items)) }
     ensures place { IfErr result (IsWithin left) }
 {
     match piece {
-        Piece::Opening(tag) => {
+        ContentPiece::Opening(tag) => {
             started.push(tag.name)?;
             Ok(())
         }
-        Piece::Closing(name) => close(started, name, left),
+        ContentPiece::Closing(name) => close(started, name, left),
         _ => Ok(()),
     }
 }
 
 /// Takes in the events that a piece says.
-fn say<'t>(piece: Piece<'t>, events: &mut Vec<Event<'t>>) -> Result<(), Fault>
+fn say<'t>(piece: ContentPiece<'t>, events: &mut Vec<Event<'t>>) -> Result<(), Fault>
     ensures events { OnOk result (events.new.items ≡ events.old.items ++ events_of piece.entry) }
     ensures place { IfErr result (IsWithin 0) }
 {
     match piece {
-        Piece::Opening(tag) => {
+        ContentPiece::Opening(tag) => {
             events.push(Event::Start(tag))?;
             Ok(())
         }
-        Piece::Empty(tag) => {
+        ContentPiece::Empty(tag) => {
             let name = tag.name;
             events.push(Event::Start(tag))?;
             events.push(Event::End(name))?;
             Ok(())
         }
-        Piece::Closing(name) => {
+        ContentPiece::Closing(name) => {
             events.push(Event::End(name))?;
             Ok(())
         }
-        Piece::Characters(text) => {
+        ContentPiece::Characters(text) => {
             events.push(Event::Text(text))?;
             Ok(())
         }
-        Piece::Comment => Ok(()),
+        ContentPiece::Comment => Ok(()),
     }
 }
 
@@ -109,8 +111,9 @@ fn take_in<'t>(
     events: &mut Vec<Event<'t>>,
     started: &mut Vec<&'t str>,
 ) -> Result<&'t str, Fault>
-    ensures taken { IfOk result (λ rest. TakesIn text.now rest.now events.old.items events.new.items
-        (names_of started.old.items) (names_of started.new.items)) }
+    ensures taken { IfOk result (λ rest.
+        TakesIn text.now rest.now events.old.items events.new.items
+        (started_names started.old.items) (started_names started.new.items)) }
     ensures shorter { IfOk result (λ rest. length rest.now < length text.now) }
     ensures place { IfErr result (IsWithin (length text.now)) }
 {
@@ -132,8 +135,8 @@ fn begin_with_start(events: &[Event<'_>]) -> bool
 
 /// The events of the element that a text begins with, and the rest.
 fn element<'t>(alloc: Global, text: &'t str) -> Result<(Vec<Event<'t>>, &'t str), Fault>
-    ensures content { IfOk result (λ parts. Begins (λ part. SpellsInParts SpellsContent part parts.0.items)
-        text.now parts.1.now) }
+    ensures content { IfOk result (λ parts.
+        Begins (λ part. SpellsInParts SpellsContent part parts.0.items) text.now parts.1.now) }
     ensures element { IfOk result (λ parts. AreElement parts.0.items) }
     ensures place { IfErr result (IsWithin (length text.now)) }
 {

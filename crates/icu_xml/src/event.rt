@@ -11,7 +11,7 @@ pub struct Attribute<'t> {
 
 /// The start of an element.
 #[derive(Debug, Drop)]
-pub struct Tag<'t> {
+pub struct StartTag<'t> {
     /// The element's name, as the text has it.
     pub name: &'t str,
     /// Its attributes, in the order of the text. No two have one name.
@@ -22,7 +22,7 @@ pub struct Tag<'t> {
 #[derive(Debug, Drop)]
 pub enum Event<'t> {
     /// An element starts.
-    Start(Tag<'t>),
+    Start(StartTag<'t>),
     /// The element of this name ends, which started last of those that are open.
     End(&'t str),
     /// A text between two tags, comments or sections: references are characters. Texts that follow one another belong

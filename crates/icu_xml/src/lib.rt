@@ -14,7 +14,7 @@ mod spans;
 pub mod xml_error;
 
 pub use document::read_document;
-pub use event::{Attribute, Event, Tag};
+pub use event::{Attribute, Event, StartTag};
 pub use xml_error::{Reason, XmlError};
 
 #[cfg(test)]

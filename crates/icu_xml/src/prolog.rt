@@ -9,8 +9,8 @@ ghost use Rattle.icu_xml.specs.XmlErrors.{IsWithin};
 use crate::attributes::{name, quoted, read_attributes};
 use crate::content::read_comment;
 use crate::event::Attribute;
-use crate::spans::{behind, run, Class};
-use crate::xml_error::{refused, Fault, Reason};
+use crate::spans::{Class, behind, run};
+use crate::xml_error::{Fault, Reason, refused};
 use std::alloc::Global;
 
 /// The rest behind white space and comments.
@@ -89,8 +89,8 @@ fn declaration(alloc: Global, text: &str) -> Result<&str, Fault>
 
 /// The rest behind white space that has to be there.
 fn space(text: &str) -> Result<&str, Fault>
-    ensures space { IfOk result (λ rest. (part : List ℕ) × (text.now ≡ part ++ rest.now) × (0 < length part)
-        × IsSpacing part) }
+    ensures space { IfOk result (λ rest. (part : List ℕ) × (text.now ≡ part ++ rest.now)
+        × (0 < length part) × IsSpacing part) }
     ensures place { IfErr result (IsWithin (length text.now)) }
 {
     let (space, rest) = run(text, Class::Space);
@@ -102,8 +102,8 @@ fn space(text: &str) -> Result<&str, Fault>
 
 /// The end of a document type.
 fn document_type_end(text: &str) -> Result<&str, Fault>
-    ensures end { IfOk result (λ rest. (part : List ℕ) × (text.now ≡ part ++ (codes ">" ++ rest.now))
-        × IsSpacing part) }
+    ensures end { IfOk result (λ rest. (part : List ℕ)
+        × (text.now ≡ part ++ (codes ">" ++ rest.now)) × IsSpacing part) }
     ensures place { IfErr result (IsWithin (length text.now)) }
 {
     let (_, rest) = run(text, Class::Space);
@@ -128,7 +128,11 @@ fn document_type(text: &str) -> Result<&str, Fault>
     let after = space(rest)?;
     let Some(rest) = behind(after, "SYSTEM") else {
         let subset = behind(after, "[").is_some();
-        let reason = if subset { Reason::InternalSubset } else { Reason::DocumentType };
+        let reason = if subset {
+            Reason::InternalSubset
+        } else {
+            Reason::DocumentType
+        };
         return Err(refused(after, reason));
     };
     let literal = space(rest)?;

@@ -1,7 +1,7 @@
 //! References to characters.
 ghost use Rattle.std.specs.Prelude.{◌≡◌, ◌+◌, ◌*◌, ◌^◌, ◌<◌, ◌≤◌, ℕ, Some, None, length, IfSome, IfOk, IfErr, OnErr, IsTrue, MatchOption, string_bytes};
-ghost use Rattle.icu_xml.specs.CharacterReferences.{digit_in, number_after, character_numbered, NamesCharacter, StandsFor};
-ghost use Rattle.icu_xml.specs.XmlCharacters.{is_character, spaced, as_space};
+ghost use Rattle.icu_xml.specs.CharacterReferences.{digit_in, number_after, character_numbered, NamesCharacter, WritesValue};
+ghost use Rattle.icu_xml.specs.XmlCharacters.{is_character, with_spaces, as_space};
 ghost use Rattle.icu_xml.specs.XmlErrors.{IsWithin};
 
 use crate::spans::{behind, cut_around};
@@ -77,7 +77,7 @@ fn character_named(name: &str) -> Option<char>
 
 /// The value that a text with references stands for. A fault counts the bytes behind the text too.
 pub(crate) fn value_of(alloc: Global, text: &str, bytes_behind: usize) -> Result<String, Fault>
-    ensures value { IfOk result (λ value. StandsFor text.now (string_bytes value)) }
+    ensures value { IfOk result (λ value. WritesValue text.now (string_bytes value)) }
     ensures place { IfErr result (IsWithin (bytes_behind + length text.now)) }
 {
     let mut value = String::new(alloc);
@@ -105,8 +105,8 @@ pub(crate) fn value_of(alloc: Global, text: &str, bytes_behind: usize) -> Result
 }
 
 /// A text with a space for each tab and line feed.
-pub(crate) fn spaced(alloc: Global, text: &str) -> Result<String, AllocError>
-    ensures { IfOk result (λ value. string_bytes value ≡ spaced text.now) }
+pub(crate) fn with_spaces(alloc: Global, text: &str) -> Result<String, AllocError>
+    ensures { IfOk result (λ value. string_bytes value ≡ with_spaces text.now) }
 {
     text.chars()
         .map(|c| if c == '\t' || c == '\n' { ' ' } else { c })

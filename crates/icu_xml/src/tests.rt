@@ -1,6 +1,6 @@
 //! Small documents, read and refused.
 
-use crate::{read_document, Event, Reason, XmlError};
+use crate::{Event, Reason, XmlError, read_document};
 use std::alloc::{AllocError, Global};
 use std::test::Fail;
 
@@ -50,11 +50,20 @@ fn documents_are_read(rt: HostRuntime) -> Result<(), Fail> {
             "<?xml version=\"1.0\" encoding=\"UTF-8\" ?>\n<!DOCTYPE ldml SYSTEM \"ldml.dtd\">\n<!-- c -->\n<ldml>x</ldml>\n<!-- d -->\n",
             "+ldml|'x|-ldml|",
         ),
-        ("<?xml version='1.0' encoding='utf-8' standalone='no'?><a/>", "+a|-a|"),
+        (
+            "<?xml version='1.0' encoding='utf-8' standalone='no'?><a/>",
+            "+a|-a|",
+        ),
         ("<a b = '1' c:d=\"&quot;'\"  />", "+a b=1 c:d=\"'|-a|"),
         ("<a b='1\n\t2&#10;3'/>", "+a b=1  2\n3|-a|"),
-        ("<a>&lt;&gt;&amp;&quot;&apos;&#x41;&#97;&#x10FFFF;</a>", "+a|'<>&\"'Aa\u{10FFFF}|-a|"),
-        ("<a>x<!-- y -->z<![CDATA[&<]]]><b >t</b ></a>", "+a|'x|'z|'&<]|+b|'t|-b|-a|"),
+        (
+            "<a>&lt;&gt;&amp;&quot;&apos;&#x41;&#97;&#x10FFFF;</a>",
+            "+a|'<>&\"'Aa\u{10FFFF}|-a|",
+        ),
+        (
+            "<a>x<!-- y -->z<![CDATA[&<]]]><b >t</b ></a>",
+            "+a|'x|'z|'&<]|+b|'t|-b|-a|",
+        ),
         ("<a>é\nÅ</a>", "+a|'é\nÅ|-a|"),
     ];
     for (text, events) in rows {
@@ -76,10 +85,25 @@ fn other_texts_are_refused(rt: HostRuntime) -> Result<(), Fail> {
         ("<a>\u{7}</a>", 1, 4, Reason::Character),
         ("<a>\r\n</a>", 1, 4, Reason::Character),
         ("<?xml version='1.1'?><a/>", 1, 1, Reason::Declaration),
-        ("<?xml version='1.0' encoding='latin1'?><a/>", 1, 1, Reason::Declaration),
+        (
+            "<?xml version='1.0' encoding='latin1'?><a/>",
+            1,
+            1,
+            Reason::Declaration,
+        ),
         ("<a><?php ?></a>", 1, 4, Reason::ProcessingInstruction),
-        ("<!DOCTYPE a PUBLIC 'b' 'c'><a/>", 1, 13, Reason::DocumentType),
-        ("<!DOCTYPE a SYSTEM 'b' [<!ENTITY c 'd'>]><a/>", 1, 24, Reason::InternalSubset),
+        (
+            "<!DOCTYPE a PUBLIC 'b' 'c'><a/>",
+            1,
+            13,
+            Reason::DocumentType,
+        ),
+        (
+            "<!DOCTYPE a SYSTEM 'b' [<!ENTITY c 'd'>]><a/>",
+            1,
+            24,
+            Reason::InternalSubset,
+        ),
         ("<!DOCTYPE a []><a/>", 1, 13, Reason::InternalSubset),
         ("x<a/>", 1, 1, Reason::Root),
         ("<a/><b/>", 1, 5, Reason::BehindRoot),

@@ -9,5 +9,5 @@ pub returns-clause-piece : goal.returns-clause-piece
 returns-clause-piece c =
     let e : string_bytes c.in_ok-value.value ≡ c.in-Some.value.now = search rules in
     let begins = subst (λ v. Begins (λ part. IsCdata part v) (codes "<![CDATA[" ++ c.args.text.now) c.in-Some.rest.now) (sym e)
-      (section_in c.args.text.now c.in-Some.value.now c.in-Some.rest.now c.in-Some.ensures) in
+    (section_in c.args.text.now c.in-Some.value.now c.in-Some.rest.now c.in-Some.ensures) in
     (begins.0, begins.1, inr begins.2)

@@ -6,8 +6,8 @@ use Rattle.icu_xml.proofs.document.column_behind.Goals as goal
 pub loop-byte-preserved : goal.loop-byte-preserved
 loop-byte-preserved c = record {
   column =
-    ap (λ n. column_from n (drop (c.loop-byte.byte-index + 1) c.args.bytes.now)) c.next_column-column.ensures.value
-    ∙ (sym (column_more c.loop-byte.column c.args.bytes.now c.loop-byte.byte-index (omega arith)) ∙ c.loop-byte.invariant.column);
+      ap (λ n. column_from n (drop (c.loop-byte.byte-index + 1) c.args.bytes.now)) c.next_column-column.ensures.value
+      ∙ (sym (column_more c.loop-byte.column c.args.bytes.now c.loop-byte.byte-index (omega arith)) ∙ c.loop-byte.invariant.column);
   some = c.next_column-column.ensures.some c.loop-byte.invariant.some;
   bound = omega (arith, c.next_column-column.ensures.bound, c.loop-byte.invariant.bound);
 }

@@ -3,7 +3,7 @@ use Rattle.std.proofs.lemmas.List.{append-nil, length-map, nil_from_length}
 use Rattle.std.proofs.lemmas.Bool.Decides.{nat_tests}
 use Rattle.std.proofs.lemmas.Grind.{common_steps}
 use denote.Ref.{Bor}
-use Rattle.icu_xml.specs.XmlEvents.{AreElement, BeginWithStart, names_of}
+use Rattle.icu_xml.specs.XmlEvents.{AreElement, BeginWithStart, started_names}
 use Rattle.icu_xml.specs.XmlMarkup.{TakesIn}
 use Rattle.icu_xml.proofs.NestLemmas.{root_content, root_element, more_content, more_element}
 use Rattle.icu_xml.proofs.document.element.Goals as goal
@@ -13,10 +13,10 @@ reading-init c =
     let text = c.args.text.now in
     let rest = c.in_ok-root.root.now in
     let events = c.take_in.new.events.items in
-    let names = names_of c.take_in.new.started.items in
+    let names = started_names c.take_in.new.started.items in
     let taken : TakesIn text rest [] events [] names =
-      subst (λ found. TakesIn text rest found events [] names) c.new-events.ensures.items
-        (subst (λ found. TakesIn text rest c.new-events.result.items events (names_of found) names) c.new-started.ensures.items c.in_ok-root.ensures.taken) in
+    subst (λ found. TakesIn text rest found events [] names) c.new-events.ensures.items
+    (subst (λ found. TakesIn text rest c.new-events.result.items events (started_names found) names) c.new-started.ensures.items c.in_ok-root.ensures.taken) in
     let start : BeginWithStart events = search rules in
     record {
       content = root_content text rest events names taken;
@@ -28,9 +28,9 @@ reading-init c =
 pub reading-preserved : goal.reading-preserved
 reading-preserved c =
     let before = c.reading.events.items in
-    let open_before = names_of c.reading.started.items in
+    let open_before = started_names c.reading.started.items in
     let events = c.take_in-in-reading.new.events.items in
-    let names = names_of c.take_in-in-reading.new.started.items in
+    let names = started_names c.take_in-in-reading.new.started.items in
     let any : 0 < c.reading.started.len = first_of (search rules, grind (arith, nat_tests), grind (arith, common_steps)) in
     let items = length-map c.reading.started.items (λ (name : Bor (List ℕ)). name.now) in
     let some : 0 < length open_before = omega (arith, any, items, c.reading.started.ok.0) in
@@ -45,4 +45,4 @@ pub returns-clause-element : goal.returns-clause-element
 returns-clause-element c =
     let none : c.reading.started.len ≡ 0 = first_of (search rules, grind (arith, nat_tests), grind (arith, common_steps)) in
     let empty = nil_from_length c.reading.started.items (omega (arith, none, c.reading.started.ok.0)) in
-    subst (λ es. AreElement es) (append-nil c.reading.events.items) (c.reading.invariant.element [] (ap names_of empty))
+    subst (λ es. AreElement es) (append-nil c.reading.events.items) (c.reading.invariant.element [] (ap started_names empty))

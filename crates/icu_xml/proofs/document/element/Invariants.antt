@@ -2,14 +2,14 @@ use Rattle.std.proofs.Common.{List, ◌++◌, length, ◌≤◌}
 use Rattle.std.specs.Str.{IsUtf8}
 use Rattle.icu_xml.specs.declared.event.Event.{Event}
 use Rattle.icu_xml.specs.SpelledParts.{Begins, SpellsInParts}
-use Rattle.icu_xml.specs.XmlEvents.{Close, AreElement, names_of}
+use Rattle.icu_xml.specs.XmlEvents.{Close, AreElement, started_names}
 use Rattle.icu_xml.specs.XmlMarkup.{SpellsContent}
 use Rattle.icu_xml.proofs.document.element.Given as goal
 
 abbrev pub invariant-reading : goal.invariant-reading
 invariant-reading l = record {
   content : Begins (λ part. SpellsInParts SpellsContent part l.events.items) l.text l.rest;
-  element : (more : List Event) → Close (names_of l.started.items) more → AreElement (l.events.items ++ more);
+  element : (more : List Event) → Close (started_names l.started.items) more → AreElement (l.events.items ++ more);
   within : length l.rest ≤ length l.text;
   utf8 : IsUtf8 l.rest;
 }

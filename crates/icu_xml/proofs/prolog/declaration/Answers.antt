@@ -7,5 +7,5 @@ pub returns-in-Some-behind-clause-declaration : goal.returns-in-Some-behind-clau
 returns-in-Some-behind-clause-declaration c =
     let declared : AreDeclared c.in_ok-attributes.attributes.items = search rules in
     let found = declaration_in c.in_ok-attributes.attributes.items c.args.text.now c.in-Some.rest.now c.in_ok-attributes.rest.now c.in-Some-behind.rest.now
-      c.in-Some.ensures c.in_ok-attributes.ensures.spelled c.in_ok-attributes.ensures.distinct declared c.in-Some-behind.ensures in
+    c.in-Some.ensures c.in_ok-attributes.ensures.spelled c.in_ok-attributes.ensures.distinct declared c.in-Some-behind.ensures in
     (found.0, found.1, inr found.2)

@@ -11,6 +11,6 @@ reading-init c = record {
 pub reading-preserved : goal.reading-preserved
 reading-preserved c = record {
   spelled = comment_more c.args.text.now c.reading.rest.now c.in-Some.body.now c.in_ok-next.next.now c.run-in-Some.result.0.now c.run-in-Some.result.1.now
-    c.reading.invariant.spelled c.in-Some.ensures c.in_ok-next.ensures.comment c.run-in-Some.ensures.whole c.run-in-Some.ensures.each;
+      c.reading.invariant.spelled c.in-Some.ensures c.in_ok-next.ensures.comment c.run-in-Some.ensures.whole c.run-in-Some.ensures.each;
   utf8 = search rules;
 }

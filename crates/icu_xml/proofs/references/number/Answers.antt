@@ -20,7 +20,7 @@ returns-in_err-number c =
 pub loop-byte-preserved : goal.loop-byte-preserved
 loop-byte-preserved c =
     let more = number_more c.args.base c.loop-byte.number c.args.digits.now c.loop-byte.byte-index c.in_ok-number.field-0 (omega arith)
-      (sym c.digit_in.ensures.digit ∙ c.in_ok-number.was) in
+    (sym c.digit_in.ensures.digit ∙ c.in_ok-number.was) in
     record {
       number = sym more ∙ c.loop-byte.invariant.number;
       bound = digit_more c.args.base c.loop-byte.byte-index c.loop-byte.number c.in_ok-number.field-0 c.requires.base c.loop-byte.invariant.bound c.in_ok-number.ensures.bound;

@@ -1,12 +1,12 @@
 use Rattle.std.proofs.Common.{◌≡◌, ℕ, ◌≤◌, List, ◌++◌, length, string_bytes}
 use Rattle.std.specs.Str.{IsUtf8}
 use Rattle.icu_xml.specs.SpelledParts.{Begins}
-use Rattle.icu_xml.specs.CharacterReferences.{StandsFor}
+use Rattle.icu_xml.specs.CharacterReferences.{WritesValue}
 use Rattle.icu_xml.proofs.references.value_of.Given as goal
 
 abbrev pub invariant-reading : goal.invariant-reading
 invariant-reading l = record {
-  spelled : Begins (λ part. StandsFor part (string_bytes l.value)) l.text l.rest;
+  spelled : Begins (λ part. WritesValue part (string_bytes l.value)) l.text l.rest;
   within : length l.rest ≤ length l.text;
   utf8 : IsUtf8 l.rest;
 }

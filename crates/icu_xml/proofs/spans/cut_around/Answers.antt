@@ -1,4 +1,4 @@
-use Rattle.icu_xml.proofs.CutLemmas.{cut_around_cases}
+use Rattle.icu_xml.proofs.MarkCutLemmas.{cut_around_cases}
 use Rattle.icu_xml.proofs.spans.cut_around.Goals as goal
 
 pub returns : goal.returns

@@ -23,7 +23,7 @@ lacks_before_first mark s i some inside none before after e =
     let middle : length (mark ++ after) ≡ length mark + length after = length-append mark after in
     let short : length (take i s) ≡ i = length-take-le i s inside in
     let split : s ≡ before ++ (mark ++ (after ++ drop i s)) =
-        sym (take-append-drop i s) ∙ (ap (λ t. t ++ drop i s) e ∙ (append_assoc before (mark ++ after) (drop i s) ∙ ap (λ t. before ++ t) (append_assoc mark after (drop i s)))) in
+    sym (take-append-drop i s) ∙ (ap (λ t. t ++ drop i s) e ∙ (append_assoc before (mark ++ after) (drop i s) ∙ ap (λ t. before ++ t) (append_assoc mark after (drop i s)))) in
     none (length before) (omega arith) (after ++ drop i s) (ap (drop (length before)) split ∙ drop-append_seam before (mark ++ (after ++ drop i s)))
 
 -- what `split_once` gives
@@ -34,8 +34,8 @@ cut_around_cases mark s None some h = lacks_where_none mark s h
 cut_around_cases mark s (Some x) some h = record {
   whole = split_text_parts mark s (Some x) h;
   first =
-    let inside : h.0 ≤ length s = omega (arith, h.5, h.7) in
-    subst (λ t. LacksText mark t) (sym h.3) (lacks_before_first mark s h.0 some inside h.2.0);
+      let inside : h.0 ≤ length s = omega (arith, h.5, h.7) in
+      subst (λ t. LacksText mark t) (sym h.3) (lacks_before_first mark s h.0 some inside h.2.0);
 }
 
 -- a text cut where `find` finds a mark
