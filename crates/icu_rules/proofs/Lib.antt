@@ -1,1 +1,7 @@
 pub mod SkipLemmas
+pub mod EscapeLemmas
+pub mod StringLemmas
+pub mod BracketLemmas
+pub mod StatementLemmas
+pub mod ParsingLemmas
+pub mod StarredLemmas

@@ -4,3 +4,6 @@ pub mod Tokens
 pub mod RuleWords
 pub mod Statements
 pub mod TakenText
+pub mod TakenStatements
+pub mod Imports
+pub mod Places

@@ -1,8 +1,8 @@
--- What the characters of rules are for (UTS #35 part 5, "Rule Syntax").
+-- What the characters of rules are for (UTS #35 part 5, "Collation Tailorings").
 use Rattle.std.specs.Prelude.{ℕ, Bool, true, false, nat_le, ◌==◌, ◌||◌, ◌&&◌, not, List, [], ◌∷◌, ◌++◌, IsTrue, ◌≡◌, ◌⊎◌, if◌then◌else◌}
 use Rattle.std.specs.List.{list_all}
 
--- white space, which separates: Pattern_White_Space (UAX #31)
+-- white space, which separates: Pattern_White_Space of Unicode
 unfoldable pub is_white : ℕ → Bool
 is_white c =
     (nat_le 9 c && nat_le c 13) || c == 32 || c == 0x85

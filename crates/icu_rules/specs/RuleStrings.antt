@@ -1,17 +1,18 @@
--- How strings are spelled, with quotes and escapes (UTS #35 part 5, "Rule Syntax").
-use Rattle.std.specs.Prelude.{ℕ, Bool, true, false, ◌+◌, ◌*◌, ◌≤◌, ◌<◌, List, [], ◌∷◌, ◌++◌, length, IsTrue, ◌≡◌, ◌≢◌, ◌⊎◌, fold}
+-- How strings are spelled, with quotes and escapes (UTS #35 part 5, "Collation Tailorings").
+use Rattle.std.specs.Prelude.{ℕ, Bool, true, false, ◌+◌, ◌*◌, ◌≤◌, ◌<◌, List, [], ◌∷◌, ◌++◌, length, IsTrue, ◌≡◌, ◌≢◌, ◌⊎◌}
 use Rattle.std.specs.List.{AllByRecursion}
 use Rattle.std.specs.Char.{IsScalar, digit_value}
 use Rattle.icu_rules.specs.RuleCharacters.{is_plain}
 
--- the number that hexadecimal digits write
-unfoldable pub hex_number : List ℕ → ℕ
-hex_number digits = fold (λ n digit. n * 16 + digit_value digit) 0 digits
+-- the number that hexadecimal digits write behind those of a number
+abbrev pub hex_number : ℕ → List ℕ → ℕ
+hex_number n [] = n
+hex_number n (digit ∷ digits) = hex_number (n * 16 + digit_value digit) digits
 
 -- hexadecimal digits write the number of a character
 pub record WritesInHex (c : ℕ) (digits : List ℕ) : Type 0 where
   pub each : AllByRecursion (λ digit. digit_value digit < 16) digits
-  pub value : c ≡ hex_number digits
+  pub value : c ≡ hex_number 0 digits
   pub scalar : IsScalar c
 
 -- what stands behind a backslash, for a character: itself, or its number after u, U or x

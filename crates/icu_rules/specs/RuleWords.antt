@@ -1,4 +1,4 @@
--- The words of positions and settings (UTS #35 part 5, "Logical Reset Positions" and "Setting Options").
+-- The words of positions and settings (UTS #35 part 5, "Collation Tailorings" and "Setting Options").
 use Rattle.std.specs.Prelude.{ℕ, Bool, true, false, List, [], ◌∷◌, map, ◌≡◌, ◌≢◌, ◌⊎◌, codes, string_bytes, encode_utf8_all}
 use Rattle.icu_options.specs.declared.settings.Strength.{Strength}
 use Rattle.icu_options.specs.declared.settings.Strength.TheVariants as strengths

@@ -1,8 +1,9 @@
--- The tokens of each statement, and which statements may follow which (UTS #35 part 5, "Orderings" and what follows it).
+-- The tokens of each statement, and which statements may follow which (UTS #35 part 5, "Collation Tailorings").
 use Rattle.std.specs.Prelude.{ℕ, Bool, true, false, not, ◌==◌, ◌≤◌, List, [], ◌∷◌, ◌++◌, map, Option, Some, None, IsTrue, ◌≡◌, ◌≢◌, ◌⊎◌, ◌||◌, codes, String, string_bytes, encode_utf8_all}
+use Rattle.std.specs.Char.{IsScalar}
 use Rattle.std.specs.List.{AllByRecursion}
 use Rattle.ucd_normal.specs.CanonicalCombiningClass.{canonical_combining_class}
-use Rattle.unicode_normalization.specs.Forms.{nfd}
+use Rattle.unicode_normalization.specs.Decompose.{decompose_canonical}
 use Rattle.std.specs.declared.alloc.Global.{Global}
 use Rattle.icu_options.specs.declared.settings.Strength.{Strength}
 use Rattle.icu_options.specs.declared.settings.Strength.TheVariants as strengths
@@ -57,19 +58,22 @@ abbrev pub HasContext : List ℕ → List ℕ → Type 0
 HasContext [] s = Unit {0}
 HasContext (c ∷ prefix) s = BeginsWithStarter (c ∷ prefix) × BeginsWithStarter s
 
+-- what stands behind the sign of a relation
+abbrev pub relation_parts : Relation → List Token
+relation_parts r = prefix_tokens r.prefix.items ++ string r.string.items ∷ extension_tokens r.extension.items
+
 abbrev pub AreRelation : Relation → List Token → Type 0
 AreRelation r tokens = HasContext r.prefix.items r.string.items
-    × (tokens ≡ relation_sign r.strength false
-    ∷ prefix_tokens r.prefix.items ++ string r.string.items ∷ extension_tokens r.extension.items)
+    × (tokens ≡ relation_sign r.strength false ∷ relation_parts r)
 
 -- the range of one character
 abbrev pub single : ℕ → CharRange
 single c = record { first = c; last = c }
 
--- the tokens of strings with dashes between
-abbrev pub starred_tokens : List ℕ → List (List ℕ) → List Token
-starred_tokens first [] = string first ∷ []
-starred_tokens first (next ∷ more) = string first ∷ range_sign ∷ starred_tokens next more
+-- the tokens of strings with a dash before each
+abbrev pub dashed_tokens : List (List ℕ) → List Token
+dashed_tokens [] = []
+dashed_tokens (next ∷ more) = range_sign ∷ string next ∷ dashed_tokens more
 
 -- The ranges that a string, and strings behind it with a dash before each, name. A range goes from the last character
 -- before a dash to the first one behind it, which begins no other range.
@@ -82,16 +86,16 @@ NameRanges s ((c ∷ next) ∷ more) ranges = (front : List ℕ) × (last : ℕ)
 
 -- a character that neither decomposes nor is a combining mark of a class above 0 (UAX #15)
 abbrev pub IsInert : ℕ → Type 0
-IsInert c = (nfd (c ∷ []) ≡ c ∷ []) × (canonical_combining_class c ≡ 0)
+IsInert c = (decompose_canonical c ≡ c ∷ []) × (canonical_combining_class c ≡ 0)
 
 -- each character of the range is inert
 abbrev pub IsInertRange : CharRange → Type 0
-IsInertRange range = (c : ℕ) → range.first ≤ c → c ≤ range.last → IsInert c
+IsInertRange range = (c : ℕ) → range.first ≤ c → c ≤ range.last → IsScalar c → IsInert c
 
 abbrev pub AreStarred : StarredRelation → List Token → Type 0
 AreStarred r tokens = (first : List ℕ) × (more : List (List ℕ)) × NameRanges first more r.ranges.items
     × AllByRecursion IsInertRange r.ranges.items
-    × (tokens ≡ relation_sign r.strength true ∷ starred_tokens first more)
+    × (tokens ≡ relation_sign r.strength true ∷ string first ∷ dashed_tokens more)
 
 -- the text of a word
 abbrev pub WritesWord : String Global → List ℕ → Type 0
@@ -150,12 +154,12 @@ level_number strengths.Tertiary = 3
 level_number strengths.Quaternary = 4
 level_number strengths.Identical = 5
 
--- a relation of this strength may stand here. Behind a reset with [before n] the first relation has strength n, and
--- none is stronger
+-- A relation of this strength may stand here. Behind a reset with [before n] the first relation is as strong as that,
+-- and none is stronger.
 abbrev pub MayRelate : Chain → Strength → Type 0
 MayRelate chains.Outside strength = ⊥
 MayRelate (chains.BehindReset None) strength = Unit {0}
-MayRelate (chains.BehindReset (Some before)) strength = strength ≡ before
+MayRelate (chains.BehindReset (Some before)) strength = level_number strength ≡ level_number before
 MayRelate (chains.BehindRelation None) strength = Unit {0}
 MayRelate (chains.BehindRelation (Some before)) strength = level_number before ≤ level_number strength
 
@@ -165,21 +169,32 @@ IsComplete chains.Outside = Unit {0}
 IsComplete (chains.BehindReset before) = ⊥
 IsComplete (chains.BehindRelation before) = Unit {0}
 
+-- the statement may stand here: a relation behind a reset or a relation, and others where each reset has its relation
+abbrev pub MayStand : Chain → Statement → Type 0
+MayStand chain (statements.Reset reset) = IsComplete chain
+MayStand chain (statements.Relation r) = MayRelate chain r.strength
+MayStand chain (statements.Starred r) = MayRelate chain r.strength
+MayStand chain (statements.Setting setting) = IsComplete chain
+MayStand chain (statements.Import tag) = IsComplete chain
+
 -- what stands behind a relation
 abbrev pub after_relation : Chain → Chain
 after_relation chains.Outside = chains.Outside
 after_relation (chains.BehindReset before) = chains.BehindRelation before
 after_relation (chains.BehindRelation before) = chains.BehindRelation before
 
--- The statements may stand here, in this order: relations behind a reset or a relation, and at least one behind each
--- reset.
+-- what stands behind a statement
+abbrev pub chain_after : Chain → Statement → Chain
+chain_after chain (statements.Reset reset) = chains.BehindReset reset.before
+chain_after chain (statements.Relation r) = after_relation chain
+chain_after chain (statements.Starred r) = after_relation chain
+chain_after chain (statements.Setting setting) = chains.Outside
+chain_after chain (statements.Import tag) = chains.Outside
+
+-- the statements may stand here, in this order, and each reset has its relation
 abbrev pub AreInOrder : Chain → List Statement → Type 0
 AreInOrder chain [] = IsComplete chain
-AreInOrder chain (statements.Reset reset ∷ more) = IsComplete chain × AreInOrder (chains.BehindReset reset.before) more
-AreInOrder chain (statements.Relation r ∷ more) = MayRelate chain r.strength × AreInOrder (after_relation chain) more
-AreInOrder chain (statements.Starred r ∷ more) = MayRelate chain r.strength × AreInOrder (after_relation chain) more
-AreInOrder chain (statements.Setting setting ∷ more) = IsComplete chain × AreInOrder chains.Outside more
-AreInOrder chain (statements.Import tag ∷ more) = IsComplete chain × AreInOrder chains.Outside more
+AreInOrder chain (statement ∷ more) = MayStand chain statement × AreInOrder (chain_after chain statement) more
 
 -- The statements and the text say the same: the text spells their tokens, and they may stand so.
 pub record SpellStatements (stated : List Statement) (text : List ℕ) : Type 0 where

@@ -1,4 +1,4 @@
--- The signs, strings and brackets that rules are written in, and how each is spelled (UTS #35 part 5, "Rule Syntax").
+-- The signs, strings and brackets that rules are written in, and how each is spelled (UTS #35 part 5, "Collation Tailorings").
 use Rattle.std.specs.Prelude.{ℕ, Bool, true, false, not, ◌≤◌, List, [], ◌∷◌, ◌++◌, IsTrue, ◌≡◌, ◌≢◌, ◌⊎◌, codes}
 use Rattle.std.specs.List.{list_all}
 use Rattle.icu_options.specs.declared.settings.Strength.{Strength}
@@ -28,7 +28,7 @@ pub data Token : Type 0 where
   -- a word and a set in brackets
   set_bracket : List ℕ → List CharRange → Token
 
--- the sign of a strength (UTS #35 part 5, "Orderings")
+-- the sign of a strength (UTS #35 part 5, "Collation Tailorings")
 abbrev pub sign_of : Strength → List ℕ
 sign_of Primary = codes "<"
 sign_of Secondary = codes "<<"

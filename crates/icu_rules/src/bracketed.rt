@@ -1,7 +1,10 @@
 //! Statements in brackets.
-ghost use Rattle.std.specs.Prelude.{◌≤◌, length, IfOk};
+ghost use Rattle.std.specs.Prelude.{◌≡◌, ◌≤◌, [], ◌∷◌, length, map, codes, IfOk};
+ghost use Rattle.icu_rules.specs.Tokens.{bracket, set_bracket};
+ghost use Rattle.icu_rules.specs.Statements.{AreStatement, WritesWord, WriteWords, setting_tokens};
+ghost use Rattle.icu_rules.specs.TakenStatements.{TakesStatement, IsUnrelated};
 
-use crate::brackets::{Bracket, is_word, read_bracket};
+use crate::brackets::{Bracket, is_word, only_word, read_bracket, split_words};
 use crate::rules_error::RulesErrorKind;
 use crate::statement::{CharRange, RuleSetting, Statement};
 use crate::unplaced_error::UnplacedError;
@@ -9,25 +12,66 @@ use crate::words::setting_of;
 use std::alloc::{AllocError, Global};
 
 /// A word as text.
-fn text_of(alloc: Global, word: &[char]) -> Result<String, AllocError> {
-    let mut text = String::new(alloc);
-    for c in word {
-        text.push(*c)?;
-    }
-    Ok(text)
+fn text_of(alloc: Global, word: &[char]) -> Result<String, AllocError>
+    ensures { IfOk result (λ s. WritesWord s word.now) }
+{
+    word.iter().copied().collect(alloc)
 }
 
 /// Words as texts.
-fn texts_of(alloc: Global, words: &[&[char]]) -> Result<Vec<String>, AllocError> {
+fn texts_of(alloc: Global, words: &[&[char]]) -> Result<Vec<String>, AllocError>
+    ensures { IfOk result (λ r. WriteWords r.items (map (λ word. word.now) words.now)) }
+{
     let mut texts = Vec::new(alloc);
     for word in words {
-        texts.push(text_of(alloc, word)?)?;
+        let text = text_of(alloc, word)?;
+        texts.push(text)?;
     }
     Ok(texts)
 }
 
-/// Why words that are no setting aren't.
+/// The groups of `[reorder ..]`. The text begins with the bracket.
+fn groups_of(
+    alloc: Global,
+    text: &[char],
+    words: &[&[char]],
+) -> Result<Statement, UnplacedError>
+    ensures says { IfOk result (λ s. AreStatement s
+        (bracket (codes "reorder" ∷ map (λ word. word.now) words.now) ∷ [])) }
+    ensures unrelated { IfOk result IsUnrelated }
+{
+    if words.is_empty() {
+        return Err(UnplacedError::at(text, RulesErrorKind::UnknownValue));
+    }
+    let groups = texts_of(alloc, words)?;
+    Ok(Statement::Setting(RuleSetting::Reorder(groups)))
+}
+
+/// The statement of a name and a value in brackets. The text begins with the bracket.
+fn named(
+    alloc: Global,
+    text: &[char],
+    name: &[char],
+    value: &[char],
+) -> Result<Statement, UnplacedError>
+    ensures says { IfOk result (λ s. AreStatement s (setting_tokens name.now value.now)) }
+    ensures unrelated { IfOk result IsUnrelated }
+{
+    if is_word(name, b"import") {
+        let tag = text_of(alloc, value)?;
+        return Ok(Statement::Import(tag));
+    }
+    match setting_of(name, value) {
+        Ok(setting) => Ok(Statement::Setting(setting)),
+        Err(kind) => Err(UnplacedError::at(text, kind)),
+    }
+}
+
+/// Why words that are no name and value are no setting.
 fn refused_words(name: &[char]) -> RulesErrorKind {
+    if is_word(name, b"import") {
+        return RulesErrorKind::UnknownValue;
+    }
     match setting_of(name, &[]) {
         Err(kind) => kind,
         Ok(_) => RulesErrorKind::UnknownValue,
@@ -35,22 +79,19 @@ fn refused_words(name: &[char]) -> RulesErrorKind {
 }
 
 /// The statement of words in brackets, or why there is none. The text begins with the bracket.
-fn worded(alloc: Global, text: &[char], words: &[&[char]]) -> Result<Statement, UnplacedError> {
-    match words {
-        [name, groups @ ..] if is_word(name, b"reorder") => match groups {
-            [] => Err(UnplacedError::at(text, RulesErrorKind::UnknownValue)),
-            _ => Ok(Statement::Setting(RuleSetting::Reorder(texts_of(alloc, groups)?))),
-        },
-        [name, rest @ ..] if is_word(name, b"import") => match rest {
-            [tag] => Ok(Statement::Import(text_of(alloc, tag)?)),
-            _ => Err(UnplacedError::at(text, RulesErrorKind::UnknownValue)),
-        },
-        [name, value] => match setting_of(name, value) {
-            Ok(setting) => Ok(Statement::Setting(setting)),
-            Err(kind) => Err(UnplacedError::at(text, kind)),
-        },
-        [name, ..] => Err(UnplacedError::at(text, refused_words(name))),
-        [] => Err(UnplacedError::at(text, RulesErrorKind::UnknownSetting)),
+fn worded(alloc: Global, text: &[char], words: &[&[char]]) -> Result<Statement, UnplacedError>
+    ensures says { IfOk result (λ s. AreStatement s (bracket (map (λ word. word.now) words.now) ∷ [])) }
+    ensures unrelated { IfOk result IsUnrelated }
+{
+    let Some((name, rest)) = split_words(words) else {
+        return Err(UnplacedError::at(text, RulesErrorKind::UnknownSetting));
+    };
+    if is_word(name, b"reorder") {
+        return groups_of(alloc, text, rest);
+    }
+    match only_word(rest) {
+        Some(value) => named(alloc, text, name, value),
+        None => Err(UnplacedError::at(text, refused_words(name))),
     }
 }
 
@@ -59,7 +100,10 @@ fn of_set(
     text: &[char],
     word: &[char],
     ranges: Vec<CharRange>,
-) -> Result<Statement, UnplacedError> {
+) -> Result<Statement, UnplacedError>
+    ensures says { IfOk result (λ s. AreStatement s (set_bracket word.now ranges.items ∷ [])) }
+    ensures unrelated { IfOk result IsUnrelated }
+{
     if is_word(word, b"suppressContractions") {
         Ok(Statement::Setting(RuleSetting::SuppressContractions(ranges)))
     } else if is_word(word, b"optimize") {
@@ -76,7 +120,10 @@ pub(crate) fn read_bracketed<'t>(
     text: &'t [char],
     inside: &'t [char],
 ) -> Result<(Statement, &'t [char]), UnplacedError>
+    requires opened { text.now ≡ 91 ∷ inside.now }
     ensures len { IfOk result (λ r. length r.1.now ≤ length inside.now) }
+    ensures taken { IfOk result (λ r. TakesStatement text.now r.0 r.1.now) }
+    ensures unrelated { IfOk result (λ r. IsUnrelated r.0) }
 {
     let (bracket, after) = read_bracket(alloc, text, inside)?;
     match bracket {

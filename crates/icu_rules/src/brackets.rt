@@ -1,5 +1,9 @@
 //! Words and sets in brackets.
-ghost use Rattle.std.specs.Prelude.{◌≡◌, ◌+◌, ◌<◌, ◌≤◌, length, IfOk, IfSome};
+ghost use Rattle.std.specs.Prelude.{◌≡◌, ◌+◌, ◌<◌, ◌≤◌, [], ◌∷◌, ◌++◌, length, map, MatchOption, IsTrue, IfOk, IfSome};
+ghost use Rattle.std.specs.List.{list_all};
+ghost use Rattle.icu_rules.specs.RuleCharacters.{is_word_character};
+ghost use Rattle.icu_rules.specs.Tokens.{IsNoWord};
+ghost use Rattle.icu_rules.specs.TakenText.{SkipsWord, TakesWords, TakesMember, TakesRange, TakesSet, Takes, bracket_token};
 
 use crate::blanks::{is_plain, is_word_character, skip_white};
 use crate::escapes::read_escape;
@@ -10,31 +14,75 @@ use crate::unplaced_error::UnplacedError;
 use std::alloc::{AllocError, Global};
 
 /// Whether a word is this one.
-pub(crate) fn is_word(word: &[char], name: &[u8]) -> bool {
-    word.len() == name.len()
-        && word
-            .iter()
-            .zip(name)
-            .all(|(c, byte)| *c as u32 == *byte as u32)
+pub(crate) fn is_word(word: &[char], name: &[u8]) -> bool
+    ensures { IsTrue result → word.now ≡ name.now }
+{
+    let mut rest = word;
+    for byte in name {
+        match behind(rest, *byte as char) {
+            Some(after) => rest = after,
+            None => return false,
+        }
+    }
+    rest.is_empty()
+}
+
+/// The first word, and the words behind it.
+pub(crate) fn split_words<'w, 't>(
+    words: &'w [&'t [char]],
+) -> Option<(&'t [char], &'w [&'t [char]])>
+    ensures split { MatchOption result (words.now ≡ [])
+        (λ r. map (λ word. word.now) words.now ≡ r.0.now ∷ map (λ word. word.now) r.1.now) }
+    ensures len { IfSome result (λ r. length r.1.now < length words.now) }
+{
+    match words {
+        [] => None,
+        [first, rest @ ..] => Some((*first, rest)),
+    }
+}
+
+/// The word, if there is no other.
+pub(crate) fn only_word<'t>(words: &[&'t [char]]) -> Option<&'t [char]>
+    ensures { IfSome result (λ only. map (λ word. word.now) words.now ≡ only.now ∷ []) }
+{
+    match split_words(words)? {
+        (word, rest) if rest.is_empty() => Some(word),
+        _ => None,
+    }
+}
+
+/// What follows the word that a text begins with.
+fn behind_word(text: &[char]) -> &[char]
+    ensures word { SkipsWord text.now result.now }
+    ensures ends { IsNoWord result.now }
+    ensures len { length result.now ≤ length text.now }
+{
+    let mut rest = text;
+    while let Some((c, after)) = split_first(rest) {
+        if !is_word_character(c) {
+            return rest;
+        }
+        rest = after;
+    }
+    rest
 }
 
 /// The word that a text begins with, and what follows it.
 fn split_word(text: &[char]) -> (&[char], &[char])
     ensures len { length result.0.now + length result.1.now ≡ length text.now }
+    ensures word { IsTrue (list_all is_word_character result.0.now) }
+    ensures whole { text.now ≡ result.0.now ++ result.1.now }
+    ensures ends { IsNoWord result.1.now }
 {
-    let mut rest = text;
-    while let Some((c, after)) = split_first(rest) {
-        if !is_word_character(c) {
-            break;
-        }
-        rest = after;
-    }
+    let rest = behind_word(text);
     text.split_at(text.len() - rest.len())
 }
 
 /// The words that a text begins with, and what follows them and their white space.
 fn read_words(alloc: Global, text: &[char]) -> Result<(Vec<&[char]>, &[char]), AllocError>
     ensures len { IfOk result (λ r. length r.1.now ≤ length text.now) }
+    ensures taken { IfOk result (λ r.
+        TakesWords text.now (map (λ word. word.now) r.0.items) r.1.now) }
 {
     let mut words = Vec::new(alloc);
     let mut rest = skip_white(text);
@@ -49,7 +97,7 @@ fn read_words(alloc: Global, text: &[char]) -> Result<(Vec<&[char]>, &[char]), A
 
 /// What stands in brackets.
 #[derive(Debug, Drop)]
-pub(crate) enum Bracket<'t> {
+pub enum Bracket<'t> {
     /// Words.
     Words(Vec<&'t [char]>),
     /// A word and a set.
@@ -59,6 +107,7 @@ pub(crate) enum Bracket<'t> {
 /// The character of a set that a text begins with, and what follows it.
 fn read_member(text: &[char]) -> Option<(char, &[char])>
     ensures len { IfSome result (λ r. length r.1.now < length text.now) }
+    ensures taken { IfSome result (λ r. TakesMember text.now r.0 r.1.now) }
 {
     let (c, after) = split_first(text)?;
     if c == '\\' {
@@ -73,6 +122,7 @@ fn read_member(text: &[char]) -> Option<(char, &[char])>
 /// The range of a set that a text begins with, and what follows it.
 fn read_range(text: &[char]) -> Result<(CharRange, &[char]), RulesErrorKind>
     ensures len { IfOk result (λ r. length r.1.now < length text.now) }
+    ensures taken { IfOk result (λ r. TakesRange text.now r.0 r.1.now) }
 {
     let Some((first, after)) = read_member(text) else {
         return Err(RulesErrorKind::CharacterSet);
@@ -96,6 +146,7 @@ fn read_set<'t>(
     inside: &'t [char],
 ) -> Result<(Vec<CharRange>, &'t [char]), UnplacedError>
     ensures len { IfOk result (λ r. length r.1.now ≤ length inside.now) }
+    ensures taken { IfOk result (λ r. TakesSet inside.now r.0.items r.1.now) }
 {
     let mut ranges = Vec::new(alloc);
     let mut rest = skip_white(inside);
@@ -121,16 +172,17 @@ pub(crate) fn read_bracket<'t>(
     text: &'t [char],
     inside: &'t [char],
 ) -> Result<(Bracket<'t>, &'t [char]), UnplacedError>
+    requires opened { text.now ≡ 91 ∷ inside.now }
     ensures len { IfOk result (λ r. length r.1.now ≤ length inside.now) }
+    ensures taken { IfOk result (λ r. Takes text.now (bracket_token r.0 ∷ []) r.1.now) }
 {
     let (words, rest) = read_words(alloc, inside)?;
     if let Some(after) = behind(rest, ']') {
         return Ok((Bracket::Words(words), after));
     }
-    let (Some(set), [word]) = (behind(rest, '['), words.as_slice()) else {
+    let (Some(set), Some(word)) = (behind(rest, '['), only_word(words.as_slice())) else {
         return Err(UnplacedError::at(text, RulesErrorKind::UnclosedBracket));
     };
-    let word = *word;
     let (ranges, after) = read_set(alloc, rest, set)?;
     match behind(skip_white(after), ']') {
         Some(after) => Ok((Bracket::Set(word, ranges), after)),

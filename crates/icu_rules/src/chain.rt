@@ -1,9 +1,12 @@
 //! Which statements may follow which.
+ghost use Rattle.std.specs.Prelude.{◌≡◌, IsTrue, IfNone};
+ghost use Rattle.icu_rules.specs.Statements.{level_number};
+
 use crate::rules_error::RulesErrorKind;
 use crate::statement::Statement;
 use icu_options::Strength;
 
-/// What stands before a statement (UTS #35 part 5, "Orderings").
+/// What stands before a statement (UTS #35 part 5, "Collation Tailorings").
 #[derive(Debug, Clone, Copy, PartialEq, Eq)]
 pub enum Chain {
     /// Nothing that a relation may follow.
@@ -14,9 +17,26 @@ pub enum Chain {
     BehindRelation(Option<Strength>),
 }
 
+/// The number of a level, from 1 on.
+fn level_number(strength: Strength) -> u8
+    ensures { result ≡ level_number strength }
+{
+    match strength {
+        Strength::Primary => 1,
+        Strength::Secondary => 2,
+        Strength::Tertiary => 3,
+        Strength::Quaternary => 4,
+        Strength::Identical => 5,
+    }
+}
+
 impl Chain {
+    ghost use Rattle.icu_rules.specs.Statements.{IsComplete, MayRelate, chain_after, after_relation};
+
     /// Whether the reset before has its relation.
-    pub(crate) fn is_complete(self) -> bool {
+    pub(crate) fn is_complete(self) -> bool
+        ensures { IsTrue result → IsComplete self }
+    {
         match self {
             Chain::BehindReset(_) => false,
             Chain::Outside | Chain::BehindRelation(_) => true,
@@ -24,21 +44,33 @@ impl Chain {
     }
 
     /// Why no relation of this strength may stand here, if it may not.
-    pub(crate) fn refusal(self, strength: Strength) -> Option<RulesErrorKind> {
+    pub(crate) fn refusal(self, strength: Strength) -> Option<RulesErrorKind>
+        ensures { IfNone result (MayRelate self strength) }
+    {
         match self {
             Chain::Outside => Some(RulesErrorKind::Statement),
-            Chain::BehindReset(Some(before)) if strength != before => {
-                Some(RulesErrorKind::OtherStrengthThanBefore)
+            Chain::BehindReset(Some(before)) => {
+                if level_number(strength) == level_number(before) {
+                    None
+                } else {
+                    Some(RulesErrorKind::OtherStrengthThanBefore)
+                }
             }
-            Chain::BehindRelation(Some(before)) if strength < before => {
-                Some(RulesErrorKind::StrongerThanBefore)
+            Chain::BehindRelation(Some(before)) => {
+                if level_number(before) <= level_number(strength) {
+                    None
+                } else {
+                    Some(RulesErrorKind::StrongerThanBefore)
+                }
             }
-            _ => None,
+            Chain::BehindReset(None) | Chain::BehindRelation(None) => None,
         }
     }
 
     /// What stands behind a statement.
-    pub(crate) fn after(self, statement: &Statement) -> Chain {
+    pub(crate) fn after(self, statement: &Statement) -> Chain
+        ensures { result ≡ chain_after self statement.now }
+    {
         match statement {
             Statement::Reset(reset) => Chain::BehindReset(reset.before),
             Statement::Relation(_) | Statement::Starred(_) => self.after_relation(),
@@ -47,7 +79,9 @@ impl Chain {
     }
 
     /// What stands behind a relation.
-    fn after_relation(self) -> Chain {
+    fn after_relation(self) -> Chain
+        ensures { result ≡ after_relation self }
+    {
         match self {
             Chain::Outside => Chain::Outside,
             Chain::BehindReset(before) | Chain::BehindRelation(before) => {

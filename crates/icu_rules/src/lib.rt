@@ -8,17 +8,21 @@ mod brackets;
 mod chain;
 mod escapes;
 mod first;
+pub mod imports;
 mod parsing;
 mod relations;
 mod resets;
 pub mod rules;
 pub mod rules_error;
+#[cfg(test)]
+mod rule_rows;
 mod starred;
 pub mod statement;
 mod strings;
 mod unplaced_error;
 mod words;
 
+pub use imports::RuleSource;
 pub use rules::{PlacedStatement, Rules};
 pub use rules_error::{RulesError, RulesErrorKind};
 pub use statement::{

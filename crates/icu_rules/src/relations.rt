@@ -1,5 +1,9 @@
 //! Relations of strings.
-ghost use Rattle.std.specs.Prelude.{◌<◌, ◌≤◌, length, IfOk, IfSome};
+ghost use Rattle.std.specs.Prelude.{◌≡◌, ◌<◌, ◌≤◌, false, [], ◌∷◌, ◌++◌, length, IsTrue, IfOk, IfSome};
+ghost use Rattle.icu_rules.specs.Tokens.{string};
+ghost use Rattle.icu_rules.specs.Statements.{prefix_tokens, extension_tokens, relation_parts, BeginsWithStarter, HasContext};
+ghost use Rattle.icu_rules.specs.TakenText.{Takes};
+ghost use Rattle.icu_rules.specs.TakenStatements.{StarBehind, TakesSign};
 
 use crate::blanks::skip_blanks;
 use crate::first::{behind, split_first};
@@ -13,7 +17,7 @@ use unicode_normalization::char::canonical_combining_class;
 
 /// The sign of a relation.
 #[derive(Debug, Clone, Copy, PartialEq, Eq)]
-pub(crate) struct Sign {
+pub struct Sign {
     /// Its strength.
     pub strength: Strength,
     /// Whether a star follows it.
@@ -23,6 +27,8 @@ pub(crate) struct Sign {
 /// A sign without the star behind it, and what follows both.
 fn with_star(strength: Strength, text: &[char]) -> (Sign, &[char])
     ensures len { length result.1.now ≤ length text.now }
+    ensures strength { result.0.strength ≡ strength }
+    ensures star { StarBehind result.0.is_starred text.now result.1.now }
 {
     let (is_starred, after) = match behind(text, '*') {
         Some(after) => (true, after),
@@ -36,7 +42,9 @@ fn with_star(strength: Strength, text: &[char]) -> (Sign, &[char])
 }
 
 /// A sign that never has a star.
-fn without_star(strength: Strength) -> Sign {
+fn without_star(strength: Strength) -> Sign
+    ensures { (result.strength ≡ strength) × (result.is_starred ≡ false) }
+{
     Sign {
         strength,
         is_starred: false,
@@ -46,6 +54,7 @@ fn without_star(strength: Strength) -> Sign {
 /// The sign behind its first `<`, and what follows it.
 fn read_less(text: &[char]) -> (Sign, &[char])
     ensures len { length result.1.now ≤ length text.now }
+    ensures taken { TakesSign (60 ∷ text.now) result.0 result.1.now }
 {
     let Some(second) = behind(text, '<') else {
         return with_star(Strength::Primary, text);
@@ -62,6 +71,7 @@ fn read_less(text: &[char]) -> (Sign, &[char])
 /// The sign of a relation that a text begins with, and what follows it.
 pub(crate) fn read_sign(text: &[char]) -> Option<(Sign, &[char])>
     ensures len { IfSome result (λ r. length r.1.now < length text.now) }
+    ensures taken { IfSome result (λ r. TakesSign text.now r.0 r.1.now) }
 {
     let (c, after) = split_first(text)?;
     match c {
@@ -79,6 +89,8 @@ fn read_context(
     text: &[char],
 ) -> Result<(Vec<char>, Vec<char>, &[char]), UnplacedError>
     ensures len { IfOk result (λ r. length r.2.now ≤ length text.now) }
+    ensures taken { IfOk result (λ r.
+        Takes text.now (prefix_tokens r.0.items ++ string r.1.items ∷ []) r.2.now) }
 {
     let (first, rest) = read_string(alloc, text, RulesErrorKind::RelationWithoutString)?;
     match behind(skip_blanks(rest), '|') {
@@ -93,15 +105,21 @@ fn read_context(
 /// The extension that a text begins with, and what follows it. It may be empty.
 fn read_extension(alloc: Global, text: &[char]) -> Result<(Vec<char>, &[char]), UnplacedError>
     ensures len { IfOk result (λ r. length r.1.now ≤ length text.now) }
+    ensures taken { IfOk result (λ r. Takes text.now (extension_tokens r.0.items) r.1.now) }
 {
     match behind(skip_blanks(text), '/') {
-        Some(after) => read_string(alloc, after, RulesErrorKind::EmptyExtension),
+        Some(after) => {
+            let (extension, rest) = read_string(alloc, after, RulesErrorKind::EmptyExtension)?;
+            Ok((extension, rest))
+        }
         None => Ok((Vec::new(alloc), text)),
     }
 }
 
 /// Whether characters begin with one whose combining class is 0, or are none.
-fn begins_with_starter(characters: &[char]) -> bool {
+fn begins_with_starter(characters: &[char]) -> bool
+    ensures { IsTrue result → BeginsWithStarter characters.now }
+{
     match characters {
         [c, ..] => canonical_combining_class(*c) == 0,
         [] => true,
@@ -109,7 +127,9 @@ fn begins_with_starter(characters: &[char]) -> bool {
 }
 
 /// Whether a prefix and the string behind it can be found in a text that is decomposed.
-fn has_context(prefix: &[char], string: &[char]) -> bool {
+fn has_context(prefix: &[char], string: &[char]) -> bool
+    ensures { IsTrue result → HasContext prefix.now string.now }
+{
     prefix.is_empty() || (begins_with_starter(prefix) && begins_with_starter(string))
 }
 
@@ -121,6 +141,9 @@ pub(crate) fn read_relation<'t>(
     text: &'t [char],
 ) -> Result<(Relation, &'t [char]), UnplacedError>
     ensures len { IfOk result (λ r. length r.1.now ≤ length text.now) }
+    ensures strength { IfOk result (λ r. r.0.strength ≡ strength) }
+    ensures context { IfOk result (λ r. HasContext r.0.prefix.items r.0.string.items) }
+    ensures taken { IfOk result (λ r. Takes text.now (relation_parts r.0) r.1.now) }
 {
     let (prefix, string, rest) = read_context(alloc, text)?;
     let (extension, rest) = read_extension(alloc, rest)?;

@@ -1,8 +1,9 @@
 //! Resets.
-ghost use Rattle.std.specs.Prelude.{◌≤◌, length, IfOk};
+ghost use Rattle.std.specs.Prelude.{◌≡◌, ◌≤◌, [], ◌∷◌, length, map, codes, IfOk, IfSome};
+ghost use Rattle.icu_rules.specs.TakenStatements.{Says, TakesSaid, TakesAnchor, TakesReset};
 
 use crate::blanks::skip_blanks;
-use crate::brackets::{Bracket, is_word, read_bracket};
+use crate::brackets::{Bracket, is_word, only_word, read_bracket, split_words};
 use crate::first::behind;
 use crate::rules_error::RulesErrorKind;
 use crate::statement::{Anchor, LogicalPosition, Reset};
@@ -14,25 +15,33 @@ use std::alloc::Global;
 
 /// What a bracket behind `&` says.
 #[derive(Debug, Clone, Copy)]
-enum Said {
+pub enum Said {
     /// `[before n]`.
     Before(Strength),
     /// A position.
     Position(LogicalPosition),
 }
 
+/// The level of the words behind `before`.
+fn level_behind(words: &[&[char]]) -> Option<Said>
+    ensures { IfSome result (λ said. Says said (codes "before" ∷ map (λ word. word.now) words.now)) }
+{
+    let word = only_word(words)?;
+    Some(Said::Before(before_level(word)?))
+}
+
 /// What words in a bracket behind `&` say.
-fn said_by(words: &[&[char]]) -> Result<Said, RulesErrorKind> {
-    match words {
-        [before, rest @ ..] if is_word(before, b"before") => match rest {
-            [level] => before_level(level)
-                .map(Said::Before)
-                .ok_or(RulesErrorKind::BeforeLevel),
-            _ => Err(RulesErrorKind::BeforeLevel),
-        },
-        _ => position_of(words)
-            .map(Said::Position)
-            .ok_or(RulesErrorKind::UnknownPosition),
+fn said_by(words: &[&[char]]) -> Result<Said, RulesErrorKind>
+    ensures { IfOk result (λ said. Says said (map (λ word. word.now) words.now)) }
+{
+    if let Some((first, rest)) = split_words(words) {
+        if is_word(first, b"before") {
+            return level_behind(rest).ok_or(RulesErrorKind::BeforeLevel);
+        }
+    }
+    match position_of(words) {
+        Some(position) => Ok(Said::Position(position)),
+        None => Err(RulesErrorKind::UnknownPosition),
     }
 }
 
@@ -42,7 +51,9 @@ fn read_said<'t>(
     text: &'t [char],
     inside: &'t [char],
 ) -> Result<(Said, &'t [char]), UnplacedError>
+    requires opened { text.now ≡ 91 ∷ inside.now }
     ensures len { IfOk result (λ r. length r.1.now ≤ length inside.now) }
+    ensures taken { IfOk result (λ r. TakesSaid text.now r.0 r.1.now) }
 {
     let (bracket, after) = read_bracket(alloc, text, inside)?;
     let Bracket::Words(words) = bracket else {
@@ -57,6 +68,7 @@ fn read_said<'t>(
 /// The anchor that a text begins with, behind blanks, and what follows it.
 fn read_anchor(alloc: Global, text: &[char]) -> Result<(Anchor, &[char]), UnplacedError>
     ensures len { IfOk result (λ r. length r.1.now ≤ length text.now) }
+    ensures taken { IfOk result (λ r. TakesAnchor text.now r.0 r.1.now) }
 {
     let text = skip_blanks(text);
     let Some(inside) = behind(text, '[') else {
@@ -73,6 +85,7 @@ fn read_anchor(alloc: Global, text: &[char]) -> Result<(Anchor, &[char]), Unplac
 /// The reset behind its `&`, and what follows it.
 pub(crate) fn read_reset(alloc: Global, text: &[char]) -> Result<(Reset, &[char]), UnplacedError>
     ensures len { IfOk result (λ r. length r.1.now ≤ length text.now) }
+    ensures taken { IfOk result (λ r. TakesReset text.now r.0 r.1.now) }
 {
     let text = skip_blanks(text);
     let Some(inside) = behind(text, '[') else {

@@ -102,3 +102,25 @@ pub enum RulesError {
         kind: RulesErrorKind,
     },
 }
+
+impl From<AllocError> for RulesError {
+    ghost use Rattle.std.specs.Prelude.{◌≡◌};
+    ghost use Rattle.icu_rules.specs.declared.rules_error.RulesError.TheVariants.{NoMemory};
+
+    ghost from_gives = { λ _ error. error ≡ NoMemory };
+
+    fn from(_: AllocError) -> RulesError {
+        RulesError::NoMemory
+    }
+}
+
+impl<T: Drop> From<AllocFailed<T>> for RulesError {
+    ghost use Rattle.std.specs.Prelude.{◌≡◌};
+    ghost use Rattle.icu_rules.specs.declared.rules_error.RulesError.TheVariants.{NoMemory};
+
+    ghost from_gives = { λ _ error. error ≡ NoMemory };
+
+    fn from(_: AllocFailed<T>) -> RulesError {
+        RulesError::NoMemory
+    }
+}

@@ -14,8 +14,8 @@ pub struct CharRange {
     pub last: char,
 }
 
-/// A position that is named by what stands there in the root, as in `&[last regular]` (UTS #35 part 5, "Logical Reset
-/// Positions").
+/// A position that is named by what stands there in the root, as in `&[last regular]` (UTS #35 part 5, "Collation
+/// Tailorings").
 #[derive(Debug, Clone, Copy, PartialEq, Eq)]
 pub enum LogicalPosition {
     /// `[first tertiary ignorable]`.
@@ -58,7 +58,7 @@ pub enum Anchor {
 }
 
 /// `& [before n] anchor`: the relations that follow tailor strings after the anchor, or before it (UTS #35 part 5,
-/// "Orderings").
+/// "Collation Tailorings").
 #[derive(Debug, Drop)]
 pub struct Reset {
     /// The level of `[before n]`, where there is one: the primary, the secondary or the tertiary one.
@@ -67,8 +67,8 @@ pub struct Reset {
     pub anchor: Anchor,
 }
 
-/// `< prefix | string / extension`: the string differs from the one before it by so much (UTS #35 part 5, "Orderings",
-/// "Expansions" and "Context Before").
+/// `< prefix | string / extension`: the string differs from the one before it by so much (UTS #35 part 5, "Collation
+/// Tailorings" and "Context Before").
 #[derive(Debug, Drop)]
 pub struct Relation {
     /// The level of the first difference: `<`, `<<` or `;`, `<<<` or `,`, `<<<<`. `Identical`, for `=`, is none.
@@ -81,8 +81,8 @@ pub struct Relation {
     pub extension: Vec<char>,
 }
 
-/// `<* a-d x`: a relation of this strength for each character of the ranges, in turn (UTS #35 part 5, "Abbreviating
-/// Ordering Specifications"). No character of them decomposes or is a combining mark.
+/// `<* a-d x`: a relation of this strength for each character of the ranges, in turn (UTS #35 part 5, "Collation
+/// Tailorings"). No character of them decomposes or is a combining mark.
 #[derive(Debug, Drop)]
 pub struct StarredRelation {
     /// The strength of each relation.
@@ -118,7 +118,7 @@ pub enum RuleSetting {
     /// "Collation Reordering").
     Reorder(Vec<String>),
     /// `[suppressContractions [..]]`: the characters that begin no contraction of the root (UTS #35 part 5,
-    /// "Suppressing Contractions").
+    /// "Collation Tailorings").
     SuppressContractions(Vec<CharRange>),
     /// `[optimize [..]]`: characters whose tables may be made larger. It changes no order.
     Optimize(Vec<CharRange>),

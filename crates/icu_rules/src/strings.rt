@@ -1,5 +1,9 @@
 //! Strings, with quotes and escapes.
-ghost use Rattle.std.specs.Prelude.{◌≡◌, ◌+◌, ◌<◌, ◌≤◌, length, IfOk, IfSome, vec_len};
+ghost use Rattle.std.specs.Prelude.{◌≡◌, ◌+◌, ◌<◌, ◌≤◌, ◌||◌, not, false, [], ◌∷◌, length, IfOk, IfSome, vec_len};
+ghost use Rattle.std.specs.List.{list_all};
+ghost use Rattle.icu_rules.specs.RuleCharacters.{is_plain, is_reserved};
+ghost use Rattle.icu_rules.specs.Tokens.{string};
+ghost use Rattle.icu_rules.specs.TakenText.{Takes, TakesCharacters};
 
 use crate::blanks::{is_plain, skip_blanks};
 use crate::escapes::read_escape;
@@ -12,6 +16,7 @@ use std::alloc::Global;
 /// aren't a quote.
 fn skip_quote(text: &[char], within: bool) -> (&[char], bool)
     ensures len { length result.0.now ≤ length text.now }
+    ensures taken { TakesCharacters within text.now [] result.1 result.0.now }
 {
     let Some(after) = behind(text, '\'') else {
         return (text, within);
@@ -22,20 +27,32 @@ fn skip_quote(text: &[char], within: bool) -> (&[char], bool)
     }
 }
 
+/// Whether a character that is neither an apostrophe nor a backslash stands for itself, within quotes or outside.
+fn stands_in(c: char, within: bool) -> bool
+    ensures { result ≡ (within || is_plain c) }
+{
+    within || is_plain(c)
+}
+
 /// The character of a string that a text begins with, and what follows it. `None` if it begins with none.
 fn read_character(text: &[char], within: bool) -> Result<Option<(char, &[char])>, UnplacedError>
     ensures len { IfOk result (λ o. IfSome o (λ r. length r.1.now < length text.now)) }
+    ensures taken { IfOk result (λ o. IfSome o (λ r.
+        TakesCharacters within text.now (r.0 ∷ []) within r.1.now)) }
 {
     let Some((c, after)) = split_first(text) else {
         return Ok(None);
     };
     match c {
-        '\'' => Ok(behind(after, '\'').map(|rest| ('\'', rest))),
+        '\'' => match behind(after, '\'') {
+            Some(rest) => Ok(Some(('\'', rest))),
+            None => Ok(None),
+        },
         '\\' => match read_escape(after) {
             Some(read) => Ok(Some(read)),
             None => Err(UnplacedError::at(text, RulesErrorKind::Escape)),
         },
-        _ if within || is_plain(c) => Ok(Some((c, after))),
+        _ if stands_in(c, within) => Ok(Some((c, after))),
         _ => Ok(None),
     }
 }
@@ -48,6 +65,7 @@ fn newer<'t>(is_newer: bool, old: &'t [char], new: &'t [char]) -> &'t [char] {
 /// The characters of a string that a text begins with, and what follows them.
 fn read_characters(alloc: Global, text: &[char]) -> Result<(Vec<char>, &[char]), UnplacedError>
     ensures len { IfOk result (λ r. vec_len r.0 + length r.1.now ≤ length text.now) }
+    ensures taken { IfOk result (λ r. TakesCharacters false text.now r.0.items false r.1.now) }
 {
     let mut characters = Vec::new(alloc);
     let mut opened = text;
@@ -66,8 +84,18 @@ fn read_characters(alloc: Global, text: &[char]) -> Result<(Vec<char>, &[char]),
 }
 
 /// Whether a character stands in no string: U+FFFD, U+FFFE and U+FFFF.
-fn is_reserved(c: char) -> bool {
+#[tactic(auto, unfolding(crate::specs::RuleCharacters::is_reserved))]
+fn is_reserved(c: char) -> bool
+    ensures reserved { result ≡ is_reserved c }
+{
     '\u{FFFD}' <= c && c <= '\u{FFFF}'
+}
+
+/// Whether a string may have all of these characters.
+fn are_allowed(characters: &[char]) -> bool
+    ensures { result ≡ list_all (λ c. not (is_reserved c)) characters.now }
+{
+    characters.iter().all(|c| !is_reserved(*c))
 }
 
 /// The string that a text begins with, behind blanks, and what follows it. Where there is none, this error.
@@ -78,13 +106,14 @@ pub(crate) fn read_string(
 ) -> Result<(Vec<char>, &[char]), UnplacedError>
     ensures some { IfOk result (λ r. 0 < vec_len r.0) }
     ensures len { IfOk result (λ r. length r.1.now < length text.now) }
+    ensures taken { IfOk result (λ r. Takes text.now (string r.0.items ∷ []) r.1.now) }
 {
     let text = skip_blanks(text);
     let (characters, rest) = read_characters(alloc, text)?;
     if characters.is_empty() {
         return Err(UnplacedError::at(text, missing));
     }
-    if !characters.iter().all(|c| !is_reserved(*c)) {
+    if !are_allowed(characters.as_slice()) {
         return Err(UnplacedError::at(text, RulesErrorKind::ReservedCharacter));
     }
     Ok((characters, rest))

@@ -17,6 +17,8 @@ pub enum UnplacedError {
 }
 
 impl UnplacedError {
+    ghost use Rattle.icu_rules.specs.Places.{IsPlaced};
+
     /// The error where these characters are left.
     pub(crate) fn at(rest: &[char], kind: RulesErrorKind) -> Self {
         UnplacedError::Refused {
@@ -26,7 +28,9 @@ impl UnplacedError {
     }
 
     /// The error in rules of so many characters.
-    pub(crate) fn in_rules(self, len: usize) -> RulesError {
+    pub(crate) fn in_rules(self, len: usize) -> RulesError
+    ensures { IsPlaced result len }
+{
         match self {
             UnplacedError::NoMemory => RulesError::NoMemory,
             UnplacedError::Refused { left, kind } => RulesError::Refused {

@@ -1,5 +1,9 @@
 //! What words in brackets mean.
-use crate::brackets::is_word;
+ghost use Rattle.std.specs.Prelude.{◌≡◌, ◌≢◌, ◌∷◌, [], map, codes, IfOk, IfSome};
+ghost use Rattle.icu_rules.specs.RuleWords.{position_words, NamesPosition, level_word, case_level_word, case_first_word, numeric_word, max_variable_word, IsAlternateWord, switch_word};
+ghost use Rattle.icu_rules.specs.Statements.{AreSetting, setting_tokens};
+
+use crate::brackets::{is_word, only_word, split_words};
 use crate::rules_error::RulesErrorKind;
 use crate::statement::{LogicalPosition, RuleSetting};
 use icu_options::{
@@ -8,7 +12,9 @@ use icu_options::{
 };
 
 /// The level of a number.
-fn level_of(word: &[char]) -> Option<Strength> {
+fn level_of(word: &[char]) -> Option<Strength>
+    ensures { IfSome result (λ level. word.now ≡ level_word level) }
+{
     if is_word(word, b"1") {
         Some(Strength::Primary)
     } else if is_word(word, b"2") {
@@ -25,7 +31,10 @@ fn level_of(word: &[char]) -> Option<Strength> {
 }
 
 /// The level of `[before n]`.
-pub(crate) fn before_level(word: &[char]) -> Option<Strength> {
+pub(crate) fn before_level(word: &[char]) -> Option<Strength>
+    ensures word { IfSome result (λ level. word.now ≡ level_word level) }
+    ensures level { IfSome result (λ level. (level ≢ Strength.Quaternary) × (level ≢ Strength.Identical)) }
+{
     match level_of(word)? {
         Strength::Quaternary | Strength::Identical => None,
         level => Some(level),
@@ -33,7 +42,9 @@ pub(crate) fn before_level(word: &[char]) -> Option<Strength> {
 }
 
 /// The position behind `first` that has two words.
-fn first_position(what: &[char]) -> Option<LogicalPosition> {
+fn first_position(what: &[char]) -> Option<LogicalPosition>
+    ensures { IfSome result (λ p. position_words p ≡ codes "first" ∷ what.now ∷ []) }
+{
     if is_word(what, b"variable") {
         Some(LogicalPosition::FirstVariable)
     } else if is_word(what, b"regular") {
@@ -48,7 +59,9 @@ fn first_position(what: &[char]) -> Option<LogicalPosition> {
 }
 
 /// The position behind `last` that has two words.
-fn last_position(what: &[char]) -> Option<LogicalPosition> {
+fn last_position(what: &[char]) -> Option<LogicalPosition>
+    ensures { IfSome result (λ p. position_words p ≡ codes "last" ∷ what.now ∷ []) }
+{
     if is_word(what, b"variable") {
         Some(LogicalPosition::LastVariable)
     } else if is_word(what, b"regular") {
@@ -63,7 +76,10 @@ fn last_position(what: &[char]) -> Option<LogicalPosition> {
 }
 
 /// The first ignorable of a level.
-fn first_ignorable(level: &[char]) -> Option<LogicalPosition> {
+fn first_ignorable(level: &[char]) -> Option<LogicalPosition>
+    ensures { IfSome result (λ p.
+        position_words p ≡ codes "first" ∷ level.now ∷ codes "ignorable" ∷ []) }
+{
     if is_word(level, b"primary") {
         Some(LogicalPosition::FirstPrimaryIgnorable)
     } else if is_word(level, b"secondary") {
@@ -76,7 +92,10 @@ fn first_ignorable(level: &[char]) -> Option<LogicalPosition> {
 }
 
 /// The last ignorable of a level.
-fn last_ignorable(level: &[char]) -> Option<LogicalPosition> {
+fn last_ignorable(level: &[char]) -> Option<LogicalPosition>
+    ensures { IfSome result (λ p.
+        position_words p ≡ codes "last" ∷ level.now ∷ codes "ignorable" ∷ []) }
+{
     if is_word(level, b"primary") {
         Some(LogicalPosition::LastPrimaryIgnorable)
     } else if is_word(level, b"secondary") {
@@ -89,7 +108,9 @@ fn last_ignorable(level: &[char]) -> Option<LogicalPosition> {
 }
 
 /// The position that two words name.
-fn two_words(end: &[char], what: &[char]) -> Option<LogicalPosition> {
+fn two_words(end: &[char], what: &[char]) -> Option<LogicalPosition>
+    ensures { IfSome result (λ p. NamesPosition p (end.now ∷ what.now ∷ [])) }
+{
     if is_word(end, b"first") {
         first_position(what)
     } else if is_word(end, b"last") {
@@ -102,7 +123,9 @@ fn two_words(end: &[char], what: &[char]) -> Option<LogicalPosition> {
 }
 
 /// The position that three words name.
-fn three_words(end: &[char], level: &[char], what: &[char]) -> Option<LogicalPosition> {
+fn three_words(end: &[char], level: &[char], what: &[char]) -> Option<LogicalPosition>
+    ensures { IfSome result (λ p. NamesPosition p (end.now ∷ level.now ∷ what.now ∷ [])) }
+{
     if !is_word(what, b"ignorable") {
         None
     } else if is_word(end, b"first") {
@@ -115,17 +138,23 @@ fn three_words(end: &[char], level: &[char], what: &[char]) -> Option<LogicalPos
 }
 
 /// The position that words name.
-pub(crate) fn position_of(words: &[&[char]]) -> Option<LogicalPosition> {
-    match words {
-        [word] if is_word(word, b"top") => Some(LogicalPosition::LastRegular),
-        [end, what] => two_words(end, what),
-        [end, level, what] => three_words(end, level, what),
-        _ => None,
+pub(crate) fn position_of(words: &[&[char]]) -> Option<LogicalPosition>
+    ensures { IfSome result (λ p. NamesPosition p (map (λ word. word.now) words.now)) }
+{
+    let (first, rest) = split_words(words)?;
+    let Some((second, rest)) = split_words(rest) else {
+        return if is_word(first, b"top") { Some(LogicalPosition::LastRegular) } else { None };
+    };
+    if rest.is_empty() {
+        return two_words(first, second);
     }
+    three_words(first, second, only_word(rest)?)
 }
 
 /// The handling of variable elements by its word.
-fn alternate_of(word: &[char]) -> Option<AlternateHandling> {
+fn alternate_of(word: &[char]) -> Option<AlternateHandling>
+    ensures { IfSome result (λ handling. IsAlternateWord handling word.now) }
+{
     if is_word(word, b"non-ignorable") {
         Some(AlternateHandling::NonIgnorable)
     } else if is_word(word, b"shifted") {
@@ -136,7 +165,9 @@ fn alternate_of(word: &[char]) -> Option<AlternateHandling> {
 }
 
 /// The last variable group by its word.
-fn max_variable_of(word: &[char]) -> Option<MaxVariable> {
+fn max_variable_of(word: &[char]) -> Option<MaxVariable>
+    ensures { IfSome result (λ group. word.now ≡ max_variable_word group) }
+{
     if is_word(word, b"space") {
         Some(MaxVariable::Space)
     } else if is_word(word, b"punct") {
@@ -151,7 +182,9 @@ fn max_variable_of(word: &[char]) -> Option<MaxVariable> {
 }
 
 /// Which case is first, by its word.
-fn case_first_of(word: &[char]) -> Option<CollationCaseFirst> {
+fn case_first_of(word: &[char]) -> Option<CollationCaseFirst>
+    ensures { IfSome result (λ first. word.now ≡ case_first_word first) }
+{
     if is_word(word, b"off") {
         Some(CollationCaseFirst::False)
     } else if is_word(word, b"lower") {
@@ -164,7 +197,9 @@ fn case_first_of(word: &[char]) -> Option<CollationCaseFirst> {
 }
 
 /// `on` or `off`.
-fn switch_of(word: &[char]) -> Option<bool> {
+fn switch_of(word: &[char]) -> Option<bool>
+    ensures { IfSome result (λ is_on. word.now ≡ switch_word is_on) }
+{
     if is_word(word, b"on") {
         Some(true)
     } else if is_word(word, b"off") {
@@ -175,7 +210,9 @@ fn switch_of(word: &[char]) -> Option<bool> {
 }
 
 /// The case level by its word.
-fn case_level_of(word: &[char]) -> Option<CaseLevel> {
+fn case_level_of(word: &[char]) -> Option<CaseLevel>
+    ensures { IfSome result (λ level. word.now ≡ case_level_word level) }
+{
     match switch_of(word)? {
         true => Some(CaseLevel::On),
         false => Some(CaseLevel::Off),
@@ -183,69 +220,66 @@ fn case_level_of(word: &[char]) -> Option<CaseLevel> {
 }
 
 /// The order of numbers by its word.
-fn numeric_of(word: &[char]) -> Option<CollationNumericOrdering> {
+fn numeric_of(word: &[char]) -> Option<CollationNumericOrdering>
+    ensures { IfSome result (λ ordering. word.now ≡ numeric_word ordering) }
+{
     match switch_of(word)? {
         true => Some(CollationNumericOrdering::True),
         false => Some(CollationNumericOrdering::False),
     }
 }
 
-/// The settings that the root's own rules know too, by name and value; `Some(None)` if the name is known and the value
-/// isn't.
-fn weighting_setting(name: &[char], value: &[char]) -> Option<Option<RuleSetting>> {
+/// The setting of this name and value, if it is one of those that say how elements are weighted.
+fn weighting_setting(name: &[char], value: &[char]) -> Result<Option<RuleSetting>, RulesErrorKind>
+    ensures { IfOk result (λ o. IfSome o (λ s. AreSetting s (setting_tokens name.now value.now))) }
+{
+    let unknown = RulesErrorKind::UnknownValue;
     if is_word(name, b"strength") {
-        Some(level_of(value).map(RuleSetting::Strength))
+        let level = level_of(value).ok_or(unknown)?;
+        Ok(Some(RuleSetting::Strength(level)))
     } else if is_word(name, b"alternate") {
-        Some(alternate_of(value).map(RuleSetting::Alternate))
+        let handling = alternate_of(value).ok_or(unknown)?;
+        Ok(Some(RuleSetting::Alternate(handling)))
     } else if is_word(name, b"maxVariable") {
-        Some(max_variable_of(value).map(RuleSetting::MaxVariable))
+        let group = max_variable_of(value).ok_or(unknown)?;
+        Ok(Some(RuleSetting::MaxVariable(group)))
     } else if is_word(name, b"caseFirst") {
-        Some(case_first_of(value).map(RuleSetting::CaseFirst))
+        let first = case_first_of(value).ok_or(unknown)?;
+        Ok(Some(RuleSetting::CaseFirst(first)))
     } else if is_word(name, b"caseLevel") {
-        Some(case_level_of(value).map(RuleSetting::CaseLevel))
+        let level = case_level_of(value).ok_or(unknown)?;
+        Ok(Some(RuleSetting::CaseLevel(level)))
     } else {
-        None
+        Ok(None)
     }
 }
 
-/// `[backwards 2]`.
-fn backwards_of(word: &[char]) -> Option<RuleSetting> {
-    if is_word(word, b"2") {
-        Some(RuleSetting::Backwards)
-    } else {
-        None
-    }
-}
-
-/// `[hiraganaQ off]`.
-fn hiragana_of(word: &[char]) -> Option<RuleSetting> {
-    if is_word(word, b"off") {
-        Some(RuleSetting::HiraganaQuaternaryOff)
-    } else {
-        None
-    }
-}
-
-/// The other settings.
-fn reading_setting(name: &[char], value: &[char]) -> Option<Option<RuleSetting>> {
+/// The setting of this name and value, if it is one of the others.
+fn other_setting(name: &[char], value: &[char]) -> Result<RuleSetting, RulesErrorKind>
+    ensures { IfOk result (λ s. AreSetting s (setting_tokens name.now value.now)) }
+{
+    let unknown = RulesErrorKind::UnknownValue;
     if is_word(name, b"numericOrdering") {
-        Some(numeric_of(value).map(RuleSetting::NumericOrdering))
+        let ordering = numeric_of(value).ok_or(unknown)?;
+        Ok(RuleSetting::NumericOrdering(ordering))
     } else if is_word(name, b"normalization") {
-        Some(switch_of(value).map(RuleSetting::Normalization))
+        let is_on = switch_of(value).ok_or(unknown)?;
+        Ok(RuleSetting::Normalization(is_on))
     } else if is_word(name, b"backwards") {
-        Some(backwards_of(value))
+        if is_word(value, b"2") { Ok(RuleSetting::Backwards) } else { Err(unknown) }
     } else if is_word(name, b"hiraganaQ") {
-        Some(hiragana_of(value))
+        if is_word(value, b"off") { Ok(RuleSetting::HiraganaQuaternaryOff) } else { Err(unknown) }
     } else {
-        None
+        Err(RulesErrorKind::UnknownSetting)
     }
 }
 
 /// The setting of a name and a value.
-pub(crate) fn setting_of(name: &[char], value: &[char]) -> Result<RuleSetting, RulesErrorKind> {
-    let Some(setting) = weighting_setting(name, value).or_else(|| reading_setting(name, value))
-    else {
-        return Err(RulesErrorKind::UnknownSetting);
-    };
-    setting.ok_or(RulesErrorKind::UnknownValue)
+pub(crate) fn setting_of(name: &[char], value: &[char]) -> Result<RuleSetting, RulesErrorKind>
+    ensures { IfOk result (λ s. AreSetting s (setting_tokens name.now value.now)) }
+{
+    match weighting_setting(name, value)? {
+        Some(setting) => Ok(setting),
+        None => other_setting(name, value),
+    }
 }

@@ -1,0 +1,9 @@
+use Rattle.std.proofs.Common.{rules, [], refl}
+use Rattle.icu_rules.proofs.BracketLemmas.{word_more, no_word_at, no_word_none}
+use Rattle.icu_rules.proofs.brackets.behind_word.Goals as goal
+
+pub loop-c-preserved : goal.loop-c-preserved
+loop-c-preserved c = record {
+  word = λ r s. c.loop-c.invariant.word r (word_more c.in-Some.ensures (search rules) s);
+  len = search rules;
+}

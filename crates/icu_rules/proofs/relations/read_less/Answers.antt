@@ -1,0 +1,24 @@
+use Rattle.std.proofs.Common.{◌∷◌, ap, ◌∙◌, refl}
+use Rattle.icu_options.specs.declared.settings.Strength.TheVariants.{Primary, Secondary, Tertiary, Quaternary}
+use Rattle.icu_rules.proofs.StatementLemmas.{signed_at}
+use Rattle.icu_rules.proofs.relations.read_less.Goals as goal
+
+pub returns-in_default-clause-taken : goal.returns-in_default-clause-taken
+returns-in_default-clause-taken c = signed_at _ Primary _ _ _ c.with_star.ensures.strength c.with_star.ensures.star refl
+
+pub returns-in_default-behind-clause-taken : goal.returns-in_default-behind-clause-taken
+returns-in_default-behind-clause-taken c =
+    signed_at _ Secondary _ _ _ c.with_star-in_default-behind.ensures.strength
+      c.with_star-in_default-behind.ensures.star (ap (λ t. 60 ∷ t) c.in-Some.ensures)
+
+pub returns-in_default-behind-2-clause-taken : goal.returns-in_default-behind-2-clause-taken
+returns-in_default-behind-2-clause-taken c =
+    signed_at _ Tertiary _ _ _ c.with_star-in_default-behind-2.ensures.strength
+      c.with_star-in_default-behind-2.ensures.star
+      (ap (λ t. 60 ∷ t) (c.in-Some.ensures ∙ ap (λ t. 60 ∷ t) c.in-Some-behind.ensures))
+
+pub returns-clause-taken : goal.returns-clause-taken
+returns-clause-taken c =
+    signed_at _ Quaternary _ _ _ c.with_star-2.ensures.strength c.with_star-2.ensures.star
+      (ap (λ t. 60 ∷ t) (c.in-Some.ensures ∙ ap (λ t. 60 ∷ t)
+        (c.in-Some-behind.ensures ∙ ap (λ t. 60 ∷ t) c.in-Some-behind-2.ensures)))
