@@ -3,7 +3,7 @@ pub mod ZeroCountLemmas
 pub mod FrontMarkLemmas
 pub mod LookLemmas
 pub mod MatchableLemmas
-pub mod PartLemmas
+pub mod CharPartLemmas
 pub mod PassLemmas
 pub mod TakeLemmas
 pub mod TakingLemmas
