@@ -7,8 +7,8 @@ use Rattle.unicode_normalization.specs.Forms.{nfd}
 use Rattle.icu_entries.specs.Elements.{Element}
 use Rattle.icu_elements.specs.TextElements.{Reading, elements_after}
 use Rattle.icu_boundaries.specs.Alone.{context_after}
-use Rattle.icu_cursor.specs.declared.char_facts.CharFacts.{CharFacts}
-use Rattle.icu_cursor.specs.KeptFacts.{char_elements}
+use Rattle.icu_facts.specs.declared.char_facts.CharFacts.{CharFacts}
+use Rattle.icu_facts.specs.KeptFacts.{char_elements}
 use Rattle.icu_cursor.specs.inner.Pieces.{IsPiece}
 use Rattle.icu_cursor.specs.inner.Standing.{StandsBefore}
 use Rattle.icu_cursor.proofs.PieceLemmas.{nothing, pieces_part}

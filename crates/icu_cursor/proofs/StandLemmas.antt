@@ -18,9 +18,9 @@ use mathlib.Core.List.{is_set}
 use Rattle.icu_boundaries.specs.Alone.{context_after, stays_first, all_stay, rises_from}
 use Rattle.icu_boundaries.proofs.AloneLemmas.{letter_of_starters, letter_that_stays}
 use Rattle.icu_boundaries.proofs.NfdLemmas.{stays_first-rises}
-use Rattle.icu_cursor.specs.declared.char_facts.CharFacts.{CharFacts}
-use Rattle.icu_cursor.proofs.KeptLemmas.{some_is}
-use Rattle.icu_cursor.specs.KeptFacts.{StandsAlone, HasStarters, IsMarkedStarter, IsLoneMark, IsBase, IsNumberDigit, AreTrueFacts, rises_to}
+use Rattle.icu_facts.specs.declared.char_facts.CharFacts.{CharFacts}
+use Rattle.icu_facts.proofs.KeptLemmas.{some_is}
+use Rattle.icu_facts.specs.KeptFacts.{StandsAlone, HasStarters, IsMarkedStarter, IsLoneMark, IsBase, IsNumberDigit, AreTrueFacts, rises_to}
 use Rattle.icu_cursor.specs.inner.Places.{BeginsAtBoundary}
 use Rattle.icu_cursor.specs.inner.MarkRuns.{Rises, EndsRuns, IsInRun}
 use Rattle.icu_cursor.specs.inner.Standing.{StandsBefore, Serves}

@@ -1,7 +1,7 @@
 //! The elements of a character, one by one.
 
 ghost use Rattle.std.specs.Prelude.{◌≡◌, ◌≤◌, [], ◌++◌, None, IsTrue, drop, option_to_list};
-ghost use Rattle.icu_cursor.specs.KeptFacts.{char_elements};
+ghost use Rattle.icu_facts.specs.KeptFacts.{char_elements};
 
 use crate::CharFacts;
 use icu_entries::CollationElement;

@@ -33,7 +33,7 @@ pub struct ElementCursor<'c, 'd, T> {
 
 impl<'c, 'd, T: EncodedText> ElementCursor<'c, 'd, T> {
     ghost use Rattle.icu_cursor.specs.Cursors.{cursor_reading, cursor_gives};
-    ghost use Rattle.icu_cursor.specs.KeptFacts.{IsNumberDigit};
+    ghost use Rattle.icu_facts.specs.KeptFacts.{IsNumberDigit};
     ghost use Rattle.icu_cursor.specs.inner.Unread.{HasNothingReady};
     ghost use Rattle.icu_cursor.specs.inner.Standing.{Serves};
 

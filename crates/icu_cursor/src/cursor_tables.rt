@@ -2,9 +2,9 @@
 
 ghost use Rattle.std.specs.Prelude.{◌≡◌, ℕ, IfSome, IsTrue};
 ghost use Rattle.icu_elements.specs.Reading.{reading_of};
-ghost use Rattle.icu_cursor.specs.KeptFacts.{IsNumberDigit};
-ghost use Rattle.icu_cursor.specs.FactsTables.{AreFacts};
-ghost use Rattle.icu_cursor.specs.BoundaryTables.{boundary_reading};
+ghost use Rattle.icu_facts.specs.KeptFacts.{IsNumberDigit};
+ghost use Rattle.icu_facts.specs.FactsTables.{AreFacts};
+ghost use Rattle.icu_facts.specs.BoundaryTables.{boundary_reading};
 ghost use Rattle.icu_cursor.specs.inner.Places.{MayBeCut};
 ghost use Rattle.icu_cursor.specs.inner.MarkRuns.{IsInRun};
 ghost use Rattle.icu_cursor.specs.inner.Standing.{Serves};

@@ -5,9 +5,9 @@ use Rattle.unicode_normalization.specs.Decompose.{decompose}
 use Rattle.unicode_normalization.specs.Forms.{nfd}
 use Rattle.icu_elements.specs.TextElements.{Reading, elements_after}
 use Rattle.icu_boundaries.specs.Alone.{context_after}
-use Rattle.icu_cursor.specs.declared.char_facts.CharFacts.{CharFacts}
-use Rattle.icu_cursor.specs.declared.char_facts.FactsKind.TheVariants.{Starters, Marked, Mark, Base}
-use Rattle.icu_cursor.specs.KeptFacts.{char_elements, IsNumberDigit}
+use Rattle.icu_facts.specs.declared.char_facts.CharFacts.{CharFacts}
+use Rattle.icu_facts.specs.declared.char_facts.FactsKind.TheVariants.{Starters, Marked, Mark, Base}
+use Rattle.icu_facts.specs.KeptFacts.{char_elements, IsNumberDigit}
 use Rattle.icu_cursor.specs.inner.Places.{MayBeCut, BeginsAtBoundary}
 use Rattle.icu_cursor.specs.inner.MarkRuns.{Rises, EndsRuns}
 

@@ -1,6 +1,6 @@
 use Rattle.std.proofs.Common.{rules}
-use Rattle.icu_cursor.specs.declared.char_facts.CharFacts.{CharFacts}
-use Rattle.icu_cursor.specs.KeptFacts.{AreTrueFacts}
+use Rattle.icu_facts.specs.declared.char_facts.CharFacts.{CharFacts}
+use Rattle.icu_facts.specs.KeptFacts.{AreTrueFacts}
 use Rattle.icu_cursor.specs.Cursors.{cursor_reading}
 use Rattle.icu_cursor.specs.inner.Standing.{Serves}
 use Rattle.icu_cursor.proofs.StandLemmas.{serves, Serves-prop, found}

@@ -1,0 +1,7 @@
+mod NamedLemmas
+mod TableLemmas
+mod DigitEntryLemmas
+mod FewLemmas
+pub mod KeptLemmas
+pub mod SyllableLemmas
+pub mod KeptBaseLemmas
