@@ -2,6 +2,10 @@ mod NamedLemmas
 mod TableLemmas
 mod DigitEntryLemmas
 mod FewLemmas
+mod PlainLemmas
+pub mod OwnLemmas
+mod CharWordLemmas
+mod LoneLemmas
 pub mod KeptLemmas
 pub mod SyllableLemmas
 pub mod KeptBaseLemmas

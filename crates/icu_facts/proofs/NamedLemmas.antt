@@ -1,5 +1,5 @@
 -- What a list of characters doesn't have, no mapping names whose characters are a part of it.
-use Rattle.std.proofs.Common.{◌≡◌, ◌≢◌, ℕ, zero, suc, ◌<◌, ◌≤◌, Bool, true, false, ◌||◌, ◌==◌, List, [], ◌∷◌, ◌++◌, length, take, drop, get_or, Result, Ok, Err, refl, ap, sym, ◌∙◌, arith, true≢false, ⊎_elim, is_ok, OnOk}
+use Rattle.std.proofs.Common.{◌≡◌, ◌≢◌, ℕ, zero, suc, ◌<◌, ◌≤◌, ◌+◌, Bool, true, false, ◌||◌, ◌==◌, List, [], ◌∷◌, ◌++◌, length, take, drop, get_or, Result, Ok, Err, refl, ap, sym, ◌∙◌, arith, true≢false, ⊎_elim, is_ok, OnOk}
 use Rattle.std.proofs.lemmas.Bool.{cases_Bool, cases_lt, eqb-true}
 use Rattle.std.proofs.lemmas.List.Folds.{list_any-append}
 use Rattle.std.proofs.lemmas.List.Sorted.{searched, IsNonDecreasingBy-from_sort}
@@ -71,6 +71,17 @@ absent_by_search xs x (Err i) found up h =
     ⊎_elim
     (λ (before : k < i). λ e. absurd (omega (arith, where_it_is.1 k before, e)))
     (λ (after : i ≤ k). λ e. absurd (omega (arith, where_it_is.2 k after below, e)))
+    (cases_lt k i))
+
+-- nothing of a block is there, where the first character from its beginning on is past it
+pub absent_in_block : (xs : List ℕ) (first x i : ℕ) → IsBinarySearchResult (λ y. nat_cmp y first) xs (Err i) → Ascends xs → (i < length xs → first + 64 ≤ get_or xs i 0)
+    → first ≤ x → x < first + 64 → has_character x xs ≡ false
+absent_in_block xs first x i found up past low high =
+    let where_it_is = searched xs first (Err i) found up in
+    none_equal x xs (λ k below.
+    ⊎_elim
+    (λ (before : k < i). λ e. absurd (omega (arith, where_it_is.1 k before, e, low)))
+    (λ (after : i ≤ k). λ e. absurd (omega (arith, past (omega (arith, after, below)), up i k after below, e, high)))
     (cases_lt k i))
 
 -- what a sort leaves

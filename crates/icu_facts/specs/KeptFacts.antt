@@ -9,6 +9,7 @@ use Rattle.unicode_normalization.specs.Order.{is_starter, is_nonstarter}
 use Rattle.icu_entries.specs.Elements.{Element}
 use Rattle.icu_elements.specs.TextElements.{Reading, continues_number, digit_of_char, elements_after}
 use Rattle.icu_boundaries.specs.Alone.{elements_by_char, elements_of_char, is_alone}
+use Rattle.icu_boundaries.specs.Cuts.{IsBoundary}
 use Rattle.icu_facts.specs.BoundaryTables.{HasBoundaryBefore}
 use Rattle.icu_facts.specs.declared.char_facts.CharFacts.{CharFacts}
 use Rattle.icu_facts.specs.declared.char_facts.FactsKind.TheVariants.{Starters, Marked, Mark, Base}
@@ -76,6 +77,13 @@ pub record IsNumberDigit (reading : Reading) (c digit : ℕ) : Type 0 where
   pub continues : continues_number reading.tables c ≡ true
   pub value : digit_of_char reading.tables c ≡ digit
   pub decimal : digit < 10
+
+-- an own character: it decomposes to itself, gives the same elements wherever it stands, and a text may be cut before
+-- it
+pub record IsOwn (reading : Reading) (c : ℕ) : Type 0 where
+  pub itself : decompose Nfd c ≡ c ∷ []
+  pub alone : is_alone reading c ≡ true
+  pub boundary : IsBoundary reading c
 
 -- what is known of a character is so
 pub record AreTrueFacts (reading : Reading) (c : ℕ) (l : CharFacts) : Type 0 where

@@ -4,5 +4,6 @@ pub mod BoundaryTables
 pub mod FewElements
 pub mod KeptFacts
 pub mod KeptChars
+pub mod CharWords
 pub mod FactsTables
 pub mod inner

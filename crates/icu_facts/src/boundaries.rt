@@ -1,6 +1,6 @@
 //! Before which characters a text may be cut.
 
-ghost use Rattle.std.specs.Prelude.{◌≡◌, ◌&&◌, false, is_some, IsTrue};
+ghost use Rattle.std.specs.Prelude.{◌≡◌, ◌<◌, ◌&&◌, false, is_some, IsTrue};
 ghost use Rattle.icu_elements.specs.Reading.{element_tables, reading_of};
 ghost use Rattle.icu_elements.specs.TextElements.{continues_number};
 ghost use Rattle.icu_boundaries.specs.Cuts.{IsBoundary, has_prefix};
@@ -22,6 +22,7 @@ pub struct Boundaries<'d> {
 
 impl<'d> Boundaries<'d> {
     ghost use Rattle.icu_facts.specs.BoundaryTables.{HasBoundaryBefore, boundary_reading};
+    ghost use Rattle.icu_facts.specs.inner.OwnBlocks.{IsUnnamedBlock};
 
     /// The boundaries of texts that are read so, by tables whose mappings name no other characters than these. Does not
     /// allocate.
@@ -61,6 +62,15 @@ impl<'d> Boundaries<'d> {
         ensures { IsTrue result → IsBoundary (boundary_reading self.now) c }
     {
         canonical_combining_class(c) == 0 && !self.named.has(c) && !self.looks_around(c)
+    }
+
+    /// Whether a mapping may name one of the 64 characters from `64 * index` on. Where this is false, none does.
+    #[tactic(auto, unfolding(crate::specs::BoundaryTables::boundary_reading))]
+    pub(crate) fn may_name_in_block(&self, index: u32) -> bool
+        requires { index < 17408 }
+        ensures { result ≡ false → IsUnnamedBlock (boundary_reading self.now) index }
+    {
+        self.named.has_in_block(index)
     }
 
     /// Whether a character's entry looks at what stands before, or may go on a number.

@@ -1,60 +1,60 @@
-//! What is known of the characters that are read most.
+//! What is known of all characters.
 
-ghost use Rattle.std.specs.Prelude.{◌≡◌, ◌+◌, ◌≤◌, ◌<◌, length, is_some, IfOk, IfSome, OnOk};
+ghost use Rattle.std.specs.Prelude.{◌≡◌, ◌+◌, ◌≤◌, ◌<◌, length, true, IfOk, OnOk};
+ghost use Rattle.icu_checks.specs.Checked.{checked_tables};
 ghost use Rattle.icu_elements.specs.TextElements.{Reading};
 ghost use Rattle.icu_facts.specs.BoundaryTables.{boundary_reading};
-ghost use Rattle.icu_facts.specs.KeptFacts.{AreTrueFacts};
 ghost use Rattle.icu_facts.specs.KeptChars.{KeptChar, AreFactsFrom, IsOneMore};
 
 use crate::bases::facts_to_keep;
 use crate::boundaries::Boundaries;
 use crate::char_facts::CharFacts;
+use crate::char_words::{CharWords, Kept};
+use icu_checks::CheckedTables;
 use std::alloc::{AllocError, Global};
 
-/// What is known of the characters that are read most: U+0000 to U+037F, U+1100 to U+11FF, and U+1E00 to U+1EFF.
+/// What is known of all characters: facts of U+0000 to U+037F and of the jamo, U+1100 to U+11FF, of which syllables
+/// are made, and a word of each other character.
 #[derive(Debug, Drop)]
 pub struct KeptFacts {
     latin: Vec<CharFacts>,
     pub(crate) jamo: Vec<CharFacts>,
-    additional: Vec<CharFacts>,
+    words: CharWords,
     ghost latin_count: { length latin.items ≡ 0x380 },
     ghost jamo_count: { length jamo.items ≡ 0x100 },
-    ghost additional_count: { length additional.items ≡ 0x100 },
 }
 
 impl KeptFacts {
-    ghost use Rattle.icu_facts.specs.FactsTables.{AreFacts, is_kept};
+    ghost use Rattle.icu_facts.specs.CharWords.{IsKept};
+    ghost use Rattle.icu_facts.specs.FactsTables.{AreFacts, has_facts};
 
-    /// What is known of them as texts are read whose boundaries these are. Fails only where an allocation does.
-    pub fn new(alloc: Global, places: Boundaries<'_>) -> Result<KeptFacts, AllocError>
+    /// What is known of them as texts are read whose boundaries these are, by these tables. Fails only where an
+    /// allocation does.
+    pub fn new(
+        alloc: Global,
+        tables: &CheckedTables,
+        places: Boundaries<'_>,
+    ) -> Result<KeptFacts, AllocError>
+        requires { (boundary_reading places).tables ≡ (checked_tables tables.now).tables }
         ensures { IfOk result (λ l. AreFacts (boundary_reading places.entry) l) }
     {
         let latin = facts_from(alloc, places, 0, 0x380)?;
         let jamo = facts_from(alloc, places, 0x1100, 0x100)?;
-        let additional = facts_from(alloc, places, 0x1E00, 0x100)?;
-        Ok(KeptFacts {
-            latin,
-            jamo,
-            additional,
-        })
+        let words = CharWords::new(alloc, tables, &places)?;
+        Ok(KeptFacts { latin, jamo, words })
     }
 
-    /// What is known of a character, or none outside of U+0000 to U+037F, U+1100 to U+11FF and U+1E00 to U+1EFF.
+    /// What is kept of a character: facts of each up to U+037F.
     #[inline(always)]
-    pub fn get(&self, c: char) -> Option<&CharFacts>
-        ensures known { (reading : Reading) → AreFacts reading self.now
-            → IfSome result (λ l. AreTrueFacts reading c l.now) }
-        ensures kept { is_some result ≡ is_kept c }
+    pub fn get(&self, c: char) -> Kept<'_>
+        ensures known { (reading : Reading) → AreFacts reading self.now → IsKept reading c result }
+        ensures latin { c < 0x380 → has_facts result ≡ true }
     {
         let code = c as usize;
         if code < 0x380 {
-            Some(&self.latin[code])
-        } else if code >= 0x1E00 && code < 0x1F00 {
-            Some(&self.additional[code - 0x1E00])
-        } else if code >= 0x1100 && code < 0x1200 {
-            Some(&self.jamo[code - 0x1100])
+            Kept::Facts(&self.latin[code])
         } else {
-            None
+            self.words.get(c)
         }
     }
 }

@@ -15,7 +15,9 @@ use icu_entries::{CollationElement, CollationElement32};
 /// Three elements at most.
 #[derive(Clone, Copy)]
 pub struct FewElements {
+    /// The elements, as many as `count` says. Those past them have no meaning.
     pub elements: [CollationElement; 3],
+    /// How many there are.
     pub count: u8,
     ghost at_most_three: { count ≤ 3 },
 }

@@ -1,6 +1,6 @@
 //! The characters that mappings of contexts name.
 
-ghost use Rattle.std.specs.Prelude.{◌≡◌, false, option_map, IfOk, OnOk};
+ghost use Rattle.std.specs.Prelude.{◌≡◌, ◌≤◌, ◌<◌, ◌+◌, ◌*◌, ℕ, false, length, slice_index, option_map, IfOk, OnOk};
 ghost use Rattle.icu_collation_data.specs.StoredData.{data_of};
 ghost use Rattle.icu_facts.specs.MappingCharacters.{Ascends, HasMappingCharacters, HasTailoringCharacters, KeepsCharacters};
 ghost use Rattle.icu_checks.specs.Checked.{checked_tables};
@@ -36,6 +36,28 @@ impl NamedCharacters {
         ensures { result ≡ false → may_name self.now c ≡ false }
     {
         self.chars.binary_search(&c).is_ok()
+    }
+
+    /// Whether a mapping may name one of the 64 characters from `64 * index` on: where this is false, none does.
+    pub(crate) fn has_in_block(&self, index: u32) -> bool
+        requires { index < 17408 }
+        ensures { result ≡ false → (k : ℕ) → k < 64 → may_name self.now (64 * index + k) ≡ false }
+    {
+        let Some(first) = char::from_u32(64 * index) else {
+            return true;
+        };
+        match self.chars.binary_search(&first) {
+            Ok(_) => true,
+            Err(place) => self.begins_at(place, 64 * index + 64),
+        }
+    }
+
+    /// Whether the characters from this place on begin below a limit. False where there are none.
+    fn begins_at(&self, place: usize, limit: u32) -> bool
+        ensures { result ≡ false → place < length self.now.chars.items
+            → limit ≤ slice_index self.now.chars.items place }
+    {
+        place < self.chars.len() && (self.chars[place] as u32) < limit
     }
 }
 

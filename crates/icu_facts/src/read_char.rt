@@ -7,11 +7,11 @@ ghost use Rattle.icu_elements.specs.TextElements.{Reading};
 ghost use Rattle.icu_boundaries.specs.Alone.{elements_of_char, is_alone};
 ghost use Rattle.icu_facts.specs.FewElements.{few_elements};
 ghost use Rattle.icu_facts.specs.BoundaryTables.{boundary_reading};
-ghost use Rattle.icu_facts.specs.KeptFacts.{AreTrueFacts, char_elements};
+ghost use Rattle.icu_facts.specs.KeptFacts.{AreTrueFacts, HasLeadingPrimary, IsOwn, char_elements};
 ghost use Rattle.icu_facts.specs.inner.ReadFacts.{LeadsBy, IsOutline};
 ghost use Rattle.icu_facts.specs.declared.char_facts.FactsKind.TheVariants.{Unknown};
 
-use crate::alone::{with_char, with_chars};
+use crate::alone::{own_element, with_char, with_chars};
 use crate::boundaries::Boundaries;
 use crate::char_facts::{CharFacts, FactsKind};
 use crate::few_elements::FewElements;
@@ -134,6 +134,17 @@ pub fn outline_of(places: &Boundaries<'_>, c: char) -> CharFacts
     match decomposition(c, Form::Nfd, &mut room) {
         [first, more @ ..] => outline_from(places, c, *first, more),
         [] => unreachable!(),
+    }
+}
+
+/// The leading primary weight of an own character, or 0 where its entry does not give one element.
+pub fn own_leading_primary(places: &Boundaries<'_>, c: char) -> u32
+    ensures { IsOwn (boundary_reading places.now) c → result ≢ 0
+        → HasLeadingPrimary (boundary_reading places.now) c result }
+{
+    match own_element(places, c) {
+        Some(element) => element.primary(),
+        None => 0,
     }
 }
 
