@@ -20,7 +20,7 @@ use Rattle.icu_text_order.specs.TextOrder.{handled_by, lists_by}
 use Rattle.icu_collator.proofs.TieLemmas.{same_elements}
 use Rattle.icu_collator.proofs.LevelLemmas.{primaries_read, secondaries_read, tertiaries_read}
 use Rattle.icu_collator.specs.declared.forward_levels.Level.TheVariants.{Primary, Secondary, Tertiary}
-use Rattle.icu_collator.specs.inner.ElementOrders.{before_characters, elements_order, leading_order, lower_order}
+use Rattle.icu_collator.specs.inner.ElementOrders.{before_characters, elements_order, leading_order, later_levels_order}
 use Rattle.icu_collator.specs.declared.forward_levels.Level.{Level}
 use Rattle.icu_collator.specs.inner.InStep.{from_first, order_on, order_from, three_order, three_levels, ThreeLevels, IsThreeLevel, StepsBy, StepBoth, DecidesOn, HasWeight}
 use Rattle.icu_collator.specs.inner.LevelWeights.{weight_in, level_weights}
@@ -200,16 +200,16 @@ module _ (collation : Collation) (t u : List ℕ) where
       (ap (λ o. cases_order o left right) is.cases) (tertiaries_read collation t u f is.tertiaries) (ap (λ o. quaternaries_order o left right) is.quaternary)
 
   -- primaries that tie leave it to the levels after them
-  pub lower_decides : leading_order collation t u ≡ Equal → lower_order collation t u ≡ elements_order collation t u
-  unfolding leading_order lower_order elements_order before_characters
-  lower_decides ties = sym (ap (λ p. ordering_then p (lower_order collation t u)) ties)
+  pub later_levels_decide : leading_order collation t u ≡ Equal → later_levels_order collation t u ≡ elements_order collation t u
+  unfolding leading_order later_levels_order elements_order before_characters
+  later_levels_decide ties = sym (ap (λ p. ordering_then p (later_levels_order collation t u)) ties)
 
   -- primaries that differ decide
   pub leading_decides : (o : Ordering) → o ≡ leading_order collation t u → o ≢ Equal → o ≡ elements_order collation t u
-  unfolding leading_order lower_order elements_order before_characters
-  leading_decides Less e n = ap (λ p. ordering_then p (lower_order collation t u)) e
+  unfolding leading_order later_levels_order elements_order before_characters
+  leading_decides Less e n = ap (λ p. ordering_then p (later_levels_order collation t u)) e
   leading_decides Equal e n = absurd (n refl)
-  leading_decides Greater e n = ap (λ p. ordering_then p (lower_order collation t u)) e
+  leading_decides Greater e n = ap (λ p. ordering_then p (later_levels_order collation t u)) e
 
   -- what a pass over both texts shows
   module _ (first : Level) (hs ks : List HandledElement) (leads : order_on first (handled_by collation t) (handled_by collation u) ≡ leading_order collation t u)

@@ -3,5 +3,5 @@ pub mod LevelLemmas
 pub mod OrdersInTurn
 pub mod SegmentLemmas
 pub mod InStepLemmas
-mod TailLemmas
+mod FirstPrimaryLemmas
 mod TieLemmas

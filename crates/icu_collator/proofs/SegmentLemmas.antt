@@ -35,7 +35,7 @@ ends_order [] (y ∷ t) n m h h' = grind (arith, nat_tests)
 ends_order (x ∷ s) [] n m h h' = grind (arith, nat_tests)
 ends_order (x ∷ s) (y ∷ t) n m h h' = absurd (omega arith)
 
--- from the ends, the surplus at the front of the longer list counts only where the rest ties
+-- from the ends, the surplus that the longer list begins with counts only where the rest ties
 pub surplus : (xs ys : List ℕ)
     → list_order (reverse xs) (reverse ys)
     ≡ ordering_then (list_order (reverse (drop (length xs - length ys) xs)) (reverse (drop (length ys - length xs) ys))) (nat_cmp (length xs) (length ys))

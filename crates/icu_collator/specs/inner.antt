@@ -2,6 +2,5 @@
 pub mod LevelWeights
 pub mod SegmentsLeft
 pub mod ElementOrders
-pub mod Tails
-pub mod TextFronts
+pub mod FirstPrimaries
 pub mod InStep

@@ -1,6 +1,6 @@
 //! Collators: each has a collation, tables and settings together.
 
-ghost use Rattle.std.specs.Prelude.{◌≡◌, ◌<◌, ◌∷◌, [], ℕ, true, false, Err, Ok, IfErr, IfOk, IsSome};
+ghost use Rattle.std.specs.Prelude.{◌≡◌, false, Err, Ok, IfErr, IfOk, IfSome};
 ghost use Rattle.icu_options.specs.Conversions.{resolved_of};
 ghost use Rattle.icu_options.specs.Merge.{merge};
 ghost use Rattle.icu_options.specs.FlaggedSettings.{values_of};
@@ -11,22 +11,21 @@ ghost use Rattle.icu_checks.specs.WellFormedTables.{IsWellFormedTables, IsTrueEr
 ghost use Rattle.icu_provider.specs.OwnedTables.{owned_tables};
 ghost use Rattle.icu_cursor.specs.Cursors.{cursor_reading};
 ghost use Rattle.icu_elements.specs.Reading.{element_tables, reading_of};
-ghost use Rattle.icu_elements.specs.TextElements.{Reading, elements_of};
+ghost use Rattle.icu_elements.specs.TextElements.{elements_of};
 ghost use Rattle.icu_text_order.specs.Forms.{form_by, last_variable_by};
 ghost use Rattle.icu_text_order.specs.TextOrder.{reading_by, handled_elements, handled_by};
 ghost use Rattle.icu_weighting.specs.CheckedCollations.{collation_of};
 ghost use Rattle.icu_levels.specs.CommonBeginnings.{ReadsForward};
-ghost use Rattle.icu_collator.specs.inner.TextFronts.{IsFront};
-ghost use Rattle.icu_cursor.specs.Named.{NamesAll};
-ghost use Rattle.icu_cursor.specs.KeptFacts.{AreTrueFacts};
-ghost use Rattle.icu_cursor.specs.FactsTables.{AreFacts};
-ghost use Rattle.icu_cursor.specs.BoundaryTables.{boundary_reading};
+ghost use Rattle.icu_facts.specs.Named.{NamesAll};
+ghost use Rattle.icu_facts.specs.KeptFacts.{AreTrueFacts};
+ghost use Rattle.icu_facts.specs.FactsTables.{AreFacts};
+ghost use Rattle.icu_facts.specs.BoundaryTables.{boundary_reading};
 ghost use Rattle.unicode_normalization.specs.Forms.{nfd};
 
 use crate::handled::{HandledElements, HandledText, PlainText};
 use icu_checks::CheckedTables;
 use icu_cursor::{
-    Boundaries, CharFacts, CursorTables, ElementCursor, KeptFacts, NamedCharacters, outline_of,
+    Boundaries, CharFacts, CursorTables, ElementCursor, Kept, KeptFacts, NamedCharacters,
 };
 use icu_elements::{ElementTables, TextReading, all_elements};
 use icu_encodings::{Characters, EncodedText};
@@ -140,7 +139,7 @@ impl Collator {
         let settings = merged_options(options, preferences, tables.metadata().settings());
         let named = refused_as_root(NamedCharacters::new(alloc, &tables))?;
         let places = boundaries(&tables, &named, settings);
-        let kept_facts = refused_as_root(KeptFacts::new(alloc, places))?;
+        let kept_facts = refused_as_root(KeptFacts::new(alloc, &tables, places))?;
         Ok(Collator {
             tables,
             named,
@@ -202,26 +201,6 @@ fn boundaries<'d>(
     ensures { boundary_reading result ≡ reading_by (collation_of tables.now settings) }
 {
     Boundaries::new(text_reading(tables, settings), named)
-}
-
-/// What a character says of the front of a text that begins with it: whether the text may be cut before it, and the
-/// primary weight that the text's elements begin with, or 0 where that is not known.
-#[derive(Debug, Clone, Copy)]
-pub(crate) struct Front {
-    pub(crate) has_boundary_before: bool,
-    pub(crate) leading_primary: u32,
-}
-
-/// What is known of a character says what its front is.
-#[inline(always)]
-fn front_of(facts: &CharFacts) -> Front
-    ensures { (reading : Reading) (c : ℕ) → AreTrueFacts reading c facts.now
-        → IsFront reading c result }
-{
-    Front {
-        has_boundary_before: facts.has_boundary_before,
-        leading_primary: facts.leading_primary,
-    }
 }
 
 /// The lead byte of numbers, where digits are read as numbers.
@@ -308,34 +287,25 @@ impl<'a> CollatorBorrowed<'a> {
         self.key_form().secondary == Some(SecondaryForm::Backward)
     }
 
-    /// What a character says of the front of a text that begins with it.
+    /// What is known of a character that is one of those that are read most.
     #[inline(always)]
-    pub(crate) fn front(&self, c: char) -> Front
-        ensures { IsFront (reading_by (collation_borrowed self.now)) c result }
+    pub(crate) fn kept_facts(&self, c: char) -> Option<&'a CharFacts>
+        ensures { IfSome result
+            (λ l. AreTrueFacts (reading_by (collation_borrowed self.now)) c l.now) }
     {
         match self.kept_facts.get(c) {
-            Some(facts) => front_of(facts),
-            None => self.other_front(c),
+            Kept::Facts(facts) => Some(facts),
+            _ => None,
         }
     }
 
-    /// What a character says that isn't among those that are read most.
-    #[inline]
-    fn other_front(&self, c: char) -> Front
-        ensures { IsFront (reading_by (collation_borrowed self.now)) c result }
-    {
-        match self.kept_facts.syllable(c) {
-            Some(facts) => front_of(&facts),
-            None => front_of(&self.outline(c)),
-        }
-    }
-
-    /// What is known of a character by the first one of its decomposition.
+    /// What is known of any other character.
     #[inline(never)]
-    fn outline(&self, c: char) -> CharFacts
+    pub(crate) fn other_facts(&self, c: char) -> CharFacts
         ensures { AreTrueFacts (reading_by (collation_borrowed self.now)) c result }
     {
-        outline_of(&boundaries(self.tables, self.named, self.settings), c)
+        let places = boundaries(self.tables, self.named, self.settings);
+        self.kept_facts.work_out(&places, c)
     }
 
     /// The elements of a text.

@@ -31,7 +31,7 @@ impl<'a> CollatorBorrowed<'a> {
             (text_key (collation_borrowed self.now) (chars right.now))) }
         ensures same { left.now ≡ right.now → result ≡ Ok Ordering.Equal }
     {
-        self.compare_texts(str_text(left), str_text(right))
+        self.compare_encoded(str_text(left), str_text(right))
     }
 
     /// The order of two texts in UTF-8 that may be damaged: each maximal ill-formed part is one U+FFFD (Unicode
@@ -44,7 +44,7 @@ impl<'a> CollatorBorrowed<'a> {
             (text_key (collation_borrowed self.now) (utf8_text right.now))) }
         ensures same { left.now ≡ right.now → result ≡ Ok Ordering.Equal }
     {
-        self.compare_texts(Utf8Text(left), Utf8Text(right))
+        self.compare_encoded(Utf8Text(left), Utf8Text(right))
     }
 
     /// The order of two texts in UTF-16: each unpaired surrogate is U+FFFD (Unicode Standard, "Unicode Encoding
@@ -57,7 +57,7 @@ impl<'a> CollatorBorrowed<'a> {
             (text_key (collation_borrowed self.now) (utf16_text right.now))) }
         ensures same { left.now ≡ right.now → result ≡ Ok Ordering.Equal }
     {
-        self.compare_texts(Utf16Text(left), Utf16Text(right))
+        self.compare_encoded(Utf16Text(left), Utf16Text(right))
     }
 
     /// The order of two texts in Latin-1: each byte is the character of its number (Unicode Standard,
@@ -70,7 +70,7 @@ impl<'a> CollatorBorrowed<'a> {
             (text_key (collation_borrowed self.now) (latin1_text right.now))) }
         ensures same { left.now ≡ right.now → result ≡ Ok Ordering.Equal }
     {
-        self.compare_texts(Latin1Text(left), Latin1Text(right))
+        self.compare_encoded(Latin1Text(left), Latin1Text(right))
     }
 
     /// The order of a text in Latin-1 and one in UTF-16. Fails only where an allocation does.
@@ -82,11 +82,11 @@ impl<'a> CollatorBorrowed<'a> {
             (text_key (collation_borrowed self.now) (utf16_text right.now))) }
         ensures same { left.now ≡ right.now → result ≡ Ok Ordering.Equal }
     {
-        self.compare_texts(Latin1Text(left), Utf16Text(right))
+        self.compare_encoded(Latin1Text(left), Utf16Text(right))
     }
 
     /// The order of two texts, whatever their encodings.
-    fn compare_texts<L: CommonUnits<R>, R: EncodedText>(
+    fn compare_encoded<L: CommonUnits<R>, R: EncodedText>(
         &self,
         left: L,
         right: R,
@@ -98,7 +98,7 @@ impl<'a> CollatorBorrowed<'a> {
             (text_key (collation_borrowed self.now) (R.text right))) }
         ensures same { L.units left ≡ R.units right → result ≡ Ok Ordering.Equal }
     {
-        let order = self.compare_tails(left, right)?;
+        let order = self.compare_past_beginning(left, right)?;
         keys_keep_text_order();
         self.tables.are_well_formed();
         left.has_scalar_values();
@@ -107,7 +107,7 @@ impl<'a> CollatorBorrowed<'a> {
     }
 
     /// The order of two texts by what follows their common beginning, as far as that may be passed over.
-    fn compare_tails<L: CommonUnits<R>, R: EncodedText>(
+    fn compare_past_beginning<L: CommonUnits<R>, R: EncodedText>(
         &self,
         left: L,
         right: R,
@@ -122,14 +122,14 @@ impl<'a> CollatorBorrowed<'a> {
             return Ok(Ordering::Equal);
         }
         if !self.reads_backward() {
-            if let Some((one, other, order)) = self.tails(left, right, common) {
+            if let Some((one, other, order)) = self.last_rests(left, right, common) {
                 return match order {
                     Some(order) => Ok(order),
-                    None => self.compare_rest(one, other),
+                    None => self.compare_all_levels(one, other),
                 };
             }
         }
-        self.compare_levels(left, right)
+        self.compare_whole(left, right)
     }
 
     /// A text is equal to itself.
@@ -142,8 +142,8 @@ impl<'a> CollatorBorrowed<'a> {
         text.has_scalar_values();
     }
 
-    /// The order of two texts: by their first characters where these decide, or else by their levels in turn.
-    fn compare_levels<L: EncodedText, R: EncodedText>(
+    /// The order of two texts from their first characters on: by these where they decide, or else by all levels.
+    fn compare_whole<L: EncodedText, R: EncodedText>(
         &self,
         left: L,
         right: R,
@@ -151,14 +151,16 @@ impl<'a> CollatorBorrowed<'a> {
         ensures { IfOk result (λ o. o ≡ text_order (collation_borrowed self.now)
             (L.text left) (R.text right)) }
     {
-        if let Some(order) = self.compare_fronts(left, right) {
-            return Ok(order);
+        let facts = self.first_facts(left);
+        let other_facts = self.first_facts(right);
+        match self.order_by_first_characters(left, right, facts, other_facts) {
+            Some(order) => Ok(order),
+            None => self.compare_all_levels(left, right),
         }
-        self.compare_rest(left, right)
     }
 
-    /// The order of two texts by their levels in turn.
-    fn compare_rest<L: EncodedText, R: EncodedText>(
+    /// The order of two texts by all levels in turn.
+    fn compare_all_levels<L: EncodedText, R: EncodedText>(
         &self,
         left: L,
         right: R,
@@ -166,16 +168,16 @@ impl<'a> CollatorBorrowed<'a> {
         ensures { IfOk result (λ o. o ≡ text_order (collation_borrowed self.now)
             (L.text left) (R.text right)) }
     {
-        let order = self.compare_elements(left, right)?;
+        let order = self.compare_element_levels(left, right)?;
         if order != Ordering::Equal {
             return Ok(order);
         }
-        self.compare_characters(left, right)
+        self.compare_identical_level(left, right)
     }
 
-    /// The order of two texts by their decomposed characters, where these count.
+    /// The order of two texts on the identical level, by their decomposed characters, where that counts.
     #[tactic(auto, unfolding(icu_text_order::specs::TextOrder::lists_by))]
-    fn compare_characters<L: EncodedText, R: EncodedText>(
+    fn compare_identical_level<L: EncodedText, R: EncodedText>(
         &self,
         left: L,
         right: R,

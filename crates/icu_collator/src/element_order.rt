@@ -20,11 +20,11 @@ use std::cmp::Ordering;
 
 impl<'a> CollatorBorrowed<'a> {
     ghost use Rattle.icu_collator.specs.Collators.{collation_borrowed};
-    ghost use Rattle.icu_collator.specs.inner.ElementOrders.{elements_order, leading_order, lower_order};
+    ghost use Rattle.icu_collator.specs.inner.ElementOrders.{elements_order, leading_order, later_levels_order};
     ghost use Rattle.icu_collator.specs.inner.InStep.{order_on, IsThreeLevel};
 
-    /// The order of two texts on a level that is compared from the front.
-    fn compare_on<L: EncodedText, R: EncodedText>(
+    /// The order of two texts on a level that is compared forward.
+    fn compare_forward_level<L: EncodedText, R: EncodedText>(
         &self,
         level: Level<'_>,
         left: L,
@@ -53,14 +53,18 @@ impl<'a> CollatorBorrowed<'a> {
     {
         match self.key_form().secondary {
             None => Ok(Ordering::Equal),
-            Some(SecondaryForm::Forward) => self.compare_on(Level::Secondary, left, right),
-            Some(SecondaryForm::Backward) => self.compare_backward(left, right),
+            Some(SecondaryForm::Forward) => self.compare_forward_level(
+                Level::Secondary,
+                left,
+                right,
+            ),
+            Some(SecondaryForm::Backward) => self.compare_backward_secondaries(left, right),
         }
     }
 
     /// The order of the secondary weights, backward. The elements are read into lists, since they are gone through from
     /// the end.
-    fn compare_backward<L: EncodedText, R: EncodedText>(
+    fn compare_backward_secondaries<L: EncodedText, R: EncodedText>(
         &self,
         left: L,
         right: R,
@@ -89,7 +93,11 @@ impl<'a> CollatorBorrowed<'a> {
         let form = self.key_form();
         match form.cases {
             None => Ok(Ordering::Equal),
-            Some(cases) => self.compare_on(Level::Case(form.secondary, cases), left, right),
+            Some(cases) => self.compare_forward_level(
+                Level::Case(form.secondary, cases),
+                left,
+                right,
+            ),
         }
     }
 
@@ -105,7 +113,7 @@ impl<'a> CollatorBorrowed<'a> {
     {
         match self.key_form().tertiary {
             None => Ok(Ordering::Equal),
-            Some(form) => self.compare_on(Level::Tertiary(form), left, right),
+            Some(form) => self.compare_forward_level(Level::Tertiary(form), left, right),
         }
     }
 
@@ -121,13 +129,17 @@ impl<'a> CollatorBorrowed<'a> {
     {
         match self.key_form().quaternary {
             None => Ok(Ordering::Equal),
-            Some(_) => self.compare_on(Level::Quaternary(self.tables.reordering()), left, right),
+            Some(_) => self.compare_forward_level(
+                Level::Quaternary(self.tables.reordering()),
+                left,
+                right,
+            ),
         }
     }
 
     /// The order of two texts by their elements: all levels but the identical one.
     #[inline(never)]
-    pub(crate) fn compare_elements<L: EncodedText, R: EncodedText>(
+    pub(crate) fn compare_element_levels<L: EncodedText, R: EncodedText>(
         &self,
         left: L,
         right: R,
@@ -135,9 +147,9 @@ impl<'a> CollatorBorrowed<'a> {
         ensures { IfOk result (λ o. o ≡ elements_order (collation_borrowed self.now)
             (nfd (L.text left)) (nfd (R.text right))) }
     {
-        match self.compare_at_once(left, right)? {
+        match self.compare_in_one_pass(left, right)? {
             Some(order) => Ok(order),
-            None => self.compare_lower(left, right),
+            None => self.compare_later_levels(left, right),
         }
     }
 
@@ -145,7 +157,7 @@ impl<'a> CollatorBorrowed<'a> {
     /// have, and compares primary weights from the first on that differ; where only secondary and tertiary weights
     /// count after them, it compares these as well, as far as elements are in step. None where the primary weights tie,
     /// and no more is known.
-    fn compare_at_once<L: EncodedText, R: EncodedText>(
+    fn compare_in_one_pass<L: EncodedText, R: EncodedText>(
         &self,
         left: L,
         right: R,
@@ -187,15 +199,16 @@ impl<'a> CollatorBorrowed<'a> {
         }
     }
 
-    /// The levels between the primary and the identical one in turn: the first that differs decides.
+    /// The order of two texts on the later levels, those between the primary and the identical one, in turn: the first
+    /// that differs decides.
     #[inline(never)]
-    #[tactic(auto, unfolding(crate::specs::inner::ElementOrders::lower_order))]
-    fn compare_lower<L: EncodedText, R: EncodedText>(
+    #[tactic(auto, unfolding(crate::specs::inner::ElementOrders::later_levels_order))]
+    fn compare_later_levels<L: EncodedText, R: EncodedText>(
         &self,
         left: L,
         right: R,
     ) -> Result<Ordering, AllocError>
-        ensures { IfOk result (λ o. o ≡ lower_order (collation_borrowed self.now)
+        ensures { IfOk result (λ o. o ≡ later_levels_order (collation_borrowed self.now)
             (nfd (L.text left)) (nfd (R.text right))) }
     {
         let order = self.compare_secondaries(left, right)?;

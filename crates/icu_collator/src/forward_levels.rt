@@ -1,4 +1,4 @@
-//! The levels that are compared from the front, weight by weight.
+//! The levels that are compared forward, weight by weight.
 
 ghost use Rattle.std.specs.Prelude.{◌≡◌, ◌≤◌, ◌∷◌, ◌+◌, [], List, Some, length, IfOk, IfSome, IsTrue, MatchOption};
 ghost use Rattle.std.specs.Ordering.{ordering_then};
@@ -19,7 +19,7 @@ use icu_weighting::{Handled, HandledSource};
 use std::alloc::AllocError;
 use std::cmp::Ordering;
 
-/// A level that is compared from the front (UTS #10, "Form Sort Keys").
+/// A level that is compared forward (UTS #10, "Form Sort Keys").
 #[derive(Debug, Clone, Copy)]
 pub(crate) enum Level<'d> {
     /// Primary weights, reordered.

@@ -10,13 +10,14 @@
 pub mod collator;
 pub mod compare;
 mod element_order;
+mod first_facts;
 mod forward_levels;
 pub mod handled;
 mod identical_level;
 mod in_step;
+mod rests;
 mod segments;
 pub mod sort_key;
-mod tails;
 mod texts;
 
 pub use collator::{Collator, CollatorBorrowed};
@@ -45,8 +46,8 @@ pub mod provider {
     pub use icu_entries::{DataError, DataErrorKind, DataTable};
     pub use icu_provider::{
         CollationDiacritics, CollationJamo, CollationMetadata, CollationProvider,
-        CollationReordering, CollationSpecialPrimaries, DataRequest, MetadataFields, OwnedTables,
-        TableSet, load_tables,
+        CollationReordering, CollationSpecialPrimaries, DataRequest, FixedLoads, FixedProvider,
+        MetadataFields, OwnedTables, TableSet, load_tables,
     };
     pub use icu_table_builder::{DataBuilder, DataVectors, OwnedData};
 }

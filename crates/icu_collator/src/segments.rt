@@ -1,6 +1,6 @@
 //! The secondary level where it is compared from the end, segment by segment.
 
-ghost use Rattle.std.specs.Prelude.{◌≡◌, true, false, ◌≤◌, ◌<◌, ◌+◌, ◌-◌, ℕ, List, [], ◌∷◌, length, drop, reverse, IfSome, IsTrue, Some, None};
+ghost use Rattle.std.specs.Prelude.{◌≡◌, true, false, ◌≤◌, ◌<◌, ◌+◌, ◌-◌, [], ◌∷◌, length, drop, reverse, IfSome, IsTrue, Some, None};
 ghost use Rattle.std.specs.Ordering.{ordering_then};
 ghost use Rattle.icu_levels.specs.ListOrder.{list_order, segments_order};
 ghost use Rattle.icu_weighting.specs.Levels.{segments};
@@ -128,8 +128,8 @@ fn compare_segment(left: &mut HandledElements<'_>, right: &mut HandledElements<'
 
 /// The order of two texts' secondary weights where they are compared from the end: segments between
 /// merge separators in turn, each from its end (UTS #35 part 5, "Setting Options" on backwards). No
-/// list of weights is made: where two segments differ in length, the longer one's surplus is at its
-/// front, and is passed over.
+/// list of weights is made: where two segments differ in length, the longer one begins with its
+/// surplus, which is passed over.
 pub(crate) fn compare_segments(left: HandledElements<'_>, right: HandledElements<'_>) -> Ordering
     ensures { result ≡ segments_order (segments (stayed_elements (handled_rest left.entry)))
         (segments (stayed_elements (handled_rest right.entry))) }

@@ -50,7 +50,7 @@ impl<'a> CollatorBorrowed<'a> {
         ensures key { WritesKey S.effects sink.old
             (text_key (collation_borrowed self.now) (chars text.now)) result sink.new }
     {
-        self.write_key_of(str_text(text), sink)
+        self.write_encoded_key(str_text(text), sink)
     }
 
     /// Writes the sort key of a text in UTF-8 that may be damaged, where each maximal ill-formed part is one U+FFFD
@@ -67,7 +67,7 @@ impl<'a> CollatorBorrowed<'a> {
         ensures key { WritesKey S.effects sink.old
             (text_key (collation_borrowed self.now) (utf8_text text.now)) result sink.new }
     {
-        self.write_key_of(Utf8Text(text), sink)
+        self.write_encoded_key(Utf8Text(text), sink)
     }
 
     /// Writes the sort key of a text in UTF-16, where each unpaired surrogate is U+FFFD (Unicode Standard, "Unicode
@@ -84,11 +84,11 @@ impl<'a> CollatorBorrowed<'a> {
         ensures key { WritesKey S.effects sink.old
             (text_key (collation_borrowed self.now) (utf16_text text.now)) result sink.new }
     {
-        self.write_key_of(Utf16Text(text), sink)
+        self.write_encoded_key(Utf16Text(text), sink)
     }
 
     /// Writes the key of a text, whatever its encoding.
-    fn write_key_of<T: EncodedText, S: CollationKeySink>(
+    fn write_encoded_key<T: EncodedText, S: CollationKeySink>(
         &self,
         text: T,
         sink: &mut S,
@@ -102,12 +102,12 @@ impl<'a> CollatorBorrowed<'a> {
         let Ok(characters) = self.key_characters(text) else {
             return write_nothing(sink);
         };
-        self.write_with_characters(text, characters.as_slice(), sink)
+        self.write_key_with_characters(text, characters.as_slice(), sink)
     }
 
     /// Writes the key of a text, with these characters at the identical level. Its elements are written as they are
     /// read: no list of them is made.
-    fn write_with_characters<T: EncodedText, S: CollationKeySink>(
+    fn write_key_with_characters<T: EncodedText, S: CollationKeySink>(
         &self,
         text: T,
         characters: &[char],
@@ -122,16 +122,16 @@ impl<'a> CollatorBorrowed<'a> {
             (handled_by collation (nfd (T.text text))) characters.now)) result sink.new }
     {
         if self.last_variable() == 0 {
-            self.write_plain(text, characters, sink)
+            self.write_plain_key(text, characters, sink)
         } else {
-            self.write_variable(text, characters, sink)
+            self.write_variable_key(text, characters, sink)
         }
     }
 
     /// Writes the key of a text by settings under which no element is variable. Not inlined: inlined, each key call
     /// would clear its locals too.
     #[inline(never)]
-    fn write_plain<T: EncodedText, S: CollationKeySink>(
+    fn write_plain_key<T: EncodedText, S: CollationKeySink>(
         &self,
         text: T,
         characters: &[char],
@@ -162,7 +162,7 @@ impl<'a> CollatorBorrowed<'a> {
 
     /// Writes the key of a text where elements may be variable.
     #[inline(never)]
-    fn write_variable<T: EncodedText, S: CollationKeySink>(
+    fn write_variable_key<T: EncodedText, S: CollationKeySink>(
         &self,
         text: T,
         characters: &[char],

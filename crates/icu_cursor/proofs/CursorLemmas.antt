@@ -28,13 +28,13 @@ piece_taken ready first before after rest none is =
     ∙ ready_taken first before after rest is
     ∙ ap (λ (es : List Element). first ++ (es ++ (after ++ rest))) (sym none)
 
-front : (xs : List Element) (e d : Element) → 1 ≤ length xs → e ≡ get_or xs 0 d → take 1 xs ≡ e ∷ []
-front [] e d some is = absurd (omega arith)
-front (x ∷ xs) e d some is = ap (λ y. y ∷ []) (sym is)
+first_alone : (xs : List Element) (e d : Element) → 1 ≤ length xs → e ≡ get_or xs 0 d → take 1 xs ≡ e ∷ []
+first_alone [] e d some is = absurd (omega arith)
+first_alone (x ∷ xs) e d some is = ap (λ y. y ∷ []) (sym is)
 
 -- the first of a character's
 pub one_taken : (l : CharFacts) (e d : Element) → l.count ≡ 1 → 1 ≤ length l.elements → e ≡ get_or l.elements 0 d → char_elements l ≡ e ∷ []
-one_taken l e d one some is = ap (λ n. take n l.elements) one ∙ front l.elements e d some is
+one_taken l e d one some is = ap (λ n. take n l.elements) one ∙ first_alone l.elements e d some is
 
 module _ (reading : Reading) (ready piece : List Element) (before : List ℕ) (none : ready ≡ []) (piece_ended : piece ≡ []) where
   -- a text that ended gives nothing

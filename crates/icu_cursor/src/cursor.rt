@@ -223,7 +223,7 @@ impl<'c, 'd, T: EncodedText> ElementCursor<'c, 'd, T> {
     }
 
     /// Reads a character of which nothing is kept. Out of line: a function clears its locals each time that it is
-    /// called. A syllable is read here by itself, since all that is known of it is of one kind.
+    /// called, and what is known of such a character is one.
     #[inline(never)]
     fn read_other(&mut self, c: char, rest: T) -> Result<Option<CollationElement>, AllocError>
         requires nothing { HasNothingReady self.old }
@@ -232,22 +232,7 @@ impl<'c, 'd, T: EncodedText> ElementCursor<'c, 'd, T> {
             ≡ option_to_list first ++ cursor_gives T.text self.new) }
         ensures shorter { OnOk result (length (T.text self.new.text) ≤ length (T.text rest)) }
     {
-        match self.tables.syllable(c) {
-            Some(facts) => self.read_char(c, &facts, rest),
-            None => self.read_rare(c, rest),
-        }
-    }
-
-    /// Reads a character that is no Hangul syllable either.
-    #[inline(never)]
-    fn read_rare(&mut self, c: char, rest: T) -> Result<Option<CollationElement>, AllocError>
-        requires nothing { HasNothingReady self.old }
-        requires text { T.text self.old.text ≡ c ∷ T.text rest }
-        ensures next { IfOk result (λ first. cursor_gives T.text self.old
-            ≡ option_to_list first ++ cursor_gives T.text self.new) }
-        ensures shorter { OnOk result (length (T.text self.new.text) ≤ length (T.text rest)) }
-    {
-        let facts = self.tables.rare_facts(c);
+        let facts = self.tables.other_facts(c);
         self.read_char(c, &facts, rest)
     }
 

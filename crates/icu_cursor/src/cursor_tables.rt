@@ -11,7 +11,7 @@ ghost use Rattle.icu_cursor.specs.inner.Places.{MayBeCut};
 ghost use Rattle.icu_cursor.specs.inner.MarkRuns.{IsInRun};
 ghost use Rattle.icu_cursor.specs.inner.Standing.{KeptServes, Serves};
 
-use crate::{Boundaries, CharFacts, Kept, KeptFacts, facts_of};
+use crate::{Boundaries, CharFacts, Kept, KeptFacts};
 use icu_elements::TextReading;
 use icu_entries::CollationElement;
 use icu_facts::{FewElements, own_element, own_elements};
@@ -113,21 +113,13 @@ impl<'d> CursorTables<'d> {
         own_elements(&self.places, c)
     }
 
-    /// What is known of a character of which nothing is kept, and which is no Hangul syllable.
+    /// What is known of a character of which nothing is kept.
+    #[inline]
     #[tactic(auto, unfolding(crate::specs::Cursors::cursor_reading))]
-    pub(crate) fn rare_facts(&self, c: char) -> CharFacts
+    pub(crate) fn other_facts(&self, c: char) -> CharFacts
         ensures { Serves (cursor_reading self.now) c result }
     {
-        facts_of(&self.places, c)
-    }
-
-    /// What is known of a Hangul syllable, where each of its jamo has one element wherever it stands.
-    #[inline(always)]
-    #[tactic(auto, unfolding(crate::specs::Cursors::cursor_reading))]
-    pub(crate) fn syllable(&self, c: char) -> Option<CharFacts>
-        ensures { IfSome result (λ l. Serves (cursor_reading self.now) c l) }
-    {
-        self.kept_facts.syllable(c)
+        self.kept_facts.work_out(&self.places, c)
     }
 
     /// Whether a text may be cut before this character. False says nothing.

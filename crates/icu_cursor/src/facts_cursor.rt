@@ -13,6 +13,7 @@ use crate::stands::stands_before;
 use crate::{CharFacts, Kept};
 use icu_encodings::EncodedText;
 use icu_entries::CollationElement;
+use icu_facts::is_syllable;
 
 /// Gives the elements of the characters that a text begins with, as long as each may be read by itself: less than an
 /// `ElementCursor`, but at little cost. It never allocates.
@@ -96,14 +97,18 @@ impl<'c, 'd, T: EncodedText> FactsCursor<'c, 'd, T> {
         self.ready.begin_few(&few)
     }
 
-    /// The first element of a text that begins with a Hangul syllable.
+    /// The first element of a text that begins with a Hangul syllable, whose facts cost little. Those of a rarer
+    /// character would be worked out twice, here and by an `ElementCursor`.
     #[inline(never)]
     fn read_syllable(&mut self, c: char, rest: T) -> Option<CollationElement>
         requires nothing { elements_ready self.old.ready ≡ [] }
         requires text { T.text self.old.text ≡ c ∷ T.text rest }
         ensures { IfSome result (λ e. GoesOn T.text self.old e self.new) }
     {
-        let facts = self.tables.syllable(c)?;
+        if !is_syllable(c) {
+            return None;
+        }
+        let facts = self.tables.other_facts(c);
         self.begin(c, &facts, rest)
     }
 

@@ -14,6 +14,4 @@ mod stands;
 pub use cursor::ElementCursor;
 pub use cursor_tables::CursorTables;
 pub use facts_cursor::FactsCursor;
-pub use icu_facts::{
-    Boundaries, CharFacts, FactsKind, Kept, KeptFacts, NamedCharacters, facts_of, outline_of,
-};
+pub use icu_facts::{Boundaries, CharFacts, FactsKind, Kept, KeptFacts, NamedCharacters, facts_of};

@@ -36,7 +36,7 @@ are_pair h l p q = grind (arith, nat_tests)
 module _ (c : ℕ) (us : List ℕ) (h : IsScalar c) where
   low_read : c < 0x1_0000 → utf16_text (encode_utf16 c ++ us) ≡ c ∷ utf16_text us
   low_read low =
-      ap (λ front. utf16_text (front ++ us)) (one_unit c low)
+      ap (λ beginning. utf16_text (beginning ++ us)) (one_unit c low)
       ∙ first_is_lone c us (apart_from_all c us (λ w. scalar_is_no_lead c w h))
       ∙ ap (λ x. x ∷ utf16_text us) (scalar_alone c h)
 
@@ -45,7 +45,7 @@ module _ (c : ℕ) (us : List ℕ) (h : IsScalar c) where
       let above = c - 0x1_0000 in
       let last : c < 0x11_0000 = below_last c h in
       let whole : 0x1_0000 + above / 0x400 * 0x400 + above % 0x400 ≡ c = omega arith in
-      ap (λ front. utf16_text (front ++ us)) (two_units c high)
+      ap (λ beginning. utf16_text (beginning ++ us)) (two_units c high)
       ∙ first_is_pair (0xD800 + above / 0x400) (0xDC00 + above % 0x400) c us
       (are_pair (above / 0x400) (above % 0x400) (omega arith) (omega arith) ∙ ap Some whole)
 

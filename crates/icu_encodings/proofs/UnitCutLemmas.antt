@@ -9,7 +9,7 @@ use Rattle.bstr.specs.Utf8.{decoded, good, or_replacement, continues, second, co
 use Rattle.bstr.proofs.lemmas.PieceLemmas.{StartsClean as StartsPiece, pieces-append, lossy_chars-step, lossy_chars-nil, piece-bounds, value-1, value-6, value-9}
 use Rattle.icu_encodings.specs.inner.Utf16Units.{is_pair, lone_char}
 use Rattle.icu_encodings.specs.inner.UnitCuts.{StartsClean, StartsNoTrail}
-use Rattle.icu_encodings.specs.inner.ListFronts.{HaveHead}
+use Rattle.icu_encodings.specs.inner.ListBeginnings.{HaveBeginning}
 use Rattle.icu_encodings.specs.DecodedTexts.{utf8_text, utf16_text}
 use Rattle.icu_encodings.proofs.Utf16Lemmas.{IsApart, IsCut, text_parted, text_of_none, first_is_lone, apart_from_all}
 
@@ -44,30 +44,30 @@ utf16_cut at us h =
 
 -- ---- common beginnings
 
-pub no_head : (xs ys : List ℕ) → HaveHead xs ys xs ys
-no_head xs ys = ([], refl, refl)
+pub no_beginning : (xs ys : List ℕ) → HaveBeginning xs ys xs ys
+no_beginning xs ys = ([], refl, refl)
 
-pub longer_head : (xs ys xs_left ys_left word xs_rest ys_rest : List ℕ) → HaveHead xs ys xs_left ys_left
-    → xs_left ≡ word ++ xs_rest → ys_left ≡ word ++ ys_rest → HaveHead xs ys xs_rest ys_rest
-longer_head xs ys xs_left ys_left word xs_rest ys_rest h e f = (
+pub longer_beginning : (xs ys xs_left ys_left word xs_rest ys_rest : List ℕ) → HaveBeginning xs ys xs_left ys_left
+    → xs_left ≡ word ++ xs_rest → ys_left ≡ word ++ ys_rest → HaveBeginning xs ys xs_rest ys_rest
+longer_beginning xs ys xs_left ys_left word xs_rest ys_rest h e f = (
   h.0 ++ word,
   h.1 ∙ ap (λ l. h.0 ++ l) e ∙ sym (append_assoc h.0 word xs_rest),
   h.2 ∙ ap (λ l. h.0 ++ l) f ∙ sym (append_assoc h.0 word ys_rest),
 )
 
-head_taken : (xs head xs_left : List ℕ) → xs ≡ head ++ xs_left → take (length xs - length xs_left) xs ≡ head
-head_taken xs head xs_left e =
-    let long = length-append head xs_left in
-    let n : length xs - length xs_left ≡ length head = omega (arith, ap length e ∙ long) in
-    ap (λ k. take k xs) n ∙ ap (take (length head)) e ∙ take-append-le (length head) head xs_left (omega arith) ∙ take_all (length head) head (omega arith)
+beginning_taken : (xs beginning xs_left : List ℕ) → xs ≡ beginning ++ xs_left → take (length xs - length xs_left) xs ≡ beginning
+beginning_taken xs beginning xs_left e =
+    let long = length-append beginning xs_left in
+    let n : length xs - length xs_left ≡ length beginning = omega (arith, ap length e ∙ long) in
+    ap (λ k. take k xs) n ∙ ap (take (length beginning)) e ∙ take-append-le (length beginning) beginning xs_left (omega arith) ∙ take_all (length beginning) beginning (omega arith)
 
 -- as many first members as the one has more than what is left of it are the same
-pub same_front : (xs ys xs_left ys_left : List ℕ) → HaveHead xs ys xs_left ys_left
+pub same_beginning : (xs ys xs_left ys_left : List ℕ) → HaveBeginning xs ys xs_left ys_left
     → take (length xs - length xs_left) xs ≡ take (length xs - length xs_left) ys
-same_front xs ys xs_left ys_left h =
+same_beginning xs ys xs_left ys_left h =
     let n : length xs - length xs_left ≡ length ys - length ys_left =
     omega (arith, ap length h.1 ∙ length-append h.0 xs_left, ap length h.2 ∙ length-append h.0 ys_left) in
-    head_taken xs h.0 xs_left h.1 ∙ sym (ap (λ k. take k ys) n ∙ head_taken ys h.0 ys_left h.2)
+    beginning_taken xs h.0 xs_left h.1 ∙ sym (ap (λ k. take k ys) n ∙ beginning_taken ys h.0 ys_left h.2)
 
 -- where so many first units are the same, so are fewer
 pub same_shorter : (n m : ℕ) (xs ys : List ℕ) → n ≤ m → take m xs ≡ take m ys → take n xs ≡ take n ys
@@ -82,7 +82,7 @@ pub same_words : (xs ys : List ℕ) → not (pointwise eqb xs ys) ≡ false → 
 same_words xs ys h = (bytes_eq-Decides xs ys).0 (not_false (pointwise eqb xs ys) h)
 
 -- where the two lists are the same, so is what is left of them
-pub rest_alike : (xs ys xs_left ys_left : List ℕ) → HaveHead xs ys xs_left ys_left → xs ≡ ys → xs_left ≡ ys_left
+pub rest_alike : (xs ys xs_left ys_left : List ℕ) → HaveBeginning xs ys xs_left ys_left → xs ≡ ys → xs_left ≡ ys_left
 rest_alike xs ys xs_left ys_left h e =
     sym (drop_at h.0 xs_left (length h.0) refl) ∙ ap (drop (length h.0)) (sym h.1 ∙ e ∙ h.2) ∙ drop_at h.0 ys_left (length h.0) refl
 
@@ -206,5 +206,5 @@ utf16_first_unit u us h =
 -- ---- words
 
 -- a longer common beginning goes on from a shorter one
-pub head_on : (xs ys xs_left ys_left xs_rest ys_rest : List ℕ) → HaveHead xs ys xs_left ys_left → HaveHead xs_left ys_left xs_rest ys_rest → HaveHead xs ys xs_rest ys_rest
-head_on xs ys xs_left ys_left xs_rest ys_rest h more = longer_head xs ys xs_left ys_left more.0 xs_rest ys_rest h more.1 more.2
+pub beginning_goes_on : (xs ys xs_left ys_left xs_rest ys_rest : List ℕ) → HaveBeginning xs ys xs_left ys_left → HaveBeginning xs_left ys_left xs_rest ys_rest → HaveBeginning xs ys xs_rest ys_rest
+beginning_goes_on xs ys xs_left ys_left xs_rest ys_rest h more = longer_beginning xs ys xs_left ys_left more.0 xs_rest ys_rest h more.1 more.2

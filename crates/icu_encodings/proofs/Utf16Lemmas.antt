@@ -1,4 +1,4 @@
--- How UTF-16 is read from its front and from its back.
+-- How UTF-16 is read from its beginning and from its end.
 use Rattle.std.proofs.Common.{◌≡◌, ℕ, suc, ◌≤◌, length, get_or, ◌<◌, ◌^◌, Bool, true, false, List, [], ◌∷◌, ◌++◌, map, Option, Some, None, if◌then◌else◌, unwrap_or, refl, ap, ◌∙◌, arith}
 use Rattle.std.proofs.lemmas.Bool.{and_parts}
 use Rattle.std.proofs.lemmas.Bool.Decides.{nat_tests}
@@ -85,7 +85,7 @@ text_of_pair u v c e =
     let both = of_pair (is_pair u v) c (surrogate_pair_char u v) e in
     text_of_two u v both.0 ∙ ap (λ d. d ∷ []) both.1
 
--- ---- from the front
+-- ---- from the beginning
 
 pub apart_from_all : (v : ℕ) (us : List ℕ) → ((w : ℕ) → is_pair v w ≡ false) → IsApart v us
 apart_from_all v [] h = tt

@@ -4,7 +4,7 @@ use Rattle.std.proofs.lemmas.List.{take-take}
 use Rattle.std.proofs.lemmas.Simd.{mask_l-mod, tops_compared, trailing_mask_l}
 use Rattle.std.proofs.lemmas.List.Sums.{prefix_len-le-length}
 use Rattle.std.specs.List.{prefix_len}
-use Rattle.icu_encodings.specs.inner.ListFronts.{HaveHead}
+use Rattle.icu_encodings.specs.inner.ListBeginnings.{HaveBeginning}
 use mir.Syntax.{w8}
 use lib.Count.{count_trailing_zeros}
 use lib.Lanes.{zip2, mask_l, top}
@@ -65,9 +65,9 @@ module _ (xs ys : List ℕ) (lanes : List ℕ) (long : length xs ≡ 8) (other_l
   pub some_bound : (mask_l (map (top 7) lanes) % 2 ^ 64 ≡ 0 → ⊥) → count_trailing_zeros 64 (mask_l (map (top 7) lanes) % 2 ^ 64) ≤ 8
   some_bound some = let h = prefix_len-le-length (λ b. not b) marks in omega (arith, found some, h, few)
 
--- the front of a list goes on from the front of its first word
+-- the common beginning of two lists goes on with that of their first words
 pub word_head : (n : ℕ) (xs ys word other xs_rest ys_rest : List ℕ) → word ≡ take 8 xs → other ≡ take 8 ys → n ≤ 8 → take n word ≡ take n other
-    → xs_rest ≡ drop n xs → ys_rest ≡ drop n ys → HaveHead xs ys xs_rest ys_rest
+    → xs_rest ≡ drop n xs → ys_rest ≡ drop n ys → HaveBeginning xs ys xs_rest ys_rest
 word_head n xs ys word other xs_rest ys_rest is other_is le same rest other_rest =
     let one : take n word ≡ take n xs = ap (take n) is ∙ take-take n 8 xs le in
     let two : take n other ≡ take n ys = ap (take n) other_is ∙ take-take n 8 ys le in (

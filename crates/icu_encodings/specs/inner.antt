@@ -1,4 +1,4 @@
 -- Words that only private contracts and proofs use.
 pub mod UnitCuts
-pub mod ListFronts
+pub mod ListBeginnings
 pub mod Utf16Units

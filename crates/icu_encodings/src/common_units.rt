@@ -1,7 +1,7 @@
 //! The common beginning of two texts.
 
-ghost use Rattle.std.specs.Prelude.{◌≡◌, ◌≤◌, ℕ, take, length, IsTrue, MatchOption};
-ghost use Rattle.icu_encodings.specs.inner.ListFronts.{BeginAlike, EndTogether, HaveHead};
+ghost use Rattle.std.specs.Prelude.{◌≡◌, ◌≤◌, ℕ, take, length, MatchOption};
+ghost use Rattle.icu_encodings.specs.inner.ListBeginnings.{BeginAlike, EndTogether, HaveBeginning};
 ghost use Rattle.icu_encodings.specs.DecodedTexts.{latin1_text, utf16_text};
 
 use crate::encoded_text::{EncodedText, Latin1Text, Utf8Text, Utf16Text};
@@ -13,7 +13,7 @@ pub trait CommonUnits<R: EncodedText>: EncodedText {
     /// both.
     fn common_units(self, other: R) -> usize
         ensures same { Self.units self ≡ R.units other → result ≡ length (Self.units self) }
-        ensures heads { (n : ℕ) → n ≤ result → Self.head self n ≡ R.head other n };
+        ensures beginnings { (n : ℕ) → n ≤ result → Self.beginning self n ≡ R.beginning other n };
 }
 
 impl<'a, 'b> CommonUnits<Utf8Text<'b>> for Utf8Text<'a> {
@@ -92,7 +92,7 @@ fn after_common_number<'a, 'b>(left: &'a [u8], right: &'b [u16]) -> Option<(&'a 
 /// What follows the blocks of 64 bytes that two lists both begin with.
 #[inline]
 fn after_common_blocks<'a, 'b>(left: &'a [u8], right: &'b [u8]) -> (&'a [u8], &'b [u8])
-    ensures { HaveHead left.entry.now right.entry.now result.0.now result.1.now }
+    ensures { HaveBeginning left.entry.now right.entry.now result.0.now result.1.now }
 {
     let mut left_rest = left;
     let mut right_rest = right;
@@ -113,7 +113,7 @@ fn after_common_blocks<'a, 'b>(left: &'a [u8], right: &'b [u8]) -> (&'a [u8], &'
 #[inline(always)]
 fn common_in_word(left: &[u8; 8], right: &[u8; 8]) -> usize
     ensures bound { result ≤ 8 }
-    ensures front { take result left.now ≡ take result right.now }
+    ensures beginning { take result left.now ≡ take result right.now }
 {
     let differing = u8x8::from_array(*left).simd_ne(u8x8::from_array(*right));
     let mask = differing.to_bitmask();
@@ -126,7 +126,7 @@ fn common_in_word(left: &[u8; 8], right: &[u8; 8]) -> usize
 /// What follows the bytes that two lists both begin with, as far as both have whole words of eight bytes.
 #[inline]
 fn after_common_words<'a, 'b>(left: &'a [u8], right: &'b [u8]) -> (&'a [u8], &'b [u8])
-    ensures { HaveHead left.entry.now right.entry.now result.0.now result.1.now }
+    ensures { HaveBeginning left.entry.now right.entry.now result.0.now result.1.now }
 {
     let mut left_rest = left;
     let mut right_rest = right;
@@ -150,7 +150,7 @@ fn after_common_words<'a, 'b>(left: &'a [u8], right: &'b [u8]) -> (&'a [u8], &'b
 #[inline]
 fn common_bytes(left: &[u8], right: &[u8]) -> usize
     ensures same { left.now ≡ right.now → result ≡ length left.now }
-    ensures fronts { take result left.now ≡ take result right.now }
+    ensures beginnings { take result left.now ≡ take result right.now }
 {
     let (left_rest, right_rest) = after_common_blocks(left, right);
     let (mut left_rest, mut right_rest) = after_common_words(left_rest, right_rest);
@@ -165,7 +165,7 @@ fn common_bytes(left: &[u8], right: &[u8]) -> usize
 #[inline]
 fn common_units16(left: &[u16], right: &[u16]) -> usize
     ensures same { left.now ≡ right.now → result ≡ length left.now }
-    ensures fronts { take result left.now ≡ take result right.now }
+    ensures beginnings { take result left.now ≡ take result right.now }
 {
     let mut left_rest = left;
     let mut right_rest = right;
@@ -190,7 +190,7 @@ fn common_units16(left: &[u16], right: &[u16]) -> usize
 #[inline]
 fn common_bytes_and_units(left: &[u8], right: &[u16]) -> usize
     ensures same { left.now ≡ right.now → result ≡ length left.now }
-    ensures heads { (n : ℕ) → n ≤ result
+    ensures beginnings { (n : ℕ) → n ≤ result
         → latin1_text (take n left.now) ≡ utf16_text (take n right.now) }
 {
     let mut left_rest = left;

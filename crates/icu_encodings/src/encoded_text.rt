@@ -24,7 +24,7 @@ pub trait EncodedText: Copy {
     ghost units: { Self → List ℕ };
 
     /// The characters of its first units alone, as many as are given.
-    ghost head: { Self → ℕ → List ℕ };
+    ghost beginning: { Self → ℕ → List ℕ };
 
     /// The first character and the text after it, or `None` where the text is empty.
     fn split_first_char(self) -> Option<(char, Self)>
@@ -42,12 +42,12 @@ pub trait EncodedText: Copy {
     /// How many units the text has: bytes, or units of 16 bits.
     fn unit_count(self) -> usize
         ensures count { result ≡ length (units self) }
-        ensures whole { head self result ≡ text self };
+        ensures whole { beginning self result ≡ text self };
 
     /// The text from a unit on, where a character begins there and what stands before decodes by itself; `None`
     /// elsewhere.
     fn split_at(self, at: usize) -> Option<Self>
-        ensures { IfSome result (λ rest. text self ≡ head self at ++ text rest) };
+        ensures { IfSome result (λ rest. text self ≡ beginning self at ++ text rest) };
 }
 
 /// UTF-8 that may be damaged: each maximal ill-formed part is one U+FFFD.
@@ -59,7 +59,7 @@ impl<'a> EncodedText for Utf8Text<'a> {
 
     ghost units = { λ t. t.0.now };
 
-    ghost head = { λ t n. utf8_text (take n t.0.now) };
+    ghost beginning = { λ t n. utf8_text (take n t.0.now) };
 
     #[inline(always)]
     fn split_first_char(self) -> Option<(char, Self)> {
@@ -217,7 +217,7 @@ impl<'a> EncodedText for Utf16Text<'a> {
 
     ghost units = { λ t. t.0.now };
 
-    ghost head = { λ t n. utf16_text (take n t.0.now) };
+    ghost beginning = { λ t n. utf16_text (take n t.0.now) };
 
     #[inline(always)]
     fn split_first_char(self) -> Option<(char, Self)> {
@@ -273,7 +273,7 @@ impl<'a> EncodedText for Latin1Text<'a> {
 
     ghost units = { λ t. t.0.now };
 
-    ghost head = { λ t n. latin1_text (take n t.0.now) };
+    ghost beginning = { λ t n. latin1_text (take n t.0.now) };
 
     #[inline(always)]
     fn split_first_char(self) -> Option<(char, Self)> {

@@ -7,5 +7,6 @@ pub mod OwnLemmas
 mod CharWordLemmas
 mod LoneLemmas
 pub mod KeptLemmas
+mod OwnFactsLemmas
 pub mod SyllableLemmas
 pub mod KeptBaseLemmas

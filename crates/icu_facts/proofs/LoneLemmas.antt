@@ -1,13 +1,13 @@
 -- Entries that give the same wherever their characters stand.
-use Rattle.std.proofs.Common.{◌≡◌, ℕ, ◌+◌, ◌-◌, ◌*◌, ◌/◌, ◌%◌, ◌<◌, ◌≤◌, ◌==◌, nat_le, nat_lt, Bool, true, false, not, ◌&&◌, List, [], ◌∷◌, ◌++◌, length, length-append, length-take, length-drop, take, drop, get_or, slice_index, slice_index_or, Option, Some, None, IfSome, is_some, if◌then◌else◌, refl, sym, ap, subst, ◌∙◌, inl, inr, arith}
+use Rattle.std.proofs.Common.{◌≡◌, ℕ, ◌+◌, ◌-◌, ◌*◌, ◌<◌, ◌≤◌, ◌==◌, nat_le, nat_lt, Bool, true, false, not, List, [], ◌∷◌, ◌++◌, length, length-append, length-take, length-drop, take, drop, get_or, slice_index, Option, Some, None, IfSome, is_some, if◌then◌else◌, sym, ap, ◌∙◌, inl, inr, arith}
 use Rattle.std.specs.List.{list_all}
-use Rattle.std.proofs.lemmas.Bool.{and_parts, and_from, and_right, cases_lt, cases_Bool, not_from_false, not-true, true_from_ne_false, le-ltb, le-leb}
+use Rattle.std.proofs.lemmas.Bool.{and_parts, and_from, and_right, cases_lt, not_from_false, not-true, true_from_ne_false, le-ltb}
 use Rattle.std.proofs.lemmas.List.{get_or_append_left, get_or_push, get_or_past, get_or-take, get_or-drop}
 use Rattle.std.proofs.lemmas.List.Folds.{list_all_at}
 use Rattle.icu_entries.specs.declared.entry.EntryKind.{EntryKind}
 use Rattle.icu_entries.specs.Entries.{kind_of, fallback_entry}
 use Rattle.icu_collation_data.specs.Data.{Data, HomedEntry, homed}
-use Rattle.icu_provider.specs.Tables.{Tables, entry_of, is_jamo}
+use Rattle.icu_provider.specs.Tables.{entry_of, is_jamo}
 use Rattle.icu_elements.specs.TextElements.{Reading, is_digit_kind}
 use Rattle.icu_boundaries.specs.Alone.{names_no_context, looks_at_nothing}
 use Rattle.icu_facts.specs.inner.OwnBlocks.{HasLoneEntry}

@@ -1,12 +1,12 @@
 -- Characters that give the elements of their entries wherever they stand.
-use Rattle.std.proofs.Common.{◌≡◌, ℕ, ◌+◌, ◌*◌, ◌<◌, ◌≤◌, Bool, true, false, not, ◌&&◌, ◌||◌, ◌==◌, [], Option, is_some, refl, sym, ap, ◌∙◌, arith}
+use Rattle.std.proofs.Common.{◌≡◌, ℕ, ◌+◌, ◌*◌, ◌<◌, ◌≤◌, Bool, true, false, not, ◌&&◌, ◌==◌, [], is_some, refl, arith}
 use Rattle.std.proofs.lemmas.Bool.{and_parts, and_from, and_right, or_right, not_from_false, ne_eqb}
 use Rattle.icu_entries.specs.declared.entry.EntryKind.{EntryKind}
 use Rattle.icu_entries.specs.declared.entry.EntryKind.TheVariants.{Prefix}
 use Rattle.icu_entries.specs.Entries.{kind_of}
 use Rattle.icu_provider.specs.Tables.{diacritic_of, entry_of}
 use Rattle.icu_elements.specs.TextElements.{Reading, is_digit_kind}
-use Rattle.icu_boundaries.specs.Alone.{is_alone, is_dot, looks_at_nothing, names_no_context}
+use Rattle.icu_boundaries.specs.Alone.{is_alone, is_dot, names_no_context}
 use Rattle.icu_boundaries.specs.Cuts.{is_named, is_named_by_tailoring, is_prefix_kind}
 use Rattle.icu_facts.specs.BoundaryTables.{HasBoundaryBefore}
 use Rattle.icu_facts.specs.KeptFacts.{IsOwn}

@@ -1,11 +1,10 @@
 -- The characters of some blocks are starters that decompose to themselves, by a computation over all characters.
 use Rattle.std.proofs.Common.{◌≡◌, ℕ, ◌+◌, ◌*◌, ◌<◌, ◌≤◌, Bool, true, false, not, ◌&&◌, ◌||◌, ◌==◌, nat_le, List, [], ◌∷◌, map, refl, sym, ap, ◌∙◌, inl, inr, arith}
-use Rattle.std.proofs.lemmas.Bool.{and_parts, and_from, le-leb, leb-true, eqb-true, or_cases, or_left, or_right, or_parts, not-false, true_from_ne_false}
+use Rattle.std.proofs.lemmas.Bool.{and_parts, and_from, le-leb, leb-true, or_cases, or_left, or_right, or_parts, not-false, true_from_ne_false}
 use Rattle.std.specs.List.{list_any}
 use Rattle.ucd_table.specs.Rows.{Range, in_ranges}
-use Rattle.ucd_table.proofs.StepsLemmas.{rises_from}
 use Rattle.ucd_table.proofs.Stepped.{Stepped, zip_stepped, of_ranges}
-use Rattle.ucd_table.proofs.RangedFacts.{points_ok, at_points, Stepped-at_points}
+use Rattle.ucd_table.proofs.RangedFacts.{points_ok, Stepped-at_points}
 use Rattle.ucd_table.proofs.Computing.{tables}
 use Rattle.ucd_normal.specs.declared.forms.Form.TheVariants.{Nfd}
 use Rattle.ucd_normal.specs.declared.forms.QuickCheck.{QuickCheck}

@@ -4,12 +4,14 @@ ghost use Rattle.std.specs.Prelude.{◌≡◌, ◌+◌, ◌≤◌, ◌<◌, leng
 ghost use Rattle.icu_checks.specs.Checked.{checked_tables};
 ghost use Rattle.icu_elements.specs.TextElements.{Reading};
 ghost use Rattle.icu_facts.specs.BoundaryTables.{boundary_reading};
+ghost use Rattle.icu_facts.specs.KeptFacts.{AreTrueFacts};
 ghost use Rattle.icu_facts.specs.KeptChars.{KeptChar, AreFactsFrom, IsOneMore};
 
 use crate::bases::facts_to_keep;
 use crate::boundaries::Boundaries;
 use crate::char_facts::CharFacts;
 use crate::char_words::{CharWords, Kept};
+use crate::read_char::{facts_of, own_facts};
 use icu_checks::CheckedTables;
 use std::alloc::{AllocError, Global};
 
@@ -55,6 +57,31 @@ impl KeptFacts {
             Kept::Facts(&self.latin[code])
         } else {
             self.words.get(c)
+        }
+    }
+
+    /// What is known of a character of which no facts are kept, as texts are read whose boundaries these are: of an
+    /// own character by its entry, of a Hangul syllable by its jamo, of any other by the tables. Does not allocate.
+    #[inline]
+    pub fn work_out(&self, places: &Boundaries<'_>, c: char) -> CharFacts
+        ensures { AreFacts (boundary_reading places.now) self.now
+            → AreTrueFacts (boundary_reading places.now) c result }
+    {
+        match self.get(c) {
+            Kept::Own => own_facts(places, c),
+            _ => self.other_facts(places, c),
+        }
+    }
+
+    /// What is known of a character of which nothing is kept.
+    #[inline(never)]
+    fn other_facts(&self, places: &Boundaries<'_>, c: char) -> CharFacts
+        ensures { AreFacts (boundary_reading places.now) self.now
+            → AreTrueFacts (boundary_reading places.now) c result }
+    {
+        match self.syllable(c) {
+            Some(facts) => facts,
+            None => facts_of(places, c),
         }
     }
 }

@@ -27,4 +27,5 @@ pub use char_words::Kept;
 pub use facts_table::KeptFacts;
 pub use few_elements::FewElements;
 pub use named::NamedCharacters;
-pub use read_char::{facts_of, outline_of, own_leading_primary};
+pub use read_char::facts_of;
+pub use syllables::is_syllable;

@@ -1,13 +1,13 @@
 //! What is known of one character, worked out from the tables.
 
-ghost use Rattle.std.specs.Prelude.{◌≡◌, ◌≢◌, ◌∷◌, ℕ, true, None};
+ghost use Rattle.std.specs.Prelude.{◌≡◌, ◌≢◌, ◌∷◌, [], ℕ, true, None};
 ghost use Rattle.ucd_normal.specs.declared.forms.Form.TheVariants.{Nfd};
 ghost use Rattle.unicode_normalization.specs.Decompose.{decompose};
 ghost use Rattle.icu_elements.specs.TextElements.{Reading};
 ghost use Rattle.icu_boundaries.specs.Alone.{elements_of_char, is_alone};
 ghost use Rattle.icu_facts.specs.FewElements.{few_elements};
 ghost use Rattle.icu_facts.specs.BoundaryTables.{boundary_reading};
-ghost use Rattle.icu_facts.specs.KeptFacts.{AreTrueFacts, HasLeadingPrimary, IsOwn, char_elements};
+ghost use Rattle.icu_facts.specs.KeptFacts.{AreTrueFacts, IsOwn, char_elements};
 ghost use Rattle.icu_facts.specs.inner.ReadFacts.{LeadsBy, IsOutline};
 ghost use Rattle.icu_facts.specs.declared.char_facts.FactsKind.TheVariants.{Unknown};
 
@@ -111,40 +111,32 @@ fn facts_from(places: &Boundaries<'_>, c: char, first: char, more: &[char]) -> C
     }
 }
 
-/// What the first character of a decomposition shows of a character that decomposes to it and others.
-fn outline_from(places: &Boundaries<'_>, c: char, first: char, more: &[char]) -> CharFacts
-    requires { decompose Nfd c ≡ first ∷ more.now }
-    ensures { AreTrueFacts (boundary_reading places.now) c result }
+/// What is known of an own character whose entry gives this element alone.
+fn facts_of_one(element: CollationElement) -> CharFacts
+    ensures { (reading : Reading) (c : ℕ) → IsOwn reading c
+        → elements_of_char reading.tables c ≡ element ∷ [] → AreTrueFacts reading c result }
 {
-    match with_char(places, first, FewElements::new()) {
-        Some(few) => {
-            let primary = leading_primary(places, first, &few);
-            outline(places, first, primary)
-        }
-        None => outline(places, first, 0),
+    let none = CollationElement::default();
+    CharFacts {
+        elements: [element, none, none],
+        count: 1,
+        kind: FactsKind::Starters,
+        class: 0,
+        has_boundary_before: true,
+        begins_with_starter: true,
+        leading_primary: element.primary(),
+        digit: None,
     }
 }
 
-/// What is known of a character by the first one of its decomposition alone, as texts are read whose boundaries these
-/// are: whether a text may be cut before it, and its leading primary weight. Does not allocate.
-pub fn outline_of(places: &Boundaries<'_>, c: char) -> CharFacts
-    ensures { AreTrueFacts (boundary_reading places.now) c result }
-{
-    let mut room = [c; 3];
-    match decomposition(c, Form::Nfd, &mut room) {
-        [first, more @ ..] => outline_from(places, c, *first, more),
-        [] => unreachable!(),
-    }
-}
-
-/// The leading primary weight of an own character, or 0 where its entry does not give one element.
-pub fn own_leading_primary(places: &Boundaries<'_>, c: char) -> u32
-    ensures { IsOwn (boundary_reading places.now) c → result ≢ 0
-        → HasLeadingPrimary (boundary_reading places.now) c result }
+/// What is known of an own character, by its entry.
+pub(crate) fn own_facts(places: &Boundaries<'_>, c: char) -> CharFacts
+    ensures { IsOwn (boundary_reading places.now) c
+        → AreTrueFacts (boundary_reading places.now) c result }
 {
     match own_element(places, c) {
-        Some(element) => element.primary(),
-        None => 0,
+        Some(element) => facts_of_one(element),
+        None => facts_of(places, c),
     }
 }
 

@@ -45,6 +45,12 @@ fn syllable_number(c: char) -> Option<u32>
     }
 }
 
+/// Whether a character is a Hangul syllable.
+#[inline]
+pub fn is_syllable(c: char) -> bool {
+    syllable_number(c).is_some()
+}
+
 /// The element of a character that has one.
 #[inline(always)]
 fn only_element(facts: &CharFacts) -> CollationElement
@@ -109,7 +115,7 @@ impl KeptFacts {
 
     /// What is known of a Hangul syllable, where each of its jamo has one element wherever it stands.
     #[inline]
-    pub fn syllable(&self, c: char) -> Option<CharFacts>
+    pub(crate) fn syllable(&self, c: char) -> Option<CharFacts>
         ensures { IfSome result (λ l. (reading : Reading) → AreFacts reading self.now
             → AreTrueFacts reading c l) }
     {

@@ -16,6 +16,7 @@ use crate::char_facts::CharFacts;
 use crate::lone_blocks::LoneBlocks;
 use crate::own::is_own;
 use crate::own_blocks::is_own_block;
+use crate::syllables::is_syllable;
 use std::alloc::{AllocError, Global};
 
 /// The word of an own character.
@@ -40,11 +41,6 @@ pub(crate) struct WordBlocks {
     pub(crate) blocks: Vec<u16>,
     pub(crate) words: Vec<u16>,
     pub(crate) facts: Vec<CharFacts>,
-}
-
-/// Whether a character is a Hangul syllable.
-fn is_syllable(c: char) -> bool {
-    matches!(c, '\u{AC00}'..='\u{D7A3}')
 }
 
 /// Keeps the facts of one more character.

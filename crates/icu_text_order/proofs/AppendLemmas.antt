@@ -100,9 +100,9 @@ apart_by handling last ys true h = starts_anew handling last ys h
 apart_by handling last ys false h = refl
 
 -- what comes after a place where handling begins anew is handled by itself
-pub handled-fronted : (handling : AlternateHandling) (last : ℕ) (xs ys : List Element) → (last ≡ 0) ⊎ (begins_with_primary ys ≡ true)
+pub handled-begun_anew : (handling : AlternateHandling) (last : ℕ) (xs ys : List Element) → (last ≡ 0) ⊎ (begins_with_primary ys ≡ true)
     → handled handling last false (xs ++ ys) ≡ handled handling last false xs ++ handled handling last false ys
-handled-fronted handling last xs ys h =
+handled-begun_anew handling last xs ys h =
     handled-append handling last false xs ys
     ∙ ap (λ hs. handled handling last false xs ++ hs)
     (⊎_elim

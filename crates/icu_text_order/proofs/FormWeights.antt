@@ -23,7 +23,7 @@ more_leads w (inl e) = inl e
 more_leads w (inr (inl p)) = inr (inl (omega (arith, p.0), p.1))
 more_leads w (inr (inr p)) = inr (inr p)
 
--- secondaries of tables that are compared from the front, or backward, may stand in a forward level
+-- secondaries of tables that are compared forward, or backward, may stand in a forward level
 forward_secondaries : (b : Bool) (IsReachable : ℕ → Type 0) → AreSecondaries (cond b forward_least backward_least) IsReachable
     → AreSecondaries forward_least IsReachable
 forward_secondaries true IsReachable well_formed = well_formed

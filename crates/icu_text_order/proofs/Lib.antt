@@ -19,4 +19,4 @@ pub mod WorkedSettings
 mod WorkedTextKeys
 mod WorkedTextOrders
 pub mod AppendLemmas
-pub mod TailOrders
+pub mod RestOrders

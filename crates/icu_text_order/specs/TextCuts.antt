@@ -25,14 +25,14 @@ pub record BeginsAnew (collation : Collation) (c : ℕ) (cs : List ℕ) : Type 0
   pub boundary : IsBoundary (reading_by collation) first
   pub handled : (last_variable_by collation ≡ 0) ⊎ (begins_with_primary (elements_of (reading_by collation) (nfd (c ∷ cs))) ≡ true)
 
--- a text that may follow others without a change of what it gives
-abbrev pub IsTail : Collation → List ℕ → Type 0
-IsTail collation [] = ⊤
-IsTail collation (c ∷ cs) = BeginsAnew collation c cs
+-- a text may be the rest of any other: what stands before it changes nothing of what it gives
+abbrev pub IsRest : Collation → List ℕ → Type 0
+IsRest collation [] = ⊤
+IsRest collation (c ∷ cs) = BeginsAnew collation c cs
 
 -- texts with a common beginning are in the order of what follows it, where secondaries aren't read backward
 abbrev pub CommonBeginningsDoNotCount : Type 0
 CommonBeginningsDoNotCount =
     (c : Collation) → ReadsForward (form_by c).secondary
-    → (head t u : List ℕ) → IsTail c t → IsTail c u
-    → text_order c (head ++ t) (head ++ u) ≡ text_order c t u
+    → (beginning t u : List ℕ) → IsRest c t → IsRest c u
+    → text_order c (beginning ++ t) (beginning ++ u) ≡ text_order c t u

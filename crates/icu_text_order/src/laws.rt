@@ -35,7 +35,7 @@ pub fn keys_keep_text_order()
 {}
 
 /// Texts with a common beginning are in the order of what follows it, for every collation that doesn't read secondary
-/// weights backward. What follows has to be a text that may follow others without a change of what it gives (`IsTail`):
+/// weights backward. What follows has to be a text that may follow others without a change of what it gives (`IsRest`):
 /// empty, or begun by a character before which texts may be cut.
 pub fn common_beginnings_do_not_count()
     ensures { CommonBeginningsDoNotCount }

@@ -100,7 +100,12 @@ fn load_unchecked(held: &DataVectors) -> Result<CollationData<'_>, DataErrorKind
         held.mappings.as_slice(),
         held.chars.as_slice(),
     )?;
-    Ok(CollationData::from_unverified_parts(trie, held.ces.as_slice(), held.ce32s.as_slice(), contexts))
+    Ok(CollationData::from_unverified_parts(
+        trie,
+        held.ces.as_slice(),
+        held.ce32s.as_slice(),
+        contexts,
+    ))
 }
 
 fn load_tailoring_unchecked(mini: &Mini) -> Result<Option<CollationData<'_>>, DataErrorKind> {

@@ -25,7 +25,7 @@ mod provider_names {
         CheckedTables, CodePointTable, CollationData, CollationDiacritics, CollationJamo,
         CollationMetadata, CollationProvider, CollationReordering, CollationSpecialPrimaries,
         Context, ContextMapping, ContextTable, DataError, DataErrorKind, DataRequest, DataTable,
-        OwnedTables, TableSet, load_tables,
+        FixedLoads, FixedProvider, OwnedTables, TableSet, load_tables,
     };
 }
 

@@ -33,6 +33,6 @@ unfoldable pub leading_order : Collation → List ℕ → List ℕ → Ordering
 leading_order c t u =
     list_order (map (reorder c.tables) (lists_by c t).primaries) (map (reorder c.tables) (lists_by c u).primaries)
 
--- that of the levels between the primary and the identical one
-unfoldable pub lower_order : Collation → List ℕ → List ℕ → Ordering
-lower_order c t u = after_primaries (form_by c) (lists_by c t) (lists_by c u)
+-- the order of two texts on the later levels, those between the primary and the identical one
+unfoldable pub later_levels_order : Collation → List ℕ → List ℕ → Ordering
+later_levels_order c t u = after_primaries (form_by c) (lists_by c t) (lists_by c u)

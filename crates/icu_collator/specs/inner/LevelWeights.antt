@@ -1,4 +1,4 @@
--- The weights of a level that is compared from the front, of elements as they were handled.
+-- The weights of a level that is compared forward, of elements as they were handled.
 use Rattle.std.specs.Prelude.{ℕ, ◌==◌, List, [], ◌∷◌, ◌++◌, Option, Some, None, option_map, option_to_list, if◌then◌else◌}
 use Rattle.icu_entries.specs.Elements.{Element}
 use Rattle.icu_entries.specs.ElementConditions.{tertiary_of}

@@ -1,6 +1,6 @@
 -- A block more that both have goes to the common beginning.
 use Rattle.std.proofs.Common.{◌≡◌, ap, ◌∙◌, ◌++◌, sym, drop, take-append-drop}
-use Rattle.icu_encodings.proofs.UnitCutLemmas.{longer_head, same_words}
+use Rattle.icu_encodings.proofs.UnitCutLemmas.{longer_beginning, same_words}
 use Rattle.icu_encodings.proofs.common_units.after_common_blocks.Goals as goal
 
 pub wide-preserved : goal.wide-preserved
@@ -14,4 +14,4 @@ wide-preserved c =
     let same : word ≡ c.in-Some-split_first_chunk.right_block.now = same_words _ _ (sym c.ne.ensures ∙ c.if-ne.false) in
     let right_whole : right ≡ word ++ c.in-Some-split_first_chunk.right_next.now =
     sym (take-append-drop 64 right) ∙ ap (λ w. w ++ drop 64 right) (sym second.0 ∙ sym same) ∙ ap (λ l. word ++ l) (sym second.1) in
-    longer_head _ _ left right word _ _ c.wide.invariant left_whole right_whole
+    longer_beginning _ _ left right word _ _ c.wide.invariant left_whole right_whole

@@ -1,12 +1,12 @@
 -- A byte more that both have goes to the common beginning.
 use Rattle.std.proofs.Common.{◌∷◌, []}
-use Rattle.icu_encodings.proofs.UnitCutLemmas.{rest_alike, none_left, longer_head, head_on}
+use Rattle.icu_encodings.proofs.UnitCutLemmas.{rest_alike, none_left, longer_beginning, beginning_goes_on}
 use Rattle.icu_encodings.proofs.common_units.common_bytes.Goals as goal
 
 pub bytes-preserved : goal.bytes-preserved
 bytes-preserved c =
     let both = c.in-Some.ensures in
-    longer_head _ _ _ _ (both.0 ∷ []) _ _ c.bytes.invariant both.1 both.2
+    longer_beginning _ _ _ _ (both.0 ∷ []) _ _ c.bytes.invariant both.1 both.2
 
 pub returns-clause-same : goal.returns-clause-same
 returns-clause-same c = λ e.
@@ -15,4 +15,4 @@ returns-clause-same c = λ e.
 
 pub bytes-init : goal.bytes-init
 bytes-init c =
-    head_on _ _ _ _ _ _ c.after_common_blocks.ensures c.after_common_words.ensures
+    beginning_goes_on _ _ _ _ _ _ c.after_common_blocks.ensures c.after_common_words.ensures

@@ -1,6 +1,6 @@
 -- A word or a unit more that both have goes to the common beginning.
 use Rattle.std.proofs.Common.{◌≡◌, ap, ◌∙◌, ◌∷◌, ◌++◌, [], sym, drop, take-append-drop}
-use Rattle.icu_encodings.proofs.UnitCutLemmas.{rest_alike, none_left, longer_head, same_words}
+use Rattle.icu_encodings.proofs.UnitCutLemmas.{rest_alike, none_left, longer_beginning, same_words}
 use Rattle.icu_encodings.proofs.common_units.common_units16.Goals as goal
 
 pub words-preserved : goal.words-preserved
@@ -14,12 +14,12 @@ words-preserved c =
     let same : word ≡ c.in-Some-split_first_chunk.right_word.now = same_words _ _ (sym c.ne.ensures ∙ c.if-ne.false) in
     let right_whole : right ≡ word ++ c.in-Some-split_first_chunk.right_next.now =
     sym (take-append-drop 4 right) ∙ ap (λ w. w ++ drop 4 right) (sym second.0 ∙ sym same) ∙ ap (λ l. word ++ l) (sym second.1) in
-    longer_head _ _ left right word _ _ c.words.invariant left_whole right_whole
+    longer_beginning _ _ left right word _ _ c.words.invariant left_whole right_whole
 
 pub units-preserved : goal.units-preserved
 units-preserved c =
     let both = c.in-Some-after_common_unit.ensures in
-    longer_head _ _ _ _ (both.0 ∷ []) _ _ c.units.invariant both.1 both.2
+    longer_beginning _ _ _ _ (both.0 ∷ []) _ _ c.units.invariant both.1 both.2
 
 pub returns-clause-same : goal.returns-clause-same
 returns-clause-same c = λ e.

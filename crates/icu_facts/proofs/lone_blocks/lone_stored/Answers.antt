@@ -1,5 +1,5 @@
 -- One more block comes after those there are.
-use Rattle.std.proofs.Common.{◌≡◌, ◌+◌, ◌-◌, ◌*◌, ◌/◌, ◌<◌, ◌≤◌, ◌++◌, ◌∷◌, [], ◌∙◌, Bool, List, length, length-append, take, drop, ap, sym, subst, rules, arith}
+use Rattle.std.proofs.Common.{◌≡◌, ◌+◌, ◌-◌, ◌*◌, ◌/◌, ◌<◌, ◌++◌, ◌∷◌, [], ◌∙◌, Bool, List, length, length-append, take, drop, ap, sym, subst, rules, arith}
 use Rattle.std.specs.List.{list_all}
 use Rattle.icu_entries.specs.Entries.{kind_of}
 use Rattle.icu_facts.specs.inner.LoneEntries.{is_lone_kind, LoneStored}

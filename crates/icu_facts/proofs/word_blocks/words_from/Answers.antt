@@ -1,5 +1,5 @@
 -- One more word comes after those there are.
-use Rattle.std.proofs.Common.{ℕ, List, ◌++◌, ◌∷◌, [], ◌∙◌, ap, length, length-append, sym, subst, arith}
+use Rattle.std.proofs.Common.{ℕ, List, ◌∷◌, [], ◌∙◌, ap, length, length-append, sym, subst, arith}
 use Rattle.icu_facts.specs.BoundaryTables.{boundary_reading}
 use Rattle.icu_facts.specs.inner.WordBlocks.{AreMoreWords}
 use Rattle.icu_facts.proofs.CharWordLemmas.{more_words, none_more}

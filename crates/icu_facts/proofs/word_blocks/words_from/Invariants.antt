@@ -1,6 +1,5 @@
-use Rattle.std.proofs.Common.{◌≡◌, ◌+◌, ◌++◌, List, length}
+use Rattle.std.proofs.Common.{◌≡◌, ◌+◌, length}
 use Rattle.icu_facts.specs.BoundaryTables.{boundary_reading}
-use Rattle.icu_facts.specs.declared.char_facts.CharFacts.{CharFacts}
 use Rattle.icu_facts.specs.inner.WordBlocks.{AreMoreWords}
 use Rattle.icu_facts.proofs.word_blocks.words_from.Given as goal
 

@@ -1,4 +1,4 @@
-use Rattle.icu_text_order.proofs.TailOrders.{common_beginnings}
+use Rattle.icu_text_order.proofs.RestOrders.{common_beginnings}
 use Rattle.icu_text_order.proofs.laws.common_beginnings_do_not_count.Goals as goal
 
 pub returns : goal.returns

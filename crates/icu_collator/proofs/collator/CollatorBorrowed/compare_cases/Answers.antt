@@ -11,7 +11,7 @@ pub returns-in-Some : goal.returns-in-Some
 returns-in-Some g c =
     let collation = collation_borrowed c.args.self.now in
     let counts : (form_by collation).cases ≡ Some c.in-Some.cases = sym (ap (λ (k : KeyForm). k.cases) c.key_form-form.ensures) ∙ c.in-Some.is in
-    subst (λ (w : Ordering). IfOk c.compare_on.result (λ o. o ≡ w))
+    subst (λ (w : Ordering). IfOk c.compare_forward_level.result (λ o. o ≡ w))
     (cases_read collation (nfd (g.L.EncodedText.text c.args.left)) (nfd (g.R.EncodedText.text c.args.right))
     c.key_form-form.result.secondary c.in-Some.cases (ap (λ (k : KeyForm). k.secondary) c.key_form-form.ensures) counts)
-    c.compare_on.ensures
+    c.compare_forward_level.ensures

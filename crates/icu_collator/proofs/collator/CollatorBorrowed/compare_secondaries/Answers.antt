@@ -16,6 +16,6 @@ returns-in-Some-Forward g c =
     let t = nfd (g.L.EncodedText.text c.args.left) in
     let u = nfd (g.R.EncodedText.text c.args.right) in
     let counts : (form_by collation).secondary ≡ Some Forward = sym (ap (λ (k : KeyForm). k.secondary) c.key_form.ensures) ∙ c.in-Some-Forward.is ∙ ap (λ f. Some f) (search rules) in
-    subst (λ (w : Ordering). IfOk c.compare_on.result (λ o. o ≡ w))
+    subst (λ (w : Ordering). IfOk c.compare_forward_level.result (λ o. o ≡ w))
     (secondaries_read collation t u ∙ ap (λ f. secondaries_order f (lists_by collation t) (lists_by collation u)) (sym counts))
-    c.compare_on.ensures
+    c.compare_forward_level.ensures

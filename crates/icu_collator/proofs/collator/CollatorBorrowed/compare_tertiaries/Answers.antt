@@ -11,6 +11,6 @@ pub returns-in-Some : goal.returns-in-Some
 returns-in-Some g c =
     let collation = collation_borrowed c.args.self.now in
     let counts : (form_by collation).tertiary ≡ Some c.in-Some.form = sym (ap (λ (k : KeyForm). k.tertiary) c.key_form.ensures) ∙ c.in-Some.is in
-    subst (λ (w : Ordering). IfOk c.compare_on.result (λ o. o ≡ w))
+    subst (λ (w : Ordering). IfOk c.compare_forward_level.result (λ o. o ≡ w))
     (tertiaries_read collation (nfd (g.L.EncodedText.text c.args.left)) (nfd (g.R.EncodedText.text c.args.right)) c.in-Some.form counts)
-    c.compare_on.ensures
+    c.compare_forward_level.ensures

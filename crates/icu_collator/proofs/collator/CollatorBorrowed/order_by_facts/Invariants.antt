@@ -1,6 +1,6 @@
 use Rattle.std.proofs.Common.{ℕ, List}
 use Rattle.icu_collator.specs.Collators.{collation_borrowed}
-use Rattle.icu_collator.specs.inner.Tails.{ReadsOn}
+use Rattle.icu_collator.specs.inner.FirstPrimaries.{ReadsOn}
 use Rattle.icu_collator.proofs.collator.CollatorBorrowed.order_by_facts.Given as goal
 
 -- the primaries that were read are the same in both texts

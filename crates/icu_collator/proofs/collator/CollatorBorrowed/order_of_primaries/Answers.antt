@@ -2,8 +2,8 @@
 use Rattle.std.proofs.Common.{◌≡◌, ◌⊎◌, ◌∙◌, Option, Ordering, IfSome, map, sym, ap, subst, inl, inr}
 use Rattle.icu_provider.specs.CollatorTables.{reorder, reorder_by}
 use Rattle.icu_collator.specs.Collators.{tables_borrowed}
-use Rattle.icu_collator.specs.inner.Tails.{Decides, unequal_order}
-use Rattle.icu_collator.proofs.TailLemmas.{ends_decide, leads_decide}
+use Rattle.icu_collator.specs.inner.FirstPrimaries.{Decides, unequal_order}
+use Rattle.icu_collator.proofs.FirstPrimaryLemmas.{ends_decide, leads_decide}
 use Rattle.icu_collator.proofs.collator.CollatorBorrowed.order_of_primaries.Goals.{then-one-eq0-via-then-one-eq0, then-one-eq0-via-else-one-eq0+then-other-eq0}
 use Rattle.icu_collator.proofs.collator.CollatorBorrowed.order_of_primaries.Goals as goal
 

@@ -1,5 +1,5 @@
 -- The word says what is kept.
-use Rattle.std.proofs.Common.{ℕ, ◌<◌, ◌≤◌, rules, arith, sym, subst}
+use Rattle.std.proofs.Common.{ℕ, ◌<◌, ◌≤◌, rules, sym, subst}
 use Rattle.icu_facts.specs.CharWords.{IsWord}
 use Rattle.icu_facts.proofs.char_words.CharWords.get.Goals as goal
 

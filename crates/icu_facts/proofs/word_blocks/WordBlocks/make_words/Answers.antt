@@ -1,5 +1,5 @@
 -- Facts were added, and then the words of a block.
-use Rattle.std.proofs.Common.{ℕ, List, ◌*◌, ap, length, sym, subst}
+use Rattle.std.proofs.Common.{ℕ, List, ◌*◌, sym, subst}
 use Rattle.icu_facts.specs.BoundaryTables.{boundary_reading}
 use Rattle.icu_facts.specs.inner.WordBlocks.{AreBlocks, AreWordsFrom}
 use Rattle.icu_facts.specs.declared.char_facts.CharFacts.{CharFacts}

@@ -1,0 +1,226 @@
+-- What the first characters of two texts decide; and two texts are in the order of what follows a common beginning.
+use Rattle.std.proofs.Common.{◌≡◌, ◌≢◌, ◌<◌, ◌==◌, ◌⊎◌, ◌&&◌, ℕ, Bool, true, false, List, [], ◌∷◌, ◌++◌, map, Option, Some, None, IfSome, Ordering, Less, Equal, Greater, refl, sym, ap, ap₂, subst, ◌∙◌, append_assoc, ⊎_elim, arith, not, if◌then◌else◌}
+use Rattle.std.specs.Ordering.{nat_cmp, ordering_then}
+use Rattle.std.proofs.lemmas.List.{map-append}
+use Rattle.std.proofs.lemmas.Bool.{cases_order, eqb-false}
+use Rattle.std.proofs.lemmas.Bool.Decides.{nat_tests}
+use Rattle.unicode_normalization.specs.Forms.{nfd}
+use Rattle.icu_options.specs.declared.settings.AlternateHandling.{AlternateHandling}
+use Rattle.icu_levels.specs.CommonBeginnings.{ReadsForward}
+use Rattle.icu_levels.specs.ListOrder.{list_order}
+use Rattle.icu_levels.proofs.Order.{less_number, more_number, same_front}
+use Rattle.icu_entries.specs.Elements.{Element}
+use Rattle.icu_provider.specs.CollatorTables.{reorder}
+use Rattle.icu_elements.specs.TextElements.{Reading, elements_of, elements_after, elements_along}
+use Rattle.icu_boundaries.proofs.NfdLemmas.{nfd-nil}
+use Rattle.icu_boundaries.specs.ReadingLaws.{FirstStartersLead}
+use Rattle.icu_facts.specs.KeptFacts.{HasLeadingPrimary}
+use Rattle.icu_cursor.specs.declared.facts_cursor.FactsCursor.{FactsCursor}
+use Rattle.icu_cursor.specs.FactsCursors.{GoesOn, facts_give}
+use Rattle.icu_facts.specs.BoundaryTables.{HasBoundaryBefore}
+use Rattle.icu_weighting.specs.Collations.{Collation}
+use Rattle.icu_weighting.specs.Forms.{form_by, last_variable_by}
+use Rattle.icu_weighting.specs.Handled.{stayed, handled, is_variable, stayed_elements}
+use Rattle.icu_weighting.specs.Levels.{weights, primaries}
+use Rattle.icu_text_order.specs.TextCuts.{begins_with_primary, IsRest, CommonBeginningsDoNotCount}
+use Rattle.icu_text_order.specs.TextOrder.{reading_by, lists_by, text_order}
+use Rattle.icu_collator.specs.inner.FirstPrimaries.{IsFirst, LeadsWith, Decides, GivesPrimaries, GivesPrimary, ReadsOn, primaries_given, primaries_of, unequal_order}
+
+-- ---- the first element
+
+pub above_nothing : (last p : ℕ) → last < p → p ≢ 0
+above_nothing last p above = λ e. grind (arith)
+
+has_primary : (last : ℕ) (x : Element) (after : Bool) → last < x.primary → (after && x.primary == 0) ≡ false
+has_primary last x true above = grind (arith, nat_tests)
+has_primary last x false above = refl
+
+first_stays : (handling : AlternateHandling) (last : ℕ) (after : Bool) (x : Element) (xs : List Element) → last < x.primary
+    → handled handling last after (x ∷ xs) ≡ stayed x ∷ handled handling last false xs
+unfolding handled
+first_stays handling last after x xs above =
+    let stays : is_variable last x ≡ false = grind (arith, nat_tests) in
+    rw stays (rw (has_primary last x after above) refl)
+
+first_counts : (x : Element) (xs : List Element) → x.primary ≢ 0 → primaries (x ∷ xs) ≡ x.primary ∷ primaries xs
+unfolding weights
+first_counts x xs nonzero =
+    let counts : (x.primary == 0) ≡ false = grind (arith, nat_tests) in
+    rw counts refl
+
+-- elements the first of which isn't variable
+leading_primary : (collation : Collation) (after : Bool) (x : Element) (xs : List Element) → last_variable_by collation < x.primary
+    → primaries_given collation after (x ∷ xs) ≡ x.primary ∷ primaries_given collation false xs
+leading_primary collation after x xs above =
+    let last : ℕ = last_variable_by collation in
+    ap (λ hs. primaries (stayed_elements hs)) (first_stays collation.settings.alternate_handling last after x xs above)
+    ∙ first_counts x _ (above_nothing last x.primary above)
+
+-- elements the first of which has no primary
+no_primary : (collation : Collation) (after : Bool) (x : Element) (xs : List Element) → x.primary ≡ 0
+    → (a : Bool) × (primaries_given collation after (x ∷ xs) ≡ primaries_given collation a xs)
+unfolding handled weights
+no_primary collation true x xs zero = (true, rw zero refl)
+no_primary collation false x xs zero = (false, rw zero refl)
+
+module _ (collation : Collation) (law : FirstStartersLead) (c : ℕ) (cs : List ℕ) (p : ℕ) (h : HasLeadingPrimary (reading_by collation) c p) where
+  first_element : (before : List ℕ) → (rest : List Element) × (elements_after (reading_by collation) before (nfd (c ∷ cs)) ≡ h.element ∷ rest)
+  first_element before =
+      let led = law (reading_by collation) before c h.first h.more cs h.decomposes h.starter h.alone in
+      (h.rest ++ led.0, led.1 ∙ ap (λ es. es ++ led.0) h.elements)
+
+  pub first_has_primary : p ≢ 0 → begins_with_primary (elements_of (reading_by collation) (nfd (c ∷ cs))) ≡ true
+  first_has_primary nonzero =
+      let has : not (h.element.primary == 0) ≡ true = rw h.leading (grind (arith, nat_tests)) in
+      ap begins_with_primary (first_element []).1 ∙ has
+
+  pub first_leads : last_variable_by collation < p → LeadsWith collation (c ∷ cs) p
+  unfolding LeadsWith
+  first_leads above =
+      let list = ap (primaries_given collation false) (first_element []).1
+      ∙ leading_primary collation false h.element (first_element []).0 (subst (λ x. last_variable_by collation < x) (sym h.leading) above) in
+      subst (IsFirst p) (sym list) (h.leading, λ e. above_nothing (last_variable_by collation) p above e)
+
+-- where what is known of the first character is a primary above the variable ones, a text leads with it
+pub facts_lead : (collation : Collation) (law : FirstStartersLead) (c : ℕ) (cs : List ℕ) (q : ℕ)
+    → (q ≢ 0 → HasLeadingPrimary (reading_by collation) c q) → (r : Option ℕ)
+    → IfSome r (λ p. (p ≡ q) × (last_variable_by collation < p)) → IfSome r (λ p. LeadsWith collation (c ∷ cs) p)
+facts_lead collation law c cs q leads None h = tt
+facts_lead collation law c cs q leads (Some p) h =
+    let nonzero : q ≢ 0 = λ z. above_nothing (last_variable_by collation) p h.1 (h.0 ∙ z) in
+    first_leads collation law c cs p (subst (λ (x : ℕ). HasLeadingPrimary (reading_by collation) c x) (sym h.0) (leads nonzero)) h.1
+
+nothing_after : (reading : Reading) (before : List ℕ) → elements_after reading before (nfd []) ≡ []
+unfolding elements_after elements_along
+nothing_after reading before = ap (elements_after reading before) nfd-nil
+
+pub nothing_leads : (collation : Collation) → LeadsWith collation [] 0
+unfolding LeadsWith handled weights
+nothing_leads collation = subst (λ es. IsFirst 0 (primaries_given collation false es)) (sym (nothing_after (reading_by collation) [])) refl
+
+-- ---- texts that may be the rest of others
+
+-- a text that begins with a character before which it may be cut, where no element is variable or its first one has a
+-- primary
+pub may_be_rest : (collation : Collation) (c : ℕ) (cs : List ℕ) → HasBoundaryBefore (reading_by collation) c
+    → (last_variable_by collation ≡ 0) ⊎ (begins_with_primary (elements_of (reading_by collation) (nfd (c ∷ cs))) ≡ true) → IsRest collation (c ∷ cs)
+may_be_rest collation c cs h v = record { first = h.first; more = h.more; decomposes = h.decomposes; boundary = h.boundary; handled = v }
+
+-- two texts are in the order of their rests
+pub rests_order : (collation : Collation) → CommonBeginningsDoNotCount → ReadsForward (form_by collation).secondary
+    → (left right beginning other_beginning t u : List ℕ) → left ≡ beginning ++ t → right ≡ other_beginning ++ u → beginning ≡ other_beginning
+    → IsRest collation t → IsRest collation u → text_order collation t u ≡ text_order collation left right
+rests_order collation law forward left right beginning other_beginning t u e f g ht hu =
+    sym (law collation forward beginning t u ht hu)
+    ∙ ap (λ v. text_order collation v (beginning ++ u)) (sym e)
+    ∙ ap (λ v. text_order collation left v) (ap (λ h. h ++ u) g ∙ sym f)
+
+-- ---- what the first primaries decide
+
+chosen : (ps qs : List ℕ) (b : Bool) (o : Ordering) → (b ≡ false → Decides ps qs o) → IfSome (if b then None else Some o) (Decides ps qs)
+chosen ps qs true o h = tt
+chosen ps qs false o h = h refl
+
+firsts_decide : (x y : ℕ) (xs ys : List ℕ) → IfSome (unequal_order x y) (Decides (x ∷ xs) (y ∷ ys))
+firsts_decide x y xs ys = chosen (x ∷ xs) (y ∷ ys) (x == y) (nat_cmp x y) (λ n. ⊎_elim (λ e. absurd (eqb-false x y n e))
+    (⊎_elim (λ l. rw (less_number x y l) (refl, λ e. cc)) (λ l. rw (more_number x y l) (refl, λ e. cc))) (cases_order x y))
+
+-- one of the two is empty
+pub ends_decide : (r : ℕ → ℕ) (p q : ℕ) (ps qs : List ℕ) → IsFirst p ps → IsFirst q qs → (p ≡ 0) ⊎ (q ≡ 0)
+    → IfSome (unequal_order p q) (Decides (map r ps) (map r qs))
+ends_decide r p q [] [] h k e = rw (h, k) tt
+ends_decide r p q [] (y ∷ ys) h k e = chosen [] (map r (y ∷ ys)) (p == q) (nat_cmp p q) (λ n. rw (less_number p q (grind (arith))) (refl, λ e. cc))
+ends_decide r p q (x ∷ xs) [] h k e = chosen (map r (x ∷ xs)) [] (p == q) (nat_cmp p q) (λ n. rw (more_number p q (grind (arith))) (refl, λ e. cc))
+ends_decide r p q (x ∷ xs) (y ∷ ys) h k e = absurd (⊎_elim (λ z. h.1 z) (λ z. k.1 z) e)
+
+-- none is
+pub leads_decide : (r : ℕ → ℕ) (p q : ℕ) (ps qs : List ℕ) → IsFirst p ps → IsFirst q qs → p ≢ 0 → q ≢ 0
+    → IfSome (unequal_order (r p) (r q)) (Decides (map r ps) (map r qs))
+leads_decide r p q [] qs h k m n = absurd (m h)
+leads_decide r p q (x ∷ xs) [] h k m n = absurd (n k)
+leads_decide r p q (x ∷ xs) (y ∷ ys) h k m n =
+    subst (λ a. IfSome (unequal_order (r a) (r q)) (Decides (map r (x ∷ xs)) (map r (y ∷ ys)))) h.0
+    (subst (λ b. IfSome (unequal_order (r x) (r b)) (Decides (map r (x ∷ xs)) (map r (y ∷ ys)))) k.0
+    (firsts_decide (r x) (r y) (map r xs) (map r ys)))
+
+first_of_all : (o p rest : Ordering) → o ≡ p → o ≢ Equal → o ≡ ordering_then p rest
+first_of_all Less p rest e n = rw (sym e) refl
+first_of_all Equal p rest e n = absurd (n refl)
+first_of_all Greater p rest e n = rw (sym e) refl
+
+-- a beginning that both have doesn't count
+past_beginning_decides : (r : ℕ → ℕ) (xs ps qs : List ℕ) (found : Option Ordering) → IfSome found (Decides (map r ps) (map r qs)) → IfSome found (Decides (map r (xs ++ ps)) (map r (xs ++ qs)))
+past_beginning_decides r xs ps qs None h = tt
+past_beginning_decides r xs ps qs (Some o) h =
+    (h.0 ∙ sym (ap₂ list_order (map-append r xs ps) (map-append r xs qs) ∙ same_front (map r xs) (map r ps) (map r qs)), h.1)
+
+module _ (collation : Collation) where
+  open collation use {tables as all}
+
+  -- this order, if there is one, is that of the primaries of two texts, reordered
+  pub primaries_decide : (t u : List ℕ) (found : Option Ordering)
+      → IfSome found (Decides (map (reorder all) (primaries_of collation t)) (map (reorder all) (primaries_of collation u)))
+      → IfSome found (λ o. o ≡ text_order collation t u)
+  unfolding text_order lists_by
+  primaries_decide t u None h = tt
+  primaries_decide t u (Some o) h = first_of_all o _ _ h.0 h.1
+
+  pub first_primaries_decide : (t u : List ℕ) (p q : ℕ) (found : Option Ordering) → LeadsWith collation t p → LeadsWith collation u q
+      → ((ps qs : List ℕ) → IsFirst p ps → IsFirst q qs → IfSome found (Decides (map (reorder all) ps) (map (reorder all) qs)))
+      → IfSome found (λ o. o ≡ text_order collation t u)
+  unfolding LeadsWith
+  first_primaries_decide t u p q found h k decide = primaries_decide t u found (decide (primaries_of collation t) (primaries_of collation u) h k)
+
+  -- ---- what characters give
+
+  module _ {T : Type 0} (text : T → List ℕ) where
+    pub primary_next : (old new : FactsCursor T) (e : Element) → GoesOn text old e new → last_variable_by collation < e.primary → GivesPrimary collation text old e.primary new
+    primary_next old new e goes above = λ before after.
+        let next = goes before in
+        (next.0, false, ap (primaries_given collation after) next.1 ∙ leading_primary collation after e (facts_give text new next.0) above)
+
+    pub none_next : (old new : FactsCursor T) (e : Element) → GoesOn text old e new → e.primary ≡ 0 → GivesPrimaries collation text old [] new
+    none_next old new e goes zero = λ before after.
+        let next = goes before in
+        let none = no_primary collation after e (facts_give text new next.0) zero in
+        (next.0, none.0, ap (primaries_given collation after) next.1 ∙ none.1)
+
+    pub after_none : (old mid new : FactsCursor T) (ps : List ℕ) → GivesPrimaries collation text old [] mid → GivesPrimaries collation text mid ps new → GivesPrimaries collation text old ps new
+    after_none old mid new ps h k = λ before after.
+        let one = h before after in
+        let other = k one.0 one.1 in
+        (other.0, other.1, one.2 ∙ other.2)
+
+    pub primary_found : (old mid new : FactsCursor T) (e : Element) → GivesPrimaries collation text old [] mid → GoesOn text mid e new → (found : Option ℕ) (p : ℕ) → e.primary ≡ p
+        → IfSome found (λ q. (q ≡ p) × (last_variable_by collation < q)) → IfSome found (λ q. GivesPrimary collation text old q new)
+    primary_found old mid new e h goes None p is known = tt
+    primary_found old mid new e h goes (Some q) p is known =
+        let same : e.primary ≡ q = is ∙ sym known.0 in
+        let above : last_variable_by collation < e.primary = subst (λ x. last_variable_by collation < x) (sym same) known.1 in
+        subst (λ (x : ℕ). GivesPrimary collation text old x new) same (after_none old mid new (e.primary ∷ []) h (primary_next mid new e goes above))
+
+    pub nothing_given : (c : FactsCursor T) → GivesPrimaries collation text c [] c
+    nothing_given c = λ before after. (before, after, refl)
+
+    pub reads_on : (t ps : List ℕ) (p : ℕ) (old new : FactsCursor T) → ReadsOn collation t ps text old → GivesPrimary collation text old p new → ReadsOn collation t (ps ++ p ∷ []) text new
+    reads_on t ps p old new h k =
+        let next = k h.0 h.1 in
+        (next.0, next.1, h.2 ∙ ap (λ (qs : List ℕ). ps ++ qs) next.2 ∙ sym (append_assoc ps (p ∷ []) _))
+
+    pub reads_from_start : (t : List ℕ) (c : FactsCursor T) → ((before : List ℕ) → facts_give text c before ≡ elements_after (reading_by collation) before (nfd t)) → ReadsOn collation t [] text c
+    reads_from_start t c begins = ([], false, ap (primaries_given collation false) (sym (begins [])))
+
+  -- two texts of which characters are read, up to primaries that decide
+  pub facts_decide : {T U : Type 0} (text : T → List ℕ) (other : U → List ℕ) (t u xs : List ℕ) (p q : ℕ) (one : FactsCursor T) (two : FactsCursor U) (found : Option Ordering)
+      → ReadsOn collation t (xs ++ p ∷ []) text one → ReadsOn collation u (xs ++ q ∷ []) other two → p ≢ 0 → q ≢ 0
+      → ((ps qs : List ℕ) → IsFirst p ps → IsFirst q qs → IfSome found (Decides (map (reorder all) ps) (map (reorder all) qs)))
+      → IfSome found (λ o. o ≡ text_order collation t u)
+  facts_decide text other t u xs p q one two found h k m n decide =
+      let ps = primaries_given collation h.1 (facts_give text one h.0) in
+      let qs = primaries_given collation k.1 (facts_give other two k.0) in
+      let left : primaries_of collation t ≡ xs ++ p ∷ ps = h.2 ∙ append_assoc xs (p ∷ []) ps in
+      let right : primaries_of collation u ≡ xs ++ q ∷ qs = k.2 ∙ append_assoc xs (q ∷ []) qs in
+      primaries_decide t u found
+      (subst (λ (l : List ℕ). IfSome found (Decides (map (reorder all) l) (map (reorder all) (primaries_of collation u)))) (sym left)
+      (subst (λ (l : List ℕ). IfSome found (Decides (map (reorder all) (xs ++ p ∷ ps)) (map (reorder all) l))) (sym right)
+      (past_beginning_decides (reorder all) xs (p ∷ ps) (q ∷ qs) found (decide (p ∷ ps) (q ∷ qs) (refl, m) (refl, n)))))

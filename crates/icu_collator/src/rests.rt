@@ -1,0 +1,137 @@
+//! What follows the common beginning of two texts, and the order of two texts by the characters that they begin with.
+
+ghost use Rattle.std.specs.Prelude.{◌≡◌, ◌≢◌, ◌≤◌, ℕ, IfSome};
+ghost use Rattle.icu_levels.specs.CommonBeginnings.{ReadsForward};
+ghost use Rattle.icu_text_order.specs.Forms.{form_by};
+ghost use Rattle.icu_text_order.specs.TextOrder.{text_order};
+
+use crate::collator::CollatorBorrowed;
+use crate::first_facts::FirstFacts;
+use icu_cursor::FactsCursor;
+use icu_encodings::EncodedText;
+use icu_text_order::laws::common_beginnings_do_not_count;
+use std::cmp::Ordering;
+
+/// How many primary weights of two texts are compared by their characters, at most.
+const WEIGHTS_AHEAD: u32 = 6;
+
+/// How many elements are passed over to the next primary weight of a text, at most.
+const ELEMENTS_AHEAD: u32 = 3;
+
+impl<'a> CollatorBorrowed<'a> {
+    ghost use Rattle.icu_collator.specs.Collators.{collation_borrowed};
+    ghost use Rattle.icu_collator.specs.inner.FirstPrimaries.{GivesPrimary, LeadsWith};
+
+    /// The rests of two texts from their last common boundary on, within their common beginning of `common` units, and
+    /// the order of the texts where the first characters of the rests decide it. `None` where the only such place is at
+    /// the start.
+    pub(crate) fn last_rests<L: EncodedText, R: EncodedText>(
+        &self,
+        left: L,
+        right: R,
+        common: usize,
+    ) -> Option<(L, R, Option<Ordering>)>
+        requires beginnings { (n : ℕ) → n ≤ common → L.beginning left n ≡ R.beginning right n }
+        requires forward { ReadsForward (form_by (collation_borrowed self.now)).secondary }
+        ensures { let collation = collation_borrowed self.now in
+            IfSome result (λ p. (text_order collation (L.text p.0) (R.text p.1)
+            ≡ text_order collation (L.text left) (R.text right))
+            × IfSome p.2 (λ o. o ≡ text_order collation (L.text left) (R.text right))) }
+    {
+        for at in (1..=common).rev() {
+            let rests = self.rests_at(left, right, at);
+            if rests.is_some() {
+                return rests;
+            }
+        }
+        None
+    }
+
+    /// The rests of two texts from this place on, where both may be cut there, and their order where what they begin
+    /// with there decides it. `None` where one may not be cut.
+    #[inline(always)]
+    fn rests_at<L: EncodedText, R: EncodedText>(
+        &self,
+        left: L,
+        right: R,
+        at: usize,
+    ) -> Option<(L, R, Option<Ordering>)>
+        requires beginning { L.beginning left at ≡ R.beginning right at }
+        requires forward { ReadsForward (form_by (collation_borrowed self.now)).secondary }
+        ensures { let collation = collation_borrowed self.now in
+            IfSome result (λ p. (text_order collation (L.text p.0) (R.text p.1)
+            ≡ text_order collation (L.text left) (R.text right))
+            × IfSome p.2 (λ o. o ≡ text_order collation (L.text left) (R.text right))) }
+    {
+        let one = left.split_at(at)?;
+        let other = right.split_at(at)?;
+        let facts = self.first_facts(one);
+        let other_facts = self.first_facts(other);
+        if !facts.is_rest || !other_facts.is_rest {
+            return None;
+        }
+        common_beginnings_do_not_count();
+        let order = self.order_by_first_characters(one, other, facts, other_facts);
+        Some((one, other, order))
+    }
+
+    /// The order of two texts by the facts about their first characters: by their first primary weights where both are
+    /// known and differ, else by the primary weights of the characters that both begin with. `None` where these do not
+    /// decide.
+    #[inline(always)]
+    pub(crate) fn order_by_first_characters<L: EncodedText, R: EncodedText>(
+        &self,
+        left: L,
+        right: R,
+        one: FirstFacts,
+        other: FirstFacts,
+    ) -> Option<Ordering>
+        requires one { IfSome one.primary (λ p. LeadsWith (collation_borrowed self.now)
+            (L.text left) p) }
+        requires other { IfSome other.primary (λ p. LeadsWith (collation_borrowed self.now)
+            (R.text right) p) }
+        ensures { let collation = collation_borrowed self.now in
+            IfSome result (λ o. o ≡ text_order collation (L.text left) (R.text right)) }
+    {
+        match self.order_of_first_primaries(one, other) {
+            Some(order) => Some(order),
+            None => self.order_by_facts(left, right),
+        }
+    }
+
+    /// The order of two texts by the primary weights of the characters that they begin with, as far as these may be
+    /// read by themselves: the first that differ decide.
+    #[inline(never)]
+    fn order_by_facts<L: EncodedText, R: EncodedText>(&self, left: L, right: R) -> Option<Ordering>
+        ensures { let collation = collation_borrowed self.now in
+            IfSome result (λ o. o ≡ text_order collation (L.text left) (R.text right)) }
+    {
+        let tables = self.cursor_tables();
+        let mut one = FactsCursor::new(&tables, left);
+        let mut other = FactsCursor::new(&tables, right);
+        'weights: for _ in 0..WEIGHTS_AHEAD {
+            let weight = self.next_primary(&mut one)?;
+            let other_weight = self.next_primary(&mut other)?;
+            if weight != other_weight {
+                return self.order_of_primaries(weight, other_weight);
+            }
+        }
+        None
+    }
+
+    /// The next primary weight of the characters of a text, where elements that have it aren't variable.
+    #[inline(always)]
+    fn next_primary<T: EncodedText>(&self, characters: &mut FactsCursor<'_, '_, T>) -> Option<u32>
+        ensures given { IfSome result (λ p. GivesPrimary (collation_borrowed self.now) T.text
+            characters.old p characters.new) }
+        ensures some { IfSome result (λ p. p ≢ 0) }
+    {
+        'elements: for _ in 0..ELEMENTS_AHEAD {
+            let element = characters.next()?;
+            if element.primary() != 0 {
+                return self.known_primary(element.primary());
+            }
+        }
+        None
+    }
+}
