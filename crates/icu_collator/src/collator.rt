@@ -287,7 +287,7 @@ impl<'a> CollatorBorrowed<'a> {
         self.key_form().secondary == Some(SecondaryForm::Backward)
     }
 
-    /// What is known of a character that is one of those that are read most.
+    /// The facts that are kept of a character.
     #[inline(always)]
     pub(crate) fn kept_facts(&self, c: char) -> Option<&'a CharFacts>
         ensures { IfSome result
@@ -299,7 +299,7 @@ impl<'a> CollatorBorrowed<'a> {
         }
     }
 
-    /// What is known of any other character.
+    /// What is known of a character of which no facts are kept.
     #[inline(never)]
     pub(crate) fn other_facts(&self, c: char) -> CharFacts
         ensures { AreTrueFacts (reading_by (collation_borrowed self.now)) c result }
