@@ -14,10 +14,10 @@ use Rattle.icu_provider.specs.CollatorTables.{reorder}
 use Rattle.icu_elements.specs.TextElements.{Reading, elements_of, elements_after, elements_along}
 use Rattle.icu_boundaries.proofs.NfdLemmas.{nfd-nil}
 use Rattle.icu_boundaries.specs.ReadingLaws.{FirstStartersLead}
-use Rattle.icu_cursor.specs.KeptFacts.{HasLeadingPrimary}
+use Rattle.icu_facts.specs.KeptFacts.{HasLeadingPrimary}
 use Rattle.icu_cursor.specs.declared.facts_cursor.FactsCursor.{FactsCursor}
 use Rattle.icu_cursor.specs.FactsCursors.{GoesOn, facts_give}
-use Rattle.icu_cursor.specs.BoundaryTables.{HasBoundaryBefore}
+use Rattle.icu_facts.specs.BoundaryTables.{HasBoundaryBefore}
 use Rattle.icu_weighting.specs.Collations.{Collation}
 use Rattle.icu_weighting.specs.Forms.{form_by, last_variable_by}
 use Rattle.icu_weighting.specs.Handled.{stayed, handled, is_variable, stayed_elements}

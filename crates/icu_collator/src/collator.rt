@@ -16,15 +16,17 @@ ghost use Rattle.icu_text_order.specs.Forms.{form_by, last_variable_by};
 ghost use Rattle.icu_text_order.specs.TextOrder.{reading_by, handled_elements, handled_by};
 ghost use Rattle.icu_weighting.specs.CheckedCollations.{collation_of};
 ghost use Rattle.icu_levels.specs.CommonBeginnings.{ReadsForward};
-ghost use Rattle.icu_cursor.specs.Named.{NamesAll};
-ghost use Rattle.icu_cursor.specs.KeptFacts.{AreTrueFacts};
-ghost use Rattle.icu_cursor.specs.FactsTables.{AreFacts};
-ghost use Rattle.icu_cursor.specs.BoundaryTables.{boundary_reading};
+ghost use Rattle.icu_facts.specs.Named.{NamesAll};
+ghost use Rattle.icu_facts.specs.KeptFacts.{AreTrueFacts};
+ghost use Rattle.icu_facts.specs.FactsTables.{AreFacts};
+ghost use Rattle.icu_facts.specs.BoundaryTables.{boundary_reading};
 ghost use Rattle.unicode_normalization.specs.Forms.{nfd};
 
 use crate::handled::{HandledElements, HandledText, PlainText};
 use icu_checks::CheckedTables;
-use icu_cursor::{Boundaries, CharFacts, CursorTables, ElementCursor, KeptFacts, NamedCharacters};
+use icu_cursor::{
+    Boundaries, CharFacts, CursorTables, ElementCursor, Kept, KeptFacts, NamedCharacters,
+};
 use icu_elements::{ElementTables, TextReading, all_elements};
 use icu_encodings::{Characters, EncodedText};
 use icu_entries::{CollationElement, DataError, DataErrorKind, DataTable};
@@ -137,7 +139,7 @@ impl Collator {
         let settings = merged_options(options, preferences, tables.metadata().settings());
         let named = refused_as_root(NamedCharacters::new(alloc, &tables))?;
         let places = boundaries(&tables, &named, settings);
-        let kept_facts = refused_as_root(KeptFacts::new(alloc, places))?;
+        let kept_facts = refused_as_root(KeptFacts::new(alloc, &tables, places))?;
         Ok(Collator {
             tables,
             named,
@@ -285,16 +287,19 @@ impl<'a> CollatorBorrowed<'a> {
         self.key_form().secondary == Some(SecondaryForm::Backward)
     }
 
-    /// What is known of a character that is one of those that are read most.
+    /// The facts that are kept of a character.
     #[inline(always)]
     pub(crate) fn kept_facts(&self, c: char) -> Option<&'a CharFacts>
         ensures { IfSome result
             (λ l. AreTrueFacts (reading_by (collation_borrowed self.now)) c l.now) }
     {
-        self.kept_facts.get(c)
+        match self.kept_facts.get(c) {
+            Kept::Facts(facts) => Some(facts),
+            _ => None,
+        }
     }
 
-    /// What is known of any other character.
+    /// What is known of a character of which no facts are kept.
     #[inline(never)]
     pub(crate) fn other_facts(&self, c: char) -> CharFacts
         ensures { AreTrueFacts (reading_by (collation_borrowed self.now)) c result }

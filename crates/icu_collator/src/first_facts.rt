@@ -1,7 +1,7 @@
 //! What the first characters of two texts say of their order.
 
 ghost use Rattle.std.specs.Prelude.{◌≡◌, ◌≢◌, ◌<◌, ◌⊎◌, ◌∷◌, ℕ, List, map, IfSome, IsTrue};
-ghost use Rattle.icu_cursor.specs.KeptFacts.{AreTrueFacts};
+ghost use Rattle.icu_facts.specs.KeptFacts.{AreTrueFacts};
 ghost use Rattle.icu_provider.specs.CollatorTables.{reorder};
 ghost use Rattle.icu_weighting.specs.Forms.{last_variable_by};
 ghost use Rattle.icu_text_order.specs.TextOrder.{reading_by, text_order};

@@ -7,8 +7,8 @@ use Rattle.unicode_normalization.specs.Forms.{nfd}
 use Rattle.icu_entries.specs.Elements.{Element}
 use Rattle.icu_elements.specs.TextElements.{Reading, elements_after}
 use Rattle.icu_boundaries.specs.Alone.{context_after}
-use Rattle.icu_cursor.specs.declared.char_facts.CharFacts.{CharFacts}
-use Rattle.icu_cursor.specs.KeptFacts.{char_elements}
+use Rattle.icu_facts.specs.declared.char_facts.CharFacts.{CharFacts}
+use Rattle.icu_facts.specs.KeptFacts.{char_elements}
 use Rattle.icu_cursor.specs.inner.Pieces.{IsPiece}
 use Rattle.icu_cursor.specs.inner.Standing.{StandsBefore}
 use Rattle.icu_cursor.proofs.PieceLemmas.{nothing, pieces_part}
@@ -43,30 +43,36 @@ module _ (reading : Reading) (ready piece : List Element) (before : List ℕ) (n
       nothing_ready ready piece _ none piece_ended ∙ ap (λ t. elements_after reading before (nfd t)) ends ∙ nothing reading before
 
   -- a character is read by itself
-  pub char_read : (c : ℕ) (l : CharFacts) (all text after : List ℕ) (es : List Element) → all ≡ c ∷ text → StandsBefore reading c l text → es ≡ char_elements l → after ≡ context_after before (decompose Nfd c)
+  pub char_read : (c : ℕ) (own : List Element) (all text after : List ℕ) (es : List Element) → all ≡ c ∷ text → StandsBefore reading c own text → es ≡ own → after ≡ context_after before (decompose Nfd c)
       → es ++ (piece ++ elements_after reading after (nfd text)) ≡ ready ++ (piece ++ elements_after reading before (nfd all))
-  char_read c l all text after es is stands given remembered =
+  char_read c own all text after es is stands given remembered =
       ap₂ (λ (fs gs : List Element). fs ++ (gs ++ elements_after reading after (nfd text))) given piece_ended
-      ∙ ap (λ b. char_elements l ++ elements_after reading b (nfd text)) remembered
+      ∙ ap (λ b. own ++ elements_after reading b (nfd text)) remembered
       ∙ sym (stands before)
       ∙ ap (λ t. elements_after reading before (nfd t)) (sym is)
       ∙ sym (nothing_ready ready piece _ none piece_ended)
 
   -- its first element is given, and the others are kept
-  pub facts_begun : (c : ℕ) (l : CharFacts) (all text after : List ℕ) (first others : List Element) → all ≡ c ∷ text → StandsBefore reading c l text → char_elements l ≡ first ++ others
+  pub facts_begun : (c : ℕ) (own : List Element) (all text after : List ℕ) (first others : List Element) → all ≡ c ∷ text → StandsBefore reading c own text → own ≡ first ++ others
       → after ≡ context_after before (decompose Nfd c)
       → ready ++ (piece ++ elements_after reading before (nfd all)) ≡ first ++ (others ++ (piece ++ elements_after reading after (nfd text)))
-  facts_begun c l all text after first others is stands given remembered =
-      sym (char_read c l all text after (char_elements l) is stands refl remembered) ∙ ready_taken first (char_elements l) others _ given
+  facts_begun c own all text after first others is stands given remembered =
+      sym (char_read c own all text after own is stands refl remembered) ∙ ready_taken first own others _ given
 
   -- so is one of one element, which is given at once
-  pub lone_read : (c : ℕ) (l : CharFacts) (all text after : List ℕ) (e d : Element) → all ≡ c ∷ text → StandsBefore reading c l text → after ≡ context_after before (decompose Nfd c)
+  pub one_read : (c : ℕ) (own : List Element) (all text after : List ℕ) (e : Element) → all ≡ c ∷ text → StandsBefore reading c own text → after ≡ context_after before (decompose Nfd c)
+      → own ≡ e ∷ [] → ready ++ (piece ++ elements_after reading before (nfd all)) ≡ e ∷ (ready ++ (piece ++ elements_after reading after (nfd text)))
+  one_read c own all text after e is stands remembered one =
+      sym (char_read c own all text after own is stands refl remembered)
+      ∙ ap (λ (es : List Element). es ++ (piece ++ elements_after reading after (nfd text))) one
+      ∙ ap (λ (es : List Element). e ∷ (es ++ (piece ++ elements_after reading after (nfd text)))) (sym none)
+
+  -- as where facts are kept of it
+  pub lone_read : (c : ℕ) (l : CharFacts) (all text after : List ℕ) (e d : Element) → all ≡ c ∷ text → StandsBefore reading c (char_elements l) text → after ≡ context_after before (decompose Nfd c)
       → l.count ≡ 1 → 1 ≤ length l.elements → e ≡ get_or l.elements 0 d
       → ready ++ (piece ++ elements_after reading before (nfd all)) ≡ e ∷ (ready ++ (piece ++ elements_after reading after (nfd text)))
   lone_read c l all text after e d is stands remembered one some first =
-      sym (char_read c l all text after (char_elements l) is stands refl remembered)
-      ∙ ap (λ (es : List Element). es ++ (piece ++ elements_after reading after (nfd text))) (one_taken l e d one some first)
-      ∙ ap (λ (es : List Element). e ∷ (es ++ (piece ++ elements_after reading after (nfd text)))) (sym none)
+      one_read c (char_elements l) all text after e is stands remembered (one_taken l e d one some first)
 
   -- a piece is begun
   pub piece_begun : (all whole part rest : List ℕ) (es : List Element) → all ≡ whole → IsPiece reading whole part rest → es ≡ elements_after reading before (nfd part)
@@ -86,11 +92,11 @@ ready_goes_on reading text ready others e is = λ before.
     (before, ap (λ (es : List Element). es ++ elements_after reading before (nfd text)) is)
 
 -- where none does, the first of the next character
-pub facts_goes_on : (reading : Reading) (ready others : List Element) (c : ℕ) (l : CharFacts) (all text : List ℕ) (found : Option Element) → ready ≡ [] → all ≡ c ∷ text
-    → StandsBefore reading c l text → char_elements l ≡ option_to_list found ++ others
+pub facts_goes_on : (reading : Reading) (ready others : List Element) (c : ℕ) (own : List Element) (all text : List ℕ) (found : Option Element) → ready ≡ [] → all ≡ c ∷ text
+    → StandsBefore reading c own text → own ≡ option_to_list found ++ others
     → IfSome found (λ e. (before : List ℕ) → (after : List ℕ) × (ready ++ elements_after reading before (nfd all) ≡ e ∷ (others ++ elements_after reading after (nfd text))))
-facts_goes_on reading ready others c l all text None none is stands given = tt
-facts_goes_on reading ready others c l all text (Some e) none is stands given = λ before.
+facts_goes_on reading ready others c own all text None none is stands given = tt
+facts_goes_on reading ready others c own all text (Some e) none is stands given = λ before.
     let after = context_after before (decompose Nfd c) in (
       after,
       ap (λ (es : List Element). es ++ elements_after reading before (nfd all)) none

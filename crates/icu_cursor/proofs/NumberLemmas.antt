@@ -13,7 +13,7 @@ use Rattle.icu_elements.proofs.StepLemmas.{elements_after_nil}
 use Rattle.icu_boundaries.proofs.NumberRunLemmas.{elements_after-digits}
 use Rattle.icu_boundaries.proofs.LetterLemmas.{low_text}
 use Rattle.icu_boundaries.proofs.NfdLemmas.{nfd-nil}
-use Rattle.icu_cursor.specs.KeptFacts.{IsNumberDigit}
+use Rattle.icu_facts.specs.KeptFacts.{IsNumberDigit}
 use Rattle.icu_cursor.specs.inner.NumberElements.{IsDigitRun, IsNumberPiece}
 use Rattle.icu_cursor.specs.inner.Places.{BeginsAtBoundary}
 

@@ -6,7 +6,7 @@ use Rattle.icu_elements.specs.TextElements.{Reading, elements_after}
 use Rattle.icu_elements.proofs.StepLemmas.{elements_after_nil}
 use Rattle.icu_boundaries.proofs.CutLemmas.{boundary_cut, boundary_start}
 use Rattle.icu_boundaries.proofs.NfdLemmas.{nfd-nil}
-use Rattle.icu_cursor.specs.BoundaryTables.{HasBoundaryBefore}
+use Rattle.icu_facts.specs.BoundaryTables.{HasBoundaryBefore}
 use Rattle.icu_cursor.specs.inner.Places.{MayBeCut, BeginsAtBoundary}
 use Rattle.icu_cursor.specs.inner.Pieces.{IsPiece}
 

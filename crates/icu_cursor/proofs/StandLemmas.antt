@@ -1,6 +1,6 @@
 -- Characters that are read by themselves, and the runs of marks that they stand before.
-use Rattle.std.proofs.Common.{◌≡◌, ◌≢◌, ℕ, ◌<◌, ◌≤◌, Bool, true, false, ◌&&◌, ◌||◌, nat_le, List, [], ◌∷◌, ◌++◌, length, get_or, flat_map, Option, Some, None, IfSome, refl, sym, ap, ◌∙◌, arith, zero-le}
-use Rattle.std.proofs.lemmas.Bool.{and_parts, not-true, eqb-true, eq-eqb, ne_eqb, le-leb}
+use Rattle.std.proofs.Common.{◌≡◌, ◌≢◌, ℕ, ◌<◌, ◌≤◌, Bool, true, false, ◌&&◌, ◌||◌, nat_le, List, [], ◌∷◌, ◌++◌, length, get_or, flat_map, Option, Some, None, IfSome, refl, sym, ap, ◌∙◌, append-nil, arith, zero-le}
+use Rattle.std.proofs.lemmas.Bool.{and_parts, and_from, not-true, eqb-true, eq-eqb, ne_eqb, le-leb}
 use Rattle.ucd_normal.specs.CanonicalCombiningClass.{canonical_combining_class as class_of}
 use Rattle.ucd_normal.specs.declared.forms.Form.TheVariants.{Nfd}
 use Rattle.unicode_normalization.specs.Decompose.{decompose}
@@ -15,15 +15,18 @@ use Rattle.icu_entries.specs.Elements.{Element}
 use Rattle.std.proofs.Props.{props}
 use Rattle.std.proofs.Math.Logic.{∥∥₁_elim}
 use mathlib.Core.List.{is_set}
-use Rattle.icu_boundaries.specs.Alone.{context_after, stays_first, all_stay, rises_from}
+use Rattle.icu_boundaries.specs.Alone.{context_after, elements_of_char, stays_first, all_stay, rises_from}
 use Rattle.icu_boundaries.proofs.AloneLemmas.{letter_of_starters, letter_that_stays}
 use Rattle.icu_boundaries.proofs.NfdLemmas.{stays_first-rises}
-use Rattle.icu_cursor.specs.declared.char_facts.CharFacts.{CharFacts}
-use Rattle.icu_cursor.proofs.KeptLemmas.{some_is}
-use Rattle.icu_cursor.specs.KeptFacts.{StandsAlone, HasStarters, IsMarkedStarter, IsLoneMark, IsBase, IsNumberDigit, AreTrueFacts, rises_to}
+use Rattle.icu_facts.specs.declared.char_facts.CharFacts.{CharFacts}
+use Rattle.icu_facts.proofs.KeptLemmas.{some_is}
+use Rattle.icu_facts.specs.CharWords.{IsKept}
+use Rattle.icu_facts.specs.declared.char_words.Kept.{Kept}
+use Rattle.icu_facts.specs.declared.char_words.Kept.TheVariants.{Own, Facts, Nothing}
+use Rattle.icu_facts.specs.KeptFacts.{char_elements, IsOwn, StandsAlone, HasStarters, IsMarkedStarter, IsLoneMark, IsBase, IsNumberDigit, AreTrueFacts, rises_to}
 use Rattle.icu_cursor.specs.inner.Places.{BeginsAtBoundary}
 use Rattle.icu_cursor.specs.inner.MarkRuns.{Rises, EndsRuns, IsInRun}
-use Rattle.icu_cursor.specs.inner.Standing.{StandsBefore, Serves}
+use Rattle.icu_cursor.specs.inner.Standing.{StandsBefore, Serves, StandsAnywhere, KeptServes}
 
 -- ---- runs of marks
 
@@ -76,17 +79,17 @@ either true = refl
 either false = refl
 
 module _ (reading : Reading) (c : ℕ) (l : CharFacts) (text : List ℕ) where
-  pub starters_stand : HasStarters reading c l → StandsBefore reading c l text
+  pub starters_stand : HasStarters reading c l → StandsBefore reading c (char_elements l) text
   starters_stand h = λ before.
       letter_of_starters reading before c (decompose Nfd c) text refl h.starters h.stands.alone
       ∙ ap (λ es. es ++ elements_after reading (context_after before (decompose Nfd c)) (nfd text)) (sym h.stands.elements)
 
-  stays_alone : StandsAlone reading c l → all_stay (decompose Nfd c) (flat_map (decompose Nfd) text) ≡ true → StandsBefore reading c l text
+  stays_alone : StandsAlone reading c l → all_stay (decompose Nfd c) (flat_map (decompose Nfd) text) ≡ true → StandsBefore reading c (char_elements l) text
   stays_alone h stay = λ before.
       letter_that_stays reading before c (decompose Nfd c) text refl stay h.alone
       ∙ ap (λ es. es ++ elements_after reading (context_after before (decompose Nfd c)) (nfd text)) (sym h.elements)
 
-  pub marked_stand : IsMarkedStarter reading c l → Rises l.class text → StandsBefore reading c l text
+  pub marked_stand : IsMarkedStarter reading c l → Rises l.class text → StandsBefore reading c (char_elements l) text
   unfolding all_stay
   marked_stand h rise =
       let rest = flat_map (decompose Nfd) text in
@@ -94,7 +97,7 @@ module _ (reading : Reading) (c : ℕ) (l : CharFacts) (text : List ℕ) where
       let stay : all_stay (h.base ∷ h.marks) rest ≡ true = rw h.starter marks.0 in
       stays_alone h.stands (ap (λ ds. all_stay ds rest) h.decomposes ∙ stay)
 
-  pub marks_stand : IsLoneMark reading c l → Rises l.class text → StandsBefore reading c l text
+  pub marks_stand : IsLoneMark reading c l → Rises l.class text → StandsBefore reading c (char_elements l) text
   unfolding all_stay
   marks_stand h rise =
       let rest = flat_map (decompose Nfd) text in
@@ -103,10 +106,21 @@ module _ (reading : Reading) (c : ℕ) (l : CharFacts) (text : List ℕ) where
       stays_alone h.stands (ap (λ ds. all_stay ds rest) h.itself ∙ stay)
 
 -- a character before a boundary gives what it gives at the end of a text
-pub base_stands : (reading : Reading) (c : ℕ) (l : CharFacts) (text : List ℕ) → IsBase reading c l → BeginsAtBoundary reading text → StandsBefore reading c l text
+pub base_stands : (reading : Reading) (c : ℕ) (l : CharFacts) (text : List ℕ) → IsBase reading c l → BeginsAtBoundary reading text → StandsBefore reading c (char_elements l) text
 base_stands reading c l text h boundary = λ before.
     let after = context_after before (decompose Nfd c) in
     parted reading before after (c ∷ []) text boundary ∙ ap (λ (es : List Element). es ++ elements_after reading after (nfd text)) (h.at_end before)
+
+-- a character that stands alone gives the elements of its entry
+pub own_serves : (reading : Reading) (c : ℕ) → IsOwn reading c → StandsAnywhere reading c
+own_serves reading c h = record {
+  stands = λ text before.
+      letter_of_starters reading before c (c ∷ []) text h.itself (and_from _ _ h.boundary.starter refl) (and_from _ _ h.alone refl)
+      ∙ ap (λ es. es ++ elements_after reading (context_after before (c ∷ [])) (nfd text)) (append-nil (elements_of_char reading.tables c))
+      ∙ ap (λ ds. elements_of_char reading.tables c ++ elements_after reading (context_after before ds) (nfd text)) (sym h.itself);
+  ends = ends_runs c c [] h.itself h.boundary.starter;
+  boundary = may_be_cut reading c (record { first = c; more = []; decomposes = h.itself; boundary = h.boundary });
+}
 
 pub serves : (reading : Reading) (c : ℕ) (l : CharFacts) → AreTrueFacts reading c l → Serves reading c l
 serves reading c l h = record {
@@ -126,6 +140,16 @@ elements_set = is_set (hlevel props)
 
 pub Serves-prop : (reading : Reading) (c : ℕ) (l : CharFacts) → IsProp (Serves reading c l)
 Serves-prop reading c l = hlevel (props, elements_set)
+
+pub KeptServes-prop : (reading : Reading) (c : ℕ) (k : Kept) → IsProp (KeptServes reading c k)
+KeptServes-prop reading c Own = hlevel (props, elements_set)
+KeptServes-prop reading c (Facts l) = Serves-prop reading c l.now
+KeptServes-prop reading c Nothing = hlevel props
+
+pub kept_serves : (reading : Reading) (c : ℕ) (k : Kept) → IsKept reading c k → KeptServes reading c k
+kept_serves reading c Own h = own_serves reading c h
+kept_serves reading c (Facts l) h = serves reading c l.now h
+kept_serves reading c Nothing h = tt
 
 -- what is found there serves
 pub found : {A X : Type 0} → ∥ A ∥₁ → (o : Option X) (P Q : X → Type 0) → ((x : X) → IsProp (Q x)) → ((x : X) → P x → Q x) → (A → IfSome o P) → IfSome o Q

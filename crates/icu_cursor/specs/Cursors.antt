@@ -2,7 +2,7 @@
 use Rattle.std.specs.Prelude.{ℕ, List, ◌++◌}
 use Rattle.unicode_normalization.specs.Forms.{nfd}
 use Rattle.icu_entries.specs.Elements.{Element}
-use Rattle.icu_cursor.specs.BoundaryTables.{boundary_reading}
+use Rattle.icu_facts.specs.BoundaryTables.{boundary_reading}
 use Rattle.icu_elements.specs.TextElements.{Reading, elements_after}
 use Rattle.icu_cursor.specs.declared.cursor.ElementCursor.{ElementCursor}
 use Rattle.icu_cursor.specs.declared.cursor_tables.CursorTables.{CursorTables}

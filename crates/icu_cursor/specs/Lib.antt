@@ -1,9 +1,3 @@
-pub mod MappingCharacters
-pub mod Named
-pub mod BoundaryTables
-pub mod KeptFacts
-pub mod KeptChars
-pub mod FactsTables
 pub mod Cursors
 pub mod FactsCursors
 pub mod inner

@@ -1,7 +1,4 @@
 -- Words of private contracts and proofs only: no public contract names them.
-pub mod FewElements
-pub mod ReadFacts
-pub mod Syllables
 pub mod ReadCharacters
 pub mod Ready
 pub mod Places

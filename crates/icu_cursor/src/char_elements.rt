@@ -1,10 +1,12 @@
 //! The elements of a character, one by one.
 
 ghost use Rattle.std.specs.Prelude.{◌≡◌, ◌≤◌, [], ◌++◌, None, IsTrue, drop, option_to_list};
-ghost use Rattle.icu_cursor.specs.KeptFacts.{char_elements};
+ghost use Rattle.icu_facts.specs.FewElements.{few_elements};
+ghost use Rattle.icu_facts.specs.KeptFacts.{char_elements};
 
 use crate::CharFacts;
 use icu_entries::CollationElement;
+use icu_facts::FewElements;
 
 /// The elements of a character that were not given yet.
 #[derive(Debug, Clone, Copy)]
@@ -59,6 +61,28 @@ impl CharElements {
         }
         *self = CharElements::after_first(facts);
         Some(first)
+    }
+
+    /// A few elements.
+    #[inline(always)]
+    #[tactic(auto, unfolding(crate::specs::inner::Ready::elements_ready, icu_facts::specs::FewElements::few_elements))]
+    fn of_few(few: &FewElements) -> CharElements
+        ensures { elements_ready result ≡ few_elements few.now }
+    {
+        CharElements {
+            elements: few.elements,
+            count: few.count,
+            next: 0,
+        }
+    }
+
+    /// The first of a few elements, where none of others is left. The others of them are kept.
+    pub(crate) fn begin_few(&mut self, few: &FewElements) -> Option<CollationElement>
+        requires { elements_ready self.old ≡ [] }
+        ensures { few_elements few.now ≡ option_to_list result ++ elements_ready self.new }
+    {
+        *self = CharElements::of_few(few);
+        self.take_first()
     }
 
     /// Whether none is left.

@@ -11,7 +11,7 @@ use crate::digit_run::read_number;
 use crate::last_characters::LastCharacters;
 use crate::piece::{Piece, next_of_piece, read_piece, split_piece};
 use crate::stands::stands_before;
-use crate::{CharFacts, FactsKind};
+use crate::{CharFacts, FactsKind, Kept};
 use icu_encodings::EncodedText;
 use icu_entries::CollationElement;
 use std::alloc::AllocError;
@@ -33,9 +33,9 @@ pub struct ElementCursor<'c, 'd, T> {
 
 impl<'c, 'd, T: EncodedText> ElementCursor<'c, 'd, T> {
     ghost use Rattle.icu_cursor.specs.Cursors.{cursor_reading, cursor_gives};
-    ghost use Rattle.icu_cursor.specs.KeptFacts.{IsNumberDigit};
+    ghost use Rattle.icu_facts.specs.KeptFacts.{IsNumberDigit};
     ghost use Rattle.icu_cursor.specs.inner.Unread.{HasNothingReady};
-    ghost use Rattle.icu_cursor.specs.inner.Standing.{Serves};
+    ghost use Rattle.icu_cursor.specs.inner.Standing.{Serves, StandsAnywhere};
 
     /// Reads a text, by these tables. Does not allocate.
     #[inline(always)]
@@ -95,7 +95,7 @@ impl<'c, 'd, T: EncodedText> ElementCursor<'c, 'd, T> {
         let tables = self.tables;
         let (byte, rest) = self.text.split_first_ascii()?;
         let c = char::from(byte);
-        let facts = tables.kept_facts(c)?;
+        let facts = tables.facts(c)?;
         match facts.kind {
             FactsKind::Starters if facts.count == 1 => {
                 self.text = rest;
@@ -170,14 +170,60 @@ impl<'c, 'd, T: EncodedText> ElementCursor<'c, 'd, T> {
         ensures shorter { OnOk result (length (T.text self.new.text) ≤ length (T.text rest)) }
     {
         let tables = self.tables;
-        match tables.kept_facts(c) {
-            Some(facts) => self.read_char(c, facts, rest),
-            None => self.read_other(c, rest),
+        match tables.kept(c) {
+            Kept::Own => self.read_own(c, rest),
+            Kept::Facts(facts) => self.read_char(c, facts, rest),
+            Kept::Nothing => self.read_other(c, rest),
         }
     }
 
-    /// Reads a character that isn't among those that are read most. Out of line: a function clears its locals each
-    /// time that it is called, and what is known of such a character is one.
+    /// Reads a character that gives the elements of its entry wherever it stands.
+    #[inline(always)]
+    fn read_own(&mut self, c: char, rest: T) -> Result<Option<CollationElement>, AllocError>
+        requires nothing { HasNothingReady self.old }
+        requires text { T.text self.old.text ≡ c ∷ T.text rest }
+        requires own { StandsAnywhere (cursor_reading self.old.tables.now) c }
+        ensures next { IfOk result (λ first. cursor_gives T.text self.old
+            ≡ option_to_list first ++ cursor_gives T.text self.new) }
+        ensures shorter { OnOk result (length (T.text self.new.text) ≤ length (T.text rest)) }
+    {
+        match self.tables.own_element(c) {
+            Some(element) => {
+                self.text = rest;
+                self.recent.push(c);
+                Ok(Some(element))
+            }
+            None => self.read_own_elements(c, rest),
+        }
+    }
+
+    /// Reads such a character where its entry gives more elements than one, or none.
+    #[inline(never)]
+    fn read_own_elements(
+        &mut self,
+        c: char,
+        rest: T,
+    ) -> Result<Option<CollationElement>, AllocError>
+        requires nothing { HasNothingReady self.old }
+        requires text { T.text self.old.text ≡ c ∷ T.text rest }
+        requires own { StandsAnywhere (cursor_reading self.old.tables.now) c }
+        ensures next { IfOk result (λ first. cursor_gives T.text self.old
+            ≡ option_to_list first ++ cursor_gives T.text self.new) }
+        ensures shorter { OnOk result (length (T.text self.new.text) ≤ length (T.text rest)) }
+    {
+        let Some(few) = self.tables.own_elements(c) else {
+            self.begin_piece(c, rest)?;
+            return Ok(None);
+        };
+        self.text = rest;
+        self.recent.push(c);
+        let first = self.ready.begin_few(&few);
+        self.at_text = self.ready.is_empty();
+        Ok(first)
+    }
+
+    /// Reads a character of which nothing is kept. Out of line: a function clears its locals each time that it is
+    /// called, and what is known of such a character is one.
     #[inline(never)]
     fn read_other(&mut self, c: char, rest: T) -> Result<Option<CollationElement>, AllocError>
         requires nothing { HasNothingReady self.old }

@@ -1,21 +1,25 @@
 //! What texts are read by, character by character.
 
-ghost use Rattle.std.specs.Prelude.{◌≡◌, IfSome, IsTrue};
+ghost use Rattle.std.specs.Prelude.{◌≡◌, ◌∷◌, [], IfSome, IsTrue};
 ghost use Rattle.icu_elements.specs.Reading.{reading_of};
-ghost use Rattle.icu_cursor.specs.KeptFacts.{IsNumberDigit};
-ghost use Rattle.icu_cursor.specs.FactsTables.{AreFacts};
-ghost use Rattle.icu_cursor.specs.BoundaryTables.{boundary_reading};
+ghost use Rattle.icu_boundaries.specs.Alone.{elements_of_char};
+ghost use Rattle.icu_facts.specs.FewElements.{few_elements};
+ghost use Rattle.icu_facts.specs.KeptFacts.{IsNumberDigit};
+ghost use Rattle.icu_facts.specs.FactsTables.{AreFacts};
+ghost use Rattle.icu_facts.specs.BoundaryTables.{boundary_reading};
 ghost use Rattle.icu_cursor.specs.inner.Places.{MayBeCut};
 ghost use Rattle.icu_cursor.specs.inner.MarkRuns.{IsInRun};
-ghost use Rattle.icu_cursor.specs.inner.Standing.{Serves};
+ghost use Rattle.icu_cursor.specs.inner.Standing.{KeptServes, Serves};
 
-use crate::{Boundaries, CharFacts, KeptFacts};
+use crate::{Boundaries, CharFacts, Kept, KeptFacts};
 use icu_elements::TextReading;
+use icu_entries::CollationElement;
+use icu_facts::{FewElements, own_element, own_elements};
 use std::alloc::Global;
 use unicode_normalization::Form;
 use unicode_normalization::char::{canonical_combining_class, decomposition};
 
-/// What texts are read by, character by character: the tables, and what is kept of the characters that are read most.
+/// What texts are read by, character by character: the tables, and what is kept of all characters.
 #[derive(Debug, Clone, Copy)]
 pub struct CursorTables<'d> {
     places: Boundaries<'d>,
@@ -61,25 +65,55 @@ impl<'d> CursorTables<'d> {
         &self.places
     }
 
-    /// What is kept of a character, if it is one of those that are read most.
-    #[inline]
+    /// What is kept of a character.
+    #[inline(always)]
     #[tactic(auto, unfolding(crate::specs::Cursors::cursor_reading))]
-    pub(crate) fn kept_facts(&self, c: char) -> Option<&CharFacts>
-        ensures { IfSome result (λ l. Serves (cursor_reading self.now) c l.now) }
+    pub(crate) fn kept(&self, c: char) -> Kept<'_>
+        ensures { KeptServes (cursor_reading self.now) c result }
     {
         self.kept_facts.get(c)
     }
 
-    /// The value that a digit has in a number, if it is one of those that are read most.
+    /// The facts that are kept of a character.
+    #[inline]
+    pub(crate) fn facts(&self, c: char) -> Option<&CharFacts>
+        ensures { IfSome result (λ l. Serves (cursor_reading self.now) c l.now) }
+    {
+        match self.kept(c) {
+            Kept::Facts(facts) => Some(facts),
+            _ => None,
+        }
+    }
+
+    /// The value that a digit has in a number, if facts are kept of it.
     #[inline]
     pub(crate) fn digit(&self, c: char) -> Option<u8>
         ensures { IfSome result (λ d. IsNumberDigit (cursor_reading self.now) c d) }
     {
-        let facts = self.kept_facts(c)?;
+        let facts = self.facts(c)?;
         facts.digit
     }
 
-    /// What is known of a character that isn't among those that are read most.
+    /// The element of an own character whose entry gives one.
+    #[inline]
+    #[tactic(auto, unfolding(crate::specs::Cursors::cursor_reading))]
+    pub(crate) fn own_element(&self, c: char) -> Option<CollationElement>
+        ensures { IfSome result (λ e. elements_of_char (cursor_reading self.now).tables c
+            ≡ e ∷ []) }
+    {
+        own_element(&self.places, c)
+    }
+
+    /// The elements of an own character, where they are three at most.
+    #[tactic(auto, unfolding(crate::specs::Cursors::cursor_reading))]
+    pub(crate) fn own_elements(&self, c: char) -> Option<FewElements>
+        ensures { IfSome result (λ few. few_elements few
+            ≡ elements_of_char (cursor_reading self.now).tables c) }
+    {
+        own_elements(&self.places, c)
+    }
+
+    /// What is known of a character of which nothing is kept.
     #[inline]
     #[tactic(auto, unfolding(crate::specs::Cursors::cursor_reading))]
     pub(crate) fn other_facts(&self, c: char) -> CharFacts
@@ -93,9 +127,10 @@ impl<'d> CursorTables<'d> {
     pub(crate) fn has_boundary_before(&self, c: char) -> bool
         ensures { IsTrue result → MayBeCut (cursor_reading self.now) c }
     {
-        match self.kept_facts(c) {
-            Some(facts) => facts.has_boundary_before,
-            None => self.places.has_boundary_before(c),
+        match self.kept(c) {
+            Kept::Own => true,
+            Kept::Facts(facts) => facts.has_boundary_before,
+            Kept::Nothing => self.places.has_boundary_before(c),
         }
     }
 
@@ -105,12 +140,11 @@ impl<'d> CursorTables<'d> {
     pub(crate) fn class_in_run(&self, c: char) -> Option<u8>
         ensures { IfSome result (λ class. IsInRun c class) }
     {
-        if let Some(facts) = self.kept_facts(c) {
-            if facts.begins_with_starter {
-                return Some(0);
-            }
+        match self.kept(c) {
+            Kept::Own => Some(0),
+            Kept::Facts(facts) if facts.begins_with_starter => Some(0),
+            _ => class_of_first(c),
         }
-        class_of_first(c)
     }
 }
 

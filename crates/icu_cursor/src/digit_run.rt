@@ -2,7 +2,7 @@
 
 ghost use Rattle.std.specs.Prelude.{◌≡◌, ◌<◌, ◌≤◌, ◌∷◌, [], ◌++◌, ℕ, None, Some, All, IfOk, IfSome, OnOk, length, option_to_list};
 ghost use Rattle.icu_elements.specs.TextElements.{number_elements};
-ghost use Rattle.icu_cursor.specs.KeptFacts.{IsNumberDigit};
+ghost use Rattle.icu_facts.specs.KeptFacts.{IsNumberDigit};
 ghost use Rattle.icu_cursor.specs.Cursors.{cursor_reading};
 ghost use Rattle.icu_cursor.specs.inner.NumberElements.{BeginsWithDigit, IsDigitRun, IsNumberPiece, number_left};
 

@@ -5,15 +5,15 @@ ghost use Rattle.unicode_normalization.specs.Forms.{nfd};
 ghost use Rattle.icu_elements.specs.TextElements.{elements_after};
 ghost use Rattle.icu_cursor.specs.Cursors.{cursor_reading};
 ghost use Rattle.icu_cursor.specs.inner.Ready.{elements_ready};
-ghost use Rattle.icu_cursor.specs.inner.Standing.{Serves};
+ghost use Rattle.icu_cursor.specs.inner.Standing.{Serves, StandsAnywhere};
 
-use crate::CharFacts;
 use crate::char_elements::CharElements;
 use crate::cursor_tables::CursorTables;
 use crate::stands::stands_before;
-use crate::syllables::is_syllable;
+use crate::{CharFacts, Kept};
 use icu_encodings::EncodedText;
 use icu_entries::CollationElement;
+use icu_facts::is_syllable;
 
 /// Gives the elements of the characters that a text begins with, as long as each may be read by itself: less than an
 /// `ElementCursor`, but at little cost. It never allocates.
@@ -59,10 +59,42 @@ impl<'c, 'd, T: EncodedText> FactsCursor<'c, 'd, T> {
     {
         let (c, rest) = self.text.split_first_char()?;
         let tables = self.tables;
-        match tables.kept_facts(c) {
-            Some(facts) => self.begin(c, facts, rest),
-            None => self.read_syllable(c, rest),
+        match tables.kept(c) {
+            Kept::Own => self.read_own(c, rest),
+            Kept::Facts(facts) => self.begin(c, facts, rest),
+            Kept::Nothing => self.read_syllable(c, rest),
         }
+    }
+
+    /// The first element of a text that begins with a character that gives the elements of its entry wherever it
+    /// stands.
+    #[inline(always)]
+    fn read_own(&mut self, c: char, rest: T) -> Option<CollationElement>
+        requires nothing { elements_ready self.old.ready ≡ [] }
+        requires text { T.text self.old.text ≡ c ∷ T.text rest }
+        requires own { StandsAnywhere (cursor_reading self.old.tables.now) c }
+        ensures { IfSome result (λ e. GoesOn T.text self.old e self.new) }
+    {
+        match self.tables.own_element(c) {
+            Some(element) => {
+                self.text = rest;
+                Some(element)
+            }
+            None => self.read_own_elements(c, rest),
+        }
+    }
+
+    /// The first element of such a text, where the entry of the character gives more than one. The others are kept.
+    #[inline(never)]
+    fn read_own_elements(&mut self, c: char, rest: T) -> Option<CollationElement>
+        requires nothing { elements_ready self.old.ready ≡ [] }
+        requires text { T.text self.old.text ≡ c ∷ T.text rest }
+        requires own { StandsAnywhere (cursor_reading self.old.tables.now) c }
+        ensures { IfSome result (λ e. GoesOn T.text self.old e self.new) }
+    {
+        let few = self.tables.own_elements(c)?;
+        self.text = rest;
+        self.ready.begin_few(&few)
     }
 
     /// The first element of a text that begins with a Hangul syllable, whose facts cost little. Those of a rarer

@@ -1,6 +1,7 @@
 //! Whether a character may be read by itself.
 
 ghost use Rattle.std.specs.Prelude.{ℕ, IsTrue};
+ghost use Rattle.icu_facts.specs.KeptFacts.{char_elements};
 ghost use Rattle.icu_cursor.specs.Cursors.{cursor_reading};
 ghost use Rattle.icu_cursor.specs.inner.Places.{BeginsAtBoundary};
 ghost use Rattle.icu_cursor.specs.inner.MarkRuns.{Rises};
@@ -73,7 +74,8 @@ pub(crate) fn stands_before<T: EncodedText>(
     text: T,
 ) -> bool
     ensures { (c : ℕ) → Serves (cursor_reading tables.now) c facts.now
-        → IsTrue result → StandsBefore (cursor_reading tables.now) c facts.now (T.text text) }
+        → IsTrue result → StandsBefore (cursor_reading tables.now) c (char_elements facts.now)
+        (T.text text) }
 {
     match facts.kind {
         FactsKind::Unknown => false,

@@ -2,7 +2,7 @@
 use crate::driver_error::DriverError;
 use crate::numbers::{Item, single};
 use crate::readers::Reader;
-use icu_cursor::{CharFacts, FactsKind, facts_of};
+use icu_cursor::{CharFacts, FactsKind, Kept, facts_of};
 use std::alloc::{AllocError, Global};
 
 /// What is known of a character, and where something else is kept of it than is worked out, that as well.
@@ -14,11 +14,13 @@ pub(crate) fn letter(alloc: Global, reader: &Reader, c: &str) -> Result<String, 
 }
 
 /// Appends what is kept of a character, where the text does not say it already.
-fn push_kept(alloc: Global, text: &mut String, kept: Option<&CharFacts>) -> Result<(), AllocError> {
-    let Some(kept) = kept else {
-        return text.push_str(", not kept");
+fn push_kept(alloc: Global, text: &mut String, kept: Kept<'_>) -> Result<(), AllocError> {
+    let facts = match kept {
+        Kept::Own => return text.push_str(", own"),
+        Kept::Facts(facts) => facts,
+        Kept::Nothing => return text.push_str(", not kept"),
     };
-    let kept = printed(alloc, kept)?;
+    let kept = printed(alloc, facts)?;
     if kept != *text {
         write!(text, ", kept {kept}")?;
     }

@@ -2,9 +2,9 @@
 ghost use Rattle.std.specs.Prelude.{◌≡◌, IfOk};
 ghost use Rattle.icu_checks.specs.Checked.{checked_tables};
 ghost use Rattle.icu_elements.specs.Reading.{element_tables, reading_of};
-ghost use Rattle.icu_cursor.specs.FactsTables.{AreFacts};
-ghost use Rattle.icu_cursor.specs.Named.{NamesAll};
-ghost use Rattle.icu_cursor.specs.BoundaryTables.{boundary_reading};
+ghost use Rattle.icu_facts.specs.FactsTables.{AreFacts};
+ghost use Rattle.icu_facts.specs.Named.{NamesAll};
+ghost use Rattle.icu_facts.specs.BoundaryTables.{boundary_reading};
 ghost use Rattle.test_driver.specs.Readers.{reading_with};
 
 use icu_checks::CheckedTables;
@@ -72,7 +72,7 @@ fn letters(
         lithuanian_dot_above) l) }
 {
     let places = boundaries(tables, named, numeric_primary, lithuanian_dot_above);
-    KeptFacts::new(alloc, places)
+    KeptFacts::new(alloc, tables, places)
 }
 
 impl Reader {

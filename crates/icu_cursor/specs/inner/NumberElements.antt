@@ -4,7 +4,7 @@ use Rattle.std.specs.List.{list_all}
 use Rattle.unicode_normalization.specs.Forms.{nfd}
 use Rattle.icu_entries.specs.Elements.{Element, of_primary}
 use Rattle.icu_elements.specs.TextElements.{Reading, continues_number, digit_of_char, elements_after}
-use Rattle.icu_cursor.specs.KeptFacts.{IsNumberDigit}
+use Rattle.icu_facts.specs.KeptFacts.{IsNumberDigit}
 use Rattle.icu_cursor.specs.declared.digit_run.NumberElements.{NumberElements}
 use Rattle.icu_cursor.specs.inner.Places.{BeginsAtBoundary}
 

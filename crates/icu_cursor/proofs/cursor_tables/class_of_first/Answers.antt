@@ -1,6 +1,6 @@
 use Rattle.std.proofs.Common.{ℕ, sym, ◌∙◌, subst, eq-eqb, arith}
 use Rattle.icu_cursor.specs.inner.MarkRuns.{IsInRun}
-use Rattle.icu_cursor.proofs.KeptBaseLemmas.{one_item}
+use Rattle.icu_facts.proofs.KeptBaseLemmas.{one_item}
 use Rattle.icu_cursor.proofs.StandLemmas.{first_item, one_in_run, starter_in_run, ends_runs}
 use Rattle.icu_cursor.proofs.cursor_tables.class_of_first.Goals as goal
 

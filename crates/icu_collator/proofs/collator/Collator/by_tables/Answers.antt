@@ -2,9 +2,9 @@
 use Rattle.std.proofs.Common.{◌≡◌, Result, Ok, subst, IfOk, rules}
 use Rattle.icu_elements.specs.TextElements.{Reading}
 use Rattle.icu_checks.specs.Checked.{checked_tables}
-use Rattle.icu_cursor.specs.FactsTables.{AreFacts}
-use Rattle.icu_cursor.specs.Named.{NamesAll}
-use Rattle.icu_cursor.specs.BoundaryTables.{boundary_reading}
+use Rattle.icu_facts.specs.FactsTables.{AreFacts}
+use Rattle.icu_facts.specs.Named.{NamesAll}
+use Rattle.icu_facts.specs.BoundaryTables.{boundary_reading}
 use Rattle.icu_collator.proofs.collator.Collator.by_tables.Goals as goal
 
 -- what was kept is what was made

@@ -1,12 +1,12 @@
 -- What is kept of a character is true of it.
 use Rattle.std.proofs.Common.{rules}
 use Rattle.icu_text_order.specs.TextOrder.{reading_by}
-use Rattle.icu_cursor.specs.FactsTables.{AreFacts}
+use Rattle.icu_facts.specs.FactsTables.{AreFacts}
 use Rattle.icu_collator.specs.Collators.{collation_borrowed}
 use Rattle.icu_collator.proofs.collator.CollatorBorrowed.kept_facts.Goals as goal
 
-pub returns : goal.returns
-returns c =
+pub returns-in-Facts : goal.returns-in-Facts
+returns-in-Facts c =
     let reading = reading_by (collation_borrowed c.args.self.now) in
     let known : AreFacts reading c.args.self.now.kept_facts.now = search rules in
-    c.get.ensures.known reading known
+    c.in-Facts.ensures.known reading known

@@ -1,0 +1,12 @@
+mod NamedLemmas
+mod TableLemmas
+mod DigitEntryLemmas
+mod FewLemmas
+mod PlainLemmas
+pub mod OwnLemmas
+mod CharWordLemmas
+mod LoneLemmas
+pub mod KeptLemmas
+mod OwnFactsLemmas
+pub mod SyllableLemmas
+pub mod KeptBaseLemmas

@@ -1,0 +1,16 @@
+-- An own character, a syllable, or one with facts.
+use Rattle.icu_facts.specs.BoundaryTables.{boundary_reading}
+use Rattle.icu_facts.proofs.CharWordLemmas.{own_word, no_word, same_facts}
+use Rattle.icu_facts.proofs.word_blocks.word_of_char.Goals as goal
+
+pub returns-then-is_own : goal.returns-then-is_own
+returns-then-is_own c =
+    let facts = c.args.facts.now.items in
+    let reading = boundary_reading c.args.places.now in
+    same_facts reading c.args.c 0 facts (own_word reading facts c.args.c (c.is_own.ensures c.if-is_own.true))
+
+pub returns-then-is_syllable : goal.returns-then-is_syllable
+returns-then-is_syllable c =
+    let facts = c.args.facts.now.items in
+    let reading = boundary_reading c.args.places.now in
+    same_facts reading c.args.c 1 facts (no_word reading facts c.args.c)

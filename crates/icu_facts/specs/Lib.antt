@@ -1,0 +1,9 @@
+pub mod MappingCharacters
+pub mod Named
+pub mod BoundaryTables
+pub mod FewElements
+pub mod KeptFacts
+pub mod KeptChars
+pub mod CharWords
+pub mod FactsTables
+pub mod inner

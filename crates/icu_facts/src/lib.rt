@@ -1,0 +1,31 @@
+//! What is known of characters before they are read: the places where texts may be cut, and the elements of characters
+//! that may be read by themselves (UTS #10, "Produce Collation Element Arrays").
+#![tactic(auto)]
+
+mod alone;
+mod bases;
+mod boundaries;
+pub mod char_facts;
+pub mod char_words;
+mod digit_values;
+pub mod facts_table;
+pub mod few_elements;
+mod lone_blocks;
+mod named;
+mod own;
+mod own_blocks;
+mod plain_blocks;
+pub mod read_char;
+mod shapes;
+mod syllables;
+mod word_blocks;
+
+pub use alone::{own_element, own_elements};
+pub use boundaries::Boundaries;
+pub use char_facts::{CharFacts, FactsKind};
+pub use char_words::Kept;
+pub use facts_table::KeptFacts;
+pub use few_elements::FewElements;
+pub use named::NamedCharacters;
+pub use read_char::facts_of;
+pub use syllables::is_syllable;
