@@ -25,6 +25,9 @@ TERTIARY = Settings()
 # What needs no table but Mini's, the small one of `icu_mini`.
 MINI_GROUPS = ("latin", "korean", "digits", "long")
 
+# What has ideographs, which the peer orders by radical and stroke, and the library by code point.
+WITH_IDEOGRAPHS = ("Han", "Japanese", "mixed scripts", "twelve scripts")
+
 # Letters as often as English has them, so that beginnings repeat as in real lists.
 LETTERS = "eeeeeeeeeeeettttttttaaaaaaaaoooooooiiiiiiinnnnnnnsssssshhhhhhrrrrrrddddllllcccuuummwwffggyyppbbvkjxqz"
 VIETNAMESE = Script("Vietnamese", "ties", 0.8, "vi", "LATIN", " ", as_they_are)
@@ -275,6 +278,10 @@ def rows(seed):
     short = lambda: [("a", "b")]
     yield Row("making", "make", "a collator of tables that were read", "6 ms", TERTIARY, short)
     yield Row("making", "make from another", "a collator of the same tables with other settings", "0.05 ms", Settings(0), short)
+
+
+def has_ideographs(row):
+    return any(name in row.name for name in WITH_IDEOGRAPHS)
 
 
 def write(folder, chosen):
