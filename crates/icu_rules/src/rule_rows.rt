@@ -24,7 +24,11 @@ const REFUSED: [Row; 53] = [
     row("&a<'b", 3, RulesErrorKind::UnclosedQuote),
     row("&a<b\\", 4, RulesErrorKind::Escape),
     row("&[before 4]a<b", 1, RulesErrorKind::BeforeLevel),
-    row("&[before 1]a<<b", 12, RulesErrorKind::OtherStrengthThanBefore),
+    row(
+        "&[before 1]a<<b",
+        12,
+        RulesErrorKind::OtherStrengthThanBefore,
+    ),
     row("&[before 2]a<<b<c", 15, RulesErrorKind::StrongerThanBefore),
     row("&[before 1 a<b", 1, RulesErrorKind::UnclosedBracket),
     row("&[middle variable]<b", 1, RulesErrorKind::UnknownPosition),
@@ -50,12 +54,24 @@ const REFUSED: [Row; 53] = [
     row("[nonsense]", 0, RulesErrorKind::UnknownSetting),
     row("[import]", 0, RulesErrorKind::UnknownValue),
     row("[optimize [a-z]", 0, RulesErrorKind::UnclosedBracket),
-    row("[suppressContractions a-z]", 0, RulesErrorKind::UnknownSetting),
-    row("[suppressContractions [z-a]]", 22, RulesErrorKind::DescendingRange),
+    row(
+        "[suppressContractions a-z]",
+        0,
+        RulesErrorKind::UnknownSetting,
+    ),
+    row(
+        "[suppressContractions [z-a]]",
+        22,
+        RulesErrorKind::DescendingRange,
+    ),
     row("&a<b [strength 2", 5, RulesErrorKind::UnclosedBracket),
     row("&a<\\u0301|b", 2, RulesErrorKind::MarkInContext),
     row("&a<b|\\u0301", 2, RulesErrorKind::MarkInContext),
-    row("&[before 1]a=b", 12, RulesErrorKind::OtherStrengthThanBefore),
+    row(
+        "&[before 1]a=b",
+        12,
+        RulesErrorKind::OtherStrengthThanBefore,
+    ),
     row("&a@", 0, RulesErrorKind::ResetWithoutRelation),
     row("&a<b>c", 4, RulesErrorKind::Statement),
     row("&a<*a-c-e", 7, RulesErrorKind::RangeWithoutStart),
@@ -66,7 +82,11 @@ const REFUSED: [Row; 53] = [
     row("[optimize [a-]]", 10, RulesErrorKind::RangeWithoutEnd),
     row("[optimize [&]]", 10, RulesErrorKind::CharacterSet),
     row("&[first]<b", 1, RulesErrorKind::UnknownPosition),
-    row("&[before 1][before 2]a<b", 11, RulesErrorKind::UnknownPosition),
+    row(
+        "&[before 1][before 2]a<b",
+        11,
+        RulesErrorKind::UnknownPosition,
+    ),
 ];
 
 /// Rules, and how many statements they are.
@@ -79,10 +99,19 @@ const READ: [(&str, usize); 12] = [
     ("&[before 3]B<<<x&[before 1][first variable]<y", 4),
     ("&[last tertiary ignorable]=a&[top]<b&[variable top]<c", 6),
     ("&a<p|s/e&'&'<''&\\&<\\x{1F600}\\u0301\\U0001F600\\x41", 6),
-    ("[alternate shifted][maxVariable punct][caseFirst upper][strength I]", 4),
-    ("[caseLevel on][numericOrdering on][backwards 2]@![normalization off][hiraganaQ off]", 7),
+    (
+        "[alternate shifted][maxVariable punct][caseFirst upper][strength I]",
+        4,
+    ),
+    (
+        "[caseLevel on][numericOrdering on][backwards 2]@![normalization off][hiraganaQ off]",
+        7,
+    ),
     ("[reorder Grek Cyrl others][import de-u-co-phonebk]", 2),
-    ("[suppressContractions [a-z\\u0301 - \\u0303]][optimize [\\-]]", 2),
+    (
+        "[suppressContractions [a-z\\u0301 - \\u0303]][optimize [\\-]]",
+        2,
+    ),
 ];
 
 #[test]
