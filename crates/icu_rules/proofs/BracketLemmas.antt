@@ -8,7 +8,7 @@ use Rattle.std.proofs.Math.Seq.{take-append_seam, drop-append_seam}
 use Rattle.icu_rules.specs.declared.statement.CharacterRange.{CharacterRange}
 use Rattle.icu_rules.specs.RuleCharacters.{is_plain, is_word_character, is_white, IsWhite, is_blank, IsBlank}
 use Rattle.icu_rules.specs.RuleStrings.{SpellsEscape, SpellsCharacter}
-use Rattle.icu_rules.specs.Tokens.{Token, bracket, set_bracket, SpellsTokens, SpellsToken, SpellsWords, SpellsSet, SpellsRange, IsWord, IsNoWord}
+use Rattle.icu_rules.specs.Tokens.{Token, bracket, set_bracket, SpellsTokens, SpellsToken, SpellsWords, SpellsSet, SpellsRange, IsBracketWord, IsNoWord}
 use Rattle.icu_rules.specs.TakenText.{SkipsWhite, SkipsWord, TakesWords, TakesRanges, TakesMember, TakesRange, TakesSet, TakesEscape, Takes}
 
 pub word_more : {c : ℕ} {after r whole : List ℕ} → whole ≡ c ∷ after → is_word_character c ≡ true → SkipsWord after r → SkipsWord whole r
@@ -57,7 +57,7 @@ no_word_front : (tail after : List ℕ) {rest : List ℕ} → rest ≡ tail ++ a
 no_word_front [] after e n = tt
 no_word_front (x ∷ tail) after e n = subst (λ t. IsNoWord t) e n
 
-pub words_word : {text rest : List ℕ} (word : List ℕ) → text ≡ word ++ rest → IsWord word → IsNoWord rest → TakesWords text (word ∷ []) rest
+pub words_word : {text rest : List ℕ} (word : List ℕ) → text ≡ word ++ rest → IsBracketWord word → IsNoWord rest → TakesWords text (word ∷ []) rest
 words_word word e w n more inside after same s = (
   word ++ inside,
   ([], inside, refl, w, no_word_front inside after same n, s, refl),

@@ -56,13 +56,13 @@ IsNoWord [] = Unit {0}
 IsNoWord (c ∷ text) = is_word_character c ≡ false
 
 -- the characters of a word in brackets
-abbrev pub IsWord : List ℕ → Type 0
-IsWord word = (word ≢ []) × IsTrue (list_all is_word_character word)
+abbrev pub IsBracketWord : List ℕ → Type 0
+IsBracketWord word = (word ≢ []) × IsTrue (list_all is_word_character word)
 
 -- words with white space round them
 abbrev pub SpellsWords : List (List ℕ) → List ℕ → Type 0
 SpellsWords [] text = IsWhite text
-SpellsWords (word ∷ words) text = (white rest : List ℕ) × IsWhite white × IsWord word × IsNoWord rest
+SpellsWords (word ∷ words) text = (white rest : List ℕ) × IsWhite white × IsBracketWord word × IsNoWord rest
     × SpellsWords words rest × (text ≡ white ++ word ++ rest)
 
 -- a range of a set: two characters with a dash between, or one
