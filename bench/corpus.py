@@ -1,105 +1,147 @@
-"""The rows that the bench measures, and their texts: the same on every machine.
+"""The rows that the bench measures, by groups, and their texts: the same for a seed on every machine that has the same words.
 
-usage: corpus.py FOLDER    writes the texts of each row to the folder, and its file `plan`, which names them
-
-The texts have only characters to which Mini, the small table of `icu_mini`, gives weights of its own: ASCII letters and digits,
-the space, the hyphen and the full stop, Latin letters with marks of U+0300 to U+034E, and Hangul syllables. So the same texts
-serve over Mini and over the root of CLDR.
+`rows(seed)` gives all rows, in order. A row makes its texts only where it is asked for its pairs.
 """
+import functools
 import os
-import random
-import sys
-import unicodedata
 from collections import namedtuple
+
+from scripts import SCRIPTS, TWELVE, Script, Texts, as_they_are, base, composed, decomposed, emoji, names_of, words_of
 
 PAIRS = 5_000
 NAMES = 20_000
+SORTED = 100_000
 LONG = 10_000
 
-# What is measured, the texts, the greatest ratio to the peer's time that is wanted (None: none is set), whether digits are read as
-# numbers, and the pairs of texts. Keys and elements are those of both texts of each pair.
-Row = namedtuple("Row", "operation name limit numeric pairs")
+# A row of the bench: what is measured, the texts, the greatest ratio to the peer's time that is wanted, or the greatest time, such as
+# "6 ms", the settings, and what makes the pairs of texts. Keys, elements and sorts are of all texts of the pairs.
+Row = namedtuple("Row", "group operation name limit settings pairs")
+
+# The number of the strength as ICU has it, and what is on: digits as numbers, variable elements shifted, the case level, and for the
+# peer alone that it normalizes texts, which it leaves to its caller else.
+Settings = namedtuple("Settings", "strength numeric shifted case_level normalized", defaults=(2, 0, 0, 0, 0))
+TERTIARY = Settings()
+
+# What needs no table but Mini's, the small one of `icu_mini`.
+MINI_GROUPS = ("latin", "korean", "digits", "long")
+
+# What has ideographs, which the peer orders by radical and stroke, and the library by code point.
+WITH_IDEOGRAPHS = ("Han", "Japanese", "mixed scripts", "twelve scripts")
 
 # Letters as often as English has them, so that beginnings repeat as in real lists.
 LETTERS = "eeeeeeeeeeeettttttttaaaaaaaaoooooooiiiiiiinnnnnnnsssssshhhhhhrrrrrrddddllllcccuuummwwffggyyppbbvkjxqz"
-
-
-def decomposed(text):
-    return unicodedata.normalize("NFD", text)
-
-
-def composed(text):
-    return unicodedata.normalize("NFC", text)
+VIETNAMESE = Script("Vietnamese", "ties", 0.8, "vi", "LATIN", " ", as_they_are)
+MARKS = [chr(code) for code in range(0x300, 0x34F) if code not in (0x340, 0x341, 0x343, 0x344)]
 
 
 def is_accented(letter):
     """Whether the letter is an ASCII letter with marks that Mini knows."""
-    base, *marks = decomposed(letter)
-    return base.isascii() and base.isalpha() and marks != [] and all("\u0300" <= mark <= "\u034e" for mark in marks)
+    first, *marks = decomposed(letter)
+    return first.isascii() and first.isalpha() and marks != [] and all("\u0300" <= mark <= "\u034e" for mark in marks)
 
 
 ACCENTED = [letter for letter in map(chr, range(0xC0, 0x250)) if is_accented(letter)]
 
 
-class Texts:
-    """Random texts. Only `random()` of Python's generator is called: it is the same in every version."""
+def word(texts, shortest, longest):
+    return texts.picked(LETTERS, shortest, longest).capitalize()
+
+
+def ascii_name(texts):
+    """10 to 20 characters: two names, and what parts them."""
+    return word(texts, 3, 8) + texts.pick("       -.") + word(texts, 6, 11)
+
+
+def with_accents(texts, text):
+    """The text with one letter in four replaced by one with accents, composed."""
+    return "".join(texts.pick(ACCENTED) if it.isalpha() and texts.below(4) == 0 else it for it in text)
+
+
+SYLLABLES = [chr(code) for code in range(0xAC00, 0xD7A4)]
+
+
+def hangul_name(texts):
+    return texts.picked(SYLLABLES, 2, 4) + " " + texts.picked(SYLLABLES, 3, 7)
+
+
+def item(texts):
+    """A number of 8 to 127 digits between letters."""
+    return "item " + texts.pick("123456789") + texts.picked("0123456789", 7, 126) + texts.pick("abcdefghijklmnopqrstuvwxyz")
+
+
+def file_name(texts):
+    kind = texts.pick(("IMG_", "scan ", "Chapter ", "report-", "track"))
+    return f"{kind}{texts.below(10 ** (1 + texts.below(5)))}{texts.pick(('', ' (1)', '-2', 'b'))}.{texts.pick(('jpg', 'txt', 'pdf'))}"
+
+
+def phrase(texts):
+    """Three to five short words, parted by hyphens and spaces."""
+    return "".join(word(texts, 2, 5) + texts.pick(" -") for _ in range(2 + texts.below(3))) + word(texts, 3, 6)
+
+
+def other_case(texts, name):
+    """The name with one of its letters in the other case."""
+    places = [place for place, letter in enumerate(name) if letter.isalpha()]
+    place = texts.pick(places)
+    return name[:place] + name[place].swapcase() + name[place + 1 :]
+
+
+def marked(texts, name):
+    """The name with a run of 20 to 60 marks behind one of its letters."""
+    place = 1 + texts.below(len(name) - 1)
+    return name[:place] + texts.picked(MARKS, 20, 60) + name[place:]
+
+
+class Lists:
+    """The lists of names, each made once, where it is asked for."""
 
     def __init__(self, seed):
-        self.random = random.Random(seed).random
+        self.seed = seed
+        self.scripts = {script.name: script for script in (*SCRIPTS, VIETNAMESE)}
+        self.of = functools.cache(self.made)
 
-    def below(self, count):
-        return int(self.random() * count)
+    def texts(self, name):
+        return Texts(self.seed, name)
 
-    def pick(self, items):
-        return items[self.below(len(items))]
+    def made(self, name):
+        """The list of a script's names, or of another kind."""
+        if name in self.scripts:
+            return names_of(self.scripts[name], self.seed, NAMES)
+        texts = self.texts(name)
+        if name == "composed names":
+            return [with_accents(texts, ascii_name(texts)) for _ in range(NAMES)]
+        if name == "decomposed names":
+            return [decomposed(it) for it in self.of("composed names")]
+        if name == "mixed scripts":
+            return [" ".join(texts.pick(self.words(texts.pick(TWELVE))) for _ in range(2)) for _ in range(NAMES)]
+        if name == "emoji":
+            return [texts.picked(self.emoji(), 2, 5) for _ in range(NAMES)]
+        kinds = {"ASCII names": ascii_name, "Hangul": hangul_name, "digits": item, "file names": file_name, "phrases": phrase}
+        return [kinds[name](texts) for _ in range(NAMES)]
 
-    def word(self, shortest, longest):
-        length = shortest + self.below(longest - shortest + 1)
-        return "".join(self.pick(LETTERS) for _ in range(length)).capitalize()
+    @functools.cache
+    def words(self, script):
+        return words_of(self.scripts[script], self.texts(script))
 
-    def name(self):
-        """10 to 20 characters: two names, and what parts them."""
-        return self.word(3, 8) + self.pick("       -.") + self.word(6, 11)
+    @functools.cache
+    def emoji(self):
+        return emoji()
 
-    def with_accents(self, text):
-        """The text with one letter in four replaced by one with accents, composed."""
-        letters = (self.pick(ACCENTED) if it.isalpha() and self.below(4) == 0 else it for it in text)
-        return composed("".join(letters))
+    def many(self, name, count):
+        """So many names, of ASCII or of one to three words of twelve scripts."""
+        texts = self.texts(f"many {name}")
+        if name == "ASCII names":
+            return [ascii_name(texts) for _ in range(count)]
+        scripts = [texts.pick(TWELVE) for _ in range(count)]
+        return [" ".join(texts.pick(self.words(script)) for _ in range(1 + texts.below(3))) for script in scripts]
 
-    def hangul(self, count):
-        return "".join(chr(0xAC00 + self.below(11_172)) for _ in range(count))
-
-    def hangul_name(self):
-        return self.hangul(2 + self.below(3)) + " " + self.hangul(3 + self.below(5))
-
-    def item(self):
-        """A number of 8 to 127 digits between letters."""
-        digits = "".join(self.pick("0123456789") for _ in range(7 + self.below(120)))
-        return "item " + self.pick("123456789") + digits + self.pick("abcdefghijklmnopqrstuvwxyz")
-
-
-def name_lists():
-    """The lists of short texts, by name."""
-    ascii_names, accents, hangul, items = Texts(1), Texts(2), Texts(3), Texts(4)
-    names = [accents.with_accents(accents.name()) for _ in range(NAMES)]
-    return {
-        "ASCII names": [ascii_names.name() for _ in range(NAMES)],
-        "composed names": names,
-        "decomposed names": [decomposed(it) for it in names],
-        "Hangul": [hangul.hangul_name() for _ in range(NAMES)],
-        "digits": [items.item() for _ in range(NAMES)],
-    }
-
-
-def long_texts():
-    """Texts of 10,000 characters, by name."""
-    texts = Texts(5)
-    names = "".join(texts.name() + " " for _ in range(LONG))[: LONG - 1]
-    return {
-        "ASCII": names + "a",
-        "accents": Texts(6).with_accents(names) + "a",
-        "Hangul": Texts(7).hangul(LONG - 1) + "a",
-    }
+    def long(self, name):
+        """A text of 10,000 characters."""
+        texts = self.texts(f"long {name}")
+        if name == "Hangul":
+            return texts.picked(SYLLABLES, LONG - 1, LONG - 1) + "a"
+        names = "".join(ascii_name(texts) + " " for _ in range(LONG))[: LONG - 1]
+        return (with_accents(texts, names) if name == "accents" else names) + "a"
 
 
 def as_they_come(names):
@@ -107,65 +149,149 @@ def as_they_come(names):
 
 
 def neighbours(names):
-    """Neighbours of the sorted list: they begin alike."""
-    return as_they_come(sorted(names))
+    """Neighbours of the sorted list, from all of it: they begin alike, and differ."""
+    ordered = sorted(set(names))
+    return list(zip(ordered[::4], ordered[1::4]))[:PAIRS]
 
 
-def compare_rows(lists):
-    ways = (("random", as_they_come), ("sorted", neighbours))
-    limits = {"ASCII names": 0.6, "composed names": 0.7, "decomposed names": 0.7, "Hangul": 0.7, "digits": 0.7}
-    for name, limit in limits.items():
-        for way, pairs in ways:
-            yield Row("compare", f"{name}, {way}", limit, False, pairs(lists[name]))
-    for way, pairs in ways:
-        yield Row("compare", f"digits as numbers, {way}", 1.0, True, pairs(lists["digits"]))
+def in_pairs(names):
+    return list(zip(names[::2], names[1::2]))
 
 
-def long_rows(texts):
-    for name, text in texts.items():
-        yield Row("compare", f"10,000 {name}, the first character differs", 1.1, False, [(text, "z" + text[1:])])
-    for name, text in texts.items():
-        yield Row("compare", f"10,000 {name}, the last character differs", 0.15, False, [(text, text[:-1] + "b")])
-    for name, text in texts.items():
-        yield Row("compare", f"10,000 {name}, identical", 0.15, False, [(text, text)])
+WAYS = (("random", as_they_come), ("sorted", neighbours))
 
 
-def equivalent_rows(lists, texts):
-    names = list(zip(lists["composed names"], lists["decomposed names"]))
-    yield Row("compare", "names, composed and decomposed", 0.9, False, names[:PAIRS])
-    for name in ("accents", "Hangul"):
-        pair = (texts[name], decomposed(texts[name]))
-        yield Row("compare", f"10,000 {name}, composed and decomposed", 0.9, False, [pair])
+def compare_rows(lists, group, name, limit, operation="compare", settings=TERTIARY, source=None):
+    """Two rows: the names as they come, and neighbours."""
+    for way, pairs in WAYS:
+        yield Row(group, operation, f"{name}, {way}", limit, settings, lambda pairs=pairs: pairs(lists.of(source or name)))
 
 
-def list_rows(operation, lists, limits):
-    for name, names in lists.items():
-        yield Row(operation, name, limits.get(name), False, as_they_come(names))
+def list_row(lists, group, operation, name, limit, settings=TERTIARY, source=None):
+    return Row(group, operation, name, limit, settings, lambda: as_they_come(lists.of(source or name)))
 
 
-def rows():
-    lists, texts = name_lists(), long_texts()
-    limits = {"ASCII names": 0.55, "composed names": 0.65, "decomposed names": 0.65, "Hangul": 0.55, "digits": 0.55}
-    yield from compare_rows(lists)
-    yield from long_rows(texts)
-    yield from equivalent_rows(lists, texts)
-    yield from list_rows("keys", lists, limits)
-    yield from list_rows("elements", lists, {})
+def name_rows(lists, group, name, limit, key_limit):
+    """The rows of a list of names."""
+    yield from compare_rows(lists, group, name, limit)
+    yield list_row(lists, group, "keys", name, key_limit)
+    yield list_row(lists, group, "elements", name, 0.8)
 
 
-def write(folder):
+def long_rows(lists):
+    all_kinds = ("ASCII", "accents", "Hangul")
+    changes = (
+        ("the first character differs", 1.1, all_kinds, lambda it: (it, "z" + it[1:])),
+        ("the last character differs", 0.15, all_kinds, lambda it: (it, it[:-1] + "b")),
+        ("identical", 0.15, all_kinds, lambda it: (it, it)),
+        ("composed and decomposed", 0.9, ("accents", "Hangul"), lambda it: (it, decomposed(it))),
+    )
+    for what, limit, kinds, change in changes:
+        for kind in kinds:
+            pairs = lambda kind=kind, change=change: [change(lists.long(kind))]
+            yield Row("long", "compare", f"10,000 {kind}, {what}", limit, TERTIARY, pairs)
+
+
+def tie_rows(lists):
+    """Texts that differ at no level, or at a later one than the first."""
+    texts = lists.texts("ties")
+    plain = lambda name: "".join(map(base, name))
+    katakana = lambda name: "".join(chr(ord(it) + 0x60) if "\u3041" <= it <= "\u3096" else it for it in name)
+    ties = (
+        ("Cyrillic, but for case", "Cyrillic", lambda it: (it.lower(), it.title())),
+        ("Hiragana beside Katakana", "Hiragana", lambda it: (it, katakana(it))),
+        ("Hebrew with points beside without", "Hebrew with points", lambda it: (it, plain_hebrew(it))),
+        ("accented names beside plain ones", "composed names", lambda it: (it, plain(it))),
+        ("ASCII, but for case of one letter", "ASCII names", lambda it: (it, other_case(texts, it))),
+        ("Latin, one of two decomposed", "composed names", lambda it: (it, decomposed(it))),
+        ("Vietnamese, one of two decomposed", "Vietnamese", lambda it: (composed(it), decomposed(it))),
+        ("Korean, one of two decomposed", "Hangul", lambda it: (it, decomposed(it))),
+    )
+    for name, source, change in ties:
+        pairs = lambda source=source, change=change: [change(it) for it in lists.of(source)[:PAIRS]]
+        yield Row("ties", "compare", name, 0.8, TERTIARY, pairs)
+    short = lambda: [(it[:6], it[:6]) for it in lists.of("ASCII names")[:PAIRS]]
+    yield Row("ties", "compare", "the same short text twice", 1.0, TERTIARY, short)
+
+
+def plain_hebrew(name):
+    return "".join(it for it in name if not "\u0591" <= it <= "\u05c7")
+
+
+def settings_rows(lists):
+    """Rows at other settings than strength tertiary."""
+    numeric, shifted = Settings(numeric=1), Settings(shifted=1)
+    yield from compare_rows(lists, "settings", "file names, digits as numbers", 0.8, settings=numeric, source="file names")
+    yield from compare_rows(lists, "settings", "hyphens and spaces shifted", 0.8, settings=shifted, source="phrases")
+    choices = (
+        ("at Primary", 0.6, Settings(0)),
+        ("at Secondary", 0.6, Settings(1)),
+        ("at Quaternary, shifted", 0.8, Settings(3, shifted=1)),
+        ("at Identical", 0.8, Settings(15)),
+        ("with the case level", 0.7, Settings(case_level=1)),
+    )
+    for what, limit, settings in choices:
+        for source in ("ASCII names", "composed names", "Cyrillic"):
+            yield list_row(lists, "settings", "keys", f"{source} {what}", limit, settings, source)
+
+
+def mark_rows(lists):
+    """Long runs of marks, which the peer is asked to put in order."""
+    settings = Settings(normalized=1)
+    texts = lists.texts("marks")
+    names = functools.cache(lambda: [marked(texts, it) for it in lists.of("ASCII names")[: PAIRS + 1]])
+    yield Row("marks", "compare", "names with 20 to 60 marks, random", 1.0, settings, lambda: as_they_come(names()))
+    yield Row("marks", "compare", "names with 20 to 60 marks, put in order", 1.0, settings, lambda: [(it, decomposed(it)) for it in names()])
+    yield Row("marks", "keys", "names with 20 to 60 marks", 1.0, settings, lambda: as_they_come(names()))
+    run = lambda: "a" + texts.picked(MARKS, 1_000, 1_000)
+    yield Row("marks", "compare", "1,000 marks, put in order", 1.0, settings, lambda: [(it := run(), decomposed(it))])
+    yield Row("marks", "keys", "1,000 marks", 1.0, settings, lambda: [(run(), run())])
+
+
+def sort_rows(lists):
+    for name in ("ASCII names", "twelve scripts"):
+        for operation, limit in (("sort by keys", 0.6), ("sort by comparisons", 0.7), ("index", 0.8)):
+            pairs = lambda name=name: in_pairs(lists.many(name, SORTED))
+            yield Row("sorting", operation, f"100,000 {name}", limit, TERTIARY, pairs)
+
+
+def rows(seed):
+    """All rows, with texts of a seed."""
+    lists = Lists(seed)
+    yield from name_rows(lists, "latin", "ASCII names", 0.6, 0.5)
+    yield from name_rows(lists, "latin", "composed names", 0.7, 0.55)
+    yield from name_rows(lists, "latin", "decomposed names", 0.7, 0.55)
+    yield from name_rows(lists, "korean", "Hangul", 0.7, 0.5)
+    yield from name_rows(lists, "digits", "digits", 0.7, 0.4)
+    yield from compare_rows(lists, "digits", "digits as numbers", 1.0, settings=Settings(numeric=1), source="digits")
+    yield from long_rows(lists)
+    for script in SCRIPTS:
+        yield from name_rows(lists, script.group, script.name, script.limit, 0.7)
+    yield from name_rows(lists, "mixed", "mixed scripts", 0.7, 0.7)
+    yield from name_rows(lists, "mixed", "emoji", 0.9, 1.0)
+    yield from tie_rows(lists)
+    yield from settings_rows(lists)
+    for name, limit in (("Thai", 0.9), ("Arabic", 0.7), ("Cyrillic", 0.7), ("ASCII names", 0.6)):
+        yield from compare_rows(lists, "utf16", name, limit, operation="compare UTF-16")
+    yield from mark_rows(lists)
+    yield from sort_rows(lists)
+    short = lambda: [("a", "b")]
+    yield Row("making", "make", "a collator of tables that were read", "6 ms", TERTIARY, short)
+    yield Row("making", "make from another", "a collator of the same tables with other settings", "0.05 ms", Settings(0), short)
+
+
+def has_ideographs(row):
+    return any(name in row.name for name in WITH_IDEOGRAPHS)
+
+
+def write(folder, chosen):
     """Writes a file of texts for each row, one text a line and so two lines a pair, and the plan: a line a row."""
     os.makedirs(folder, exist_ok=True)
     plan = []
-    for number, row in enumerate(rows()):
+    for number, row in enumerate(chosen):
         file = os.path.join(folder, f"{number}.txt")
         with open(file, "wb") as it:
-            it.write("".join(f"{text}\n" for pair in row.pairs for text in pair).encode("utf-8"))
-        limit = "-" if row.limit is None else str(row.limit)
-        plan.append("\t".join((row.operation, row.name, limit, str(int(row.numeric)), file)))
+            it.write("".join(f"{text}\n" for pair in row.pairs() for text in pair).encode("utf-8"))
+        plan.append("\t".join((row.operation, " ".join(map(str, row.settings)), file)))
     with open(os.path.join(folder, "plan"), "w", encoding="utf-8") as it:
         it.write("".join(f"{line}\n" for line in plan))
-
-
-if __name__ == "__main__":
-    write(sys.argv[1])

@@ -1,6 +1,7 @@
-// ICU4C: its collator of the root, at strength tertiary.
+// ICU4C: its collator of the root.
 #pragma once
 
+#include <algorithm>
 #include <cstdint>
 #include <cstdlib>
 #include <iostream>
@@ -12,6 +13,16 @@
 #include <unicode/ucol.h>
 #include <unicode/ucoleitr.h>
 #include <unicode/ustring.h>
+
+// The settings of a row. The library takes the first four, and normalizes texts always.
+struct Settings {
+    // By ICU's number, UCOL_TERTIARY and the like.
+    uint32_t strength = 2;
+    // What is on where it isn't 0.
+    uint32_t numeric = 0, shifted = 0, case_level = 0, normalized = 0;
+
+    bool operator==(const Settings &) const = default;
+};
 
 inline void must(UErrorCode error, const char *call) {
     if (U_FAILURE(error)) {
@@ -31,17 +42,25 @@ inline std::u16string in_utf16(std::string_view text) {
     return units;
 }
 
+struct Close {
+    void operator()(UCollator *it) const { ucol_close(it); }
+    void operator()(UCollationElements *it) const { ucol_closeElements(it); }
+};
+using Collator = std::unique_ptr<UCollator, Close>;
+
 class Peer {
   public:
-    explicit Peer(bool numeric) : key_(1 << 20) {
+    explicit Peer(const Settings &settings) : settings_(settings), key_(1 << 20) {
         UErrorCode error = U_ZERO_ERROR;
         collator_.reset(ucol_open("root", &error));
         must(error, "ucol_open");
-        ucol_setStrength(collator_.get(), UCOL_TERTIARY);
-        ucol_setAttribute(collator_.get(), UCOL_NUMERIC_COLLATION, numeric ? UCOL_ON : UCOL_OFF, &error);
-        must(error, "ucol_setAttribute");
+        set(collator_.get());
         elements_.reset(ucol_openElements(collator_.get(), u"", 0, &error));
         must(error, "ucol_openElements");
+        root_.reset(ucol_open("root", &error));
+        tables_.resize(1 << 20);
+        tables_.resize(ucol_cloneBinary(root_.get(), tables_.data(), static_cast<int32_t>(tables_.size()), &error));
+        must(error, "ucol_cloneBinary");
     }
 
     // -1, 0 or 1: the order of two texts in UTF-8.
@@ -51,10 +70,24 @@ class Peer {
                                 static_cast<int32_t>(right.size()), &error);
     }
 
+    // The same of two texts in UTF-16.
+    int compare(std::u16string_view left, std::u16string_view right) const {
+        return ucol_strcoll(collator_.get(), left.data(), static_cast<int32_t>(left.size()), right.data(),
+                            static_cast<int32_t>(right.size()));
+    }
+
     // Writes the sort key of a text into room that is there, and returns its length.
-    uint64_t key(std::u16string_view text) {
-        return ucol_getSortKey(collator_.get(), text.data(), static_cast<int32_t>(text.size()), key_.data(),
-                               static_cast<int32_t>(key_.size()));
+    uint64_t key(std::u16string_view text) { return key_into(text, key_.data(), key_.size()); }
+
+    // Writes the sort key of a text behind those in `keys`.
+    void add_key(std::u16string_view text, std::vector<uint8_t> &keys) const {
+        const size_t start = keys.size();
+        keys.resize(start + 8 * text.size() + 64);
+        const size_t length = key_into(text, keys.data() + start, keys.size() - start);
+        keys.resize(start + length);
+        if (length > 8 * text.size() + 64) {
+            key_into(text, keys.data() + start, length);
+        }
     }
 
     // Goes through the elements of a text, and returns their sum.
@@ -68,14 +101,41 @@ class Peer {
         return sum;
     }
 
+    // Makes a collator of tables in memory, and gives it the settings.
+    uint64_t make() const {
+        UErrorCode error = U_ZERO_ERROR;
+        const Collator made(ucol_openBinary(tables_.data(), static_cast<int32_t>(tables_.size()), root_.get(), &error));
+        must(error, "ucol_openBinary");
+        set(made.get());
+        return 1;
+    }
+
+    // Makes a collator from another one, and gives it the settings.
+    uint64_t make_from_another() const {
+        UErrorCode error = U_ZERO_ERROR;
+        const Collator made(ucol_clone(root_.get(), &error));
+        must(error, "ucol_clone");
+        set(made.get());
+        return 1;
+    }
+
   private:
-    struct CloseCollator {
-        void operator()(UCollator *it) const { ucol_close(it); }
-    };
-    struct CloseElements {
-        void operator()(UCollationElements *it) const { ucol_closeElements(it); }
-    };
-    std::unique_ptr<UCollator, CloseCollator> collator_;
-    std::unique_ptr<UCollationElements, CloseElements> elements_;
-    std::vector<uint8_t> key_;
+    Settings settings_;
+    Collator collator_, root_;
+    std::unique_ptr<UCollationElements, Close> elements_;
+    std::vector<uint8_t> key_, tables_;
+
+    size_t key_into(std::u16string_view text, uint8_t *room, size_t size) const {
+        return ucol_getSortKey(collator_.get(), text.data(), static_cast<int32_t>(text.size()), room, static_cast<int32_t>(size));
+    }
+
+    void set(UCollator *collator) const {
+        UErrorCode error = U_ZERO_ERROR;
+        ucol_setStrength(collator, static_cast<UCollationStrength>(settings_.strength));
+        ucol_setAttribute(collator, UCOL_NUMERIC_COLLATION, settings_.numeric ? UCOL_ON : UCOL_OFF, &error);
+        ucol_setAttribute(collator, UCOL_ALTERNATE_HANDLING, settings_.shifted ? UCOL_SHIFTED : UCOL_NON_IGNORABLE, &error);
+        ucol_setAttribute(collator, UCOL_CASE_LEVEL, settings_.case_level ? UCOL_ON : UCOL_OFF, &error);
+        ucol_setAttribute(collator, UCOL_NORMALIZATION_MODE, settings_.normalized ? UCOL_ON : UCOL_OFF, &error);
+        must(error, "ucol_setAttribute");
+    }
 };

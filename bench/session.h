@@ -1,10 +1,9 @@
 // What one collator of the library serves: the looks at what it returns, and the rounds.
 #pragma once
 
-#include <algorithm>
 #include <ctime>
 
-#include "texts.h"
+#include "sorts.h"
 
 // What the library is to do next: an operation over the pairs from `first` to before `end`.
 struct Request {
@@ -29,12 +28,13 @@ class Session {
     std::vector<uint8_t> signs;
 
     // With `same_order` the library's tables are to order texts as the peer does.
-    Session(const Texts &texts, std::vector<Row *> rows, bool numeric, uint64_t rounds, bool same_order)
-        : signs(texts.pairs.size()), texts_(texts), rows_(std::move(rows)), peer_(numeric), rounds_(rounds),
+    Session(const Texts &texts, std::vector<Row *> rows, uint64_t rounds, bool same_order)
+        : signs(texts.pairs.size()), texts_(texts), rows_(std::move(rows)), peer_(rows_.front()->settings), rounds_(rounds),
           same_order_(same_order), orders_(signs.size()) {}
 
     Request next(uint64_t answer) {
         sum_ = sum_ + answer;
+        answer_ = answer;
         if (left_ > 0) {
             --left_;
             return request_;
@@ -46,9 +46,6 @@ class Session {
         start_ = now();
         return request_;
     }
-
-    // How many pairs were not ordered as they should be.
-    uint64_t wrong() const { return wrong_; }
 
   private:
     // Each turn goes through all rows: two look at what the library returns, one sees how long a pass is, the others are rounds.
@@ -65,7 +62,8 @@ class Session {
     Request request_{Operation::End, 0, 0};
     uint64_t left_ = 0;
     double start_ = 0;
-    uint64_t wrong_ = 0;
+    // What the last pass returned, of the library and of the peer.
+    uint64_t answer_ = 0, peer_answer_ = 0;
     // Takes in each result, so that no call can be left out.
     volatile uint64_t sum_ = 0;
 
@@ -88,7 +86,10 @@ class Session {
     }
 
     Operation operation() {
-        return turn_ == SIGNS ? Operation::Signs : turn_ == KEY_SIGNS ? Operation::KeySigns : row().measured;
+        const bool utf16 = row().measured == Operation::CompareUtf16;
+        return turn_ == SIGNS       ? (utf16 ? Operation::SignsUtf16 : Operation::Signs)
+               : turn_ == KEY_SIGNS ? Operation::KeySigns
+                                    : row().measured;
     }
 
     void end_passes(double time) {
@@ -97,6 +98,7 @@ class Session {
         } else if (turn_ == KEY_SIGNS) {
             look_at_keys();
         } else {
+            look_at_list();
             note(time, row().library_passes, row().library);
         }
         ++at_;
@@ -105,7 +107,8 @@ class Session {
     void time_peer() {
         const double start = now();
         for (uint64_t pass = 0; pass < row().peer_passes; ++pass) {
-            sum_ = sum_ + peer_pass();
+            peer_answer_ = peer_pass();
+            sum_ = sum_ + peer_answer_;
         }
         note(now() - start, row().peer_passes, row().peer);
     }
@@ -120,27 +123,45 @@ class Session {
     }
 
     uint64_t peer_pass() {
+        switch (row().measured) {
+        case Operation::SortByComparisons:
+            return sorted_by_comparisons(peer_, texts_, row());
+        case Operation::SortByKeys:
+        case Operation::Index:
+            return sorted_by_keys(peer_, texts_, row());
+        case Operation::Make:
+            return peer_.make();
+        case Operation::MakeFromAnother:
+            return peer_.make_from_another();
+        default:
+            return pass_over_pairs();
+        }
+    }
+
+    uint64_t pass_over_pairs() {
         uint64_t sum = 0;
         for (uint32_t at = row().first; at < row().end; ++at) {
             const auto [left, right] = texts_.pairs[at];
             switch (row().measured) {
-            case Operation::Compare:
-                sum += peer_order(at);
-                break;
             case Operation::Keys:
-                sum += peer_.key(texts_.units[left]) + peer_.key(texts_.units[right]);
+                sum += peer_.key(texts_.utf16(left)) + peer_.key(texts_.utf16(right));
+                break;
+            case Operation::Elements:
+                sum += peer_.elements(texts_.utf16(left)) + peer_.elements(texts_.utf16(right));
                 break;
             default:
-                sum += peer_.elements(texts_.units[left]) + peer_.elements(texts_.units[right]);
+                sum += peer_order(at);
             }
         }
         return sum;
     }
 
     // The order of a pair by the peer: 0, 1, 2 for less, equal, greater.
-    uint8_t peer_order(uint32_t at) const {
+    uint8_t peer_order(uint32_t at) {
         const auto [left, right] = texts_.pairs[at];
-        return static_cast<uint8_t>(peer_.compare(texts_.text(left), texts_.text(right)) + 1);
+        const int order = row().measured == Operation::CompareUtf16 ? peer_.compare(texts_.utf16(left), texts_.utf16(right))
+                                                                    : peer_.compare(texts_.utf8(left), texts_.utf8(right));
+        return static_cast<uint8_t>(order + 1);
     }
 
     // By the same tables texts are ordered as the peer orders them.
@@ -148,7 +169,7 @@ class Session {
         for (uint32_t at = row().first; at < row().end; ++at) {
             orders_[at] = signs[at];
             if (signs[at] > 2 || (same_order_ && signs[at] != peer_order(at))) {
-                complain(at, "not ordered as by ICU4C");
+                complain(at, row().unlike_peer, "not ordered as by ICU4C");
             }
         }
     }
@@ -157,15 +178,23 @@ class Session {
     void look_at_keys() {
         for (uint32_t at = row().first; at < row().end; ++at) {
             if (signs[at] != orders_[at]) {
-                complain(at, "not ordered as their keys");
+                complain(at, row().unlike_keys, "not ordered as their keys");
             }
         }
     }
 
-    void complain(uint32_t at, const char *what) {
-        if (++wrong_ <= 5) {
+    // Lists are sorted as the peer sorts them.
+    void look_at_list() {
+        if (turn_ == FIRST && row().sorts() && same_order_ && answer_ != peer_answer_) {
+            ++row().unlike_peer;
+        }
+    }
+
+    // Counts a pair, and prints the row's first.
+    void complain(uint32_t at, uint64_t &count, const char *what) {
+        if (count++ == 0) {
             const auto [left, right] = texts_.pairs[at];
-            std::cerr << texts_.text(left).substr(0, 200) << " and " << texts_.text(right).substr(0, 200) << ": " << what << '\n';
+            std::cerr << texts_.utf8(left).substr(0, 200) << " and " << texts_.utf8(right).substr(0, 200) << ": " << what << '\n';
         }
     }
 };

@@ -2,34 +2,50 @@
 #pragma once
 
 #include <array>
-#include <cstdint>
-#include <cstdlib>
 #include <fstream>
-#include <iostream>
 #include <limits>
 #include <sstream>
-#include <string>
-#include <string_view>
-#include <vector>
 
 #include "peer.h"
 
 // What the library is asked for, by the numbers that `passes.rt.txt` has for it.
-enum class Operation : uint32_t { End = 0, Compare = 1, Keys = 2, Elements = 3, Signs = 4, KeySigns = 5 };
+enum class Operation : uint32_t {
+    End = 0,
+    Compare = 1,
+    CompareUtf16 = 2,
+    Keys = 3,
+    Elements = 4,
+    SortByComparisons = 5,
+    SortByKeys = 6,
+    Index = 7,
+    Make = 8,
+    MakeFromAnother = 9,
+    Signs = 10,
+    SignsUtf16 = 11,
+    KeySigns = 12,
+};
 
 // A row of the plan, and the least time of a call so far, in nanoseconds, of the peer and of the library.
 struct Row {
-    std::string operation, name, limit, file;
-    bool numeric = false;
-    Operation measured = Operation::Elements;
+    Operation measured = Operation::End;
+    Settings settings;
+    std::string file;
     // Its pairs of texts.
     uint32_t first = 0, end = 0;
     // How many passes are timed together.
     uint64_t peer_passes = 1, library_passes = 1;
     double peer = std::numeric_limits<double>::infinity(), library = peer;
+    // How many pairs or lists were not in the peer's order, and how many keys not in that of their texts.
+    uint64_t unlike_peer = 0, unlike_keys = 0;
 
-    // The calls of a pass: one for each pair, or one for each text.
-    double calls() const { return (measured == Operation::Compare ? 1.0 : 2.0) * (end - first); }
+    bool compares() const { return measured == Operation::Compare || measured == Operation::CompareUtf16; }
+    bool makes() const { return measured == Operation::Make || measured == Operation::MakeFromAnother; }
+    bool sorts() const {
+        return measured == Operation::SortByComparisons || measured == Operation::SortByKeys || measured == Operation::Index;
+    }
+
+    // The calls of a pass: a collator, or one for each pair, or one for each text.
+    double calls() const { return makes() ? 1.0 : (compares() ? 1.0 : 2.0) * (end - first); }
 };
 
 inline std::ifstream opened(const std::string &file) {
@@ -48,34 +64,39 @@ inline std::string contents(const std::string &file) {
 }
 
 inline Operation operation_named(std::string_view name) {
-    return name == "compare" ? Operation::Compare : name == "keys" ? Operation::Keys : Operation::Elements;
+    constexpr std::string_view names[] = {"compare", "compare UTF-16", "keys", "elements", "sort by comparisons", "sort by keys",
+                                          "index",   "make",           "make from another"};
+    const auto found = std::find(std::begin(names), std::end(names), name);
+    return static_cast<Operation>(1 + (found - std::begin(names)));
 }
 
-// The rows of a plan, one a line: what is measured, the name, the limit, whether digits are numbers, the file of the texts.
+// The rows of a plan, one a line: what is measured, the settings, the file of the texts.
 inline std::vector<Row> rows_of(const std::string &plan) {
     std::vector<Row> rows;
     auto lines = opened(plan);
     for (std::string line; std::getline(lines, line);) {
         std::istringstream words(line);
+        std::string operation, settings;
         Row row;
-        std::string numeric;
-        for (std::string *word : {&row.operation, &row.name, &row.limit, &numeric, &row.file}) {
+        for (std::string *word : {&operation, &settings, &row.file}) {
             std::getline(words, *word, '\t');
         }
-        row.numeric = numeric == "1";
-        row.measured = operation_named(row.operation);
+        row.measured = operation_named(operation);
+        std::istringstream numbers(settings);
+        Settings &it = row.settings;
+        numbers >> it.strength >> it.numeric >> it.shifted >> it.case_level >> it.normalized;
         rows.push_back(row);
     }
     return rows;
 }
 
-// The texts of several rows, as the library takes them: all bytes, where each text ends, and which texts are a pair.
+// The texts of several rows, as the library takes them: in UTF-8 and in UTF-16, where each text ends, and which texts are a pair.
 class Texts {
   public:
     std::string bytes;
-    std::vector<uint32_t> ends;
+    std::u16string units;
+    std::vector<uint32_t> ends, unit_ends;
     std::vector<std::array<uint32_t, 2>> pairs;
-    std::vector<std::u16string> units;
 
     // Adds the texts of the row's file, and notes which pairs are its own. A pair that stands alone is gone through twenty
     // times in a pass, so that the clock counts little.
@@ -93,16 +114,20 @@ class Texts {
         row.end = static_cast<uint32_t>(pairs.size());
     }
 
-    std::string_view text(uint32_t at) const {
-        const uint32_t start = at == 0 ? 0 : ends[at - 1];
-        return std::string_view(bytes).substr(start, ends[at] - start);
-    }
+    std::string_view utf8(uint32_t at) const { return piece<std::string_view>(bytes, ends, at); }
+    std::u16string_view utf16(uint32_t at) const { return piece<std::u16string_view>(units, unit_ends, at); }
 
   private:
+    template <typename View> static View piece(View all, const std::vector<uint32_t> &ends, uint32_t at) {
+        const uint32_t start = at == 0 ? 0 : ends[at - 1];
+        return all.substr(start, ends[at] - start);
+    }
+
     uint32_t added(const std::string &text) {
         bytes += text;
+        units += in_utf16(text);
         ends.push_back(static_cast<uint32_t>(bytes.size()));
-        units.push_back(in_utf16(text));
+        unit_ends.push_back(static_cast<uint32_t>(units.size()));
         return static_cast<uint32_t>(ends.size() - 1);
     }
 };

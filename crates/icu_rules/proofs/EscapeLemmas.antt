@@ -14,9 +14,11 @@ escape_eight {k} {d} {text} {after} e n (digits, len, writes, same) =
 pub escape_short : {k d : ℕ} {text after rest : List ℕ} → text ≡ k ∷ after → k ≡ 120 → TakesShort after d rest → TakesEscape text d rest
 escape_short {k} {d} {text} {after} e n (inl (digits, len, writes, same)) =
     (120 ∷ digits, two len writes, e ∙ ap (λ i. i ∷ after) n ∙ ap (λ t. 120 ∷ t) same)
-escape_short {k} {d} {text} {after} {rest} e n (inr (inside, opened, (digits, some, few, writes, same))) =
-    (120 ∷ 123 ∷ digits ++ 125 ∷ [], braced digits some few writes refl,
-      e ∙ ap (λ i. i ∷ after) n ∙ ap (λ t. 120 ∷ t) (opened ∙ ap (λ t. 123 ∷ t) (same ∙ sym (append_assoc digits (125 ∷ []) rest))))
+escape_short {k} {d} {text} {after} {rest} e n (inr (inside, opened, (digits, some, few, writes, same))) = (
+  120 ∷ 123 ∷ digits ++ 125 ∷ [],
+  braced digits some few writes refl,
+  e ∙ ap (λ i. i ∷ after) n ∙ ap (λ t. 120 ∷ t) (opened ∙ ap (λ t. 123 ∷ t) (same ∙ sym (append_assoc digits (125 ∷ []) rest))),
+)
 
 pub escape_itself : {k : ℕ} {text after : List ℕ} → text ≡ k ∷ after → k ≢ 117 → k ≢ 85 → k ≢ 120 → TakesEscape text k after
 escape_itself {k} e u v x = (k ∷ [], itself u v x, e)

@@ -14,28 +14,32 @@ use Rattle.icu_rules.specs.declared.statement.Statement.{Statement}
 use Rattle.icu_rules.specs.declared.statement.Statement.TheVariants as statements
 use Rattle.icu_rules.specs.RuleCharacters.{is_blank, IsBlank, IsTrail}
 use Rattle.icu_rules.specs.Tokens.{Token, reset_sign, relation_sign, vowel_sign, string, bracket, IsRelationSign, SpellsTokens}
-use Rattle.icu_rules.specs.Statements.{HasContext, relation_parts, dashed_tokens, AreStatement, AreStatements, MayRelate, MayStand, IsComplete, AreInOrder, chain_after, SpellStatements}
+use Rattle.icu_rules.specs.Statements.{HasFindableContext, relation_parts, dashed_tokens, AreStatement, AreStatements, MayRelate, MayFollow, IsComplete, AreInOrder, chain_after, SpellStatements}
 use Rattle.icu_rules.specs.TakenText.{Takes}
 use Rattle.icu_rules.specs.TakenStatements.{TakesSign, TakesReset, TakesStarred, TakesStatement, IsUnrelated, Relates}
 use Rattle.icu_rules.proofs.BracketLemmas.{take_token}
 
 -- a relation, by its sign and what stands behind that
-pub take_relation : {text after rest : List ℕ} (sign : Sign) (r : Relation) → TakesSign text sign after → sign.is_starred ≡ false → r.strength ≡ sign.strength → HasContext r.prefix.items r.string.items → Takes after (relation_parts r) rest → TakesStatement text (statements.Relation r) rest
+pub take_relation : {text after rest : List ℕ} (sign : Sign) (r : Relation) → TakesSign text sign after → sign.is_starred ≡ false → r.strength ≡ sign.strength → HasFindableContext r.prefix.items r.string.items → Takes after (relation_parts r) rest → TakesStatement text (statements.Relation r) rest
 take_relation {text} {after} {rest} sign r (mine, spelled, e) starred strength context takes =
     let spelled' : IsRelationSign r.strength false mine =
-        subst (λ k. IsRelationSign k false mine) (sym strength)
-          (subst (λ b. IsRelationSign sign.strength b mine) starred spelled) in
-    (relation_sign r.strength false ∷ relation_parts r, (context, refl),
-      λ more s. take_token after (relation_sign r.strength false) mine spelled' e (relation_parts r ++ more) (takes more s))
+    subst (λ k. IsRelationSign k false mine) (sym strength)
+    (subst (λ b. IsRelationSign sign.strength b mine) starred spelled) in (
+      relation_sign r.strength false ∷ relation_parts r,
+      (context, refl),
+      λ more s. take_token after (relation_sign r.strength false) mine spelled' e (relation_parts r ++ more) (takes more s),
+    )
 
 pub take_starred : {text after rest : List ℕ} (sign : Sign) (r : StarredRelation) → TakesSign text sign after → sign.is_starred ≡ true → r.strength ≡ sign.strength → TakesStarred after r.ranges.items rest → TakesStatement text (statements.Starred r) rest
 take_starred {text} {after} {rest} sign r (mine, spelled, e) starred strength (first, others, named, inert, takes) =
     let spelled' : IsRelationSign r.strength true mine =
-        subst (λ k. IsRelationSign k true mine) (sym strength)
-          (subst (λ b. IsRelationSign sign.strength b mine) starred spelled) in
-    (relation_sign r.strength true ∷ string first ∷ dashed_tokens others, (first, others, named, inert, refl),
+    subst (λ k. IsRelationSign k true mine) (sym strength)
+    (subst (λ b. IsRelationSign sign.strength b mine) starred spelled) in (
+      relation_sign r.strength true ∷ string first ∷ dashed_tokens others,
+      (first, others, named, inert, refl),
       λ more s. take_token after (relation_sign r.strength true) mine spelled' e
-        (string first ∷ dashed_tokens others ++ more) (takes more s))
+          (string first ∷ dashed_tokens others ++ more) (takes more s),
+    )
 
 pub take_reset : {text after rest : List ℕ} (reset : Reset) → text ≡ 38 ∷ after → TakesReset after reset rest → TakesStatement text (statements.Reset reset) rest
 take_reset {text} {after} {rest} reset e (tokens, are, takes) =
@@ -53,14 +57,14 @@ take_vowels {text} {after} e = (vowel_sign ∷ [], refl, take_token after vowel_
 pub begins : {k : ℕ} (c : ℕ) {text after : List ℕ} → text ≡ k ∷ after → k ≡ c → text ≡ c ∷ after
 begins c {text} {after} e n = e ∙ ap (λ i. i ∷ after) n
 
-pub unrelated_stands : (chain : Chain) (s : Statement) → IsUnrelated s → IsComplete chain → MayStand chain s
+pub unrelated_stands : (chain : Chain) (s : Statement) → IsUnrelated s → IsComplete chain → MayFollow chain s
 unrelated_stands chain (statements.Reset reset) u h = h
 unrelated_stands chain (statements.Relation r) u h = absurd u
 unrelated_stands chain (statements.Starred r) u h = absurd u
 unrelated_stands chain (statements.Setting s) u h = h
 unrelated_stands chain (statements.Import tag) u h = h
 
-pub related_stands : (chain : Chain) (strength : Strength) (s : Statement) → Relates strength s → MayRelate chain strength → MayStand chain s
+pub related_stands : (chain : Chain) (strength : Strength) (s : Statement) → Relates strength s → MayRelate chain strength → MayFollow chain s
 related_stands chain strength (statements.Reset reset) u h = absurd u
 related_stands chain strength (statements.Relation r) u h = subst (λ k. MayRelate chain k) (sym u) h
 related_stands chain strength (statements.Starred r) u h = subst (λ k. MayRelate chain k) (sym u) h
@@ -82,16 +86,16 @@ told_first blanks more tokens are s = (tokens, are, blanks tokens s)
 pub told_step : {text rest after next : List ℕ} (items new : List Statement) (s : Statement) → new ≡ items ++ s ∷ [] → Told items text rest → TakesStatement rest s after → Takes after [] next → Told new text next
 told_step {text} {rest} {after} {next} items new s e told (ts, are, takes) blanks more tokens m k =
     subst (λ ss. (all : List Token) × AreStatements ss all × SpellsTokens all text)
-      (sym (ap (λ i. i ++ more) e ∙ append_assoc items (s ∷ []) more))
-      (told (s ∷ more) (ts ++ tokens) (ts, tokens, are, m, refl) (takes tokens (blanks tokens k)))
+    (sym (ap (λ i. i ++ more) e ∙ append_assoc items (s ∷ []) more))
+    (told (s ∷ more) (ts ++ tokens) (ts, tokens, are, m, refl) (takes tokens (blanks tokens k)))
 
 pub ordered_first : Ordered [] chains.Outside
 ordered_first more o = o
 
-pub ordered_step : {chain next : Chain} (items new : List Statement) (s : Statement) → new ≡ items ++ s ∷ [] → Ordered items chain → MayStand chain s → next ≡ chain_after chain s → Ordered new next
+pub ordered_step : {chain next : Chain} (items new : List Statement) (s : Statement) → new ≡ items ++ s ∷ [] → Ordered items chain → MayFollow chain s → next ≡ chain_after chain s → Ordered new next
 ordered_step {chain} {next} items new s e ordered may h more o =
     subst (λ ss. AreInOrder chains.Outside ss) (sym (ap (λ i. i ++ more) e ∙ append_assoc items (s ∷ []) more))
-      (ordered (s ∷ more) (may, subst (λ k. AreInOrder k more) h o))
+    (ordered (s ∷ more) (may, subst (λ k. AreInOrder k more) h o))
 
 nothing_left : IsTrail []
 unfolding is_blank

@@ -12,20 +12,20 @@ use Rattle.icu_rules.specs.declared.relations.Sign.{Sign}
 use Rattle.icu_rules.specs.declared.statement.LogicalPosition.{LogicalPosition}
 use Rattle.icu_rules.specs.declared.statement.Anchor.{Anchor}
 use Rattle.icu_rules.specs.declared.statement.Anchor.TheVariants as anchors
-use Rattle.icu_rules.specs.Tokens.{Token, reset_sign, relation_sign, prefix_sign, extension_sign, range_sign, string, bracket, sign_of, IsRelationSign, SpellsTokens}
+use Rattle.icu_rules.specs.Tokens.{Token, reset_sign, relation_sign, prefix_sign, extension_sign, range_sign, string, bracket, relation_sign_text, IsRelationSign, SpellsTokens}
 use Rattle.icu_rules.specs.Statements.{prefix_tokens, extension_tokens, WritesWord, WriteWords, AreAnchor}
 use Rattle.icu_rules.specs.TakenText.{Takes}
-use Rattle.icu_rules.specs.TakenStatements.{StarBehind, TakesSign, Says, TakesSaid, TakesAnchor, TakesReset}
+use Rattle.icu_rules.specs.TakenStatements.{StarBehind, TakesSign, SaysBehindReset, TakesSaid, TakesAnchor, TakesReset}
 use Rattle.icu_rules.proofs.BracketLemmas.{take_token}
 
-signed : (s : Strength) (b : Bool) (text rest : List ℕ) {whole : List ℕ} → StarBehind b text rest → whole ≡ sign_of s ++ text → (mine : List ℕ) × IsRelationSign s b mine × (whole ≡ mine ++ rest)
-signed s false text rest star e = (sign_of s, inl refl, e ∙ ap (λ t. sign_of s ++ t) star)
+signed : (s : Strength) (b : Bool) (text rest : List ℕ) {whole : List ℕ} → StarBehind b text rest → whole ≡ relation_sign_text s ++ text → (mine : List ℕ) × IsRelationSign s b mine × (whole ≡ mine ++ rest)
+signed s false text rest star e = (relation_sign_text s, inl refl, e ∙ ap (λ t. relation_sign_text s ++ t) star)
 signed s true text rest star e =
-    (sign_of s ++ 42 ∷ [], refl, e ∙ ap (λ t. sign_of s ++ t) star ∙ sym (append_assoc (sign_of s) (42 ∷ []) rest))
+    (relation_sign_text s ++ 42 ∷ [], refl, e ∙ ap (λ t. relation_sign_text s ++ t) star ∙ sym (append_assoc (relation_sign_text s) (42 ∷ []) rest))
 
 -- a sign of this strength, and the star behind it
-pub signed_at : (s k : Strength) (b : Bool) (text rest : List ℕ) {whole : List ℕ} → s ≡ k → StarBehind b text rest → whole ≡ sign_of k ++ text → (mine : List ℕ) × IsRelationSign s b mine × (whole ≡ mine ++ rest)
-signed_at s k b text rest h star e = signed s b text rest star (e ∙ ap (λ i. sign_of i ++ text) (sym h))
+pub signed_at : (s k : Strength) (b : Bool) (text rest : List ℕ) {whole : List ℕ} → s ≡ k → StarBehind b text rest → whole ≡ relation_sign_text k ++ text → (mine : List ℕ) × IsRelationSign s b mine × (whole ≡ mine ++ rest)
+signed_at s k b text rest h star e = signed s b text rest star (e ∙ ap (λ i. relation_sign_text i ++ text) (sym h))
 
 pub old_secondary : (s : Strength) (b : Bool) → s ≡ Secondary → b ≡ false → IsRelationSign s b (59 ∷ [])
 old_secondary s b h k =
@@ -46,14 +46,14 @@ extension_of (c ∷ cs) some = refl
 pub take_context : {text r1 r2 rest : List ℕ} (after first second : List ℕ) → 0 < length first → Takes text (string first ∷ []) r1 → Takes r1 [] r2 → r2 ≡ 124 ∷ after → Takes after (string second ∷ []) rest → Takes text (prefix_tokens first ++ string second ∷ []) rest
 take_context {text} {r1} {r2} {rest} after first second some a b e d =
     subst (λ ts. Takes text (ts ++ string second ∷ []) rest) (sym (prefix_of first some))
-      (λ more s. a (prefix_sign ∷ string second ∷ more) (b (prefix_sign ∷ string second ∷ more)
-        (take_token after prefix_sign (124 ∷ []) refl e (string second ∷ more) (d more s))))
+    (λ more s. a (prefix_sign ∷ string second ∷ more) (b (prefix_sign ∷ string second ∷ more)
+    (take_token after prefix_sign (124 ∷ []) refl e (string second ∷ more) (d more s))))
 
 pub take_extension : {text mid rest : List ℕ} (after cs : List ℕ) → 0 < length cs → Takes text [] mid → mid ≡ 47 ∷ after → Takes after (string cs ∷ []) rest → Takes text (extension_tokens cs) rest
 take_extension {text} {mid} {rest} after cs some a e d =
     subst (λ ts. Takes text ts rest) (sym (extension_of cs some))
-      (λ more s. a (extension_sign ∷ string cs ∷ more)
-        (take_token after extension_sign (47 ∷ []) refl e (string cs ∷ more) (d more s)))
+    (λ more s. a (extension_sign ∷ string cs ∷ more)
+    (take_token after extension_sign (47 ∷ []) refl e (string cs ∷ more) (d more s)))
 
 pub takes_then : (a b c : List ℕ) (ts us : List Token) → Takes a ts b → Takes b us c → Takes a (ts ++ us) c
 takes_then a b c ts us first second more s =
@@ -66,27 +66,30 @@ take_parts a b c ts us cs first second =
 
 pub take_position : {text mid rest : List ℕ} {said : Said} (p : LogicalPosition) → Takes text [] mid → said ≡ said_by.Position p → TakesSaid mid said rest → TakesAnchor text (anchors.Position p) rest
 take_position {text} {mid} {rest} p blanks e (words, says, takes) =
-    let named : Says (said_by.Position p) words = subst (λ s. Says s words) e says in
+    let named : SaysBehindReset (said_by.Position p) words = subst (λ s. SaysBehindReset s words) e says in
     (bracket words ∷ [], (words, named, refl), λ more s. blanks (bracket words ∷ more) (takes more s))
 
 pub reset_position : {text mid rest : List ℕ} {said : Said} (p : LogicalPosition) → Takes text [] mid → said ≡ said_by.Position p → TakesSaid mid said rest → TakesReset text (record { before = None; anchor = anchors.Position p }) rest
 reset_position {text} {mid} {rest} p blanks e (words, says, takes) =
-    let named : Says (said_by.Position p) words = subst (λ s. Says s words) e says in
-    (bracket words ∷ [], ([], bracket words ∷ [], refl, (words, named, refl), refl),
-      λ more s. blanks (bracket words ∷ more) (takes more s))
+    let named : SaysBehindReset (said_by.Position p) words = subst (λ s. SaysBehindReset s words) e says in (
+      bracket words ∷ [],
+      ([], bracket words ∷ [], refl, (words, named, refl), refl),
+      λ more s. blanks (bracket words ∷ more) (takes more s),
+    )
 
 pub reset_before : {text mid after rest : List ℕ} {said : Said} (level : Strength) (anchor : Anchor) → Takes text [] mid → said ≡ said_by.Before level → TakesSaid mid said after → TakesAnchor after anchor rest → TakesReset text (record { before = Some level; anchor = anchor }) rest
 reset_before {text} {mid} {after} {rest} level anchor blanks e (words, says, takes) (tokens, are, more_takes) =
-    let named : Says (said_by.Before level) words = subst (λ s. Says s words) e says in
-    (bracket words ∷ tokens,
+    let named : SaysBehindReset (said_by.Before level) words = subst (λ s. SaysBehindReset s words) e says in (
+      bracket words ∷ tokens,
       (bracket words ∷ [], tokens, (named.0, named.1, ap (λ ws. bracket ws ∷ []) named.2), are, refl),
-      λ more s. blanks (bracket words ∷ tokens ++ more) (takes (tokens ++ more) (more_takes more s)))
+      λ more s. blanks (bracket words ∷ tokens ++ more) (takes (tokens ++ more) (more_takes more s)),
+    )
 
 -- one text more
 pub texts_step : (items new more : List (String Global)) (s : String Global) (texts others all : List (List ℕ)) (text : List ℕ) → texts ≡ text ∷ others → WritesWord s text → new ≡ items ++ s ∷ [] → ((more : List (String Global)) → WriteWords more texts → WriteWords (items ++ more) all) → WriteWords more others → WriteWords (new ++ more) all
 texts_step items new more s texts others all text split writes e before rest =
     subst (λ k. WriteWords k all) (sym (ap (λ k. k ++ more) e ∙ append_assoc items (s ∷ []) more))
-      (before (s ∷ more) (text, others, writes, rest, split))
+    (before (s ∷ more) (text, others, writes, rest, split))
 
 pub texts_done : (items : List (String Global)) (texts all : List (List ℕ)) → texts ≡ [] → ((more : List (String Global)) → WriteWords more texts → WriteWords (items ++ more) all) → WriteWords items all
 texts_done items texts all none before = subst (λ k. WriteWords k all) (append-nil items) (before [] none)

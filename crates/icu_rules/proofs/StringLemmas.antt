@@ -25,15 +25,19 @@ characters_quote true e n more tail after same s =
     (39 ∷ tail, closes (no_quote_front tail after same n) s, e ∙ ap (λ t. 39 ∷ t) same)
 
 pub characters_apostrophe : {k : ℕ} {text after rest : List ℕ} (within : Bool) → text ≡ k ∷ after → k ≡ 39 → after ≡ 39 ∷ rest → TakesCharacters within text (39 ∷ []) within rest
-characters_apostrophe {k} {text} {after} within e n f more tail rest same s =
-    (39 ∷ 39 ∷ tail, apostrophe s,
-      e ∙ ap (λ i. i ∷ after) n ∙ ap (λ t. 39 ∷ t) (f ∙ ap (λ t. 39 ∷ t) same))
+characters_apostrophe {k} {text} {after} within e n f more tail rest same s = (
+  39 ∷ 39 ∷ tail,
+  apostrophe s,
+  e ∙ ap (λ i. i ∷ after) n ∙ ap (λ t. 39 ∷ t) (f ∙ ap (λ t. 39 ∷ t) same),
+)
 
 pub characters_escape : {k d : ℕ} {text after rest : List ℕ} (within : Bool) → text ≡ k ∷ after → k ≡ 92 → TakesEscape after d rest → TakesCharacters within text (d ∷ []) within rest
-characters_escape {k} {d} {text} {after} within e n (escape, spelled, f) more tail behind same s =
-    (92 ∷ escape ++ tail, escaped escape spelled s refl,
-      e ∙ ap (λ i. i ∷ after) n
-      ∙ ap (λ t. 92 ∷ t) (f ∙ ap (λ t. escape ++ t) same ∙ sym (append_assoc escape tail behind)))
+characters_escape {k} {d} {text} {after} within e n (escape, spelled, f) more tail behind same s = (
+  92 ∷ escape ++ tail,
+  escaped escape spelled s refl,
+  e ∙ ap (λ i. i ∷ after) n
+      ∙ ap (λ t. 92 ∷ t) (f ∙ ap (λ t. escape ++ t) same ∙ sym (append_assoc escape tail behind)),
+)
 
 pub characters_one : {k : ℕ} {text after : List ℕ} (within : Bool) → text ≡ k ∷ after → k ≢ 39 → k ≢ 92 → (within || is_plain k) ≡ true → TakesCharacters within text (k ∷ []) within after
 characters_one {k} false e q b h more tail behind same s = (k ∷ tail, plain h s, e ∙ ap (λ t. k ∷ t) same)

@@ -6,4 +6,4 @@ pub mod Statements
 pub mod TakenText
 pub mod TakenStatements
 pub mod Imports
-pub mod Places
+pub mod RulePlaces

@@ -46,19 +46,23 @@ level_word strengths.Tertiary = codes "3"
 level_word strengths.Quaternary = codes "4"
 level_word strengths.Identical = codes "I"
 
+-- the word of a case level
 abbrev pub case_level_word : CaseLevel → List ℕ
 case_level_word case_levels.Off = codes "off"
 case_level_word case_levels.On = codes "on"
 
+-- the word that says which case is first
 abbrev pub case_first_word : CollationCaseFirst → List ℕ
 case_first_word case_firsts.False = codes "off"
 case_first_word case_firsts.Lower = codes "lower"
 case_first_word case_firsts.Upper = codes "upper"
 
+-- the word that says how numbers are ordered
 abbrev pub numeric_word : CollationNumericOrdering → List ℕ
 numeric_word numeric.False = codes "off"
 numeric_word numeric.True = codes "on"
 
+-- the word of the last variable group
 abbrev pub max_variable_word : MaxVariable → List ℕ
 max_variable_word Space = codes "space"
 max_variable_word Punctuation = codes "punct"
@@ -71,6 +75,7 @@ IsAlternateWord NonIgnorable word = word ≡ codes "non-ignorable"
 IsAlternateWord Shifted word = word ≡ codes "shifted"
 IsAlternateWord Blanked word = ⊥
 
+-- the word of a switch
 abbrev pub switch_word : Bool → List ℕ
 switch_word true = codes "on"
 switch_word false = codes "off"

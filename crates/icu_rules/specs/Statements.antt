@@ -9,7 +9,7 @@ use Rattle.icu_options.specs.declared.settings.Strength.{Strength}
 use Rattle.icu_options.specs.declared.settings.Strength.TheVariants as strengths
 use Rattle.icu_rules.specs.declared.chain.Chain.{Chain}
 use Rattle.icu_rules.specs.declared.chain.Chain.TheVariants as chains
-use Rattle.icu_rules.specs.declared.statement.CharRange.{CharRange}
+use Rattle.icu_rules.specs.declared.statement.CharacterRange.{CharacterRange}
 use Rattle.icu_rules.specs.declared.statement.Anchor.{Anchor}
 use Rattle.icu_rules.specs.declared.statement.Anchor.TheVariants as anchors
 use Rattle.icu_rules.specs.declared.statement.Reset.{Reset}
@@ -34,6 +34,7 @@ AreAnchor (anchors.String s) tokens = tokens ≡ string s.items ∷ []
 AreAnchor (anchors.Position position) tokens = (words : List (List ℕ)) × NamesPosition position words
     × (tokens ≡ bracket words ∷ [])
 
+-- the tokens of a reset
 abbrev pub AreReset : Reset → List Token → Type 0
 AreReset reset tokens = (before anchor : List Token) × AreBefore reset.before before × AreAnchor reset.anchor anchor
     × (tokens ≡ reset_sign ∷ before ++ anchor)
@@ -49,25 +50,26 @@ extension_tokens [] = []
 extension_tokens (c ∷ cs) = extension_sign ∷ string (c ∷ cs) ∷ []
 
 -- begins with a character that isn't reordered behind another one (UAX #15): its combining class is 0
-abbrev pub BeginsWithStarter : List ℕ → Type 0
-BeginsWithStarter [] = Unit {0}
-BeginsWithStarter (c ∷ cs) = canonical_combining_class c ≡ 0
+abbrev pub BeginsWithClassZero : List ℕ → Type 0
+BeginsWithClassZero [] = Unit {0}
+BeginsWithClassZero (c ∷ cs) = canonical_combining_class c ≡ 0
 
 -- a prefix and the string behind it can be found in a text that is decomposed
-abbrev pub HasContext : List ℕ → List ℕ → Type 0
-HasContext [] s = Unit {0}
-HasContext (c ∷ prefix) s = BeginsWithStarter (c ∷ prefix) × BeginsWithStarter s
+abbrev pub HasFindableContext : List ℕ → List ℕ → Type 0
+HasFindableContext [] s = Unit {0}
+HasFindableContext (c ∷ prefix) s = BeginsWithClassZero (c ∷ prefix) × BeginsWithClassZero s
 
 -- what stands behind the sign of a relation
 abbrev pub relation_parts : Relation → List Token
 relation_parts r = prefix_tokens r.prefix.items ++ string r.string.items ∷ extension_tokens r.extension.items
 
+-- the tokens of a relation
 abbrev pub AreRelation : Relation → List Token → Type 0
-AreRelation r tokens = HasContext r.prefix.items r.string.items
+AreRelation r tokens = HasFindableContext r.prefix.items r.string.items
     × (tokens ≡ relation_sign r.strength false ∷ relation_parts r)
 
 -- the range of one character
-abbrev pub single : ℕ → CharRange
+abbrev pub single : ℕ → CharacterRange
 single c = record { first = c; last = c }
 
 -- the tokens of strings with a dash before each
@@ -77,10 +79,10 @@ dashed_tokens (next ∷ more) = range_sign ∷ string next ∷ dashed_tokens mor
 
 -- The ranges that a string, and strings behind it with a dash before each, name. A range goes from the last character
 -- before a dash to the first one behind it, which begins no other range.
-abbrev pub NameRanges : List ℕ → List (List ℕ) → List CharRange → Type 0
+abbrev pub NameRanges : List ℕ → List (List ℕ) → List CharacterRange → Type 0
 NameRanges s [] ranges = ranges ≡ map single s
 NameRanges s ([] ∷ more) ranges = ⊥
-NameRanges s ((c ∷ next) ∷ more) ranges = (front : List ℕ) × (last : ℕ) × (rest : List CharRange) × (last ≤ c)
+NameRanges s ((c ∷ next) ∷ more) ranges = (front : List ℕ) × (last : ℕ) × (rest : List CharacterRange) × (last ≤ c)
     × (s ≡ front ++ last ∷ []) × NameRanges next more rest
     × (ranges ≡ map single front ++ record { first = last; last = c } ∷ rest)
 
@@ -89,9 +91,10 @@ abbrev pub IsInert : ℕ → Type 0
 IsInert c = (decompose_canonical c ≡ c ∷ []) × (canonical_combining_class c ≡ 0)
 
 -- each character of the range is inert
-abbrev pub IsInertRange : CharRange → Type 0
+abbrev pub IsInertRange : CharacterRange → Type 0
 IsInertRange range = (c : ℕ) → range.first ≤ c → c ≤ range.last → IsScalar c → IsInert c
 
+-- the tokens of a starred relation
 abbrev pub AreStarred : StarredRelation → List Token → Type 0
 AreStarred r tokens = (first : List ℕ) × (more : List (List ℕ)) × NameRanges first more r.ranges.items
     × AllByRecursion IsInertRange r.ranges.items
@@ -170,12 +173,12 @@ IsComplete (chains.BehindReset before) = ⊥
 IsComplete (chains.BehindRelation before) = Unit {0}
 
 -- the statement may stand here: a relation behind a reset or a relation, and others where each reset has its relation
-abbrev pub MayStand : Chain → Statement → Type 0
-MayStand chain (statements.Reset reset) = IsComplete chain
-MayStand chain (statements.Relation r) = MayRelate chain r.strength
-MayStand chain (statements.Starred r) = MayRelate chain r.strength
-MayStand chain (statements.Setting setting) = IsComplete chain
-MayStand chain (statements.Import tag) = IsComplete chain
+abbrev pub MayFollow : Chain → Statement → Type 0
+MayFollow chain (statements.Reset reset) = IsComplete chain
+MayFollow chain (statements.Relation r) = MayRelate chain r.strength
+MayFollow chain (statements.Starred r) = MayRelate chain r.strength
+MayFollow chain (statements.Setting setting) = IsComplete chain
+MayFollow chain (statements.Import tag) = IsComplete chain
 
 -- what stands behind a relation
 abbrev pub after_relation : Chain → Chain
@@ -194,7 +197,7 @@ chain_after chain (statements.Import tag) = chains.Outside
 -- the statements may stand here, in this order, and each reset has its relation
 abbrev pub AreInOrder : Chain → List Statement → Type 0
 AreInOrder chain [] = IsComplete chain
-AreInOrder chain (statement ∷ more) = MayStand chain statement × AreInOrder (chain_after chain statement) more
+AreInOrder chain (statement ∷ more) = MayFollow chain statement × AreInOrder (chain_after chain statement) more
 
 -- The statements and the text say the same: the text spells their tokens, and they may stand so.
 pub record SpellStatements (stated : List Statement) (text : List ℕ) : Type 0 where

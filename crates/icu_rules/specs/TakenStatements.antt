@@ -6,7 +6,7 @@ use Rattle.icu_options.specs.declared.settings.Strength.TheVariants as strengths
 use Rattle.icu_rules.specs.declared.relations.Sign.{Sign}
 use Rattle.icu_rules.specs.declared.resets.Said.{Said}
 use Rattle.icu_rules.specs.declared.resets.Said.TheVariants as said_by
-use Rattle.icu_rules.specs.declared.statement.CharRange.{CharRange}
+use Rattle.icu_rules.specs.declared.statement.CharacterRange.{CharacterRange}
 use Rattle.icu_rules.specs.declared.statement.Anchor.{Anchor}
 use Rattle.icu_rules.specs.declared.statement.Reset.{Reset}
 use Rattle.icu_rules.specs.declared.statement.Statement.{Statement}
@@ -26,14 +26,14 @@ abbrev pub TakesSign : List ℕ → Sign → List ℕ → Type 0
 TakesSign text sign rest = (mine : List ℕ) × IsRelationSign sign.strength sign.is_starred mine × (text ≡ mine ++ rest)
 
 -- the words behind `&` say so
-abbrev pub Says : Said → List (List ℕ) → Type 0
-Says (said_by.Before level) words = (level ≢ strengths.Quaternary) × (level ≢ strengths.Identical)
+abbrev pub SaysBehindReset : Said → List (List ℕ) → Type 0
+SaysBehindReset (said_by.Before level) words = (level ≢ strengths.Quaternary) × (level ≢ strengths.Identical)
     × (words ≡ codes "before" ∷ level_word level ∷ [])
-Says (said_by.Position position) words = NamesPosition position words
+SaysBehindReset (said_by.Position position) words = NamesPosition position words
 
 -- the text goes on with words in brackets that say so, and with the rest
 abbrev pub TakesSaid : List ℕ → Said → List ℕ → Type 0
-TakesSaid text said rest = (words : List (List ℕ)) × Says said words × Takes text (bracket words ∷ []) rest
+TakesSaid text said rest = (words : List (List ℕ)) × SaysBehindReset said words × Takes text (bracket words ∷ []) rest
 
 -- the text goes on with an anchor, and with the rest
 abbrev pub TakesAnchor : List ℕ → Anchor → List ℕ → Type 0
@@ -44,7 +44,7 @@ abbrev pub TakesReset : List ℕ → Reset → List ℕ → Type 0
 TakesReset text reset rest = (tokens : List Token) × AreReset reset (reset_sign ∷ tokens) × Takes text tokens rest
 
 -- The text goes on with strings, with dashes between, that name the ranges, each of which is inert, and with the rest.
-abbrev pub TakesStarred : List ℕ → List CharRange → List ℕ → Type 0
+abbrev pub TakesStarred : List ℕ → List CharacterRange → List ℕ → Type 0
 TakesStarred text ranges rest = (first : List ℕ) × (more : List (List ℕ)) × NameRanges first more ranges
     × AllByRecursion IsInertRange ranges × Takes text (string first ∷ dashed_tokens more) rest
 

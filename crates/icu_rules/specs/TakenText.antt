@@ -5,7 +5,7 @@ use Rattle.icu_rules.specs.RuleCharacters.{is_line_end, is_word_character, IsWhi
 use Rattle.icu_rules.specs.RuleStrings.{WritesInHex, SpellsEscape, SpellsCharacters, SpellsCharacter}
 use Rattle.icu_rules.specs.declared.brackets.Bracket.{Bracket}
 use Rattle.icu_rules.specs.declared.brackets.Bracket.TheVariants as brackets
-use Rattle.icu_rules.specs.declared.statement.CharRange.{CharRange}
+use Rattle.icu_rules.specs.declared.statement.CharacterRange.{CharacterRange}
 use Rattle.icu_rules.specs.Tokens.{Token, bracket, set_bracket, SpellsTokens, SpellsWords, SpellsSet, SpellsRange}
 
 -- the text is white space and the rest
@@ -53,14 +53,15 @@ TakesCharacters before text cs behind rest = (more tail after : List ℕ) → re
 abbrev pub SkipsWord : List ℕ → List ℕ → Type 0
 SkipsWord text rest = (word : List ℕ) × IsTrue (list_all is_word_character word) × (text ≡ word ++ rest)
 
--- the text goes on with the words of a bracket, and then with the rest: whatever words the rest goes on with follow them
+-- the text goes on with the words of a bracket, and then with the rest: whatever words the rest goes on with follow
+-- them
 abbrev pub TakesWords : List ℕ → List (List ℕ) → List ℕ → Type 0
 TakesWords text words rest = (more : List (List ℕ)) (inside after : List ℕ) → rest ≡ inside ++ after
     → SpellsWords more inside → (whole : List ℕ) × SpellsWords (words ++ more) whole × (text ≡ whole ++ after)
 
 -- the text goes on with the ranges of a set, and then with the rest
-abbrev pub TakesRanges : List ℕ → List CharRange → List ℕ → Type 0
-TakesRanges text ranges rest = (more : List CharRange) (inside after : List ℕ) → rest ≡ inside ++ after
+abbrev pub TakesRanges : List ℕ → List CharacterRange → List ℕ → Type 0
+TakesRanges text ranges rest = (more : List CharacterRange) (inside after : List ℕ) → rest ≡ inside ++ after
     → SpellsSet more inside → (whole : List ℕ) × SpellsSet (ranges ++ more) whole × (text ≡ whole ++ after)
 
 -- the text is a character of a set, and the rest
@@ -68,11 +69,11 @@ abbrev pub TakesMember : List ℕ → ℕ → List ℕ → Type 0
 TakesMember text c rest = (mine : List ℕ) × SpellsCharacter c mine × (text ≡ mine ++ rest)
 
 -- the text is a range of a set, and the rest
-abbrev pub TakesRange : List ℕ → CharRange → List ℕ → Type 0
+abbrev pub TakesRange : List ℕ → CharacterRange → List ℕ → Type 0
 TakesRange text range rest = (mine : List ℕ) × SpellsRange range mine × (text ≡ mine ++ rest)
 
 -- the text is a set, its closing bracket, and the rest
-abbrev pub TakesSet : List ℕ → List CharRange → List ℕ → Type 0
+abbrev pub TakesSet : List ℕ → List CharacterRange → List ℕ → Type 0
 TakesSet text ranges rest = (inside : List ℕ) × SpellsSet ranges inside × (text ≡ inside ++ 93 ∷ rest)
 
 -- the token of what stands in a bracket

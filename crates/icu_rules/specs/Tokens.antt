@@ -1,9 +1,10 @@
--- The signs, strings and brackets that rules are written in, and how each is spelled (UTS #35 part 5, "Collation Tailorings").
+-- The signs, strings and brackets that rules are written in, and how each is spelled (UTS #35 part 5, "Collation
+-- Tailorings").
 use Rattle.std.specs.Prelude.{ℕ, Bool, true, false, not, ◌≤◌, List, [], ◌∷◌, ◌++◌, IsTrue, ◌≡◌, ◌≢◌, ◌⊎◌, codes}
 use Rattle.std.specs.List.{list_all}
 use Rattle.icu_options.specs.declared.settings.Strength.{Strength}
 use Rattle.icu_options.specs.declared.settings.Strength.TheVariants.{Primary, Secondary, Tertiary, Quaternary, Identical}
-use Rattle.icu_rules.specs.declared.statement.CharRange.{CharRange}
+use Rattle.icu_rules.specs.declared.statement.CharacterRange.{CharacterRange}
 use Rattle.icu_rules.specs.RuleCharacters.{is_word_character, is_reserved, IsWhite, IsBlank, IsTrail}
 use Rattle.icu_rules.specs.RuleStrings.{SpellsCharacters, SpellsCharacter}
 
@@ -26,15 +27,15 @@ pub data Token : Type 0 where
   -- words in brackets
   bracket : List (List ℕ) → Token
   -- a word and a set in brackets
-  set_bracket : List ℕ → List CharRange → Token
+  set_bracket : List ℕ → List CharacterRange → Token
 
 -- the sign of a strength (UTS #35 part 5, "Collation Tailorings")
-abbrev pub sign_of : Strength → List ℕ
-sign_of Primary = codes "<"
-sign_of Secondary = codes "<<"
-sign_of Tertiary = codes "<<<"
-sign_of Quaternary = codes "<<<<"
-sign_of Identical = codes "="
+abbrev pub relation_sign_text : Strength → List ℕ
+relation_sign_text Primary = codes "<"
+relation_sign_text Secondary = codes "<<"
+relation_sign_text Tertiary = codes "<<<"
+relation_sign_text Quaternary = codes "<<<<"
+relation_sign_text Identical = codes "="
 
 -- the sign that older rules have for a strength
 abbrev pub IsOldSign : Strength → List ℕ → Type 0
@@ -46,8 +47,8 @@ IsOldSign Identical text = ⊥
 
 -- the sign of a relation
 abbrev pub IsRelationSign : Strength → Bool → List ℕ → Type 0
-IsRelationSign strength false text = (text ≡ sign_of strength) ⊎ IsOldSign strength text
-IsRelationSign strength true text = text ≡ sign_of strength ++ codes "*"
+IsRelationSign strength false text = (text ≡ relation_sign_text strength) ⊎ IsOldSign strength text
+IsRelationSign strength true text = text ≡ relation_sign_text strength ++ codes "*"
 
 -- text that doesn't go on with the word before it
 abbrev pub IsNoWord : List ℕ → Type 0
@@ -55,24 +56,24 @@ IsNoWord [] = Unit {0}
 IsNoWord (c ∷ text) = is_word_character c ≡ false
 
 -- the characters of a word in brackets
-abbrev pub IsWord : List ℕ → Type 0
-IsWord word = (word ≢ []) × IsTrue (list_all is_word_character word)
+abbrev pub IsBracketWord : List ℕ → Type 0
+IsBracketWord word = (word ≢ []) × IsTrue (list_all is_word_character word)
 
 -- words with white space round them
 abbrev pub SpellsWords : List (List ℕ) → List ℕ → Type 0
 SpellsWords [] text = IsWhite text
-SpellsWords (word ∷ words) text = (white rest : List ℕ) × IsWhite white × IsWord word × IsNoWord rest
+SpellsWords (word ∷ words) text = (white rest : List ℕ) × IsWhite white × IsBracketWord word × IsNoWord rest
     × SpellsWords words rest × (text ≡ white ++ word ++ rest)
 
 -- a range of a set: two characters with a dash between, or one
-abbrev pub SpellsRange : CharRange → List ℕ → Type 0
+abbrev pub SpellsRange : CharacterRange → List ℕ → Type 0
 SpellsRange range text = ((range.first ≡ range.last) × SpellsCharacter range.first text)
     ⊎ ((first before after last : List ℕ) × SpellsCharacter range.first first × IsWhite before × IsWhite after
     × SpellsCharacter range.last last × (range.first ≤ range.last)
     × (text ≡ first ++ before ++ 45 ∷ after ++ last))
 
 -- the ranges of a set, with white space round them
-abbrev pub SpellsSet : List CharRange → List ℕ → Type 0
+abbrev pub SpellsSet : List CharacterRange → List ℕ → Type 0
 SpellsSet [] text = IsWhite text
 SpellsSet (range ∷ ranges) text = (white mine rest : List ℕ) × IsWhite white × SpellsRange range mine
     × SpellsSet ranges rest × (text ≡ white ++ mine ++ rest)

@@ -6,7 +6,7 @@ ghost use Rattle.icu_rules.specs.TakenStatements.{TakesStatement, IsUnrelated};
 
 use crate::brackets::{Bracket, is_word, only_word, read_bracket, split_words};
 use crate::rules_error::RulesErrorKind;
-use crate::statement::{CharRange, RuleSetting, Statement};
+use crate::statement::{CharacterRange, RuleSetting, Statement};
 use crate::unplaced_error::UnplacedError;
 use crate::words::setting_of;
 use std::alloc::{AllocError, Global};
@@ -31,11 +31,7 @@ fn texts_of(alloc: Global, words: &[&[char]]) -> Result<Vec<String>, AllocError>
 }
 
 /// The groups of `[reorder ..]`. The text begins with the bracket.
-fn groups_of(
-    alloc: Global,
-    text: &[char],
-    words: &[&[char]],
-) -> Result<Statement, UnplacedError>
+fn groups_of(alloc: Global, text: &[char], words: &[&[char]]) -> Result<Statement, UnplacedError>
     ensures says { IfOk result (λ s. AreStatement s
         (bracket (codes "reorder" ∷ map (λ word. word.now) words.now) ∷ [])) }
     ensures unrelated { IfOk result IsUnrelated }
@@ -80,7 +76,8 @@ fn refused_words(name: &[char]) -> RulesErrorKind {
 
 /// The statement of words in brackets, or why there is none. The text begins with the bracket.
 fn worded(alloc: Global, text: &[char], words: &[&[char]]) -> Result<Statement, UnplacedError>
-    ensures says { IfOk result (λ s. AreStatement s (bracket (map (λ word. word.now) words.now) ∷ [])) }
+    ensures says { IfOk result (λ s.
+        AreStatement s (bracket (map (λ word. word.now) words.now) ∷ [])) }
     ensures unrelated { IfOk result IsUnrelated }
 {
     let Some((name, rest)) = split_words(words) else {
@@ -99,7 +96,7 @@ fn worded(alloc: Global, text: &[char], words: &[&[char]]) -> Result<Statement, 
 fn of_set(
     text: &[char],
     word: &[char],
-    ranges: Vec<CharRange>,
+    ranges: Vec<CharacterRange>,
 ) -> Result<Statement, UnplacedError>
     ensures says { IfOk result (λ s. AreStatement s (set_bracket word.now ranges.items ∷ [])) }
     ensures unrelated { IfOk result IsUnrelated }

@@ -9,7 +9,7 @@ use crate::blanks::{is_plain, is_word_character, skip_white};
 use crate::escapes::read_escape;
 use crate::first::{behind, split_first};
 use crate::rules_error::RulesErrorKind;
-use crate::statement::CharRange;
+use crate::statement::CharacterRange;
 use crate::unplaced_error::UnplacedError;
 use std::alloc::{AllocError, Global};
 
@@ -28,9 +28,7 @@ pub(crate) fn is_word(word: &[char], name: &[u8]) -> bool
 }
 
 /// The first word, and the words behind it.
-pub(crate) fn split_words<'w, 't>(
-    words: &'w [&'t [char]],
-) -> Option<(&'t [char], &'w [&'t [char]])>
+pub(crate) fn split_words<'w, 't>(words: &'w [&'t [char]]) -> Option<(&'t [char], &'w [&'t [char]])>
     ensures split { MatchOption result (words.now ≡ [])
         (λ r. map (λ word. word.now) words.now ≡ r.0.now ∷ map (λ word. word.now) r.1.now) }
     ensures len { IfSome result (λ r. length r.1.now < length words.now) }
@@ -101,7 +99,7 @@ pub enum Bracket<'t> {
     /// Words.
     Words(Vec<&'t [char]>),
     /// A word and a set.
-    Set(&'t [char], Vec<CharRange>),
+    Set(&'t [char], Vec<CharacterRange>),
 }
 
 /// The character of a set that a text begins with, and what follows it.
@@ -120,7 +118,7 @@ fn read_member(text: &[char]) -> Option<(char, &[char])>
 }
 
 /// The range of a set that a text begins with, and what follows it.
-fn read_range(text: &[char]) -> Result<(CharRange, &[char]), RulesErrorKind>
+fn read_range(text: &[char]) -> Result<(CharacterRange, &[char]), RulesErrorKind>
     ensures len { IfOk result (λ r. length r.1.now < length text.now) }
     ensures taken { IfOk result (λ r. TakesRange text.now r.0 r.1.now) }
 {
@@ -128,7 +126,7 @@ fn read_range(text: &[char]) -> Result<(CharRange, &[char]), RulesErrorKind>
         return Err(RulesErrorKind::CharacterSet);
     };
     let Some(dashed) = behind(skip_white(after), '-') else {
-        return Ok((CharRange { first, last: first }, after));
+        return Ok((CharacterRange { first, last: first }, after));
     };
     let Some((last, after)) = read_member(skip_white(dashed)) else {
         return Err(RulesErrorKind::RangeWithoutEnd);
@@ -136,7 +134,7 @@ fn read_range(text: &[char]) -> Result<(CharRange, &[char]), RulesErrorKind>
     if last < first {
         return Err(RulesErrorKind::DescendingRange);
     }
-    Ok((CharRange { first, last }, after))
+    Ok((CharacterRange { first, last }, after))
 }
 
 /// The set behind its opening bracket, and what follows its closing one. An error has the place of the opening bracket.
@@ -144,7 +142,7 @@ fn read_set<'t>(
     alloc: Global,
     bracket: &[char],
     inside: &'t [char],
-) -> Result<(Vec<CharRange>, &'t [char]), UnplacedError>
+) -> Result<(Vec<CharacterRange>, &'t [char]), UnplacedError>
     ensures len { IfOk result (λ r. length r.1.now ≤ length inside.now) }
     ensures taken { IfOk result (λ r. TakesSet inside.now r.0.items r.1.now) }
 {

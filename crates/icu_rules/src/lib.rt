@@ -12,10 +12,10 @@ pub mod imports;
 mod parsing;
 mod relations;
 mod resets;
-pub mod rules;
-pub mod rules_error;
 #[cfg(test)]
 mod rule_rows;
+pub mod rules;
+pub mod rules_error;
 mod starred;
 pub mod statement;
 mod strings;
@@ -26,5 +26,6 @@ pub use imports::RuleSource;
 pub use rules::{PlacedStatement, Rules};
 pub use rules_error::{RulesError, RulesErrorKind};
 pub use statement::{
-    Anchor, CharRange, LogicalPosition, Relation, Reset, RuleSetting, StarredRelation, Statement,
+    Anchor, CharacterRange, LogicalPosition, Relation, Reset, RuleSetting, StarredRelation,
+    Statement,
 };

@@ -1,7 +1,7 @@
 //! Rules, read.
 ghost use Rattle.std.specs.Prelude.{◌≡◌, ◌<◌, ◌≤◌, ◌∷◌, true, false, length, map, chars, IfOk, IfErr};
-ghost use Rattle.icu_rules.specs.Statements.{MayStand, SpellStatements};
-ghost use Rattle.icu_rules.specs.Places.{IsPlaced};
+ghost use Rattle.icu_rules.specs.Statements.{MayFollow, SpellStatements};
+ghost use Rattle.icu_rules.specs.RulePlaces.{IsPlaced};
 ghost use Rattle.icu_rules.specs.TakenStatements.{TakesSign, TakesStatement, IsUnrelated, Relates};
 
 use crate::blanks::skip_blanks;
@@ -115,7 +115,7 @@ fn read_statement<'t>(
 ) -> Result<(Statement, &'t [char]), UnplacedError>
     ensures len { IfOk result (λ r. length r.1.now < length text.now) }
     ensures taken { IfOk result (λ r. TakesStatement text.now r.0 r.1.now) }
-    ensures stands { IfOk result (λ r. MayStand chain r.0) }
+    ensures stands { IfOk result (λ r. MayFollow chain r.0) }
 {
     match read_sign(text) {
         Some((sign, after)) => match chain.refusal(sign.strength) {
@@ -169,10 +169,10 @@ impl Rules {
     /// Each statement has the place of its first character, and the text spells the statements. An error has the place
     /// of the first character of what is at fault, or, for a reset that no relation follows, that of the reset.
     pub fn parse(alloc: Global, text: &str) -> Result<Rules, RulesError>
-    ensures says { IfOk result (λ rules.
-        SpellStatements (map (λ p. p.statement) rules.statements.items) (chars text.now)) }
-    ensures placed { IfErr result (λ error. IsPlaced error (length (chars text.now))) }
-{
+        ensures says { IfOk result (λ rules.
+            SpellStatements (map (λ p. p.statement) rules.statements.items) (chars text.now)) }
+        ensures placed { IfErr result (λ error. IsPlaced error (length (chars text.now))) }
+    {
         let characters = characters_of(alloc, text)?;
         match read_statements(alloc, characters.as_slice()) {
             Ok(statements) => Ok(Rules { statements }),

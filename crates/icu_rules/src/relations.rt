@@ -1,7 +1,7 @@
 //! Relations of strings.
 ghost use Rattle.std.specs.Prelude.{◌≡◌, ◌<◌, ◌≤◌, false, [], ◌∷◌, ◌++◌, length, IsTrue, IfOk, IfSome};
 ghost use Rattle.icu_rules.specs.Tokens.{string};
-ghost use Rattle.icu_rules.specs.Statements.{prefix_tokens, extension_tokens, relation_parts, BeginsWithStarter, HasContext};
+ghost use Rattle.icu_rules.specs.Statements.{prefix_tokens, extension_tokens, relation_parts, BeginsWithClassZero, HasFindableContext};
 ghost use Rattle.icu_rules.specs.TakenText.{Takes};
 ghost use Rattle.icu_rules.specs.TakenStatements.{StarBehind, TakesSign};
 
@@ -118,7 +118,7 @@ fn read_extension(alloc: Global, text: &[char]) -> Result<(Vec<char>, &[char]), 
 
 /// Whether characters begin with one whose combining class is 0, or are none.
 fn begins_with_starter(characters: &[char]) -> bool
-    ensures { IsTrue result → BeginsWithStarter characters.now }
+    ensures { IsTrue result → BeginsWithClassZero characters.now }
 {
     match characters {
         [c, ..] => canonical_combining_class(*c) == 0,
@@ -128,7 +128,7 @@ fn begins_with_starter(characters: &[char]) -> bool
 
 /// Whether a prefix and the string behind it can be found in a text that is decomposed.
 fn has_context(prefix: &[char], string: &[char]) -> bool
-    ensures { IsTrue result → HasContext prefix.now string.now }
+    ensures { IsTrue result → HasFindableContext prefix.now string.now }
 {
     prefix.is_empty() || (begins_with_starter(prefix) && begins_with_starter(string))
 }
@@ -142,7 +142,7 @@ pub(crate) fn read_relation<'t>(
 ) -> Result<(Relation, &'t [char]), UnplacedError>
     ensures len { IfOk result (λ r. length r.1.now ≤ length text.now) }
     ensures strength { IfOk result (λ r. r.0.strength ≡ strength) }
-    ensures context { IfOk result (λ r. HasContext r.0.prefix.items r.0.string.items) }
+    ensures context { IfOk result (λ r. HasFindableContext r.0.prefix.items r.0.string.items) }
     ensures taken { IfOk result (λ r. Takes text.now (relation_parts r.0) r.1.now) }
 {
     let (prefix, string, rest) = read_context(alloc, text)?;

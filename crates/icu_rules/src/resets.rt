@@ -1,6 +1,6 @@
 //! Resets.
 ghost use Rattle.std.specs.Prelude.{◌≡◌, ◌≤◌, [], ◌∷◌, length, map, codes, IfOk, IfSome};
-ghost use Rattle.icu_rules.specs.TakenStatements.{Says, TakesSaid, TakesAnchor, TakesReset};
+ghost use Rattle.icu_rules.specs.TakenStatements.{SaysBehindReset, TakesSaid, TakesAnchor, TakesReset};
 
 use crate::blanks::skip_blanks;
 use crate::brackets::{Bracket, is_word, only_word, read_bracket, split_words};
@@ -24,7 +24,8 @@ pub enum Said {
 
 /// The level of the words behind `before`.
 fn level_behind(words: &[&[char]]) -> Option<Said>
-    ensures { IfSome result (λ said. Says said (codes "before" ∷ map (λ word. word.now) words.now)) }
+    ensures { IfSome result (λ said.
+        SaysBehindReset said (codes "before" ∷ map (λ word. word.now) words.now)) }
 {
     let word = only_word(words)?;
     Some(Said::Before(before_level(word)?))
@@ -32,7 +33,8 @@ fn level_behind(words: &[&[char]]) -> Option<Said>
 
 /// What words in a bracket behind `&` say.
 fn said_by(words: &[&[char]]) -> Result<Said, RulesErrorKind>
-    ensures { IfOk result (λ said. Says said (map (λ word. word.now) words.now)) }
+    ensures { IfOk result (λ said.
+        SaysBehindReset said (map (λ word. word.now) words.now)) }
 {
     if let Some((first, rest)) = split_words(words) {
         if is_word(first, b"before") {

@@ -9,7 +9,7 @@ ghost use Rattle.icu_rules.specs.TakenStatements.{TakesStarred};
 use crate::blanks::skip_blanks;
 use crate::first::behind;
 use crate::rules_error::RulesErrorKind;
-use crate::statement::{CharRange, StarredRelation};
+use crate::statement::{CharacterRange, StarredRelation};
 use crate::strings::read_string;
 use crate::unplaced_error::UnplacedError;
 use icu_options::Strength;
@@ -55,11 +55,11 @@ impl Allowance {
         place: &[char],
         first: char,
         last: char,
-    ) -> Result<CharRange, UnplacedError>
-    ensures range { IfOk result (λ range. range ≡ record { first = first; last = last }) }
-    ensures inert { IfOk result (λ range. IsInertRange range) }
-    ensures ascends { IfOk result (λ range. first ≤ last) }
-{
+    ) -> Result<CharacterRange, UnplacedError>
+        ensures range { IfOk result (λ range. range ≡ record { first = first; last = last }) }
+        ensures inert { IfOk result (λ range. IsInertRange range) }
+        ensures ascends { IfOk result (λ range. first ≤ last) }
+    {
         if last < first {
             return Err(UnplacedError::at(place, RulesErrorKind::DescendingRange));
         }
@@ -71,20 +71,21 @@ impl Allowance {
         if !are_inert(first, last) {
             return Err(UnplacedError::at(place, RulesErrorKind::DecomposingCharacter));
         }
-        Ok(CharRange { first, last })
+        Ok(CharacterRange { first, last })
     }
 
     /// Adds the ranges of single characters.
     fn add_singles(
         &mut self,
         place: &[char],
-        ranges: &mut Vec<CharRange>,
+        ranges: &mut Vec<CharacterRange>,
         characters: &[char],
     ) -> Result<(), UnplacedError>
-    ensures ranges { OnOk result (ranges.new.items ≡ ranges.old.items ++ map single characters.now) }
-    ensures inert { OnOk result (AllByRecursion IsInertRange ranges.old.items
-        → AllByRecursion IsInertRange ranges.new.items) }
-{
+        ensures ranges { OnOk result
+            (ranges.new.items ≡ ranges.old.items ++ map single characters.now) }
+        ensures inert { OnOk result (AllByRecursion IsInertRange ranges.old.items
+            → AllByRecursion IsInertRange ranges.new.items) }
+    {
         for c in characters {
             let range = self.take(place, *c, *c)?;
             ranges.push(range)?;
@@ -133,13 +134,16 @@ fn read_ranges<'t>(
     allowance: &mut Allowance,
     sign: &[char],
     text: &'t [char],
-) -> Result<(Vec<CharRange>, &'t [char]), UnplacedError>
+) -> Result<(Vec<CharacterRange>, &'t [char]), UnplacedError>
     ensures len { IfOk result (λ r. length r.1.now ≤ length text.now) }
     ensures taken { IfOk result (λ r. TakesStarred text.now r.0.items r.1.now) }
 {
     let mut ranges = Vec::new(alloc);
-    let (mut string, mut rest) =
-        read_string(alloc, text, RulesErrorKind::StarredWithoutCharacters)?;
+    let (mut string, mut rest) = read_string(
+        alloc,
+        text,
+        RulesErrorKind::StarredWithoutCharacters,
+    )?;
     let mut from = 0;
     while let Some(after) = behind_dash(rest) {
         let Some((last, front)) = split_last(from_place(string.as_slice(), from)) else {

@@ -7,7 +7,7 @@ use icu_options::{
 
 /// The characters from one to another.
 #[derive(Debug, Clone, Copy, PartialEq, Eq)]
-pub struct CharRange {
+pub struct CharacterRange {
     /// The first.
     pub first: char,
     /// The last, which isn't below the first.
@@ -88,7 +88,7 @@ pub struct StarredRelation {
     /// The strength of each relation.
     pub strength: Strength,
     /// The characters, at least one.
-    pub ranges: Vec<CharRange>,
+    pub ranges: Vec<CharacterRange>,
 }
 
 /// A setting in brackets (UTS #35 part 5, "Setting Options").
@@ -119,9 +119,9 @@ pub enum RuleSetting {
     Reorder(Vec<String>),
     /// `[suppressContractions [..]]`: the characters that begin no contraction of the root (UTS #35 part 5,
     /// "Collation Tailorings").
-    SuppressContractions(Vec<CharRange>),
+    SuppressContractions(Vec<CharacterRange>),
     /// `[optimize [..]]`: characters whose tables may be made larger. It changes no order.
-    Optimize(Vec<CharRange>),
+    Optimize(Vec<CharacterRange>),
 }
 
 /// What rules say at one place.
@@ -135,7 +135,7 @@ pub enum Statement {
     Starred(StarredRelation),
     /// A setting.
     Setting(RuleSetting),
-    /// `[import de-u-co-phonebk]`: the statements of other rules stand here, by their tag (UTS #35 part 5, "The import
-    /// Rule").
+    /// `[import de-u-co-phonebk]`: the statements of other rules stand here, by their tag (UTS #35 part 5, "Collation
+    /// Tailorings").
     Import(String),
 }

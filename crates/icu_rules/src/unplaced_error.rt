@@ -17,7 +17,7 @@ pub enum UnplacedError {
 }
 
 impl UnplacedError {
-    ghost use Rattle.icu_rules.specs.Places.{IsPlaced};
+    ghost use Rattle.icu_rules.specs.RulePlaces.{IsPlaced};
 
     /// The error where these characters are left.
     pub(crate) fn at(rest: &[char], kind: RulesErrorKind) -> Self {
@@ -29,8 +29,8 @@ impl UnplacedError {
 
     /// The error in rules of so many characters.
     pub(crate) fn in_rules(self, len: usize) -> RulesError
-    ensures { IsPlaced result len }
-{
+        ensures { IsPlaced result len }
+    {
         match self {
             UnplacedError::NoMemory => RulesError::NoMemory,
             UnplacedError::Refused { left, kind } => RulesError::Refused {

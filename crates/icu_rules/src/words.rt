@@ -33,7 +33,8 @@ fn level_of(word: &[char]) -> Option<Strength>
 /// The level of `[before n]`.
 pub(crate) fn before_level(word: &[char]) -> Option<Strength>
     ensures word { IfSome result (λ level. word.now ≡ level_word level) }
-    ensures level { IfSome result (λ level. (level ≢ Strength.Quaternary) × (level ≢ Strength.Identical)) }
+    ensures level { IfSome result (λ level.
+        (level ≢ Strength.Quaternary) × (level ≢ Strength.Identical)) }
 {
     match level_of(word)? {
         Strength::Quaternary | Strength::Identical => None,
@@ -143,7 +144,11 @@ pub(crate) fn position_of(words: &[&[char]]) -> Option<LogicalPosition>
 {
     let (first, rest) = split_words(words)?;
     let Some((second, rest)) = split_words(rest) else {
-        return if is_word(first, b"top") { Some(LogicalPosition::LastRegular) } else { None };
+        return if is_word(first, b"top") {
+            Some(LogicalPosition::LastRegular)
+        } else {
+            None
+        };
     };
     if rest.is_empty() {
         return two_words(first, second);
@@ -266,9 +271,17 @@ fn other_setting(name: &[char], value: &[char]) -> Result<RuleSetting, RulesErro
         let is_on = switch_of(value).ok_or(unknown)?;
         Ok(RuleSetting::Normalization(is_on))
     } else if is_word(name, b"backwards") {
-        if is_word(value, b"2") { Ok(RuleSetting::Backwards) } else { Err(unknown) }
+        if is_word(value, b"2") {
+            Ok(RuleSetting::Backwards)
+        } else {
+            Err(unknown)
+        }
     } else if is_word(name, b"hiraganaQ") {
-        if is_word(value, b"off") { Ok(RuleSetting::HiraganaQuaternaryOff) } else { Err(unknown) }
+        if is_word(value, b"off") {
+            Ok(RuleSetting::HiraganaQuaternaryOff)
+        } else {
+            Err(unknown)
+        }
     } else {
         Err(RulesErrorKind::UnknownSetting)
     }

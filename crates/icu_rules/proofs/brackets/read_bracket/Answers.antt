@@ -9,7 +9,7 @@ returns-in-Some-clause-taken c = take_words _ c.requires.opened c.in_ok-words.en
 pub returns-in-Some-behind-clause-taken : goal.returns-in-Some-behind-clause-taken
 returns-in-Some-behind-clause-taken c =
     take_set c.in-Some-Some.word.now c.in_ok-ranges.ranges.items c.requires.opened
-      (subst (λ (ws : List (List ℕ)). TakesWords c.args.inside.now ws c.in_ok-words.rest.now)
-        (ap (λ ws. map (λ word. word.now) ws) (sym c.as_slice.ensures.value) ∙ c.in-Some-Some.ensures')
-        c.in_ok-words.ensures.taken)
-      c.in-Some-Some.ensures c.in_ok-ranges.ensures.taken c.skip_white.ensures.skips c.in-Some-behind.ensures
+    (subst (λ (ws : List (List ℕ)). TakesWords c.args.inside.now ws c.in_ok-words.rest.now)
+    (ap (λ ws. map (λ word. word.now) ws) (sym c.as_slice.ensures.value) ∙ c.in-Some-Some.ensures')
+    c.in_ok-words.ensures.taken)
+    c.in-Some-Some.ensures c.in_ok-ranges.ensures.taken c.skip_white.ensures.skips c.in-Some-behind.ensures

@@ -6,7 +6,7 @@ use Rattle.icu_rules.proofs.brackets.read_member.Goals as goal
 pub returns-then-c-eq92-clause-taken : goal.returns-then-c-eq92-clause-taken
 returns-then-c-eq92-clause-taken c =
     IfSome_then c.read_escape.result c.read_escape.ensures.taken
-      (λ r t. member_escape c.in_ok-c.ensures c.if-c-eq92.true t)
+    (λ r t. member_escape c.in_ok-c.ensures c.if-c-eq92.true t)
 
 pub returns-then-is_plain-clause-taken : goal.returns-then-is_plain-clause-taken
 returns-then-is_plain-clause-taken c = member_plain c.in_ok-c.ensures (search rules)

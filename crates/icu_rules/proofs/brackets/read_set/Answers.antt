@@ -12,7 +12,7 @@ loop-rest-init c = record {
 pub loop-rest-preserved : goal.loop-rest-preserved
 loop-rest-preserved c = record {
   taken = ranges_step _ _ _ c.in_ok-push-in-Ok.ensures.items c.loop-rest.invariant.taken c.in-Ok.ensures.taken
-    c.skip_white-rest-in-Ok.ensures.skips;
+      c.skip_white-rest-in-Ok.ensures.skips;
   len = search rules;
 }
 

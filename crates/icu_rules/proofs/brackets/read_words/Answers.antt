@@ -18,12 +18,17 @@ loop-rest-preserved c =
     let more : 0 < length c.loop-rest.word.now = grind (arith, common_steps) in
     let some : c.loop-rest.word.now ≢ [] = λ e. absurd (omega (arith, ap length e)) in record {
       taken = words_step _ _ c.loop-rest.word.now
-        (ap (λ ws. map (λ word. word.now) ws) c.in_ok-push.ensures.items ∙ map-append _ _ _)
-        c.loop-rest.invariant.taken c.loop-rest.invariant.whole some c.loop-rest.invariant.word
-        c.loop-rest.invariant.ends c.skip_white-rest-in-loop-rest.ensures.skips;
+          (ap (λ ws. map (λ word. word.now) ws) c.in_ok-push.ensures.items ∙ map-append _ _ _)
+          c.loop-rest.invariant.taken c.loop-rest.invariant.whole some c.loop-rest.invariant.word
+          c.loop-rest.invariant.ends c.skip_white-rest-in-loop-rest.ensures.skips;
       whole = c.split_word-in-loop-rest.ensures.whole;
       word = c.split_word-in-loop-rest.ensures.word;
       ends = c.split_word-in-loop-rest.ensures.ends;
-      len = omega (arith, c.skip_white-rest-in-loop-rest.ensures.len, c.loop-rest.invariant.len,
-        ap length c.loop-rest.invariant.whole, length-append c.loop-rest.word.now c.loop-rest.after.now);
+      len = omega (
+        arith,
+        c.skip_white-rest-in-loop-rest.ensures.len,
+        c.loop-rest.invariant.len,
+        ap length c.loop-rest.invariant.whole,
+        length-append c.loop-rest.word.now c.loop-rest.after.now,
+      );
     }

@@ -10,7 +10,7 @@ invariant-loop-digit l = record {
   bound : l.number ≤ 0x10FFFF;
   value : hex_number l.number l.rest ≡ hex_number 0 l.fn.digits;
   each : AllByRecursion (λ digit. digit_value digit < 16) l.rest
-    → AllByRecursion (λ digit. digit_value digit < 16) l.fn.digits;
+      → AllByRecursion (λ digit. digit_value digit < 16) l.fn.digits;
 }
 
 abbrev pub decreases-loop-digit : goal.decreases-loop-digit

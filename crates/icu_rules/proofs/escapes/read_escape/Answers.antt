@@ -10,7 +10,7 @@ returns-in-u-clause-taken c =
 pub returns-in-U-clause-taken : goal.returns-in-U-clause-taken
 returns-in-U-clause-taken c =
     IfSome_then c.read_digits-in-U.result c.read_digits-in-U.ensures.taken
-      (λ r t. escape_eight c.in_ok-c.ensures c.in-U.is t)
+    (λ r t. escape_eight c.in_ok-c.ensures c.in-U.is t)
 
 pub returns-in-x-clause-taken : goal.returns-in-x-clause-taken
 returns-in-x-clause-taken c =

@@ -4,4 +4,4 @@ use Rattle.icu_rules.proofs.parsing.characters_of.Goals as goal
 pub returns : goal.returns
 returns c =
     items_from_collect c.collect.result c.collect.ensures.ran
-      (YieldsList-from_chars c.args.text.now c.utf8.text c.chars.ensures.rest)
+    (YieldsList-from_chars c.args.text.now c.utf8.text c.chars.ensures.rest)

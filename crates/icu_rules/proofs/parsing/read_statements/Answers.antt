@@ -14,17 +14,21 @@ loop-rest-init c = record {
 pub loop-rest-preserved : goal.loop-rest-preserved
 loop-rest-preserved c = record {
   told = told_step _ _ c.in_ok-statement.statement
-    (ap (λ ps. map (λ p. p.statement) ps) c.in_ok-push.ensures.items ∙ map-append _ _ _)
-    c.loop-rest.invariant.told c.in_ok-statement.ensures.taken c.skip_blanks-rest-in-loop-rest.ensures.takes;
+      (ap (λ ps. map (λ p. p.statement) ps) c.in_ok-push.ensures.items ∙ map-append _ _ _)
+      c.loop-rest.invariant.told c.in_ok-statement.ensures.taken c.skip_blanks-rest-in-loop-rest.ensures.takes;
   ordered = ordered_step _ _ c.in_ok-statement.statement
-    (ap (λ ps. map (λ p. p.statement) ps) c.in_ok-push.ensures.items ∙ map-append _ _ _)
-    c.loop-rest.invariant.ordered c.in_ok-statement.ensures.stands c.after-chain.ensures;
-  len = omega (arith, c.skip_blanks-rest-in-loop-rest.ensures.len, c.in_ok-statement.ensures.len,
-    c.loop-rest.invariant.len);
+      (ap (λ ps. map (λ p. p.statement) ps) c.in_ok-push.ensures.items ∙ map-append _ _ _)
+      c.loop-rest.invariant.ordered c.in_ok-statement.ensures.stands c.after-chain.ensures;
+  len = omega (
+    arith,
+    c.skip_blanks-rest-in-loop-rest.ensures.len,
+    c.in_ok-statement.ensures.len,
+    c.loop-rest.invariant.len,
+  );
 }
 
 pub returns : goal.returns
 returns c =
     let none : length c.loop-rest.rest.now ≡ 0 = grind (arith, common_steps) in
     all_told _ (nothing_of _ none) c.loop-rest.invariant.told c.loop-rest.invariant.ordered
-      (c.is_complete.ensures (search rules))
+    (c.is_complete.ensures (search rules))

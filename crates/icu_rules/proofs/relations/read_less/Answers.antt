@@ -9,16 +9,16 @@ returns-in_default-clause-taken c = signed_at _ Primary _ _ _ c.with_star.ensure
 pub returns-in_default-behind-clause-taken : goal.returns-in_default-behind-clause-taken
 returns-in_default-behind-clause-taken c =
     signed_at _ Secondary _ _ _ c.with_star-in_default-behind.ensures.strength
-      c.with_star-in_default-behind.ensures.star (ap (λ t. 60 ∷ t) c.in-Some.ensures)
+    c.with_star-in_default-behind.ensures.star (ap (λ t. 60 ∷ t) c.in-Some.ensures)
 
 pub returns-in_default-behind-2-clause-taken : goal.returns-in_default-behind-2-clause-taken
 returns-in_default-behind-2-clause-taken c =
     signed_at _ Tertiary _ _ _ c.with_star-in_default-behind-2.ensures.strength
-      c.with_star-in_default-behind-2.ensures.star
-      (ap (λ t. 60 ∷ t) (c.in-Some.ensures ∙ ap (λ t. 60 ∷ t) c.in-Some-behind.ensures))
+    c.with_star-in_default-behind-2.ensures.star
+    (ap (λ t. 60 ∷ t) (c.in-Some.ensures ∙ ap (λ t. 60 ∷ t) c.in-Some-behind.ensures))
 
 pub returns-clause-taken : goal.returns-clause-taken
 returns-clause-taken c =
     signed_at _ Quaternary _ _ _ c.with_star-2.ensures.strength c.with_star-2.ensures.star
-      (ap (λ t. 60 ∷ t) (c.in-Some.ensures ∙ ap (λ t. 60 ∷ t)
-        (c.in-Some-behind.ensures ∙ ap (λ t. 60 ∷ t) c.in-Some-behind-2.ensures)))
+    (ap (λ t. 60 ∷ t) (c.in-Some.ensures ∙ ap (λ t. 60 ∷ t)
+    (c.in-Some-behind.ensures ∙ ap (λ t. 60 ∷ t) c.in-Some-behind-2.ensures)))

@@ -4,10 +4,12 @@ use Rattle.icu_rules.proofs.StatementLemmas.{take_position}
 use Rattle.icu_rules.proofs.resets.read_anchor.Goals as goal
 
 pub returns-in_default-clause-taken : goal.returns-in_default-clause-taken
-returns-in_default-clause-taken c =
-    (string c.in_ok-string.string.items ∷ [], refl,
-      λ more s. c.skip_blanks-text.ensures.takes (string c.in_ok-string.string.items ∷ more)
-        (c.in_ok-string.ensures.taken more s))
+returns-in_default-clause-taken c = (
+  string c.in_ok-string.string.items ∷ [],
+  refl,
+  λ more s. c.skip_blanks-text.ensures.takes (string c.in_ok-string.string.items ∷ more)
+      (c.in_ok-string.ensures.taken more s),
+)
 
 pub returns-in-Position-clause-taken : goal.returns-in-Position-clause-taken
 returns-in-Position-clause-taken c =

@@ -8,4 +8,4 @@ returns-in-Position-clause-taken c =
 pub returns-in_ok-anchor-in-Before-clause-taken : goal.returns-in_ok-anchor-in-Before-clause-taken
 returns-in_ok-anchor-in-Before-clause-taken c =
     reset_before _ _ c.skip_blanks-text.ensures.takes c.in-Before.is c.in_ok-said.ensures.taken
-      c.in_ok-anchor-in-Before.ensures.taken
+    c.in_ok-anchor-in-Before.ensures.taken

@@ -1,5 +1,5 @@
 use Rattle.std.proofs.Common.{ℕ, List, [], ◌∷◌, ◌++◌, ◌≡◌, drop, map, ap, sym, ◌∙◌, subst, arith}
-use Rattle.icu_rules.specs.declared.statement.CharRange.{CharRange}
+use Rattle.icu_rules.specs.declared.statement.CharacterRange.{CharacterRange}
 use Rattle.icu_rules.specs.Statements.{single}
 use Rattle.icu_rules.proofs.StarredLemmas.{Naming, naming_first, naming_step, naming_done, inert_push}
 use Rattle.icu_rules.proofs.starred.read_ranges.Goals as goal
@@ -18,23 +18,23 @@ loop-after-preserved c =
     let front = c.in-Some-split_last.front.now in
     let next = c.in_ok-next.next.items in
     let rest_of_string : drop c.loop-after.from c.loop-after.string.items ≡ front ++ c.in-Some-split_last.last ∷ [] =
-        ap (λ (xs : List ℕ). drop c.loop-after.from xs) (sym c.as_slice.ensures.value) ∙ sym c.from_place.ensures
-        ∙ c.in-Some-split_last.ensures in
+    ap (λ (xs : List ℕ). drop c.loop-after.from xs) (sym c.as_slice.ensures.value) ∙ sym c.from_place.ensures
+    ∙ c.in-Some-split_last.ensures in
     let split : next ≡ c.first_of.result ∷ drop 1 next =
-        sym c.as_slice-in-Some.ensures.value ∙ c.first_of.ensures
-        ∙ ap (λ (xs : List ℕ). c.first_of.result ∷ drop 1 xs) c.as_slice-in-Some.ensures.value in record {
+    sym c.as_slice-in-Some.ensures.value ∙ c.first_of.ensures
+    ∙ ap (λ (xs : List ℕ). c.first_of.result ∷ drop 1 xs) c.as_slice-in-Some.ensures.value in record {
       naming = naming_step c.loop-after.ranges.items c.push.new.self.items front (drop 1 next) next
-        c.in-Some-split_last.last c.first_of.result split c.in_ok-range.ensures.ascends
-        (c.in_ok-push.ensures.items
-          ∙ ap (λ (rs : List CharRange). rs ++ c.in_ok-range.range ∷ []) c.in_ok-add_singles.ensures.ranges
-          ∙ ap (λ (r : CharRange). (c.loop-after.ranges.items ++ map single front) ++ r ∷ [])
-            c.in_ok-range.ensures.range)
-        (subst (λ (s : List ℕ). Naming c.args.text.now c.loop-after.ranges.items s c.loop-after.rest.now)
+          c.in-Some-split_last.last c.first_of.result split c.in_ok-range.ensures.ascends
+          (c.in_ok-push.ensures.items
+          ∙ ap (λ (rs : List CharacterRange). rs ++ c.in_ok-range.range ∷ []) c.in_ok-add_singles.ensures.ranges
+          ∙ ap (λ (r : CharacterRange). (c.loop-after.ranges.items ++ map single front) ++ r ∷ [])
+          c.in_ok-range.ensures.range)
+          (subst (λ (s : List ℕ). Naming c.args.text.now c.loop-after.ranges.items s c.loop-after.rest.now)
           rest_of_string c.loop-after.invariant.naming)
-        c.in-Some.ensures.taken c.in_ok-next.ensures.taken;
+          c.in-Some.ensures.taken c.in_ok-next.ensures.taken;
       inert = inert_push c.add_singles.new.ranges.items c.push.new.self.items c.in_ok-range.range
-        c.in_ok-push.ensures.items c.in_ok-range.ensures.inert
-        (c.in_ok-add_singles.ensures.inert c.loop-after.invariant.inert);
+          c.in_ok-push.ensures.items c.in_ok-range.ensures.inert
+          (c.in_ok-add_singles.ensures.inert c.loop-after.invariant.inert);
       from = omega arith;
       some = c.in_ok-next.ensures.some;
       len = omega (arith, c.in-Some.ensures.len, c.in_ok-next.ensures.len, c.loop-after.invariant.len);
@@ -43,8 +43,8 @@ loop-after-preserved c =
 pub returns-clause-taken : goal.returns-clause-taken
 returns-clause-taken c =
     naming_done c.loop-after.ranges.items c.add_singles-2.new.ranges.items
-      (drop c.loop-after.from c.loop-after.string.items)
-      (c.in_ok-add_singles-2.ensures.ranges
-        ∙ ap (λ (xs : List ℕ). c.loop-after.ranges.items ++ map single xs)
-          (c.from_place-2.ensures ∙ ap (λ (xs : List ℕ). drop c.loop-after.from xs) c.as_slice-2.ensures.value))
-      c.loop-after.invariant.naming (c.in_ok-add_singles-2.ensures.inert c.loop-after.invariant.inert)
+    (drop c.loop-after.from c.loop-after.string.items)
+    (c.in_ok-add_singles-2.ensures.ranges
+    ∙ ap (λ (xs : List ℕ). c.loop-after.ranges.items ++ map single xs)
+    (c.from_place-2.ensures ∙ ap (λ (xs : List ℕ). drop c.loop-after.from xs) c.as_slice-2.ensures.value))
+    c.loop-after.invariant.naming (c.in_ok-add_singles-2.ensures.inert c.loop-after.invariant.inert)

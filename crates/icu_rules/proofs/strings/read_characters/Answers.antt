@@ -5,6 +5,6 @@ use Rattle.icu_rules.proofs.strings.read_characters.Goals as goal
 pub loop-characters-preserved : goal.loop-characters-preserved
 loop-characters-preserved c = record {
   taken = characters_step _ _ _ c.in_ok-push.ensures.items c.loop-characters.invariant.taken (rw c.in-Some.is at c.in_ok-c.ensures.taken)
-    c.skip_quote-is_within.ensures.taken;
+      c.skip_quote-is_within.ensures.taken;
   len = search rules;
 }

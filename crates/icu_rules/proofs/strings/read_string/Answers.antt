@@ -6,4 +6,4 @@ use Rattle.icu_rules.proofs.strings.read_string.Goals as goal
 pub returns-clause-taken : goal.returns-clause-taken
 returns-clause-taken c =
     take_string c.in_ok-characters.characters.items c.skip_blanks-text.ensures.takes c.in_ok-characters.ensures.taken
-      (grind (arith, common_steps)) (search rules)
+    (grind (arith, common_steps)) (search rules)
