@@ -18,6 +18,6 @@ abbrev pub AreMarks : ℕ → List ℕ → Type 0
 AreMarks k [] = Unit {0}
 AreMarks k (c ∷ cs) = (0 < class_of c) × (class_of c < k) × AreMarks k cs
 
--- marks in canonical order are those of each class in turn (Unicode Standard, D109)
+-- marks in canonical order are those of each class in turn (Unicode Standard, "Canonical Ordering Algorithm")
 abbrev pub MarksGoByClasses : Type 0
 MarksGoByClasses = (k : ℕ) (cs : List ℕ) → AreMarks k cs → canonical_order cs ≡ by_classes k cs

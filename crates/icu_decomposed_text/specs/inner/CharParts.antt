@@ -3,7 +3,7 @@ use Rattle.std.specs.Prelude.{ℕ, List, [], drop, flat_map, Option, Some, None}
 use Rattle.ucd_normal.specs.declared.forms.Form.TheVariants.{Nfd}
 use Rattle.unicode_normalization.specs.Decompose.{decompose}
 
--- what the characters of a text decompose to, not put in order (Unicode Standard, D68)
+-- what the characters of a text decompose to, not put in order (UAX #15, "Normalization Forms")
 abbrev pub parts_of : List ℕ → List ℕ
 parts_of = flat_map (decompose Nfd)
 
