@@ -29,6 +29,10 @@ abbrev pub held_cases : HeldCases → List ℕ → List ℕ
 held_cases l ranks =
     if l.vanishes && is_only (case_runs (held_case_form l)).common ranks then [] else l.bytes.items ++ case_rest l.writer ranks
 
+-- the bytes of a case level that has ended
+abbrev pub held_case_bytes : HeldCases → List ℕ
+held_case_bytes l = l.bytes.items
+
 -- the form of the tertiary level that is held
 abbrev pub held_tertiary_form : HeldTertiaries → TertiaryForm
 held_tertiary_form l = tertiary_form_of l.writer
@@ -42,3 +46,7 @@ held_tertiaries l ws =
 abbrev pub held_quaternaries : HeldQuaternaries → List ℕ → List ℕ
 held_quaternaries l ws =
     if l.vanishes && is_only (2 ^ 32) ws then [] else l.bytes.items ++ quaternary_rest l.writer ws
+
+-- the bytes of a quaternary level that has ended
+abbrev pub held_quaternary_bytes : HeldQuaternaries → List ℕ
+held_quaternary_bytes l = l.bytes.items

@@ -1,6 +1,6 @@
 //! The case level, held until its end.
 
-ghost use Rattle.std.specs.Prelude.{◌≡◌, ℕ, List, [], ◌∷◌, OnOk, IfOk};
+ghost use Rattle.std.specs.Prelude.{◌≡◌, ℕ, List, [], ◌∷◌, OnOk};
 ghost use Rattle.icu_levels.specs.Cases.{case_level};
 ghost use Rattle.icu_keys.specs.CaseRanks.{rank_of};
 
@@ -20,7 +20,7 @@ pub struct HeldCases {
 }
 
 impl HeldCases {
-    ghost use Rattle.icu_keys.specs.HeldRests.{held_cases, held_case_form};
+    ghost use Rattle.icu_keys.specs.HeldRests.{held_cases, held_case_bytes, held_case_form};
 
     /// A level of this form, with no case. It allocates nothing.
     pub fn new(alloc: Global, form: CaseForm) -> Self
@@ -45,16 +45,22 @@ impl HeldCases {
         self.writer.push(&mut self.bytes, &mut (), case)
     }
 
-    /// Ends the level, and returns its bytes.
-    pub fn finish(self) -> Result<SmallVec<u8, INLINE>, AllocError>
-        ensures { IfOk result (λ bytes. bytes.items ≡ held_cases self []) }
+    /// Ends the level, whose bytes are held then. Push nothing after it.
+    pub fn finish(&mut self) -> Result<(), AllocError>
+        ensures { OnOk result (held_case_bytes self.new ≡ held_cases self.old []) }
     {
-        let mut bytes = self.bytes;
         if self.vanishes {
-            bytes.clear();
-            return Ok(bytes);
+            self.bytes.clear();
+            return Ok(());
         }
-        self.writer.close(&mut bytes, &mut ())?;
-        Ok(bytes)
+        self.writer.close(&mut self.bytes, &mut ())
+    }
+
+    /// The bytes that are held.
+    #[inline]
+    pub fn bytes(&self) -> &[u8]
+        ensures { result.now ≡ held_case_bytes self.now }
+    {
+        self.bytes.as_slice()
     }
 }

@@ -1,6 +1,6 @@
 //! The quaternary level, held until its end.
 
-ghost use Rattle.std.specs.Prelude.{◌≡◌, ℕ, ◌+◌, ◌≤◌, ◌^◌, List, [], ◌∷◌, OnOk, IfOk};
+ghost use Rattle.std.specs.Prelude.{◌≡◌, ℕ, ◌+◌, ◌≤◌, ◌^◌, List, [], ◌∷◌, OnOk};
 ghost use Rattle.icu_levels.specs.Quaternaries.{quaternary_level};
 ghost use Rattle.icu_keys.specs.QuaternaryWeights.{weight_of};
 
@@ -20,7 +20,7 @@ pub struct HeldQuaternaries {
 }
 
 impl HeldQuaternaries {
-    ghost use Rattle.icu_keys.specs.HeldRests.{held_quaternaries};
+    ghost use Rattle.icu_keys.specs.HeldRests.{held_quaternaries, held_quaternary_bytes};
 
     /// A level of this form, with no weight. It allocates nothing.
     pub fn new(alloc: Global, form: QuaternaryForm) -> Self
@@ -43,16 +43,22 @@ impl HeldQuaternaries {
         self.writer.push(&mut self.bytes, &mut (), weight)
     }
 
-    /// Ends the level, and returns its bytes.
-    pub fn finish(self) -> Result<SmallVec<u8, INLINE>, AllocError>
-        ensures { IfOk result (λ bytes. bytes.items ≡ held_quaternaries self []) }
+    /// Ends the level, whose bytes are held then. Push nothing after it.
+    pub fn finish(&mut self) -> Result<(), AllocError>
+        ensures { OnOk result (held_quaternary_bytes self.new ≡ held_quaternaries self.old []) }
     {
-        let mut bytes = self.bytes;
         if self.vanishes {
-            bytes.clear();
-            return Ok(bytes);
+            self.bytes.clear();
+            return Ok(());
         }
-        self.writer.close(&mut bytes, &mut ())?;
-        Ok(bytes)
+        self.writer.close(&mut self.bytes, &mut ())
+    }
+
+    /// The bytes that are held.
+    #[inline]
+    pub fn bytes(&self) -> &[u8]
+        ensures { result.now ≡ held_quaternary_bytes self.now }
+    {
+        self.bytes.as_slice()
     }
 }

@@ -1,6 +1,6 @@
 //! The secondary level, held until its end.
 
-ghost use Rattle.std.specs.Prelude.{◌≡◌, ◌<◌, ℕ, List, [], ◌∷◌, OnOk, IfOk};
+ghost use Rattle.std.specs.Prelude.{◌≡◌, ◌<◌, ℕ, List, [], ◌∷◌, OnOk};
 ghost use Rattle.icu_levels.specs.Secondaries.{secondary_level};
 ghost use Rattle.icu_levels.specs.Keys.{part_bytes, opened, closed};
 ghost use Rattle.icu_keys.specs.Writes.{Writes};
@@ -76,15 +76,6 @@ impl HeldSecondaries {
             .push_commons(&mut self.bytes, &mut (), self.commons)?;
         self.commons = 0;
         self.writer.push(&mut self.bytes, &mut (), weight)
-    }
-
-    /// Ends the level, and returns its bytes.
-    pub fn finish(self) -> Result<SmallVec<u8, INLINE>, AllocError>
-        ensures { IfOk result (λ bytes. bytes.items ≡ held_secondaries self []) }
-    {
-        let mut bytes = self.bytes;
-        self.writer.close_after(&mut bytes, &mut (), self.commons)?;
-        Ok(bytes)
     }
 
     /// Writes the level to a sink, as it ends here.

@@ -12,6 +12,7 @@ ghost use Rattle.icu_text_keys.specs.LevelRests.{secondaries_left, cases_left, t
 use crate::level::{
     push_both, push_case, push_quaternary, push_secondary_of, push_shifted, push_tertiary_of,
 };
+use crate::written_form::WrittenForm;
 use crate::written_levels::{
     write_cases, write_identical, write_quaternaries, write_secondaries, write_tertiaries,
 };
@@ -23,61 +24,69 @@ use icu_keys::held_segments::HeldSegments;
 use icu_keys::held_tertiaries::HeldTertiaries;
 use icu_keys::primaries::PrimaryCompression;
 use icu_keys::{CollationKeySink, SortKeyError};
-use icu_levels::forms::{KeyForm, SecondaryForm, TertiaryForm};
+use icu_levels::forms::{SecondaryForm, TertiaryForm};
 use std::alloc::{AllocError, Global};
 
 /// A backward level with no weight, where a form has one.
-fn new_segments(alloc: Global, form: KeyForm) -> Option<HeldSegments>
-    ensures { (l : HeldSecondaries) (reorder : ℕ → ℕ) (cs : List ℕ) (hs : List HandledElement) →
+#[inline(always)]
+fn new_segments<F: WrittenForm>(alloc: Global, form: &F) -> Option<HeldSegments>
+    ensures { let f = F.form_written form.now in (l : HeldSecondaries) (reorder : ℕ → ℕ)
+        (cs : List ℕ) (hs : List HandledElement) →
         ((ws : List ℕ) → held_secondaries l ws ≡ secondary_level ws) →
-        secondaries_left form.secondary l result (stayed_elements hs)
-        ≡ secondary_part form.secondary (level_lists reorder form hs cs) }
+        secondaries_left f.secondary l result (stayed_elements hs)
+        ≡ secondary_part f.secondary (level_lists reorder f hs cs) }
 {
-    match form.secondary {
+    match form.form().secondary {
         Some(SecondaryForm::Backward) => Some(HeldSegments::new(alloc)),
         Some(SecondaryForm::Forward) | None => None,
     }
 }
 
 /// The case level of a form, with no case.
-fn new_cases(alloc: Global, form: KeyForm) -> Option<HeldCases>
-    ensures { (reorder : ℕ → ℕ) (cs : List ℕ) (hs : List HandledElement) →
-        cases_left form.secondary form.cases result (stayed_elements hs)
-        ≡ case_part form.cases (level_lists reorder form hs cs) }
+#[inline(always)]
+fn new_cases<F: WrittenForm>(alloc: Global, form: &F) -> Option<HeldCases>
+    ensures { let f = F.form_written form.now in
+        (reorder : ℕ → ℕ) (cs : List ℕ) (hs : List HandledElement) →
+        cases_left f.secondary f.cases result (stayed_elements hs)
+        ≡ case_part f.cases (level_lists reorder f hs cs) }
 {
-    match form.cases {
+    match form.form().cases {
         Some(cases) => Some(HeldCases::new(alloc, cases)),
         None => None,
     }
 }
 
 /// The tertiary level of a form, with no weight. Where the form has none, it stays empty.
-fn new_tertiaries(alloc: Global, form: KeyForm) -> HeldTertiaries
-    ensures form { IfSome form.tertiary (λ t. held_tertiary_form result ≡ t) }
-    ensures begins { (reorder : ℕ → ℕ) (cs : List ℕ) (hs : List HandledElement) →
-        tertiaries_left form.tertiary result (stayed_elements hs)
-        ≡ tertiary_part form.tertiary (level_lists reorder form hs cs) }
+#[inline(always)]
+fn new_tertiaries<F: WrittenForm>(alloc: Global, form: &F) -> HeldTertiaries
+    ensures form { IfSome (F.form_written form.now).tertiary (λ t. held_tertiary_form result ≡ t) }
+    ensures begins { let f = F.form_written form.now in
+        (reorder : ℕ → ℕ) (cs : List ℕ) (hs : List HandledElement) →
+        tertiaries_left f.tertiary result (stayed_elements hs)
+        ≡ tertiary_part f.tertiary (level_lists reorder f hs cs) }
 {
-    match form.tertiary {
+    match form.form().tertiary {
         Some(tertiary) => HeldTertiaries::new(alloc, tertiary),
         None => HeldTertiaries::new(alloc, TertiaryForm::WithoutCase),
     }
 }
 
 /// The quaternary level of a form, with no weight.
-fn new_quaternaries(alloc: Global, form: KeyForm) -> Option<HeldQuaternaries>
-    ensures { (reorder : ℕ → ℕ) (cs : List ℕ) (hs : List HandledElement) →
-        quaternaries_left reorder form.quaternary result hs
-        ≡ quaternary_part form.quaternary (level_lists reorder form hs cs) }
+#[inline(always)]
+fn new_quaternaries<F: WrittenForm>(alloc: Global, form: &F) -> Option<HeldQuaternaries>
+    ensures { let f = F.form_written form.now in
+        (reorder : ℕ → ℕ) (cs : List ℕ) (hs : List HandledElement) →
+        quaternaries_left reorder f.quaternary result hs
+        ≡ quaternary_part f.quaternary (level_lists reorder f hs cs) }
 {
-    match form.quaternary {
+    match form.form().quaternary {
         Some(quaternary) => Some(HeldQuaternaries::new(alloc, quaternary)),
         None => None,
     }
 }
 
 /// The levels that a key has after the primary one, held until their end. Which it has is said by its form, which each
-/// call is given: a caller that knows the form asks for no level at an element. Those that it hasn't stay empty.
+/// call is given. Those that it hasn't stay empty.
 #[derive(Drop)]
 pub struct LaterLevels {
     secondaries: HeldSecondaries,
@@ -94,11 +103,11 @@ impl LaterLevels {
 
     /// The levels of a form, with nothing fed. It allocates nothing.
     #[inline(always)]
-    pub(crate) fn new(alloc: Global, form: KeyForm) -> Self
-        ensures form { HasForm form result }
-        ensures begins { (reorder : ℕ → ℕ) (cs : List ℕ) (hs : List HandledElement) →
-            levels_left reorder form result cs hs
-            ≡ later_parts form (level_lists reorder form hs cs) }
+    pub(crate) fn new<F: WrittenForm>(alloc: Global, form: &F) -> Self
+        ensures form { HasForm (F.form_written form.now) result }
+        ensures begins { let f = F.form_written form.now in
+            (reorder : ℕ → ℕ) (cs : List ℕ) (hs : List HandledElement) →
+            levels_left reorder f result cs hs ≡ later_parts f (level_lists reorder f hs cs) }
     {
         LaterLevels {
             secondaries: HeldSecondaries::new(alloc),
@@ -111,19 +120,24 @@ impl LaterLevels {
 
     /// Holds the secondary and the tertiary of an element, where there are these levels.
     #[inline(always)]
-    fn push_weights(&mut self, form: KeyForm, element: CollationElement) -> Result<(), AllocError>
+    fn push_weights<F: WrittenForm>(
+        &mut self,
+        form: &F,
+        element: CollationElement,
+    ) -> Result<(), AllocError>
         requires case { element.lower < 0xC000 }
-        requires form { HasForm form self.old }
-        ensures form { HasForm form self.new }
-        ensures secondaries { OnOk result ((es : List Element) →
-            secondaries_left form.secondary self.old.secondaries self.old.segments (element ∷ es)
-            ≡ secondaries_left form.secondary self.new.secondaries self.new.segments es) }
-        ensures tertiaries { OnOk result ((es : List Element) →
-            tertiaries_left form.tertiary self.old.tertiaries (element ∷ es)
-            ≡ tertiaries_left form.tertiary self.new.tertiaries es) }
+        requires form { HasForm (F.form_written form.now) self.old }
+        ensures form { HasForm (F.form_written form.now) self.new }
+        ensures secondaries { let f = F.form_written form.now in OnOk result ((es : List Element) →
+            secondaries_left f.secondary self.old.secondaries self.old.segments (element ∷ es)
+            ≡ secondaries_left f.secondary self.new.secondaries self.new.segments es) }
+        ensures tertiaries { let f = F.form_written form.now in OnOk result ((es : List Element) →
+            tertiaries_left f.tertiary self.old.tertiaries (element ∷ es)
+            ≡ tertiaries_left f.tertiary self.new.tertiaries es) }
         ensures cases { self.new.cases ≡ self.old.cases }
         ensures quaternaries { self.new.quaternaries ≡ self.old.quaternaries }
     {
+        let form = form.form();
         let (secondaries, tertiaries) = (&mut self.secondaries, &mut self.tertiaries);
         match (form.secondary, form.tertiary) {
             (Some(SecondaryForm::Forward), Some(tertiary)) => {
@@ -138,51 +152,54 @@ impl LaterLevels {
 
     /// Holds what each level has for an element that stayed. After an error, discard the levels.
     #[inline(always)]
-    pub(crate) fn push_stayed(
+    pub(crate) fn push_stayed<F: WrittenForm>(
         &mut self,
-        form: KeyForm,
+        form: &F,
         element: CollationElement,
     ) -> Result<(), AllocError>
         requires case { element.lower < 0xC000 }
-        requires form { HasForm form self.old }
-        ensures form { HasForm form self.new }
-        ensures levels { OnOk result ((reorder : ℕ → ℕ) (cs : List ℕ) (hs : List HandledElement) →
-            levels_left reorder form self.old cs (stayed element ∷ hs)
-            ≡ levels_left reorder form self.new cs hs) }
+        requires form { HasForm (F.form_written form.now) self.old }
+        ensures form { HasForm (F.form_written form.now) self.new }
+        ensures levels { let f = F.form_written form.now in
+            OnOk result ((reorder : ℕ → ℕ) (cs : List ℕ) (hs : List HandledElement) →
+            levels_left reorder f self.old cs (stayed element ∷ hs)
+            ≡ levels_left reorder f self.new cs hs) }
     {
         self.push_weights(form, element)?;
+        let form = form.form();
         push_case(form.secondary, form.cases, &mut self.cases, element)?;
         push_quaternary(form.quaternary, &mut self.quaternaries, element)
     }
 
     /// Holds the primary of an element that is shifted. After an error, discard the levels.
     #[inline(always)]
-    pub(crate) fn push_shifted<C: PrimaryCompression>(
+    pub(crate) fn push_shifted<F: WrittenForm, C: PrimaryCompression>(
         &mut self,
-        form: KeyForm,
+        form: &F,
         compression: &C,
         primary: u32,
     ) -> Result<(), AllocError>
-        requires { HasForm form self.old }
-        ensures form { HasForm form self.new }
-        ensures levels { OnOk result ((cs : List ℕ) (hs : List HandledElement) →
-            levels_left (C.compression compression.now).reorder form self.old cs
-            (shifted_primary primary ∷ hs)
-            ≡ levels_left (C.compression compression.now).reorder form self.new cs hs) }
+        requires { HasForm (F.form_written form.now) self.old }
+        ensures form { HasForm (F.form_written form.now) self.new }
+        ensures levels { let reorder = (C.compression compression.now).reorder in
+            let f = F.form_written form.now in
+            OnOk result ((cs : List ℕ) (hs : List HandledElement) →
+            levels_left reorder f self.old cs (shifted_primary primary ∷ hs)
+            ≡ levels_left reorder f self.new cs hs) }
     {
         push_shifted(
-            form.quaternary,
+            form.form().quaternary,
             &mut self.quaternaries,
             compression,
             primary,
         )
     }
 
-    /// Writes the levels, given all characters of the text.
+    /// Writes the levels, given all characters of the text. Discard them then.
     #[inline(always)]
-    pub(crate) fn write<S: CollationKeySink>(
-        self,
-        form: KeyForm,
+    pub(crate) fn write<F: WrittenForm, S: CollationKeySink>(
+        &mut self,
+        form: &F,
         sink: &mut S,
         state: &mut S::State,
         characters: &[char],
@@ -190,18 +207,15 @@ impl LaterLevels {
         requires { S.is_sound sink.old state.old }
         ensures sound { S.is_sound sink.new state.new }
         ensures bytes { (reorder : ℕ → ℕ) → KeyWrites S.effects sink.old state.old
-            (parts_bytes (levels_left reorder form self characters.now []))
+            (parts_bytes (levels_left reorder (F.form_written form.now) self.old characters.now []))
             result sink.new state.new }
     {
-        let secondaries = self.secondaries;
-        let segments = self.segments;
-        let cases = self.cases;
-        let tertiaries = self.tertiaries;
-        let quaternaries = self.quaternaries;
-        write_secondaries(form.secondary, &secondaries, segments, sink, state)?;
-        write_cases(form.secondary, form.cases, cases, sink, state)?;
-        write_tertiaries(form.tertiary, &tertiaries, sink, state)?;
-        write_quaternaries(form.quaternary, quaternaries, sink, state)?;
+        let form = form.form();
+        let segments = &mut self.segments;
+        write_secondaries(form.secondary, &self.secondaries, segments, sink, state)?;
+        write_cases(form.secondary, form.cases, &mut self.cases, sink, state)?;
+        write_tertiaries(form.tertiary, &self.tertiaries, sink, state)?;
+        write_quaternaries(form.quaternary, &mut self.quaternaries, sink, state)?;
         write_identical(form.identical, sink, state, characters)
     }
 }

@@ -1,5 +1,4 @@
-//! Elements fed to single levels after the primary one. Which levels a key has, and in which form, the callers say:
-//! where they know it, none is asked for at an element.
+//! Elements fed to single levels after the primary one. Which levels a key has, and in which form, the callers say.
 
 ghost use Rattle.std.specs.Prelude.{◌≡◌, ◌<◌, ℕ, List, ◌∷◌, Some, IfSome, OnOk};
 ghost use Rattle.icu_entries.specs.Elements.{Element};

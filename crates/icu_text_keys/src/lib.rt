@@ -13,6 +13,7 @@ mod next_element;
 mod usual_forms;
 pub mod whole_key;
 pub mod writer;
+pub mod written_form;
 mod written_levels;
 mod written_weights;
 

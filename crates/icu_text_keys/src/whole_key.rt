@@ -12,6 +12,10 @@ ghost use Rattle.icu_text_keys.specs.UsualForms.{form_of};
 use crate::next_element::next_element;
 use crate::usual_forms::{UsualForm, usual_form};
 use crate::writer::KeyWriter;
+use crate::written_form::{
+    CaseLevelKey, LowerFirstKey, PrimaryKey, QuaternaryKey, SecondaryKey, TertiaryKey,
+    UpperFirstKey, WrittenForm,
+};
 use icu_keys::parts::end_key;
 use icu_keys::primaries::PrimaryCompression;
 use icu_keys::{CollationKeySink, SortKeyError};
@@ -21,22 +25,22 @@ use std::alloc::Global;
 
 /// Writes the rest of a key, of the elements that are still to come.
 #[inline(always)]
-fn write_elements<S: CollationKeySink, C: PrimaryCompression, H: HandledSource>(
-    form: KeyForm,
+fn write_elements<F: WrittenForm, S: CollationKeySink, C: PrimaryCompression, H: HandledSource>(
+    form: &F,
     sink: &mut S,
     state: &mut S::State,
     compression: &C,
-    mut writer: KeyWriter,
+    writer: &mut KeyWriter,
     elements: &mut H,
     characters: &[char],
 ) -> Result<(), SortKeyError<S::Error>>
     requires sound { S.is_sound sink.old state.old }
-    requires form { HasForm form writer.levels }
+    requires form { HasForm (F.form_written form.now) writer.old.levels }
     requires cases { AllByRecursion HasCase (H.handled_left elements.old) }
     ensures sound { S.is_sound sink.new state.new }
     ensures bytes { KeyWrites S.effects sink.old state.old
-        (key_rest (C.compression compression.now) form writer characters.now
-        (H.handled_left elements.old))
+        (key_rest (C.compression compression.now) (F.form_written form.now) writer.old
+        characters.now (H.handled_left elements.old))
         result sink.new state.new }
 {
     'writing: while let Some(element) = next_element(elements)? {
@@ -47,9 +51,9 @@ fn write_elements<S: CollationKeySink, C: PrimaryCompression, H: HandledSource>(
 
 /// Writes all levels of a key of this form.
 #[inline(always)]
-fn write_in_form<S: CollationKeySink, C: PrimaryCompression, H: HandledSource>(
+fn write_in_form<F: WrittenForm, S: CollationKeySink, C: PrimaryCompression, H: HandledSource>(
     alloc: Global,
-    form: KeyForm,
+    form: &F,
     sink: &mut S,
     state: &mut S::State,
     compression: &C,
@@ -59,17 +63,24 @@ fn write_in_form<S: CollationKeySink, C: PrimaryCompression, H: HandledSource>(
     requires sound { S.is_sound sink.old state.old }
     requires cases { AllByRecursion HasCase (H.handled_left elements.old) }
     ensures sound { S.is_sound sink.new state.new }
-    ensures bytes { KeyWrites S.effects sink.old state.old
-        (key_bytes (C.compression compression.now) form
-        (level_lists (C.compression compression.now).reorder form
-        (H.handled_left elements.old) characters.now))
+    ensures bytes { let c = C.compression compression.now in let f = F.form_written form.now in
+        KeyWrites S.effects sink.old state.old
+        (key_bytes c f (level_lists c.reorder f (H.handled_left elements.old) characters.now))
         result sink.new state.new }
 {
-    let writer = KeyWriter::begin(alloc, form);
-    write_elements(form, sink, state, compression, writer, elements, characters)
+    let mut writer = KeyWriter::begin(alloc, form);
+    write_elements(
+        form,
+        sink,
+        state,
+        compression,
+        &mut writer,
+        elements,
+        characters,
+    )
 }
 
-/// Writes all levels of a key of a usual form, each by a loop of its own.
+/// Writes all levels of a key of a usual form, each by code of its own.
 fn write_usual<S: CollationKeySink, C: PrimaryCompression, H: HandledSource>(
     alloc: Global,
     usual: UsualForm,
@@ -91,38 +102,38 @@ fn write_usual<S: CollationKeySink, C: PrimaryCompression, H: HandledSource>(
 {
     match usual {
         UsualForm::Primary => {
-            let form = UsualForm::Primary.form(identical);
-            write_in_form(alloc, form, sink, state, compression, elements, characters)
+            let form = PrimaryKey { identical };
+            write_in_form(alloc, &form, sink, state, compression, elements, characters)
         }
         UsualForm::Secondary => {
-            let form = UsualForm::Secondary.form(identical);
-            write_in_form(alloc, form, sink, state, compression, elements, characters)
+            let form = SecondaryKey { identical };
+            write_in_form(alloc, &form, sink, state, compression, elements, characters)
         }
         UsualForm::Tertiary => {
-            let form = UsualForm::Tertiary.form(identical);
-            write_in_form(alloc, form, sink, state, compression, elements, characters)
+            let form = TertiaryKey { identical };
+            write_in_form(alloc, &form, sink, state, compression, elements, characters)
         }
         UsualForm::LowerFirst => {
-            let form = UsualForm::LowerFirst.form(identical);
-            write_in_form(alloc, form, sink, state, compression, elements, characters)
+            let form = LowerFirstKey { identical };
+            write_in_form(alloc, &form, sink, state, compression, elements, characters)
         }
         UsualForm::UpperFirst => {
-            let form = UsualForm::UpperFirst.form(identical);
-            write_in_form(alloc, form, sink, state, compression, elements, characters)
+            let form = UpperFirstKey { identical };
+            write_in_form(alloc, &form, sink, state, compression, elements, characters)
         }
         UsualForm::Quaternary => {
-            let form = UsualForm::Quaternary.form(identical);
-            write_in_form(alloc, form, sink, state, compression, elements, characters)
+            let form = QuaternaryKey { identical };
+            write_in_form(alloc, &form, sink, state, compression, elements, characters)
         }
         UsualForm::CaseLevel => {
-            let form = UsualForm::CaseLevel.form(identical);
-            write_in_form(alloc, form, sink, state, compression, elements, characters)
+            let form = CaseLevelKey { identical };
+            write_in_form(alloc, &form, sink, state, compression, elements, characters)
         }
     }
 }
 
-/// Writes all levels of a key. The forms that keys mostly have are told apart here, once, so that each has a loop of
-/// its own, which asks for no level at an element.
+/// Writes all levels of a key. The forms that keys mostly have are told apart here, once. Each is a type, so that code
+/// is built for it which asks for no level at an element.
 fn write_levels<S: CollationKeySink, C: PrimaryCompression, H: HandledSource>(
     alloc: Global,
     form: KeyForm,
@@ -154,7 +165,7 @@ fn write_levels<S: CollationKeySink, C: PrimaryCompression, H: HandledSource>(
                 characters,
             )
         }
-        None => write_in_form(alloc, form, sink, state, compression, elements, characters),
+        None => write_in_form(alloc, &form, sink, state, compression, elements, characters),
     }
 }
 

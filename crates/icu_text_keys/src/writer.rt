@@ -12,10 +12,10 @@ ghost use Rattle.icu_weighting.specs.Levels.{level_lists, primaries};
 ghost use Rattle.icu_weighting.specs.HandledSources.{HasCase, handled_as};
 
 use crate::later_levels::LaterLevels;
+use crate::written_form::WrittenForm;
 use icu_entries::CollationElement;
 use icu_keys::primaries::{PrimaryCompression, PrimaryWriter};
 use icu_keys::{CollationKeySink, SortKeyError};
-use icu_levels::forms::KeyForm;
 use icu_weighting::Handled;
 use std::alloc::Global;
 
@@ -60,10 +60,11 @@ impl KeyWriter {
     /// The writer of a key of this form, with nothing written. It allocates nothing. Each further call is given the
     /// same form.
     #[inline(always)]
-    pub fn begin(alloc: Global, form: KeyForm) -> KeyWriter
-        ensures form { HasForm form result.levels }
-        ensures begins { (c : Compression) (cs : List ℕ) (hs : List HandledElement) →
-            key_rest c form result cs hs ≡ key_bytes c form (level_lists c.reorder form hs cs) }
+    pub fn begin<F: WrittenForm>(alloc: Global, form: &F) -> KeyWriter
+        ensures form { HasForm (F.form_written form.now) result.levels }
+        ensures begins { let f = F.form_written form.now in
+            (c : Compression) (cs : List ℕ) (hs : List HandledElement) →
+            key_rest c f result cs hs ≡ key_bytes c f (level_lists c.reorder f hs cs) }
     {
         KeyWriter {
             primaries: PrimaryWriter::new(),
@@ -73,23 +74,23 @@ impl KeyWriter {
 
     /// Writes what the next element gives, which stayed: it is not variable. After an error, discard the writer.
     #[inline(always)]
-    pub fn push_stayed<S: CollationKeySink, C: PrimaryCompression>(
+    pub fn push_stayed<F: WrittenForm, S: CollationKeySink, C: PrimaryCompression>(
         &mut self,
-        form: KeyForm,
+        form: &F,
         sink: &mut S,
         state: &mut S::State,
         compression: &C,
         element: CollationElement,
     ) -> Result<(), SortKeyError<S::Error>>
         requires sound { S.is_sound sink.old state.old }
-        requires form { HasForm form self.old.levels }
+        requires form { HasForm (F.form_written form.now) self.old.levels }
         requires case { element.lower < 0xC000 }
         ensures sound { S.is_sound sink.new state.new }
-        ensures form { HasForm form self.new.levels }
-        ensures bytes { (cs : List ℕ) → KeyFeeds S.effects sink.old state.old
-            (λ (hs : List HandledElement). key_rest (C.compression compression.now) form self.old cs
-            (stayed element ∷ hs))
-            (key_rest (C.compression compression.now) form self.new cs) result sink.new state.new }
+        ensures form { HasForm (F.form_written form.now) self.new.levels }
+        ensures bytes { let c = C.compression compression.now in let f = F.form_written form.now in
+            (cs : List ℕ) → KeyFeeds S.effects sink.old state.old
+            (λ (hs : List HandledElement). key_rest c f self.old cs (stayed element ∷ hs))
+            (key_rest c f self.new cs) result sink.new state.new }
     {
         if let Err(error) = push_primary(&mut self.primaries, sink, state, compression, element) {
             return Err(SortKeyError::Sink(error));
@@ -103,22 +104,22 @@ impl KeyWriter {
     /// Holds the primary of the next element, which is shifted: it is variable. The sink takes nothing. After an error,
     /// discard the writer.
     #[inline(always)]
-    pub fn push_shifted<S: CollationKeySink, C: PrimaryCompression>(
+    pub fn push_shifted<F: WrittenForm, S: CollationKeySink, C: PrimaryCompression>(
         &mut self,
-        form: KeyForm,
+        form: &F,
         sink: &mut S,
         state: &mut S::State,
         compression: &C,
         primary: u32,
     ) -> Result<(), SortKeyError<S::Error>>
         requires sound { S.is_sound sink.old state.old }
-        requires form { HasForm form self.old.levels }
+        requires form { HasForm (F.form_written form.now) self.old.levels }
         ensures sound { S.is_sound sink.new state.new }
-        ensures form { HasForm form self.new.levels }
-        ensures bytes { (cs : List ℕ) → KeyFeeds S.effects sink.old state.old
-            (λ (hs : List HandledElement). key_rest (C.compression compression.now) form self.old cs
-            (shifted_primary primary ∷ hs))
-            (key_rest (C.compression compression.now) form self.new cs) result sink.new state.new }
+        ensures form { HasForm (F.form_written form.now) self.new.levels }
+        ensures bytes { let c = C.compression compression.now in let f = F.form_written form.now in
+            (cs : List ℕ) → KeyFeeds S.effects sink.old state.old
+            (λ (hs : List HandledElement). key_rest c f self.old cs (shifted_primary primary ∷ hs))
+            (key_rest c f self.new cs) result sink.new state.new }
     {
         match self.levels.push_shifted(form, compression, primary) {
             Ok(()) => Ok(()),
@@ -128,23 +129,23 @@ impl KeyWriter {
 
     /// Writes what the next element gives. After an error, discard the writer.
     #[inline(always)]
-    pub fn push<S: CollationKeySink, C: PrimaryCompression>(
+    pub fn push<F: WrittenForm, S: CollationKeySink, C: PrimaryCompression>(
         &mut self,
-        form: KeyForm,
+        form: &F,
         sink: &mut S,
         state: &mut S::State,
         compression: &C,
         element: Handled,
     ) -> Result<(), SortKeyError<S::Error>>
         requires sound { S.is_sound sink.old state.old }
-        requires form { HasForm form self.old.levels }
+        requires form { HasForm (F.form_written form.now) self.old.levels }
         requires case { HasCase (handled_as element) }
         ensures sound { S.is_sound sink.new state.new }
-        ensures form { HasForm form self.new.levels }
-        ensures bytes { (cs : List ℕ) → KeyFeeds S.effects sink.old state.old
-            (λ (hs : List HandledElement). key_rest (C.compression compression.now) form self.old cs
-            (handled_as element ∷ hs))
-            (key_rest (C.compression compression.now) form self.new cs) result sink.new state.new }
+        ensures form { HasForm (F.form_written form.now) self.new.levels }
+        ensures bytes { let c = C.compression compression.now in let f = F.form_written form.now in
+            (cs : List ℕ) → KeyFeeds S.effects sink.old state.old
+            (λ (hs : List HandledElement). key_rest c f self.old cs (handled_as element ∷ hs))
+            (key_rest c f self.new cs) result sink.new state.new }
     {
         match element {
             Handled::Stayed(element) => self.push_stayed(form, sink, state, compression, element),
@@ -153,12 +154,12 @@ impl KeyWriter {
     }
 
     /// Writes the rest of the key, given all characters of the decomposed text, which count at the identical level
-    /// alone.
+    /// alone. Discard the writer then.
     #[tactic(auto, unfolding(icu_weighting::specs::Levels::weights))]
     #[inline(always)]
-    pub fn close<S: CollationKeySink>(
-        self,
-        form: KeyForm,
+    pub fn close<F: WrittenForm, S: CollationKeySink>(
+        &mut self,
+        form: &F,
         sink: &mut S,
         state: &mut S::State,
         characters: &[char],
@@ -166,7 +167,8 @@ impl KeyWriter {
         requires { S.is_sound sink.old state.old }
         ensures sound { S.is_sound sink.new state.new }
         ensures bytes { (c : Compression) → KeyWrites S.effects sink.old state.old
-            (key_rest c form self characters.now []) result sink.new state.new }
+            (key_rest c (F.form_written form.now) self.old characters.now [])
+            result sink.new state.new }
     {
         self.levels.write(form, sink, state, characters)
     }

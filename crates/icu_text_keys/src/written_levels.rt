@@ -1,14 +1,13 @@
 //! The levels after the primary one, written as they end.
 
-ghost use Rattle.std.specs.Prelude.{◌≡◌, ℕ, List, [], IfOk};
-ghost use Rattle.icu_keys.specs.HeldRests.{held_cases};
+ghost use Rattle.std.specs.Prelude.{◌≡◌, ℕ, []};
+ghost use Rattle.icu_keys.specs.HeldRests.{held_cases, held_quaternaries, held_segments};
 ghost use Rattle.icu_levels.specs.Identical.{identical_level};
 ghost use Rattle.icu_levels.specs.Keys.{part_bytes, opened, closed};
 ghost use Rattle.icu_keys.specs.KeyWrites.{KeyWrites};
 ghost use Rattle.icu_keys.specs.Writes.{Writes};
 ghost use Rattle.icu_text_keys.specs.LevelRests.{secondaries_left, cases_left, tertiaries_left, quaternaries_left, characters_left};
 
-use icu_keys::held::INLINE;
 use icu_keys::held_cases::HeldCases;
 use icu_keys::held_quaternaries::HeldQuaternaries;
 use icu_keys::held_secondaries::HeldSecondaries;
@@ -18,25 +17,22 @@ use icu_keys::identical::IdenticalWriter;
 use icu_keys::parts::{write_closed, write_opened};
 use icu_keys::{CollationKeySink, SortKeyError};
 use icu_levels::forms::{CaseForm, QuaternaryForm, SecondaryForm, TertiaryForm};
-use smallvec::SmallVec;
-use std::alloc::AllocError;
 
 /// The byte that opens a level.
 const LEVEL: u8 = 1;
 
-/// Writes the bytes of a level between those that open and close it, where there was memory for them.
-fn write_held<S: CollationKeySink>(
-    bytes: Result<SmallVec<u8, INLINE>, AllocError>,
+/// Writes a backward level, as it ends here.
+fn write_segments<S: CollationKeySink>(
+    level: HeldSegments,
     sink: &mut S,
     state: &mut S::State,
 ) -> Result<(), SortKeyError<S::Error>>
     requires { S.is_sound sink.old state.old }
     ensures sound { S.is_sound sink.new state.new }
-    ensures bytes { (level : List ℕ) → IfOk bytes (λ b. b.items ≡ level) →
-        KeyWrites S.effects sink.old state.old (part_bytes (closed level))
-        result sink.new state.new }
+    ensures bytes { KeyWrites S.effects sink.old state.old
+        (part_bytes (closed (held_segments level ([], [])))) result sink.new state.new }
 {
-    match bytes {
+    match level.finish() {
         Ok(bytes) => match write_closed(sink, state, bytes.as_slice()) {
             Ok(()) => Ok(()),
             Err(error) => Err(SortKeyError::Sink(error)),
@@ -51,14 +47,14 @@ fn write_held<S: CollationKeySink>(
 pub(crate) fn write_secondaries<S: CollationKeySink>(
     form: Option<SecondaryForm>,
     level: &HeldSecondaries,
-    backward: Option<HeldSegments>,
+    backward: &mut Option<HeldSegments>,
     sink: &mut S,
     state: &mut S::State,
 ) -> Result<(), SortKeyError<S::Error>>
     requires { S.is_sound sink.old state.old }
     ensures sound { S.is_sound sink.new state.new }
     ensures bytes { KeyWrites S.effects sink.old state.old
-        (part_bytes (secondaries_left form level.now backward []))
+        (part_bytes (secondaries_left form level.now backward.old []))
         result sink.new state.new }
 {
     match form {
@@ -67,9 +63,9 @@ pub(crate) fn write_secondaries<S: CollationKeySink>(
             Ok(()) => Ok(()),
             Err(error) => Err(SortKeyError::Sink(error)),
         },
-        Some(SecondaryForm::Backward) => match backward {
+        Some(SecondaryForm::Backward) => match backward.take() {
             None => Ok(()),
-            Some(level) => write_held(level.finish(), sink, state),
+            Some(level) => write_segments(level, sink, state),
         },
     }
 }
@@ -77,17 +73,17 @@ pub(crate) fn write_secondaries<S: CollationKeySink>(
 /// Writes a case level, as it ends here.
 #[tactic(auto, unfolding(icu_weighting::specs::Levels::weights))]
 fn write_held_cases<S: CollationKeySink>(
-    level: HeldCases,
+    level: &mut HeldCases,
     sink: &mut S,
     state: &mut S::State,
 ) -> Result<(), SortKeyError<S::Error>>
     requires { S.is_sound sink.old state.old }
     ensures sound { S.is_sound sink.new state.new }
     ensures bytes { KeyWrites S.effects sink.old state.old
-        (part_bytes (opened (held_cases level []))) result sink.new state.new }
+        (part_bytes (opened (held_cases level.old []))) result sink.new state.new }
 {
     match level.finish() {
-        Ok(bytes) => match write_opened(sink, state, bytes.as_slice()) {
+        Ok(()) => match write_opened(sink, state, level.bytes()) {
             Ok(()) => Ok(()),
             Err(error) => Err(SortKeyError::Sink(error)),
         },
@@ -101,14 +97,14 @@ fn write_held_cases<S: CollationKeySink>(
 pub(crate) fn write_cases<S: CollationKeySink>(
     before: Option<SecondaryForm>,
     form: Option<CaseForm>,
-    level: Option<HeldCases>,
+    level: &mut Option<HeldCases>,
     sink: &mut S,
     state: &mut S::State,
 ) -> Result<(), SortKeyError<S::Error>>
     requires { S.is_sound sink.old state.old }
     ensures sound { S.is_sound sink.new state.new }
     ensures bytes { KeyWrites S.effects sink.old state.old
-        (part_bytes (cases_left before form level [])) result sink.new state.new }
+        (part_bytes (cases_left before form level.old [])) result sink.new state.new }
 {
     match form {
         None => Ok(()),
@@ -142,25 +138,46 @@ pub(crate) fn write_tertiaries<S: CollationKeySink>(
     }
 }
 
+/// Writes a quaternary level, as it ends here.
+#[tactic(auto, unfolding(icu_weighting::specs::Levels::quaternaries))]
+fn write_held_quaternaries<S: CollationKeySink>(
+    level: &mut HeldQuaternaries,
+    sink: &mut S,
+    state: &mut S::State,
+) -> Result<(), SortKeyError<S::Error>>
+    requires { S.is_sound sink.old state.old }
+    ensures sound { S.is_sound sink.new state.new }
+    ensures bytes { KeyWrites S.effects sink.old state.old
+        (part_bytes (closed (held_quaternaries level.old []))) result sink.new state.new }
+{
+    match level.finish() {
+        Ok(()) => match write_closed(sink, state, level.bytes()) {
+            Ok(()) => Ok(()),
+            Err(error) => Err(SortKeyError::Sink(error)),
+        },
+        Err(_) => Err(SortKeyError::NoMemory),
+    }
+}
+
 /// Writes the quaternary level, where there is one, as it ends here.
 #[inline(always)]
 #[tactic(auto, unfolding(icu_weighting::specs::Levels::quaternaries))]
 pub(crate) fn write_quaternaries<S: CollationKeySink>(
     form: Option<QuaternaryForm>,
-    level: Option<HeldQuaternaries>,
+    level: &mut Option<HeldQuaternaries>,
     sink: &mut S,
     state: &mut S::State,
 ) -> Result<(), SortKeyError<S::Error>>
     requires { S.is_sound sink.old state.old }
     ensures sound { S.is_sound sink.new state.new }
     ensures bytes { (reorder : ℕ → ℕ) → KeyWrites S.effects sink.old state.old
-        (part_bytes (quaternaries_left reorder form level [])) result sink.new state.new }
+        (part_bytes (quaternaries_left reorder form level.old [])) result sink.new state.new }
 {
     match form {
         None => Ok(()),
         Some(_) => match level {
             None => Ok(()),
-            Some(level) => write_held(level.finish(), sink, state),
+            Some(level) => write_held_quaternaries(level, sink, state),
         },
     }
 }

@@ -22,13 +22,13 @@ writing-preserved g c =
     let x : Handled = c.in-Some.element in
     let rest : List HandledElement = g.H.HandledSource.handled_left c.next_element.new.elements in
     let opened : g.H.HandledSource.handled_left c.writing.elements ≡ handled_as x ∷ rest = one_given _ rest _ x c.in-Some.is c.in_ok-element.ensures.next in
-    let owes = subst (λ (l : List HandledElement). Owes g.S.CollationKeySink.effects c.args.sink.now c.args.state.now (key_rest compression c.args.form c.args.writer c.args.characters.now (g.H.HandledSource.handled_left c.args.elements.now)) (key_rest compression c.args.form c.writing.writer c.args.characters.now l) c.writing.sink c.writing.state) opened c.writing.invariant.owes in
+    let owes = subst (λ (l : List HandledElement). Owes g.S.CollationKeySink.effects c.args.sink.now c.args.state.now (key_rest compression (g.F.WrittenForm.form_written c.args.form.now) c.args.writer.now c.args.characters.now (g.H.HandledSource.handled_left c.args.elements.now)) (key_rest compression (g.F.WrittenForm.form_written c.args.form.now) c.writing.writer c.args.characters.now l) c.writing.sink c.writing.state) opened c.writing.invariant.owes in
     let cases = subst (λ (l : List HandledElement). AllByRecursion HasCase l) opened c.writing.invariant.cases in
     record {
       sound = c.in_ok-push.ensures.sound;
       form = c.in_ok-push.ensures.form;
       cases = cases.1;
-      owes = owes_fed g.S.CollationKeySink.effects _ _ _ _ _ _ _ (λ (hs : List HandledElement). key_rest compression c.args.form c.writing.writer c.args.characters.now (handled_as x ∷ hs)) (key_rest compression c.args.form c.push.new.self c.args.characters.now) rest
+      owes = owes_fed g.S.CollationKeySink.effects _ _ _ _ _ _ _ (λ (hs : List HandledElement). key_rest compression (g.F.WrittenForm.form_written c.args.form.now) c.writing.writer c.args.characters.now (handled_as x ∷ hs)) (key_rest compression (g.F.WrittenForm.form_written c.args.form.now) c.push.new.self c.args.characters.now) rest
           (λ y z t u b d. g.met.S.CollationKeySink.took_both _ y z _ t u b d c.requires.sound) owes (c.in_ok-push.ensures.bytes c.args.characters.now);
     }
 
@@ -39,15 +39,15 @@ returns-in_err-push-clause-bytes g c =
     let x : Handled = c.in-Some.element in
     let rest : List HandledElement = g.H.HandledSource.handled_left c.next_element.new.elements in
     let opened : g.H.HandledSource.handled_left c.writing.elements ≡ handled_as x ∷ rest = one_given _ rest _ x c.in-Some.is c.in_ok-element.ensures.next in
-    let owes = subst (λ (l : List HandledElement). Owes g.S.CollationKeySink.effects c.args.sink.now c.args.state.now (key_rest compression c.args.form c.args.writer c.args.characters.now (g.H.HandledSource.handled_left c.args.elements.now)) (key_rest compression c.args.form c.writing.writer c.args.characters.now l) c.writing.sink c.writing.state) opened c.writing.invariant.owes in
+    let owes = subst (λ (l : List HandledElement). Owes g.S.CollationKeySink.effects c.args.sink.now c.args.state.now (key_rest compression (g.F.WrittenForm.form_written c.args.form.now) c.args.writer.now c.args.characters.now (g.H.HandledSource.handled_left c.args.elements.now)) (key_rest compression (g.F.WrittenForm.form_written c.args.form.now) c.writing.writer c.args.characters.now l) c.writing.sink c.writing.state) opened c.writing.invariant.owes in
     rw (p.1, p.2) (key_owed g.S.CollationKeySink.effects {O = Unit {0}} _ _ _ _ _ _ _ _ (Err c.in_err-push.field-0.0)
     (λ y z t u b d. g.met.S.CollationKeySink.took_both _ y z _ t u b d c.requires.sound) owes
-    (feeds_stopped g.S.CollationKeySink.effects (Unit {0}) _ _ _ _ (λ (hs : List HandledElement). key_rest compression c.args.form c.writing.writer c.args.characters.now (handled_as x ∷ hs)) (key_rest compression c.args.form c.push.new.self c.args.characters.now) rest c.in_err-push.field-0.0 (c.in_err-push.ensures.bytes c.args.characters.now)))
+    (feeds_stopped g.S.CollationKeySink.effects (Unit {0}) _ _ _ _ (λ (hs : List HandledElement). key_rest compression (g.F.WrittenForm.form_written c.args.form.now) c.writing.writer c.args.characters.now (handled_as x ∷ hs)) (key_rest compression (g.F.WrittenForm.form_written c.args.form.now) c.push.new.self c.args.characters.now) rest c.in_err-push.field-0.0 (c.in_err-push.ensures.bytes c.args.characters.now)))
 
 pub returns-clause-bytes : goal.returns-clause-bytes
 returns-clause-bytes g c =
     let compression : Compression = g.C.PrimaryCompression.compression c.args.compression.now in
     let none : g.H.HandledSource.handled_left c.writing.elements ≡ [] = none_given _ (g.H.HandledSource.handled_left c.next_element.new.elements) _ c.in_default.not-Some c.in_ok-element.ensures.next in
-    let owes = subst (λ (l : List HandledElement). Owes g.S.CollationKeySink.effects c.args.sink.now c.args.state.now (key_rest compression c.args.form c.args.writer c.args.characters.now (g.H.HandledSource.handled_left c.args.elements.now)) (key_rest compression c.args.form c.writing.writer c.args.characters.now l) c.writing.sink c.writing.state) none c.writing.invariant.owes in
+    let owes = subst (λ (l : List HandledElement). Owes g.S.CollationKeySink.effects c.args.sink.now c.args.state.now (key_rest compression (g.F.WrittenForm.form_written c.args.form.now) c.args.writer.now c.args.characters.now (g.H.HandledSource.handled_left c.args.elements.now)) (key_rest compression (g.F.WrittenForm.form_written c.args.form.now) c.writing.writer c.args.characters.now l) c.writing.sink c.writing.state) none c.writing.invariant.owes in
     key_owed g.S.CollationKeySink.effects _ _ _ _ _ _ _ _ _
     (λ y z t u b d. g.met.S.CollationKeySink.took_both _ y z _ t u b d c.requires.sound) owes (c.close.ensures.bytes compression)

@@ -9,10 +9,10 @@ use Rattle.icu_text_keys.proofs.whole_key.write_elements.Given as goal
 abbrev pub invariant-writing : goal.invariant-writing
 invariant-writing g l = record {
   sound : g.S.CollationKeySink.is_sound l.sink l.state;
-  form : HasForm l.form l.writer.levels;
+  form : HasForm (g.F.WrittenForm.form_written l.form) l.writer.levels;
   cases : AllByRecursion HasCase (g.H.HandledSource.handled_left l.elements);
-  owes : Owes g.S.CollationKeySink.effects l.fn.sink l.fn.state (key_rest (g.C.PrimaryCompression.compression l.compression) l.form l.fn.writer l.characters (g.H.HandledSource.handled_left l.fn.elements))
-      (key_rest (g.C.PrimaryCompression.compression l.compression) l.form l.writer l.characters (g.H.HandledSource.handled_left l.elements)) l.sink l.state;
+  owes : Owes g.S.CollationKeySink.effects l.fn.sink l.fn.state (key_rest (g.C.PrimaryCompression.compression l.compression) (g.F.WrittenForm.form_written l.form) l.fn.writer l.characters (g.H.HandledSource.handled_left l.fn.elements))
+      (key_rest (g.C.PrimaryCompression.compression l.compression) (g.F.WrittenForm.form_written l.form) l.writer l.characters (g.H.HandledSource.handled_left l.elements)) l.sink l.state;
 }
 
 abbrev pub decreases-writing : goal.decreases-writing

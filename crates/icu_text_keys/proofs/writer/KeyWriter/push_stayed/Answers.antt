@@ -11,12 +11,12 @@ use Rattle.icu_text_keys.proofs.writer.KeyWriter.push_stayed.Goals as goal
 
 pub returns-in-Err-clause-bytes : goal.returns-in-Err-clause-bytes
 returns-in-Err-clause-bytes g c = λ cs rest.
-    fails_front g.S.CollationKeySink.effects _ _ _ _ _ (parts_bytes (levels_left (g.C.PrimaryCompression.compression c.args.compression.now).reorder c.args.form c.args.self.now.levels cs (stayed c.args.element ∷ rest))) _ (c.in-Err.ensures.bytes (stayed_elements rest))
+    fails_front g.S.CollationKeySink.effects _ _ _ _ _ (parts_bytes (levels_left (g.C.PrimaryCompression.compression c.args.compression.now).reorder (g.F.WrittenForm.form_written c.args.form.now) c.args.self.now.levels cs (stayed c.args.element ∷ rest))) _ (c.in-Err.ensures.bytes (stayed_elements rest))
 
 pub returns-in-Err-push_stayed-clause-bytes : goal.returns-in-Err-push_stayed-clause-bytes
 returns-in-Err-push_stayed-clause-bytes g c = λ cs rest.
     let p : List Element → List ℕ = λ es. primary_rest (g.C.PrimaryCompression.compression c.args.compression.now) c.args.self.now.primaries (primaries (c.args.element ∷ es)) in
     let q : List Element → List ℕ = λ es. primary_rest (g.C.PrimaryCompression.compression c.args.compression.now) c.push_primary.new.writer (primaries es) in
     begins_brought g.S.CollationKeySink.effects _ _ _ _ (λ (hs : List HandledElement). p (stayed_elements hs)) (λ hs. q (stayed_elements hs))
-    (λ hs. parts_bytes (levels_left (g.C.PrimaryCompression.compression c.args.compression.now).reorder c.args.form c.args.self.now.levels cs (stayed c.args.element ∷ hs)))
+    (λ hs. parts_bytes (levels_left (g.C.PrimaryCompression.compression c.args.compression.now).reorder (g.F.WrittenForm.form_written c.args.form.now) c.args.self.now.levels cs (stayed c.args.element ∷ hs)))
     (brings_of g.S.CollationKeySink.effects stayed_elements _ _ _ _ p q c.in_default.ensures.bytes) rest
