@@ -1,6 +1,6 @@
 //! Collators: each has a collation, tables and settings together.
 
-ghost use Rattle.std.specs.Prelude.{◌≡◌, false, Err, Ok, IfErr, IfOk, IfSome};
+ghost use Rattle.std.specs.Prelude.{◌≡◌, false, Err, Ok, IfErr, IfOk, IsOk, IfSome};
 ghost use Rattle.icu_options.specs.Conversions.{resolved_of};
 ghost use Rattle.icu_options.specs.Merge.{merge};
 ghost use Rattle.icu_options.specs.FlaggedSettings.{values_of};
@@ -144,6 +144,38 @@ impl Collator {
             tables,
             named,
             kept_facts,
+            settings,
+        })
+    }
+
+    /// The collator by the same tables with other settings. The tables aren't checked again, and what is kept of
+    /// characters stays, unless digits are to be read otherwise than before: then it is worked out anew. The locale and
+    /// the type of `preferences` aren't read. Settings are those of `try_new_unstable`.
+    ///
+    /// `NoMemory` says that an allocation failed, and comes only where digits are read otherwise than before.
+    pub fn with_options(
+        self,
+        alloc: Global,
+        preferences: CollatorPreferences<'_>,
+        options: CollatorOptions,
+    ) -> Result<Collator, DataError>
+        ensures keeps { IfOk result (λ c. tables_kept c ≡ tables_kept self) }
+        ensures settings { IfOk result (λ c. settings_kept c
+            ≡ merge options preferences.entry (metadata_settings (tables_kept self).bits)) }
+        ensures memory { IfErr result (λ e. e.kind ≡ NoMemory) }
+        ensures free { (merge options preferences.entry
+            (metadata_settings (tables_kept self).bits)).numeric ≡ (settings_kept self).numeric
+            → IsOk result }
+    {
+        let metadata = self.tables.metadata().settings();
+        let settings = merged_options(options, preferences, metadata);
+        if settings.numeric() != self.settings.numeric() {
+            return Collator::by_tables(alloc, self.tables, preferences, options);
+        }
+        Ok(Collator {
+            tables: self.tables,
+            named: self.named,
+            kept_facts: self.kept_facts,
             settings,
         })
     }
