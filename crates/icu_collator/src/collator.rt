@@ -1,6 +1,6 @@
 //! Collators: each has a collation, tables and settings together.
 
-ghost use Rattle.std.specs.Prelude.{◌≡◌, false, Err, Ok, IfErr, IfOk, IsOk, IfSome};
+ghost use Rattle.std.specs.Prelude.{◌≡◌, false, Err, Ok, IfErr, IfOk, IsOk, IfSome, IsSome};
 ghost use Rattle.icu_options.specs.Conversions.{resolved_of};
 ghost use Rattle.icu_options.specs.Merge.{merge};
 ghost use Rattle.icu_options.specs.FlaggedSettings.{values_of};
@@ -287,6 +287,39 @@ impl<'a> CollatorBorrowed<'a> {
         ensures { element_tables result ≡ (tables_borrowed self.now).tables }
     {
         ElementTables::new(self.tables)
+    }
+
+    /// A collator of the same tables with other settings, beside this one: nothing is checked again, worked out anew or
+    /// copied. The locale and the type of `preferences` aren't read. Settings are those of
+    /// `Collator::try_new_unstable`.
+    ///
+    /// `None` where digits are to be read otherwise than by this collator: what is kept of characters serves one way of
+    /// reading them. `Collator::with_options` makes a collator then.
+    pub fn with_options(
+        &self,
+        preferences: CollatorPreferences<'_>,
+        options: CollatorOptions,
+    ) -> Option<CollatorBorrowed<'a>>
+        ensures keeps { IfSome result (λ c. tables_borrowed c ≡ tables_borrowed self.now) }
+        ensures settings { IfSome result (λ c. settings_borrowed c
+            ≡ merge options preferences.entry (metadata_settings (tables_borrowed self.now).bits)) }
+        ensures given { (merge options preferences.entry
+            (metadata_settings (tables_borrowed self.now).bits)).numeric
+            ≡ (settings_borrowed self.now).numeric → IsSome result }
+    {
+        let metadata = self.tables.metadata().settings();
+        let settings = merged_options(options, preferences, metadata);
+        if settings.numeric() != self.settings.numeric() {
+            return None;
+        }
+        Some(CollatorBorrowed {
+            tables: self.tables,
+            named: self.named,
+            kept_facts: self.kept_facts,
+            settings,
+            form: key_form(self.tables, settings),
+            last_variable: last_variable(self.tables, settings),
+        })
     }
 
     /// The levels that count, and their forms.

@@ -1,0 +1,13 @@
+use Rattle.std.proofs.Common.{rules}
+use Rattle.icu_checks.specs.Checked.{checked_tables}
+use Rattle.icu_collator.proofs.OtherSettings.{facts_stay}
+use Rattle.icu_collator.proofs.collator.CollatorBorrowed.with_options.Goals as goal
+
+pub invariant_of-result : goal.invariant_of-result
+invariant_of-result c = record {
+  backward = search rules;
+  known = facts_stay (checked_tables c.args.self.now.tables.now) c.args.self.now.kept_facts.now _ _ _ _ c.numeric.ensures c.numeric-2.ensures c.if-numeric.false c.args.self.now.known;
+  levels = c.key_form.ensures;
+  variable = c.last_variable.ensures;
+  names = c.args.self.now.names;
+}
