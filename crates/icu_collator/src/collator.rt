@@ -93,7 +93,7 @@ impl Collator {
     {
         let loaded = load_tables(provider, preferences.locale, preferences.collation_type)?;
         let tables = CheckedTables::from_set(alloc, loaded)?;
-        Collator::by_tables(alloc, tables, preferences, options)
+        Collator::from_checked_tables(alloc, tables, preferences, options)
     }
 
     /// A collator by these tables, which are checked together and kept: nothing is copied, and
@@ -121,11 +121,13 @@ impl Collator {
             ≡ merge options preferences.entry (metadata_settings (tables_kept c).bits)) }
     {
         let tables = CheckedTables::from_owned(alloc, tables)?;
-        Collator::by_tables(alloc, tables, preferences, options)
+        Collator::from_checked_tables(alloc, tables, preferences, options)
     }
 
-    /// A collator by tables that were checked.
-    fn by_tables(
+    /// A collator by tables that were checked together, which are kept: they aren't checked again. The locale and the
+    /// type of `preferences` aren't read. Settings are those of `try_new_unstable`. `NoMemory` says that an allocation
+    /// failed.
+    pub fn from_checked_tables(
         alloc: Global,
         tables: CheckedTables,
         preferences: CollatorPreferences<'_>,
@@ -170,7 +172,7 @@ impl Collator {
         let metadata = self.tables.metadata().settings();
         let settings = merged_options(options, preferences, metadata);
         if settings.numeric() != self.settings.numeric() {
-            return Collator::by_tables(alloc, self.tables, preferences, options);
+            return Collator::from_checked_tables(alloc, self.tables, preferences, options);
         }
         Ok(Collator {
             tables: self.tables,

@@ -3,6 +3,8 @@
 #![tactic(auto)]
 
 #[cfg(test)]
+mod collators;
+#[cfg(test)]
 mod elements;
 #[cfg(test)]
 mod entries;

@@ -5,7 +5,7 @@ use Rattle.icu_checks.specs.Checked.{checked_tables}
 use Rattle.icu_facts.specs.FactsTables.{AreFacts}
 use Rattle.icu_facts.specs.Named.{NamesAll}
 use Rattle.icu_facts.specs.BoundaryTables.{boundary_reading}
-use Rattle.icu_collator.proofs.collator.Collator.by_tables.Goals as goal
+use Rattle.icu_collator.proofs.collator.Collator.from_checked_tables.Goals as goal
 
 -- what was kept is what was made
 kept : {T E : Type 0} (r : Result T E) (x : T) (P : T → Type 0) → r ≡ Ok x → IfOk r P → P x
