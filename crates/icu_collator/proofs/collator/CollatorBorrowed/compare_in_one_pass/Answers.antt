@@ -2,8 +2,8 @@
 use Rattle.unicode_normalization.specs.Forms.{nfd}
 use Rattle.icu_collator.proofs.collator.CollatorBorrowed.compare_in_one_pass.Goals as goal
 
-pub returns-then-eq0 : goal.returns-then-eq0
-returns-then-eq0 g c =
+pub returns-then-last_variable-eq0 : goal.returns-then-last_variable-eq0
+returns-then-last_variable-eq0 g c =
     c.compare_sources.ensures (nfd (g.L.EncodedText.text c.args.left)) (nfd (g.R.EncodedText.text c.args.right))
     c.plain_text-left.ensures c.plain_text-right.ensures
 

@@ -10,8 +10,8 @@ returns-in-Some g c = λ t u one other.
     (c.primary_level-first.ensures t u) one other
     c.compare_in_step.result c.in-Some.form (rw c.in-Some.is at c.three_level_form.ensures) c.compare_in_step.ensures
 
-pub returns : goal.returns
-returns g c = λ t u one other.
+pub returns-in-None : goal.returns-in-None
+returns-in-None g c = λ t u one other.
     difference_read (collation_borrowed c.args.self.now) t u c.primary_level-first.result
     (g.L.HandledSource.handled_left c.args.left.now) (g.R.HandledSource.handled_left c.args.right.now)
     (c.primary_level-first.ensures t u) one other
