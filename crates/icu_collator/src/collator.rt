@@ -17,7 +17,7 @@ ghost use Rattle.icu_text_order.specs.TextOrder.{reading_by, handled_elements, h
 ghost use Rattle.icu_weighting.specs.CheckedCollations.{collation_of};
 ghost use Rattle.icu_levels.specs.CommonBeginnings.{ReadsForward};
 ghost use Rattle.icu_facts.specs.Named.{NamesAll};
-ghost use Rattle.icu_facts.specs.KeptFacts.{AreTrueFacts};
+ghost use Rattle.icu_facts.specs.KeptFacts.{AreFirstFacts};
 ghost use Rattle.icu_facts.specs.FactsTables.{AreFacts};
 ghost use Rattle.icu_facts.specs.BoundaryTables.{boundary_reading};
 ghost use Rattle.unicode_normalization.specs.Forms.{nfd};
@@ -354,22 +354,24 @@ impl<'a> CollatorBorrowed<'a> {
         self.key_form().secondary == Some(SecondaryForm::Backward)
     }
 
-    /// The facts that are kept of a character.
+    /// What is kept of texts that begin with a character: by its own facts, or where it is a Hangul syllable, by those of
+    /// its first jamo.
     #[inline(always)]
     pub(crate) fn kept_facts(&self, c: char) -> Option<&'a CharFacts>
         ensures { IfSome result
-            (λ l. AreTrueFacts (reading_by (collation_borrowed self.now)) c l.now) }
+            (λ l. AreFirstFacts (reading_by (collation_borrowed self.now)) c l.now) }
     {
         match self.kept_facts.get(c) {
             Kept::Facts(facts) => Some(facts),
-            _ => None,
+            Kept::Own => None,
+            Kept::Nothing => self.kept_facts.leading_jamo(c),
         }
     }
 
-    /// What is known of a character of which no facts are kept.
+    /// What is known of texts that begin with a character of which no facts are kept.
     #[inline(never)]
     pub(crate) fn other_facts(&self, c: char) -> CharFacts
-        ensures { AreTrueFacts (reading_by (collation_borrowed self.now)) c result }
+        ensures { AreFirstFacts (reading_by (collation_borrowed self.now)) c result }
     {
         let places = boundaries(self.tables, self.named, self.settings);
         self.kept_facts.work_out(&places, c)

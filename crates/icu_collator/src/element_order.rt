@@ -15,6 +15,7 @@ use crate::in_step::{compare_from_difference, compare_in_step};
 use crate::segments::compare_segments;
 use icu_encodings::EncodedText;
 use icu_levels::forms::{SecondaryForm, TertiaryForm};
+use icu_weighting::HandledSource;
 use std::alloc::AllocError;
 use std::cmp::Ordering;
 
@@ -168,12 +169,32 @@ impl<'a> CollatorBorrowed<'a> {
             (λ o. o ≡ elements_order collation (nfd (L.text left)) (nfd (R.text right)))) }
     {
         let tables = self.cursor_tables();
+        if self.last_variable() == 0 {
+            let mut left = self.plain_text(&tables, left);
+            let mut right = self.plain_text(&tables, right);
+            return self.compare_sources(&mut left, &mut right);
+        }
         let mut left = self.handled_text(&tables, left);
         let mut right = self.handled_text(&tables, right);
+        self.compare_sources(&mut left, &mut right)
+    }
+
+    /// The same of sources that give the elements of two texts.
+    fn compare_sources<L: HandledSource, R: HandledSource>(
+        &self,
+        left: &mut L,
+        right: &mut R,
+    ) -> Result<Option<Ordering>, AllocError>
+        ensures { let collation = collation_borrowed self.now in (t u : List ℕ)
+            → L.handled_left left.old ≡ handled_by collation t
+            → R.handled_left right.old ≡ handled_by collation u
+            → IfOk result (λ found. MatchOption found (leading_order collation t u ≡ Equal)
+            (λ o. o ≡ elements_order collation t u)) }
+    {
         let first = self.primary_level();
         match self.three_level_form() {
-            Some(form) => compare_in_step(first, form, &mut left, &mut right),
-            None => compare_from_difference(first, &mut left, &mut right),
+            Some(form) => compare_in_step(first, form, left, right),
+            None => compare_from_difference(first, left, right),
         }
     }
 

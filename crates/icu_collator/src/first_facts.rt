@@ -1,7 +1,7 @@
 //! What the first characters of two texts say of their order.
 
 ghost use Rattle.std.specs.Prelude.{◌≡◌, ◌≢◌, ◌<◌, ◌⊎◌, ◌∷◌, ℕ, List, map, IfSome, IsTrue};
-ghost use Rattle.icu_facts.specs.KeptFacts.{AreTrueFacts};
+ghost use Rattle.icu_facts.specs.KeptFacts.{AreFirstFacts};
 ghost use Rattle.icu_provider.specs.CollatorTables.{reorder};
 ghost use Rattle.icu_weighting.specs.Forms.{last_variable_by};
 ghost use Rattle.icu_text_order.specs.TextOrder.{reading_by, text_order};
@@ -74,10 +74,10 @@ impl<'a> CollatorBorrowed<'a> {
     #[inline(always)]
     fn first_facts_of(&self, facts: &CharFacts) -> FirstFacts
         ensures rest { let collation = collation_borrowed self.now in (c : ℕ) (rest : List ℕ)
-            → AreTrueFacts (reading_by collation) c facts.now
+            → AreFirstFacts (reading_by collation) c facts.now
             → IsTrue result.is_rest → IsRest collation (c ∷ rest) }
         ensures leads { let collation = collation_borrowed self.now in (c : ℕ) (rest : List ℕ)
-            → AreTrueFacts (reading_by collation) c facts.now
+            → AreFirstFacts (reading_by collation) c facts.now
             → IfSome result.primary (λ p. LeadsWith collation (c ∷ rest) p) }
     {
         first_starters_lead();

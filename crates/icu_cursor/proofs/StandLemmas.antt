@@ -19,11 +19,13 @@ use Rattle.icu_boundaries.specs.Alone.{context_after, elements_of_char, stays_fi
 use Rattle.icu_boundaries.proofs.AloneLemmas.{letter_of_starters, letter_that_stays}
 use Rattle.icu_boundaries.proofs.NfdLemmas.{stays_first-rises}
 use Rattle.icu_facts.specs.declared.char_facts.CharFacts.{CharFacts}
+use Rattle.icu_facts.specs.declared.few_elements.FewElements.{FewElements}
+use Rattle.icu_facts.specs.FewElements.{few_elements}
 use Rattle.icu_facts.proofs.KeptLemmas.{some_is}
 use Rattle.icu_facts.specs.CharWords.{IsKept}
 use Rattle.icu_facts.specs.declared.char_words.Kept.{Kept}
 use Rattle.icu_facts.specs.declared.char_words.Kept.TheVariants.{Own, Facts, Nothing}
-use Rattle.icu_facts.specs.KeptFacts.{char_elements, IsOwn, StandsAlone, HasStarters, IsMarkedStarter, IsLoneMark, IsBase, IsNumberDigit, AreTrueFacts, rises_to}
+use Rattle.icu_facts.specs.KeptFacts.{char_elements, IsOwn, StandsAlone, HasStarters, IsMarkedStarter, IsLoneMark, IsBase, IsNumberDigit, AreTrueFacts, StandByThemselves, rises_to}
 use Rattle.icu_cursor.specs.inner.Places.{BeginsAtBoundary}
 use Rattle.icu_cursor.specs.inner.MarkRuns.{Rises, EndsRuns, IsInRun}
 use Rattle.icu_cursor.specs.inner.Standing.{StandsBefore, Serves, StandsAnywhere, KeptServes}
@@ -78,11 +80,15 @@ either : (b : Bool) → ((b || true) && true) ≡ true
 either true = refl
 either false = refl
 
+-- starters that stand alone
+pub themselves_stand : (reading : Reading) (c : ℕ) (es : List Element) (text : List ℕ) → StandByThemselves reading (decompose Nfd c) es → StandsBefore reading c es text
+themselves_stand reading c es text h = λ before.
+    letter_of_starters reading before c (decompose Nfd c) text refl h.starters h.alone
+    ∙ ap (λ fs. fs ++ elements_after reading (context_after before (decompose Nfd c)) (nfd text)) (sym h.elements)
+
 module _ (reading : Reading) (c : ℕ) (l : CharFacts) (text : List ℕ) where
   pub starters_stand : HasStarters reading c l → StandsBefore reading c (char_elements l) text
-  starters_stand h = λ before.
-      letter_of_starters reading before c (decompose Nfd c) text refl h.starters h.stands.alone
-      ∙ ap (λ es. es ++ elements_after reading (context_after before (decompose Nfd c)) (nfd text)) (sym h.stands.elements)
+  starters_stand h = themselves_stand reading c (char_elements l) text (record { alone = h.stands.alone; starters = h.starters; elements = h.stands.elements })
 
   stays_alone : StandsAlone reading c l → all_stay (decompose Nfd c) (flat_map (decompose Nfd) text) ≡ true → StandsBefore reading c (char_elements l) text
   stays_alone h stay = λ before.
@@ -145,6 +151,9 @@ pub KeptServes-prop : (reading : Reading) (c : ℕ) (k : Kept) → IsProp (KeptS
 KeptServes-prop reading c Own = hlevel (props, elements_set)
 KeptServes-prop reading c (Facts l) = Serves-prop reading c l.now
 KeptServes-prop reading c Nothing = hlevel props
+
+pub few_stand-prop : (reading : Reading) (c : ℕ) (few : FewElements) → IsProp ((text : List ℕ) → StandsBefore reading c (few_elements few) text)
+few_stand-prop reading c few = hlevel (props, elements_set)
 
 pub kept_serves : (reading : Reading) (c : ℕ) (k : Kept) → IsKept reading c k → KeptServes reading c k
 kept_serves reading c Own h = own_serves reading c h

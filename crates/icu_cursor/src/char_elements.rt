@@ -77,6 +77,7 @@ impl CharElements {
     }
 
     /// The first of a few elements, where none of others is left. The others of them are kept.
+    #[inline]
     pub(crate) fn begin_few(&mut self, few: &FewElements) -> Option<CollationElement>
         requires { elements_ready self.old ≡ [] }
         ensures { few_elements few.now ≡ option_to_list result ++ elements_ready self.new }

@@ -3,6 +3,7 @@
 ghost use Rattle.std.specs.Prelude.{◌≡◌, ◌≤◌, [], ◌∷◌, ◌++◌, None, IsTrue, length, option_to_list, IfOk, OnOk};
 ghost use Rattle.unicode_normalization.specs.Forms.{nfd};
 ghost use Rattle.icu_elements.specs.TextElements.{elements_of};
+ghost use Rattle.icu_facts.specs.FewElements.{few_elements};
 ghost use Rattle.icu_cursor.specs.inner.Ready.{elements_ready, HasNothingLeft};
 
 use crate::char_elements::CharElements;
@@ -14,6 +15,7 @@ use crate::stands::stands_before;
 use crate::{CharFacts, FactsKind, Kept};
 use icu_encodings::EncodedText;
 use icu_entries::CollationElement;
+use icu_facts::FewElements;
 use std::alloc::AllocError;
 
 /// Reads an encoded text and gives its collation elements, one by one (UTS #10, "Produce Collation Element Arrays"). A
@@ -33,9 +35,9 @@ pub struct ElementCursor<'c, 'd, T> {
 
 impl<'c, 'd, T: EncodedText> ElementCursor<'c, 'd, T> {
     ghost use Rattle.icu_cursor.specs.Cursors.{cursor_reading, cursor_gives};
-    ghost use Rattle.icu_facts.specs.KeptFacts.{IsNumberDigit};
+    ghost use Rattle.icu_facts.specs.KeptFacts.{IsNumberDigit, char_elements};
     ghost use Rattle.icu_cursor.specs.inner.Unread.{HasNothingReady};
-    ghost use Rattle.icu_cursor.specs.inner.Standing.{Serves, StandsAnywhere};
+    ghost use Rattle.icu_cursor.specs.inner.Standing.{Serves, StandsAnywhere, StandsBefore};
 
     /// Reads a text, by these tables. Does not allocate.
     #[inline(always)]
@@ -62,7 +64,7 @@ impl<'c, 'd, T: EncodedText> ElementCursor<'c, 'd, T> {
         ensures end { IfOk result (λ next. next ≡ None → cursor_gives T.text self.old ≡ []) }
     {
         let first = if self.at_text {
-            self.take_ascii()
+            self.take_lone()
         } else {
             self.take_ready()
         };
@@ -85,16 +87,29 @@ impl<'c, 'd, T: EncodedText> ElementCursor<'c, 'd, T> {
         element
     }
 
-    /// The element of the next character, where it is ASCII and has one element, and all that was read was given.
+    /// The first element of the next character, where it is read by itself, and all that was read was given. `None` says
+    /// nothing.
     #[inline]
-    fn take_ascii(&mut self) -> Option<CollationElement>
+    fn take_lone(&mut self) -> Option<CollationElement>
         requires { HasNothingReady self.old }
         ensures next { cursor_gives T.text self.old
             ≡ option_to_list result ++ cursor_gives T.text self.new }
     {
+        match self.text.split_first_ascii() {
+            Some((byte, rest)) => self.take_single(char::from(byte), rest),
+            None => self.take_other(),
+        }
+    }
+
+    /// The element of a character that begins the text, where facts are kept of it and it has one, whatever follows.
+    #[inline(always)]
+    fn take_single(&mut self, c: char, rest: T) -> Option<CollationElement>
+        requires nothing { HasNothingReady self.old }
+        requires text { T.text self.old.text ≡ c ∷ T.text rest }
+        ensures next { cursor_gives T.text self.old
+            ≡ option_to_list result ++ cursor_gives T.text self.new }
+    {
         let tables = self.tables;
-        let (byte, rest) = self.text.split_first_ascii()?;
-        let c = char::from(byte);
         let facts = tables.facts(c)?;
         match facts.kind {
             FactsKind::Starters if facts.count == 1 => {
@@ -105,6 +120,64 @@ impl<'c, 'd, T: EncodedText> ElementCursor<'c, 'd, T> {
             }
             _ => None,
         }
+    }
+
+    /// The first element of the next character, which isn't ASCII, where it is read by itself.
+    #[inline(never)]
+    fn take_other(&mut self) -> Option<CollationElement>
+        requires { HasNothingReady self.old }
+        ensures next { cursor_gives T.text self.old
+            ≡ option_to_list result ++ cursor_gives T.text self.new }
+    {
+        let (c, rest) = self.text.split_first_char()?;
+        let tables = self.tables;
+        match tables.kept(c) {
+            Kept::Own => self.take_own(c, rest),
+            Kept::Facts(facts) => self.take_char(c, facts, rest),
+            Kept::Nothing => self.take_syllable(c, rest),
+        }
+    }
+
+    /// The element of a character that gives the elements of its entry wherever it stands, where that is one.
+    #[inline(always)]
+    fn take_own(&mut self, c: char, rest: T) -> Option<CollationElement>
+        requires nothing { HasNothingReady self.old }
+        requires text { T.text self.old.text ≡ c ∷ T.text rest }
+        requires own { StandsAnywhere (cursor_reading self.old.tables.now) c }
+        ensures next { cursor_gives T.text self.old
+            ≡ option_to_list result ++ cursor_gives T.text self.new }
+    {
+        let element = self.tables.own_element(c)?;
+        self.text = rest;
+        self.recent.push(c);
+        Some(element)
+    }
+
+    /// The first element of a character of which this is known, where it is read by itself. The others are kept.
+    #[inline(always)]
+    fn take_char(&mut self, c: char, facts: &CharFacts, rest: T) -> Option<CollationElement>
+        requires nothing { HasNothingReady self.old }
+        requires text { T.text self.old.text ≡ c ∷ T.text rest }
+        requires facts { Serves (cursor_reading self.old.tables.now) c facts.now }
+        ensures next { cursor_gives T.text self.old
+            ≡ option_to_list result ++ cursor_gives T.text self.new }
+    {
+        if !stands_before(self.tables, facts, rest) {
+            return None;
+        }
+        self.read_facts(c, facts, rest)
+    }
+
+    /// The first element of a Hangul syllable, by its jamo. The others are kept.
+    #[inline(always)]
+    fn take_syllable(&mut self, c: char, rest: T) -> Option<CollationElement>
+        requires nothing { HasNothingReady self.old }
+        requires text { T.text self.old.text ≡ c ∷ T.text rest }
+        ensures next { cursor_gives T.text self.old
+            ≡ option_to_list result ++ cursor_gives T.text self.new }
+    {
+        let few = self.tables.syllable_elements(c)?;
+        self.read_few(c, &few, rest)
     }
 
     /// The next element, or `None` after the last one, of a text whose next character isn't read at once.
@@ -215,17 +288,47 @@ impl<'c, 'd, T: EncodedText> ElementCursor<'c, 'd, T> {
             self.begin_piece(c, rest)?;
             return Ok(None);
         };
-        self.text = rest;
-        self.recent.push(c);
-        let first = self.ready.begin_few(&few);
-        self.at_text = self.ready.is_empty();
-        Ok(first)
+        Ok(self.read_few(c, &few, rest))
     }
 
-    /// Reads a character of which nothing is kept. Out of line: a function clears its locals each time that it is
-    /// called, and what is known of such a character is one.
+    /// Reads a character that gives these elements. The first is given, and the others are kept.
+    #[inline(always)]
+    fn read_few(&mut self, c: char, few: &FewElements, rest: T) -> Option<CollationElement>
+        requires nothing { HasNothingReady self.old }
+        requires text { T.text self.old.text ≡ c ∷ T.text rest }
+        requires stands { StandsBefore (cursor_reading self.old.tables.now) c (few_elements few.now)
+            (T.text rest) }
+        ensures next { cursor_gives T.text self.old
+            ≡ option_to_list result ++ cursor_gives T.text self.new }
+        ensures shorter { length (T.text self.new.text) ≤ length (T.text rest) }
+    {
+        self.text = rest;
+        self.recent.push(c);
+        let first = self.ready.begin_few(few);
+        self.at_text = self.ready.is_empty();
+        first
+    }
+
+    /// Reads a character of which nothing is kept: a Hangul syllable by its jamo, and any other by what is worked out of
+    /// it.
     #[inline(never)]
     fn read_other(&mut self, c: char, rest: T) -> Result<Option<CollationElement>, AllocError>
+        requires nothing { HasNothingReady self.old }
+        requires text { T.text self.old.text ≡ c ∷ T.text rest }
+        ensures next { IfOk result (λ first. cursor_gives T.text self.old
+            ≡ option_to_list first ++ cursor_gives T.text self.new) }
+        ensures shorter { OnOk result (length (T.text self.new.text) ≤ length (T.text rest)) }
+    {
+        match self.tables.syllable_elements(c) {
+            Some(few) => Ok(self.read_few(c, &few, rest)),
+            None => self.read_rare(c, rest),
+        }
+    }
+
+    /// Reads a character of which all has to be worked out. Out of line: a function clears its locals each time that it
+    /// is called, and what is known of such a character is one.
+    #[inline(never)]
+    fn read_rare(&mut self, c: char, rest: T) -> Result<Option<CollationElement>, AllocError>
         requires nothing { HasNothingReady self.old }
         requires text { T.text self.old.text ≡ c ∷ T.text rest }
         ensures next { IfOk result (λ first. cursor_gives T.text self.old
@@ -252,17 +355,31 @@ impl<'c, 'd, T: EncodedText> ElementCursor<'c, 'd, T> {
         ensures shorter { OnOk result (length (T.text self.new.text) ≤ length (T.text rest)) }
     {
         if stands_before(self.tables, facts, rest) {
-            self.text = rest;
-            self.recent.push(c);
-            let first = self.ready.begin(facts);
-            self.at_text = self.ready.is_empty();
-            return Ok(first);
+            return Ok(self.read_facts(c, facts, rest));
         }
         match facts.digit {
             Some(digit) => self.begin_number(c, digit, rest)?,
             None => self.begin_piece(c, rest)?,
         }
         Ok(None)
+    }
+
+    /// Reads a character that gives the elements of these facts. The first is given, and the others are kept.
+    #[inline(always)]
+    fn read_facts(&mut self, c: char, facts: &CharFacts, rest: T) -> Option<CollationElement>
+        requires nothing { HasNothingReady self.old }
+        requires text { T.text self.old.text ≡ c ∷ T.text rest }
+        requires stands { StandsBefore (cursor_reading self.old.tables.now) c
+            (char_elements facts.now) (T.text rest) }
+        ensures next { cursor_gives T.text self.old
+            ≡ option_to_list result ++ cursor_gives T.text self.new }
+        ensures shorter { length (T.text self.new.text) ≤ length (T.text rest) }
+    {
+        self.text = rest;
+        self.recent.push(c);
+        let first = self.ready.begin(facts);
+        self.at_text = self.ready.is_empty();
+        first
     }
 
     /// Reads the number that a digit begins, where digits are read as numbers and one may be cut after it, or else the

@@ -1,6 +1,6 @@
 //! What texts are read by, character by character.
 
-ghost use Rattle.std.specs.Prelude.{◌≡◌, ◌∷◌, [], IfSome, IsTrue};
+ghost use Rattle.std.specs.Prelude.{◌≡◌, ◌∷◌, [], ℕ, List, IfSome, IsTrue};
 ghost use Rattle.icu_elements.specs.Reading.{reading_of};
 ghost use Rattle.icu_boundaries.specs.Alone.{elements_of_char};
 ghost use Rattle.icu_facts.specs.FewElements.{few_elements};
@@ -9,7 +9,7 @@ ghost use Rattle.icu_facts.specs.FactsTables.{AreFacts};
 ghost use Rattle.icu_facts.specs.BoundaryTables.{boundary_reading};
 ghost use Rattle.icu_cursor.specs.inner.Places.{MayBeCut};
 ghost use Rattle.icu_cursor.specs.inner.MarkRuns.{IsInRun};
-ghost use Rattle.icu_cursor.specs.inner.Standing.{KeptServes, Serves};
+ghost use Rattle.icu_cursor.specs.inner.Standing.{KeptServes, Serves, StandsBefore};
 
 use crate::{Boundaries, CharFacts, Kept, KeptFacts};
 use icu_elements::TextReading;
@@ -111,6 +111,16 @@ impl<'d> CursorTables<'d> {
             ≡ elements_of_char (cursor_reading self.now).tables c) }
     {
         own_elements(&self.places, c)
+    }
+
+    /// The elements of a Hangul syllable, where each of its jamo has one wherever it stands.
+    #[inline(always)]
+    #[tactic(auto, unfolding(crate::specs::Cursors::cursor_reading))]
+    pub(crate) fn syllable_elements(&self, c: char) -> Option<FewElements>
+        ensures { IfSome result (λ few. (text : List ℕ)
+            → StandsBefore (cursor_reading self.now) c (few_elements few) text) }
+    {
+        self.kept_facts.syllable_elements(c)
     }
 
     /// What is known of a character of which nothing is kept.

@@ -13,7 +13,6 @@ use crate::stands::stands_before;
 use crate::{CharFacts, Kept};
 use icu_encodings::EncodedText;
 use icu_entries::CollationElement;
-use icu_facts::is_syllable;
 
 /// Gives the elements of the characters that a text begins with, as long as each may be read by itself: less than an
 /// `ElementCursor`, but at little cost. It never allocates.
@@ -97,19 +96,17 @@ impl<'c, 'd, T: EncodedText> FactsCursor<'c, 'd, T> {
         self.ready.begin_few(&few)
     }
 
-    /// The first element of a text that begins with a Hangul syllable, whose facts cost little. Those of a rarer
-    /// character would be worked out twice, here and by an `ElementCursor`.
+    /// The first element of a text that begins with a Hangul syllable, by its jamo. The others are kept. The facts of a
+    /// rarer character would be worked out twice, here and by an `ElementCursor`.
     #[inline(never)]
     fn read_syllable(&mut self, c: char, rest: T) -> Option<CollationElement>
         requires nothing { elements_ready self.old.ready ≡ [] }
         requires text { T.text self.old.text ≡ c ∷ T.text rest }
         ensures { IfSome result (λ e. GoesOn T.text self.old e self.new) }
     {
-        if !is_syllable(c) {
-            return None;
-        }
-        let facts = self.tables.other_facts(c);
-        self.begin(c, &facts, rest)
+        let few = self.tables.syllable_elements(c)?;
+        self.text = rest;
+        self.ready.begin_few(&few)
     }
 
     /// The first element of a character of which this is known. The others are kept.

@@ -10,7 +10,7 @@ use Rattle.icu_elements.specs.TextElements.{Reading, continues_number}
 use Rattle.icu_boundaries.specs.Alone.{elements_of_char, is_alone}
 use Rattle.icu_boundaries.specs.Cuts.{IsBoundary, is_named, is_named_by_tailoring, has_prefix}
 use Rattle.icu_facts.specs.BoundaryTables.{HasBoundaryBefore}
-use Rattle.icu_facts.specs.KeptFacts.{BeginsWithStarter, AreTrueFacts, IsNumberDigit, IsMarkedStarter, HasLeadingPrimary, StandsAlone}
+use Rattle.icu_facts.specs.KeptFacts.{BeginsWithStarter, AreFirstFacts, AreTrueFacts, IsNumberDigit, IsMarkedStarter, HasLeadingPrimary, StandsAlone}
 use Rattle.icu_facts.specs.KeptChars.{KeptChar, begins_with, is_marked_starter, is_boundary_place, starts_at_boundary, starts_with_primary, starts_with_starter}
 use Rattle.icu_facts.specs.declared.char_facts.CharFacts.{CharFacts}
 
@@ -151,3 +151,8 @@ module _ (reading : Reading) (c : ℕ) where
     boundary = λ e. at_boundary_from _ refl (h.boundary e);
     leads = λ e. leads_from l.leading_primary _ refl (h.leads e);
   }
+
+-- ---- of the texts that begin with the character
+
+pub facts_first : (reading : Reading) (c : ℕ) (l : CharFacts) → AreTrueFacts reading c l → AreFirstFacts reading c l
+facts_first reading c l h = record { begins = h.begins; boundary = h.boundary; leads = h.leads }

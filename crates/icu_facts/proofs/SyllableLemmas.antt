@@ -1,5 +1,5 @@
 -- Characters whose characters decompose to themselves.
-use Rattle.std.proofs.Common.{◌≡◌, ◌≢◌, ◌≤◌, ◌<◌, ◌+◌, ◌-◌, ◌/◌, ◌%◌, ℕ, true, List, [], ◌∷◌, ◌++◌, take, get_or, Option, None, IfSome, refl, sym, ap, ap₂, subst, ◌∙◌, arith}
+use Rattle.std.proofs.Common.{◌≡◌, ◌≢◌, ◌≤◌, ◌<◌, ◌+◌, ◌-◌, ◌/◌, ◌%◌, ℕ, zero, suc, true, List, [], ◌∷◌, ◌++◌, take, get_or, Option, None, IfSome, refl, sym, ap, ap₂, subst, ◌∙◌, arith}
 use Rattle.std.specs.List.{list_all}
 use Rattle.std.proofs.lemmas.List.Folds.{list_all-append}
 use Rattle.std.proofs.lemmas.List.Concat.{flat_map-append}
@@ -13,9 +13,9 @@ use Rattle.icu_entries.specs.Elements.{Element}
 use Rattle.icu_elements.specs.TextElements.{Reading}
 use Rattle.icu_boundaries.specs.Alone.{elements_by_char, elements_of_char, is_alone}
 use Rattle.icu_boundaries.specs.Cuts.{IsBoundary}
-use Rattle.icu_facts.specs.KeptFacts.{AreTrueFacts, IsNumberDigit, char_elements}
+use Rattle.icu_facts.specs.KeptFacts.{AreFirstFacts, AreTrueFacts, HasLeadingPrimary, IsNumberDigit, StandByThemselves, char_elements}
 use Rattle.icu_facts.specs.inner.ReadFacts.{IsOutline, LeadsBy}
-use Rattle.icu_facts.specs.inner.Syllables.{AreOwnFacts, StandByThemselves}
+use Rattle.icu_facts.specs.inner.Syllables.{AreOwnFacts}
 use Rattle.icu_facts.specs.declared.char_facts.CharFacts.{CharFacts}
 use Rattle.icu_facts.specs.declared.char_facts.FactsKind.TheVariants.{Starters}
 use Rattle.icu_facts.proofs.KeptLemmas.{both, first as former}
@@ -77,6 +77,14 @@ module _ (c n : ℕ) (low : n < 11172) (is : c ≡ 0xAC00 + n) where
       ∙ ap₂ (λ l v. l ∷ v ∷ (0x11A7 + (c - 0xAC00) % 28) ∷ []) leading vowel
       ∙ ap (λ t. (0x1100 + n / 588) ∷ (0x1100 + (0x61 + n % 588 / 28)) ∷ t ∷ []) trailing
 
+  by_trailing : (k : ℕ) → n % 28 ≡ k → (more : List ℕ) × (decompose Nfd c ≡ (0x1100 + n / 588) ∷ more)
+  by_trailing zero e = ((0x1100 + (0x61 + n % 588 / 28)) ∷ [], two_jamo e)
+  by_trailing (suc k) e = ((0x1100 + (0x61 + n % 588 / 28)) ∷ (0x1100 + (0xA7 + n % 28)) ∷ [], three_jamo (λ z. absurd (omega (arith, e, z))))
+
+  -- the first of them
+  pub first_jamo : (more : List ℕ) × (decompose Nfd c ≡ (0x1100 + n / 588) ∷ more)
+  first_jamo = by_trailing (n % 28) refl
+
 -- what is known of it is known of its only character
 pub own_outline : (reading : Reading) (c : ℕ) (l : CharFacts) → AreOwnFacts reading c l → IsOutline reading c l
 own_outline reading c l o = record {
@@ -87,29 +95,40 @@ own_outline reading c l o = record {
       (record { element = h.element; rest = h.rest; starter = h.starter; alone = h.alone; elements = h.elements; leading = h.leading });
 }
 
--- a character whose decomposition they are
-pub whole_facts : (reading : Reading) (c first : ℕ) (more parts : List ℕ) (l : CharFacts) → decompose Nfd c ≡ parts → parts ≡ first ∷ more
-    → IsOutline reading first l → StandByThemselves reading parts (char_elements l) → l.kind ≡ Starters → l.digit ≡ None → AreTrueFacts reading c l
-whole_facts reading c first more parts l dec p h s kind no_digit = record {
+-- and of each that decomposes to it and others
+pub first_facts : (reading : Reading) (c first : ℕ) (more : List ℕ) (l : CharFacts) → decompose Nfd c ≡ first ∷ more → AreOwnFacts reading first l → AreFirstFacts reading c l
+first_facts reading c first more l dec o =
+    let h = own_outline reading first l o in
+    record {
+      begins = λ e. record { first = first; more = more; decomposes = dec; starter = h.begins e };
+      boundary = λ e. record { first = first; more = more; decomposes = dec; boundary = h.boundary e };
+      leads = λ e. let k = h.leads e in record {
+        first = first;
+        more = more;
+        element = k.element;
+        rest = k.rest;
+        decomposes = dec;
+        starter = k.starter;
+        alone = k.alone;
+        elements = k.elements;
+        leading = k.leading;
+      };
+    }
+
+-- a character that decomposes to starters alone
+pub starter_facts : (reading : Reading) (c : ℕ) (known l : CharFacts) → AreFirstFacts reading c known → StandByThemselves reading (decompose Nfd c) (char_elements l)
+    → l.kind ≡ Starters → l.digit ≡ None → l.has_boundary_before ≡ known.has_boundary_before → l.begins_with_starter ≡ known.begins_with_starter
+    → l.leading_primary ≡ known.leading_primary → AreTrueFacts reading c l
+starter_facts reading c known l h s kind no_digit boundary begins leads = record {
   starters = λ e. record {
-    stands = record { alone = ap (list_all (is_alone reading)) dec ∙ s.alone; elements = s.elements ∙ ap (elements_by_char reading.tables) (sym dec) };
-    starters = ap (list_all is_starter) dec ∙ s.starters;
+    stands = record { alone = s.alone; elements = s.elements };
+    starters = s.starters;
   };
   marked = λ e. absurd (cc (sym kind ∙ e));
   mark = λ e. absurd (cc (sym kind ∙ e));
   base = λ e. absurd (cc (sym kind ∙ e));
   digit = subst (λ (o : Option ℕ). IfSome o (λ d. IsNumberDigit reading c d)) (sym no_digit) tt;
-  begins = λ e. record { first = first; more = more; decomposes = dec ∙ p; starter = h.begins e };
-  boundary = λ e. record { first = first; more = more; decomposes = dec ∙ p; boundary = h.boundary e };
-  leads = λ e. let k = h.leads e in record {
-    first = first;
-    more = more;
-    element = k.element;
-    rest = k.rest;
-    decomposes = dec ∙ p;
-    starter = k.starter;
-    alone = k.alone;
-    elements = k.elements;
-    leading = k.leading;
-  };
+  begins = λ e. h.begins (sym begins ∙ e);
+  boundary = λ e. h.boundary (sym boundary ∙ e);
+  leads = λ e. subst (HasLeadingPrimary reading c) (sym leads) (h.leads (λ z. e (leads ∙ z)));
 }

@@ -95,3 +95,15 @@ pub record AreTrueFacts (reading : Reading) (c : ℕ) (l : CharFacts) : Type 0 w
   pub begins : IsTrue l.begins_with_starter → BeginsWithStarter c
   pub boundary : IsTrue l.has_boundary_before → HasBoundaryBefore reading c
   pub leads : l.leading_primary ≢ 0 → HasLeadingPrimary reading c l.leading_primary
+
+-- what is known of texts that begin with a character, by the first character of its decomposition, is so
+pub record AreFirstFacts (reading : Reading) (c : ℕ) (l : CharFacts) : Type 0 where
+  pub begins : IsTrue l.begins_with_starter → BeginsWithStarter c
+  pub boundary : IsTrue l.has_boundary_before → HasBoundaryBefore reading c
+  pub leads : l.leading_primary ≢ 0 → HasLeadingPrimary reading c l.leading_primary
+
+-- starters that stand alone, whose elements these are
+pub record StandByThemselves (reading : Reading) (cs : List ℕ) (es : List Element) : Type 0 where
+  pub alone : list_all (is_alone reading) cs ≡ true
+  pub starters : list_all is_starter cs ≡ true
+  pub elements : es ≡ elements_by_char reading.tables cs

@@ -12,6 +12,7 @@ use crate::boundaries::Boundaries;
 use crate::char_facts::CharFacts;
 use crate::char_words::{CharWords, Kept};
 use crate::read_char::{facts_of, own_facts};
+use crate::syllables::is_syllable;
 use icu_checks::CheckedTables;
 use std::alloc::{AllocError, Global};
 
@@ -55,6 +56,8 @@ impl KeptFacts {
         let code = c as usize;
         if code < 0x380 {
             Kept::Facts(&self.latin[code])
+        } else if is_syllable(c) {
+            Kept::Nothing
         } else {
             self.words.get(c)
         }

@@ -28,4 +28,3 @@ pub use facts_table::KeptFacts;
 pub use few_elements::FewElements;
 pub use named::NamedCharacters;
 pub use read_char::facts_of;
-pub use syllables::is_syllable;

@@ -4,7 +4,8 @@ ghost use Rattle.std.specs.Prelude.{◌≡◌, ◌<◌, ◌+◌, ◌∷◌, [], 
 ghost use Rattle.ucd_normal.specs.declared.forms.Form.TheVariants.{Nfd};
 ghost use Rattle.unicode_normalization.specs.Decompose.{decompose};
 ghost use Rattle.icu_elements.specs.TextElements.{Reading};
-ghost use Rattle.icu_facts.specs.KeptFacts.{AreTrueFacts};
+ghost use Rattle.icu_facts.specs.FewElements.{few_elements};
+ghost use Rattle.icu_facts.specs.KeptFacts.{AreFirstFacts, AreTrueFacts, StandByThemselves};
 ghost use Rattle.icu_facts.specs.FactsTables.{AreFacts};
 ghost use Rattle.icu_facts.specs.inner.Syllables.{AreOwnFacts};
 
@@ -47,7 +48,7 @@ fn syllable_number(c: char) -> Option<u32>
 
 /// Whether a character is a Hangul syllable.
 #[inline]
-pub fn is_syllable(c: char) -> bool {
+pub(crate) fn is_syllable(c: char) -> bool {
     syllable_number(c).is_some()
 }
 
@@ -60,41 +61,38 @@ fn only_element(facts: &CharFacts) -> CollationElement
     elements[0]
 }
 
-/// What is known of a syllable that decomposes to two jamo.
+/// The elements of two characters that have one each.
 #[inline(always)]
-fn of_two(leading: &CharFacts, vowel: &CharFacts) -> CharFacts
-    ensures { (reading : Reading) (c l v : ℕ) → AreOwnFacts reading l leading.now
+fn two_elements(leading: &CharFacts, vowel: &CharFacts) -> FewElements
+    ensures { (reading : Reading) (l v : ℕ) → AreOwnFacts reading l leading.now
         → AreOwnFacts reading v vowel.now
-        → decompose Nfd c ≡ l ∷ v ∷ [] → AreTrueFacts reading c result }
+        → StandByThemselves reading (l ∷ v ∷ []) (few_elements result) }
 {
-    let few = FewElements {
+    FewElements {
         elements: [
             only_element(leading),
             only_element(vowel),
             CollationElement::default(),
         ],
         count: 2,
-    };
-    with_elements(*leading, few, (FactsKind::Starters, 0))
+    }
 }
 
-/// What is known of a syllable that decomposes to three jamo.
+/// The elements of three characters that have one each.
 #[inline(always)]
-fn of_three(leading: &CharFacts, vowel: &CharFacts, trailing: &CharFacts) -> CharFacts
-    ensures { (reading : Reading) (c l v t : ℕ) → AreOwnFacts reading l leading.now
-        → AreOwnFacts reading v vowel.now
-        → AreOwnFacts reading t trailing.now → decompose Nfd c ≡ l ∷ v ∷ t ∷ []
-        → AreTrueFacts reading c result }
+fn three_elements(leading: &CharFacts, vowel: &CharFacts, trailing: &CharFacts) -> FewElements
+    ensures { (reading : Reading) (l v t : ℕ) → AreOwnFacts reading l leading.now
+        → AreOwnFacts reading v vowel.now → AreOwnFacts reading t trailing.now
+        → StandByThemselves reading (l ∷ v ∷ t ∷ []) (few_elements result) }
 {
-    let few = FewElements {
+    FewElements {
         elements: [
             only_element(leading),
             only_element(vowel),
             only_element(trailing),
         ],
         count: 3,
-    };
-    with_elements(*leading, few, (FactsKind::Starters, 0))
+    }
 }
 
 impl KeptFacts {
@@ -113,19 +111,42 @@ impl KeptFacts {
         }
     }
 
-    /// What is known of a Hangul syllable, where each of its jamo has one element wherever it stands.
+    /// The elements of a Hangul syllable, those of its jamo, where each of these has one wherever it stands.
     #[inline]
-    pub(crate) fn syllable(&self, c: char) -> Option<CharFacts>
-        ensures { IfSome result (λ l. (reading : Reading) → AreFacts reading self.now
-            → AreTrueFacts reading c l) }
+    pub fn syllable_elements(&self, c: char) -> Option<FewElements>
+        ensures { (reading : Reading) → AreFacts reading self.now
+            → IfSome result (λ few.
+            StandByThemselves reading (decompose Nfd c) (few_elements few)) }
     {
         let number = syllable_number(c)?;
         let leading = self.jamo(number / N_COUNT)?;
         let vowel = self.jamo(VOWELS + number % N_COUNT / T_COUNT)?;
         if number % T_COUNT == 0 {
-            return Some(of_two(leading, vowel));
+            return Some(two_elements(leading, vowel));
         }
         let trailing = self.jamo(TRAILING + number % T_COUNT)?;
-        Some(of_three(leading, vowel, trailing))
+        Some(three_elements(leading, vowel, trailing))
+    }
+
+    /// What is kept of the first jamo of a Hangul syllable, where that has one element wherever it stands. What it says
+    /// of texts that begin with the jamo is so of those that begin with the syllable.
+    #[inline]
+    pub fn leading_jamo(&self, c: char) -> Option<&CharFacts>
+        ensures { (reading : Reading) → AreFacts reading self.now
+            → IfSome result (λ l. AreFirstFacts reading c l.now) }
+    {
+        let number = syllable_number(c)?;
+        let leading = self.jamo(number / N_COUNT)?;
+        Some(leading)
+    }
+
+    /// What is known of a Hangul syllable, where each of its jamo has one element wherever it stands.
+    pub(crate) fn syllable(&self, c: char) -> Option<CharFacts>
+        ensures { (reading : Reading) → AreFacts reading self.now
+            → IfSome result (λ l. AreTrueFacts reading c l) }
+    {
+        let leading = self.leading_jamo(c)?;
+        let few = self.syllable_elements(c)?;
+        Some(with_elements(*leading, few, (FactsKind::Starters, 0)))
     }
 }

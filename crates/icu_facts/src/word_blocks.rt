@@ -1,6 +1,6 @@
 //! Words of characters, as they are made block by block.
 
-ghost use Rattle.std.specs.Prelude.{◌≡◌, ◌==◌, ◌<◌, ◌≤◌, ◌+◌, ◌*◌, ℕ, length, slice_index, IfOk, OnOk};
+ghost use Rattle.std.specs.Prelude.{◌≡◌, ◌==◌, ◌<◌, ◌≤◌, ◌+◌, ◌*◌, ℕ, length, slice_index, IfOk, IsTrue, OnOk};
 ghost use Rattle.std.specs.List.{list_all};
 ghost use Rattle.icu_elements.specs.TextElements.{Reading};
 ghost use Rattle.icu_facts.specs.BoundaryTables.{boundary_reading};
@@ -75,6 +75,19 @@ fn word_of_facts(
     Ok(count as u16 + FIRST_FACTS)
 }
 
+/// Whether a character is of a script of few letters that many languages are written in: alphabets and syllabaries of
+/// U+0380 to U+137F, Khmer, and kana. Its facts are kept though its entry says all, so that this isn't read each time.
+fn is_read_often(c: char) -> bool {
+    matches!(c, '\u{380}'..='\u{137F}' | '\u{1780}'..='\u{17FF}' | '\u{3040}'..='\u{30FF}')
+}
+
+/// Whether nothing is kept of a character but that it is an own one. False says nothing.
+fn needs_no_facts(places: &Boundaries<'_>, c: char) -> bool
+    ensures { IsTrue result → IsOwn (boundary_reading places.now) c }
+{
+    !is_read_often(c) && is_own(places, c)
+}
+
 /// The word of a character, whose facts are kept where it has some.
 fn word_of_char(
     alloc: Global,
@@ -85,7 +98,7 @@ fn word_of_char(
     ensures { IfOk result (λ word. IsOneWord (boundary_reading places.now) c word facts.old.items
         facts.new.items) }
 {
-    if is_own(places, c) {
+    if needs_no_facts(places, c) {
         return Ok(OWN);
     }
     if is_syllable(c) {

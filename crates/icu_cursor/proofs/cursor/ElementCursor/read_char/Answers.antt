@@ -1,11 +1,5 @@
-use Rattle.std.proofs.Common.{option_to_list}
-use Rattle.icu_facts.specs.KeptFacts.{char_elements}
-use Rattle.icu_cursor.specs.Cursors.{cursor_reading, cursor_gives}
-use Rattle.icu_cursor.proofs.CursorLemmas.{facts_begun}
+-- A character that stands before the rest is read by its facts.
 use Rattle.icu_cursor.proofs.cursor.ElementCursor.read_char.Goals as goal
 
-pub returns-then-stands_before-clause-next : goal.returns-then-stands_before-clause-next
-unfolding cursor_gives
-returns-then-stands_before-clause-next g c =
-    facts_begun (cursor_reading c.args.self.now.tables.now) _ _ _ c.requires.nothing.facts c.requires.nothing.piece c.args.c (char_elements c.args.facts.now) _ (g.T.EncodedText.text c.args.rest) _
-    (option_to_list c.begin-first.result) _ c.requires.text (c.stands_before.ensures c.args.c c.requires.facts c.if-stands_before.true) c.begin-first.ensures c.push.ensures
+pub read_facts-requires-clause-stands : goal.read_facts-requires-clause-stands
+read_facts-requires-clause-stands g c = c.stands_before.ensures c.args.c c.requires.facts c.if-stands_before.true

@@ -1,15 +1,15 @@
--- A syllable decomposes to the jamo whose elements it has.
-use Rattle.icu_facts.proofs.SyllableLemmas.{two_jamo, three_jamo}
+-- What is known of its first jamo and its elements are all that is known of it.
+use Rattle.std.proofs.Common.{List, sym, subst}
+use Rattle.icu_entries.specs.Elements.{Element}
+use Rattle.ucd_normal.specs.declared.forms.Form.TheVariants.{Nfd}
+use Rattle.unicode_normalization.specs.Decompose.{decompose}
+use Rattle.icu_facts.specs.KeptFacts.{StandByThemselves}
+use Rattle.icu_facts.proofs.SyllableLemmas.{starter_facts}
 use Rattle.icu_facts.proofs.facts_table.KeptFacts.syllable.Goals as goal
-
-pub returns-then-number-eq0 : goal.returns-then-number-eq0
-returns-then-number-eq0 c = λ reading are.
-    let number = c.in_ok-number.ensures in
-    c.of_two.ensures reading c.args.c _ _ (c.in_ok-leading.ensures reading are) (c.in_ok-vowel.ensures reading are)
-    (two_jamo c.args.c c.in_ok-number.number number.0 number.1 c.if-number-eq0.true)
 
 pub returns : goal.returns
 returns c = λ reading are.
-    let number = c.in_ok-number.ensures in
-    c.of_three.ensures reading c.args.c _ _ _ (c.in_ok-leading.ensures reading are) (c.in_ok-vowel.ensures reading are) (c.in_ok-trailing.ensures reading are)
-    (three_jamo c.args.c c.in_ok-number.number number.0 number.1 c.if-number-eq0.false)
+    let made = c.with_elements.ensures in
+    starter_facts reading c.args.c c.in_ok-leading.leading.now c.with_elements.result (c.in_ok-leading.ensures reading are)
+    (subst (λ (es : List Element). StandByThemselves reading (decompose Nfd c.args.c) es) (sym made.elements) (c.in_ok-few.ensures reading are))
+    made.kind.0 made.digit made.boundary made.begins made.leads

@@ -1,0 +1,11 @@
+use Rattle.icu_cursor.specs.Cursors.{cursor_reading, cursor_gives}
+use Rattle.icu_cursor.proofs.CursorLemmas.{one_read}
+use Rattle.icu_cursor.proofs.cursor.ElementCursor.take_own.Goals as goal
+
+pub returns : goal.returns
+unfolding cursor_gives
+returns g c =
+    let rest = g.T.EncodedText.text c.args.rest in record {
+      next = one_read (cursor_reading c.args.self.now.tables.now) _ _ _ c.requires.nothing.facts c.requires.nothing.piece c.args.c _ _ rest _ c.in_ok-element.element
+          c.requires.text (c.requires.own.stands rest) c.push.ensures c.in_ok-element.ensures;
+    }
