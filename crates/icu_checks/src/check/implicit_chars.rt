@@ -62,6 +62,7 @@ pub(crate) fn chars_beside(second: u8, primary: u32) -> CodePoints {
 }
 
 /// The characters with an implicit weight that is reachable by some tables, and the second bytes of these weights.
+/// Where it wasn't looked up which these are, each character counts as one.
 #[derive(Drop)]
 pub(crate) struct ImplicitChars {
     words: Vec<u64>,
@@ -105,6 +106,14 @@ impl ImplicitChars {
             chars.add(tables, *table);
         }
         Ok(chars)
+    }
+
+    /// Each character, as it isn't looked up which are reachable. It allocates nothing.
+    pub(crate) fn not_looked_up(alloc: Global) -> ImplicitChars {
+        ImplicitChars {
+            words: Vec::new(alloc),
+            seconds: [true; 256],
+        }
     }
 
     fn mark(&mut self, c: char) {
@@ -157,7 +166,7 @@ impl ImplicitChars {
     pub(crate) fn has(&self, c: char) -> bool {
         match self.words.get(c as usize / WORD_LEN) {
             Some(word) => word >> (c as u32 % 64) & 1 == 1,
-            None => false,
+            None => true,
         }
     }
 

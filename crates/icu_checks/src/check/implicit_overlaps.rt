@@ -30,6 +30,10 @@ use icu_weights::overlap::{Overlap, is_beginning};
 use std::alloc::{AllocError, Global};
 use std::convert::Infallible;
 
+/// Up to so many weights are compared with the implicit weight of a character each, without looking up first which
+/// characters have one that is reachable.
+const FEW_WEIGHTS: usize = 64;
+
 /// A primary weight of a table that begins the implicit weight of a character, which is reachable by another table or
 /// the same one.
 #[derive(Clone, Copy)]
@@ -265,8 +269,30 @@ fn first_clash_among(
     None
 }
 
+/// How many weights may begin an implicit one. One that may begin those of several characters, as it has fewer than
+/// four bytes, counts as many.
+fn count_of_candidates(
+    tables: TableSet<'_>,
+    together: bool,
+    before_too: bool,
+    weights: &[u32],
+) -> usize {
+    let mut count = 0usize;
+    for primary in weights {
+        if may_begin_implicit(tables, together, before_too, *primary) {
+            let more = if primary & 0xFF == 0 {
+                FEW_WEIGHTS + 1
+            } else {
+                1
+            };
+            count = count.saturating_add(more);
+        }
+    }
+    count
+}
+
 /// The first such clash of some weights: of all of them, or only of weights that overlap before reordering too. Which
-/// characters have an implicit weight is looked up only where some weight may have a clash.
+/// characters have an implicit weight is looked up only where more than a few weights may have a clash.
 fn first_clash(
     alloc: Global,
     tables: TableSet<'_>,
@@ -278,10 +304,15 @@ fn first_clash(
     ensures { IfOk result (λ found. IfSome found (IsImplicitClash (tables_in tables.entry))) }
 {
     let together = LeadCondition::ImplicitLead.holds(tables);
-    if !weights.iter().any(|primary| may_begin_implicit(tables, together, before_too, *primary)) {
+    let candidates = count_of_candidates(tables, together, before_too, weights);
+    if candidates == 0 {
         return Ok(None);
     }
-    let implicit = ImplicitChars::new(alloc, tables, by)?;
+    let implicit = if candidates <= FEW_WEIGHTS {
+        ImplicitChars::not_looked_up(alloc)
+    } else {
+        ImplicitChars::new(alloc, tables, by)?
+    };
     Ok(first_clash_among(tables, by, &implicit, weights, before_too))
 }
 
