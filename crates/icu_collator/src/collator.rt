@@ -354,8 +354,8 @@ impl<'a> CollatorBorrowed<'a> {
         self.key_form().secondary == Some(SecondaryForm::Backward)
     }
 
-    /// What is kept of texts that begin with a character: by its own facts, or where it is a Hangul syllable, by those of
-    /// its first jamo.
+    /// What is kept of texts that begin with a character: by its own facts, or where it is a Hangul syllable, by those
+    /// of its first jamo.
     #[inline(always)]
     pub(crate) fn kept_facts(&self, c: char) -> Option<&'a CharFacts>
         ensures { IfSome result

@@ -179,7 +179,8 @@ impl<'a> CollatorBorrowed<'a> {
         self.compare_sources(&mut left, &mut right)
     }
 
-    /// The same of sources that give the elements of two texts.
+    /// The order of two texts by the elements that two sources give, in one pass over these. `None` where all of them
+    /// are equal, so that the texts tie on each level of elements.
     fn compare_sources<L: HandledSource, R: HandledSource>(
         &self,
         left: &mut L,

@@ -87,8 +87,8 @@ impl<'c, 'd, T: EncodedText> ElementCursor<'c, 'd, T> {
         element
     }
 
-    /// The first element of the next character, where it is read by itself, and all that was read was given. `None` says
-    /// nothing.
+    /// The first element of the next character, where it is read by itself, and all that was read was given. `None`
+    /// says nothing.
     #[inline]
     fn take_lone(&mut self) -> Option<CollationElement>
         requires { HasNothingReady self.old }
@@ -309,8 +309,8 @@ impl<'c, 'd, T: EncodedText> ElementCursor<'c, 'd, T> {
         first
     }
 
-    /// Reads a character of which nothing is kept: a Hangul syllable by its jamo, and any other by what is worked out of
-    /// it.
+    /// Reads a character of which nothing is kept: a Hangul syllable by its jamo, and any other by what is worked out
+    /// of it.
     #[inline(never)]
     fn read_other(&mut self, c: char, rest: T) -> Result<Option<CollationElement>, AllocError>
         requires nothing { HasNothingReady self.old }

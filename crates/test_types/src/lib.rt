@@ -3,8 +3,6 @@
 #![tactic(auto)]
 
 #[cfg(test)]
-mod collators;
-#[cfg(test)]
 mod elements;
 #[cfg(test)]
 mod entries;
@@ -12,6 +10,8 @@ mod entries;
 mod errors;
 #[cfg(test)]
 mod names;
+#[cfg(test)]
+mod other_settings;
 #[cfg(test)]
 mod settings;
 #[cfg(test)]
