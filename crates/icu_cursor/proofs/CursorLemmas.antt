@@ -8,7 +8,9 @@ use Rattle.icu_entries.specs.Elements.{Element}
 use Rattle.icu_elements.specs.TextElements.{Reading, elements_after}
 use Rattle.icu_boundaries.specs.Alone.{context_after}
 use Rattle.icu_facts.specs.declared.char_facts.CharFacts.{CharFacts}
-use Rattle.icu_facts.specs.KeptFacts.{char_elements}
+use Rattle.icu_facts.specs.KeptFacts.{IsPair, char_elements}
+use Rattle.icu_cursor.specs.declared.facts_cursor.FactsCursor.{FactsCursor}
+use Rattle.icu_cursor.specs.FactsCursors.{facts_give, GivesNext, GoesOn}
 use Rattle.icu_cursor.specs.inner.Pieces.{IsPiece}
 use Rattle.icu_cursor.specs.inner.Standing.{StandsBefore}
 use Rattle.icu_cursor.proofs.PieceLemmas.{nothing, pieces_part}
@@ -59,6 +61,20 @@ module _ (reading : Reading) (ready piece : List Element) (before : List ℕ) (n
   facts_begun c own all text after first others is stands given remembered =
       sym (char_read c own all text after own is stands refl remembered) ∙ ready_taken first own others _ given
 
+  -- two characters that are joined are read together
+  pub pair_begun : (c x : ℕ) (own : List Element) (all more text mid after : List ℕ) (first others : List Element) → all ≡ c ∷ more → more ≡ x ∷ text → IsPair reading c x own → own ≡ first ++ others
+      → mid ≡ context_after before (decompose Nfd c) → after ≡ context_after mid (decompose Nfd x)
+      → ready ++ (piece ++ elements_after reading before (nfd all)) ≡ first ++ (others ++ (piece ++ elements_after reading after (nfd text)))
+  pair_begun c x own all more text mid after first others is goes pair given near far =
+      nothing_ready ready piece _ none piece_ended
+      ∙ ap (λ t. elements_after reading before (nfd t)) (is ∙ ap (λ (t : List ℕ). c ∷ t) goes)
+      ∙ pair.stands before text
+      ∙ ap (λ b. own ++ elements_after reading (context_after b (decompose Nfd x)) (nfd text)) (sym near)
+      ∙ ap (λ b. own ++ elements_after reading b (nfd text)) (sym far)
+      ∙ ap (λ (es : List Element). es ++ elements_after reading after (nfd text)) given
+      ∙ append_assoc first others _
+      ∙ ap (λ (es : List Element). first ++ (others ++ (es ++ elements_after reading after (nfd text)))) (sym piece_ended)
+
   -- so is one of one element, which is given at once
   pub one_read : (c : ℕ) (own : List Element) (all text after : List ℕ) (e : Element) → all ≡ c ∷ text → StandsBefore reading c own text → after ≡ context_after before (decompose Nfd c)
       → own ≡ e ∷ [] → ready ++ (piece ++ elements_after reading before (nfd all)) ≡ e ∷ (ready ++ (piece ++ elements_after reading after (nfd text)))
@@ -104,3 +120,34 @@ facts_goes_on reading ready others c own all text (Some e) none is stands given 
           ∙ stands before
           ∙ ap (λ (es : List Element). es ++ elements_after reading after (nfd text)) given,
     )
+
+-- as of two characters that are joined
+pub pair_goes_on : (reading : Reading) (ready others : List Element) (c x : ℕ) (own : List Element) (all more text : List ℕ) (found : Option Element) → ready ≡ [] → all ≡ c ∷ more → more ≡ x ∷ text
+    → IsPair reading c x own → own ≡ option_to_list found ++ others
+    → IfSome found (λ e. (before : List ℕ) → (after : List ℕ) × (ready ++ elements_after reading before (nfd all) ≡ e ∷ (others ++ elements_after reading after (nfd text))))
+pair_goes_on reading ready others c x own all more text None none is goes pair given = tt
+pair_goes_on reading ready others c x own all more text (Some e) none is goes pair given = λ before.
+    let after = context_after (context_after before (decompose Nfd c)) (decompose Nfd x) in (
+      after,
+      ap (λ (es : List Element). es ++ elements_after reading before (nfd all)) none
+          ∙ ap (λ t. elements_after reading before (nfd t)) (is ∙ ap (λ (t : List ℕ). c ∷ t) goes)
+          ∙ pair.stands before text
+          ∙ ap (λ (es : List Element). es ++ elements_after reading after (nfd text)) given,
+    )
+
+-- where none does, and the text has ended, nothing comes
+pub nothing_goes_on : (reading : Reading) (ready : List Element) (text : List ℕ) → ready ≡ [] → text ≡ [] → (before : List ℕ) → ready ++ elements_after reading before (nfd text) ≡ []
+nothing_goes_on reading ready text none ends = λ before.
+    ap (λ (es : List Element). es ++ elements_after reading before (nfd text)) none ∙ ap (λ t. elements_after reading before (nfd t)) ends ∙ nothing reading before
+
+-- what comes first of a cursor that gives the same comes first
+pub given_same : {T : Type 0} (text : T → List ℕ) (old mid new : FactsCursor T) (found : Option (Option Element)) → ((before : List ℕ) → facts_give text old before ≡ facts_give text mid before)
+    → IfSome found (λ next. GivesNext text mid next new) → IfSome found (λ next. GivesNext text old next new)
+given_same text old mid new None same h = tt
+given_same text old mid new (Some None) same h = λ before. same before ∙ h before
+given_same text old mid new (Some (Some e)) same h = λ before. let next = h before in (next.0, same before ∙ next.1)
+
+-- an element that comes first
+pub element_goes_on : {T : Type 0} (text : T → List ℕ) (old new : FactsCursor T) (next : Option Element) → GivesNext text old next new → IfSome next (λ e. GoesOn text old e new)
+element_goes_on text old new None h = tt
+element_goes_on text old new (Some e) h = h

@@ -25,7 +25,7 @@ use Rattle.icu_facts.proofs.KeptLemmas.{some_is}
 use Rattle.icu_facts.specs.CharWords.{IsKept}
 use Rattle.icu_facts.specs.declared.char_words.Kept.{Kept}
 use Rattle.icu_facts.specs.declared.char_words.Kept.TheVariants.{Own, Facts, Nothing}
-use Rattle.icu_facts.specs.KeptFacts.{char_elements, IsOwn, StandsAlone, HasStarters, IsMarkedStarter, IsLoneMark, IsBase, IsNumberDigit, AreTrueFacts, StandByThemselves, rises_to}
+use Rattle.icu_facts.specs.KeptFacts.{char_elements, IsOwn, StandsAlone, HasStarters, IsMarkedStarter, IsLoneMark, IsBase, IsNumberDigit, AreTrueFacts, StandByThemselves, IsPair, rises_to}
 use Rattle.icu_cursor.specs.inner.Places.{BeginsAtBoundary}
 use Rattle.icu_cursor.specs.inner.MarkRuns.{Rises, EndsRuns, IsInRun}
 use Rattle.icu_cursor.specs.inner.Standing.{StandsBefore, Serves, StandsAnywhere, KeptServes}
@@ -154,6 +154,9 @@ KeptServes-prop reading c Nothing = hlevel props
 
 pub few_stand-prop : (reading : Reading) (c : ℕ) (few : FewElements) → IsProp ((text : List ℕ) → StandsBefore reading c (few_elements few) text)
 few_stand-prop reading c few = hlevel (props, elements_set)
+
+pub IsPair-prop : (reading : Reading) (c x : ℕ) (es : List Element) → IsProp (IsPair reading c x es)
+IsPair-prop reading c x es = hlevel (props, elements_set)
 
 pub kept_serves : (reading : Reading) (c : ℕ) (k : Kept) → IsKept reading c k → KeptServes reading c k
 kept_serves reading c Own h = own_serves reading c h

@@ -1,5 +1,5 @@
 -- What a cursor over characters still gives.
-use Rattle.std.specs.Prelude.{◌≡◌, ℕ, List, ◌∷◌, ◌++◌}
+use Rattle.std.specs.Prelude.{◌≡◌, ℕ, List, [], ◌∷◌, ◌++◌, Option, Some, None}
 use Rattle.unicode_normalization.specs.Forms.{nfd}
 use Rattle.icu_entries.specs.Elements.{Element}
 use Rattle.icu_elements.specs.TextElements.{elements_after}
@@ -14,3 +14,9 @@ facts_give text c before = elements_ready c.ready ++ elements_after (cursor_read
 -- whatever stands before, this element comes first, and then what the cursor gives after some characters
 abbrev pub GoesOn : {T : Type 0} → (T → List ℕ) → FactsCursor T → Element → FactsCursor T → Type 0
 GoesOn text old e new = (before : List ℕ) → (after : List ℕ) × (facts_give text old before ≡ e ∷ facts_give text new after)
+
+-- whatever stands before, this element comes first, and then what the cursor gives after some characters; or it gives
+-- none
+abbrev pub GivesNext : {T : Type 0} → (T → List ℕ) → FactsCursor T → Option Element → FactsCursor T → Type 0
+GivesNext text old None new = (before : List ℕ) → facts_give text old before ≡ []
+GivesNext text old (Some e) new = GoesOn text old e new

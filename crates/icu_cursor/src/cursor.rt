@@ -163,9 +163,31 @@ impl<'c, 'd, T: EncodedText> ElementCursor<'c, 'd, T> {
             ≡ option_to_list result ++ cursor_gives T.text self.new }
     {
         if !stands_before(self.tables, facts, rest) {
-            return None;
+            return self.take_pair(c, facts.kind, rest);
         }
         self.read_facts(c, facts, rest)
+    }
+
+    /// The first element of a character of this kind and the next one, where a contraction joins them. The others are
+    /// kept.
+    #[inline(never)]
+    fn take_pair(&mut self, c: char, kind: FactsKind, rest: T) -> Option<CollationElement>
+        requires nothing { HasNothingReady self.old }
+        requires text { T.text self.old.text ≡ c ∷ T.text rest }
+        ensures next { cursor_gives T.text self.old
+            ≡ option_to_list result ++ cursor_gives T.text self.new }
+    {
+        if kind != FactsKind::Base {
+            return None;
+        }
+        let (x, after) = rest.split_first_char()?;
+        let few = self.tables.pair(c, x)?;
+        self.text = after;
+        self.recent.push(c);
+        self.recent.push(x);
+        let first = self.ready.begin_few(&few);
+        self.at_text = self.ready.is_empty();
+        first
     }
 
     /// The first element of a Hangul syllable, by its jamo. The others are kept.

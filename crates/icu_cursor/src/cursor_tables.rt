@@ -4,7 +4,7 @@ ghost use Rattle.std.specs.Prelude.{◌≡◌, ◌∷◌, [], ℕ, List, IfSome,
 ghost use Rattle.icu_elements.specs.Reading.{reading_of};
 ghost use Rattle.icu_boundaries.specs.Alone.{elements_of_char};
 ghost use Rattle.icu_facts.specs.FewElements.{few_elements};
-ghost use Rattle.icu_facts.specs.KeptFacts.{IsNumberDigit};
+ghost use Rattle.icu_facts.specs.KeptFacts.{IsNumberDigit, IsPair};
 ghost use Rattle.icu_facts.specs.FactsTables.{AreFacts};
 ghost use Rattle.icu_facts.specs.BoundaryTables.{boundary_reading};
 ghost use Rattle.icu_cursor.specs.inner.Places.{MayBeCut};
@@ -121,6 +121,14 @@ impl<'d> CursorTables<'d> {
             → StandsBefore (cursor_reading self.now) c (few_elements few) text) }
     {
         self.kept_facts.syllable_elements(c)
+    }
+
+    /// The elements of two characters that a contraction joins wherever they stand.
+    #[tactic(auto, unfolding(crate::specs::Cursors::cursor_reading))]
+    pub(crate) fn pair(&self, c: char, x: char) -> Option<FewElements>
+        ensures { IfSome result (λ few. IsPair (cursor_reading self.now) c x (few_elements few)) }
+    {
+        self.kept_facts.pair(c, x)
     }
 
     /// What is known of a character of which nothing is kept.

@@ -10,7 +10,7 @@ ghost use Rattle.icu_cursor.specs.inner.Standing.{Serves, StandsAnywhere};
 use crate::char_elements::CharElements;
 use crate::cursor_tables::CursorTables;
 use crate::stands::stands_before;
-use crate::{CharFacts, Kept};
+use crate::{CharFacts, FactsKind, Kept};
 use icu_encodings::EncodedText;
 use icu_entries::CollationElement;
 
@@ -24,7 +24,7 @@ pub struct FactsCursor<'c, 'd, T> {
 }
 
 impl<'c, 'd, T: EncodedText> FactsCursor<'c, 'd, T> {
-    ghost use Rattle.icu_cursor.specs.FactsCursors.{facts_give, GoesOn};
+    ghost use Rattle.icu_cursor.specs.FactsCursors.{facts_give, GivesNext, GoesOn};
 
     /// Reads a text, by these tables.
     #[inline(always)]
@@ -44,19 +44,45 @@ impl<'c, 'd, T: EncodedText> FactsCursor<'c, 'd, T> {
     pub fn next(&mut self) -> Option<CollationElement>
         ensures { IfSome result (λ e. GoesOn T.text self.old e self.new) }
     {
-        if let Some(element) = self.ready.take_first() {
-            return Some(element);
+        match self.next_or_end() {
+            Some(next) => next,
+            None => None,
         }
-        self.read_char()
     }
 
-    /// The next element, where no character that was read has any left.
+    /// The next element, whatever stands before the text, or `Some(None)` after the last one. `None` says nothing: ask
+    /// no more then.
     #[inline(always)]
-    fn read_char(&mut self) -> Option<CollationElement>
-        requires { elements_ready self.old.ready ≡ [] }
+    pub fn next_or_end(&mut self) -> Option<Option<CollationElement>>
+        ensures { IfSome result (λ next. GivesNext T.text self.old next self.new) }
+    {
+        if let Some(element) = self.ready.take_first() {
+            return Some(Some(element));
+        }
+        match self.text.split_first_char() {
+            Some((c, rest)) => self.first_of(c, rest),
+            None => Some(None),
+        }
+    }
+
+    /// The first element of the character that the text begins with, where no character that was read has any left.
+    #[inline(always)]
+    fn first_of(&mut self, c: char, rest: T) -> Option<Option<CollationElement>>
+        requires nothing { elements_ready self.old.ready ≡ [] }
+        requires text { T.text self.old.text ≡ c ∷ T.text rest }
+        ensures { IfSome result (λ next. GivesNext T.text self.old next self.new) }
+    {
+        let element = self.read_char(c, rest)?;
+        Some(Some(element))
+    }
+
+    /// The first element of the character that the text begins with.
+    #[inline(always)]
+    fn read_char(&mut self, c: char, rest: T) -> Option<CollationElement>
+        requires nothing { elements_ready self.old.ready ≡ [] }
+        requires text { T.text self.old.text ≡ c ∷ T.text rest }
         ensures { IfSome result (λ e. GoesOn T.text self.old e self.new) }
     {
-        let (c, rest) = self.text.split_first_char()?;
         let tables = self.tables;
         match tables.kept(c) {
             Kept::Own => self.read_own(c, rest),
@@ -118,9 +144,26 @@ impl<'c, 'd, T: EncodedText> FactsCursor<'c, 'd, T> {
         ensures { IfSome result (λ e. GoesOn T.text self.old e self.new) }
     {
         if !stands_before(self.tables, facts, rest) {
-            return None;
+            return self.begin_pair(c, facts.kind, rest);
         }
         self.text = rest;
         self.ready.begin(facts)
+    }
+
+    /// The first element of a character of this kind and the next one, where a contraction joins them. The others are
+    /// kept.
+    #[inline(never)]
+    fn begin_pair(&mut self, c: char, kind: FactsKind, rest: T) -> Option<CollationElement>
+        requires nothing { elements_ready self.old.ready ≡ [] }
+        requires text { T.text self.old.text ≡ c ∷ T.text rest }
+        ensures { IfSome result (λ e. GoesOn T.text self.old e self.new) }
+    {
+        if kind != FactsKind::Base {
+            return None;
+        }
+        let (x, after) = rest.split_first_char()?;
+        let few = self.tables.pair(c, x)?;
+        self.text = after;
+        self.ready.begin_few(&few)
     }
 }

@@ -19,7 +19,7 @@ not_prefix : (k : EntryKind) (a b : ℕ) → k ≡ Contraction → (elim k as (�
 not_prefix Prefix a b h = cc
 not_prefix _ a b h = refl
 
-own_entry : (h : HomedEntry) (before : List ℕ) → kind_of h.entry ≡ Contraction → after_prefix h before ≡ h.entry
+pub own_entry : (h : HomedEntry) (before : List ℕ) → kind_of h.entry ≡ Contraction → after_prefix h before ≡ h.entry
 unfolding after_prefix
 own_entry h before is = not_prefix (kind_of h.entry) _ _ is
 

@@ -3,6 +3,7 @@ use Rattle.std.specs.Prelude.{Bool, true, false}
 use Rattle.icu_elements.specs.TextElements.{Reading}
 use Rattle.icu_facts.specs.KeptChars.{AreFactsFrom}
 use Rattle.icu_facts.specs.CharWords.{AreWords}
+use Rattle.icu_facts.specs.KeptPairs.{ArePairs}
 use Rattle.icu_facts.specs.declared.char_words.Kept.{Kept}
 use Rattle.icu_facts.specs.declared.char_words.Kept.TheVariants.{Facts}
 use Rattle.icu_facts.specs.declared.facts_table.KeptFacts.{KeptFacts}
@@ -17,3 +18,4 @@ pub record AreFacts (reading : Reading) (t : KeptFacts) : Type 0 where
   pub latin : AreFactsFrom reading 0 t.latin.items
   pub jamo : AreFactsFrom reading 0x1100 t.jamo.items
   pub words : AreWords reading t.words
+  pub pairs : ArePairs reading t.pairs.items

@@ -1,5 +1,5 @@
 -- What is known of a character before it is read: how it may be read by itself, and where a text may be cut before it.
-use Rattle.std.specs.Prelude.{◌≡◌, ◌≢◌, ◌<◌, ℕ, Bool, true, ◌&&◌, ◌==◌, nat_le, List, [], ◌∷◌, take, IsTrue, IfSome}
+use Rattle.std.specs.Prelude.{◌≡◌, ◌≢◌, ◌<◌, ℕ, Bool, true, ◌&&◌, ◌==◌, nat_le, List, [], ◌∷◌, ◌++◌, take, IsTrue, IfSome}
 use Rattle.std.specs.List.{list_all}
 use Rattle.ucd_normal.specs.CanonicalCombiningClass.{canonical_combining_class as class_of}
 use Rattle.ucd_normal.specs.declared.forms.Form.TheVariants.{Nfd}
@@ -8,7 +8,7 @@ use Rattle.unicode_normalization.specs.Forms.{nfd}
 use Rattle.unicode_normalization.specs.Order.{is_starter, is_nonstarter}
 use Rattle.icu_entries.specs.Elements.{Element}
 use Rattle.icu_elements.specs.TextElements.{Reading, continues_number, digit_of_char, elements_after}
-use Rattle.icu_boundaries.specs.Alone.{elements_by_char, elements_of_char, is_alone}
+use Rattle.icu_boundaries.specs.Alone.{context_after, elements_by_char, elements_of_char, is_alone}
 use Rattle.icu_boundaries.specs.Cuts.{IsBoundary}
 use Rattle.icu_facts.specs.BoundaryTables.{HasBoundaryBefore}
 use Rattle.icu_facts.specs.declared.char_facts.CharFacts.{CharFacts}
@@ -107,3 +107,8 @@ pub record StandByThemselves (reading : Reading) (cs : List ℕ) (es : List Elem
   pub alone : list_all (is_alone reading) cs ≡ true
   pub starters : list_all is_starter cs ≡ true
   pub elements : es ≡ elements_by_char reading.tables cs
+
+-- two characters give these elements together, whatever stands before them and after
+pub record IsPair (reading : Reading) (c x : ℕ) (es : List Element) : Type 0 where
+  pub stands : (before text : List ℕ) → elements_after reading before (nfd (c ∷ x ∷ text))
+      ≡ es ++ elements_after reading (context_after (context_after before (decompose Nfd c)) (decompose Nfd x)) (nfd text)

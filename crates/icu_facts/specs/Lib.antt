@@ -5,5 +5,6 @@ pub mod FewElements
 pub mod KeptFacts
 pub mod KeptChars
 pub mod CharWords
+pub mod KeptPairs
 pub mod FactsTables
 pub mod inner

@@ -57,6 +57,23 @@ fn elements_of_one(
     few_left(&mut reader)
 }
 
+/// The elements of two characters that are a text by themselves. None where there is a fourth.
+#[tactic(auto, unfolding(crate::specs::BoundaryTables::boundary_reading))]
+pub(crate) fn elements_of_two(
+    alloc: Global,
+    places: &Boundaries<'_>,
+    c: char,
+    x: char,
+) -> Result<Option<FewElements>, AllocError>
+    ensures { IfOk result (λ found. IfSome found (λ few. few_elements few
+        ≡ elements_of (boundary_reading places.now) (nfd (c ∷ x ∷ [])))) }
+{
+    let mut text = Vec::new(alloc);
+    extend_nfd(&mut text, &[c, x])?;
+    let mut reader = ElementReader::new(text, places.reading);
+    few_left(&mut reader)
+}
+
 /// Whether a character's entry has contractions.
 #[tactic(auto, unfolding(crate::specs::BoundaryTables::boundary_reading))]
 fn begins_contractions(places: &Boundaries<'_>, c: char) -> bool

@@ -11,18 +11,21 @@ use crate::bases::facts_to_keep;
 use crate::boundaries::Boundaries;
 use crate::char_facts::CharFacts;
 use crate::char_words::{CharWords, Kept};
+use crate::pairs::{KeptPair, kept_pairs};
 use crate::read_char::{facts_of, own_facts};
 use crate::syllables::is_syllable;
 use icu_checks::CheckedTables;
 use std::alloc::{AllocError, Global};
 
 /// What is known of all characters: facts of U+0000 to U+037F and of the jamo, U+1100 to U+11FF, of which syllables
-/// are made, and a word of each other character.
+/// are made, a word of each other character, and
+/// pairs of characters that contractions join.
 #[derive(Debug, Drop)]
 pub struct KeptFacts {
     latin: Vec<CharFacts>,
     pub(crate) jamo: Vec<CharFacts>,
     words: CharWords,
+    pub(crate) pairs: Vec<KeptPair>,
     ghost latin_count: { length latin.items ≡ 0x380 },
     ghost jamo_count: { length jamo.items ≡ 0x100 },
 }
@@ -44,7 +47,13 @@ impl KeptFacts {
         let latin = facts_from(alloc, places, 0, 0x380)?;
         let jamo = facts_from(alloc, places, 0x1100, 0x100)?;
         let words = CharWords::new(alloc, tables, &places)?;
-        Ok(KeptFacts { latin, jamo, words })
+        let pairs = kept_pairs(alloc, &places)?;
+        Ok(KeptFacts {
+            latin,
+            jamo,
+            words,
+            pairs,
+        })
     }
 
     /// What is kept of a character: facts of each up to U+037F.

@@ -13,7 +13,7 @@ use icu_collation_data::element_walk::{VisitElement, visit_elements};
 use icu_entries::{CollationElement, CollationElement32};
 
 /// Three elements at most.
-#[derive(Clone, Copy)]
+#[derive(Debug, Clone, Copy)]
 pub struct FewElements {
     /// The elements, as many as `count` says. Those past them have no meaning.
     pub elements: [CollationElement; 3],

@@ -14,6 +14,7 @@ mod lone_blocks;
 mod named;
 mod own;
 mod own_blocks;
+pub mod pairs;
 mod plain_blocks;
 pub mod read_char;
 mod shapes;

@@ -15,7 +15,7 @@ use unicode_normalization::Form;
 use unicode_normalization::char::decomposition;
 
 /// Whether a character decomposes to itself.
-fn decomposes_to_itself(c: char) -> bool
+pub(crate) fn decomposes_to_itself(c: char) -> bool
     ensures { IsTrue result → decompose Nfd c ≡ c ∷ [] }
 {
     let mut room = [c; 3];
