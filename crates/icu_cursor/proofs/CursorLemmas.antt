@@ -10,7 +10,7 @@ use Rattle.icu_boundaries.specs.Alone.{context_after}
 use Rattle.icu_facts.specs.declared.char_facts.CharFacts.{CharFacts}
 use Rattle.icu_facts.specs.KeptFacts.{IsPair, char_elements}
 use Rattle.icu_cursor.specs.declared.facts_cursor.FactsCursor.{FactsCursor}
-use Rattle.icu_cursor.specs.FactsCursors.{facts_give, GivesNext, GoesOn}
+use Rattle.icu_cursor.specs.FactsCursors.{facts_give, GivesNextOrEnds, GoesOn}
 use Rattle.icu_cursor.specs.inner.Pieces.{IsPiece}
 use Rattle.icu_cursor.specs.inner.Standing.{StandsBefore}
 use Rattle.icu_cursor.proofs.PieceLemmas.{nothing, pieces_part}
@@ -142,12 +142,12 @@ nothing_goes_on reading ready text none ends = λ before.
 
 -- what comes first of a cursor that gives the same comes first
 pub given_same : {T : Type 0} (text : T → List ℕ) (old mid new : FactsCursor T) (found : Option (Option Element)) → ((before : List ℕ) → facts_give text old before ≡ facts_give text mid before)
-    → IfSome found (λ next. GivesNext text mid next new) → IfSome found (λ next. GivesNext text old next new)
+    → IfSome found (λ next. GivesNextOrEnds text mid next new) → IfSome found (λ next. GivesNextOrEnds text old next new)
 given_same text old mid new None same h = tt
 given_same text old mid new (Some None) same h = λ before. same before ∙ h before
 given_same text old mid new (Some (Some e)) same h = λ before. let next = h before in (next.0, same before ∙ next.1)
 
 -- an element that comes first
-pub element_goes_on : {T : Type 0} (text : T → List ℕ) (old new : FactsCursor T) (next : Option Element) → GivesNext text old next new → IfSome next (λ e. GoesOn text old e new)
+pub element_goes_on : {T : Type 0} (text : T → List ℕ) (old new : FactsCursor T) (next : Option Element) → GivesNextOrEnds text old next new → IfSome next (λ e. GoesOn text old e new)
 element_goes_on text old new None h = tt
 element_goes_on text old new (Some e) h = h

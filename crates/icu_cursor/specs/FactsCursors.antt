@@ -17,6 +17,6 @@ GoesOn text old e new = (before : List ℕ) → (after : List ℕ) × (facts_giv
 
 -- whatever stands before, this element comes first, and then what the cursor gives after some characters; or it gives
 -- none
-abbrev pub GivesNext : {T : Type 0} → (T → List ℕ) → FactsCursor T → Option Element → FactsCursor T → Type 0
-GivesNext text old None new = (before : List ℕ) → facts_give text old before ≡ []
-GivesNext text old (Some e) new = GoesOn text old e new
+abbrev pub GivesNextOrEnds : {T : Type 0} → (T → List ℕ) → FactsCursor T → Option Element → FactsCursor T → Type 0
+GivesNextOrEnds text old None new = (before : List ℕ) → facts_give text old before ≡ []
+GivesNextOrEnds text old (Some e) new = GoesOn text old e new

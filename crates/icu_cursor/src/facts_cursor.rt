@@ -24,7 +24,7 @@ pub struct FactsCursor<'c, 'd, T> {
 }
 
 impl<'c, 'd, T: EncodedText> FactsCursor<'c, 'd, T> {
-    ghost use Rattle.icu_cursor.specs.FactsCursors.{facts_give, GivesNext, GoesOn};
+    ghost use Rattle.icu_cursor.specs.FactsCursors.{facts_give, GivesNextOrEnds, GoesOn};
 
     /// Reads a text, by these tables.
     #[inline(always)]
@@ -54,7 +54,7 @@ impl<'c, 'd, T: EncodedText> FactsCursor<'c, 'd, T> {
     /// no more then.
     #[inline(always)]
     pub fn next_or_end(&mut self) -> Option<Option<CollationElement>>
-        ensures { IfSome result (λ next. GivesNext T.text self.old next self.new) }
+        ensures { IfSome result (λ next. GivesNextOrEnds T.text self.old next self.new) }
     {
         if let Some(element) = self.ready.take_first() {
             return Some(Some(element));
@@ -70,7 +70,7 @@ impl<'c, 'd, T: EncodedText> FactsCursor<'c, 'd, T> {
     fn first_of(&mut self, c: char, rest: T) -> Option<Option<CollationElement>>
         requires nothing { elements_ready self.old.ready ≡ [] }
         requires text { T.text self.old.text ≡ c ∷ T.text rest }
-        ensures { IfSome result (λ next. GivesNext T.text self.old next self.new) }
+        ensures { IfSome result (λ next. GivesNextOrEnds T.text self.old next self.new) }
     {
         let element = self.read_char(c, rest)?;
         Some(Some(element))

@@ -10,4 +10,4 @@ pub mod KeptLemmas
 mod OwnFactsLemmas
 pub mod SyllableLemmas
 pub mod KeptBaseLemmas
-pub mod PairLemmas
+pub mod JoinedPairLemmas

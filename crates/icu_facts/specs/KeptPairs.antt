@@ -3,7 +3,7 @@ use Rattle.std.specs.Prelude.{◌<◌, ℕ, List, length, slice_index_or}
 use Rattle.icu_elements.specs.TextElements.{Reading}
 use Rattle.icu_facts.specs.FewElements.{few_elements}
 use Rattle.icu_facts.specs.KeptFacts.{IsPair}
-use Rattle.icu_facts.specs.declared.pairs.KeptPair.{KeptPair}
+use Rattle.icu_facts.specs.declared.joined_pairs.KeptPair.{KeptPair}
 
 -- the two characters of each give its elements
 abbrev pub ArePairs : Reading → List KeptPair → Type 0

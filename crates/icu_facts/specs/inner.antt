@@ -5,4 +5,4 @@ pub mod OwnBlocks
 pub mod WordBlocks
 pub mod LoneEntries
 pub mod LoneTables
-pub mod Pairs
+pub mod JoinedPairs

@@ -11,7 +11,7 @@ use crate::bases::facts_to_keep;
 use crate::boundaries::Boundaries;
 use crate::char_facts::CharFacts;
 use crate::char_words::{CharWords, Kept};
-use crate::pairs::{KeptPair, kept_pairs};
+use crate::joined_pairs::{KeptPair, kept_pairs};
 use crate::read_char::{facts_of, own_facts};
 use crate::syllables::is_syllable;
 use icu_checks::CheckedTables;

@@ -1,6 +1,6 @@
 use Rattle.icu_facts.specs.BoundaryTables.{boundary_reading}
 use Rattle.icu_facts.specs.KeptPairs.{ArePairs}
-use Rattle.icu_facts.proofs.pairs.push_pairs.Given as goal
+use Rattle.icu_facts.proofs.joined_pairs.push_pairs.Given as goal
 
 -- what is kept so far is so, if what there was is
 abbrev pub invariant-loop-index : goal.invariant-loop-index

@@ -25,8 +25,8 @@ use Rattle.icu_boundaries.proofs.NfdLemmas.{nfd-starters, nfd-nil}
 use Rattle.icu_facts.specs.FewElements.{few_elements}
 use Rattle.icu_facts.specs.KeptFacts.{IsPair}
 use Rattle.icu_facts.specs.KeptPairs.{ArePairs}
-use Rattle.icu_facts.specs.declared.pairs.KeptPair.{KeptPair}
-use Rattle.icu_facts.specs.inner.Pairs.{NamesAlone, AreJoined}
+use Rattle.icu_facts.specs.declared.joined_pairs.KeptPair.{KeptPair}
+use Rattle.icu_facts.specs.inner.JoinedPairs.{NamesAlone, AreJoined}
 use Rattle.icu_facts.proofs.KeptBaseLemmas.{own_entry}
 
 -- ---- mappings that go on no further

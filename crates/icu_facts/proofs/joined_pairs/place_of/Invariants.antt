@@ -1,5 +1,5 @@
 use Rattle.std.proofs.Common.{◌-◌, ◌≤◌, length}
-use Rattle.icu_facts.proofs.pairs.place_of.Given as goal
+use Rattle.icu_facts.proofs.joined_pairs.place_of.Given as goal
 
 abbrev pub invariant-loop-low : goal.invariant-loop-low
 invariant-loop-low l = record {

@@ -1,6 +1,6 @@
 use Rattle.icu_facts.specs.BoundaryTables.{boundary_reading}
 use Rattle.icu_facts.specs.KeptPairs.{ArePairs}
-use Rattle.icu_facts.proofs.pairs.kept_pairs.Given as goal
+use Rattle.icu_facts.proofs.joined_pairs.kept_pairs.Given as goal
 
 -- what is kept so far is so
 abbrev pub invariant-loop-code : goal.invariant-loop-code

@@ -6,7 +6,7 @@ use Rattle.icu_collation_data.specs.Data.{Data, homed}
 use Rattle.icu_collation_data.specs.StoredData.{data_of}
 use Rattle.icu_matches.proofs.MatchLemmas.{contraction_inside}
 use Rattle.icu_facts.proofs.KeptBaseLemmas.{own_entry}
-use Rattle.icu_facts.proofs.pairs.contractions_of.Goals as goal
+use Rattle.icu_facts.proofs.joined_pairs.contractions_of.Goals as goal
 
 pub get_context-requires : goal.get_context-requires
 get_context-requires c =

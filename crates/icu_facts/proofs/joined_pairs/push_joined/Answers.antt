@@ -3,10 +3,10 @@ use Rattle.std.proofs.Common.{◌≡◌, [], ◌∷◌, ◌++◌, List, ap, sym,
 use Rattle.icu_facts.specs.BoundaryTables.{boundary_reading}
 use Rattle.icu_facts.specs.FewElements.{few_elements}
 use Rattle.icu_facts.specs.KeptPairs.{ArePairs}
-use Rattle.icu_facts.specs.declared.pairs.KeptPair.{KeptPair}
+use Rattle.icu_facts.specs.declared.joined_pairs.KeptPair.{KeptPair}
 use Rattle.icu_facts.proofs.NamedLemmas.{on_ok_by}
-use Rattle.icu_facts.proofs.PairLemmas.{joined_stand, pairs_more}
-use Rattle.icu_facts.proofs.pairs.push_joined.Goals as goal
+use Rattle.icu_facts.proofs.JoinedPairLemmas.{joined_stand, pairs_more}
+use Rattle.icu_facts.proofs.joined_pairs.push_joined.Goals as goal
 
 pub returns-in-Some : goal.returns-in-Some
 returns-in-Some c =

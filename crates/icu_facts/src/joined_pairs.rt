@@ -1,5 +1,5 @@
-//! Pairs of characters that contractions join, as a vowel that is written before its consonant in Thai and Lao (UTS #10,
-//! "Produce Collation Element Arrays").
+//! Pairs of characters that contractions join, as a vowel that is written before its consonant in Thai and Lao
+//! (UTS #10, "Produce Collation Element Arrays").
 
 ghost use Rattle.std.specs.Prelude.{◌≡◌, ◌≢◌, ◌≤◌, ◌<◌, ◌∷◌, [], true, length, IsTrue, IfOk, IfSome, OnOk};
 ghost use Rattle.ucd_normal.specs.declared.forms.Form.TheVariants.{Nfd};
@@ -15,7 +15,7 @@ ghost use Rattle.icu_facts.specs.FactsTables.{AreFacts};
 ghost use Rattle.icu_facts.specs.FewElements.{few_elements};
 ghost use Rattle.icu_facts.specs.KeptFacts.{IsPair};
 ghost use Rattle.icu_facts.specs.KeptPairs.{ArePairs};
-ghost use Rattle.icu_facts.specs.inner.Pairs.{AreJoined, BeginsPairs, IsMappingOf, NamesAlone};
+ghost use Rattle.icu_facts.specs.inner.JoinedPairs.{AreJoined, BeginsPairs, IsMappingOf, NamesAlone};
 
 use crate::bases::elements_of_two;
 use crate::boundaries::Boundaries;
