@@ -5,3 +5,4 @@ pub mod SegmentLemmas
 pub mod InStepLemmas
 mod FirstPrimaryLemmas
 mod TieLemmas
+pub mod FactsInStepLemmas
