@@ -6,3 +6,4 @@ pub mod InStepLemmas
 mod FirstPrimaryLemmas
 mod TieLemmas
 pub mod OtherSettings
+pub mod FactsInStepLemmas

@@ -4,3 +4,4 @@ pub mod SegmentsLeft
 pub mod ElementOrders
 pub mod FirstPrimaries
 pub mod InStep
+pub mod FactsInStep

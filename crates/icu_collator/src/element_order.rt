@@ -1,6 +1,6 @@
 //! The order of two texts' elements, level by level.
 
-ghost use Rattle.std.specs.Prelude.{◌≡◌, ℕ, List, IfOk, IfSome, MatchOption};
+ghost use Rattle.std.specs.Prelude.{◌≡◌, ℕ, List, IfOk, IfSome, IsTrue, MatchOption};
 ghost use Rattle.std.specs.declared.cmp.Ordering.TheVariants.{Equal};
 ghost use Rattle.icu_levels.specs.ListOrder.{list_order, segments_order};
 ghost use Rattle.icu_levels.specs.Keys.{secondaries_order, cases_order, tertiaries_order, quaternaries_order};
@@ -23,6 +23,7 @@ impl<'a> CollatorBorrowed<'a> {
     ghost use Rattle.icu_collator.specs.Collators.{collation_borrowed};
     ghost use Rattle.icu_collator.specs.inner.ElementOrders.{elements_order, leading_order, later_levels_order};
     ghost use Rattle.icu_collator.specs.inner.InStep.{order_on, IsThreeLevel};
+    ghost use Rattle.icu_collator.specs.inner.ElementOrders.{IsPlain};
 
     /// The order of two texts on a level that is compared forward.
     fn compare_forward_level<L: EncodedText, R: EncodedText>(
@@ -199,8 +200,29 @@ impl<'a> CollatorBorrowed<'a> {
         }
     }
 
+    /// Whether no element is variable, and characters don't count.
+    fn is_plain(&self) -> bool
+        ensures { IsTrue result → IsPlain (collation_borrowed self.now) }
+    {
+        self.last_variable() == 0 && !self.key_form().identical
+    }
+
+    /// The form of the tertiary level, where that, the primary and the secondary level are all, secondary weights are
+    /// compared forward, and no element is variable.
+    pub(crate) fn plain_form(&self) -> Option<TertiaryForm>
+        ensures form { IfSome result
+            (λ form. IsThreeLevel (form_by (collation_borrowed self.now)) form) }
+        ensures plain { IfSome result (λ _. IsPlain (collation_borrowed self.now)) }
+    {
+        if self.is_plain() {
+            self.three_level_form()
+        } else {
+            None
+        }
+    }
+
     /// The level of the primary weights, reordered.
-    fn primary_level(&self) -> Level<'a>
+    pub(crate) fn primary_level(&self) -> Level<'a>
         ensures { let collation = collation_borrowed self.now in (t u : List ℕ) →
             order_on result (handled_by collation t) (handled_by collation u)
             ≡ leading_order collation t u }

@@ -82,7 +82,7 @@ impl<'d> Level<'d> {
     /// What the level has for an element as it was handled: the quaternary level alone has something for a shifted
     /// one.
     #[inline(always)]
-    fn weight(self, handled: Handled) -> Option<u64>
+    pub(crate) fn weight(self, handled: Handled) -> Option<u64>
         ensures { result ≡ weight_in self.entry (handled_as handled) }
     {
         match handled {

@@ -12,7 +12,7 @@ use std::alloc::AllocError;
 use std::cmp::Ordering;
 
 /// Elements that two sources gave last: none of a source that has ended.
-type Pair = (Option<Handled>, Option<Handled>);
+pub(crate) type Pair = (Option<Handled>, Option<Handled>);
 
 /// Goes past the elements that both sources give, and returns the first that differ, or none where both have ended.
 /// Fails only where an allocation does.
@@ -73,7 +73,7 @@ pub(crate) fn compare_from_difference<L: HandledSource, R: HandledSource>(
 /// The order of two elements on the tertiary level, where they tie on the first and the secondary one, and both have a
 /// tertiary weight, or neither has.
 #[inline(always)]
-fn order_of_pair(
+pub(crate) fn order_of_pair(
     first: Level<'_>,
     form: TertiaryForm,
     one: &Handled,

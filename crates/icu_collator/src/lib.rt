@@ -10,6 +10,7 @@
 pub mod collator;
 pub mod compare;
 mod element_order;
+mod facts_in_step;
 mod first_facts;
 mod forward_levels;
 pub mod handled;

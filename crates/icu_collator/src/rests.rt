@@ -6,6 +6,7 @@ ghost use Rattle.icu_text_order.specs.Forms.{form_by};
 ghost use Rattle.icu_text_order.specs.TextOrder.{text_order};
 
 use crate::collator::CollatorBorrowed;
+use crate::facts_in_step::order_in_step;
 use crate::first_facts::FirstFacts;
 use icu_cursor::FactsCursor;
 use icu_encodings::EncodedText;
@@ -99,8 +100,8 @@ impl<'a> CollatorBorrowed<'a> {
         }
     }
 
-    /// The order of two texts by the primary weights of the characters that they begin with, as far as these may be
-    /// read by themselves: the first that differ decide.
+    /// The order of two texts by the characters that they begin with, as far as these may be read by themselves: on three
+    /// levels where these are all, and else by the primary weights, of which the first that differ decide.
     #[inline(never)]
     fn order_by_facts<L: EncodedText, R: EncodedText>(&self, left: L, right: R) -> Option<Ordering>
         ensures { let collation = collation_borrowed self.now in
@@ -109,6 +110,9 @@ impl<'a> CollatorBorrowed<'a> {
         let tables = self.cursor_tables();
         let mut one = FactsCursor::new(&tables, left);
         let mut other = FactsCursor::new(&tables, right);
+        if let Some(form) = self.plain_form() {
+            return order_in_step(self.primary_level(), form, &mut one, &mut other);
+        }
         'weights: for _ in 0..WEIGHTS_AHEAD {
             let weight = self.next_primary(&mut one)?;
             let other_weight = self.next_primary(&mut other)?;

@@ -1,5 +1,5 @@
 -- The order of two texts by their elements alone.
-use Rattle.std.specs.Prelude.{ℕ, List, map}
+use Rattle.std.specs.Prelude.{◌≡◌, ℕ, false, List, map}
 use Rattle.std.specs.Ordering.{ordering_then}
 use Rattle.std.specs.declared.cmp.Ordering.{Ordering}
 use Rattle.icu_levels.specs.ListOrder.{list_order}
@@ -7,7 +7,7 @@ use Rattle.icu_levels.specs.Keys.{LevelLists, secondaries_order, cases_order, te
 use Rattle.icu_levels.specs.declared.forms.KeyForm.{KeyForm}
 use Rattle.icu_provider.specs.CollatorTables.{reorder}
 use Rattle.icu_weighting.specs.Collations.{Collation}
-use Rattle.icu_weighting.specs.Forms.{form_by}
+use Rattle.icu_weighting.specs.Forms.{form_by, last_variable_by}
 use Rattle.icu_text_order.specs.TextOrder.{lists_by}
 
 -- the levels in turn between the primary and the identical one
@@ -36,3 +36,8 @@ leading_order c t u =
 -- the order of two texts on the later levels, those between the primary and the identical one
 unfoldable pub later_levels_order : Collation → List ℕ → List ℕ → Ordering
 later_levels_order c t u = after_primaries (form_by c) (lists_by c t) (lists_by c u)
+
+-- no element is variable, and characters don't count
+pub record IsPlain (c : Collation) : Type 0 where
+  pub variable : last_variable_by c ≡ 0
+  pub identical : (form_by c).identical ≡ false

@@ -1,0 +1,218 @@
+-- Two texts of which characters are read, gone through in step, where no element is variable.
+use Rattle.std.proofs.Common.{◌≡◌, ◌≢◌, ℕ, false, List, [], ◌∷◌, ◌++◌, map, Option, Some, None, IfSome, Ordering, Less, Equal, Greater, refl, sym, ap, ap₂, subst, ◌∙◌}
+use Rattle.std.specs.Ordering.{nat_cmp, ordering_then}
+use Rattle.unicode_normalization.specs.Forms.{nfd}
+use Rattle.icu_entries.specs.Elements.{Element}
+use Rattle.icu_levels.specs.ListOrder.{list_order}
+use Rattle.icu_levels.specs.Keys.{characters_order}
+use Rattle.icu_levels.specs.declared.forms.TertiaryForm.{TertiaryForm}
+use Rattle.icu_levels.proofs.Order.{same_front}
+use Rattle.icu_levels.proofs.Orderings.{then_equal}
+use Rattle.icu_elements.specs.TextElements.{elements_of, elements_after}
+use Rattle.icu_cursor.specs.declared.facts_cursor.FactsCursor.{FactsCursor}
+use Rattle.icu_cursor.specs.FactsCursors.{facts_give, GivesNext}
+use Rattle.icu_weighting.specs.Collations.{Collation}
+use Rattle.icu_weighting.specs.Forms.{form_by, last_variable_by}
+use Rattle.icu_weighting.specs.Handled.{HandledElement, stayed}
+use Rattle.icu_weighting.specs.HandledSources.{handled_as}
+use Rattle.icu_weighting.specs.declared.handled_element.Handled.{Handled}
+use Rattle.icu_weighting.specs.declared.handled_element.Handled.TheVariants.{Stayed}
+use Rattle.icu_text_order.specs.TextOrder.{handled_by, lists_by, reading_by, text_order}
+use Rattle.icu_collator.specs.declared.forward_levels.Level.{Level}
+use Rattle.icu_collator.specs.inner.ElementOrders.{IsPlain, elements_order, leading_order}
+use Rattle.icu_collator.specs.inner.FactsInStep.{StepsOn, WeighsOn, plain_left, weights_from}
+use Rattle.icu_collator.specs.inner.InStep.{from_first, order_on, order_from, three_order, three_levels, ThreeLevels, IsThreeLevel, StepsBy, StepBoth, DecidesOn}
+use Rattle.icu_collator.specs.inner.LevelWeights.{weight_in, level_weights}
+use Rattle.icu_collator.proofs.InStepLemmas.{tied_order, step_both, same_three, first_decides, second_decides, three_read, weights_of_first, no_weight_of_first}
+use Rattle.icu_collator.proofs.OrdersInTurn.{all_stay, order_in_two}
+
+-- ---- one element
+
+-- an element that comes next stays
+pub steps_on : {T : Type 0} (text : T → List ℕ) (old new : FactsCursor T) (e : Element) → GivesNext text old (Some e) new → StepsOn text old (Some (Stayed e)) new
+steps_on text old new e h = λ before. let next = h before in (next.0, ap (map stayed) next.1)
+
+pub steps_end : {T : Type 0} (text : T → List ℕ) (old new : FactsCursor T) → GivesNext text old None new → StepsOn text old None new
+steps_end text old new h = λ before. (before, ap (map stayed) (h before))
+
+-- the same element on both sides
+pub same_steps : (levels : ThreeLevels) (one other : Handled) → one ≡ other → StepsBy levels one other Equal
+same_steps levels one other e = record {
+  on_first = λ hs ks. tied_order levels.first (handled_as one) (handled_as other) hs ks (ap (λ h. weight_in levels.first (handled_as h)) e);
+  on_second = λ hs ks. tied_order levels.second (handled_as one) (handled_as other) hs ks (ap (λ h. weight_in levels.second (handled_as h)) e);
+  on_third = λ hs ks. tied_order levels.third (handled_as one) (handled_as other) hs ks (ap (λ h. weight_in levels.third (handled_as h)) e);
+}
+
+-- ---- two texts
+
+module _ {T U : Type 0} (text : T → List ℕ) (other_text : U → List ℕ) where
+  -- what is left orders as the whole
+  abbrev pub LeavesOrder : ThreeLevels → FactsCursor T → FactsCursor U → Ordering → FactsCursor T → FactsCursor U → Type 0
+  LeavesOrder levels left right third one other =
+      (b d : List ℕ) → (b' : List ℕ) × (d' : List ℕ)
+      × (three_order levels Equal (plain_left text left b) (plain_left other_text right d) ≡ three_order levels third (plain_left text one b') (plain_left other_text other d'))
+
+  pub nothing_compared : (levels : ThreeLevels) (left : FactsCursor T) (right : FactsCursor U) → LeavesOrder levels left right Equal left right
+  nothing_compared levels left right = λ b d. (b, d, refl)
+
+  -- a step that both took
+  pub both_step : (levels : ThreeLevels) (left one one' : FactsCursor T) (right other other' : FactsCursor U) (third o : Ordering) (h k : Option Handled)
+      → LeavesOrder levels left right third one other → StepsOn text one h one' → StepsOn other_text other k other' → StepBoth levels h k o
+      → LeavesOrder levels left right (ordering_then third o) one' other'
+  both_step levels left one one' right other other' third o h k so_far s t by = λ b d.
+      let at = so_far b d in
+      let n = s at.0 in
+      let m = t at.1 in (
+        n.0,
+        m.0,
+        at.2 ∙ step_both levels third (plain_left text one at.0) (plain_left other_text other at.1) (plain_left text one' n.0) (plain_left other_text other' m.0) h k o
+            (λ level. ap₂ (order_on level) n.1 m.1) by,
+      )
+
+  -- both have ended
+  pub both_ended : (levels : ThreeLevels) (left one one' : FactsCursor T) (right other other' : FactsCursor U) (third : Ordering) (h k : Option Handled)
+      → LeavesOrder levels left right third one other → StepsOn text one h one' → StepsOn other_text other k other' → h ≡ None → k ≡ None
+      → (b d : List ℕ) → third ≡ three_order levels Equal (plain_left text left b) (plain_left other_text right d)
+  both_ended levels left one one' right other other' third h k so_far s t none ended b d =
+      let at = so_far b d in
+      let n = s at.0 in
+      let m = t at.1 in
+      let hs = n.1 ∙ ap (λ x. from_first x (plain_left text one' n.0)) none in
+      let ks = m.1 ∙ ap (λ x. from_first x (plain_left other_text other' m.0)) ended in
+      sym (at.2 ∙ same_three levels third (plain_left text one at.0) (plain_left other_text other at.1) (hs ∙ sym ks))
+
+  -- they go on out of step
+  pub out_of_step : (levels : ThreeLevels) (left one one' : FactsCursor T) (right other other' : FactsCursor U) (third : Ordering) (h k : Option Handled) (found : Option Ordering)
+      → LeavesOrder levels left right third one other → StepsOn text one h one' → StepsOn other_text other k other'
+      → ((b d : List ℕ) (t : Ordering) → IfSome found (λ o. o ≡ three_order levels t (from_first h (plain_left text one' b)) (from_first k (plain_left other_text other' d))))
+      → (b d : List ℕ) → IfSome found (λ o. o ≡ three_order levels Equal (plain_left text left b) (plain_left other_text right d))
+  out_of_step levels left one one' right other other' third h k None so_far s t by b d = tt
+  out_of_step levels left one one' right other other' third h k (Some o) so_far s t by b d =
+      let at = so_far b d in
+      let n = s at.0 in
+      let m = t at.1 in
+      by n.0 m.0 third ∙ sym (ap₂ (three_order levels third) n.1 m.1) ∙ sym at.2
+
+-- where the first level ties, these elements decide on the second one
+pub out_decides : (levels : ThreeLevels) (third : Ordering) (hs ks us vs : List HandledElement) (one other : Option Handled) (found : Option Ordering) → hs ≡ from_first one us → ks ≡ from_first other vs
+    → order_on levels.first hs ks ≡ Equal → IfSome found (λ o. DecidesOn levels.second one other o) → IfSome found (λ o. o ≡ three_order levels third hs ks)
+out_decides levels third hs ks us vs one other None e f ties h = tt
+out_decides levels third hs ks us vs one other (Some o) e f ties h =
+    let d = h us vs in
+    second_decides levels third hs ks o ties (d.0 ∙ sym (ap₂ (order_on levels.second) e f), d.1)
+
+-- ---- weights
+
+module _ (level : Level) where
+  pub weighs : (h : HandledElement) (hs : List HandledElement) (w : ℕ) → weight_in level h ≡ Some w → WeighsOn level (h ∷ hs) (Some w) hs
+  weighs h hs w e = weights_of_first level h hs w e
+
+  pub no_weight : (h : HandledElement) (hs : List HandledElement) → weight_in level h ≡ None → level_weights level (h ∷ hs) ≡ level_weights level hs
+  no_weight h hs e = no_weight_of_first level h hs e
+
+-- the same weight in front of both
+pub same_next : (one other : Option ℕ) (w v : ℕ) (ws vs : List ℕ) → one ≡ Some w → other ≡ Some v → w ≡ v → list_order (weights_from one ws) (weights_from other vs) ≡ list_order ws vs
+same_next one other w v ws vs e f same =
+    ap₂ (λ (x y : Option ℕ). list_order (weights_from x ws) (weights_from y vs)) (e ∙ ap (λ x. Some x) same) f
+    ∙ same_front (v ∷ []) ws vs
+
+-- ---- the order of the texts
+
+then_nothing : (o p : Ordering) → p ≡ Equal → ordering_then o p ≡ o
+then_nothing Less p e = refl
+then_nothing Equal p e = e
+then_nothing Greater p e = refl
+
+module _ (collation : Collation) (plain : IsPlain collation) where
+  plain_elements : (t : List ℕ) → handled_by collation (nfd t) ≡ map stayed (elements_of (reading_by collation) (nfd t))
+  plain_elements t = all_stay collation.settings.alternate_handling (last_variable_by collation) (elements_of (reading_by collation) (nfd t)) plain.variable
+
+  pub elements_are_all : (t u : List ℕ) → text_order collation t u ≡ elements_order collation (nfd t) (nfd u)
+  elements_are_all t u =
+      order_in_two collation t u
+      ∙ then_nothing (elements_order collation (nfd t) (nfd u)) _ (ap (λ b. characters_order b (lists_by collation (nfd t)) (lists_by collation (nfd u))) plain.identical)
+
+  pub facts_order : {T U : Type 0} (text : T → List ℕ) (other_text : U → List ℕ) (one : FactsCursor T) (other : FactsCursor U) (t u : List ℕ) (first : Level) (form : TertiaryForm) (found : Option Ordering)
+      → facts_give text one [] ≡ elements_after (reading_by collation) [] (nfd t) → facts_give other_text other [] ≡ elements_after (reading_by collation) [] (nfd u)
+      → order_on first (handled_by collation (nfd t)) (handled_by collation (nfd u)) ≡ leading_order collation (nfd t) (nfd u) → IsThreeLevel (form_by collation) form
+      → IfSome found (λ o. o ≡ three_order (three_levels first form) Equal (plain_left text one []) (plain_left other_text other []))
+      → IfSome found (λ o. o ≡ text_order collation t u)
+  facts_order text other_text one other t u first form None e f leads is h = tt
+  facts_order text other_text one other t u first form (Some o) e f leads is h =
+      h ∙ ap₂ (three_order (three_levels first form) Equal) (ap (map stayed) e ∙ sym (plain_elements t)) (ap (map stayed) f ∙ sym (plain_elements u))
+      ∙ three_read collation (nfd t) (nfd u) first form leads is ∙ sym (elements_are_all t u)
+
+-- ---- what a step found
+
+pub same_found : (found : Option Ordering) (x y : Ordering) → x ≡ y → IfSome found (λ o. o ≡ x) → IfSome found (λ o. o ≡ y)
+same_found found x y e h = subst (λ (w : Ordering). IfSome found (λ o. o ≡ w)) e h
+
+module _ (level : Level) where
+  -- nothing weighs nothing
+  pub nothing_weighs : level_weights level [] ≡ []
+  unfolding level_weights
+  nothing_weighs = refl
+
+  module _ {T : Type 0} (text : T → List ℕ) where
+    pub passes : (start old new : FactsCursor T) (next : Option Handled) (h : Handled)
+        → ((before : List ℕ) → (after : List ℕ) × (level_weights level (plain_left text start before) ≡ level_weights level (plain_left text old after)))
+        → StepsOn text old next new → next ≡ Some h → weight_in level (handled_as h) ≡ None
+        → (before : List ℕ) → (after : List ℕ) × (level_weights level (plain_left text start before) ≡ level_weights level (plain_left text new after))
+    passes start old new next h so_far steps is none = λ before.
+        let at = so_far before in
+        let n = steps at.0 in (
+          n.0,
+          at.1 ∙ ap (level_weights level) (n.1 ∙ ap (λ x. from_first x (plain_left text new n.0)) is) ∙ no_weight level (handled_as h) (plain_left text new n.0) none,
+        )
+
+    pub weight_found : (start old new : FactsCursor T) (next : Option Handled) (h : Handled) (w : ℕ)
+        → ((before : List ℕ) → (after : List ℕ) × (level_weights level (plain_left text start before) ≡ level_weights level (plain_left text old after)))
+        → StepsOn text old next new → next ≡ Some h → weight_in level (handled_as h) ≡ Some w
+        → (before : List ℕ) → (after : List ℕ) × WeighsOn level (plain_left text start before) (Some w) (plain_left text new after)
+    weight_found start old new next h w so_far steps is some = λ before.
+        let at = so_far before in
+        let n = steps at.0 in (
+          n.0,
+          at.1 ∙ ap (level_weights level) (n.1 ∙ ap (λ x. from_first x (plain_left text new n.0)) is) ∙ weighs level (handled_as h) (plain_left text new n.0) w some,
+        )
+
+    pub text_ended : (start old new : FactsCursor T) (next : Option Handled)
+        → ((before : List ℕ) → (after : List ℕ) × (level_weights level (plain_left text start before) ≡ level_weights level (plain_left text old after)))
+        → StepsOn text old next new → next ≡ None
+        → (before : List ℕ) → (after : List ℕ) × WeighsOn level (plain_left text start before) None (plain_left text new after)
+    text_ended start old new next so_far steps is = λ before.
+        let at = so_far before in
+        let n = steps at.0 in (
+          n.0,
+          at.1 ∙ ap (level_weights level) (n.1 ∙ ap (λ x. from_first x (plain_left text new n.0)) is) ∙ nothing_weighs,
+        )
+
+    -- an element without a weight changes nothing of the next one
+    pub passed_first : (old new : FactsCursor T) (first : Option Handled) (h : Handled) (found : Option (Option ℕ)) → first ≡ Some h → weight_in level (handled_as h) ≡ None
+        → IfSome found (λ next. (before : List ℕ) → (after : List ℕ) × WeighsOn level (plain_left text old before) next (plain_left text new after))
+        → IfSome found (λ next. (before : List ℕ) → (after : List ℕ) × WeighsOn level (from_first first (plain_left text old before)) next (plain_left text new after))
+    passed_first old new first h None is none found = tt
+    passed_first old new first h (Some next) is none found = λ before.
+        let n = found before in (
+          n.0,
+          ap (λ x. level_weights level (from_first x (plain_left text old before))) is ∙ no_weight level (handled_as h) (plain_left text old before) none ∙ n.1,
+        )
+
+    pub first_weighs : (old : FactsCursor T) (first : Option Handled) (h : Handled) (w : ℕ) → first ≡ Some h → weight_in level (handled_as h) ≡ Some w
+        → (before : List ℕ) → (after : List ℕ) × WeighsOn level (from_first first (plain_left text old before)) (Some w) (plain_left text old after)
+    first_weighs old first h w is some = λ before. (
+      before,
+      ap (λ x. level_weights level (from_first x (plain_left text old before))) is ∙ weighs level (handled_as h) (plain_left text old before) w some,
+    )
+
+    pub nothing_first : (old : FactsCursor T) (first : Option Handled) → first ≡ None
+        → (before : List ℕ) → (after : List ℕ) × WeighsOn level (from_first first (plain_left text old before)) None (plain_left text old after)
+    nothing_first old first is = λ before. (before, ap (λ x. level_weights level (from_first x (plain_left text old before))) is ∙ nothing_weighs)
+
+  pub order_by_weights : (hs ks : List HandledElement) (ws vs : List ℕ) → level_weights level hs ≡ ws → level_weights level ks ≡ vs → order_on level hs ks ≡ list_order ws vs
+  unfolding order_on
+  order_by_weights hs ks ws vs e f = ap₂ list_order e f
+
+pub any_found : {X : Type 0} (found : Option X) (P : Type 0) → P → IfSome found (λ _. P)
+any_found None P h = tt
+any_found (Some x) P h = h
