@@ -1,0 +1,2 @@
+pub mod LeastMatches
+pub mod LeastMatchLaws

@@ -1,0 +1,4 @@
+//! Search by collation.
+#![tactic(auto)]
+
+pub mod laws;
