@@ -1,3 +1,5 @@
 pub mod ListLemmas
 pub mod LeastLemmas
 pub mod ApartLemmas
+pub mod MatchEndLemmas
+pub mod StepEndLemmas
