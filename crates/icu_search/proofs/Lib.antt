@@ -3,3 +3,7 @@ pub mod LeastLemmas
 pub mod ApartLemmas
 pub mod MatchEndLemmas
 pub mod StepEndLemmas
+pub mod Computing
+mod WorkedSearches
+pub mod RestLemmas
+pub mod PartLemmas

@@ -1,2 +1,5 @@
 pub mod LeastMatches
 pub mod LeastMatchLaws
+pub mod Places
+pub mod Searches
+pub mod PartLaws
