@@ -12,7 +12,7 @@ unfolding apart_from
 apart_from-nil offset = refl
 
 -- a member that is taken, or passed over
-apart_from-taken : (offset : ℕ) (m : Span) (later : List Span) → nat_le offset m.start ≡ true → apart_from offset (m ∷ later) ≡ m ∷ apart_from m.stop later
+pub apart_from-taken : (offset : ℕ) (m : Span) (later : List Span) → nat_le offset m.start ≡ true → apart_from offset (m ∷ later) ≡ m ∷ apart_from m.stop later
 unfolding apart_from
 apart_from-taken offset m later h = rw h refl
 

@@ -7,3 +7,5 @@ pub mod Computing
 mod WorkedSearches
 pub mod RestLemmas
 pub mod PartLemmas
+pub mod FoundLemmas
+pub mod CutLemmas

@@ -26,7 +26,7 @@ starts_with-short : (front chars : List ℕ) → length front < length chars →
 starts_with-short front [] short = absurd (omega arith)
 starts_with-short [] (y ∷ ys) short = refl
 starts_with-short (c ∷ cs) (y ∷ ys) short =
-    let rest = starts_with-short cs ys (omega arith) in elim (cases_Bool (nat_eq y c)) [ | inl same ↦ rw (same, rest) refl | inr other ↦ rw other refl ]
+    let rest = starts_with-short cs ys (omega arith) in elim (cases_Bool (nat_eq y c)) [ inl same ↦ rw (same, rest) refl | inr other ↦ rw other refl ]
 
 grows_if : (b : Bool) (mapping : Mapping) (best : Option Mapping) → mapping_length best ≤ mapping_length (if b && is_longer mapping best then Some mapping else best)
 grows_if false mapping best = omega arith

@@ -109,9 +109,28 @@ lists_begin c front back h =
     let parted : nfd (front ++ back) ≡ nfd front ++ nfd back = p.whole_is ∙ ap (λ (t : List ℕ). nfd front ++ t) (sym p.back_is) in
     let rest : LevelLists = level_lists (reorder c.tables) (form_by c) (handled_elements c (ends_after (last_variable_by c) false es) fs) (nfd back) in
     let front_lists : LevelLists = level_lists (reorder c.tables) (form_by c) (handled_elements c false es) (nfd front) in
-    let has = lists-append c es fs (nfd (front ++ back)) (nfd front) (nfd back) parted in
-    (
+    let has = lists-append c es fs (nfd (front ++ back)) (nfd front) (nfd back) parted in (
       rest,
       subst (λ (es : List Element). HasFront front_lists (level_lists (reorder c.tables) (form_by c) (handled_elements c false es) (nfd (front ++ back))) rest)
-      (sym (read_as_in_whole reading front back h)) has,
+          (sym (read_as_in_whole reading front back h)) has,
     )
+
+-- ---- places of the part
+
+pub part_has_places : (reading : Reading) (front : List ℕ) (c : ℕ) (mid back : List ℕ) → is_place_before reading (front ++ (c ∷ mid ++ back)) back ≡ true
+    → is_place_before reading (front ++ (c ∷ mid ++ back)) (c ∷ mid ++ back) ≡ is_place_before reading (front ++ c ∷ mid) (c ∷ mid)
+part_has_places reading front c mid [] h = absurd (false≢true h)
+part_has_places reading front c mid (b ∷ bs) h =
+    let l = leads_at (decompose Nfd b) (and_parts (first_leads (decompose Nfd b)) _ h).0 in
+    let y = l.first ∷ rest_after b l.first l.more bs l.is l.starter in
+    let part = front ++ c ∷ mid in
+    let whole = front ++ (c ∷ mid ++ b ∷ bs) in
+    let whole_is : nfd whole ≡ nfd part ++ y = ap nfd (sym (append_assoc front (c ∷ mid) (b ∷ bs))) ∙ nfd-parted b l.first l.more bs l.is l.starter part in
+    let rest_is : nfd (c ∷ mid ++ b ∷ bs) ≡ nfd (c ∷ mid) ++ y = nfd-parted b l.first l.more bs l.is l.starter (c ∷ mid) in
+    let there : comes_to (nfd part ++ y) reading [] (nfd part ++ y) y ≡ true =
+    subst (λ (t : List ℕ). reaches reading t y ≡ true) whole_is
+    (subst (λ (t : List ℕ). reaches reading (nfd whole) t ≡ true) (nfd-begins b l.first l.more bs l.is l.starter) (reaches_back reading whole (b ∷ bs) h)) in
+    ap (λ r. first_leads (decompose Nfd c) && r)
+    (ap (λ (t : List ℕ). reaches reading t (nfd (c ∷ mid ++ b ∷ bs))) whole_is
+    ∙ ap (λ (t : List ℕ). reaches reading (nfd part ++ y) t) rest_is
+    ∙ part_places reading [] (nfd part) (nfd (c ∷ mid)) l.first (rest_after b l.first l.more bs l.is l.starter) l.starter there)

@@ -3,3 +3,4 @@ pub mod LeastMatchLaws
 pub mod Places
 pub mod Searches
 pub mod PartLaws
+pub mod SearchLaws

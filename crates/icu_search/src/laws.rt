@@ -1,6 +1,9 @@
 //! The laws of search, each the contract of a function that makes no call.
 
-ghost use Rattle.icu_search.specs.LeastMatchLaws.{LeastMatchesHoldNoOther, FoundMatchesStandApart};
+ghost use Rattle.icu_search.specs.LeastMatchLaws.{FoundMatchesStandApart, LeastMatchesHoldNoOther};
+ghost use Rattle.icu_search.specs.PartLaws.{ListsBeginWithThoseOfParts, PartsAreReadAsInTheWhole, PartsHaveTheirPlaces};
+ghost use Rattle.icu_search.specs.SearchLaws.{EqualPatternsFindTheSame, EveryMatchIsMet, FoundPartsHaveThePatternsKey, FoundPartsMatch};
+ghost use Rattle.icu_search.specs.SearchLaws.{FoundPartsStandApart, NothingFoundMeansNoMatch, TextsMatchThemselves};
 
 /// Whichever parts of a text match: the list of least matches is that of the matches that hold no other, from left to
 /// right, and each match holds one of them (UTS #10, "Searching and Matching").
@@ -8,8 +11,45 @@ pub fn least_matches_hold_no_other()
     ensures { LeastMatchesHoldNoOther }
 {}
 
-/// Those that are found stand apart, from left to right. Each least match that isn't found begins inside of one that
-/// is found.
+/// Whichever parts of a text match: those that are found stand apart, from left to right. Each least match that isn't
+/// found begins inside of one that is found.
 pub fn found_matches_stand_apart()
     ensures { FoundMatchesStandApart }
+{}
+
+/// What is found are parts of the text that are equal to the pattern, between places of the text.
+pub fn found_parts_match()
+    ensures equal { FoundPartsMatch }
+
+    // By tables that meet the conditions each of them has the pattern's sort key.
+    ensures key { FoundPartsHaveThePatternsKey }
+    ensures apart { FoundPartsStandApart }
+{}
+
+/// No match is missed: each holds a least one, and each least one is found, or begins inside of one that is found.
+pub fn every_match_is_met()
+    ensures met { EveryMatchIsMet }
+    ensures nothing { NothingFoundMeansNoMatch }
+{}
+
+/// A text as a whole is a match of itself, by tables that meet the conditions.
+pub fn texts_match_themselves()
+    ensures { TextsMatchThemselves }
+{}
+
+/// Patterns that are equal find the same, by tables that meet the conditions.
+pub fn equal_patterns_find_the_same()
+    ensures { EqualPatternsFindTheSame }
+{}
+
+/// Up to a place of a text, what stands before it is read by itself as it is read in the whole (UTS #10, "Produce
+/// Collation Element Arrays").
+pub fn parts_are_read_as_in_the_whole()
+    ensures elements { PartsAreReadAsInTheWhole }
+
+    // The places of that part are those of the whole up to there.
+    ensures places { PartsHaveTheirPlaces }
+
+    // On each level, but for a backward secondary one, the weights of the whole begin with those of the part.
+    ensures lists { ListsBeginWithThoseOfParts }
 {}
