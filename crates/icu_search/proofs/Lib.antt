@@ -9,3 +9,4 @@ pub mod RestLemmas
 pub mod PartLemmas
 pub mod FoundLemmas
 pub mod CutLemmas
+pub mod PieceLemmas

@@ -43,10 +43,9 @@ pub record PlaceAt (reading : Reading) (front back : List ℕ) : Type 0 where
   pub back_is : nfd back ≡ first ∷ more
   pub whole_is : nfd (front ++ back) ≡ nfd front ++ first ∷ more
 
-pub place_at : (reading : Reading) (text front back : List ℕ) → is_place_before reading text back ≡ true → PlaceAt reading front back
-place_at reading text front [] h = absurd (false≢true h)
-place_at reading text front (c ∷ cs) h =
-    let l = leads_at (decompose Nfd c) (and_parts (first_leads (decompose Nfd c)) _ h).0 in
+pub leading_at : (reading : Reading) (front : List ℕ) (c : ℕ) (cs : List ℕ) → first_leads (decompose Nfd c) ≡ true → PlaceAt reading front (c ∷ cs)
+leading_at reading front c cs h =
+    let l = leads_at (decompose Nfd c) h in
     record {
       first = l.first;
       more = rest_after c l.first l.more cs l.is l.starter;
@@ -54,6 +53,10 @@ place_at reading text front (c ∷ cs) h =
       back_is = nfd-begins c l.first l.more cs l.is l.starter;
       whole_is = nfd-parted c l.first l.more cs l.is l.starter front;
     }
+
+pub place_at : (reading : Reading) (text front back : List ℕ) → is_place_before reading text back ≡ true → PlaceAt reading front back
+place_at reading text front [] h = absurd (false≢true h)
+place_at reading text front (c ∷ cs) h = leading_at reading front c cs (and_parts (first_leads (decompose Nfd c)) _ h).0
 
 reaches_back : (reading : Reading) (text back : List ℕ) → is_place_before reading text back ≡ true → reaches reading (nfd text) (nfd back) ≡ true
 reaches_back reading text [] h = absurd (false≢true h)

@@ -4,3 +4,4 @@ pub mod Places
 pub mod Searches
 pub mod PartLaws
 pub mod SearchLaws
+pub mod PieceLaws

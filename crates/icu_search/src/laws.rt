@@ -2,6 +2,7 @@
 
 ghost use Rattle.icu_search.specs.LeastMatchLaws.{FoundMatchesStandApart, LeastMatchesHoldNoOther};
 ghost use Rattle.icu_search.specs.PartLaws.{ListsBeginWithThoseOfParts, PartsAreReadAsInTheWhole, PartsHaveTheirPlaces};
+ghost use Rattle.icu_search.specs.PieceLaws.{SearchIsLocal};
 ghost use Rattle.icu_search.specs.SearchLaws.{EqualPatternsFindTheSame, EveryMatchIsMet, FoundPartsHaveThePatternsKey, FoundPartsMatch};
 ghost use Rattle.icu_search.specs.SearchLaws.{FoundPartsStandApart, NothingFoundMeansNoMatch, TextsMatchThemselves};
 
@@ -52,4 +53,10 @@ pub fn parts_are_read_as_in_the_whole()
 
     // On each level, but for a backward secondary one, the weights of the whole begin with those of the part.
     ensures lists { ListsBeginWithThoseOfParts }
+{}
+
+/// A text may be searched in pieces. It is cut before a character whose decomposition begins with a boundary that leads:
+/// up to there the matches of the whole are those of the first piece, from there on those of the second.
+pub fn search_is_local()
+    ensures { SearchIsLocal }
 {}
