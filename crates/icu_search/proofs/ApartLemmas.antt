@@ -7,7 +7,7 @@ use Rattle.icu_search.specs.LeastMatchLaws.{AreFound}
 use Rattle.icu_search.proofs.ListLemmas.{not_in_nil, at_head, in_tail, head_or_tail, member_of, each_member, some_member, the_member, InPairs, AllPairs-in_pairs}
 use Rattle.icu_search.proofs.LeastLemmas.{least_rise, least_ordered}
 
-apart_from-nil : (offset : ℕ) → apart_from offset [] ≡ []
+pub apart_from-nil : (offset : ℕ) → apart_from offset [] ≡ []
 unfolding apart_from
 apart_from-nil offset = refl
 
@@ -16,7 +16,7 @@ pub apart_from-taken : (offset : ℕ) (m : Span) (later : List Span) → nat_le 
 unfolding apart_from
 apart_from-taken offset m later h = rw h refl
 
-apart_from-passed : (offset : ℕ) (m : Span) (later : List Span) → nat_le offset m.start ≡ false → apart_from offset (m ∷ later) ≡ apart_from offset later
+pub apart_from-passed : (offset : ℕ) (m : Span) (later : List Span) → nat_le offset m.start ≡ false → apart_from offset (m ∷ later) ≡ apart_from offset later
 unfolding apart_from
 apart_from-passed offset m later h = rw h refl
 

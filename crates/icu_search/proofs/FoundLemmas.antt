@@ -12,14 +12,21 @@ use Rattle.std.proofs.lemmas.List.{take_all, drop_all}
 use Rattle.icu_checks.specs.WellFormedTables.{IsWellFormedTables}
 use Rattle.icu_elements.specs.TextElements.{Reading}
 use Rattle.icu_elements.specs.TextElementLaws.{IsText}
+use Rattle.icu_levels.specs.Keys.{levels_order}
 use Rattle.icu_weighting.specs.Collations.{Collation}
+use Rattle.icu_weighting.specs.Forms.{compression_of, form_by}
 use Rattle.icu_text_order.specs.TextOrder.{reading_by, text_order, text_key}
 use Rattle.icu_text_order.proofs.TextOrders.{equal_keys}
+use Rattle.unicode_normalization.specs.Forms.{nfd}
+use Rattle.icu_options.specs.declared.settings.Strength.{Strength}
+use Rattle.icu_text_order.specs.TextOrder.{lists_by}
+use Rattle.icu_laws.specs.OrderLaws.{strength_rank, with_strength, AreEquivalent}
+use Rattle.icu_laws.proofs.StrengthLemmas.{strength_keeps}
 use Rattle.icu_search.specs.LeastMatches.{Span, span, least_from, apart_from, Holds, StandsBefore, Overlaps}
 use Rattle.icu_search.specs.LeastMatchLaws.{IsMatchWithin}
 use Rattle.icu_search.specs.Places.{is_place, is_place_before}
 use Rattle.icu_search.specs.Searches.{Search, is_match, least, found}
-use Rattle.icu_search.specs.SearchLaws.{part, IsMatch, MatchesAreMet}
+use Rattle.icu_search.specs.SearchLaws.{part, IsMatch, MatchesAreMet, at_strength}
 use Rattle.icu_search.proofs.ListLemmas.{at_head, the_member}
 use Rattle.icu_search.proofs.LeastLemmas.{least_matches_hold_no_other}
 use Rattle.icu_search.proofs.ApartLemmas.{found_matches_stand_apart, apart_from-taken}
@@ -48,7 +55,7 @@ match_from_test s text m h within =
       equal = eq_is (text_order s.collation (part text m) s.pattern) p.1;
     }
 
-test_from_match : (s : Search) (text : List ℕ) (m : Span) → IsMatch s text m → is_match s text m.start m.stop ≡ true
+pub test_from_match : (s : Search) (text : List ℕ) (m : Span) → IsMatch s text m → is_match s text m.start m.stop ≡ true
 test_from_match s text m is =
     and_from _ _ (and_from _ _ (and_from _ _ (and_from _ _ (and_from _ _ is.allowed_start is.allowed_stop) (le-leb m.start m.stop is.ordered)) is.start_place) is.stop_place)
     (ap is_eq is.equal)
@@ -160,3 +167,37 @@ equal_patterns s well_formed other is_pattern is_other same text is_text =
     (λ h. h, λ h. h) in
     ap (λ b. s.allowed start && s.allowed stop && nat_le start stop && is_place (reading_by c) text start && is_place (reading_by c) (drop start text) (stop - start) && b) last in
     ap (λ (f : ℕ → ℕ → Bool). apart_from 0 (least_from f 0 (length text))) (same_tests (is_match s text) (is_match (record s { pattern = other }) text) 0 tests)
+
+-- ---- equivalent patterns
+
+same_order : (c : Collation) (t p q : List ℕ) → AreEquivalent p q → text_order c t p ≡ text_order c t q
+unfolding text_order
+same_order c t p q same = ap (λ (d : List ℕ). levels_order (compression_of c.tables) (form_by c) (lists_by c (nfd t)) (lists_by c d)) same
+
+pub equivalent_patterns : (s : Search) (other : List ℕ) → AreEquivalent s.pattern other → (text : List ℕ) → found s text ≡ found (record s { pattern = other }) text
+equivalent_patterns s other same text =
+    let c = s.collation in
+    let tests : (start stop : ℕ) → is_match s text start stop ≡ is_match (record s { pattern = other }) text start stop = λ start stop.
+    let t = slice_range text start stop in
+    ap (λ (o : Ordering). s.allowed start && s.allowed stop && nat_le start stop && is_place (reading_by c) text start && is_place (reading_by c) (drop start text) (stop - start) && is_eq o) (same_order c t s.pattern other same) in
+    ap (λ (f : ℕ → ℕ → Bool). apart_from 0 (least_from f 0 (length text))) (same_tests (is_match s text) (is_match (record s { pattern = other }) text) 0 tests)
+
+-- ---- strengths
+
+tied : (o : Ordering) → ((o ≡ Equal → ⊥) → Equal ≡ o) → o ≡ Equal
+tied Less h = sym (h (λ e. cc))
+tied Equal h = refl
+tied Greater h = sym (h (λ e. cc))
+
+pub lower_strengths : (s : Search) (lower : Strength) → s.collation.settings.case_level ≡ false → strength_rank lower ≤ strength_rank s.collation.settings.strength
+    → (text : List ℕ) (m : Span) → IsMatch s text m → IsMatch (at_strength lower s) text m
+lower_strengths s lower off below text m is = record {
+  ordered = is.ordered;
+  within = is.within;
+  allowed_start = is.allowed_start;
+  allowed_stop = is.allowed_stop;
+  start_place = is.start_place;
+  stop_place = is.stop_place;
+  equal = tied (text_order (with_strength s.collation lower) (part text m) s.pattern)
+      (λ differs. sym is.equal ∙ strength_keeps s.collation (part text m) s.pattern lower s.collation.settings.strength off below differs);
+}

@@ -10,14 +10,14 @@ use Rattle.icu_search.proofs.ListLemmas.{not_in_nil, at_head, in_tail, head_or_t
 -- ---- the shortest match from a start
 
 -- a match from a start, with an end among these, that ends first; or there is none
-record IsShortest (matches : ℕ → ℕ → Bool) (start low high : ℕ) (m : Span) : Type 0 where
-  start_at : m.start ≡ start
-  is_match : matches start m.stop ≡ true
-  low_to : low ≤ m.stop
-  to_high : m.stop ≤ high
-  first : (stop : ℕ) → low ≤ stop → stop < m.stop → matches start stop ≡ false
+pub record IsShortest (matches : ℕ → ℕ → Bool) (start low high : ℕ) (m : Span) : Type 0 where
+  pub start_at : m.start ≡ start
+  pub is_match : matches start m.stop ≡ true
+  pub low_to : low ≤ m.stop
+  pub to_high : m.stop ≤ high
+  pub first : (stop : ℕ) → low ≤ stop → stop < m.stop → matches start stop ≡ false
 
-abbrev ShortestOf : (ℕ → ℕ → Bool) → ℕ → ℕ → ℕ → Option Span → Type 0
+abbrev pub ShortestOf : (ℕ → ℕ → Bool) → ℕ → ℕ → ℕ → Option Span → Type 0
 ShortestOf matches start low high None = (stop : ℕ) → low ≤ stop → stop ≤ high → matches start stop ≡ false
 ShortestOf matches start low high (Some m) = IsShortest matches start low high m
 
@@ -46,7 +46,7 @@ one_less matches start low high (Some m) not_here h = record {
   ];
 }
 
-ShortestOf-shortest_from : (matches : ℕ → ℕ → Bool) (start stop n high : ℕ) → high ≡ stop + n → ShortestOf matches start stop high (shortest_from matches start stop n)
+pub ShortestOf-shortest_from : (matches : ℕ → ℕ → Bool) (start stop n high : ℕ) → high ≡ stop + n → ShortestOf matches start stop high (shortest_from matches start stop n)
 unfolding shortest_from
 ShortestOf-shortest_from matches start stop zero high e =
     elim (cases_Bool (matches start stop)) [
@@ -62,10 +62,10 @@ ShortestOf-shortest_from matches start stop (suc n) high e =
 -- ---- the least matches from a start on
 
 -- each is one, they rise, and each match holds one of them
-record Leasts (matches : ℕ → ℕ → Bool) (low high : ℕ) (spans : List Span) : Type 0 where
-  each : AllByRecursion (IsLeastWithin matches low high) spans
-  rise : InPairs Precedes spans
-  held : (m : Span) → IsMatchWithin matches low high m → Any (Holds m) spans
+pub record Leasts (matches : ℕ → ℕ → Bool) (low high : ℕ) (spans : List Span) : Type 0 where
+  pub each : AllByRecursion (IsLeastWithin matches low high) spans
+  pub rise : InPairs Precedes spans
+  pub held : (m : Span) → IsMatchWithin matches low high m → Any (Holds m) spans
 
 -- a match from low on begins at low, or is one from the next offset on
 later_match : (matches : ℕ → ℕ → Bool) (low high : ℕ) (m : Span) → IsMatchWithin matches low high m → low < m.start → IsMatchWithin matches (low + 1) high m
@@ -186,7 +186,7 @@ narrow matches low high (Some first) (l ∷ later) is ls =
 nothing_behind : (matches : ℕ → ℕ → Bool) (low high : ℕ) → high < low → Leasts matches low high []
 nothing_behind matches low high behind = record { each = tt; rise = tt; held = λ m is. absurd (omega (arith, is.from_low, is.ordered, is.to_high)) }
 
-Leasts-least_from : (matches : ℕ → ℕ → Bool) (low n high : ℕ) → high ≡ low + n → Leasts matches low high (least_from matches low n)
+pub Leasts-least_from : (matches : ℕ → ℕ → Bool) (low n high : ℕ) → high ≡ low + n → Leasts matches low high (least_from matches low n)
 unfolding least_from
 Leasts-least_from matches low zero high e =
     narrow matches low high (shortest_from matches low low zero) [] (ShortestOf-shortest_from matches low low zero high e) (nothing_behind matches (low + 1) high (omega arith))

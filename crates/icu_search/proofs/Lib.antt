@@ -10,3 +10,4 @@ pub mod PartLemmas
 pub mod FoundLemmas
 pub mod CutLemmas
 pub mod PieceLemmas
+pub mod SelectionLemmas

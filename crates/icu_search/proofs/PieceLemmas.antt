@@ -17,6 +17,10 @@ use Rattle.icu_search.specs.PieceLaws.{BeginsPieces, search_behind, HasMatchesOf
 use Rattle.icu_search.proofs.RestLemmas.{comes_to, comes_to-now}
 use Rattle.icu_search.proofs.PartLemmas.{leading_at, part_has_places}
 use Rattle.icu_search.proofs.CutLemmas.{cut_rests}
+use Rattle.icu_checks.specs.WellFormedTables.{IsWellFormedTables}
+use Rattle.icu_elements.specs.TextElementLaws.{IsText}
+use Rattle.icu_search.specs.LeastMatches.{span}
+use Rattle.icu_search.proofs.FoundLemmas.{matches_itself, test_from_match}
 
 drop_behind : (front back : List ℕ) (i : ℕ) → drop (length front + i) (front ++ back) ≡ drop i back
 drop_behind front back i = sym (drop-drop i (length front) (front ++ back)) ∙ ap (drop i) (drop_at front back (length front) refl)
@@ -190,3 +194,23 @@ search_is_local s c cut front tail = record {
   before = matches_before s c cut front tail;
   behind = matches_behind s c cut front tail;
 }
+
+-- a pattern where it stands
+pub matches_there : (s : Search) → IsWellFormedTables s.collation.tables → (p : ℕ) (ps : List ℕ) → s.pattern ≡ p ∷ ps → IsText (p ∷ ps)
+    → BeginsPieces (reading_by s.collation) p → (c : ℕ) → BeginsPieces (reading_by s.collation) c → (front tail : List ℕ)
+    → s.allowed (length front) ≡ true → s.allowed (length front + length (p ∷ ps)) ≡ true
+    → is_match s (front ++ (p ∷ ps ++ c ∷ tail)) (length front) (length front + length (p ∷ ps)) ≡ true
+matches_there s well_formed p ps is is_text begins c ends front tail first last =
+    let n = length (p ∷ ps) in
+    let k = length front in
+    let behind = search_behind k s in
+    let searched : Search = record behind { pattern = p ∷ ps } in
+    let whole = front ++ (p ∷ ps ++ c ∷ tail) in
+    let none : k + 0 ≡ k = omega arith in
+    let itself : is_match searched (p ∷ ps) 0 n ≡ true =
+    test_from_match searched (p ∷ ps) (span 0 n) (matches_itself searched well_formed is_text (ap s.allowed none ∙ first) last) in
+    ap (λ start. is_match s whole start (k + n)) (sym none)
+    ∙ matches_behind s p begins front (ps ++ c ∷ tail) 0 n
+    ∙ matches_before behind c ends (p ∷ ps) tail 0 n (omega arith)
+    ∙ ap (λ (pattern : List ℕ). is_match (record behind { pattern = pattern }) (p ∷ ps) 0 n) is
+    ∙ itself

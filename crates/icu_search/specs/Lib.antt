@@ -5,3 +5,4 @@ pub mod Searches
 pub mod PartLaws
 pub mod SearchLaws
 pub mod PieceLaws
+pub mod Selections

@@ -4,6 +4,8 @@ use Rattle.ucd_normal.specs.declared.forms.Form.TheVariants.{Nfd}
 use Rattle.unicode_normalization.specs.Decompose.{decompose}
 use Rattle.icu_elements.specs.TextElements.{Reading}
 use Rattle.icu_boundaries.specs.Cuts.{IsBoundary}
+use Rattle.icu_checks.specs.WellFormedTables.{IsWellFormedTables}
+use Rattle.icu_elements.specs.TextElementLaws.{IsText}
 use Rattle.icu_text_order.specs.TextOrder.{reading_by}
 use Rattle.icu_search.specs.Places.{leads}
 use Rattle.icu_search.specs.Searches.{Search, is_match}
@@ -30,3 +32,11 @@ pub record HasMatchesOfPieces (s : Search) (front back : List ℕ) : Type 0 wher
 abbrev pub SearchIsLocal : Type 0
 SearchIsLocal =
     (s : Search) (c : ℕ) → BeginsPieces (reading_by s.collation) c → (front tail : List ℕ) → HasMatchesOfPieces s front (c ∷ tail)
+
+-- A pattern matches where it stands in a text as it is written, if pieces begin with it and with what follows it.
+abbrev pub PatternsMatchWhereTheyStand : Type 0
+PatternsMatchWhereTheyStand =
+    (s : Search) → IsWellFormedTables s.collation.tables → (p : ℕ) (ps : List ℕ) → s.pattern ≡ p ∷ ps → IsText (p ∷ ps)
+    → BeginsPieces (reading_by s.collation) p → (c : ℕ) → BeginsPieces (reading_by s.collation) c → (front tail : List ℕ)
+    → s.allowed (length front) ≡ true → s.allowed (length front + length (p ∷ ps)) ≡ true
+    → is_match s (front ++ (p ∷ ps ++ c ∷ tail)) (length front) (length front + length (p ∷ ps)) ≡ true

@@ -1,11 +1,13 @@
 -- What a search finds, as contracts name it.
-use Rattle.std.specs.Prelude.{◌≡◌, ◌⊎◌, ℕ, ◌-◌, ◌≤◌, true, List, [], length, drop, slice_range}
+use Rattle.std.specs.Prelude.{◌≡◌, ◌⊎◌, ℕ, ◌-◌, ◌≤◌, true, false, List, [], length, drop, slice_range}
 use Rattle.std.specs.List.{AllPairs, Any, Contains}
 use Rattle.std.specs.declared.cmp.Ordering.TheVariants.{Equal}
 use Rattle.icu_checks.specs.WellFormedTables.{IsWellFormedTables}
 use Rattle.icu_elements.specs.TextElementLaws.{IsText}
 use Rattle.icu_weighting.specs.Collations.{Collation}
 use Rattle.icu_text_order.specs.TextOrder.{reading_by, text_order, text_key}
+use Rattle.icu_options.specs.declared.settings.Strength.{Strength}
+use Rattle.icu_laws.specs.OrderLaws.{strength_rank, with_strength, AreEquivalent}
 use Rattle.icu_search.specs.LeastMatches.{Span, span, Holds, StandsBefore, Overlaps}
 use Rattle.icu_search.specs.Places.{is_place}
 use Rattle.icu_search.specs.Searches.{Search, least, found}
@@ -62,3 +64,19 @@ EqualPatternsFindTheSame =
     (s : Search) → IsWellFormedTables s.collation.tables → (other : List ℕ) → IsText s.pattern → IsText other
     → text_order s.collation s.pattern other ≡ Equal → (text : List ℕ) → IsText text
     → found s text ≡ found (record s { pattern = other }) text
+
+-- patterns that are canonically equivalent find the same, by any collation
+abbrev pub EquivalentPatternsFindTheSame : Type 0
+EquivalentPatternsFindTheSame =
+    (s : Search) (other : List ℕ) → AreEquivalent s.pattern other → (text : List ℕ) → found s text ≡ found (record s { pattern = other }) text
+
+-- the search at another strength
+abbrev pub at_strength : Strength → Search → Search
+at_strength strength s = record s { collation = with_strength s.collation strength }
+
+-- without a case level a match is one at each lower strength
+abbrev pub LowerStrengthsKeepMatches : Type 0
+LowerStrengthsKeepMatches =
+    (s : Search) (lower : Strength) → s.collation.settings.case_level ≡ false
+    → strength_rank lower ≤ strength_rank s.collation.settings.strength
+    → (text : List ℕ) (m : Span) → IsMatch s text m → IsMatch (at_strength lower s) text m

@@ -2,9 +2,9 @@
 
 ghost use Rattle.icu_search.specs.LeastMatchLaws.{FoundMatchesStandApart, LeastMatchesHoldNoOther};
 ghost use Rattle.icu_search.specs.PartLaws.{ListsBeginWithThoseOfParts, PartsAreReadAsInTheWhole, PartsHaveTheirPlaces};
-ghost use Rattle.icu_search.specs.PieceLaws.{SearchIsLocal};
-ghost use Rattle.icu_search.specs.SearchLaws.{EqualPatternsFindTheSame, EveryMatchIsMet, FoundPartsHaveThePatternsKey, FoundPartsMatch};
-ghost use Rattle.icu_search.specs.SearchLaws.{FoundPartsStandApart, NothingFoundMeansNoMatch, TextsMatchThemselves};
+ghost use Rattle.icu_search.specs.PieceLaws.{PatternsMatchWhereTheyStand, SearchIsLocal};
+ghost use Rattle.icu_search.specs.SearchLaws.{EqualPatternsFindTheSame, EquivalentPatternsFindTheSame, EveryMatchIsMet, FoundPartsHaveThePatternsKey, FoundPartsMatch};
+ghost use Rattle.icu_search.specs.SearchLaws.{FoundPartsStandApart, LowerStrengthsKeepMatches, NothingFoundMeansNoMatch, TextsMatchThemselves};
 
 /// Whichever parts of a text match: the list of least matches is that of the matches that hold no other, from left to
 /// right, and each match holds one of them (UTS #10, "Searching and Matching").
@@ -35,12 +35,23 @@ pub fn every_match_is_met()
 
 /// A text as a whole is a match of itself, by tables that meet the conditions.
 pub fn texts_match_themselves()
-    ensures { TextsMatchThemselves }
+    ensures whole { TextsMatchThemselves }
+
+    // So is a pattern that stands in a text as it is written, if pieces begin with it and with what follows it.
+    ensures part { PatternsMatchWhereTheyStand }
 {}
 
 /// Patterns that are equal find the same, by tables that meet the conditions.
 pub fn equal_patterns_find_the_same()
-    ensures { EqualPatternsFindTheSame }
+    ensures equal { EqualPatternsFindTheSame }
+
+    // Canonically equivalent ones do by any tables.
+    ensures equivalent { EquivalentPatternsFindTheSame }
+{}
+
+/// Without a case level a match is one at each lower strength (UTS #35 part 5, "Setting Options" on strength).
+pub fn lower_strengths_keep_matches()
+    ensures { LowerStrengthsKeepMatches }
 {}
 
 /// Up to a place of a text, what stands before it is read by itself as it is read in the whole (UTS #10, "Produce

@@ -1,0 +1,166 @@
+-- How the matches that are found come one after another.
+use Rattle.std.proofs.Common.{◌≡◌, ℕ, zero, suc, ◌<◌, ◌≤◌, ◌+◌, ◌-◌, max, Bool, true, false, nat_le, nat_lt, List, [], ◌∷◌, Option, Some, None, if◌then◌else◌, refl, sym, ap, ◌∙◌, arith, inl, inr, subst, ◌⊎◌}
+use Rattle.std.specs.List.{AllByRecursion, Contains}
+use Rattle.std.proofs.lemmas.Bool.{cases_Bool, cases_lt, le-leb, lt-leb, leb-true, leb-false}
+use Rattle.std.proofs.lemmas.Bool.Decides.{same_from_decides}
+use Rattle.icu_search.specs.LeastMatches.{Span, span, shortest_from, narrowed, least_from, apart_from, Precedes}
+use Rattle.icu_search.specs.LeastMatchLaws.{IsMatchWithin, IsLeastWithin}
+use Rattle.icu_search.specs.Selections.{first_of, found_from}
+use Rattle.icu_search.proofs.ListLemmas.{member_of, each_member, InPairs}
+use Rattle.icu_search.proofs.LeastLemmas.{ShortestOf, ShortestOf-shortest_from, Leasts, Leasts-least_from}
+use Rattle.icu_search.proofs.ApartLemmas.{apart_from-nil, apart_from-taken, apart_from-passed}
+
+-- ---- of two matches the one that is least
+
+-- the later one, where it ends no later than the earlier one
+abbrev pub joined : Option Span → Option Span → Option Span
+joined None o = o
+joined (Some m) None = Some m
+joined (Some m) (Some l) = if nat_le l.stop m.stop then Some l else Some m
+
+joined-none : (o : Option Span) → joined o None ≡ o
+joined-none None = refl
+joined-none (Some m) = refl
+
+first_of-narrowed : (o : Option Span) (later : List Span) → first_of (narrowed o later) ≡ joined o (first_of later)
+unfolding narrowed
+first_of-narrowed None later = refl
+first_of-narrowed (Some m) [] = refl
+first_of-narrowed (Some m) (l ∷ later) =
+    elim (cases_Bool (nat_le l.stop m.stop)) [
+      | inl ends ↦ rw ends refl
+      | inr goes_on ↦ rw goes_on refl
+    ]
+
+joined-three : (a b c : Span) → joined (joined (Some a) (Some b)) (Some c) ≡ joined (Some a) (joined (Some b) (Some c))
+joined-three a b c =
+    elim (cases_lt a.stop b.stop) [
+      | inl longer ↦
+          let stays : nat_le b.stop a.stop ≡ false = lt-leb b.stop a.stop longer in
+          elim (cases_lt b.stop c.stop) [
+            | inl last ↦
+                let no : nat_le c.stop b.stop ≡ false = lt-leb c.stop b.stop last in
+                let not : nat_le c.stop a.stop ≡ false = lt-leb c.stop a.stop (omega (arith, longer, last)) in rw (stays, no, stays, not) refl
+            | inr first ↦ let yes_b : nat_le c.stop b.stop ≡ true = le-leb c.stop b.stop first in rw (stays, yes_b) refl
+          ]
+      | inr shorter ↦
+          let goes : nat_le b.stop a.stop ≡ true = le-leb b.stop a.stop shorter in
+          elim (cases_lt b.stop c.stop) [
+            | inl last ↦ let no : nat_le c.stop b.stop ≡ false = lt-leb c.stop b.stop last in rw (goes, no, goes) refl
+            | inr first ↦
+                let yes_b : nat_le c.stop b.stop ≡ true = le-leb c.stop b.stop first in
+                let yes_a : nat_le c.stop a.stop ≡ true = le-leb c.stop a.stop (omega (arith, shorter, first)) in rw (goes, yes_b, yes_a) refl
+          ]
+    ]
+
+pub joined-assoc : (a b c : Option Span) → joined (joined a b) c ≡ joined a (joined b c)
+joined-assoc None b c = refl
+joined-assoc (Some a) None c = refl
+joined-assoc (Some a) (Some b) None = joined-none (joined (Some a) (Some b))
+joined-assoc (Some a) (Some b) (Some c) = joined-three a b c
+
+-- ---- the least matches that begin at an offset or after it
+
+-- and end at most at n
+pub least_to : (ℕ → ℕ → Bool) → ℕ → ℕ → List Span
+least_to matches n start = if nat_le start n then least_from matches start (n - start) else []
+
+module _ (matches : ℕ → ℕ → Bool) (n : ℕ) where
+  least_to-at : (start k : ℕ) → n ≡ start + k → least_to matches n start ≡ least_from matches start k
+  unfolding least_to
+  least_to-at start k e =
+      let inside : nat_le start n ≡ true = le-leb start n (omega (arith, e)) in
+      let left : n - start ≡ k = omega (arith, e) in
+      rw inside (ap (least_from matches start) left)
+
+  pub least_to-past : (start : ℕ) → n < start → least_to matches n start ≡ []
+  unfolding least_to
+  least_to-past start past = rw (lt-leb start n past) refl
+
+  turn : (start k : ℕ) → n ≡ start + k → least_to matches n start ≡ narrowed (shortest_from matches start start k) (least_to matches n (start + 1))
+  unfolding least_from
+  turn start zero e =
+      least_to-at start zero e ∙ ap (narrowed (shortest_from matches start start zero)) (sym (least_to-past (start + 1) (omega (arith, e))))
+  turn start (suc k) e =
+      least_to-at start (suc k) e ∙ ap (narrowed (shortest_from matches start start (suc k))) (sym (least_to-at (start + 1) k (omega (arith, e))))
+
+  -- the first of them is that at the offset, or the first behind it
+  pub first_turn : (start : ℕ) → start ≤ n → first_of (least_to matches n start) ≡ joined (shortest_from matches start start (n - start)) (first_of (least_to matches n (start + 1)))
+  first_turn start inside =
+      ap first_of (turn start (n - start) (omega (arith, inside))) ∙ first_of-narrowed (shortest_from matches start start (n - start)) (least_to matches n (start + 1))
+
+  -- they begin at the offset or after it, and end no earlier than they begin
+  within : (start : ℕ) → AllByRecursion (IsMatchWithin matches start n) (least_to matches n start)
+  within start =
+      elim (cases_lt n start) [
+        | inl past ↦ subst (AllByRecursion (IsMatchWithin matches start n)) (sym (least_to-past start past)) tt
+        | inr inside ↦
+            let spans = least_from matches start (n - start) in
+            let e : n ≡ start + (n - start) = omega (arith, inside) in
+            let ls = Leasts-least_from matches start (n - start) n e in
+            subst (AllByRecursion (IsMatchWithin matches start n)) (sym (least_to-at start (n - start) e))
+            (each_member (IsMatchWithin matches start n) spans (λ m at. (member_of (IsLeastWithin matches start n) m spans ls.each at).is_match))
+      ]
+
+  rise : (start : ℕ) → InPairs Precedes (least_to matches n start)
+  rise start =
+      elim (cases_lt n start) [
+        | inl past ↦ subst (InPairs Precedes) (sym (least_to-past start past)) tt
+        | inr inside ↦
+            let e : n ≡ start + (n - start) = omega (arith, inside) in
+            subst (InPairs Precedes) (sym (least_to-at start (n - start) e)) (Leasts-least_from matches start (n - start) n e).rise
+      ]
+
+  -- a match that ends before an offset is kept, whatever begins there or after it
+  kept_over : (held : Span) (start : ℕ) (spans : List Span) → held.stop < start → AllByRecursion (IsMatchWithin matches start n) spans → joined (Some held) (first_of spans) ≡ Some held
+  kept_over held start [] before all = refl
+  kept_over held start (m ∷ later) before all =
+      let longer : nat_le m.stop held.stop ≡ false = lt-leb m.stop held.stop (omega (arith, before, all.0.from_low, all.0.ordered)) in rw longer refl
+
+  pub kept : (held : Span) (start : ℕ) → held.stop < start → joined (Some held) (first_of (least_to matches n start)) ≡ Some held
+  kept held start before = kept_over held start (least_to matches n start) before (within start)
+
+  -- ---- what is found from an offset on
+
+  -- the shortest match from a start begins there
+  starts_there : (start k : ℕ) (o : Option Span) → ShortestOf matches start start (start + k) o → (offset : ℕ) → start < offset → (later : List Span) → apart_from offset (narrowed o later) ≡ apart_from offset later
+  unfolding narrowed
+  starts_there start k None is offset before later = refl
+  starts_there start k (Some m) is offset before [] = apart_from-passed offset m [] (lt-leb offset m.start (omega (arith, before, is.start_at)))
+  starts_there start k (Some m) is offset before (l ∷ later) =
+      elim (cases_Bool (nat_le l.stop m.stop)) [
+        | inl ends ↦ rw ends refl
+        | inr goes_on ↦ rw goes_on (apart_from-passed offset m (l ∷ later) (lt-leb offset m.start (omega (arith, before, is.start_at))))
+      ]
+
+  one_on : (start offset : ℕ) → start < offset → apart_from offset (least_to matches n start) ≡ apart_from offset (least_to matches n (start + 1))
+  one_on start offset before =
+      elim (cases_lt n start) [
+        | inl past ↦ ap (apart_from offset) (least_to-past start past ∙ sym (least_to-past (start + 1) (omega (arith, past))))
+        | inr inside ↦
+            let k = n - start in
+            let e : n ≡ start + k = omega (arith, inside) in
+            ap (apart_from offset) (turn start k e)
+            ∙ starts_there start k (shortest_from matches start start k) (ShortestOf-shortest_from matches start start k (start + k) refl) offset before (least_to matches n (start + 1))
+      ]
+
+  on_to : (d start offset : ℕ) → start + d ≤ offset → apart_from offset (least_to matches n start) ≡ apart_from offset (least_to matches n (start + d))
+  on_to zero start offset before = let e : start + 0 ≡ start = omega arith in ap (λ s. apart_from offset (least_to matches n s)) (sym e)
+  on_to (suc d) start offset before =
+      let e : (start + 1) + d ≡ start + suc d = omega arith in
+      one_on start offset (omega (arith, before)) ∙ on_to d (start + 1) offset (omega (arith, before)) ∙ ap (λ s. apart_from offset (least_to matches n s)) e
+
+  -- what begins before the offset may be left out
+  from_offset : (start offset : ℕ) → start ≤ offset → found_from matches n offset ≡ apart_from offset (least_to matches n start)
+  from_offset start offset before =
+      let all : least_from matches 0 n ≡ least_to matches n 0 = sym (least_to-at 0 n (omega arith)) in
+      let e : 0 + start ≡ start = omega arith in
+      ap (apart_from offset) all ∙ on_to start 0 offset (omega (arith, before)) ∙ ap (λ s. apart_from offset (least_to matches n s)) e
+
+  first_taken : (offset : ℕ) (spans : List Span) → AllByRecursion (IsMatchWithin matches offset n) spans → first_of (apart_from offset spans) ≡ first_of spans
+  first_taken offset [] all = ap first_of (apart_from-nil offset)
+  first_taken offset (m ∷ later) all = ap first_of (apart_from-taken offset m later (le-leb offset m.start all.0.from_low))
+
+  -- the first that is found from there on is the first least one
+  pub first_found : (offset : ℕ) → first_of (found_from matches n offset) ≡ first_of (least_to matches n offset)
+  first_found offset = ap first_of (from_offset offset offset (omega arith)) ∙ first_taken offset (least_to matches n offset) (within offset)
