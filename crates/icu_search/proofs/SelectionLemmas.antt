@@ -1,10 +1,12 @@
 -- How the matches that are found come one after another.
-use Rattle.std.proofs.Common.{◌≡◌, ℕ, zero, suc, ◌<◌, ◌≤◌, ◌+◌, ◌-◌, max, Bool, true, false, nat_le, nat_lt, List, [], ◌∷◌, Option, Some, None, if◌then◌else◌, refl, sym, ap, ◌∙◌, arith, inl, inr, subst, ◌⊎◌}
+use Rattle.std.proofs.Common.{◌≡◌, ℕ, zero, suc, ◌<◌, ◌≤◌, ◌+◌, ◌-◌, max, Bool, true, false, nat_le, nat_lt, List, [], ◌∷◌, ◌++◌, Option, Some, None, if◌then◌else◌, refl, sym, ap, ◌∙◌, arith, inl, inr, subst, ◌⊎◌}
+use Rattle.std.specs.Prelude.{IfSome, option_to_list}
 use Rattle.std.specs.List.{AllByRecursion, Contains}
-use Rattle.std.proofs.lemmas.Bool.{cases_Bool, cases_lt, le-leb, lt-leb, leb-true, leb-false}
-use Rattle.std.proofs.lemmas.Bool.Decides.{same_from_decides}
+use Rattle.std.proofs.lemmas.Bool.{cases_Bool, cases_lt, le-leb, lt-leb, lt-ltb, le-ltb, ltb-true, false≢true}
+use Rattle.std.proofs.lemmas.Option.{same_Some}
 use Rattle.icu_search.specs.LeastMatches.{Span, span, shortest_from, narrowed, least_from, apart_from, Precedes}
 use Rattle.icu_search.specs.LeastMatchLaws.{IsMatchWithin, IsLeastWithin}
+use Rattle.icu_search.specs.inner.HeldSpans.{joined, stops_before, behind, found_behind}
 use Rattle.icu_search.specs.Selections.{first_of, found_from}
 use Rattle.icu_search.proofs.ListLemmas.{member_of, each_member, InPairs}
 use Rattle.icu_search.proofs.LeastLemmas.{ShortestOf, ShortestOf-shortest_from, Leasts, Leasts-least_from}
@@ -12,13 +14,7 @@ use Rattle.icu_search.proofs.ApartLemmas.{apart_from-nil, apart_from-taken, apar
 
 -- ---- of two matches the one that is least
 
--- the later one, where it ends no later than the earlier one
-abbrev pub joined : Option Span → Option Span → Option Span
-joined None o = o
-joined (Some m) None = Some m
-joined (Some m) (Some l) = if nat_le l.stop m.stop then Some l else Some m
-
-joined-none : (o : Option Span) → joined o None ≡ o
+pub joined-none : (o : Option Span) → joined o None ≡ o
 joined-none None = refl
 joined-none (Some m) = refl
 
@@ -164,3 +160,67 @@ module _ (matches : ℕ → ℕ → Bool) (n : ℕ) where
   -- the first that is found from there on is the first least one
   pub first_found : (offset : ℕ) → first_of (found_from matches n offset) ≡ first_of (least_to matches n offset)
   first_found offset = ap first_of (from_offset offset offset (omega arith)) ∙ first_taken offset (least_to matches n offset) (within offset)
+
+  -- where a match is held that ends before an offset, it stays
+  pub held_stays : (held : Option Span) (start : ℕ) → stops_before held start ≡ true → joined held (first_of (least_to matches n start)) ≡ held
+  held_stays None start h = absurd (false≢true h)
+  held_stays (Some m) start h = kept m start (ltb-true m.stop start h)
+
+  -- it begins in the text
+  begins_below : (offset : ℕ) (spans : List Span) → AllByRecursion (IsMatchWithin matches offset n) spans → (big : ℕ) → n < big → (o : Option Span) → o ≡ first_of spans → IfSome o (λ m. m.start < big)
+  begins_below offset spans all big small None e = tt
+  begins_below offset [] all big small (Some m) e = cc
+  begins_below offset (x ∷ later) all big small (Some m) e =
+      let same : m ≡ x = same_Some m x e in
+      let start : m.start ≡ x.start = ap (λ (m : Span). m.start) same in
+      omega (arith, start, all.0.ordered, all.0.to_high, small)
+
+  pub starts_below : (offset : ℕ) (o : Option Span) → o ≡ first_of (found_from matches n offset) → (big : ℕ) → n < big → IfSome o (λ m. m.start < big)
+  starts_below offset o e big small = begins_below offset (least_to matches n offset) (within offset) big small o (e ∙ first_found offset)
+
+  -- ---- one, and then the others
+
+  -- of parts that begin behind an offset, those are taken that begin behind the next one
+  same_taken : (start stop : ℕ) (spans : List Span) → AllByRecursion (λ (m : Span). start < m.start) spans → apart_from (behind (span start stop)) spans ≡ apart_from stop spans
+  same_taken start stop [] all = apart_from-nil (behind (span start stop)) ∙ sym (apart_from-nil stop)
+  same_taken start stop (x ∷ later) all =
+      elim (cases_lt start stop) [
+        | inl longer ↦ ap (λ b. apart_from (if b then stop else start + 1) (x ∷ later)) (lt-ltb start stop longer)
+        | inr empty ↦
+            let next : behind (span start stop) ≡ start + 1 = ap (λ b. if b then stop else start + 1) (le-ltb start stop empty) in
+            ap (λ o. apart_from o (x ∷ later)) next
+            ∙ apart_from-taken (start + 1) x later (le-leb (start + 1) x.start (omega (arith, all.0)))
+            ∙ sym (apart_from-taken stop x later (le-leb stop x.start (omega (arith, all.0, empty))))
+      ]
+
+  goes_behind : (m : Span) → m.start < behind m
+  goes_behind m =
+      elim (cases_lt m.start m.stop) [
+        | inl longer ↦ let next : behind m ≡ m.stop = ap (λ b. if b then m.stop else m.start + 1) (lt-ltb m.start m.stop longer) in omega (arith, next, longer)
+        | inr empty ↦ let next : behind m ≡ m.start + 1 = ap (λ b. if b then m.stop else m.start + 1) (le-ltb m.start m.stop empty) in omega (arith, next)
+      ]
+
+  one_and_others : (offset : ℕ) (spans : List Span) → AllByRecursion (IsMatchWithin matches offset n) spans → InPairs Precedes spans
+      → ((o : ℕ) → offset ≤ o → found_from matches n o ≡ apart_from o spans) → (m : Span) → Some m ≡ first_of spans → found_from matches n offset ≡ m ∷ found_from matches n (behind m)
+  one_and_others offset [] all rising is m e = cc
+  one_and_others offset (x ∷ later) all rising is m e =
+      let past = goes_behind x in
+      let later_ones : AllByRecursion (λ (m : Span). x.start < m.start) later = each_member (λ (m : Span). x.start < m.start) later (λ m at. (member_of (Precedes x) m later rising.0 at).start) in
+      let first = is offset (omega arith) ∙ apart_from-taken offset x later (le-leb offset x.start all.0.from_low) in
+      let others : found_from matches n (behind x) ≡ apart_from x.stop later =
+      is (behind x) (omega (arith, past, all.0.from_low)) ∙ apart_from-passed (behind x) x later (lt-leb (behind x) x.start past) ∙ same_taken x.start x.stop later later_ones in
+      let here : found_from matches n offset ≡ x ∷ found_from matches n (behind x) = first ∙ ap (λ (l : List Span). x ∷ l) (sym others) in
+      subst (λ (m : Span). found_from matches n offset ≡ m ∷ found_from matches n (behind m)) (sym (same_Some m x e)) here
+
+  -- what is left, by what is given
+  pub left_behind : (offset : ℕ) (o : Option Span) → o ≡ first_of (found_from matches n offset) → found_from matches n offset ≡ option_to_list o ++ found_behind matches n offset o
+  left_behind offset None e = refl
+  left_behind offset (Some m) e =
+      one_and_others offset (least_to matches n offset) (within offset) (rise offset) (λ o before. from_offset offset o before) m (e ∙ first_found offset)
+
+  pub nothing_left : (offset : ℕ) (o : Option Span) → o ≡ first_of (found_from matches n offset) → o ≡ None → found_from matches n offset ≡ []
+  nothing_left offset o e none = empty (found_from matches n offset) (sym none ∙ e)
+    where
+      empty : (l : List Span) → None ≡ first_of l → l ≡ []
+      empty [] e = refl
+      empty (x ∷ l) e = cc

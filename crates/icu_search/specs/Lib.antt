@@ -6,3 +6,5 @@ pub mod PartLaws
 pub mod SearchLaws
 pub mod PieceLaws
 pub mod Selections
+pub mod SpansLeft
+pub mod inner
