@@ -1,17 +1,16 @@
 -- A text that is cut at a boundary that leads: the places of each piece are those of the whole there.
-use Rattle.std.proofs.Common.{◌≡◌, ℕ, zero, suc, ◌<◌, ◌≤◌, ◌+◌, ◌-◌, Bool, true, false, ◌&&◌, ◌||◌, ◌==◌, nat_le, List, [], ◌∷◌, ◌++◌, length, take, drop, reverse, refl, sym, ap, ◌∙◌, arith, inl, inr, subst, ◌⊎◌, append_assoc, length-append, length-drop}
+use Rattle.std.proofs.Common.{◌≡◌, ℕ, ◌<◌, ◌≤◌, Bool, false, ◌||◌, List, [], ◌∷◌, ◌++◌, length, reverse, refl, ap, ◌∙◌, arith, length-append}
 use Rattle.std.specs.List.{list_any}
 use Rattle.std.specs.Str.{bytes_eq}
-use Rattle.std.proofs.lemmas.Bool.{cases_Bool, or_left, or_right, or_parts, false_from_ne_true, and_from, false≢true}
+use Rattle.std.proofs.lemmas.Bool.{false_from_ne_true}
 use Rattle.std.proofs.lemmas.Slice.Eq.{bytes_eq-Decides}
-use Rattle.unicode_normalization.specs.Order.{is_starter}
 use Rattle.icu_elements.specs.TextElements.{Reading, Step, step, consumed, last_two}
 use Rattle.icu_elements.proofs.StepLemmas.{Rests-step}
 use Rattle.icu_boundaries.specs.Cuts.{cut, IsBoundary}
 use Rattle.icu_boundaries.proofs.MatchCuts.{same_cut}
 use Rattle.icu_boundaries.proofs.StepCuts.{step-append, step-same, step-at, cut-last_two, cut_taken}
 use Rattle.icu_search.specs.Places.{rests_along}
-use Rattle.icu_search.proofs.RestLemmas.{comes_to, comes_to-now, rests_along-enough}
+use Rattle.icu_search.proofs.RestLemmas.{comes_to, rests_along-enough}
 
 -- ---- what a boundary leaves to come
 

@@ -1,14 +1,13 @@
 -- What a search finds.
-use Rattle.std.proofs.Common.{◌≡◌, ◌⊎◌, ◌↔◌, ℕ, ◌-◌, ◌≤◌, Bool, true, false, ◌&&◌, ◌||◌, ◌==◌, nat_le, List, [], ◌∷◌, length, take, drop, refl, sym, ap, ◌∙◌, arith, inl, inr, subst, length-drop}
+use Rattle.std.proofs.Common.{◌≡◌, ℕ, ◌-◌, ◌≤◌, Bool, true, false, ◌&&◌, ◌||◌, ◌==◌, nat_le, List, [], ◌∷◌, length, take, drop, refl, sym, ap, ◌∙◌, arith}
 use Rattle.std.specs.Prelude.{slice_range, zero, suc}
-use Rattle.std.specs.List.{AllByRecursion, AllPairs, Any, Contains}
+use Rattle.std.specs.List.{AllPairs, Contains}
 use Rattle.std.specs.Ordering.{is_eq}
 use Rattle.std.specs.declared.cmp.Ordering.{Ordering}
 use Rattle.std.specs.declared.cmp.Ordering.TheVariants.{Less, Equal, Greater}
-use Rattle.std.specs.Char.{IsScalar}
-use Rattle.std.proofs.lemmas.Bool.{cases_Bool, and_parts, and_from, or_left, or_right, or_cases, leb-true, le-leb, eqb-true, eq-eqb, true≢false, false≢true}
+use Rattle.std.proofs.lemmas.Bool.{and_parts, and_from, or_left, or_right, leb-true, le-leb, eq-eqb, false≢true}
 use Rattle.std.proofs.lemmas.Bool.Decides.{same_from_decides}
-use Rattle.std.proofs.lemmas.List.{take_all, drop_all}
+use Rattle.std.proofs.lemmas.List.{take_all}
 use Rattle.icu_checks.specs.WellFormedTables.{IsWellFormedTables}
 use Rattle.icu_elements.specs.TextElements.{Reading}
 use Rattle.icu_elements.specs.TextElementLaws.{IsText}
@@ -22,12 +21,12 @@ use Rattle.icu_options.specs.declared.settings.Strength.{Strength}
 use Rattle.icu_text_order.specs.TextOrder.{lists_by}
 use Rattle.icu_laws.specs.OrderLaws.{strength_rank, with_strength, AreEquivalent}
 use Rattle.icu_laws.proofs.StrengthLemmas.{strength_keeps}
-use Rattle.icu_search.specs.LeastMatches.{Span, span, least_from, apart_from, Holds, StandsBefore, Overlaps}
+use Rattle.icu_search.specs.LeastMatches.{Span, span, least_from, apart_from, HoldsSpan, StandsApart}
 use Rattle.icu_search.specs.LeastMatchLaws.{IsMatchWithin}
 use Rattle.icu_search.specs.Places.{is_place, is_place_before}
 use Rattle.icu_search.specs.Searches.{Search, is_match, least, found}
 use Rattle.icu_search.specs.SearchLaws.{part, IsMatch, MatchesAreMet, at_strength}
-use Rattle.icu_search.proofs.ListLemmas.{at_head, the_member}
+use Rattle.icu_search.proofs.ListLemmas.{the_member}
 use Rattle.icu_search.proofs.LeastLemmas.{least_matches_hold_no_other}
 use Rattle.icu_search.proofs.ApartLemmas.{found_matches_stand_apart, apart_from-taken}
 
@@ -76,7 +75,7 @@ found_parts_match s text m at =
     let is = ((least_matches_hold_no_other (is_match s text) (length text)).each m in_least).is_match in
     match_from_test s text m is.is_match is.to_high
 
-pub found_parts_stand_apart : (s : Search) (text : List ℕ) → AllPairs StandsBefore (found s text)
+pub found_parts_stand_apart : (s : Search) (text : List ℕ) → AllPairs StandsApart (found s text)
 found_parts_stand_apart s text = (found_matches_stand_apart (is_match s text) (length text)).apart
 
 pub matches_are_met : (s : Search) (text : List ℕ) → MatchesAreMet s text
@@ -92,7 +91,7 @@ some_taken (x ∷ later) none m at =
 
 pub no_match : (s : Search) (text : List ℕ) → found s text ≡ [] → (m : Span) → IsMatch s text m → ⊥
 no_match s text none m is =
-    let some = the_member (Holds m) (least s text) ((matches_are_met s text).held m is) in
+    let some = the_member (HoldsSpan m) (least s text) ((matches_are_met s text).held m is) in
     some_taken (least s text) none some.0 some.1.0
 
 -- ---- keys

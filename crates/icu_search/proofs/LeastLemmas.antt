@@ -1,11 +1,10 @@
 -- The list of least matches is that of the matches that hold no other.
-use Rattle.std.proofs.Common.{◌≡◌, ℕ, zero, suc, ◌<◌, ◌≤◌, ◌+◌, Bool, true, false, nat_le, List, [], ◌∷◌, Option, Some, None, if◌then◌else◌, refl, sym, ap, ◌∙◌, arith, inl, inr, subst, ◌⊎◌}
+use Rattle.std.proofs.Common.{◌≡◌, ℕ, zero, suc, ◌<◌, ◌≤◌, ◌+◌, Bool, true, false, nat_le, List, [], ◌∷◌, Option, Some, None, refl, sym, ap, ◌∙◌, arith, inl, inr, subst}
 use Rattle.std.specs.List.{AllByRecursion, Any, Contains}
-use Rattle.std.specs.Prelude.{⊤}
-use Rattle.std.proofs.lemmas.Bool.{cases_Bool, cases_lt, cases_eq, leb-true, leb-false, le-leb, lt-leb, true≢false}
-use Rattle.icu_search.specs.LeastMatches.{Span, span, shortest_from, narrowed, least_from, Holds, Precedes}
+use Rattle.std.proofs.lemmas.Bool.{cases_Bool, cases_lt, cases_eq, leb-true, leb-false, true≢false}
+use Rattle.icu_search.specs.LeastMatches.{Span, span, shortest_from, narrowed, least_from, HoldsSpan, RisesTo}
 use Rattle.icu_search.specs.LeastMatchLaws.{IsMatchWithin, IsLeastWithin, AreLeastWithin}
-use Rattle.icu_search.proofs.ListLemmas.{not_in_nil, at_head, in_tail, head_or_tail, member_of, each_member, some_member, the_member, InPairs, AllPairs-in_pairs}
+use Rattle.icu_search.proofs.ListLemmas.{at_head, in_tail, member_of, each_member, some_member, the_member, InPairs, AllPairs-in_pairs}
 
 -- ---- the shortest match from a start
 
@@ -64,8 +63,8 @@ ShortestOf-shortest_from matches start stop (suc n) high e =
 -- each is one, they rise, and each match holds one of them
 pub record Leasts (matches : ℕ → ℕ → Bool) (low high : ℕ) (spans : List Span) : Type 0 where
   pub each : AllByRecursion (IsLeastWithin matches low high) spans
-  pub rise : InPairs Precedes spans
-  pub held : (m : Span) → IsMatchWithin matches low high m → Any (Holds m) spans
+  pub rise : InPairs RisesTo spans
+  pub held : (m : Span) → IsMatchWithin matches low high m → Any (HoldsSpan m) spans
 
 -- a match from low on begins at low, or is one from the next offset on
 later_match : (matches : ℕ → ℕ → Bool) (low high : ℕ) (m : Span) → IsMatchWithin matches low high m → low < m.start → IsMatchWithin matches (low + 1) high m
@@ -90,7 +89,7 @@ without_first : (matches : ℕ → ℕ → Bool) (low high : ℕ) (later : List 
 without_first matches low high later none ls = record {
   each = earlier_leasts matches low high later ls.each;
   rise = ls.rise;
-  held = λ m is. elim (cases_lt low m.start) as (λ _. Any (Holds m) later) [
+  held = λ m is. elim (cases_lt low m.start) as (λ _. Any (HoldsSpan m) later) [
     | inl after ↦ ls.held m (later_match matches low high m is after)
     | inr at ↦
         let same : m.start ≡ low = omega (arith, at, is.from_low) in
@@ -122,12 +121,12 @@ not_first : (matches : ℕ → ℕ → Bool) (low high : ℕ) (first l : Span) (
 not_first matches low high first l later is ls ends = record {
   each = earlier_leasts matches low high (l ∷ later) ls.each;
   rise = ls.rise;
-  held = λ m match. elim (cases_lt low m.start) as (λ _. Any (Holds m) (l ∷ later)) [
+  held = λ m match. elim (cases_lt low m.start) as (λ _. Any (HoldsSpan m) (l ∷ later)) [
     | inl after ↦ ls.held m (later_match matches low high m match after)
     | inr at ↦
         let same : m.start ≡ low = omega (arith, at, match.from_low) in
         let stops = meets_first matches low high first m is match same in
-        some_member (Holds m) l (l ∷ later) (at_head l l later refl) (record { start = omega (arith, same, ls.each.0.is_match.from_low); stop = omega (arith, ends, stops) })
+        some_member (HoldsSpan m) l (l ∷ later) (at_head l l later refl) (record { start = omega (arith, same, ls.each.0.is_match.from_low); stop = omega (arith, ends, stops) })
   ];
 }
 
@@ -135,32 +134,32 @@ not_first matches low high first l later is ls ends = record {
 is_first : (matches : ℕ → ℕ → Bool) (low high : ℕ) (first : Span) (later : List Span) → IsShortest matches low low high first → Leasts matches (low + 1) high later → AllByRecursion (λ (l : Span). first.stop < l.stop) later → Leasts matches low high (first ∷ later)
 is_first matches low high first later is ls ends = record {
   each = (record { is_match = first_match matches low high first is; least = least }, earlier_leasts matches low high later ls.each);
-  rise = (each_member (Precedes first) later precedes, ls.rise);
+  rise = (each_member (RisesTo first) later precedes, ls.rise);
   held = held;
 }
   where
-    precedes : (l : Span) → Contains later l → Precedes first l
+    precedes : (l : Span) → Contains later l → RisesTo first l
     precedes l at = record {
       start = omega (arith, is.start_at, (member_of (IsLeastWithin matches (low + 1) high) l later ls.each at).is_match.from_low);
       stop = member_of (λ (l : Span). first.stop < l.stop) l later ends at;
     }
 
-    held : (m : Span) → IsMatchWithin matches low high m → Any (Holds m) (first ∷ later)
+    held : (m : Span) → IsMatchWithin matches low high m → Any (HoldsSpan m) (first ∷ later)
     held m match =
         elim (cases_lt low m.start) [
           | inl after ↦
-              let some = the_member (Holds m) later (ls.held m (later_match matches low high m match after)) in
-              some_member (Holds m) some.0 (first ∷ later) (in_tail some.0 first later some.1.0) some.1.1
+              let some = the_member (HoldsSpan m) later (ls.held m (later_match matches low high m match after)) in
+              some_member (HoldsSpan m) some.0 (first ∷ later) (in_tail some.0 first later some.1.0) some.1.1
           | inr at ↦
               let same : m.start ≡ low = omega (arith, at, match.from_low) in
-              some_member (Holds m) first (first ∷ later) (at_head first first later refl) (record { start = omega (arith, same, is.start_at); stop = meets_first matches low high first m is match same })
+              some_member (HoldsSpan m) first (first ∷ later) (at_head first first later refl) (record { start = omega (arith, same, is.start_at); stop = meets_first matches low high first m is match same })
         ]
 
-    least : (other : Span) → IsMatchWithin matches low high other → Holds first other → other ≡ first
+    least : (other : Span) → IsMatchWithin matches low high other → HoldsSpan first other → other ≡ first
     least other match holds =
         elim (cases_lt low other.start) [
           | inl after ↦
-              let some = the_member (Holds other) later (ls.held other (later_match matches low high other match after)) in
+              let some = the_member (HoldsSpan other) later (ls.held other (later_match matches low high other match after)) in
               absurd (omega (arith, member_of (λ (l : Span). first.stop < l.stop) some.0 later ends some.1.0, some.1.1.stop, holds.stop))
           | inr at ↦
               let same : other.start ≡ first.start = omega (arith, at, match.from_low, is.start_at) in
@@ -169,8 +168,8 @@ is_first matches low high first later is ls ends = record {
               ap (λ (s : ℕ). span s other.stop) same ∙ ap (λ (s : ℕ). span first.start s) ends_same
         ]
 
-ends_later : (n : ℕ) (l : Span) (later : List Span) → n < l.stop → AllByRecursion (Precedes l) later → AllByRecursion (λ (m : Span). n < m.stop) (l ∷ later)
-ends_later n l later h all = (h, each_member (λ (m : Span). n < m.stop) later (λ m at. omega (arith, h, (member_of (Precedes l) m later all at).stop)))
+ends_later : (n : ℕ) (l : Span) (later : List Span) → n < l.stop → AllByRecursion (RisesTo l) later → AllByRecursion (λ (m : Span). n < m.stop) (l ∷ later)
+ends_later n l later h all = (h, each_member (λ (m : Span). n < m.stop) later (λ m at. omega (arith, h, (member_of (RisesTo l) m later all at).stop)))
 
 narrow : (matches : ℕ → ℕ → Bool) (low high : ℕ) (o : Option Span) (later : List Span) → ShortestOf matches low low high o → Leasts matches (low + 1) high later → Leasts matches low high (narrowed o later)
 unfolding narrowed
@@ -197,7 +196,7 @@ Leasts-least_from matches low (suc n) high e =
 -- each least match is in the list: it holds one of the list, and that is itself
 listed : (matches : ℕ → ℕ → Bool) (low high : ℕ) (spans : List Span) → Leasts matches low high spans → (m : Span) → IsLeastWithin matches low high m → Contains spans m
 listed matches low high spans ls m is =
-    let some = the_member (Holds m) spans (ls.held m is.is_match) in
+    let some = the_member (HoldsSpan m) spans (ls.held m is.is_match) in
     let same = is.least some.0 (member_of (IsLeastWithin matches low high) some.0 spans ls.each some.1.0).is_match some.1.1 in
     subst (Contains spans) same some.1.0
 
@@ -208,12 +207,12 @@ least_matches_hold_no_other matches n =
     record {
       each = λ m at. member_of (IsLeastWithin matches 0 n) m spans ls.each at;
       all = listed matches 0 n spans ls;
-      rise = AllPairs-in_pairs Precedes spans ls.rise;
+      rise = AllPairs-in_pairs RisesTo spans ls.rise;
       held = ls.held;
     }
 
 -- for proofs by recursion on the list
-pub least_rise : (matches : ℕ → ℕ → Bool) (n : ℕ) → InPairs Precedes (least_from matches 0 n)
+pub least_rise : (matches : ℕ → ℕ → Bool) (n : ℕ) → InPairs RisesTo (least_from matches 0 n)
 least_rise matches n = (Leasts-least_from matches 0 n n (omega arith)).rise
 
 pub least_ordered : (matches : ℕ → ℕ → Bool) (n : ℕ) → AllByRecursion (λ (m : Span). m.start ≤ m.stop) (least_from matches 0 n)

@@ -1,8 +1,7 @@
 -- Members of lists.
-use Rattle.std.proofs.Common.{◌≡◌, ℕ, zero, suc, ◌<◌, ◌+◌, List, [], ◌∷◌, length, get_or, refl, sym, ap, ◌∙◌, arith, inl, inr, subst, ◌⊎◌}
+use Rattle.std.proofs.Common.{◌≡◌, ℕ, zero, suc, ◌<◌, List, [], ◌∷◌, length, get_or, refl, arith, inl, inr, subst, ◌⊎◌}
 use Rattle.std.specs.List.{AllByRecursion, AllPairs, Any, Contains}
 use Rattle.std.specs.Prelude.{⊤}
-use Rattle.std.proofs.lemmas.List.{get_or_default}
 
 pub not_in_nil : {X : Type 0} (x : X) → Contains [] x → ⊥
 not_in_nil x (k, l, e) = omega arith

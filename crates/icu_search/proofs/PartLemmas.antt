@@ -1,5 +1,5 @@
 -- A text up to a place, as it is written.
-use Rattle.std.proofs.Common.{◌≡◌, ℕ, ◌<◌, Bool, true, false, ◌&&◌, List, [], ◌∷◌, ◌++◌, refl, sym, ap, ◌∙◌, arith, subst, append_assoc}
+use Rattle.std.proofs.Common.{◌≡◌, ℕ, true, false, ◌&&◌, List, [], ◌∷◌, ◌++◌, refl, sym, ap, ◌∙◌, subst, append_assoc}
 use Rattle.std.proofs.lemmas.Bool.{and_parts, false≢true}
 use Rattle.ucd_normal.specs.declared.forms.Form.TheVariants.{Nfd}
 use Rattle.unicode_normalization.specs.Decompose.{decompose}
@@ -14,11 +14,11 @@ use Rattle.icu_boundaries.proofs.NfdLemmas.{rest_after, nfd-begins, nfd-parted}
 use Rattle.icu_weighting.specs.Collations.{Collation}
 use Rattle.icu_weighting.specs.Forms.{form_by, last_variable_by}
 use Rattle.icu_weighting.specs.Levels.{level_lists, primary_of, secondary_of, primaries, secondaries, cases_in, tertiaries_in, quaternaries}
-use Rattle.icu_weighting.specs.Handled.{HandledElement, stayed_elements}
+use Rattle.icu_weighting.specs.Handled.{stayed_elements}
 use Rattle.icu_provider.specs.CollatorTables.{reorder}
-use Rattle.icu_text_order.specs.TextOrder.{reading_by, handled_elements, handled_by, lists_by}
+use Rattle.icu_text_order.specs.TextOrder.{reading_by, handled_elements, lists_by}
 use Rattle.icu_text_order.proofs.AppendLemmas.{weights-append, cases_in-append, tertiaries_in-append, quaternaries-append, stayed_elements-append, ends_after, handled-append}
-use Rattle.icu_search.specs.Places.{first_leads, leads, reaches, is_place_before}
+use Rattle.icu_search.specs.Places.{first_leads, reaches, is_place_before}
 use Rattle.icu_search.proofs.RestLemmas.{comes_to, part_elements, part_places}
 
 -- ---- what a place says

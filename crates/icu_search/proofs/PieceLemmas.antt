@@ -1,20 +1,20 @@
 -- The places and the matches of a text that is cut before a character.
-use Rattle.std.proofs.Common.{◌≡◌, ℕ, zero, suc, ◌<◌, ◌≤◌, ◌+◌, ◌-◌, Bool, true, false, ◌&&◌, ◌||◌, ◌==◌, nat_le, List, [], ◌∷◌, ◌++◌, length, take, drop, get_or, refl, sym, ap, ◌∙◌, arith, inl, inr, subst, ◌⊎◌, append_assoc, length-append}
+use Rattle.std.proofs.Common.{◌≡◌, ℕ, zero, suc, ◌<◌, ◌≤◌, ◌+◌, ◌-◌, Bool, true, false, ◌&&◌, ◌||◌, ◌==◌, nat_le, List, [], ◌∷◌, ◌++◌, length, take, drop, get_or, refl, sym, ap, ◌∙◌, arith, inl, inr, append_assoc, length-append}
 use Rattle.std.specs.Prelude.{slice_range}
 use Rattle.std.specs.Ordering.{is_eq}
-use Rattle.std.proofs.lemmas.Bool.{cases_Bool, cases_eq, or_left, or_right, and_from, and_left, eqb-true, eq-eqb, ne_eqb, leb-true, le-leb, lt-leb, leb-false}
+use Rattle.std.proofs.lemmas.Bool.{cases_Bool, cases_eq, or_left, or_right, and_from, and_left, eqb-true, eq-eqb, ne_eqb, leb-true, le-leb}
 use Rattle.std.proofs.lemmas.Bool.Decides.{same_from_decides}
-use Rattle.std.proofs.lemmas.List.{drop-drop, drop_at, drop-append-le, take-append-drop, take-append-le, drop_more, drop_all, length-drop}
+use Rattle.std.proofs.lemmas.List.{drop-drop, drop_at, drop-append-le, take-append-drop, take-append-le, drop_more, length-drop}
 use Rattle.ucd_normal.specs.declared.forms.Form.TheVariants.{Nfd}
 use Rattle.unicode_normalization.specs.Decompose.{decompose}
 use Rattle.unicode_normalization.specs.Forms.{nfd}
 use Rattle.icu_elements.specs.TextElements.{Reading}
 use Rattle.icu_boundaries.proofs.NfdLemmas.{rest_after, nfd-begins, nfd-parted}
 use Rattle.icu_text_order.specs.TextOrder.{reading_by, text_order}
-use Rattle.icu_search.specs.Places.{first_leads, leads, reaches, is_place_before, is_place}
+use Rattle.icu_search.specs.Places.{first_leads, reaches, is_place_before, is_place}
 use Rattle.icu_search.specs.Searches.{Search, is_match}
 use Rattle.icu_search.specs.PieceLaws.{BeginsPieces, search_behind, HasMatchesOfPieces}
-use Rattle.icu_search.proofs.RestLemmas.{comes_to, comes_to-now}
+use Rattle.icu_search.proofs.RestLemmas.{comes_to-now}
 use Rattle.icu_search.proofs.PartLemmas.{leading_at, part_has_places}
 use Rattle.icu_search.proofs.CutLemmas.{cut_rests}
 use Rattle.icu_checks.specs.WellFormedTables.{IsWellFormedTables}

@@ -1,9 +1,9 @@
 -- Up to a starter that the reading of a decomposed text reaches, the part that stands before it is read by itself as it
 -- is read in the whole.
-use Rattle.std.proofs.Common.{◌≡◌, ℕ, zero, suc, ◌<◌, ◌≤◌, ◌+◌, Bool, true, false, ◌||◌, List, [], ◌∷◌, ◌++◌, length, refl, sym, ap, ◌∙◌, arith, inl, inr, subst, ◌⊎◌, append_assoc, length-append}
+use Rattle.std.proofs.Common.{◌≡◌, ℕ, ◌<◌, ◌≤◌, Bool, true, false, ◌||◌, List, [], ◌∷◌, ◌++◌, length, refl, sym, ap, ◌∙◌, arith, inl, inr, subst, ◌⊎◌, append_assoc, length-append}
 use Rattle.std.specs.List.{list_any}
 use Rattle.std.specs.Str.{bytes_eq}
-use Rattle.std.proofs.lemmas.Bool.{or_cases, or_from, or_left, or_right, true≢false, false_from_ne_true}
+use Rattle.std.proofs.lemmas.Bool.{or_cases, or_left, true≢false, false_from_ne_true}
 use Rattle.std.proofs.lemmas.Bool.Decides.{same_from_decides}
 use Rattle.std.proofs.lemmas.List.{append_cancel_right}
 use Rattle.std.proofs.lemmas.Slice.Eq.{bytes_eq-Decides}
@@ -14,7 +14,7 @@ use Rattle.icu_elements.specs.ReadAhead.{and_more}
 use Rattle.icu_elements.proofs.StepLemmas.{Rests-step, elements_after_cons, elements_after_nil}
 use Rattle.icu_boundaries.specs.LeftContexts.{context_along, context_left}
 use Rattle.icu_search.specs.Places.{rests_along}
-use Rattle.icu_search.proofs.StepEndLemmas.{KeepsAt, step-front}
+use Rattle.icu_search.proofs.StepEndLemmas.{step-front}
 
 -- ---- what is left after some step
 

@@ -1,15 +1,15 @@
 -- How the matches that are found come one after another.
-use Rattle.std.proofs.Common.{◌≡◌, ℕ, zero, suc, ◌<◌, ◌≤◌, ◌+◌, ◌-◌, max, Bool, true, false, nat_le, nat_lt, List, [], ◌∷◌, ◌++◌, Option, Some, None, if◌then◌else◌, refl, sym, ap, ◌∙◌, arith, inl, inr, subst, ◌⊎◌}
+use Rattle.std.proofs.Common.{◌≡◌, ℕ, zero, suc, ◌<◌, ◌≤◌, ◌+◌, ◌-◌, Bool, true, false, nat_le, List, [], ◌∷◌, ◌++◌, Option, Some, None, if◌then◌else◌, refl, sym, ap, ◌∙◌, arith, inl, inr, subst}
 use Rattle.std.specs.Prelude.{IfSome, option_to_list}
-use Rattle.std.specs.List.{AllByRecursion, Contains}
+use Rattle.std.specs.List.{AllByRecursion}
 use Rattle.std.proofs.lemmas.Bool.{cases_Bool, cases_lt, le-leb, lt-leb, lt-ltb, le-ltb, ltb-true, false≢true}
 use Rattle.std.proofs.lemmas.Option.{same_Some}
-use Rattle.icu_search.specs.LeastMatches.{Span, span, shortest_from, narrowed, least_from, apart_from, Precedes}
+use Rattle.icu_search.specs.LeastMatches.{Span, span, shortest_from, narrowed, least_from, apart_from, RisesTo}
 use Rattle.icu_search.specs.LeastMatchLaws.{IsMatchWithin, IsLeastWithin}
 use Rattle.icu_search.specs.inner.HeldSpans.{joined, stops_before, behind, found_behind}
-use Rattle.icu_search.specs.Selections.{first_of, found_from}
+use Rattle.icu_search.specs.Selections.{first_span, found_from}
 use Rattle.icu_search.proofs.ListLemmas.{member_of, each_member, InPairs}
-use Rattle.icu_search.proofs.LeastLemmas.{ShortestOf, ShortestOf-shortest_from, Leasts, Leasts-least_from}
+use Rattle.icu_search.proofs.LeastLemmas.{ShortestOf, ShortestOf-shortest_from, Leasts-least_from}
 use Rattle.icu_search.proofs.ApartLemmas.{apart_from-nil, apart_from-taken, apart_from-passed}
 
 -- ---- of two matches the one that is least
@@ -18,11 +18,11 @@ pub joined-none : (o : Option Span) → joined o None ≡ o
 joined-none None = refl
 joined-none (Some m) = refl
 
-first_of-narrowed : (o : Option Span) (later : List Span) → first_of (narrowed o later) ≡ joined o (first_of later)
+first_span-narrowed : (o : Option Span) (later : List Span) → first_span (narrowed o later) ≡ joined o (first_span later)
 unfolding narrowed
-first_of-narrowed None later = refl
-first_of-narrowed (Some m) [] = refl
-first_of-narrowed (Some m) (l ∷ later) =
+first_span-narrowed None later = refl
+first_span-narrowed (Some m) [] = refl
+first_span-narrowed (Some m) (l ∷ later) =
     elim (cases_Bool (nat_le l.stop m.stop)) [
       | inl ends ↦ rw ends refl
       | inr goes_on ↦ rw goes_on refl
@@ -81,9 +81,9 @@ module _ (matches : ℕ → ℕ → Bool) (n : ℕ) where
       least_to-at start (suc k) e ∙ ap (narrowed (shortest_from matches start start (suc k))) (sym (least_to-at (start + 1) k (omega (arith, e))))
 
   -- the first of them is that at the offset, or the first behind it
-  pub first_turn : (start : ℕ) → start ≤ n → first_of (least_to matches n start) ≡ joined (shortest_from matches start start (n - start)) (first_of (least_to matches n (start + 1)))
+  pub first_turn : (start : ℕ) → start ≤ n → first_span (least_to matches n start) ≡ joined (shortest_from matches start start (n - start)) (first_span (least_to matches n (start + 1)))
   first_turn start inside =
-      ap first_of (turn start (n - start) (omega (arith, inside))) ∙ first_of-narrowed (shortest_from matches start start (n - start)) (least_to matches n (start + 1))
+      ap first_span (turn start (n - start) (omega (arith, inside))) ∙ first_span-narrowed (shortest_from matches start start (n - start)) (least_to matches n (start + 1))
 
   -- they begin at the offset or after it, and end no earlier than they begin
   within : (start : ℕ) → AllByRecursion (IsMatchWithin matches start n) (least_to matches n start)
@@ -98,22 +98,22 @@ module _ (matches : ℕ → ℕ → Bool) (n : ℕ) where
             (each_member (IsMatchWithin matches start n) spans (λ m at. (member_of (IsLeastWithin matches start n) m spans ls.each at).is_match))
       ]
 
-  rise : (start : ℕ) → InPairs Precedes (least_to matches n start)
+  rise : (start : ℕ) → InPairs RisesTo (least_to matches n start)
   rise start =
       elim (cases_lt n start) [
-        | inl past ↦ subst (InPairs Precedes) (sym (least_to-past start past)) tt
+        | inl past ↦ subst (InPairs RisesTo) (sym (least_to-past start past)) tt
         | inr inside ↦
             let e : n ≡ start + (n - start) = omega (arith, inside) in
-            subst (InPairs Precedes) (sym (least_to-at start (n - start) e)) (Leasts-least_from matches start (n - start) n e).rise
+            subst (InPairs RisesTo) (sym (least_to-at start (n - start) e)) (Leasts-least_from matches start (n - start) n e).rise
       ]
 
   -- a match that ends before an offset is kept, whatever begins there or after it
-  kept_over : (held : Span) (start : ℕ) (spans : List Span) → held.stop < start → AllByRecursion (IsMatchWithin matches start n) spans → joined (Some held) (first_of spans) ≡ Some held
+  kept_over : (held : Span) (start : ℕ) (spans : List Span) → held.stop < start → AllByRecursion (IsMatchWithin matches start n) spans → joined (Some held) (first_span spans) ≡ Some held
   kept_over held start [] before all = refl
   kept_over held start (m ∷ later) before all =
       let longer : nat_le m.stop held.stop ≡ false = lt-leb m.stop held.stop (omega (arith, before, all.0.from_low, all.0.ordered)) in rw longer refl
 
-  pub kept : (held : Span) (start : ℕ) → held.stop < start → joined (Some held) (first_of (least_to matches n start)) ≡ Some held
+  pub kept : (held : Span) (start : ℕ) → held.stop < start → joined (Some held) (first_span (least_to matches n start)) ≡ Some held
   kept held start before = kept_over held start (least_to matches n start) before (within start)
 
   -- ---- what is found from an offset on
@@ -153,21 +153,21 @@ module _ (matches : ℕ → ℕ → Bool) (n : ℕ) where
       let e : 0 + start ≡ start = omega arith in
       ap (apart_from offset) all ∙ on_to start 0 offset (omega (arith, before)) ∙ ap (λ s. apart_from offset (least_to matches n s)) e
 
-  first_taken : (offset : ℕ) (spans : List Span) → AllByRecursion (IsMatchWithin matches offset n) spans → first_of (apart_from offset spans) ≡ first_of spans
-  first_taken offset [] all = ap first_of (apart_from-nil offset)
-  first_taken offset (m ∷ later) all = ap first_of (apart_from-taken offset m later (le-leb offset m.start all.0.from_low))
+  first_taken : (offset : ℕ) (spans : List Span) → AllByRecursion (IsMatchWithin matches offset n) spans → first_span (apart_from offset spans) ≡ first_span spans
+  first_taken offset [] all = ap first_span (apart_from-nil offset)
+  first_taken offset (m ∷ later) all = ap first_span (apart_from-taken offset m later (le-leb offset m.start all.0.from_low))
 
   -- the first that is found from there on is the first least one
-  pub first_found : (offset : ℕ) → first_of (found_from matches n offset) ≡ first_of (least_to matches n offset)
-  first_found offset = ap first_of (from_offset offset offset (omega arith)) ∙ first_taken offset (least_to matches n offset) (within offset)
+  pub first_found : (offset : ℕ) → first_span (found_from matches n offset) ≡ first_span (least_to matches n offset)
+  first_found offset = ap first_span (from_offset offset offset (omega arith)) ∙ first_taken offset (least_to matches n offset) (within offset)
 
   -- where a match is held that ends before an offset, it stays
-  pub held_stays : (held : Option Span) (start : ℕ) → stops_before held start ≡ true → joined held (first_of (least_to matches n start)) ≡ held
+  pub held_stays : (held : Option Span) (start : ℕ) → stops_before held start ≡ true → joined held (first_span (least_to matches n start)) ≡ held
   held_stays None start h = absurd (false≢true h)
   held_stays (Some m) start h = kept m start (ltb-true m.stop start h)
 
   -- it begins in the text
-  begins_below : (offset : ℕ) (spans : List Span) → AllByRecursion (IsMatchWithin matches offset n) spans → (big : ℕ) → n < big → (o : Option Span) → o ≡ first_of spans → IfSome o (λ m. m.start < big)
+  begins_below : (offset : ℕ) (spans : List Span) → AllByRecursion (IsMatchWithin matches offset n) spans → (big : ℕ) → n < big → (o : Option Span) → o ≡ first_span spans → IfSome o (λ m. m.start < big)
   begins_below offset spans all big small None e = tt
   begins_below offset [] all big small (Some m) e = cc
   begins_below offset (x ∷ later) all big small (Some m) e =
@@ -175,7 +175,7 @@ module _ (matches : ℕ → ℕ → Bool) (n : ℕ) where
       let start : m.start ≡ x.start = ap (λ (m : Span). m.start) same in
       omega (arith, start, all.0.ordered, all.0.to_high, small)
 
-  pub starts_below : (offset : ℕ) (o : Option Span) → o ≡ first_of (found_from matches n offset) → (big : ℕ) → n < big → IfSome o (λ m. m.start < big)
+  pub starts_below : (offset : ℕ) (o : Option Span) → o ≡ first_span (found_from matches n offset) → (big : ℕ) → n < big → IfSome o (λ m. m.start < big)
   starts_below offset o e big small = begins_below offset (least_to matches n offset) (within offset) big small o (e ∙ first_found offset)
 
   -- ---- one, and then the others
@@ -200,12 +200,12 @@ module _ (matches : ℕ → ℕ → Bool) (n : ℕ) where
         | inr empty ↦ let next : behind m ≡ m.start + 1 = ap (λ b. if b then m.stop else m.start + 1) (le-ltb m.start m.stop empty) in omega (arith, next)
       ]
 
-  one_and_others : (offset : ℕ) (spans : List Span) → AllByRecursion (IsMatchWithin matches offset n) spans → InPairs Precedes spans
-      → ((o : ℕ) → offset ≤ o → found_from matches n o ≡ apart_from o spans) → (m : Span) → Some m ≡ first_of spans → found_from matches n offset ≡ m ∷ found_from matches n (behind m)
+  one_and_others : (offset : ℕ) (spans : List Span) → AllByRecursion (IsMatchWithin matches offset n) spans → InPairs RisesTo spans
+      → ((o : ℕ) → offset ≤ o → found_from matches n o ≡ apart_from o spans) → (m : Span) → Some m ≡ first_span spans → found_from matches n offset ≡ m ∷ found_from matches n (behind m)
   one_and_others offset [] all rising is m e = cc
   one_and_others offset (x ∷ later) all rising is m e =
       let past = goes_behind x in
-      let later_ones : AllByRecursion (λ (m : Span). x.start < m.start) later = each_member (λ (m : Span). x.start < m.start) later (λ m at. (member_of (Precedes x) m later rising.0 at).start) in
+      let later_ones : AllByRecursion (λ (m : Span). x.start < m.start) later = each_member (λ (m : Span). x.start < m.start) later (λ m at. (member_of (RisesTo x) m later rising.0 at).start) in
       let first = is offset (omega arith) ∙ apart_from-taken offset x later (le-leb offset x.start all.0.from_low) in
       let others : found_from matches n (behind x) ≡ apart_from x.stop later =
       is (behind x) (omega (arith, past, all.0.from_low)) ∙ apart_from-passed (behind x) x later (lt-leb (behind x) x.start past) ∙ same_taken x.start x.stop later later_ones in
@@ -213,14 +213,14 @@ module _ (matches : ℕ → ℕ → Bool) (n : ℕ) where
       subst (λ (m : Span). found_from matches n offset ≡ m ∷ found_from matches n (behind m)) (sym (same_Some m x e)) here
 
   -- what is left, by what is given
-  pub left_behind : (offset : ℕ) (o : Option Span) → o ≡ first_of (found_from matches n offset) → found_from matches n offset ≡ option_to_list o ++ found_behind matches n offset o
+  pub left_behind : (offset : ℕ) (o : Option Span) → o ≡ first_span (found_from matches n offset) → found_from matches n offset ≡ option_to_list o ++ found_behind matches n offset o
   left_behind offset None e = refl
   left_behind offset (Some m) e =
       one_and_others offset (least_to matches n offset) (within offset) (rise offset) (λ o before. from_offset offset o before) m (e ∙ first_found offset)
 
-  pub nothing_left : (offset : ℕ) (o : Option Span) → o ≡ first_of (found_from matches n offset) → o ≡ None → found_from matches n offset ≡ []
+  pub nothing_left : (offset : ℕ) (o : Option Span) → o ≡ first_span (found_from matches n offset) → o ≡ None → found_from matches n offset ≡ []
   nothing_left offset o e none = empty (found_from matches n offset) (sym none ∙ e)
     where
-      empty : (l : List Span) → None ≡ first_of l → l ≡ []
+      empty : (l : List Span) → None ≡ first_span l → l ≡ []
       empty [] e = refl
       empty (x ∷ l) e = cc

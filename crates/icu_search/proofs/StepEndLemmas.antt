@@ -1,12 +1,12 @@
 -- A step that leaves a starter and all that follows it is that of the characters before the starter alone.
-use Rattle.std.proofs.Common.{◌≡◌, ℕ, zero, suc, ◌<◌, ◌≤◌, ◌+◌, Bool, true, false, not, ◌&&◌, ◌==◌, List, [], ◌∷◌, ◌++◌, length, drop, map, take_while, Option, Some, None, if◌then◌else◌, refl, sym, ap, ◌∙◌, arith, inl, inr, subst, ◌⊎◌, length-append, length-drop, cond}
+use Rattle.std.proofs.Common.{◌≡◌, ℕ, suc, ◌≤◌, Bool, true, false, not, ◌&&◌, ◌==◌, List, [], ◌∷◌, ◌++◌, length, drop, map, take_while, Option, Some, None, if◌then◌else◌, refl, sym, ap, ◌∙◌, arith, inl, inr, subst, length-append, length-drop}
 use Rattle.std.proofs.lemmas.Bool.{cases_Bool, or_from, eqb-true, true≢false}
 use Rattle.std.proofs.lemmas.List.{drop-append-le, nil_from_length}
 use Rattle.std.proofs.lemmas.List.Sums.{take_while-cons}
 use Rattle.unicode_normalization.specs.Order.{is_starter}
 use Rattle.icu_entries.specs.declared.entry.EntryKind.{EntryKind}
 use Rattle.icu_entries.specs.declared.entry.EntryKind.TheVariants.{Digit}
-use Rattle.icu_entries.specs.Elements.{Element, of_secondary}
+use Rattle.icu_entries.specs.Elements.{of_secondary}
 use Rattle.icu_entries.specs.Entries.{kind_of, digit_value}
 use Rattle.icu_collation_data.specs.Data.{Data}
 use Rattle.icu_provider.specs.Tables.{Tables, entry_of, diacritic_of}

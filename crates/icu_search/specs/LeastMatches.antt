@@ -46,21 +46,21 @@ found_matches matches n = apart_from 0 (least_matches matches n)
 -- ---- what they are
 
 -- one part holds another, or is the same
-pub record Holds (outer inner : Span) : Type 0 where
+pub record HoldsSpan (outer inner : Span) : Type 0 where
   pub start : outer.start ≤ inner.start
   pub stop : inner.stop ≤ outer.stop
 
 -- one part begins before another and ends before it
-pub record Precedes (m n : Span) : Type 0 where
+pub record RisesTo (m n : Span) : Type 0 where
   pub start : m.start < n.start
   pub stop : m.stop < n.stop
 
 -- one part begins before another, and ends where that begins or before
-pub record StandsBefore (m n : Span) : Type 0 where
+pub record StandsApart (m n : Span) : Type 0 where
   pub start : m.start < n.start
   pub apart : m.stop ≤ n.start
 
 -- one part begins before another, and ends behind the other's beginning
-pub record Overlaps (m n : Span) : Type 0 where
+pub record ReachesInto (m n : Span) : Type 0 where
   pub start : m.start < n.start
   pub stop : n.start < m.stop

@@ -4,11 +4,10 @@ use Rattle.std.specs.List.{AllPairs, Any, Contains}
 use Rattle.std.specs.declared.cmp.Ordering.TheVariants.{Equal}
 use Rattle.icu_checks.specs.WellFormedTables.{IsWellFormedTables}
 use Rattle.icu_elements.specs.TextElementLaws.{IsText}
-use Rattle.icu_weighting.specs.Collations.{Collation}
 use Rattle.icu_text_order.specs.TextOrder.{reading_by, text_order, text_key}
 use Rattle.icu_options.specs.declared.settings.Strength.{Strength}
 use Rattle.icu_laws.specs.OrderLaws.{strength_rank, with_strength, AreEquivalent}
-use Rattle.icu_search.specs.LeastMatches.{Span, span, Holds, StandsBefore, Overlaps}
+use Rattle.icu_search.specs.LeastMatches.{Span, span, HoldsSpan, StandsApart, ReachesInto}
 use Rattle.icu_search.specs.Places.{is_place}
 use Rattle.icu_search.specs.Searches.{Search, least, found}
 
@@ -42,15 +41,15 @@ NothingFoundMeansNoMatch = (s : Search) (text : List ℕ) → found s text ≡ [
 
 -- each match holds a least one, and each least one is found, or begins inside of one that is found
 pub record MatchesAreMet (s : Search) (text : List ℕ) : Type 0 where
-  pub held : (m : Span) → IsMatch s text m → Any (Holds m) (least s text)
-  pub others : (m : Span) → Contains (least s text) m → Contains (found s text) m ⊎ Any (λ f. Overlaps f m) (found s text)
+  pub held : (m : Span) → IsMatch s text m → Any (HoldsSpan m) (least s text)
+  pub others : (m : Span) → Contains (least s text) m → Contains (found s text) m ⊎ Any (λ f. ReachesInto f m) (found s text)
 
 abbrev pub EveryMatchIsMet : Type 0
 EveryMatchIsMet = (s : Search) (text : List ℕ) → MatchesAreMet s text
 
 -- what is found stands apart, from left to right
 abbrev pub FoundPartsStandApart : Type 0
-FoundPartsStandApart = (s : Search) (text : List ℕ) → AllPairs StandsBefore (found s text)
+FoundPartsStandApart = (s : Search) (text : List ℕ) → AllPairs StandsApart (found s text)
 
 -- the whole of a text is a match of itself
 abbrev pub TextsMatchThemselves : Type 0

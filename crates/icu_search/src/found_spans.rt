@@ -2,7 +2,7 @@
 
 ghost use Rattle.std.specs.Prelude.{◌≡◌, ◌++◌, ◌<◌, ◌≤◌, ◌-◌, [], option_to_list, IfOk, IfSome, OnErr};
 ghost use Rattle.icu_search.specs.LeastMatches.{shortest_from};
-ghost use Rattle.icu_search.specs.Selections.{first_of, found_from};
+ghost use Rattle.icu_search.specs.Selections.{first_span, found_from};
 ghost use Rattle.icu_search.specs.inner.HeldSpans.{behind, joined, stops_before};
 ghost use Rattle.icu_search.specs.LeastMatches.{found_matches};
 
@@ -53,7 +53,7 @@ fn stops_before(held: Option<CharSpan>, offset: usize) -> bool
 /// those matches that end first, and no start behind its end is looked at. Fails only where an allocation does.
 pub fn first_least<M: MatchEnds>(ends: &M, offset: usize) -> Result<Option<CharSpan>, AllocError>
     ensures least { IfOk result (λ m. m
-        ≡ first_of (found_from (M.matches ends.now) (M.char_len ends.now) offset)) }
+        ≡ first_span (found_from (M.matches ends.now) (M.char_len ends.now) offset)) }
     ensures bound { IfOk result (λ m. IfSome m (λ m. m.start < usize.MAX)) }
 {
     let count = ends.char_count();
