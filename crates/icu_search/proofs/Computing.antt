@@ -1,0 +1,10 @@
+-- What has to be opened to compute the worked rows of search.
+use Rattle.ucd_normal.specs.QuickCheck.{quick_check}
+use Rattle.icu_text_order.proofs.Computing.{icu_text_order}
+use Rattle.icu_search.specs.LeastMatches.{shortest_from, narrowed, least_from, apart_from}
+use Rattle.icu_search.specs.Places.{rests_along}
+
+-- `unfolding icu_search` lets `refl` compute what is found in short texts
+unfoldable pub icu_search : Unit {0}
+unfolding icu_text_order quick_check shortest_from narrowed least_from apart_from rests_along
+icu_search = tt

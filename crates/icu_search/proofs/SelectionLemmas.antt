@@ -1,0 +1,226 @@
+-- How the matches that are found come one after another.
+use Rattle.std.proofs.Common.{◌≡◌, ℕ, zero, suc, ◌<◌, ◌≤◌, ◌+◌, ◌-◌, Bool, true, false, nat_le, List, [], ◌∷◌, ◌++◌, Option, Some, None, if◌then◌else◌, refl, sym, ap, ◌∙◌, arith, inl, inr, subst}
+use Rattle.std.specs.Prelude.{IfSome, option_to_list}
+use Rattle.std.specs.List.{AllByRecursion}
+use Rattle.std.proofs.lemmas.Bool.{cases_Bool, cases_lt, le-leb, lt-leb, lt-ltb, le-ltb, ltb-true, false≢true}
+use Rattle.std.proofs.lemmas.Option.{same_Some}
+use Rattle.icu_search.specs.LeastMatches.{Span, span, shortest_from, narrowed, least_from, apart_from, RisesTo}
+use Rattle.icu_search.specs.LeastMatchLaws.{IsMatchWithin, IsLeastWithin}
+use Rattle.icu_search.specs.inner.HeldSpans.{joined, stops_before, behind, found_behind}
+use Rattle.icu_search.specs.Selections.{first_span, found_from}
+use Rattle.icu_search.proofs.ListLemmas.{member_of, each_member, InPairs}
+use Rattle.icu_search.proofs.LeastLemmas.{ShortestOf, ShortestOf-shortest_from, Leasts-least_from}
+use Rattle.icu_search.proofs.ApartLemmas.{apart_from-nil, apart_from-taken, apart_from-passed}
+
+-- ---- of two matches the one that is least
+
+pub joined-none : (o : Option Span) → joined o None ≡ o
+joined-none None = refl
+joined-none (Some m) = refl
+
+first_span-narrowed : (o : Option Span) (later : List Span) → first_span (narrowed o later) ≡ joined o (first_span later)
+unfolding narrowed
+first_span-narrowed None later = refl
+first_span-narrowed (Some m) [] = refl
+first_span-narrowed (Some m) (l ∷ later) =
+    elim (cases_Bool (nat_le l.stop m.stop)) [
+      | inl ends ↦ rw ends refl
+      | inr goes_on ↦ rw goes_on refl
+    ]
+
+joined-three : (a b c : Span) → joined (joined (Some a) (Some b)) (Some c) ≡ joined (Some a) (joined (Some b) (Some c))
+joined-three a b c =
+    elim (cases_lt a.stop b.stop) [
+      | inl longer ↦
+          let stays : nat_le b.stop a.stop ≡ false = lt-leb b.stop a.stop longer in
+          elim (cases_lt b.stop c.stop) [
+            | inl last ↦
+                let no : nat_le c.stop b.stop ≡ false = lt-leb c.stop b.stop last in
+                let not : nat_le c.stop a.stop ≡ false = lt-leb c.stop a.stop (omega (arith, longer, last)) in rw (stays, no, stays, not) refl
+            | inr first ↦ let yes_b : nat_le c.stop b.stop ≡ true = le-leb c.stop b.stop first in rw (stays, yes_b) refl
+          ]
+      | inr shorter ↦
+          let goes : nat_le b.stop a.stop ≡ true = le-leb b.stop a.stop shorter in
+          elim (cases_lt b.stop c.stop) [
+            | inl last ↦ let no : nat_le c.stop b.stop ≡ false = lt-leb c.stop b.stop last in rw (goes, no, goes) refl
+            | inr first ↦
+                let yes_b : nat_le c.stop b.stop ≡ true = le-leb c.stop b.stop first in
+                let yes_a : nat_le c.stop a.stop ≡ true = le-leb c.stop a.stop (omega (arith, shorter, first)) in rw (goes, yes_b, yes_a) refl
+          ]
+    ]
+
+pub joined-assoc : (a b c : Option Span) → joined (joined a b) c ≡ joined a (joined b c)
+joined-assoc None b c = refl
+joined-assoc (Some a) None c = refl
+joined-assoc (Some a) (Some b) None = joined-none (joined (Some a) (Some b))
+joined-assoc (Some a) (Some b) (Some c) = joined-three a b c
+
+-- ---- the least matches that begin at an offset or after it
+
+-- and end at most at n
+pub least_to : (ℕ → ℕ → Bool) → ℕ → ℕ → List Span
+least_to matches n start = if nat_le start n then least_from matches start (n - start) else []
+
+module _ (matches : ℕ → ℕ → Bool) (n : ℕ) where
+  least_to-at : (start k : ℕ) → n ≡ start + k → least_to matches n start ≡ least_from matches start k
+  unfolding least_to
+  least_to-at start k e =
+      let inside : nat_le start n ≡ true = le-leb start n (omega (arith, e)) in
+      let left : n - start ≡ k = omega (arith, e) in
+      rw inside (ap (least_from matches start) left)
+
+  pub least_to-past : (start : ℕ) → n < start → least_to matches n start ≡ []
+  unfolding least_to
+  least_to-past start past = rw (lt-leb start n past) refl
+
+  turn : (start k : ℕ) → n ≡ start + k → least_to matches n start ≡ narrowed (shortest_from matches start start k) (least_to matches n (start + 1))
+  unfolding least_from
+  turn start zero e =
+      least_to-at start zero e ∙ ap (narrowed (shortest_from matches start start zero)) (sym (least_to-past (start + 1) (omega (arith, e))))
+  turn start (suc k) e =
+      least_to-at start (suc k) e ∙ ap (narrowed (shortest_from matches start start (suc k))) (sym (least_to-at (start + 1) k (omega (arith, e))))
+
+  -- the first of them is that at the offset, or the first behind it
+  pub first_turn : (start : ℕ) → start ≤ n → first_span (least_to matches n start) ≡ joined (shortest_from matches start start (n - start)) (first_span (least_to matches n (start + 1)))
+  first_turn start inside =
+      ap first_span (turn start (n - start) (omega (arith, inside))) ∙ first_span-narrowed (shortest_from matches start start (n - start)) (least_to matches n (start + 1))
+
+  -- they begin at the offset or after it, and end no earlier than they begin
+  within : (start : ℕ) → AllByRecursion (IsMatchWithin matches start n) (least_to matches n start)
+  within start =
+      elim (cases_lt n start) [
+        | inl past ↦ subst (AllByRecursion (IsMatchWithin matches start n)) (sym (least_to-past start past)) tt
+        | inr inside ↦
+            let spans = least_from matches start (n - start) in
+            let e : n ≡ start + (n - start) = omega (arith, inside) in
+            let ls = Leasts-least_from matches start (n - start) n e in
+            subst (AllByRecursion (IsMatchWithin matches start n)) (sym (least_to-at start (n - start) e))
+            (each_member (IsMatchWithin matches start n) spans (λ m at. (member_of (IsLeastWithin matches start n) m spans ls.each at).is_match))
+      ]
+
+  rise : (start : ℕ) → InPairs RisesTo (least_to matches n start)
+  rise start =
+      elim (cases_lt n start) [
+        | inl past ↦ subst (InPairs RisesTo) (sym (least_to-past start past)) tt
+        | inr inside ↦
+            let e : n ≡ start + (n - start) = omega (arith, inside) in
+            subst (InPairs RisesTo) (sym (least_to-at start (n - start) e)) (Leasts-least_from matches start (n - start) n e).rise
+      ]
+
+  -- a match that ends before an offset is kept, whatever begins there or after it
+  kept_over : (held : Span) (start : ℕ) (spans : List Span) → held.stop < start → AllByRecursion (IsMatchWithin matches start n) spans → joined (Some held) (first_span spans) ≡ Some held
+  kept_over held start [] before all = refl
+  kept_over held start (m ∷ later) before all =
+      let longer : nat_le m.stop held.stop ≡ false = lt-leb m.stop held.stop (omega (arith, before, all.0.from_low, all.0.ordered)) in rw longer refl
+
+  pub kept : (held : Span) (start : ℕ) → held.stop < start → joined (Some held) (first_span (least_to matches n start)) ≡ Some held
+  kept held start before = kept_over held start (least_to matches n start) before (within start)
+
+  -- ---- what is found from an offset on
+
+  -- the shortest match from a start begins there
+  starts_there : (start k : ℕ) (o : Option Span) → ShortestOf matches start start (start + k) o → (offset : ℕ) → start < offset → (later : List Span) → apart_from offset (narrowed o later) ≡ apart_from offset later
+  unfolding narrowed
+  starts_there start k None is offset before later = refl
+  starts_there start k (Some m) is offset before [] = apart_from-passed offset m [] (lt-leb offset m.start (omega (arith, before, is.start_at)))
+  starts_there start k (Some m) is offset before (l ∷ later) =
+      elim (cases_Bool (nat_le l.stop m.stop)) [
+        | inl ends ↦ rw ends refl
+        | inr goes_on ↦ rw goes_on (apart_from-passed offset m (l ∷ later) (lt-leb offset m.start (omega (arith, before, is.start_at))))
+      ]
+
+  one_on : (start offset : ℕ) → start < offset → apart_from offset (least_to matches n start) ≡ apart_from offset (least_to matches n (start + 1))
+  one_on start offset before =
+      elim (cases_lt n start) [
+        | inl past ↦ ap (apart_from offset) (least_to-past start past ∙ sym (least_to-past (start + 1) (omega (arith, past))))
+        | inr inside ↦
+            let k = n - start in
+            let e : n ≡ start + k = omega (arith, inside) in
+            ap (apart_from offset) (turn start k e)
+            ∙ starts_there start k (shortest_from matches start start k) (ShortestOf-shortest_from matches start start k (start + k) refl) offset before (least_to matches n (start + 1))
+      ]
+
+  on_to : (d start offset : ℕ) → start + d ≤ offset → apart_from offset (least_to matches n start) ≡ apart_from offset (least_to matches n (start + d))
+  on_to zero start offset before = let e : start + 0 ≡ start = omega arith in ap (λ s. apart_from offset (least_to matches n s)) (sym e)
+  on_to (suc d) start offset before =
+      let e : (start + 1) + d ≡ start + suc d = omega arith in
+      one_on start offset (omega (arith, before)) ∙ on_to d (start + 1) offset (omega (arith, before)) ∙ ap (λ s. apart_from offset (least_to matches n s)) e
+
+  -- what begins before the offset may be left out
+  from_offset : (start offset : ℕ) → start ≤ offset → found_from matches n offset ≡ apart_from offset (least_to matches n start)
+  from_offset start offset before =
+      let all : least_from matches 0 n ≡ least_to matches n 0 = sym (least_to-at 0 n (omega arith)) in
+      let e : 0 + start ≡ start = omega arith in
+      ap (apart_from offset) all ∙ on_to start 0 offset (omega (arith, before)) ∙ ap (λ s. apart_from offset (least_to matches n s)) e
+
+  first_taken : (offset : ℕ) (spans : List Span) → AllByRecursion (IsMatchWithin matches offset n) spans → first_span (apart_from offset spans) ≡ first_span spans
+  first_taken offset [] all = ap first_span (apart_from-nil offset)
+  first_taken offset (m ∷ later) all = ap first_span (apart_from-taken offset m later (le-leb offset m.start all.0.from_low))
+
+  -- the first that is found from there on is the first least one
+  pub first_found : (offset : ℕ) → first_span (found_from matches n offset) ≡ first_span (least_to matches n offset)
+  first_found offset = ap first_span (from_offset offset offset (omega arith)) ∙ first_taken offset (least_to matches n offset) (within offset)
+
+  -- where a match is held that ends before an offset, it stays
+  pub held_stays : (held : Option Span) (start : ℕ) → stops_before held start ≡ true → joined held (first_span (least_to matches n start)) ≡ held
+  held_stays None start h = absurd (false≢true h)
+  held_stays (Some m) start h = kept m start (ltb-true m.stop start h)
+
+  -- it begins in the text
+  begins_below : (offset : ℕ) (spans : List Span) → AllByRecursion (IsMatchWithin matches offset n) spans → (big : ℕ) → n < big → (o : Option Span) → o ≡ first_span spans → IfSome o (λ m. m.start < big)
+  begins_below offset spans all big small None e = tt
+  begins_below offset [] all big small (Some m) e = cc
+  begins_below offset (x ∷ later) all big small (Some m) e =
+      let same : m ≡ x = same_Some m x e in
+      let start : m.start ≡ x.start = ap (λ (m : Span). m.start) same in
+      omega (arith, start, all.0.ordered, all.0.to_high, small)
+
+  pub starts_below : (offset : ℕ) (o : Option Span) → o ≡ first_span (found_from matches n offset) → (big : ℕ) → n < big → IfSome o (λ m. m.start < big)
+  starts_below offset o e big small = begins_below offset (least_to matches n offset) (within offset) big small o (e ∙ first_found offset)
+
+  -- ---- one, and then the others
+
+  -- of parts that begin behind an offset, those are taken that begin behind the next one
+  same_taken : (start stop : ℕ) (spans : List Span) → AllByRecursion (λ (m : Span). start < m.start) spans → apart_from (behind (span start stop)) spans ≡ apart_from stop spans
+  same_taken start stop [] all = apart_from-nil (behind (span start stop)) ∙ sym (apart_from-nil stop)
+  same_taken start stop (x ∷ later) all =
+      elim (cases_lt start stop) [
+        | inl longer ↦ ap (λ b. apart_from (if b then stop else start + 1) (x ∷ later)) (lt-ltb start stop longer)
+        | inr empty ↦
+            let next : behind (span start stop) ≡ start + 1 = ap (λ b. if b then stop else start + 1) (le-ltb start stop empty) in
+            ap (λ o. apart_from o (x ∷ later)) next
+            ∙ apart_from-taken (start + 1) x later (le-leb (start + 1) x.start (omega (arith, all.0)))
+            ∙ sym (apart_from-taken stop x later (le-leb stop x.start (omega (arith, all.0, empty))))
+      ]
+
+  goes_behind : (m : Span) → m.start < behind m
+  goes_behind m =
+      elim (cases_lt m.start m.stop) [
+        | inl longer ↦ let next : behind m ≡ m.stop = ap (λ b. if b then m.stop else m.start + 1) (lt-ltb m.start m.stop longer) in omega (arith, next, longer)
+        | inr empty ↦ let next : behind m ≡ m.start + 1 = ap (λ b. if b then m.stop else m.start + 1) (le-ltb m.start m.stop empty) in omega (arith, next)
+      ]
+
+  one_and_others : (offset : ℕ) (spans : List Span) → AllByRecursion (IsMatchWithin matches offset n) spans → InPairs RisesTo spans
+      → ((o : ℕ) → offset ≤ o → found_from matches n o ≡ apart_from o spans) → (m : Span) → Some m ≡ first_span spans → found_from matches n offset ≡ m ∷ found_from matches n (behind m)
+  one_and_others offset [] all rising is m e = cc
+  one_and_others offset (x ∷ later) all rising is m e =
+      let past = goes_behind x in
+      let later_ones : AllByRecursion (λ (m : Span). x.start < m.start) later = each_member (λ (m : Span). x.start < m.start) later (λ m at. (member_of (RisesTo x) m later rising.0 at).start) in
+      let first = is offset (omega arith) ∙ apart_from-taken offset x later (le-leb offset x.start all.0.from_low) in
+      let others : found_from matches n (behind x) ≡ apart_from x.stop later =
+      is (behind x) (omega (arith, past, all.0.from_low)) ∙ apart_from-passed (behind x) x later (lt-leb (behind x) x.start past) ∙ same_taken x.start x.stop later later_ones in
+      let here : found_from matches n offset ≡ x ∷ found_from matches n (behind x) = first ∙ ap (λ (l : List Span). x ∷ l) (sym others) in
+      subst (λ (m : Span). found_from matches n offset ≡ m ∷ found_from matches n (behind m)) (sym (same_Some m x e)) here
+
+  -- what is left, by what is given
+  pub left_behind : (offset : ℕ) (o : Option Span) → o ≡ first_span (found_from matches n offset) → found_from matches n offset ≡ option_to_list o ++ found_behind matches n offset o
+  left_behind offset None e = refl
+  left_behind offset (Some m) e =
+      one_and_others offset (least_to matches n offset) (within offset) (rise offset) (λ o before. from_offset offset o before) m (e ∙ first_found offset)
+
+  pub nothing_left : (offset : ℕ) (o : Option Span) → o ≡ first_span (found_from matches n offset) → o ≡ None → found_from matches n offset ≡ []
+  nothing_left offset o e none = empty (found_from matches n offset) (sym none ∙ e)
+    where
+      empty : (l : List Span) → None ≡ first_span l → l ≡ []
+      empty [] e = refl
+      empty (x ∷ l) e = cc

@@ -1,0 +1,54 @@
+use Rattle.std.proofs.Common.{◌≡◌, ◌<◌, ◌≤◌, ◌+◌, ◌-◌, true, List, Option, sym, ap, ◌∙◌, arith, rules}
+use Rattle.icu_search.specs.LeastMatches.{Span, shortest_from}
+use Rattle.icu_search.specs.Selections.{first_span}
+use Rattle.icu_search.specs.inner.HeldSpans.{joined, stops_before}
+use Rattle.icu_search.proofs.SelectionLemmas.{joined-none, joined-assoc, least_to, least_to-past, first_turn, first_found, held_stays, starts_below}
+use Rattle.icu_search.proofs.found_spans.first_least.Goals as goal
+
+pub loop-start-init : goal.loop-start-init
+loop-start-init g c = sym (first_found (g.M.MatchEnds.matches c.args.ends.now) (g.M.MatchEnds.char_len c.args.ends.now) c.args.offset)
+
+pub returns-then-stops_before-clause-least : goal.returns-then-stops_before-clause-least
+returns-then-stops_before-clause-least g c =
+    let stops : stops_before c.loop-start.held c.loop-start.start ≡ true = search rules in
+    sym (held_stays (g.M.MatchEnds.matches c.args.ends.now) (g.M.MatchEnds.char_len c.args.ends.now) c.loop-start.held c.loop-start.start stops)
+    ∙ c.loop-start.invariant
+
+pub returns-then-stops_before-clause-bound : goal.returns-then-stops_before-clause-bound
+returns-then-stops_before-clause-bound g c =
+    let matches = g.M.MatchEnds.matches c.args.ends.now in
+    let n = g.M.MatchEnds.char_len c.args.ends.now in
+    let small = rw c.char_count-count.ensures.count at c.char_count-count.ensures.bound in
+    let stops : stops_before c.loop-start.held c.loop-start.start ≡ true = search rules in
+    starts_below matches n c.args.offset c.loop-start.held (sym (held_stays matches n c.loop-start.held c.loop-start.start stops) ∙ c.loop-start.invariant) _ small
+
+pub loop-start-preserved : goal.loop-start-preserved
+loop-start-preserved g c =
+    let matches = g.M.MatchEnds.matches c.args.ends.now in
+    let n = g.M.MatchEnds.char_len c.args.ends.now in
+    let start = c.loop-start.start in
+    let held = c.loop-start.held in
+    let later = first_span (least_to matches n (start + 1)) in
+    let inside : start ≤ n = omega (arith, c.loop-start-test.true, c.char_count-count.ensures.count) in
+    let next : c.joined-held.result ≡ joined held (shortest_from matches start start (n - start)) = search rules in
+    ap (λ (o : Option Span). joined o later) next
+    ∙ joined-assoc held (shortest_from matches start start (n - start)) later
+    ∙ ap (joined held) (sym (first_turn matches n start inside))
+    ∙ c.loop-start.invariant
+
+pub returns-clause-least : goal.returns-clause-least
+returns-clause-least g c =
+    let matches = g.M.MatchEnds.matches c.args.ends.now in
+    let n = g.M.MatchEnds.char_len c.args.ends.now in
+    let held = c.loop-start.held in
+    let past : n < c.loop-start.start = omega (arith, c.loop-start-test.false, c.char_count-count.ensures.count) in
+    sym (joined-none held) ∙ ap (λ (l : List Span). joined held (first_span l)) (sym (least_to-past matches n c.loop-start.start past)) ∙ c.loop-start.invariant
+
+pub returns-clause-bound : goal.returns-clause-bound
+returns-clause-bound g c =
+    let matches = g.M.MatchEnds.matches c.args.ends.now in
+    let n = g.M.MatchEnds.char_len c.args.ends.now in
+    let held = c.loop-start.held in
+    let small = rw c.char_count-count.ensures.count at c.char_count-count.ensures.bound in
+    let past : n < c.loop-start.start = omega (arith, c.loop-start-test.false, c.char_count-count.ensures.count) in
+    starts_below matches n c.args.offset held (sym (joined-none held) ∙ ap (λ (l : List Span). joined held (first_span l)) (sym (least_to-past matches n c.loop-start.start past)) ∙ c.loop-start.invariant) _ small

@@ -1,0 +1,118 @@
+//! The matches that are found in a text, one after another.
+
+ghost use Rattle.std.specs.Prelude.{◌≡◌, ◌++◌, ◌<◌, ◌≤◌, ◌-◌, [], option_to_list, IfOk, IfSome, OnErr};
+ghost use Rattle.icu_search.specs.LeastMatches.{shortest_from};
+ghost use Rattle.icu_search.specs.Selections.{first_span, found_from};
+ghost use Rattle.icu_search.specs.inner.HeldSpans.{behind, joined, stops_before};
+ghost use Rattle.icu_search.specs.LeastMatches.{found_matches};
+
+use crate::char_span::CharSpan;
+use crate::match_ends::MatchEnds;
+use std::alloc::AllocError;
+
+/// The match that begins at an offset and ends first.
+fn shortest_at<M: MatchEnds>(ends: &M, start: usize) -> Result<Option<CharSpan>, AllocError>
+    requires { start ≤ M.char_len ends.now }
+    ensures { IfOk result (λ m. m
+        ≡ shortest_from (M.matches ends.now) start start (M.char_len ends.now - start)) }
+{
+    match ends.first_stop(start)? {
+        Some(stop) => Ok(Some(CharSpan::new(start, stop))),
+        None => Ok(None),
+    }
+}
+
+/// Of two matches, the second of which begins later, the one that is least: the later one, unless it ends later.
+fn joined(held: Option<CharSpan>, next: Option<CharSpan>) -> Option<CharSpan>
+    ensures { result ≡ joined held next }
+{
+    match (held, next) {
+        (None, next) => next,
+        (held, None) => held,
+        (Some(m), Some(l)) => {
+            if l.stop() <= m.stop() {
+                Some(l)
+            } else {
+                Some(m)
+            }
+        }
+    }
+}
+
+/// Whether a match ends before an offset.
+fn stops_before(held: Option<CharSpan>, offset: usize) -> bool
+    ensures { result ≡ stops_before held offset }
+{
+    match held {
+        Some(m) => m.stop() < offset,
+        None => false,
+    }
+}
+
+/// The first least match that begins at an offset or after it. Along the starts from there on, the last one is held of
+/// those matches that end first, and no start behind its end is looked at. Fails only where an allocation does.
+pub fn first_least<M: MatchEnds>(ends: &M, offset: usize) -> Result<Option<CharSpan>, AllocError>
+    ensures least { IfOk result (λ m. m
+        ≡ first_span (found_from (M.matches ends.now) (M.char_len ends.now) offset)) }
+    ensures bound { IfOk result (λ m. IfSome m (λ m. m.start < usize.MAX)) }
+{
+    let count = ends.char_count();
+    let mut held: Option<CharSpan> = None;
+    for start in offset..count + 1 {
+        if stops_before(held, start) {
+            return Ok(held);
+        }
+        held = joined(held, shortest_at(ends, start)?);
+    }
+    Ok(held)
+}
+
+/// Where the match after this one may begin: where it ends, or behind its start where it is empty.
+fn behind(m: CharSpan) -> usize
+    requires { m.start < usize.MAX }
+    ensures { result ≡ behind m }
+{
+    if m.start() < m.stop() {
+        m.stop()
+    } else {
+        m.start() + 1
+    }
+}
+
+/// The matches that are found in a text, one by one: those of the least ones that stand apart, from left to right.
+#[derive(Drop)]
+pub struct FoundSpans<'s, M> {
+    ends: &'s M,
+    offset: usize,
+}
+
+impl<'s, M: MatchEnds> FoundSpans<'s, M> {
+    ghost use Rattle.icu_search.specs.SpansLeft.{spans_left};
+
+    /// All that are found in the text whose matches end there.
+    #[tactic(auto, unfolding(crate::specs::SpansLeft::spans_left))]
+    pub fn new(ends: &'s M) -> FoundSpans<'s, M>
+        ensures { spans_left M.matches M.char_len result
+            ≡ found_matches (M.matches ends.entry.now) (M.char_len ends.entry.now) }
+    {
+        FoundSpans { ends, offset: 0 }
+    }
+
+    /// The next one, or `None` after the last. Fails only where an allocation does, and may be called again then.
+    #[tactic(auto, unfolding(crate::specs::SpansLeft::spans_left))]
+    pub fn next(&mut self) -> Result<Option<CharSpan>, AllocError>
+        ensures gives { IfOk result (λ m. spans_left M.matches M.char_len self.old
+            ≡ option_to_list m ++ spans_left M.matches M.char_len self.new) }
+        ensures end { IfOk result (λ m. m ≡ None → spans_left M.matches M.char_len self.old ≡ []) }
+        ensures same { OnErr result (spans_left M.matches M.char_len self.new
+            ≡ spans_left M.matches M.char_len self.old) }
+    {
+        match first_least(self.ends, self.offset)? {
+            Some(m) => {
+                self.offset = behind(m);
+                Ok(Some(m))
+            }
+            None => Ok(None),
+        }
+    }
+}
