@@ -1,0 +1,5 @@
+mod Computing
+mod SmallRoot
+mod WorkedOrders
+mod WorkedRules
+mod RootLemmas
