@@ -3,3 +3,4 @@ mod SmallRoot
 mod WorkedOrders
 mod WorkedRules
 mod RootLemmas
+mod TreeLemmas

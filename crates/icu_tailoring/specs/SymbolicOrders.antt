@@ -26,14 +26,22 @@ pub record NumbersTree (tree : WeightTree) (numbering : Numbering) : Type 0 wher
   pub ascends : (above : List SymbolicWeight) (v w : SymbolicWeight) → StandsBefore v w (tree above)
       → numbering (above ++ v ∷ []) < numbering (above ++ w ∷ [])
 
+-- the weights of each element
+abbrev pub weights_in : List SymbolicElement → List (List SymbolicWeight)
+weights_in = map (λ (e : SymbolicElement). e.weights)
+
 -- the numbers of elements at a level, without zeros (UTS #10, "Form Sort Keys")
 abbrev pub level_numbers : Numbering → ℕ → List SymbolicElement → List ℕ
-level_numbers numbering level es =
-    filter (λ w. not (w == 0)) (map (λ (e : SymbolicElement). numbering (take level e.weights)) es)
+level_numbers numbering level es = filter (λ w. not (w == 0)) (map (λ ws. numbering (take level ws)) (weights_in es))
 
 -- the order of elements at a level
 abbrev pub level_order : Numbering → ℕ → List SymbolicElement → List SymbolicElement → Ordering
 level_order numbering level es fs = list_order (level_numbers numbering level es) (level_numbers numbering level fs)
+
+-- what stands before another weight in one order does so in the other
+abbrev pub KeepsOrder : WeightTree → WeightTree → Type 0
+KeepsOrder tree later = (above : List SymbolicWeight) (v w : SymbolicWeight)
+    → StandsBefore v w (tree above) → StandsBefore v w (later above)
 
 -- elements are the same on the levels before this one, and the first are less here
 pub record AreLessAt (numbering : Numbering) (level : ℕ) (es fs : List SymbolicElement) : Type 0 where
