@@ -4,3 +4,5 @@ mod WorkedOrders
 mod WorkedRules
 mod RootLemmas
 mod TreeLemmas
+mod WholeElements
+mod RelationLemmas

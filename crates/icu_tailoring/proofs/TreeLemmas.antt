@@ -4,11 +4,11 @@ use Rattle.std.proofs.lemmas.Bool.{eqb-true, eq-eqb}
 use Rattle.icu_options.specs.declared.settings.Strength.{Strength}
 use Rattle.icu_options.specs.declared.settings.Strength.TheVariants.{Primary, Secondary, Tertiary, Quaternary, Identical}
 use Rattle.unicode_normalization.specs.Forms.{nfd}
-use Rattle.icu_tailoring.specs.Rules.{ResetPlace, Rule, reset, relation, suppression, level_of}
+use Rattle.icu_tailoring.specs.Rules.{ResetPlace, Rule, reset, relation, suppression}
 use Rattle.icu_tailoring.specs.SymbolicElements.{SymbolicWeight, rooted, tailored, SymbolicElement, is_same_weight, are_same_weights}
 use Rattle.icu_tailoring.specs.WeightTrees.{WeightTree, with_siblings, with_rooted, with_behind, with_weight, with_weights, with_new_weight, above_level, weight_at_level}
 use Rattle.icu_tailoring.specs.Roots.{Root, lesser_weight}
-use Rattle.icu_tailoring.specs.Steps.{TailoringState, counting_at, last_element, with_lesser, place_elements, before_step, reset_step, difference_step, strength_step, case_step, mapping_step, relation_step, suppression_step, rule_step, state_after}
+use Rattle.icu_tailoring.specs.Steps.{TailoringState, counting_at, last_element, with_lesser, place_elements, before_level, before_step, reset_step, difference_step, strength_step, case_step, mapping_step, relation_step, suppression_step, rule_step, state_after}
 use Rattle.icu_tailoring.specs.SymbolicOrders.{IsAmong, StandsBefore, KeepsOrder}
 
 pub either : {A : Type 0} (P : A → Type 0) (b : Bool) (x y : A) → (b ≡ true → P x) → (b ≡ false → P y) → P (if b then x else y)
@@ -146,7 +146,7 @@ reset_keeps : (root : Root) (before : Option Strength) (place : ResetPlace) (sta
 unfolding reset_step
 reset_keeps root None place state = λ other v w s. s
 reset_keeps root (Some strength) place state =
-    before_keeps root (level_of strength) (record state { elements = place_elements root state place })
+    before_keeps root (before_level strength) (record state { elements = place_elements root state place })
 
 difference_keeps : (level : ℕ) (state : TailoringState) → KeepsOrder state.tree (difference_step level state).tree
 unfolding difference_step

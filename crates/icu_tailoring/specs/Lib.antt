@@ -8,3 +8,4 @@ pub mod Positions
 pub mod Steps
 pub mod RootLaws
 pub mod SymbolicOrders
+pub mod RelationLaws

@@ -73,11 +73,17 @@ before_step root level state =
       elements = with_last_element counting (element_with (above ++ found ∷ []) (min level e.strength));
     }
 
+-- the level of `[before n]`, which is one of the first three
+abbrev pub before_level : Strength → ℕ
+before_level Primary = 1
+before_level Secondary = 2
+before_level _ = 3
+
 -- a reset: the elements of its place, or before it
 unfoldable pub reset_step : Root → Option Strength → ResetPlace → TailoringState → TailoringState
 reset_step root before place state =
     let at : TailoringState = record state { elements = place_elements root state place } in
-    elim before [ None ↦ at | Some strength ↦ before_step root (level_of strength) at ]
+    elim before [ None ↦ at | Some strength ↦ before_step root (before_level strength) at ]
 
 -- a difference of a level: the last element that counts there gets a new weight directly behind its own
 unfoldable pub difference_step : ℕ → TailoringState → TailoringState
