@@ -5,4 +5,5 @@ mod WorkedRules
 mod RootLemmas
 mod TreeLemmas
 mod WholeElements
+mod WholeStates
 mod RelationLemmas

@@ -15,8 +15,9 @@ use Rattle.icu_tailoring.specs.Mappings.{root_mappings, symbolic_elements}
 use Rattle.icu_tailoring.specs.Cases.{counts_first_at, with_case_bits, upper_case, with_cases, cases_for, cases_of, primary_elements, cased_elements}
 use Rattle.icu_tailoring.specs.Steps.{TailoringState, first_state, counting_at, last_element, with_last_element, difference_step, strength_step, case_step, mapping_step, relation_step, rule_step, state_after, tailoring_of}
 use Rattle.icu_tailoring.specs.SymbolicOrders.{Numbering, NumbersTree, StandsBefore, KeepsOrder, weights_in, level_numbers, level_order, AreLessAt}
-use Rattle.icu_tailoring.specs.RelationLaws.{AreRelated}
+use Rattle.icu_tailoring.specs.RelationLaws.{AreRelated, elements_at, RelationsHold, UnmovedStringsAreRelated}
 use Rattle.icu_tailoring.proofs.TreeLemmas.{either, are_themselves, stands_behind, mapping_tree, state_keeps}
+use Rattle.icu_tailoring.proofs.WholeStates.{tailoring_whole}
 use Rattle.icu_tailoring.proofs.WholeElements.{IsWhole, AreWhole, ignorable_is_whole, counting_whole, last_whole, same_before, new_number, own_number, zero_before}
 
 -- ---- numbers that aren't 0
@@ -233,3 +234,14 @@ relation_holds root earlier later strength prefix string extension numbering ws 
     subst (λ (s : TailoringState). AreRelated numbering strength before.elements s.elements)
       (sym (state_after-append root (first_state root) earlier (rule ∷ [])))
       (relation_related root last.tree numbering numbers strength prefix string extension before ws (state_keeps root after later))
+
+pub rules_hold : RelationsHold
+rules_hold root earlier later strength prefix string extension numbering g =
+    relation_holds root earlier later strength prefix string extension numbering (tailoring_whole root earlier).elements g
+
+pub unmoved_strings : UnmovedStringsAreRelated
+unmoved_strings root earlier later strength other string numbering g x y =
+    let last = tailoring_of root (earlier ++ relation strength [] string [] ∷ later) in
+    subst (λ es. AreRelated numbering strength es (symbolic_elements last.mappings (nfd string))) (sym x)
+      (subst (λ fs. AreRelated numbering strength (elements_at root earlier) fs) (sym y)
+        (rules_hold root earlier later strength [] string [] numbering g))

@@ -1,9 +1,21 @@
-//! What rules of a tailoring mean (UTS #35 part 5, "Collation Tailorings"), as definitions, and laws over them.
+//! What the rules of a tailoring mean (UTS #35 part 5, "Collation Tailorings"), as definitions, and laws over them.
+//! Each law is the contract of a function that takes no value and makes no call.
 #![tactic(auto)]
 
+ghost use Rattle.icu_tailoring.specs.RelationLaws.{RelationsHold, UnmovedStringsAreRelated};
 ghost use Rattle.icu_tailoring.specs.RootLaws.{UntouchedTextsKeepElements};
 
 /// A text none of whose decomposed characters is touched by a rule has the elements that it has in the root.
 pub fn untouched_texts_keep_elements()
     ensures { UntouchedTextsKeepElements }
+{}
+
+/// A relation makes a difference of its strength, whatever rules follow, and whatever numbers the weights get in their
+/// order.
+pub fn relations_hold()
+    // The elements that it gives its string differ so from those of the rule before.
+    ensures elements { RelationsHold }
+
+    // So do two strings that no later rule moved.
+    ensures strings { UnmovedStringsAreRelated }
 {}
