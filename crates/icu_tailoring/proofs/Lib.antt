@@ -7,3 +7,4 @@ mod TreeLemmas
 mod WholeElements
 mod WholeStates
 mod RelationLemmas
+mod BetweenLemmas

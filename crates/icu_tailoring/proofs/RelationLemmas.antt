@@ -1,5 +1,5 @@
 -- Relations hold, whatever rules follow.
-use Rattle.std.proofs.Common.{◌≡◌, ℕ, zero, suc, ◌+◌, ◌<◌, ◌≤◌, min, Bool, true, false, cond, not, ◌==◌, nat_le, ◌⊎◌, inl, inr, List, [], ◌∷◌, ◌++◌, length, map, filter, take, Option, Some, None, if◌then◌else◌, Less, refl, ap, sym, subst, ◌∙◌, arith}
+use Rattle.std.proofs.Common.{◌≡◌, ℕ, ◌<◌, ◌≤◌, min, true, false, cond, not, ◌==◌, nat_le, inl, inr, List, [], ◌∷◌, ◌++◌, length, map, filter, take, if◌then◌else◌, Less, refl, ap, sym, subst, ◌∙◌, arith}
 use Rattle.std.proofs.lemmas.Bool.{cases_Bool, true≢false}
 use Rattle.std.proofs.lemmas.Bool.Decides.{nat_tests}
 use Rattle.icu_levels.specs.ListOrder.{list_order}
@@ -7,18 +7,18 @@ use Rattle.icu_levels.proofs.Order.{less_head, same_head}
 use Rattle.icu_options.specs.declared.settings.Strength.{Strength}
 use Rattle.icu_options.specs.declared.settings.Strength.TheVariants.{Primary, Secondary, Tertiary, Quaternary, Identical}
 use Rattle.unicode_normalization.specs.Forms.{nfd}
-use Rattle.icu_tailoring.specs.Rules.{Rule, relation, level_of}
-use Rattle.icu_tailoring.specs.SymbolicElements.{SymbolicWeight, rooted, tailored, SymbolicElement, are_same_weights, element_with, ignorable}
+use Rattle.icu_tailoring.specs.Rules.{Rule, relation}
+use Rattle.icu_tailoring.specs.SymbolicElements.{SymbolicWeight, tailored, SymbolicElement, are_same_weights, element_with, ignorable}
 use Rattle.icu_tailoring.specs.WeightTrees.{WeightTree, with_behind, with_weights, with_new_weight, above_level, weight_at_level}
 use Rattle.icu_tailoring.specs.Roots.{Root}
 use Rattle.icu_tailoring.specs.Mappings.{root_mappings, symbolic_elements}
-use Rattle.icu_tailoring.specs.Cases.{counts_first_at, with_case_bits, upper_case, with_cases, cases_for, cases_of, primary_elements, cased_elements}
+use Rattle.icu_tailoring.specs.Cases.{counts_first_at, with_case_bits, upper_case, with_cases, cases_for, cases_of, primary_elements}
 use Rattle.icu_tailoring.specs.Steps.{TailoringState, first_state, counting_at, last_element, with_last_element, difference_step, strength_step, case_step, mapping_step, relation_step, rule_step, state_after, tailoring_of}
 use Rattle.icu_tailoring.specs.SymbolicOrders.{Numbering, NumbersTree, StandsBefore, KeepsOrder, weights_in, level_numbers, level_order, AreLessAt}
 use Rattle.icu_tailoring.specs.RelationLaws.{AreRelated, elements_at, RelationsHold, UnmovedStringsAreRelated}
 use Rattle.icu_tailoring.proofs.TreeLemmas.{either, are_themselves, stands_behind, mapping_tree, state_keeps}
 use Rattle.icu_tailoring.proofs.WholeStates.{tailoring_whole}
-use Rattle.icu_tailoring.proofs.WholeElements.{IsWhole, AreWhole, ignorable_is_whole, counting_whole, last_whole, same_before, new_number, own_number, zero_before}
+use Rattle.icu_tailoring.proofs.WholeElements.{AreWhole, ignorable_is_whole, counting_whole, last_whole, same_before, new_number, own_number, zero_before}
 
 -- ---- numbers that aren't 0
 
@@ -73,7 +73,7 @@ kept_numbers : (numbering : Numbering) (n level : ℕ) (e : SymbolicElement) (re
     ≡ level_numbers numbering level (e ∷ rest)
 kept_numbers numbering n level e [] z =
     either (λ es. level_numbers numbering level es ≡ level_numbers numbering level (e ∷ [])) (nat_le e.strength n) (e ∷ []) []
-      (λ _. refl) (λ b. sym (zero_more (numbering (take level e.weights)) [] (z (weaker e.strength n b))))
+    (λ _. refl) (λ b. sym (zero_more (numbering (take level e.weights)) [] (z (weaker e.strength n b))))
 kept_numbers numbering n level e (f ∷ fs) z = refl
 
 counting_numbers : (tree : WeightTree) (numbering : Numbering) → NumbersTree tree numbering → (n level : ℕ)
@@ -83,9 +83,9 @@ unfolding counting_at
 counting_numbers tree numbering g n level p q r [] ws = refl
 counting_numbers tree numbering g n level p q r (e ∷ es) (w, ws) =
     kept_numbers numbering n level e (counting_at n es)
-      (λ h. zero_before tree numbering g level e p (omega (arith, q, r)) (omega (arith, q, h)) w)
+    (λ h. zero_before tree numbering g level e p (omega (arith, q, r)) (omega (arith, q, h)) w)
     ∙ one_more (numbering (take level e.weights)) (numbers_in numbering level (counting_at n es)) (numbers_in numbering level es)
-      (counting_numbers tree numbering g n level p q r es ws)
+    (counting_numbers tree numbering g n level p q r es ws)
 
 -- ---- another last element
 
@@ -97,19 +97,19 @@ last_same numbering level [] new z e = sym (zero_more (numbering (take level new
 last_same numbering level (e ∷ []) new z same = ap (λ n. nonzero (n ∷ [])) (sym same)
 last_same numbering level (e ∷ f ∷ es) new z same =
     one_more (numbering (take level e.weights)) (numbers_in numbering level (f ∷ es))
-      (numbers_in numbering level (with_last_element (f ∷ es) new)) (last_same numbering level (f ∷ es) new z same)
+    (numbers_in numbering level (with_last_element (f ∷ es) new)) (last_same numbering level (f ∷ es) new z same)
 
 last_less : (numbering : Numbering) (level : ℕ) (es : List SymbolicElement) (new : SymbolicElement)
     → numbering (take level (last_element es).weights) < numbering (take level new.weights)
     → level_order numbering level es (with_last_element es new) ≡ Less
 last_less numbering level [] new l =
     none_less (numbering (take level new.weights))
-      (not_zero (numbering (take level ignorable.weights)) (numbering (take level new.weights)) l)
+    (not_zero (numbering (take level ignorable.weights)) (numbering (take level new.weights)) l)
 last_less numbering level (e ∷ []) new l =
     one_less (numbering (take level e.weights)) (numbering (take level new.weights)) l
 last_less numbering level (e ∷ f ∷ es) new l =
     less_more (numbering (take level e.weights)) (numbers_in numbering level (f ∷ es))
-      (numbers_in numbering level (with_last_element (f ∷ es) new)) (last_less numbering level (f ∷ es) new l)
+    (numbers_in numbering level (with_last_element (f ∷ es) new)) (last_less numbering level (f ∷ es) new l)
 
 -- ---- a difference
 
@@ -120,7 +120,7 @@ new_stands tree level ws new =
     let placed = with_weights tree [] (take level ws) in
     let w = weight_at_level level ws in
     either (StandsBefore w new) (are_same_weights above above) (with_behind w new (placed above)) (placed above)
-      (λ _. stands_behind w new (placed above)) (λ e. absurd (true≢false (sym (are_themselves above) ∙ e)))
+    (λ _. stands_behind w new (placed above)) (λ e. absurd (true≢false (sym (are_themselves above) ∙ e)))
 
 pub difference_less : (tree : WeightTree) (numbering : Numbering) → NumbersTree tree numbering → (n : ℕ) → 1 ≤ n → n ≤ 4
     → (state : TailoringState) → AreWhole state.elements → KeepsOrder (difference_step n state).tree tree
@@ -134,20 +134,20 @@ difference_less tree numbering g n p q state ws keeps =
     let above = above_level n e.weights in
     let new = element_with (above ++ x ∷ []) (min n e.strength) in
     let ascends = g.ascends above (weight_at_level n e.weights) x
-      (keeps above (weight_at_level n e.weights) x (new_stands state.tree n e.weights x)) in
+    (keeps above (weight_at_level n e.weights) x (new_stands state.tree n e.weights x)) in
     let own = own_number numbering n e p q w in
     let news = new_number numbering n e x (min n e.strength) p q w in
     let less : numbering (take n e.weights) < numbering (take n new.weights) = subst (λ a. a < numbering (take n new.weights)) (sym own) (subst (λ b. numbering (above ++ weight_at_level n e.weights ∷ []) < b) (sym news) ascends) in
     record {
       same = λ level a b.
-        sym (counting_numbers tree numbering g n level a (omega (arith, b)) q state.elements ws)
-        ∙ last_same numbering level counting new
+          sym (counting_numbers tree numbering g n level a (omega (arith, b)) q state.elements ws)
+          ∙ last_same numbering level counting new
           (zero_before tree numbering g level ignorable a (omega (arith, b, q)) (omega (arith, b, q)) ignorable_is_whole)
           (same_before numbering n level e x (min n e.strength) a b q w);
       less =
-        ap (λ z. list_order z (level_numbers numbering n (with_last_element counting new)))
+          ap (λ z. list_order z (level_numbers numbering n (with_last_element counting new)))
           (sym (counting_numbers tree numbering g n n p (omega arith) q state.elements ws))
-        ∙ last_less numbering n counting new less;
+          ∙ last_less numbering n counting new less;
     }
 
 -- ---- case bits change no weight
@@ -159,9 +159,9 @@ cases_weights [] (e ∷ es) = ap (λ ws. e.weights ∷ ws) (cases_weights [] es)
 cases_weights (c ∷ cases) (e ∷ es) =
     let other = with_case_bits e (if counts_first_at 3 e then upper_case else 0) in
     either (λ fs. weights_in fs ≡ weights_in (e ∷ es)) (counts_first_at 1 e)
-      (with_case_bits e c ∷ with_cases cases es) (other ∷ with_cases (c ∷ cases) es)
-      (λ _. ap (λ ws. e.weights ∷ ws) (cases_weights cases es))
-      (λ _. ap (λ ws. e.weights ∷ ws) (cases_weights (c ∷ cases) es))
+    (with_case_bits e c ∷ with_cases cases es) (other ∷ with_cases (c ∷ cases) es)
+    (λ _. ap (λ ws. e.weights ∷ ws) (cases_weights cases es))
+    (λ _. ap (λ ws. e.weights ∷ ws) (cases_weights (c ∷ cases) es))
 
 abbrev numbers_by : Numbering → ℕ → List (List SymbolicWeight) → List ℕ
 numbers_by numbering level all = nonzero (map (λ ws. numbering (take level ws)) all)
@@ -187,16 +187,16 @@ related : (tree : WeightTree) (numbering : Numbering) → NumbersTree tree numbe
     → AreRelated numbering strength state.elements fs
 related tree numbering g Primary state fs ws keeps e =
     less_by_weights numbering 1 state.elements (difference_step 1 state).elements fs e
-      (difference_less tree numbering g 1 (omega arith) (omega arith) state ws keeps)
+    (difference_less tree numbering g 1 (omega arith) (omega arith) state ws keeps)
 related tree numbering g Secondary state fs ws keeps e =
     less_by_weights numbering 2 state.elements (difference_step 2 state).elements fs e
-      (difference_less tree numbering g 2 (omega arith) (omega arith) state ws keeps)
+    (difference_less tree numbering g 2 (omega arith) (omega arith) state ws keeps)
 related tree numbering g Tertiary state fs ws keeps e =
     less_by_weights numbering 3 state.elements (difference_step 3 state).elements fs e
-      (difference_less tree numbering g 3 (omega arith) (omega arith) state ws keeps)
+    (difference_less tree numbering g 3 (omega arith) (omega arith) state ws keeps)
 related tree numbering g Quaternary state fs ws keeps e =
     less_by_weights numbering 4 state.elements (difference_step 4 state).elements fs e
-      (difference_less tree numbering g 4 (omega arith) (omega arith) state ws keeps)
+    (difference_less tree numbering g 4 (omega arith) (omega arith) state ws keeps)
 related tree numbering g Identical state fs ws keeps e = λ level. ap (numbers_by numbering level) (sym e)
 
 relation_related : (root : Root) (tree : WeightTree) (numbering : Numbering) → NumbersTree tree numbering
@@ -210,9 +210,9 @@ relation_related root tree numbering g strength prefix string extension state ws
     let of_string = symbolic_elements (root_mappings root) (nfd string) in
     let es = different.elements ++ symbolic_elements state.mappings (nfd extension) in
     related tree numbering g strength state (mapping_step (nfd prefix) (nfd string) es different).elements ws
-      (subst (λ t. KeepsOrder t tree) (mapping_tree (nfd prefix) (nfd string) es different) keeps)
-      (ap weights_in (mapping_elements (nfd prefix) (nfd string) es different)
-      ∙ cases_weights (cases_for (length (primary_elements stepped.elements)) (cases_of of_string)) stepped.elements)
+    (subst (λ t. KeepsOrder t tree) (mapping_tree (nfd prefix) (nfd string) es different) keeps)
+    (ap weights_in (mapping_elements (nfd prefix) (nfd string) es different)
+    ∙ cases_weights (cases_for (length (primary_elements stepped.elements)) (cases_of of_string)) stepped.elements)
 
 pub state_after-append : (root : Root) (state : TailoringState) (rules more : List Rule)
     → state_after root state (rules ++ more) ≡ state_after root (state_after root state rules) more
@@ -223,17 +223,17 @@ pub relation_holds : (root : Root) (earlier later : List Rule) (strength : Stren
     (numbering : Numbering) → AreWhole (tailoring_of root earlier).elements
     → NumbersTree (tailoring_of root (earlier ++ relation strength prefix string extension ∷ later)).tree numbering
     → AreRelated numbering strength (tailoring_of root earlier).elements
-      (tailoring_of root (earlier ++ relation strength prefix string extension ∷ [])).elements
+    (tailoring_of root (earlier ++ relation strength prefix string extension ∷ [])).elements
 relation_holds root earlier later strength prefix string extension numbering ws g =
     let rule = relation strength prefix string extension in
     let before = tailoring_of root earlier in
     let after = rule_step root before rule in
     let last = state_after root after later in
     let numbers : NumbersTree last.tree numbering =
-      subst (λ (s : TailoringState). NumbersTree s.tree numbering) (state_after-append root (first_state root) earlier (rule ∷ later)) g in
+    subst (λ (s : TailoringState). NumbersTree s.tree numbering) (state_after-append root (first_state root) earlier (rule ∷ later)) g in
     subst (λ (s : TailoringState). AreRelated numbering strength before.elements s.elements)
-      (sym (state_after-append root (first_state root) earlier (rule ∷ [])))
-      (relation_related root last.tree numbering numbers strength prefix string extension before ws (state_keeps root after later))
+    (sym (state_after-append root (first_state root) earlier (rule ∷ [])))
+    (relation_related root last.tree numbering numbers strength prefix string extension before ws (state_keeps root after later))
 
 pub rules_hold : RelationsHold
 rules_hold root earlier later strength prefix string extension numbering g =
@@ -243,5 +243,5 @@ pub unmoved_strings : UnmovedStringsAreRelated
 unmoved_strings root earlier later strength other string numbering g x y =
     let last = tailoring_of root (earlier ++ relation strength [] string [] ∷ later) in
     subst (λ es. AreRelated numbering strength es (symbolic_elements last.mappings (nfd string))) (sym x)
-      (subst (λ fs. AreRelated numbering strength (elements_at root earlier) fs) (sym y)
-        (rules_hold root earlier later strength [] string [] numbering g))
+    (subst (λ fs. AreRelated numbering strength (elements_at root earlier) fs) (sym y)
+    (rules_hold root earlier later strength [] string [] numbering g))

@@ -1,6 +1,5 @@
 -- A small root for worked rules: some letters of three scripts with their capitals, marks, digits and symbols.
-use Rattle.std.proofs.Common.{ℕ, Bool, true, false, ◌==◌, ◌+◌, List, [], ◌∷◌, map, filter, if◌then◌else◌, Some, None, Option}
-use Rattle.std.specs.List.{list_any, find}
+use Rattle.std.proofs.Common.{ℕ, ◌==◌, List, [], ◌∷◌, map, if◌then◌else◌, Some, None, Option}
 use Rattle.icu_entries.specs.Elements.{Element, of_primary, of_secondary, common}
 use Rattle.icu_tailoring.specs.Roots.{RootMapping, Root}
 

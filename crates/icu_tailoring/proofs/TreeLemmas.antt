@@ -1,5 +1,5 @@
 -- Rules put weights between others, and move none.
-use Rattle.std.proofs.Common.{◌≡◌, ℕ, zero, suc, Bool, true, false, ◌==◌, ◌&&◌, ◌⊎◌, inl, inr, nat_lt, List, [], ◌∷◌, ◌++◌, take, Option, Some, None, if◌then◌else◌, refl, ap, sym, subst, ◌∙◌}
+use Rattle.std.proofs.Common.{◌≡◌, ℕ, Bool, true, false, ◌==◌, ◌&&◌, inl, inr, nat_lt, List, [], ◌∷◌, ◌++◌, take, Option, Some, None, if◌then◌else◌, refl, ap, sym, subst, ◌∙◌}
 use Rattle.std.proofs.lemmas.Bool.{eqb-true, eq-eqb}
 use Rattle.icu_options.specs.declared.settings.Strength.{Strength}
 use Rattle.icu_options.specs.declared.settings.Strength.TheVariants.{Primary, Secondary, Tertiary, Quaternary, Identical}
@@ -17,7 +17,7 @@ either P false x y p q = q refl
 
 -- ---- the same weights
 
-same_weight_is : (v w : SymbolicWeight) → is_same_weight v w ≡ true → v ≡ w
+pub same_weight_is : (v w : SymbolicWeight) → is_same_weight v w ≡ true → v ≡ w
 same_weight_is (rooted v) (rooted w) e = ap rooted (eqb-true v w e)
 same_weight_is (tailored v) (tailored w) e = ap tailored (eqb-true v w e)
 same_weight_is (rooted v) (tailored w) e = cc
@@ -31,7 +31,7 @@ both_are : (a b : Bool) → (a && b) ≡ true → (a ≡ true) × (b ≡ true)
 both_are true b e = (refl, e)
 both_are false b e = cc
 
-same_weights_are : (vs ws : List SymbolicWeight) → are_same_weights vs ws ≡ true → vs ≡ ws
+pub same_weights_are : (vs ws : List SymbolicWeight) → are_same_weights vs ws ≡ true → vs ≡ ws
 same_weights_are [] [] e = refl
 same_weights_are [] (w ∷ ws) e = cc
 same_weights_are (v ∷ vs) [] e = cc
@@ -54,7 +54,7 @@ among_rooted n w (rooted u ∷ xs) a =
     let further : IsAmong w (rooted u ∷ with_rooted n xs) = elim a [ inl e ↦ inl e | inr b ↦ inr (among_rooted n w xs b) ] in
     let later : List SymbolicWeight = if nat_lt n u then rooted n ∷ rooted u ∷ xs else rooted u ∷ with_rooted n xs in
     either (IsAmong w) (n == u) (rooted u ∷ xs) later (λ _. a)
-      (λ _. either (IsAmong w) (nat_lt n u) (rooted n ∷ rooted u ∷ xs) (rooted u ∷ with_rooted n xs) (λ _. inr a) (λ _. further))
+    (λ _. either (IsAmong w) (nat_lt n u) (rooted n ∷ rooted u ∷ xs) (rooted u ∷ with_rooted n xs) (λ _. inr a) (λ _. further))
 
 keeps_rooted : (n : ℕ) (v w : SymbolicWeight) (xs : List SymbolicWeight) → StandsBefore v w xs
     → StandsBefore v w (with_rooted n xs)
@@ -69,7 +69,7 @@ keeps_rooted n v w (rooted u ∷ xs) s =
     ] in
     let later : List SymbolicWeight = if nat_lt n u then rooted n ∷ rooted u ∷ xs else rooted u ∷ with_rooted n xs in
     either (StandsBefore v w) (n == u) (rooted u ∷ xs) later (λ _. s)
-      (λ _. either (StandsBefore v w) (nat_lt n u) (rooted n ∷ rooted u ∷ xs) (rooted u ∷ with_rooted n xs) (λ _. inr s) (λ _. further))
+    (λ _. either (StandsBefore v w) (nat_lt n u) (rooted n ∷ rooted u ∷ xs) (rooted u ∷ with_rooted n xs) (λ _. inr s) (λ _. further))
 
 among_behind : (x new w : SymbolicWeight) (xs : List SymbolicWeight) → IsAmong w xs → IsAmong w (with_behind x new xs)
 unfolding with_behind
@@ -97,7 +97,7 @@ unfolding with_behind
 stands_behind w new [] = inl (refl, inl refl)
 stands_behind w new (u ∷ xs) =
     either (StandsBefore w new) (is_same_weight u w) (u ∷ new ∷ xs) (u ∷ with_behind w new xs)
-      (λ e. inl (same_weight_is u w e, inl refl)) (λ _. inr (stands_behind w new xs))
+    (λ e. inl (same_weight_is u w e, inl refl)) (λ _. inr (stands_behind w new xs))
 
 -- ---- in the tree
 
@@ -106,7 +106,7 @@ siblings_keep : (tree : WeightTree) (above siblings : List SymbolicWeight)
     → KeepsOrder tree (with_siblings tree above siblings)
 siblings_keep tree above siblings keeps other v w s =
     either (StandsBefore v w) (are_same_weights other above) siblings (tree other)
-      (λ e. keeps v w (subst (λ o. StandsBefore v w (tree o)) (same_weights_are other above e) s)) (λ _. s)
+    (λ e. keeps v w (subst (λ o. StandsBefore v w (tree o)) (same_weights_are other above e) s)) (λ _. s)
 
 weight_keeps : (tree : WeightTree) (above : List SymbolicWeight) (w : SymbolicWeight)
     → KeepsOrder tree (with_weight tree above w)
@@ -126,8 +126,8 @@ new_weight_keeps tree level ws new = λ other v w s.
     let above = above_level level ws in
     let placed = with_weights tree [] (take level ws) in
     siblings_keep placed above (with_behind (weight_at_level level ws) new (placed above))
-      (λ a b. keeps_behind (weight_at_level level ws) new a b (placed above)) other v w
-      (weights_keep tree [] (take level ws) other v w s)
+    (λ a b. keeps_behind (weight_at_level level ws) new a b (placed above)) other v w
+    (weights_keep tree [] (take level ws) other v w s)
 
 lesser_keeps : (root : Root) (tree : WeightTree) (above : List SymbolicWeight) (w : SymbolicWeight)
     → KeepsOrder tree (with_lesser root tree above w)
@@ -139,7 +139,7 @@ unfolding before_step
 before_keeps root level state = λ other v w s.
     let e = last_element (counting_at level state.elements) in
     lesser_keeps root (with_weights state.tree [] (take level e.weights)) (above_level level e.weights)
-      (weight_at_level level e.weights) other v w (weights_keep state.tree [] (take level e.weights) other v w s)
+    (weight_at_level level e.weights) other v w (weights_keep state.tree [] (take level e.weights) other v w s)
 
 reset_keeps : (root : Root) (before : Option Strength) (place : ResetPlace) (state : TailoringState)
     → KeepsOrder state.tree (reset_step root before place state).tree
@@ -170,8 +170,8 @@ unfolding relation_step suppression_step
 rule_keeps root state (reset before place) = reset_keeps root before place state
 rule_keeps root state (relation strength prefix string extension) = λ other v w s.
     subst (λ (t : WeightTree). StandsBefore v w (t other))
-      (sym (mapping_tree (nfd prefix) (nfd string) _ (case_step root (nfd string) (strength_step strength state))))
-      (strength_keeps strength state other v w s)
+    (sym (mapping_tree (nfd prefix) (nfd string) _ (case_step root (nfd string) (strength_step strength state))))
+    (strength_keeps strength state other v w s)
 rule_keeps root state (suppression ranges) = λ other v w s. s
 
 -- what stands before another weight does so whatever rules follow

@@ -1,10 +1,10 @@
 -- Elements of four weights, of which those before the first level that counts are 0.
-use Rattle.std.proofs.Common.{◌≡◌, ℕ, zero, suc, ◌+◌, ◌<◌, ◌≤◌, min, Bool, true, false, nat_le, List, [], ◌∷◌, ◌++◌, take, if◌then◌else◌, refl, ap, sym, subst, ◌∙◌, arith}
+use Rattle.std.proofs.Common.{◌≡◌, ℕ, zero, suc, ◌<◌, ◌≤◌, min, nat_le, List, [], ◌∷◌, ◌++◌, take, if◌then◌else◌, refl, ap, sym, ◌∙◌, arith}
 use Rattle.std.proofs.Math.Nat.{min-le_left, min-le_right}
 use Rattle.std.specs.List.{AllByRecursion}
-use Rattle.icu_tailoring.specs.SymbolicElements.{SymbolicWeight, rooted, tailored, SymbolicElement, common_below, to_all_levels, element_with, ignorable}
+use Rattle.icu_tailoring.specs.SymbolicElements.{SymbolicWeight, rooted, SymbolicElement, common_below, to_all_levels, element_with, ignorable}
 use Rattle.icu_tailoring.specs.WeightTrees.{WeightTree, above_level, weight_at_level}
-use Rattle.icu_tailoring.specs.Steps.{counting_at, last_element, front_elements, with_last_element}
+use Rattle.icu_tailoring.specs.Steps.{counting_at, last_element, with_last_element}
 use Rattle.icu_tailoring.specs.SymbolicOrders.{Numbering, NumbersTree}
 use Rattle.icu_tailoring.proofs.TreeLemmas.{either}
 
@@ -164,15 +164,15 @@ pub zero_before : (tree : WeightTree) (numbering : Numbering) → NumbersTree tr
     → 1 ≤ level → level ≤ 4 → level < e.strength → IsWhole e → numbering (take level e.weights) ≡ 0
 zero_before tree numbering n zero e p q h w = absurd (omega arith)
 zero_before tree numbering n (suc zero) e p q h w =
-    ap (λ ws. numbering (take 1 ws)) w.weights ∙ ap (λ x. numbering (x ∷ [])) (w.no_primary h) ∙ n.rooted [] 0
+    ap (λ ws. numbering (take 1 ws)) w.weights ∙ ap (λ x. numbering (x ∷ [])) (w.no_primary h) ∙ n.zero []
 zero_before tree numbering n (suc (suc zero)) e p q h w =
     ap (λ ws. numbering (take 2 ws)) w.weights ∙ ap (λ x. numbering (w.primary ∷ x ∷ [])) (w.no_secondary h)
-    ∙ n.rooted (w.primary ∷ []) 0
+    ∙ n.zero (w.primary ∷ [])
 zero_before tree numbering n (suc (suc (suc zero))) e p q h w =
     ap (λ ws. numbering (take 3 ws)) w.weights ∙ ap (λ x. numbering (w.primary ∷ w.secondary ∷ x ∷ [])) (w.no_tertiary h)
-    ∙ n.rooted (w.primary ∷ w.secondary ∷ []) 0
+    ∙ n.zero (w.primary ∷ w.secondary ∷ [])
 zero_before tree numbering n (suc (suc (suc (suc zero)))) e p q h w =
     ap (λ ws. numbering (take 4 ws)) w.weights
     ∙ ap (λ x. numbering (w.primary ∷ w.secondary ∷ w.tertiary ∷ x ∷ [])) (w.no_quaternary h)
-    ∙ n.rooted (w.primary ∷ w.secondary ∷ w.tertiary ∷ []) 0
+    ∙ n.zero (w.primary ∷ w.secondary ∷ w.tertiary ∷ [])
 zero_before tree numbering n (suc (suc (suc (suc (suc level))))) e p q h w = absurd (omega arith)

@@ -1,6 +1,5 @@
 -- All elements that rules come to have four weights, of which those before the first level that counts are 0.
-use Rattle.std.proofs.Common.{◌≡◌, ℕ, zero, suc, ◌+◌, ◌<◌, ◌≤◌, min, Bool, true, false, cond, not, ◌==◌, nat_eq, nat_lt, ◌&&◌, List, [], ◌∷◌, ◌++◌, length, map, filter, take, drop, Option, Some, None, if◌then◌else◌, refl, ap, sym, subst, ◌∙◌, arith, bytes_eq}
-use Rattle.std.proofs.lemmas.Bool.Decides.{nat_tests}
+use Rattle.std.proofs.Common.{◌≡◌, ℕ, ◌+◌, ◌<◌, ◌≤◌, Bool, true, false, not, ◌==◌, nat_eq, nat_lt, ◌&&◌, List, [], ◌∷◌, ◌++◌, length, map, filter, drop, Option, Some, None, if◌then◌else◌, refl, ap, arith, bytes_eq}
 use Rattle.std.proofs.lemmas.Bool.{eqb-true}
 use Rattle.std.specs.List.{AllByRecursion, list_any, starts_with}
 use Rattle.icu_options.specs.declared.settings.Strength.{Strength}
@@ -11,13 +10,13 @@ use Rattle.unicode_normalization.specs.Forms.{nfd}
 use Rattle.unicode_normalization.specs.Order.{is_starter}
 use Rattle.icu_entries.specs.Elements.{Element}
 use Rattle.icu_tailoring.specs.Rules.{ResetPlace, at_string, at_position, Rule, reset, relation, suppression, have_character}
-use Rattle.icu_tailoring.specs.SymbolicElements.{SymbolicWeight, rooted, tailored, SymbolicElement, is_tailored, common_below, to_all_levels, element_with, ignorable, first_level, tertiary_of, quaternary_of, weights_of, of_root}
-use Rattle.icu_tailoring.specs.WeightTrees.{WeightTree, with_weights, directly_before, above_level, weight_at_level}
+use Rattle.icu_tailoring.specs.SymbolicElements.{SymbolicWeight, rooted, tailored, SymbolicElement, is_tailored, to_all_levels, element_with, first_level, tertiary_of, quaternary_of, of_root}
+use Rattle.icu_tailoring.specs.WeightTrees.{WeightTree}
 use Rattle.icu_tailoring.specs.Roots.{RootMapping, Root, first_above}
-use Rattle.icu_tailoring.specs.Mappings.{SymbolicMapping, SymbolicMappings, SymbolicMatch, root_mappings, has_prefix, has_no_context, is_mapping_of, with_mapping, begin_suffix, beginnings, mappings_behind, longer_mapping, longest_suffix, mapping_with, is_blocked_by, joined_marks, match_by, symbolic_match, context_behind, symbolic_along, symbolic_elements}
-use Rattle.icu_tailoring.specs.Cases.{counts_first_at, with_case_bits, upper_case, with_cases, cases_for, cases_of, primary_elements}
-use Rattle.icu_tailoring.specs.Positions.{last_weight, tailored_behind, before_common, first_weight_or, first_of_primary, with_last, last_of, last_from, first_of_group, first_number, last_number, nonzero_weights, first_ignored, position_element}
-use Rattle.icu_tailoring.specs.Steps.{TailoringState, first_state, counting_at, last_element, with_last_element, place_elements, with_lesser, before_level, before_step, reset_step, difference_step, strength_step, case_step, mapping_step, relation_step, suppression_step, rule_step, state_after, tailoring_of}
+use Rattle.icu_tailoring.specs.Mappings.{SymbolicMapping, SymbolicMappings, SymbolicMatch, has_prefix, has_no_context, begin_suffix, beginnings, mappings_behind, longer_mapping, longest_suffix, mapping_with, is_blocked_by, joined_marks, match_by, symbolic_match, context_behind, symbolic_along, symbolic_elements}
+use Rattle.icu_tailoring.specs.Cases.{counts_first_at, with_case_bits, upper_case, with_cases}
+use Rattle.icu_tailoring.specs.Positions.{tailored_behind, first_of_primary, with_last, last_of, first_of_group, position_element}
+use Rattle.icu_tailoring.specs.Steps.{TailoringState, first_state, counting_at, last_element, place_elements, before_level, before_step, reset_step, difference_step, strength_step, case_step, mapping_step, relation_step, suppression_step, rule_step, state_after, tailoring_of}
 use Rattle.icu_tailoring.proofs.TreeLemmas.{either}
 use Rattle.icu_tailoring.proofs.WholeElements.{IsWhole, AreWhole, counting_whole, last_whole, with_last_whole, new_whole}
 
@@ -51,9 +50,9 @@ root_whole e =
       no_primary = λ h. ap rooted (first_zero p (s ∷ t ∷ q ∷ []) 1 h);
       no_secondary = λ h. ap rooted (first_zero s (t ∷ q ∷ []) 2 (later_level p (s ∷ t ∷ q ∷ []) 1 2 (omega arith) h));
       no_tertiary = λ h. ap rooted (first_zero t (q ∷ []) 3
-        (later_level s (t ∷ q ∷ []) 2 3 (omega arith) (later_level p (s ∷ t ∷ q ∷ []) 1 3 (omega arith) h)));
+          (later_level s (t ∷ q ∷ []) 2 3 (omega arith) (later_level p (s ∷ t ∷ q ∷ []) 1 3 (omega arith) h)));
       no_quaternary = λ h. ap rooted (first_zero q [] 4 (later_level t (q ∷ []) 3 4 (omega arith)
-        (later_level s (t ∷ q ∷ []) 2 4 (omega arith) (later_level p (s ∷ t ∷ q ∷ []) 1 4 (omega arith) h))));
+          (later_level s (t ∷ q ∷ []) 2 4 (omega arith) (later_level p (s ∷ t ∷ q ∷ []) 1 4 (omega arith) h))));
     }
 
 root_all_whole : (es : List Element) → AreWhole (map of_root es)
@@ -96,15 +95,15 @@ behind_whole ms (prefix ∷ shorter) p =
     let further = mappings_behind ms shorter in
     let not_begun : SymbolicMapping → Bool = λ m. not (begin_suffix own m) in
     either HaveWhole (list_any (λ (m : SymbolicMapping). bytes_eq m.suffix []) own) own (own ++ filter not_begun further)
-      (λ _. own_whole)
-      (λ _. have_append own (filter not_begun further) own_whole (have_filter not_begun further (behind_whole ms shorter p)))
+    (λ _. own_whole)
+    (λ _. have_append own (filter not_begun further) own_whole (have_filter not_begun further (behind_whole ms shorter p)))
 
 longer_whole : (text : List ℕ) (best : Option SymbolicMapping) (m : SymbolicMapping) → HasWhole best → AreWhole m.elements
     → HasWhole (longer_mapping text best m)
 longer_whole text None m p q = either HasWhole (starts_with nat_eq text m.suffix) (Some m) None (λ _. q) (λ _. tt)
 longer_whole text (Some best) m p q =
     either HasWhole (starts_with nat_eq text m.suffix && nat_lt (length best.suffix) (length m.suffix)) (Some m) (Some best)
-      (λ _. q) (λ _. p)
+    (λ _. q) (λ _. p)
 
 longest_whole : (best : Option SymbolicMapping) (ms : List SymbolicMapping) (text : List ℕ) → HasWhole best → HaveWhole ms
     → HasWhole (longest_suffix best ms text)
@@ -134,7 +133,7 @@ marks_whole ms found passed [] p q = q
 marks_whole ms found passed (m ∷ text) p q =
     let over = marks_whole ms found (passed ++ m ∷ []) text p q in
     let ended : SymbolicMatch =
-      record { elements = found.elements; suffix = found.suffix; rest = passed ++ m ∷ text } in
+    record { elements = found.elements; suffix = found.suffix; rest = passed ++ m ∷ text } in
     let passed_over = joined_marks ms found (passed ++ m ∷ []) text in
     let tried : SymbolicMatch = elim (mapping_with ms (found.suffix ++ m ∷ [])) [
       | Some longer ↦ joined_marks ms longer passed text
@@ -142,15 +141,15 @@ marks_whole ms found passed (m ∷ text) p q =
     ] in
     let unblocked : SymbolicMatch = if is_blocked_by passed m then passed_over else tried in
     either GivesWhole (is_starter m) ended unblocked (λ _. q)
-      (λ _. either GivesWhole (is_blocked_by passed m) passed_over tried (λ _. over)
-        (λ _. found_or (mapping_with ms (found.suffix ++ m ∷ [])) (λ longer. joined_marks ms longer passed text) passed_over
-          (with_whole ms (found.suffix ++ m ∷ []) p) (λ longer w. marks_whole ms longer passed text p w) over))
+    (λ _. either GivesWhole (is_blocked_by passed m) passed_over tried (λ _. over)
+    (λ _. found_or (mapping_with ms (found.suffix ++ m ∷ [])) (λ longer. joined_marks ms longer passed text) passed_over
+    (with_whole ms (found.suffix ++ m ∷ []) p) (λ longer w. marks_whole ms longer passed text p w) over))
 
 match_whole : (ms : List SymbolicMapping) (text : List ℕ) → HaveWhole ms → GivesWhole (match_by ms text)
 match_whole ms text p =
     let none : SymbolicMatch = record { elements = []; suffix = []; rest = text } in
     found_or (longest_suffix None ms text) (λ found. joined_marks ms found [] (drop (length found.suffix) text)) none
-      (longest_whole None ms text tt p) (λ found w. marks_whole ms found [] (drop (length found.suffix) text) p w) tt
+    (longest_whole None ms text tt p) (λ found w. marks_whole ms found [] (drop (length found.suffix) text) p w) tt
 
 along_whole : (along : List ℕ) (mappings : SymbolicMappings) (before text : List ℕ) → ((c : ℕ) → HaveWhole (mappings c))
     → AreWhole (symbolic_along along mappings before text)
@@ -160,8 +159,8 @@ along_whole [] mappings before (c ∷ text) p = tt
 along_whole (a ∷ along) mappings before (c ∷ text) p =
     let m = symbolic_match mappings before c text in
     whole_append m.elements (symbolic_along along mappings (context_behind before c m) m.rest)
-      (match_whole (mappings_behind (mappings c) (beginnings before)) text (behind_whole (mappings c) (beginnings before) (p c)))
-      (along_whole along mappings (context_behind before c m) m.rest p)
+    (match_whole (mappings_behind (mappings c) (beginnings before)) text (behind_whole (mappings c) (beginnings before) (p c)))
+    (along_whole along mappings (context_behind before c m) m.rest p)
 
 -- ---- elements of positions
 
@@ -219,19 +218,19 @@ primary_last_whole : (tree : WeightTree) (p : SymbolicWeight) → MakesWhole 1 (
 primary_last_whole tree p =
     let last = with_last 3 tree (p ∷ []) in
     either (MakesWhole 1) (list_any is_tailored (drop 1 last)) last (to_all_levels (p ∷ []))
-      (λ _. primary_whole p _ _ _) (λ _. primary_whole p _ _ _)
+    (λ _. primary_whole p _ _ _) (λ _. primary_whole p _ _ _)
 
 secondary_last_whole : (tree : WeightTree) (s : SymbolicWeight) → MakesWhole 2 (last_of tree (rooted 0 ∷ s ∷ []))
 secondary_last_whole tree s =
     let last = with_last 2 tree (rooted 0 ∷ s ∷ []) in
     either (MakesWhole 2) (list_any is_tailored (drop 2 last)) last (to_all_levels (rooted 0 ∷ s ∷ []))
-      (λ _. secondary_whole s _ _) (λ _. secondary_whole s _ _)
+    (λ _. secondary_whole s _ _) (λ _. secondary_whole s _ _)
 
 tertiary_last_whole : (tree : WeightTree) (t : SymbolicWeight) → MakesWhole 3 (last_of tree (rooted 0 ∷ rooted 0 ∷ t ∷ []))
 tertiary_last_whole tree t =
     let last = with_last 1 tree (rooted 0 ∷ rooted 0 ∷ t ∷ []) in
     either (MakesWhole 3) (list_any is_tailored (drop 3 last)) last (to_all_levels (rooted 0 ∷ rooted 0 ∷ t ∷ []))
-      (λ _. tertiary_whole t _) (λ _. tertiary_whole t _)
+    (λ _. tertiary_whole t _) (λ _. tertiary_whole t _)
 
 run_or : (tree : WeightTree) (run : List SymbolicWeight) (next : SymbolicWeight)
     → MakesWhole 1 (elim run as (λ _. List SymbolicWeight) [ [] ↦ first_of_primary tree next | w ∷ _ ↦ w ∷ [] ])
@@ -288,7 +287,7 @@ cases_whole [] (e ∷ es) (w, ws) = (case_bits_whole e _ w, cases_whole [] es ws
 cases_whole (c ∷ cases) (e ∷ es) (w, ws) =
     let other = with_case_bits e (if counts_first_at 3 e then upper_case else 0) in
     either AreWhole (counts_first_at 1 e) (with_case_bits e c ∷ with_cases cases es) (other ∷ with_cases (c ∷ cases) es)
-      (λ _. (case_bits_whole e c w, cases_whole cases es ws)) (λ _. (case_bits_whole e _ w, cases_whole (c ∷ cases) es ws))
+    (λ _. (case_bits_whole e c w, cases_whole cases es ws)) (λ _. (case_bits_whole e _ w, cases_whole (c ∷ cases) es ws))
 
 place_whole : (root : Root) (state : TailoringState) (place : ResetPlace) → IsWholeState state
     → AreWhole (place_elements root state place)
@@ -303,7 +302,7 @@ before_whole root level state p q w =
     let counting_is = counting_whole level state.elements w.elements in
     record {
       elements = with_last_whole counting _ counting_is
-        (new_whole level (last_element counting) _ p q (last_whole counting counting_is));
+          (new_whole level (last_element counting) _ p q (last_whole counting counting_is));
       mappings = w.mappings;
     }
 
@@ -331,7 +330,7 @@ difference_whole level state p q w =
     let counting_is = counting_whole level state.elements w.elements in
     record {
       elements = with_last_whole counting _ counting_is
-        (new_whole level (last_element counting) (tailored state.made) p q (last_whole counting counting_is));
+          (new_whole level (last_element counting) (tailored state.made) p q (last_whole counting counting_is));
       mappings = w.mappings;
     }
 
@@ -348,7 +347,7 @@ mapping_whole prefix [] es state ws w = w
 mapping_whole prefix (c ∷ suffix) es state ws w = record {
   elements = w.elements;
   mappings = λ other. either HaveWhole (other == c) _ (state.mappings other)
-    (λ _. (ws, have_filter _ (state.mappings c) (w.mappings c))) (λ _. w.mappings other);
+      (λ _. (ws, have_filter _ (state.mappings c) (w.mappings c))) (λ _. w.mappings other);
 }
 
 relation_whole : (root : Root) (strength : Strength) (prefix string extension : List ℕ) (state : TailoringState)
@@ -362,8 +361,8 @@ relation_whole root strength prefix string extension state w =
     let cased = cases_whole _ stepped.elements stepped_whole.elements in
     let different_whole : IsWholeState different = record { elements = cased; mappings = stepped_whole.mappings } in
     mapping_whole (nfd prefix) (nfd string) (different.elements ++ behind) different
-      (whole_append different.elements behind cased (along_whole (nfd extension) state.mappings [] (nfd extension) w.mappings))
-      different_whole
+    (whole_append different.elements behind cased (along_whole (nfd extension) state.mappings [] (nfd extension) w.mappings))
+    different_whole
 
 rule_whole : (root : Root) (state : TailoringState) (rule : Rule) → IsWholeState state
     → IsWholeState (rule_step root state rule)
@@ -374,7 +373,7 @@ rule_whole root state (relation strength prefix string extension) w =
 rule_whole root state (suppression ranges) w = record {
   elements = w.elements;
   mappings = λ c. either HaveWhole (have_character ranges c) (filter has_no_context (state.mappings c)) (state.mappings c)
-    (λ _. have_filter has_no_context (state.mappings c) (w.mappings c)) (λ _. w.mappings c);
+      (λ _. have_filter has_no_context (state.mappings c) (w.mappings c)) (λ _. w.mappings c);
 }
 
 after_whole : (root : Root) (state : TailoringState) (rules : List Rule) → IsWholeState state

@@ -1,10 +1,9 @@
 -- How worked rows are computed: texts in the order that rules give them over the small root.
-use Rattle.std.proofs.Common.{ℕ, zero, suc, Bool, true, false, ◌==◌, ◌+◌, ◌*◌, ◌-◌, List, [], ◌∷◌, ◌++◌, length, reverse, map, filter, take, Option, Some, None, if◌then◌else◌, Less, Equal, Greater, codes}
+use Rattle.std.proofs.Common.{ℕ, zero, suc, ◌+◌, ◌*◌, List, [], ◌∷◌, ◌++◌, Some, None, if◌then◌else◌, Less, Equal, Greater}
 use Rattle.unicode_normalization.specs.Forms.{nfd}
 use Rattle.icu_options.specs.declared.settings.Strength.{Strength}
-use Rattle.icu_options.specs.declared.settings.Strength.TheVariants.{Primary, Secondary, Tertiary, Quaternary, Identical}
 use Rattle.icu_rules.specs.declared.statement.LogicalPosition.{LogicalPosition}
-use Rattle.icu_tailoring.specs.Rules.{at_string, at_position, Rule, reset, relation, suppression}
+use Rattle.icu_tailoring.specs.Rules.{at_string, at_position, Rule, reset, relation}
 use Rattle.icu_tailoring.specs.SymbolicElements.{SymbolicWeight, rooted, tailored, SymbolicElement, is_same_weight}
 use Rattle.icu_tailoring.specs.WeightTrees.{WeightTree}
 use Rattle.icu_tailoring.specs.Mappings.{symbolic_elements}

@@ -1,5 +1,5 @@
 -- Orders of texts by short rules, each with the levels at which texts differ from those before them.
-use Rattle.std.proofs.Common.{◌≡◌, refl, List, [], ◌∷◌, codes}
+use Rattle.std.proofs.Common.{◌≡◌, refl, [], ◌∷◌, codes}
 use Rattle.icu_options.specs.declared.settings.Strength.TheVariants.{Primary, Secondary, Tertiary, Quaternary, Identical}
 use Rattle.icu_rules.specs.declared.statement.LogicalPosition.TheVariants.{FirstVariable, LastVariable, FirstRegular, LastRegular, FirstPrimaryIgnorable, LastPrimaryIgnorable, LastSecondaryIgnorable, LastTertiaryIgnorable, FirstImplicit}
 use Rattle.icu_tailoring.specs.Rules.{relation, suppression}

@@ -9,3 +9,4 @@ pub mod Steps
 pub mod RootLaws
 pub mod SymbolicOrders
 pub mod RelationLaws
+pub mod BetweenLaws

@@ -1,10 +1,9 @@
 -- The elements of logical positions (UTS #35 part 5, "Collation Tailorings").
-use Rattle.std.specs.Prelude.{ℕ, zero, suc, Bool, true, false, not, ◌==◌, ◌-◌, ◌+◌, if◌then◌else◌, List, [], ◌∷◌, ◌++◌, filter, take_while, drop, take, length, Option, Some, None}
+use Rattle.std.specs.Prelude.{ℕ, zero, suc, not, ◌==◌, ◌-◌, if◌then◌else◌, List, [], ◌∷◌, ◌++◌, filter, take_while, drop, length, Some, None}
 use Rattle.std.specs.List.{list_any}
-use Rattle.icu_entries.specs.Elements.{common}
 use Rattle.icu_rules.specs.declared.statement.LogicalPosition.{LogicalPosition}
 use Rattle.icu_rules.specs.declared.statement.LogicalPosition.TheVariants as positions
-use Rattle.icu_tailoring.specs.SymbolicElements.{SymbolicWeight, rooted, tailored, SymbolicElement, is_tailored, is_same_weight, common_below, to_all_levels, element_with, ignorable}
+use Rattle.icu_tailoring.specs.SymbolicElements.{SymbolicWeight, rooted, SymbolicElement, is_tailored, is_same_weight, common_below, to_all_levels, element_with, ignorable}
 use Rattle.icu_tailoring.specs.WeightTrees.{WeightTree, behind}
 use Rattle.icu_tailoring.specs.Roots.{Root, first_above}
 

@@ -2,7 +2,7 @@
 use Rattle.std.specs.Prelude.{ℕ, ◌≡◌, List, [], ◌∷◌, ◌++◌}
 use Rattle.unicode_normalization.specs.Forms.{nfd}
 use Rattle.icu_options.specs.declared.settings.Strength.{Strength}
-use Rattle.icu_options.specs.declared.settings.Strength.TheVariants.{Primary, Secondary, Tertiary, Quaternary, Identical}
+use Rattle.icu_options.specs.declared.settings.Strength.TheVariants.{Identical}
 use Rattle.icu_tailoring.specs.Rules.{Rule, relation, level_of}
 use Rattle.icu_tailoring.specs.SymbolicElements.{SymbolicElement}
 use Rattle.icu_tailoring.specs.Roots.{Root}
@@ -27,7 +27,7 @@ RelationsHold = (root : Root) (earlier later : List Rule) (strength : Strength) 
     (numbering : Numbering)
     → NumbersTree (tailoring_of root (earlier ++ relation strength prefix string extension ∷ later)).tree numbering
     → AreRelated numbering strength (elements_at root earlier)
-      (elements_at root (earlier ++ relation strength prefix string extension ∷ []))
+    (elements_at root (earlier ++ relation strength prefix string extension ∷ []))
 
 -- Two strings are related as a relation says, where by all rules they have the elements that they had at the relation:
 -- no later rule moved them.
@@ -40,4 +40,4 @@ UnmovedStringsAreRelated = (root : Root) (earlier later : List Rule) (strength :
     → symbolic_elements last.mappings (nfd other) ≡ elements_at root earlier
     → symbolic_elements last.mappings (nfd string) ≡ elements_at root (earlier ++ relation strength [] string [] ∷ [])
     → AreRelated numbering strength (symbolic_elements last.mappings (nfd other))
-      (symbolic_elements last.mappings (nfd string))
+    (symbolic_elements last.mappings (nfd string))

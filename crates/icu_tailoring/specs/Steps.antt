@@ -1,8 +1,8 @@
 -- What each rule does (UTS #35 part 5, "Collation Tailorings").
-use Rattle.std.specs.Prelude.{ℕ, suc, ◌+◌, Bool, nat_le, min, if◌then◌else◌, List, [], ◌∷◌, ◌++◌, filter, reverse, take, fold, Option, Some, None}
+use Rattle.std.specs.Prelude.{ℕ, suc, nat_le, min, if◌then◌else◌, List, [], ◌∷◌, ◌++◌, filter, reverse, take, Option, Some, None}
 use Rattle.unicode_normalization.specs.Forms.{nfd}
 use Rattle.icu_options.specs.declared.settings.Strength.{Strength}
-use Rattle.icu_options.specs.declared.settings.Strength.TheVariants.{Primary, Secondary, Tertiary, Quaternary, Identical}
+use Rattle.icu_options.specs.declared.settings.Strength.TheVariants.{Primary, Secondary, Identical}
 use Rattle.icu_rules.specs.declared.statement.CharacterRange.{CharacterRange}
 use Rattle.icu_tailoring.specs.Rules.{ResetPlace, at_string, at_position, Rule, reset, relation, suppression, level_of, have_character}
 use Rattle.icu_tailoring.specs.SymbolicElements.{SymbolicWeight, rooted, tailored, SymbolicElement, element_with, ignorable}

@@ -20,9 +20,9 @@ abbrev pub StandsBefore : SymbolicWeight → SymbolicWeight → List SymbolicWei
 StandsBefore v w [] = ⊥
 StandsBefore v w (x ∷ siblings) = ((x ≡ v) × IsAmong w siblings) ⊎ StandsBefore v w siblings
 
--- a weight of the root has its own number, and numbers ascend among siblings
+-- the weight 0 has the number 0, and numbers ascend among siblings
 pub record NumbersTree (tree : WeightTree) (numbering : Numbering) : Type 0 where
-  pub rooted : (above : List SymbolicWeight) (w : ℕ) → numbering (above ++ rooted w ∷ []) ≡ w
+  pub zero : (above : List SymbolicWeight) → numbering (above ++ rooted 0 ∷ []) ≡ 0
   pub ascends : (above : List SymbolicWeight) (v w : SymbolicWeight) → StandsBefore v w (tree above)
       → numbering (above ++ v ∷ []) < numbering (above ++ w ∷ [])
 

@@ -1,6 +1,6 @@
 -- The order of weights while rules are read (UTS #35 part 5, "Collation Tailorings"): below the weights of the levels
 -- before stand weights of the next level, ascending, those of the root that were asked for and the tailored ones.
-use Rattle.std.specs.Prelude.{ℕ, Bool, ◌==◌, ◌-◌, nat_lt, if◌then◌else◌, List, [], ◌∷◌, ◌++◌, Option, Some, None, take, slice_index_or}
+use Rattle.std.specs.Prelude.{ℕ, ◌==◌, ◌-◌, nat_lt, if◌then◌else◌, List, [], ◌∷◌, ◌++◌, Option, Some, None, take, slice_index_or}
 use Rattle.icu_tailoring.specs.SymbolicElements.{SymbolicWeight, rooted, tailored, is_same_weight, are_same_weights, common_below}
 
 -- the weights below those of the levels before, ascending

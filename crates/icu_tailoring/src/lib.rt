@@ -2,6 +2,7 @@
 //! Each law is the contract of a function that takes no value and makes no call.
 #![tactic(auto)]
 
+ghost use Rattle.icu_tailoring.specs.BetweenLaws.{NothingOfTheRootIsBetween};
 ghost use Rattle.icu_tailoring.specs.RelationLaws.{RelationsHold, UnmovedStringsAreRelated};
 ghost use Rattle.icu_tailoring.specs.RootLaws.{UntouchedTextsKeepElements};
 
@@ -18,4 +19,10 @@ pub fn relations_hold()
 
     // So do two strings that no later rule moved.
     ensures strings { UnmovedStringsAreRelated }
+{}
+
+/// No weight of the root lies between the weight that a relation makes and the one that it differs from: what stands
+/// between them came by later rules.
+pub fn nothing_of_the_root_is_between()
+    ensures { NothingOfTheRootIsBetween }
 {}
