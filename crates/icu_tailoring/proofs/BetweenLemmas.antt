@@ -4,13 +4,14 @@ use Rattle.std.proofs.lemmas.Bool.{true≢false}
 use Rattle.icu_options.specs.declared.settings.Strength.{Strength}
 use Rattle.icu_options.specs.declared.settings.Strength.TheVariants.{Primary, Secondary, Tertiary, Quaternary, Identical}
 use Rattle.unicode_normalization.specs.Forms.{nfd}
-use Rattle.icu_tailoring.specs.Rules.{ResetPlace, Rule, reset, relation, suppression, level_of}
+use Rattle.icu_tailoring.specs.Rules.{ResetPlace, Rule, reset, relation, suppression, setting, level_of}
 use Rattle.icu_tailoring.specs.SymbolicElements.{SymbolicWeight, rooted, tailored, is_same_weight, are_same_weights}
 use Rattle.icu_tailoring.specs.WeightTrees.{WeightTree, with_siblings, with_rooted, with_behind, with_weight, with_weights, with_new_weight, above_level, weight_at_level}
 use Rattle.icu_tailoring.specs.Roots.{Root, lesser_weight}
 use Rattle.icu_tailoring.specs.Steps.{TailoringState, first_state, counting_at, last_element, with_lesser, place_elements, before_level, before_step, reset_step, difference_step, strength_step, case_step, relation_step, suppression_step, rule_step, state_after, tailoring_of}
 use Rattle.icu_tailoring.specs.SymbolicOrders.{IsAmong, StandsBefore, Numbering, NumbersTree}
-use Rattle.icu_tailoring.specs.BetweenLaws.{weights_before, IsNotBetween, NothingOfTheRootIsBetween}
+use Rattle.icu_tailoring.specs.BetweenLaws.{IsNotBetween, NothingOfTheRootIsBetween}
+use Rattle.icu_tailoring.specs.RelationLaws.{weights_before}
 use Rattle.icu_tailoring.proofs.TreeLemmas.{either, same_weight_is, same_weights_are, are_themselves, mapping_tree}
 use Rattle.icu_tailoring.proofs.RelationLemmas.{state_after-append}
 
@@ -157,6 +158,7 @@ rule_keeps root state (relation strength prefix string extension) = λ other k w
     (sym (mapping_tree (nfd prefix) (nfd string) _ (case_step root (nfd string) (strength_step strength state))))
     (strength_keeps strength state other k w c)
 rule_keeps root state (suppression ranges) = λ other k w c. c
+rule_keeps root state (setting said) = λ other k w c. c
 
 state_keeps : (root : Root) (state : TailoringState) (rules : List Rule)
     → KeepsClose state.tree (state_after root state rules).tree

@@ -8,3 +8,4 @@ mod WholeElements
 mod WholeStates
 mod RelationLemmas
 mod BetweenLemmas
+mod ExtensionLemmas

@@ -22,22 +22,22 @@ use Rattle.icu_tailoring.proofs.WholeElements.{AreWhole, ignorable_is_whole, cou
 
 -- ---- numbers that aren't 0
 
-abbrev nonzero : List ℕ → List ℕ
+abbrev pub nonzero : List ℕ → List ℕ
 nonzero = filter (λ w. not (w == 0))
 
 one_more : (x : ℕ) (xs ys : List ℕ) → nonzero xs ≡ nonzero ys → nonzero (x ∷ xs) ≡ nonzero (x ∷ ys)
 one_more x xs ys e = ap (λ zs. cond (not (x == 0)) (x ∷ zs) zs) e
 
-zero_more : (x : ℕ) (xs : List ℕ) → x ≡ 0 → nonzero (x ∷ xs) ≡ nonzero xs
+pub zero_more : (x : ℕ) (xs : List ℕ) → x ≡ 0 → nonzero (x ∷ xs) ≡ nonzero xs
 zero_more x xs e = ap (λ y. nonzero (y ∷ xs)) e
 
-is_zero : (x : ℕ) → (x == 0) ≡ true → x ≡ 0
+pub is_zero : (x : ℕ) → (x == 0) ≡ true → x ≡ 0
 is_zero x e = grind (arith, nat_tests)
 
-not_zero : (x y : ℕ) → x < y → (y == 0) ≡ false
+pub not_zero : (x y : ℕ) → x < y → (y == 0) ≡ false
 not_zero x y h = grind (arith, nat_tests)
 
-first_stays : (x : ℕ) (xs : List ℕ) → (x == 0) ≡ false → nonzero (x ∷ xs) ≡ x ∷ nonzero xs
+pub first_stays : (x : ℕ) (xs : List ℕ) → (x == 0) ≡ false → nonzero (x ∷ xs) ≡ x ∷ nonzero xs
 first_stays x xs e = ap (λ b. cond (not b) (x ∷ nonzero xs) (nonzero xs)) e
 
 moved : (xs vs ys ws : List ℕ) → xs ≡ vs → ys ≡ ws → list_order vs ws ≡ Less → list_order xs ys ≡ Less
@@ -76,7 +76,7 @@ kept_numbers numbering n level e [] z =
     (λ _. refl) (λ b. sym (zero_more (numbering (take level e.weights)) [] (z (weaker e.strength n b))))
 kept_numbers numbering n level e (f ∷ fs) z = refl
 
-counting_numbers : (tree : WeightTree) (numbering : Numbering) → NumbersTree tree numbering → (n level : ℕ)
+pub counting_numbers : (tree : WeightTree) (numbering : Numbering) → NumbersTree tree numbering → (n level : ℕ)
     → 1 ≤ level → level ≤ n → n ≤ 4 → (es : List SymbolicElement) → AreWhole es
     → level_numbers numbering level (counting_at n es) ≡ level_numbers numbering level es
 unfolding counting_at
@@ -122,32 +122,50 @@ new_stands tree level ws new =
     either (StandsBefore w new) (are_same_weights above above) (with_behind w new (placed above)) (placed above)
     (λ _. stands_behind w new (placed above)) (λ e. absurd (true≢false (sym (are_themselves above) ∙ e)))
 
+-- the element that a difference of a level puts in the place of another one
+abbrev pub new_element : ℕ → SymbolicElement → ℕ → SymbolicElement
+new_element n e made = element_with (above_level n e.weights ++ tailored made ∷ []) (min n e.strength)
+
+-- the last element that counts at a level
+abbrev pub last_at : ℕ → TailoringState → SymbolicElement
+last_at n state = last_element (counting_at n state.elements)
+
+pub new_is_greater : (tree : WeightTree) (numbering : Numbering) → NumbersTree tree numbering → (n : ℕ) → 1 ≤ n → n ≤ 4
+    → (state : TailoringState) → AreWhole state.elements → KeepsOrder (difference_step n state).tree tree
+    → numbering (take n (last_at n state).weights)
+    < numbering (take n (new_element n (last_at n state) state.made).weights)
+unfolding difference_step
+new_is_greater tree numbering g n p q state ws keeps =
+    let e = last_at n state in
+    let w = last_whole (counting_at n state.elements) (counting_whole n state.elements ws) in
+    let x = tailored state.made in
+    let above = above_level n e.weights in
+    let v = weight_at_level n e.weights in
+    let ascends = g.ascends above v x (keeps above v x (new_stands state.tree n e.weights x)) in
+    let own = own_number numbering n e p q w in
+    let news = new_number numbering n e x (min n e.strength) p q w in
+    subst (λ a. a < numbering (take n (new_element n e state.made).weights)) (sym own)
+    (subst (λ b. numbering (above ++ v ∷ []) < b) (sym news) ascends)
+
 pub difference_less : (tree : WeightTree) (numbering : Numbering) → NumbersTree tree numbering → (n : ℕ) → 1 ≤ n → n ≤ 4
     → (state : TailoringState) → AreWhole state.elements → KeepsOrder (difference_step n state).tree tree
     → AreLessAt numbering n state.elements (difference_step n state).elements
 unfolding difference_step
 difference_less tree numbering g n p q state ws keeps =
     let counting = counting_at n state.elements in
-    let e = last_element counting in
+    let e = last_at n state in
     let w = last_whole counting (counting_whole n state.elements ws) in
-    let x = tailored state.made in
-    let above = above_level n e.weights in
-    let new = element_with (above ++ x ∷ []) (min n e.strength) in
-    let ascends = g.ascends above (weight_at_level n e.weights) x
-    (keeps above (weight_at_level n e.weights) x (new_stands state.tree n e.weights x)) in
-    let own = own_number numbering n e p q w in
-    let news = new_number numbering n e x (min n e.strength) p q w in
-    let less : numbering (take n e.weights) < numbering (take n new.weights) = subst (λ a. a < numbering (take n new.weights)) (sym own) (subst (λ b. numbering (above ++ weight_at_level n e.weights ∷ []) < b) (sym news) ascends) in
+    let new = new_element n e state.made in
     record {
       same = λ level a b.
           sym (counting_numbers tree numbering g n level a (omega (arith, b)) q state.elements ws)
           ∙ last_same numbering level counting new
           (zero_before tree numbering g level ignorable a (omega (arith, b, q)) (omega (arith, b, q)) ignorable_is_whole)
-          (same_before numbering n level e x (min n e.strength) a b q w);
+          (same_before numbering n level e (tailored state.made) (min n e.strength) a b q w);
       less =
           ap (λ z. list_order z (level_numbers numbering n (with_last_element counting new)))
           (sym (counting_numbers tree numbering g n n p (omega arith) q state.elements ws))
-          ∙ last_less numbering n counting new less;
+          ∙ last_less numbering n counting new (new_is_greater tree numbering g n p q state ws keeps);
     }
 
 -- ---- case bits change no weight
@@ -163,7 +181,7 @@ cases_weights (c ∷ cases) (e ∷ es) =
     (λ _. ap (λ ws. e.weights ∷ ws) (cases_weights cases es))
     (λ _. ap (λ ws. e.weights ∷ ws) (cases_weights (c ∷ cases) es))
 
-abbrev numbers_by : Numbering → ℕ → List (List SymbolicWeight) → List ℕ
+abbrev pub numbers_by : Numbering → ℕ → List (List SymbolicWeight) → List ℕ
 numbers_by numbering level all = nonzero (map (λ ws. numbering (take level ws)) all)
 
 less_by_weights : (numbering : Numbering) (n : ℕ) (es fs gs : List SymbolicElement) → weights_in gs ≡ weights_in fs
@@ -175,7 +193,7 @@ less_by_weights numbering n es fs gs e l = record {
 
 -- ---- a relation
 
-mapping_elements : (prefix string : List ℕ) (es : List SymbolicElement) (state : TailoringState)
+pub mapping_elements : (prefix string : List ℕ) (es : List SymbolicElement) (state : TailoringState)
     → (mapping_step prefix string es state).elements ≡ state.elements
 mapping_elements prefix [] es state = refl
 mapping_elements prefix (c ∷ suffix) es state = refl

@@ -5,7 +5,7 @@ use Rattle.unicode_normalization.specs.Forms.{nfd}
 use Rattle.unicode_normalization.specs.Order.{is_starter}
 use Rattle.icu_options.specs.declared.settings.Strength.{Strength}
 use Rattle.icu_options.specs.declared.settings.Strength.TheVariants.{Primary, Secondary, Tertiary, Quaternary, Identical}
-use Rattle.icu_tailoring.specs.Rules.{ResetPlace, Rule, reset, relation, suppression, have_character}
+use Rattle.icu_tailoring.specs.Rules.{ResetPlace, Rule, reset, relation, suppression, setting, have_character}
 use Rattle.icu_tailoring.specs.SymbolicElements.{SymbolicElement}
 use Rattle.icu_tailoring.specs.Roots.{Root}
 use Rattle.icu_tailoring.specs.Mappings.{SymbolicMapping, SymbolicMappings, SymbolicMatch, root_mappings, beginnings, mappings_behind, mapping_with, is_blocked_by, joined_marks, longest_suffix, match_by, symbolic_match, context_behind, symbolic_along, symbolic_elements}
@@ -55,6 +55,7 @@ rule_keeps root state (relation strength prefix string extension) c e =
     mapping_keeps (nfd prefix) (nfd string) _ (case_step root (nfd string) (strength_step strength state)) c e
     ∙ ap (λ (m : SymbolicMappings). m c) (strength_keeps strength state)
 rule_keeps root state (suppression ranges) c e = second_of (have_character ranges c) _ (state.mappings c) e
+rule_keeps root state (setting s) c e = refl
 
 state_keeps : (root : Root) (state : TailoringState) (rules : List Rule) (c : ℕ) → IsUntouched rules c
     → (state_after root state rules).mappings c ≡ state.mappings c

@@ -4,7 +4,7 @@ use Rattle.std.proofs.lemmas.Bool.{eqb-true, eq-eqb}
 use Rattle.icu_options.specs.declared.settings.Strength.{Strength}
 use Rattle.icu_options.specs.declared.settings.Strength.TheVariants.{Primary, Secondary, Tertiary, Quaternary, Identical}
 use Rattle.unicode_normalization.specs.Forms.{nfd}
-use Rattle.icu_tailoring.specs.Rules.{ResetPlace, Rule, reset, relation, suppression}
+use Rattle.icu_tailoring.specs.Rules.{ResetPlace, Rule, reset, relation, suppression, setting}
 use Rattle.icu_tailoring.specs.SymbolicElements.{SymbolicWeight, rooted, tailored, SymbolicElement, is_same_weight, are_same_weights}
 use Rattle.icu_tailoring.specs.WeightTrees.{WeightTree, with_siblings, with_rooted, with_behind, with_weight, with_weights, with_new_weight, above_level, weight_at_level}
 use Rattle.icu_tailoring.specs.Roots.{Root, lesser_weight}
@@ -173,6 +173,7 @@ rule_keeps root state (relation strength prefix string extension) = λ other v w
     (sym (mapping_tree (nfd prefix) (nfd string) _ (case_step root (nfd string) (strength_step strength state))))
     (strength_keeps strength state other v w s)
 rule_keeps root state (suppression ranges) = λ other v w s. s
+rule_keeps root state (setting said) = λ other v w s. s
 
 -- what stands before another weight does so whatever rules follow
 pub state_keeps : (root : Root) (state : TailoringState) (rules : List Rule)

@@ -9,7 +9,7 @@ use Rattle.icu_rules.specs.declared.statement.LogicalPosition.TheVariants as pos
 use Rattle.unicode_normalization.specs.Forms.{nfd}
 use Rattle.unicode_normalization.specs.Order.{is_starter}
 use Rattle.icu_entries.specs.Elements.{Element}
-use Rattle.icu_tailoring.specs.Rules.{ResetPlace, at_string, at_position, Rule, reset, relation, suppression, have_character}
+use Rattle.icu_tailoring.specs.Rules.{ResetPlace, at_string, at_position, Rule, reset, relation, suppression, setting, have_character}
 use Rattle.icu_tailoring.specs.SymbolicElements.{SymbolicWeight, rooted, tailored, SymbolicElement, is_tailored, to_all_levels, element_with, first_level, tertiary_of, quaternary_of, of_root}
 use Rattle.icu_tailoring.specs.WeightTrees.{WeightTree}
 use Rattle.icu_tailoring.specs.Roots.{RootMapping, Root, first_above}
@@ -375,6 +375,7 @@ rule_whole root state (suppression ranges) w = record {
   mappings = λ c. either HaveWhole (have_character ranges c) (filter has_no_context (state.mappings c)) (state.mappings c)
       (λ _. have_filter has_no_context (state.mappings c) (w.mappings c)) (λ _. w.mappings c);
 }
+rule_whole root state (setting said) w = record { elements = w.elements; mappings = w.mappings }
 
 after_whole : (root : Root) (state : TailoringState) (rules : List Rule) → IsWholeState state
     → IsWholeState (state_after root state rules)

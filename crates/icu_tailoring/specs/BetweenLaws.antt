@@ -6,23 +6,19 @@ use Rattle.icu_tailoring.specs.Rules.{Rule, relation, level_of}
 use Rattle.icu_tailoring.specs.SymbolicElements.{SymbolicWeight, rooted, tailored}
 use Rattle.icu_tailoring.specs.WeightTrees.{above_level, weight_at_level, with_weight}
 use Rattle.icu_tailoring.specs.Roots.{Root}
-use Rattle.icu_tailoring.specs.Steps.{counting_at, last_element, tailoring_of}
+use Rattle.icu_tailoring.specs.RelationLaws.{weights_before}
+use Rattle.icu_tailoring.specs.Steps.{tailoring_of}
 use Rattle.icu_tailoring.specs.SymbolicOrders.{Numbering, NumbersTree}
-
--- the weights of the element that a relation of a level differs from, after these rules
-abbrev pub weights_before : Root → List Rule → ℕ → List SymbolicWeight
-weights_before root rules level = (last_element (counting_at level (tailoring_of root rules).elements)).weights
 
 -- the number of a weight at a level, below the weights of the levels before
 abbrev pub number_below : Numbering → ℕ → List SymbolicWeight → SymbolicWeight → ℕ
 number_below numbering level weights w = numbering (above_level level weights ++ w ∷ [])
 
--- A number of a level has the place of no weight of the root, as one that lies between those of a weight and of the
--- weight that a relation made after it.
+-- the number of a weight of the root doesn't lie between that of the weight of a level and that of a new one
 abbrev pub IsNotBetween : Numbering → ℕ → List SymbolicWeight → SymbolicWeight → ℕ → Type 0
 IsNotBetween numbering level weights new w =
-    number_below numbering level weights (weight_at_level level weights) < number_below numbering level weights (rooted w)
-    → number_below numbering level weights (rooted w) < number_below numbering level weights new → ⊥
+    let number = number_below numbering level weights in
+    number (weight_at_level level weights) < number (rooted w) → number (rooted w) < number new → ⊥
 
 -- No weight of the root lies between the weight that a relation makes and the one that it differs from, whatever rules
 -- follow, and whatever numbers they and that weight of the root get in their order.

@@ -39,13 +39,17 @@ first_weight_or other (w ∷ ws) = w
 abbrev pub before_common : WeightTree → List SymbolicWeight → List SymbolicWeight
 before_common tree above = take_while (λ w. not (is_same_weight w (common_below above))) (tree above)
 
+-- the first tailored weight before the common one below these, or the common one
+abbrev pub first_tailored_below : WeightTree → List SymbolicWeight → SymbolicWeight
+first_tailored_below tree above = first_weight_or (common_below above) (filter is_tailored (before_common tree above))
+
 -- a primary weight with what was tailored first below it: secondary and tertiary weights before the common ones
 abbrev pub first_of_primary : WeightTree → SymbolicWeight → List SymbolicWeight
 first_of_primary tree p =
     let primary = p ∷ [] in
-    let s : SymbolicWeight = first_weight_or (common_below primary) (filter is_tailored (before_common tree primary)) in
+    let s : SymbolicWeight = first_tailored_below tree primary in
     let secondary = primary ++ s ∷ [] in
-    let t : SymbolicWeight = first_weight_or (common_below secondary) (filter is_tailored (before_common tree secondary)) in
+    let t : SymbolicWeight = first_tailored_below tree secondary in
     secondary ++ t ∷ []
 
 -- weights with the last ones below them on so many levels

@@ -2,7 +2,7 @@
 use Rattle.std.specs.Prelude.{ℕ, Bool, false, ◌==◌, ◌≡◌, List, [], ◌∷◌}
 use Rattle.std.specs.List.{list_any, AllByRecursion}
 use Rattle.unicode_normalization.specs.Forms.{nfd}
-use Rattle.icu_tailoring.specs.Rules.{Rule, reset, relation, suppression, have_character}
+use Rattle.icu_tailoring.specs.Rules.{Rule, reset, relation, suppression, setting, have_character}
 use Rattle.icu_tailoring.specs.Roots.{Root}
 use Rattle.icu_tailoring.specs.Mappings.{root_mappings, symbolic_elements}
 use Rattle.icu_tailoring.specs.Steps.{tailoring_of}
@@ -17,6 +17,7 @@ abbrev pub touches : ℕ → Rule → Bool
 touches c (reset before place) = false
 touches c (relation strength prefix string extension) = begins_with c (nfd string)
 touches c (suppression ranges) = have_character ranges c
+touches c (setting s) = false
 
 -- none of the rules changes mappings of the character
 abbrev pub IsUntouched : List Rule → ℕ → Type 0

@@ -27,6 +27,8 @@ pub data Rule : Type 0 where
   relation : Strength → List ℕ → List ℕ → List ℕ → Rule
   -- `[suppressContractions [..]]`
   suppression : List CharacterRange → Rule
+  -- a setting of the collation
+  setting : RuleSetting → Rule
 
 -- a level by its number; the identical one is behind the four others
 abbrev pub level_of : Strength → ℕ
@@ -61,18 +63,21 @@ lone_relation strength c = relation strength [] (c ∷ []) []
 abbrev pub starred_rules : StarredRelation → List Rule
 starred_rules r = map (lone_relation r.strength) (flat_map characters_of r.ranges.items)
 
--- What a setting says of the order of strings. The others are settings of the collation (UTS #35 part 5, "Setting
--- Options").
+-- what a setting says (UTS #35 part 5, "Setting Options"); some change nothing
 abbrev pub setting_rules : RuleSetting → List Rule
 setting_rules (settings.SuppressContractions ranges) = suppression ranges.items ∷ []
-setting_rules _ = []
+setting_rules (settings.Optimize ranges) = []
+setting_rules (settings.Normalization on) = []
+setting_rules settings.HiraganaQuaternaryOff = []
+setting_rules settings.VowelSign = []
+setting_rules other = setting other ∷ []
 
 -- what a statement says; an import says nothing before it is resolved
 abbrev pub statement_rules : Statement → List Rule
 statement_rules (statements.Reset r) = reset r.before (place_of_anchor r.anchor) ∷ []
 statement_rules (statements.Relation r) = relation r.strength r.prefix.items r.string.items r.extension.items ∷ []
 statement_rules (statements.Starred r) = starred_rules r
-statement_rules (statements.Setting setting) = setting_rules setting
+statement_rules (statements.Setting said) = setting_rules said
 statement_rules (statements.Import tag) = []
 
 -- what statements say, in turn

@@ -4,7 +4,8 @@ use Rattle.unicode_normalization.specs.Forms.{nfd}
 use Rattle.icu_options.specs.declared.settings.Strength.{Strength}
 use Rattle.icu_options.specs.declared.settings.Strength.TheVariants.{Primary, Secondary, Identical}
 use Rattle.icu_rules.specs.declared.statement.CharacterRange.{CharacterRange}
-use Rattle.icu_tailoring.specs.Rules.{ResetPlace, at_string, at_position, Rule, reset, relation, suppression, level_of, have_character}
+use Rattle.icu_rules.specs.declared.statement.RuleSetting.{RuleSetting}
+use Rattle.icu_tailoring.specs.Rules.{ResetPlace, at_string, at_position, Rule, reset, relation, suppression, setting, level_of, have_character}
 use Rattle.icu_tailoring.specs.SymbolicElements.{SymbolicWeight, rooted, tailored, SymbolicElement, element_with, ignorable}
 use Rattle.icu_tailoring.specs.WeightTrees.{WeightTree, first_tree, with_weight, with_weights, with_new_weight, directly_before, above_level, weight_at_level}
 use Rattle.icu_tailoring.specs.Roots.{Root, lesser_weight}
@@ -13,16 +14,17 @@ use Rattle.icu_tailoring.specs.Cases.{cased_elements}
 use Rattle.icu_tailoring.specs.Positions.{position_element}
 
 -- What rules have said so far: the order of weights, the mappings of characters, the elements of the last reset or
--- relation, and how many weights were made.
+-- relation, how many weights were made, and the settings, the last one first.
 pub record TailoringState : Type 0 where
   pub tree : WeightTree
   pub mappings : SymbolicMappings
   pub elements : List SymbolicElement
   pub made : ℕ
+  pub settings : List RuleSetting
 
 -- nothing but the root
 abbrev pub first_state : Root → TailoringState
-first_state root = record { tree = first_tree; mappings = root_mappings root; elements = []; made = 0 }
+first_state root = record { tree = first_tree; mappings = root_mappings root; elements = []; made = 0; settings = [] }
 
 -- the elements up to the last one that counts at a level
 unfoldable pub counting_at : ℕ → List SymbolicElement → List SymbolicElement
@@ -91,9 +93,10 @@ difference_step level state =
     let counting = counting_at level state.elements in
     let e = last_element counting in
     let new = tailored state.made in
+    let different = element_with (above_level level e.weights ++ new ∷ []) (min level e.strength) in
     record state {
       tree = with_new_weight state.tree level e.weights new;
-      elements = with_last_element counting (element_with (above_level level e.weights ++ new ∷ []) (min level e.strength));
+      elements = with_last_element counting different;
       made = suc state.made;
     }
 
@@ -135,6 +138,7 @@ rule_step root state (reset before place) = reset_step root before place state
 rule_step root state (relation strength prefix string extension) =
     relation_step root strength prefix string extension state
 rule_step root state (suppression ranges) = suppression_step ranges state
+rule_step root state (setting s) = record state { settings = s ∷ state.settings }
 
 -- what rules make of a state, one after another
 abbrev pub state_after : Root → TailoringState → List Rule → TailoringState

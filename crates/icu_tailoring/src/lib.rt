@@ -3,7 +3,7 @@
 #![tactic(auto)]
 
 ghost use Rattle.icu_tailoring.specs.BetweenLaws.{NothingOfTheRootIsBetween};
-ghost use Rattle.icu_tailoring.specs.RelationLaws.{RelationsHold, UnmovedStringsAreRelated};
+ghost use Rattle.icu_tailoring.specs.RelationLaws.{ExtendedRelationsHold, RelationsHold, UnmovedStringsAreRelated};
 ghost use Rattle.icu_tailoring.specs.RootLaws.{UntouchedTextsKeepElements};
 
 /// A text none of whose decomposed characters is touched by a rule has the elements that it has in the root.
@@ -16,6 +16,9 @@ pub fn untouched_texts_keep_elements()
 pub fn relations_hold()
     // The elements that it gives its string differ so from those of the rule before.
     ensures elements { RelationsHold }
+
+    // They do so with an extension behind both, where the one that is replaced has a number at the level.
+    ensures extended { ExtendedRelationsHold }
 
     // So do two strings that no later rule moved.
     ensures strings { UnmovedStringsAreRelated }
