@@ -1,5 +1,5 @@
 -- Relations hold with elements behind both sides.
-use Rattle.std.proofs.Common.{◌≡◌, ◌≢◌, ℕ, ◌<◌, ◌≤◌, Bool, true, false, cond, not, ◌==◌, inl, inr, List, [], ◌∷◌, ◌++◌, length, map, filter, take, if◌then◌else◌, Less, refl, ap, sym, subst, ◌∙◌, arith}
+use Rattle.std.proofs.Common.{◌≡◌, ◌≢◌, ℕ, ◌<◌, ◌≤◌, false, not, ◌==◌, inl, inr, List, [], ◌∷◌, ◌++◌, length, map, take, Less, ap, sym, subst, ◌∙◌, arith}
 use Rattle.std.proofs.lemmas.Bool.{cases_Bool}
 use Rattle.std.proofs.lemmas.List.{append_assoc, map-append}
 use Rattle.std.proofs.lemmas.List.Elements.{filter-append}
@@ -8,7 +8,7 @@ use Rattle.icu_levels.proofs.Order.{less_head, same_front}
 use Rattle.icu_options.specs.declared.settings.Strength.{Strength}
 use Rattle.icu_options.specs.declared.settings.Strength.TheVariants.{Primary, Secondary, Tertiary, Quaternary, Identical}
 use Rattle.unicode_normalization.specs.Forms.{nfd}
-use Rattle.icu_tailoring.specs.Rules.{Rule, relation, level_of}
+use Rattle.icu_tailoring.specs.Rules.{relation, level_of}
 use Rattle.icu_tailoring.specs.SymbolicElements.{SymbolicWeight, SymbolicElement, ignorable}
 use Rattle.icu_tailoring.specs.WeightTrees.{WeightTree}
 use Rattle.icu_tailoring.specs.Roots.{Root}
