@@ -203,7 +203,7 @@ relation_is_close root strength prefix string extension state other =
 
 -- ---- a weight of the root beside it
 
-rooted_is_among : (n : ℕ) (xs : List SymbolicWeight) → IsAmong (rooted n) (with_rooted n xs)
+pub rooted_is_among : (n : ℕ) (xs : List SymbolicWeight) → IsAmong (rooted n) (with_rooted n xs)
 unfolding with_rooted
 rooted_is_among n [] = inl refl
 rooted_is_among n (tailored j ∷ xs) = inr (rooted_is_among n xs)
@@ -241,7 +241,7 @@ stands_apart k n w (x ∷ xs) (inr c) (inr a) = elim (stands_apart k n w xs c a)
   | inr s ↦ (elim s [ inl b ↦ inr (inl (inr b)) | inr b ↦ inr (inr (inr b)) ])
 ]
 
-with_rooted_siblings : (tree : WeightTree) (above : List SymbolicWeight) (n : ℕ)
+pub with_rooted_siblings : (tree : WeightTree) (above : List SymbolicWeight) (n : ℕ)
     → with_weight tree above (rooted n) above ≡ with_rooted n (tree above)
 with_rooted_siblings tree above n = ap (λ (b : Bool). if b then with_rooted n (tree above) else tree above) (are_themselves above)
 

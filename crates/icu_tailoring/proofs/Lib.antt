@@ -9,3 +9,4 @@ mod WholeStates
 mod RelationLemmas
 mod BetweenLemmas
 mod ExtensionLemmas
+mod AscendingLemmas

@@ -23,7 +23,7 @@ same_weight_is (tailored v) (tailored w) e = ap tailored (eqb-true v w e)
 same_weight_is (rooted v) (tailored w) e = cc
 same_weight_is (tailored v) (rooted w) e = cc
 
-is_itself : (w : SymbolicWeight) → is_same_weight w w ≡ true
+pub is_itself : (w : SymbolicWeight) → is_same_weight w w ≡ true
 is_itself (rooted w) = eq-eqb w w refl
 is_itself (tailored k) = eq-eqb k k refl
 

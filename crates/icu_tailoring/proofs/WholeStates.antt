@@ -364,7 +364,7 @@ relation_whole root strength prefix string extension state w =
     (whole_append different.elements behind cased (along_whole (nfd extension) state.mappings [] (nfd extension) w.mappings))
     different_whole
 
-rule_whole : (root : Root) (state : TailoringState) (rule : Rule) → IsWholeState state
+pub rule_whole : (root : Root) (state : TailoringState) (rule : Rule) → IsWholeState state
     → IsWholeState (rule_step root state rule)
 unfolding suppression_step
 rule_whole root state (reset before place) w = reset_whole root before place state w
@@ -382,8 +382,8 @@ after_whole : (root : Root) (state : TailoringState) (rules : List Rule) → IsW
 after_whole root state [] w = w
 after_whole root state (rule ∷ rules) w = after_whole root (rule_step root state rule) rules (rule_whole root state rule w)
 
+pub first_whole_state : (root : Root) → IsWholeState (first_state root)
+first_whole_state root = record { elements = tt; mappings = λ c. root_mappings_whole (root.mappings c) }
+
 pub tailoring_whole : (root : Root) (rules : List Rule) → IsWholeState (tailoring_of root rules)
-tailoring_whole root rules = after_whole root (first_state root) rules (record {
-  elements = tt;
-  mappings = λ c. root_mappings_whole (root.mappings c);
-})
+tailoring_whole root rules = after_whole root (first_state root) rules (first_whole_state root)

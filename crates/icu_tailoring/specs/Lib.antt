@@ -10,3 +10,4 @@ pub mod RootLaws
 pub mod SymbolicOrders
 pub mod RelationLaws
 pub mod BetweenLaws
+pub mod AscendingLaws

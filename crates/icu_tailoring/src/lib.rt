@@ -2,6 +2,7 @@
 //! Each law is the contract of a function that takes no value and makes no call.
 #![tactic(auto)]
 
+ghost use Rattle.icu_tailoring.specs.AscendingLaws.{WeightsOfTheRootAscend};
 ghost use Rattle.icu_tailoring.specs.BetweenLaws.{NothingOfTheRootIsBetween};
 ghost use Rattle.icu_tailoring.specs.RelationLaws.{ExtendedRelationsHold, RelationsHold, UnmovedStringsAreRelated};
 ghost use Rattle.icu_tailoring.specs.RootLaws.{UntouchedTextsKeepElements};
@@ -28,4 +29,9 @@ pub fn relations_hold()
 /// between them came by later rules.
 pub fn nothing_of_the_root_is_between()
     ensures { NothingOfTheRootIsBetween }
+{}
+
+/// Rules move no weight of the root: those that stand below the same weights ascend, whatever stands between them.
+pub fn weights_of_the_root_ascend()
+    ensures { WeightsOfTheRootAscend }
 {}
