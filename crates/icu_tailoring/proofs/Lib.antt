@@ -1,0 +1,12 @@
+mod Computing
+mod SmallRoot
+mod WorkedOrders
+mod WorkedRules
+mod RootLemmas
+mod TreeLemmas
+mod WholeElements
+mod WholeStates
+mod RelationLemmas
+mod BetweenLemmas
+mod ExtensionLemmas
+mod AscendingLemmas

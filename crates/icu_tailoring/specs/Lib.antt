@@ -1,0 +1,13 @@
+pub mod Rules
+pub mod SymbolicElements
+pub mod WeightTrees
+pub mod Roots
+pub mod Mappings
+pub mod Cases
+pub mod Positions
+pub mod Steps
+pub mod RootLaws
+pub mod SymbolicOrders
+pub mod RelationLaws
+pub mod BetweenLaws
+pub mod AscendingLaws
