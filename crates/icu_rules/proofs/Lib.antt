@@ -5,3 +5,5 @@ pub mod BracketLemmas
 pub mod StatementLemmas
 pub mod ParsingLemmas
 pub mod StarredLemmas
+mod WorkedRules
+pub mod ImportLemmas

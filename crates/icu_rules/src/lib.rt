@@ -8,6 +8,8 @@ mod brackets;
 mod chain;
 mod escapes;
 mod first;
+#[cfg(test)]
+mod import_rows;
 pub mod imports;
 mod parsing;
 mod relations;
