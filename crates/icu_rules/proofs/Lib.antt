@@ -7,3 +7,8 @@ pub mod ParsingLemmas
 pub mod StarredLemmas
 mod WorkedRules
 pub mod ImportLemmas
+pub mod StringOnce
+pub mod WordsOnce
+pub mod TokensOnce
+pub mod StatementsOnce
+pub mod SayingsOnce

@@ -11,6 +11,7 @@ mod first;
 #[cfg(test)]
 mod import_rows;
 pub mod imports;
+pub mod laws;
 mod parsing;
 mod relations;
 mod resets;
