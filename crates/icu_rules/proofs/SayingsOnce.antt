@@ -1,5 +1,5 @@
 -- Tokens say one thing: what the statements say, whose tokens they are.
-use Rattle.std.proofs.Common.{ℕ, Bool, true, false, cond, nat_eq, ◌&&◌, Option, Some, None, String, List, [], ◌∷◌, ◌++◌, map, ◌≡◌, ◌⊎◌, inl, inr, ap, ◌∙◌, sym, refl, subst, append_assoc}
+use Rattle.std.proofs.Common.{ℕ, Bool, true, false, cond, nat_eq, ◌&&◌, Option, Some, None, String, List, [], ◌∷◌, ◌++◌, map, ◌≡◌, inl, inr, ap, ◌∙◌, sym, refl, subst, append_assoc}
 use Rattle.std.specs.Prelude.{codes, string_bytes, encode_utf8_all}
 use Rattle.std.specs.declared.alloc.Global.{Global}
 use Rattle.icu_options.specs.declared.settings.Strength.{Strength}
@@ -20,8 +20,8 @@ use Rattle.icu_rules.specs.declared.statement.RuleSetting.TheVariants as setting
 use Rattle.icu_rules.specs.declared.statement.Statement.{Statement}
 use Rattle.icu_rules.specs.declared.statement.Statement.TheVariants as statements
 use Rattle.icu_rules.specs.Tokens.{Token, reset_sign, relation_sign, prefix_sign, extension_sign, range_sign, vowel_sign, string, bracket, set_bracket}
-use Rattle.icu_rules.specs.RuleWords.{position_words, NamesPosition, level_word, case_level_word, case_first_word, numeric_word, max_variable_word, IsAlternateWord, switch_word}
-use Rattle.icu_rules.specs.Statements.{AreBefore, AreAnchor, AreReset, prefix_tokens, extension_tokens, relation_parts, AreRelation, single, dashed_tokens, NameRanges, AreStarred, WritesWord, WriteWords, AreSetting, AreStatement, AreStatements}
+use Rattle.icu_rules.specs.RuleWords.{position_words, NamesPosition, level_word, IsAlternateWord}
+use Rattle.icu_rules.specs.Statements.{AreBefore, AreAnchor, prefix_tokens, extension_tokens, single, dashed_tokens, NameRanges, WriteWords, AreSetting, AreStatement, AreStatements}
 use Rattle.icu_rules.specs.Sayings.{Target, at_string, at_position, Saying, resets_to, relates, relates_each, sets, reorders, suppresses, optimizes, imports, target, setting_saying, saying}
 
 -- ---- words

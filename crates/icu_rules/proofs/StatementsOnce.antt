@@ -1,5 +1,5 @@
 -- The tokens of statements stand apart, so a text spells them in one way only.
-use Rattle.std.proofs.Common.{ℕ, Bool, true, false, Option, Some, None, List, [], ◌∷◌, ◌++◌, ◌≡◌, ap, ◌∙◌, sym, refl, subst, append_assoc}
+use Rattle.std.proofs.Common.{ℕ, Option, Some, None, List, [], ◌∷◌, ◌++◌, ◌≡◌, ap, ◌∙◌, sym, subst, append_assoc}
 use Rattle.icu_options.specs.declared.settings.Strength.{Strength}
 use Rattle.icu_rules.specs.declared.statement.Anchor.{Anchor}
 use Rattle.icu_rules.specs.declared.statement.Anchor.TheVariants as anchors
@@ -10,8 +10,8 @@ use Rattle.icu_rules.specs.declared.statement.RuleSetting.{RuleSetting}
 use Rattle.icu_rules.specs.declared.statement.RuleSetting.TheVariants as settings
 use Rattle.icu_rules.specs.declared.statement.Statement.{Statement}
 use Rattle.icu_rules.specs.declared.statement.Statement.TheVariants as statements
-use Rattle.icu_rules.specs.Tokens.{Token, reset_sign, relation_sign, prefix_sign, extension_sign, range_sign, vowel_sign, string, bracket, set_bracket}
-use Rattle.icu_rules.specs.Statements.{AreBefore, AreAnchor, AreReset, prefix_tokens, extension_tokens, relation_parts, AreRelation, dashed_tokens, AreStarred, AreSetting, AreStatement, AreStatements, SpellStatements}
+use Rattle.icu_rules.specs.Tokens.{Token, reset_sign, string, bracket}
+use Rattle.icu_rules.specs.Statements.{AreBefore, AreAnchor, AreReset, prefix_tokens, extension_tokens, AreRelation, dashed_tokens, AreStarred, AreSetting, AreStatement, AreStatements, SpellStatements}
 use Rattle.icu_rules.proofs.TokensOnce.{NoString, SomeString, AreApart, tokens_once}
 
 -- the tokens stand apart, and a string may stand before them

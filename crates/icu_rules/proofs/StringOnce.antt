@@ -1,7 +1,7 @@
 -- A text spells the characters of a string in one way only.
-use Rattle.std.proofs.Common.{ℕ, Bool, true, false, not, ◌||◌, ◌≡◌, ◌≢◌, ◌<◌, ◌≤◌, ◌+◌, ◌*◌, List, [], ◌∷◌, ◌++◌, length, ap, ◌∙◌, sym, refl, subst, append_assoc, arith, IsTrue}
+use Rattle.std.proofs.Common.{ℕ, Bool, true, false, not, ◌||◌, ◌≡◌, ◌≢◌, ◌<◌, List, [], ◌∷◌, ◌++◌, length, ap, ◌∙◌, sym, refl, subst, append_assoc, arith}
 use Rattle.std.specs.List.{AllByRecursion}
-use Rattle.std.specs.Char.{IsScalar, digit_value}
+use Rattle.std.specs.Char.{digit_value}
 use Rattle.icu_rules.specs.RuleCharacters.{is_plain, is_white, is_syntax}
 use Rattle.icu_rules.specs.RuleStrings.{hex_number, WritesInHex, SpellsEscape, itself, four, eight, two, braced, IsNoQuote, SpellsCharacters, ends, plain, quoted, apostrophe, escaped, opens, closes}
 

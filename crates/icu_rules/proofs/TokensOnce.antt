@@ -1,16 +1,15 @@
 -- A text spells its tokens in one way only, where no string follows a string, and a string each relation's sign.
-use Rattle.std.proofs.Common.{ℕ, ◌+◌, Bool, true, false, not, cond, nat_eq, ◌||◌, ◌&&◌, ◌≡◌, ◌≢◌, ◌⊎◌, inl, inr, List, [], ◌∷◌, ◌++◌, ap, ◌∙◌, sym, refl, subst, append_assoc, arith, IsTrue}
-use Rattle.std.specs.Prelude.{codes}
+use Rattle.std.proofs.Common.{ℕ, ◌+◌, Bool, true, false, not, cond, nat_eq, ◌||◌, ◌&&◌, ◌≡◌, ◌≢◌, ◌⊎◌, inl, inr, List, [], ◌∷◌, ◌++◌, ap, ◌∙◌, sym, refl, subst, append_assoc, arith}
 use Rattle.std.specs.List.{list_all}
-use Rattle.std.proofs.lemmas.Bool.{and_parts, not-true, cases_Bool}
+use Rattle.std.proofs.lemmas.Bool.{and_parts, cases_Bool}
 use Rattle.std.proofs.lemmas.Bool.Decides.{nat_tests}
 use Rattle.icu_options.specs.declared.settings.Strength.{Strength}
 use Rattle.icu_options.specs.declared.settings.Strength.TheVariants.{Primary, Secondary, Tertiary, Quaternary, Identical}
 use Rattle.icu_rules.specs.declared.statement.CharacterRange.{CharacterRange}
-use Rattle.icu_rules.specs.RuleCharacters.{is_white, is_line_end, is_syntax, is_plain, is_word_character, is_blank, IsBlank, IsTrail, IsOpenComment}
-use Rattle.icu_rules.specs.RuleStrings.{SpellsEscape, SpellsCharacters, ends, plain, quoted, apostrophe, escaped, opens, closes}
-use Rattle.icu_rules.specs.Tokens.{Token, reset_sign, relation_sign, prefix_sign, extension_sign, range_sign, vowel_sign, string, bracket, set_bracket, IsRelationSign, SpellsWords, SpellsToken, SpellsTokens}
-use Rattle.icu_rules.proofs.StringOnce.{head_same, tail_same, not_both, EndsString, characters_once, plain_mark, plain_backslash}
+use Rattle.icu_rules.specs.RuleCharacters.{is_white, is_line_end, is_syntax, is_plain, is_word_character, is_blank, IsBlank, IsTrail}
+use Rattle.icu_rules.specs.RuleStrings.{SpellsCharacters, ends, plain, apostrophe, escaped, opens}
+use Rattle.icu_rules.specs.Tokens.{Token, reset_sign, relation_sign, prefix_sign, extension_sign, range_sign, vowel_sign, string, bracket, set_bracket, IsRelationSign, SpellsToken, SpellsTokens}
+use Rattle.icu_rules.proofs.StringOnce.{head_same, tail_same, not_both, EndsString, characters_once}
 use Rattle.icu_rules.proofs.WordsOnce.{StopsAt, white_at, white_apart, span_once, words_once, set_once, plain_not_white}
 
 -- ---- blanks

@@ -1,11 +1,11 @@
 -- A text spells the words of a bracket, and the ranges of a set, in one way only.
-use Rattle.std.proofs.Common.{ℕ, Bool, true, false, not, nat_eq, ◌||◌, ◌≡◌, ◌≢◌, ◌⊎◌, inl, inr, List, [], ◌∷◌, ◌++◌, ap, ◌∙◌, sym, refl, subst, append_assoc, arith, IsTrue}
+use Rattle.std.proofs.Common.{ℕ, Bool, true, false, not, nat_eq, ◌≡◌, ◌≢◌, inl, inr, List, [], ◌∷◌, ◌++◌, ap, ◌∙◌, sym, refl, subst, append_assoc, arith}
 use Rattle.std.specs.List.{list_all}
 use Rattle.std.proofs.lemmas.Bool.{and_parts, not-true, cases_Bool}
 use Rattle.std.proofs.lemmas.Bool.Decides.{nat_tests}
 use Rattle.icu_rules.specs.declared.statement.CharacterRange.{CharacterRange}
 use Rattle.icu_rules.specs.RuleCharacters.{is_white, is_syntax, is_plain, is_word_character, IsWhite}
-use Rattle.icu_rules.specs.RuleStrings.{SpellsEscape, SpellsCharacter}
+use Rattle.icu_rules.specs.RuleStrings.{SpellsCharacter}
 use Rattle.icu_rules.specs.Tokens.{IsNoWord, IsBracketWord, SpellsWords, SpellsRange, SpellsSet}
 use Rattle.icu_rules.proofs.StringOnce.{head_same, tail_same, not_both, escape_once, plain_backslash}
 

@@ -1,14 +1,13 @@
 -- Worked rows of the grammar's words, and of how characters, strings and tokens are spelled.
-use Rattle.std.proofs.Common.{ℕ, Bool, true, false, List, [], ◌∷◌, ◌++◌, ◌≡◌, ◌≢◌, inl, inr, refl, arith}
+use Rattle.std.proofs.Common.{true, false, [], ◌∷◌, ◌≡◌, inl, inr, refl, arith}
 use Rattle.std.specs.Prelude.{codes}
-use Rattle.icu_options.specs.declared.settings.Strength.TheVariants.{Primary, Secondary, Tertiary}
+use Rattle.icu_options.specs.declared.settings.Strength.TheVariants.{Secondary}
 use Rattle.icu_rules.specs.declared.statement.LogicalPosition.TheVariants as positions
-use Rattle.icu_rules.specs.declared.chain.Chain.TheVariants as chains
 use Rattle.icu_rules.specs.RuleCharacters.{is_white, is_line_end, is_syntax, is_plain, is_word_character, is_reserved, is_blank}
-use Rattle.icu_rules.specs.RuleStrings.{hex_number, SpellsCharacters, ends, plain, quoted, apostrophe, escaped, opens, closes, itself, two}
-use Rattle.icu_rules.specs.RuleWords.{position_words, NamesPosition}
-use Rattle.icu_rules.specs.Tokens.{Token, reset_sign, relation_sign, string, IsRelationSign, SpellsTokens}
-use Rattle.icu_rules.specs.Statements.{NameRanges, single, level_number, MayRelate}
+use Rattle.icu_rules.specs.RuleStrings.{hex_number, SpellsCharacters, ends, plain, quoted, apostrophe, opens, closes}
+use Rattle.icu_rules.specs.RuleWords.{NamesPosition}
+use Rattle.icu_rules.specs.Tokens.{IsRelationSign}
+use Rattle.icu_rules.specs.Statements.{NameRanges, single}
 
 -- the left-to-right mark is white space, and the no-break space isn't
 mark_is_white : is_white 0x200E ≡ true

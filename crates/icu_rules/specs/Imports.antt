@@ -1,5 +1,5 @@
 -- Imports (UTS #35 part 5, "Collation Tailorings").
-use Rattle.std.specs.Prelude.{ℕ, Bool, true, false, not, List, [], ◌∷◌, ◌++◌, map, Option, Some, None, IsTrue, ◌≡◌, ◌⊎◌, String, string_bytes, chars}
+use Rattle.std.specs.Prelude.{ℕ, Bool, true, false, not, List, [], ◌∷◌, ◌++◌, map, Option, Some, None, ◌≡◌, ◌⊎◌, String, string_bytes, chars}
 use Rattle.std.specs.declared.alloc.Global.{Global}
 use Rattle.icu_rules.specs.declared.rules.PlacedStatement.{PlacedStatement}
 use Rattle.icu_rules.specs.declared.statement.Statement.{Statement}
