@@ -32,10 +32,6 @@ white_45 : is_white 45 ≡ false
 unfolding is_white
 white_45 = refl
 
-white_91 : is_white 91 ≡ false
-unfolding is_white
-white_91 = refl
-
 white_92 : is_white 92 ≡ false
 unfolding is_white
 white_92 = refl
