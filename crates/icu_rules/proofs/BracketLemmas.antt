@@ -1,5 +1,5 @@
 -- Words and sets in brackets, taken one at a time.
-use Rattle.std.proofs.Common.{ℕ, Bool, true, false, not, ◌≡◌, ◌≢◌, ◌<◌, ◌≤◌, ◌+◌, ◌-◌, ◌⊎◌, inl, inr, List, [], ◌∷◌, ◌++◌, length, take, drop, ap, ◌∙◌, sym, refl, subst, append_assoc, arith, IsTrue, length-append}
+use Rattle.std.proofs.Common.{ℕ, true, false, ◌≡◌, ◌≢◌, ◌≤◌, ◌-◌, inl, inr, List, [], ◌∷◌, ◌++◌, length, take, drop, ap, ◌∙◌, sym, refl, subst, append_assoc, arith, IsTrue, length-append}
 use Rattle.std.specs.List.{list_all}
 use Rattle.std.proofs.lemmas.Bool.{and_from}
 use Rattle.std.proofs.lemmas.List.{append-nil}
@@ -7,8 +7,8 @@ use Rattle.std.proofs.lemmas.List.Folds.{list_all-append}
 use Rattle.std.proofs.Math.Seq.{take-append_seam, drop-append_seam}
 use Rattle.icu_rules.specs.declared.statement.CharacterRange.{CharacterRange}
 use Rattle.icu_rules.specs.RuleCharacters.{is_plain, is_word_character, is_white, IsWhite, is_blank, IsBlank}
-use Rattle.icu_rules.specs.RuleStrings.{SpellsEscape, SpellsCharacter}
-use Rattle.icu_rules.specs.Tokens.{Token, bracket, set_bracket, SpellsTokens, SpellsToken, SpellsWords, SpellsSet, SpellsRange, IsBracketWord, IsNoWord}
+use Rattle.icu_rules.specs.RuleStrings.{SpellsCharacter}
+use Rattle.icu_rules.specs.Tokens.{Token, bracket, set_bracket, SpellsToken, SpellsWords, SpellsSet, IsBracketWord, IsNoWord}
 use Rattle.icu_rules.specs.TakenText.{SkipsWhite, SkipsWord, TakesWords, TakesRanges, TakesMember, TakesRange, TakesSet, TakesEscape, Takes}
 
 pub word_more : {c : ℕ} {after r whole : List ℕ} → whole ≡ c ∷ after → is_word_character c ≡ true → SkipsWord after r → SkipsWord whole r

@@ -1,7 +1,7 @@
 -- Escapes, by what stands behind the backslash.
-use Rattle.std.proofs.Common.{ℕ, ◌≡◌, ◌≢◌, ◌≤◌, ◌⊎◌, inl, inr, List, [], ◌∷◌, ◌++◌, length, ap, ◌∙◌, sym, refl, append_assoc}
-use Rattle.icu_rules.specs.RuleStrings.{SpellsEscape, itself, four, eight, two, braced}
-use Rattle.icu_rules.specs.TakenText.{TakesDigits, TakesBraced, TakesShort, TakesEscape}
+use Rattle.std.proofs.Common.{ℕ, ◌≡◌, ◌≢◌, inl, inr, List, [], ◌∷◌, ◌++◌, ap, ◌∙◌, sym, refl, append_assoc}
+use Rattle.icu_rules.specs.RuleStrings.{itself, four, eight, two, braced}
+use Rattle.icu_rules.specs.TakenText.{TakesDigits, TakesShort, TakesEscape}
 
 pub escape_four : {k d : ℕ} {text after rest : List ℕ} → text ≡ k ∷ after → k ≡ 117 → TakesDigits after 4 d rest → TakesEscape text d rest
 escape_four {k} {d} {text} {after} e n (digits, len, writes, same) =

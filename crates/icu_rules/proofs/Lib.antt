@@ -5,3 +5,10 @@ pub mod BracketLemmas
 pub mod StatementLemmas
 pub mod ParsingLemmas
 pub mod StarredLemmas
+mod WorkedRules
+pub mod ImportLemmas
+pub mod StringOnce
+pub mod WordsOnce
+pub mod TokensOnce
+pub mod StatementsOnce
+pub mod SayingsOnce

@@ -1,5 +1,5 @@
 -- Statements, taken one at a time.
-use Rattle.std.proofs.Common.{ℕ, Bool, true, false, ◌≡◌, ◌≤◌, ◌⊎◌, inl, inr, List, [], ◌∷◌, ◌++◌, length, map, ap, ◌∙◌, sym, refl, subst, append_assoc, arith}
+use Rattle.std.proofs.Common.{ℕ, true, false, ◌≡◌, inl, inr, List, [], ◌∷◌, ◌++◌, length, ap, ◌∙◌, sym, refl, subst, append_assoc, arith}
 use Rattle.std.specs.Prelude.{codes}
 use Rattle.std.proofs.lemmas.List.{append-nil}
 use Rattle.icu_options.specs.declared.settings.Strength.{Strength}
@@ -12,9 +12,9 @@ use Rattle.icu_rules.specs.declared.statement.StarredRelation.{StarredRelation}
 use Rattle.icu_rules.specs.declared.statement.RuleSetting.TheVariants as settings
 use Rattle.icu_rules.specs.declared.statement.Statement.{Statement}
 use Rattle.icu_rules.specs.declared.statement.Statement.TheVariants as statements
-use Rattle.icu_rules.specs.RuleCharacters.{is_blank, IsBlank, IsTrail}
+use Rattle.icu_rules.specs.RuleCharacters.{is_blank, IsTrail}
 use Rattle.icu_rules.specs.Tokens.{Token, reset_sign, relation_sign, vowel_sign, string, bracket, IsRelationSign, SpellsTokens}
-use Rattle.icu_rules.specs.Statements.{HasFindableContext, relation_parts, dashed_tokens, AreStatement, AreStatements, MayRelate, MayFollow, IsComplete, AreInOrder, chain_after, SpellStatements}
+use Rattle.icu_rules.specs.Statements.{HasFindableContext, relation_parts, dashed_tokens, AreStatements, MayRelate, MayFollow, IsComplete, AreInOrder, chain_after, SpellStatements}
 use Rattle.icu_rules.specs.TakenText.{Takes}
 use Rattle.icu_rules.specs.TakenStatements.{TakesSign, TakesReset, TakesStarred, TakesStatement, IsUnrelated, Relates}
 use Rattle.icu_rules.proofs.BracketLemmas.{take_token}

@@ -1,12 +1,12 @@
 -- White space and comments, taken a character at a time.
-use Rattle.std.proofs.Common.{ℕ, Bool, true, false, not, cond, nat_eq, List, [], ◌∷◌, ◌++◌, IsTrue, ◌≡◌, ◌≢◌, ◌⊎◌, ◌&&◌, inl, inr, refl, ap, ◌∙◌, sym, subst, append_assoc}
+use Rattle.std.proofs.Common.{ℕ, true, false, not, nat_eq, List, [], ◌∷◌, ◌++◌, ◌≡◌, inl, inr, refl, ap, ◌∙◌, sym, subst, append_assoc}
 use Rattle.std.specs.List.{list_all}
 use Rattle.std.proofs.lemmas.Bool.{and_from, and_parts}
 use Rattle.icu_options.specs.declared.settings.Strength.TheVariants.{Primary, Secondary, Tertiary, Quaternary, Identical}
-use Rattle.icu_rules.specs.RuleCharacters.{is_white, is_line_end, is_blank, IsWhite, IsBlank, IsTrail}
+use Rattle.icu_rules.specs.RuleCharacters.{is_white, is_line_end, is_blank, IsBlank}
 use Rattle.icu_rules.specs.RuleStrings.{SpellsCharacters, ends, plain, apostrophe, escaped, opens}
 use Rattle.icu_rules.specs.Tokens.{Token, reset_sign, relation_sign, prefix_sign, extension_sign, range_sign, vowel_sign, string, bracket, set_bracket, SpellsToken, SpellsTokens}
-use Rattle.icu_rules.specs.TakenText.{SkipsWhite, SkipsLine, Takes}
+use Rattle.icu_rules.specs.TakenText.{SkipsWhite, SkipsLine}
 
 pub white_more : {c : ℕ} {after r whole : List ℕ} → whole ≡ c ∷ after → is_white c ≡ true → SkipsWhite after r → SkipsWhite whole r
 white_more {c} e h (white, all, same) = (c ∷ white, and_from _ _ h all, e ∙ ap (λ t. c ∷ t) same)

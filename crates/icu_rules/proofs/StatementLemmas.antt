@@ -1,21 +1,20 @@
 -- The parts of statements, taken one at a time.
-use Rattle.std.proofs.Common.{ℕ, Bool, true, false, ◌≡◌, ◌≢◌, ◌<◌, ◌≤◌, ◌⊎◌, inl, inr, List, [], ◌∷◌, ◌++◌, length, map, Some, None, String, ap, ◌∙◌, sym, refl, subst, append_assoc, arith}
+use Rattle.std.proofs.Common.{ℕ, Bool, true, false, ◌≡◌, ◌≢◌, ◌<◌, ◌≤◌, inl, inr, List, [], ◌∷◌, ◌++◌, length, map, Some, None, String, ap, ◌∙◌, sym, refl, subst, append_assoc, arith}
 use Rattle.std.specs.declared.alloc.Global.{Global}
-use Rattle.std.proofs.Common.{drop, get_or, ◌+◌, suc, add-one}
+use Rattle.std.proofs.Common.{drop, get_or, ◌+◌, add-one}
 use Rattle.std.proofs.lemmas.List.{append-nil}
 use Rattle.std.proofs.Math.Seq.{drop-cons, drop-length}
 use Rattle.icu_options.specs.declared.settings.Strength.{Strength}
-use Rattle.icu_options.specs.declared.settings.Strength.TheVariants.{Primary, Secondary, Tertiary, Quaternary, Identical}
+use Rattle.icu_options.specs.declared.settings.Strength.TheVariants.{Secondary, Tertiary}
 use Rattle.icu_rules.specs.declared.resets.Said.{Said}
 use Rattle.icu_rules.specs.declared.resets.Said.TheVariants as said_by
-use Rattle.icu_rules.specs.declared.relations.Sign.{Sign}
 use Rattle.icu_rules.specs.declared.statement.LogicalPosition.{LogicalPosition}
 use Rattle.icu_rules.specs.declared.statement.Anchor.{Anchor}
 use Rattle.icu_rules.specs.declared.statement.Anchor.TheVariants as anchors
-use Rattle.icu_rules.specs.Tokens.{Token, reset_sign, relation_sign, prefix_sign, extension_sign, range_sign, string, bracket, relation_sign_text, IsRelationSign, SpellsTokens}
-use Rattle.icu_rules.specs.Statements.{prefix_tokens, extension_tokens, WritesWord, WriteWords, AreAnchor}
+use Rattle.icu_rules.specs.Tokens.{Token, prefix_sign, extension_sign, string, bracket, relation_sign_text, IsRelationSign, SpellsTokens}
+use Rattle.icu_rules.specs.Statements.{prefix_tokens, extension_tokens, WritesWord, WriteWords}
 use Rattle.icu_rules.specs.TakenText.{Takes}
-use Rattle.icu_rules.specs.TakenStatements.{StarBehind, TakesSign, SaysBehindReset, TakesSaid, TakesAnchor, TakesReset}
+use Rattle.icu_rules.specs.TakenStatements.{StarBehind, SaysBehindReset, TakesSaid, TakesAnchor, TakesReset}
 use Rattle.icu_rules.proofs.BracketLemmas.{take_token}
 
 signed : (s : Strength) (b : Bool) (text rest : List ℕ) {whole : List ℕ} → StarBehind b text rest → whole ≡ relation_sign_text s ++ text → (mine : List ℕ) × IsRelationSign s b mine × (whole ≡ mine ++ rest)

@@ -1,10 +1,10 @@
 -- The characters of strings, taken one at a time.
-use Rattle.std.proofs.Common.{ℕ, Bool, true, false, not, ◌||◌, ◌≡◌, ◌≢◌, ◌<◌, List, [], ◌∷◌, ◌++◌, length, ap, ◌∙◌, sym, refl, subst, append_assoc, arith, IsTrue}
+use Rattle.std.proofs.Common.{ℕ, Bool, true, false, not, ◌||◌, ◌≡◌, ◌≢◌, ◌<◌, List, [], ◌∷◌, ◌++◌, length, ap, ◌∙◌, sym, refl, subst, append_assoc, arith}
 use Rattle.std.specs.List.{list_all}
 use Rattle.std.proofs.lemmas.List.{append-nil}
 use Rattle.icu_rules.specs.RuleCharacters.{is_plain, is_reserved, is_blank, IsBlank}
-use Rattle.icu_rules.specs.RuleStrings.{SpellsEscape, IsNoQuote, SpellsCharacters, ends, plain, quoted, apostrophe, escaped, opens, closes}
-use Rattle.icu_rules.specs.Tokens.{Token, string, SpellsToken, SpellsTokens}
+use Rattle.icu_rules.specs.RuleStrings.{IsNoQuote, SpellsCharacters, ends, plain, quoted, apostrophe, escaped, opens, closes}
+use Rattle.icu_rules.specs.Tokens.{string}
 use Rattle.icu_rules.specs.TakenText.{TakesEscape, TakesCharacters, Takes}
 
 pub characters_none : {within : Bool} {text : List ℕ} → TakesCharacters within text [] within text

@@ -7,3 +7,5 @@ pub mod TakenText
 pub mod TakenStatements
 pub mod Imports
 pub mod RulePlaces
+pub mod Sayings
+pub mod RuleLaws

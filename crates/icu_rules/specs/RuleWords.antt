@@ -1,5 +1,5 @@
 -- The words of positions and settings (UTS #35 part 5, "Collation Tailorings" and "Setting Options").
-use Rattle.std.specs.Prelude.{ℕ, Bool, true, false, List, [], ◌∷◌, map, ◌≡◌, ◌≢◌, ◌⊎◌, codes, string_bytes, encode_utf8_all}
+use Rattle.std.specs.Prelude.{ℕ, Bool, true, false, List, [], ◌∷◌, ◌≡◌, ◌⊎◌, codes}
 use Rattle.icu_options.specs.declared.settings.Strength.{Strength}
 use Rattle.icu_options.specs.declared.settings.Strength.TheVariants as strengths
 use Rattle.icu_options.specs.declared.settings.AlternateHandling.{AlternateHandling}

@@ -1,5 +1,5 @@
 -- The tokens of each statement, and which statements may follow which (UTS #35 part 5, "Collation Tailorings").
-use Rattle.std.specs.Prelude.{ℕ, Bool, true, false, not, ◌==◌, ◌≤◌, List, [], ◌∷◌, ◌++◌, map, Option, Some, None, IsTrue, ◌≡◌, ◌≢◌, ◌⊎◌, ◌||◌, codes, String, string_bytes, encode_utf8_all}
+use Rattle.std.specs.Prelude.{ℕ, true, false, ◌≤◌, List, [], ◌∷◌, ◌++◌, map, Option, Some, None, ◌≡◌, ◌≢◌, codes, String, string_bytes, encode_utf8_all}
 use Rattle.std.specs.Char.{IsScalar}
 use Rattle.std.specs.List.{AllByRecursion}
 use Rattle.ucd_normal.specs.CanonicalCombiningClass.{canonical_combining_class}

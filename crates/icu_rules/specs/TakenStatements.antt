@@ -1,5 +1,5 @@
 -- What the reading of a statement, or of a part of one, took from a text.
-use Rattle.std.specs.Prelude.{ℕ, Bool, true, false, List, [], ◌∷◌, ◌++◌, IsTrue, ◌≡◌, ◌≢◌, codes}
+use Rattle.std.specs.Prelude.{ℕ, Bool, true, false, List, [], ◌∷◌, ◌++◌, ◌≡◌, ◌≢◌, codes}
 use Rattle.std.specs.List.{AllByRecursion}
 use Rattle.icu_options.specs.declared.settings.Strength.{Strength}
 use Rattle.icu_options.specs.declared.settings.Strength.TheVariants as strengths
@@ -11,7 +11,7 @@ use Rattle.icu_rules.specs.declared.statement.Anchor.{Anchor}
 use Rattle.icu_rules.specs.declared.statement.Reset.{Reset}
 use Rattle.icu_rules.specs.declared.statement.Statement.{Statement}
 use Rattle.icu_rules.specs.declared.statement.Statement.TheVariants as statements
-use Rattle.icu_rules.specs.Tokens.{Token, reset_sign, relation_sign, string, bracket, IsRelationSign}
+use Rattle.icu_rules.specs.Tokens.{Token, reset_sign, string, bracket, IsRelationSign}
 use Rattle.icu_rules.specs.RuleWords.{NamesPosition, level_word}
 use Rattle.icu_rules.specs.Statements.{AreAnchor, AreReset, AreStatement, NameRanges, IsInertRange, dashed_tokens}
 use Rattle.icu_rules.specs.TakenText.{Takes}

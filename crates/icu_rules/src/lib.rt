@@ -8,7 +8,10 @@ mod brackets;
 mod chain;
 mod escapes;
 mod first;
+#[cfg(test)]
+mod import_rows;
 pub mod imports;
+pub mod laws;
 mod parsing;
 mod relations;
 mod resets;

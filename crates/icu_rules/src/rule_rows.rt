@@ -104,6 +104,53 @@ const READ: [(&str, usize); 12] = [
     ),
 ];
 
+/// Rules that only a root can refuse, or nothing, and how many statements they are.
+const READ_WITHOUT_A_ROOT: [(&str, usize); 43] = [
+    ("&[last implicit]<b", 2),
+    ("&[first trailing]<b", 2),
+    ("&[last trailing]<b", 2),
+    ("&[before 1]\\u0000<b", 2),
+    ("&[before 1]\\u0301<b", 2),
+    ("&[before 2]\\u0000<<b", 2),
+    ("&[before 3]\\u0000<<<b", 2),
+    ("&[before 1][first variable]<b", 2),
+    ("&\\u0000<b", 2),
+    ("&\\u0301<b", 2),
+    ("&\\u0000<<<<b", 2),
+    ("&\\u0378<b", 2),
+    ("&a<<<<b<<<<c<<<<d", 4),
+    ("&a<<<<b<<<<c<<<<d<<<<e", 5),
+    ("&a<\\u1100b", 2),
+    ("&a<b\\u1100", 2),
+    ("[reorder xxxx]", 1),
+    ("[reorder Abcd]", 1),
+    ("[reorder Grek Grek]", 1),
+    ("[reorder Grek others Grek]", 1),
+    ("[reorder others others]", 1),
+    ("[reorder others]", 1),
+    ("[reorder Zzzz Latn]", 1),
+    ("[reorder Hira Kana]", 1),
+    ("[import xx-u-co-nosuch]", 1),
+    ("[suppressContractions [a-z]]", 1),
+    ("&a<bbbbbbbbbbbbbbbbbbbbbbbbbbbbbbbbbbbbbbbb", 2),
+    ("&a<b/cccccccccccccccccccccccccccccccc", 2),
+    ("&aaaaaaaaaaaaaaaaaaaaaaaaaaaaaaaa<b", 2),
+    ("&aaaaaaaaaaaaaaaaaaaaaaaaaaaaaaaaa<b", 2),
+    ("&a<abc|d", 2),
+    ("&a=b", 2),
+    ("&[top]<b", 2),
+    ("&[variable top]<b", 2),
+    ("&a;b,c", 3),
+    ("@&a<b", 3),
+    ("!&a<b", 3),
+    ("&[first implicit]<b", 2),
+    ("&a<b&b<a&a<c", 6),
+    ("&\\uFDD1\\uFDD0<b", 2),
+    ("&[before 1]\\u4E00<b", 2),
+    ("&[before 1]a<b[import de-u-co-phonebk]", 3),
+    ("&e<\\uAC01", 2),
+];
+
 #[test]
 fn refused_rules(rt: HostRuntime) -> Result<(), Fail> {
     for (rules, place, kind) in REFUSED {
@@ -120,6 +167,15 @@ fn refused_rules(rt: HostRuntime) -> Result<(), Fail> {
 #[test]
 fn read_rules(rt: HostRuntime) -> Result<(), Fail> {
     for (rules, count) in READ {
+        let rules = Rules::parse(rt.alloc(), rules)?;
+        assert_eq!(rt; rules.statements.len(), count);
+    }
+    Ok(())
+}
+
+#[test]
+fn rules_read_without_a_root(rt: HostRuntime) -> Result<(), Fail> {
+    for (rules, count) in READ_WITHOUT_A_ROOT {
         let rules = Rules::parse(rt.alloc(), rules)?;
         assert_eq!(rt; rules.statements.len(), count);
     }

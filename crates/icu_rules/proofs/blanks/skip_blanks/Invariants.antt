@@ -1,4 +1,4 @@
-use Rattle.std.proofs.Common.{ℕ, List, [], ◌≤◌, length}
+use Rattle.std.proofs.Common.{[], ◌≤◌, length}
 use Rattle.icu_rules.specs.TakenText.{Takes}
 use Rattle.icu_rules.proofs.blanks.skip_blanks.Given as goal
 

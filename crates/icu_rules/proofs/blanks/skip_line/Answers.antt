@@ -1,4 +1,4 @@
-use Rattle.std.proofs.Common.{rules, [], refl, sym, ◌∙◌}
+use Rattle.std.proofs.Common.{rules}
 use Rattle.icu_rules.proofs.SkipLemmas.{line_more, line_ends, line_none}
 use Rattle.icu_rules.proofs.blanks.skip_line.Goals as goal
 

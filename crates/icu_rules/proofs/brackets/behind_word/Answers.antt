@@ -1,5 +1,5 @@
-use Rattle.std.proofs.Common.{rules, [], refl}
-use Rattle.icu_rules.proofs.BracketLemmas.{word_more, no_word_at, no_word_none}
+use Rattle.std.proofs.Common.{rules}
+use Rattle.icu_rules.proofs.BracketLemmas.{word_more}
 use Rattle.icu_rules.proofs.brackets.behind_word.Goals as goal
 
 pub loop-c-preserved : goal.loop-c-preserved

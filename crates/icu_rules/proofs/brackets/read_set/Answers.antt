@@ -1,5 +1,4 @@
-use Rattle.std.proofs.Common.{rules, [], sym, subst, List}
-use Rattle.icu_rules.specs.TakenText.{TakesRanges}
+use Rattle.std.proofs.Common.{rules}
 use Rattle.icu_rules.proofs.BracketLemmas.{ranges_white, ranges_step, set_closed}
 use Rattle.icu_rules.proofs.brackets.read_set.Goals as goal
 

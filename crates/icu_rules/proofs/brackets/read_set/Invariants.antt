@@ -1,4 +1,4 @@
-use Rattle.std.proofs.Common.{ℕ, ◌≤◌, length}
+use Rattle.std.proofs.Common.{◌≤◌, length}
 use Rattle.icu_rules.specs.TakenText.{TakesRanges}
 use Rattle.icu_rules.proofs.brackets.read_set.Given as goal
 

@@ -1,4 +1,4 @@
-use Rattle.std.proofs.Common.{rules, arith, ◌≡◌, ◌≢◌, ◌<◌, [], length, map, ap, ◌∙◌, length-append}
+use Rattle.std.proofs.Common.{rules, arith, ◌≢◌, ◌<◌, [], length, map, ap, ◌∙◌, length-append}
 use Rattle.std.proofs.lemmas.Grind.{common_steps}
 use Rattle.std.proofs.lemmas.List.{map-append}
 use Rattle.icu_rules.proofs.BracketLemmas.{words_white, words_step}

@@ -1,4 +1,4 @@
-use Rattle.std.proofs.Common.{◌≡◌, ℕ, ◌+◌, ◌≤◌, ◌++◌, length, map, IsTrue}
+use Rattle.std.proofs.Common.{◌≡◌, ◌≤◌, ◌++◌, length, map, IsTrue}
 use Rattle.std.specs.List.{list_all}
 use Rattle.icu_rules.specs.RuleCharacters.{is_word_character}
 use Rattle.icu_rules.specs.Tokens.{IsNoWord}

@@ -1,4 +1,4 @@
-use Rattle.std.proofs.Common.{◌≡◌, [], ◌∷◌, ◌++◌, arith, map, ap, ◌∙◌, List, rules, length}
+use Rattle.std.proofs.Common.{◌≡◌, arith, map, ap, ◌∙◌, rules, length}
 use Rattle.std.proofs.lemmas.List.{map-append}
 use Rattle.std.proofs.lemmas.Grind.{common_steps}
 use Rattle.icu_rules.proofs.ParsingLemmas.{told_first, told_step, ordered_first, ordered_step, all_told, nothing_of}

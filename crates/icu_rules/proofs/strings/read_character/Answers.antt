@@ -1,4 +1,4 @@
-use Rattle.std.proofs.Common.{rules, sym, ◌∙◌}
+use Rattle.std.proofs.Common.{rules, sym}
 use Rattle.icu_rules.proofs.StringLemmas.{characters_apostrophe, characters_escape, characters_one}
 use Rattle.icu_rules.proofs.strings.read_character.Goals as goal
 

@@ -1,4 +1,4 @@
-use Rattle.std.proofs.Common.{◌≡◌, ℕ, ◌+◌, ◌≤◌, false, length, vec_len}
+use Rattle.std.proofs.Common.{◌+◌, ◌≤◌, false, length, vec_len}
 use Rattle.icu_rules.specs.TakenText.{TakesCharacters}
 use Rattle.icu_rules.proofs.strings.read_characters.Given as goal
 
