@@ -1,5 +1,9 @@
 pub mod HexDigits
 pub mod LineParts
+pub mod Words
+pub mod WrittenElements
+pub mod WrittenMappings
+pub mod WrittenLines
 pub mod Ranges
 pub mod Errors
 pub mod Roots
