@@ -5,3 +5,9 @@ pub mod PrefixLemmas
 pub mod WordLemmas
 pub mod ElementLemmas
 pub mod LineLemmas
+pub mod EntryLemmas
+pub mod TakenLemmas
+pub mod LeadLemmas
+pub mod FileLineLemmas
+pub mod IdeographLemmas
+pub mod DigitLemmas

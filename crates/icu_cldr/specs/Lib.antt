@@ -1,5 +1,6 @@
 pub mod HexDigits
 pub mod LineParts
+pub mod FileLines
 pub mod Words
 pub mod WrittenElements
 pub mod WrittenMappings
@@ -9,5 +10,6 @@ pub mod Errors
 pub mod Roots
 pub mod Given
 pub mod LineElements
+pub mod Ideographs
 pub mod CharacterEntries
 pub mod inner
