@@ -1,7 +1,7 @@
 -- Entries of characters, by themselves and between others, that are put in.
-use Rattle.std.proofs.Common.{◌≡◌, ℕ, Bool, true, false, List, [], ◌∷◌, Option, Some, None, refl, sym, ap, subst, ◌∙◌, if◌then◌else◌, reverse, length, arith}
+use Rattle.std.proofs.Common.{◌≡◌, ℕ, Bool, true, false, List, [], Option, Some, None, refl, sym, ap, subst, ◌∙◌, if◌then◌else◌, arith}
 use Rattle.std.specs.Prelude.{◌==◌, ◌&&◌, nat_lt, bytes_eq, unwrap_or, option_and_then}
-use Rattle.std.specs.BTreeMap.{BTreeMap, get, get_by, is_at, insert_entry}
+use Rattle.std.specs.BTreeMap.{get, get_by, is_at, insert_entry}
 use Rattle.std.specs.Cmp.Lexicographic.{slice_cmp}
 use Rattle.std.specs.Global.{Vec}
 use Rattle.std.specs.Map.{remove_entry}
@@ -11,7 +11,7 @@ use Rattle.std.proofs.lemmas.Bool.Decides.{nat_tests}
 use Rattle.icu_cldr.specs.inner.Entries.{Plain, Around, PutsPlain, PutsBetween, EntriesGrow, entry_around}
 use Rattle.icu_cldr.specs.inner.Surroundings.{Suffixes, Surroundings, entry_at, entry_between, value_among, PutsEntryBetween}
 use Rattle.icu_cldr.proofs.AddedContextLemmas.{between_from_get}
-use Rattle.icu_cldr.proofs.SurroundingLemmas.{found_among, inserted_among, key_order, removed_among, same_from_true}
+use Rattle.icu_cldr.proofs.SurroundingLemmas.{inserted_among, key_order, removed_among, same_from_true}
 
 -- ---- keys
 

@@ -1,5 +1,5 @@
 -- A lead byte is added to those whose bits are set.
-use Rattle.std.proofs.Common.{◌≡◌, ◌≢◌, ℕ, ◌+◌, ◌*◌, ◌^◌, ◌/◌, ◌%◌, ◌<◌, Bool, true, false, List, refl, sym, ap, ◌∙◌, length, arith, rules}
+use Rattle.std.proofs.Common.{◌≡◌, ◌≢◌, ℕ, ◌*◌, ◌^◌, ◌/◌, ◌%◌, ◌<◌, Bool, true, false, List, refl, sym, ap, ◌∙◌, length, arith}
 use Rattle.std.specs.Prelude.{◌==◌, ◌||◌, slice_index, slice_set}
 use Rattle.std.specs.Int.{w16}
 use Rattle.std.specs.Int.RustNames.{bit_or}

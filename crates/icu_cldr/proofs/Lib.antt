@@ -11,3 +11,5 @@ pub mod LeadLemmas
 pub mod FileLineLemmas
 pub mod IdeographLemmas
 pub mod DigitLemmas
+pub mod RootValueLemmas
+pub mod ResolvedLemmas

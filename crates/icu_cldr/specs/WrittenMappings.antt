@@ -3,7 +3,6 @@ use Rattle.std.specs.Prelude.{◌≡◌, ℕ, ◌<◌, List, [], ◌∷◌, ◌�
 use Rattle.icu_cldr.specs.LineParts.{Lacks}
 use Rattle.icu_cldr.specs.Words.{IsCutAt, WriteCharacters}
 use Rattle.icu_cldr.specs.WrittenElements.{WriteElements}
-use Rattle.icu_cldr.specs.declared.fractional_element.FractionalElement.{FractionalElement}
 use Rattle.icu_cldr.specs.declared.mapping.Mapping.{Mapping}
 
 -- characters, and those before a bar, if there is one

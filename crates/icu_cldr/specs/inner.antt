@@ -6,3 +6,5 @@ pub mod Taken
 pub mod Leads
 pub mod LeadWords
 pub mod Digits
+pub mod RootValues
+pub mod Resolved

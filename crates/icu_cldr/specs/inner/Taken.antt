@@ -1,5 +1,5 @@
 -- What was taken in of the lines so far.
-use Rattle.std.specs.Prelude.{◌≡◌, ℕ, List, [], Option, Some, None}
+use Rattle.std.specs.Prelude.{◌≡◌, ℕ, List, [], Some, None}
 use Rattle.icu_entries.specs.Elements.{Element}
 use Rattle.icu_table_builder.specs.Building.{built_data}
 use Rattle.icu_cldr.specs.Given.{Spells}

@@ -1,4 +1,4 @@
-use Rattle.std.proofs.Common.{◌≡◌, ◌∙◌, false, reverse, sym}
+use Rattle.std.proofs.Common.{◌∙◌, reverse, sym}
 use Rattle.std.proofs.lemmas.Result.{on_ok_weaker}
 use Rattle.icu_cldr.proofs.EntryLemmas.{grow_around}
 use Rattle.icu_cldr.proofs.TakenLemmas.{not_plain}

@@ -1,4 +1,4 @@
-use Rattle.std.proofs.Common.{◌≡◌, ℕ, List, [], ◌∷◌, rules, subst}
+use Rattle.std.proofs.Common.{ℕ, List, [], ◌∷◌, rules, subst}
 use Rattle.std.specs.Str.Iter.{split_whitespace_rest}
 use Rattle.icu_cldr.specs.Words.{WriteBytes}
 use Rattle.icu_cldr.proofs.WordLemmas.{two_bytes}

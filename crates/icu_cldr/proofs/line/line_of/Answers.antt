@@ -1,4 +1,4 @@
-use Rattle.std.proofs.Common.{◌≡◌, false, inl, inr, rules, sym, ◌∙◌}
+use Rattle.std.proofs.Common.{◌≡◌, false, inr, rules}
 use Rattle.icu_cldr.specs.WrittenLines.{homeless, is_digit_sample}
 use Rattle.icu_cldr.proofs.line.line_of.Goals as goal
 

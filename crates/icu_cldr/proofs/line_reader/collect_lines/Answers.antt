@@ -1,4 +1,4 @@
-use Rattle.std.proofs.Common.{◌≡◌, ◌∙◌, ◌∷◌, ◌++◌, [], ℕ, List, Option, ap, sym, subst, string_bytes}
+use Rattle.std.proofs.Common.{◌∙◌, ◌∷◌, ◌++◌, [], ℕ, List, Option, ap, sym, subst, string_bytes}
 use Rattle.std.specs.Io.Iter.{lines_known_bytes}
 use Rattle.std.proofs.lemmas.Result.{IfOk-at_ok}
 use Rattle.icu_cldr.specs.FileLines.{LinesRead}

@@ -1,4 +1,3 @@
-use Rattle.std.proofs.Common.{rules}
 use Rattle.icu_cldr.proofs.TakenLemmas.{grows_not, ok_always}
 use Rattle.icu_cldr.proofs.AddedContextLemmas.{extends_itself}
 use Rattle.icu_cldr.proofs.collected.Collected.read_line.Goals as goal

@@ -1,5 +1,5 @@
-use Rattle.std.proofs.Common.{◌≡◌, ◌<◌, ◌^◌, ◌*◌, ◌/◌, ◌%◌, ◌∙◌, Bool, true, false, ℕ, List, length, refl, ap, rules}
-use Rattle.std.specs.Prelude.{◌||◌, slice_index, slice_set}
+use Rattle.std.proofs.Common.{◌≡◌, ◌<◌, ◌^◌, ◌*◌, ◌/◌, ◌%◌, ◌∙◌, ℕ, List, length, ap, rules}
+use Rattle.std.specs.Prelude.{slice_index, slice_set}
 use Rattle.std.specs.Int.RustNames.{bit_or}
 use Rattle.icu_cldr.specs.inner.Leads.{has_lead}
 use Rattle.icu_cldr.proofs.LeadLemmas.{adds_lead, or_true}

@@ -1,7 +1,5 @@
-use Rattle.std.proofs.Common.{rules, ◌≡◌, ◌<◌, length, List, [], ◌∷◌, arith, refl, sym, ◌∙◌, ap, ◌++◌}
-use Rattle.std.specs.Str.{trim_start}
-use Rattle.icu_cldr.specs.declared.fractional_element.FractionalElement.{FractionalElement}
-use Rattle.icu_cldr.proofs.ElementLemmas.{write_first, write_more, write_end, nothing_at}
+use Rattle.std.proofs.Common.{rules, ◌≡◌, [], ◌∷◌, sym, ◌∙◌}
+use Rattle.icu_cldr.proofs.ElementLemmas.{write_more, write_end, nothing_at}
 use Rattle.icu_cldr.proofs.fractional_element.FractionalElement.parse_all.Goals as goal
 
 pub loop-rest-init : goal.loop-rest-init

@@ -1,4 +1,4 @@
-use Rattle.std.proofs.Common.{◌≡◌, ◌<◌, ◌≤◌, ◌∙◌, ◌∷◌, ◌+◌, List, false, true, refl, sym, ap, drop, length, rules}
+use Rattle.std.proofs.Common.{◌≡◌, ◌<◌, ◌∙◌, ◌∷◌, ◌+◌, List, false, true, refl, sym, ap, drop, length, rules}
 use Rattle.std.proofs.lemmas.List.{at_drop_more}
 use Rattle.icu_cldr.specs.declared.ideograph_weights.WeightedRange.{WeightedRange}
 use Rattle.icu_cldr.proofs.IdeographLemmas.{primary_here, primary_past, found_weight}
