@@ -1,1 +1,2 @@
 pub mod RootLemmas
+pub mod NeighbourLemmas

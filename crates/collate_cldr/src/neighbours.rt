@@ -1,14 +1,21 @@
 //! Whether lines are in order, as those of CLDR's test files should be.
-ghost use Rattle.std.specs.Prelude.{◌≡◌, IfOk, chars, string_bytes};
+ghost use Rattle.std.specs.Prelude.{◌≡◌, ◌==◌, true, IfOk, IfSome, Some, MatchOption, chars, string_bytes, option_map};
+ghost use Rattle.std.specs.List.{before_first};
+ghost use Rattle.std.specs.Str.Iter.{split_whitespace_rest};
+ghost use Rattle.icu_cldr.specs.LineParts.{text_of};
+ghost use Rattle.icu_text_order.specs.Collations.{Collation};
+ghost use Rattle.icu_text_order.specs.TextOrder.{text_key};
 ghost use Rattle.icu_collator.specs.Collators.{collation_kept};
-ghost use Rattle.collate_cldr.specs.Neighbours.{is_greater, is_greater_key, one_more};
+ghost use Rattle.collate_cldr.specs.Neighbours.{is_greater, is_greater_key, one_more, HasOtherWord, SpellsText, CountsLines};
 ghost use Rattle.std.specs.Ordering.{is_gt};
 
 use collate_commands::ProgramError;
+use icu_cldr::hexadecimal::character;
 use icu_collator::Collator;
 use std::alloc::{AllocError, Global};
 use std::cmp::Ordering;
 use std::io::{self, BufRead, BufReader, ErrorKind, Read};
+use std::str::SplitWhitespace;
 
 /// What was counted: pairs of neighbours, pairs out of order by comparison, pairs out of order by keys, and lines that
 /// were passed over since a number is no character's, as that of a lone surrogate.
@@ -27,15 +34,23 @@ struct Keyed {
     key: Vec<u8>,
 }
 
-/// The text that the numbers of characters in a line spell, in hexadecimal digits; nothing where one is the number of
-/// no character.
-fn spelt(alloc: Global, line: &str) -> Result<Option<String>, AllocError> {
+/// How far lines were judged: what was counted, and the last text.
+#[derive(Drop)]
+pub(crate) struct JudgedLines {
+    counts: Counts,
+    last: Option<Keyed>,
+}
+
+/// The text that words spell, which are the numbers of its characters, in four to six hexadecimal digits; nothing where
+/// one is the number of no character.
+fn spelt(alloc: Global, words: SplitWhitespace<'_>) -> Result<Option<String>, AllocError>
+    ensures { IfOk result (λ spelt. MatchOption spelt
+        (HasOtherWord (split_whitespace_rest words.entry))
+        (λ text. SpellsText (split_whitespace_rest words.entry) (string_bytes text))) }
+{
     let mut text = String::new(alloc);
-    for word in line.split_whitespace() {
-        let Ok(code) = u32::from_str_radix(word, 16) else {
-            return Ok(None);
-        };
-        match char::from_u32(code) {
+    for word in words {
+        match character(word) {
             Some(c) => text.push(c)?,
             None => return Ok(None),
         }
@@ -43,8 +58,17 @@ fn spelt(alloc: Global, line: &str) -> Result<Option<String>, AllocError> {
     Ok(Some(text))
 }
 
+/// What stands before the comment of a line, without white space around.
+fn numbers_of(line: &str) -> &str
+    ensures { result.now ≡ text_of line.now }
+{
+    before_comment(line).trim()
+}
+
 /// What stands before the comment of a line.
-fn before_comment(line: &str) -> &str {
+fn before_comment(line: &str) -> &str
+    ensures { result.now ≡ before_first (λ b. b == 35) line.now }
+{
     match line.split_once('#') {
         Some((text, _)) => text,
         None => line,
@@ -52,7 +76,11 @@ fn before_comment(line: &str) -> &str {
 }
 
 /// A text with its key.
-fn with_key(alloc: Global, collator: &Collator, text: String) -> Result<Keyed, ProgramError> {
+fn with_key(alloc: Global, collator: &Collator, text: String) -> Result<Keyed, ProgramError>
+    ensures text { IfOk result (λ keyed. string_bytes keyed.text ≡ string_bytes text) }
+    ensures key { IfOk result (λ keyed. keyed.key.items
+        ≡ text_key (collation_kept collator.now) (chars (string_bytes text))) }
+{
     let mut key = Vec::new(alloc);
     match collator
         .as_borrowed()
@@ -67,7 +95,9 @@ impl Counts {
     ghost use Rattle.collate_cldr.specs.Neighbours.{with_pair, are_in_order};
 
     /// Nothing is seen.
-    fn new() -> Counts {
+    fn new() -> Counts
+        ensures { result ≡ record { pairs = 0; greater = 0; greater_by_keys = 0; passed_over = 0 } }
+    {
         Counts {
             pairs: 0,
             greater: 0,
@@ -149,35 +179,124 @@ fn unread(error: &io::Error) -> ProgramError {
     }
 }
 
-/// Looks at the lines of a reader, each of which spells a text by the numbers of its characters.
-pub(crate) fn neighbours<R: Read + Drop>(
+impl Counts {
+    /// With a line more that was passed over.
+    fn with_passed(self) -> Counts
+        ensures { result ≡ record self { passed_over = one_more true self.passed_over } }
+    {
+        Counts {
+            pairs: self.pairs,
+            greater: self.greater,
+            greater_by_keys: self.greater_by_keys,
+            passed_over: one_more(true, self.passed_over),
+        }
+    }
+}
+
+impl JudgedLines {
+    ghost use Rattle.collate_cldr.specs.Neighbours.{JudgesLine, nothing_judged, with_text, counts_with};
+    ghost use Rattle.collate_cldr.specs.KeyedTexts.{HasKey, judged_so_far, keyed_text};
+
+    /// No line is judged.
+    fn new() -> JudgedLines
+        ensures judged { judged_so_far result ≡ nothing_judged }
+        ensures key { (c : Collation) → HasKey c result.last }
+    {
+        JudgedLines {
+            counts: Counts::new(),
+            last: None,
+        }
+    }
+
+    /// The counts where a text follows the last one.
+    fn counts_with(&self, collator: &Collator, next: &Keyed) -> Result<Counts, ProgramError>
+        requires last { HasKey (collation_kept collator.now) self.now.last }
+        requires next { HasKey (collation_kept collator.now) (Some next.now) }
+        ensures { IfOk result (λ counts. counts ≡ counts_with (collation_kept collator.now)
+            self.now.counts (option_map keyed_text self.now.last) (keyed_text next.now)) }
+    {
+        match &self.last {
+            Some(last) => self.counts.with(collator, last, next),
+            None => Ok(self.counts),
+        }
+    }
+
+    /// With a text more.
+    fn with_text(
+        self,
+        alloc: Global,
+        collator: &Collator,
+        text: String,
+    ) -> Result<JudgedLines, ProgramError>
+        requires { HasKey (collation_kept collator.now) self.last }
+        ensures judged { IfOk result (λ new. judged_so_far new
+            ≡ with_text (collation_kept collator.now) (judged_so_far self) (chars (string_bytes text))) }
+        ensures key { IfOk result (λ new. HasKey (collation_kept collator.now) new.last) }
+    {
+        let next = with_key(alloc, collator, text)?;
+        Ok(JudgedLines {
+            counts: self.counts_with(collator, &next)?,
+            last: Some(next),
+        })
+    }
+
+    /// With a line more.
+    fn with_line(
+        self,
+        alloc: Global,
+        collator: &Collator,
+        line: &str,
+    ) -> Result<JudgedLines, ProgramError>
+        requires { HasKey (collation_kept collator.now) self.last }
+        ensures judged { IfOk result (λ new. JudgesLine (collation_kept collator.now)
+            (judged_so_far self) line.now (judged_so_far new)) }
+        ensures key { IfOk result (λ new. HasKey (collation_kept collator.now) new.last) }
+    {
+        let numbers = numbers_of(line);
+        if numbers.is_empty() {
+            return Ok(self);
+        }
+        match spelt(alloc, numbers.split_whitespace())? {
+            Some(text) => self.with_text(alloc, collator, text),
+            None => Ok(JudgedLines {
+                counts: self.counts.with_passed(),
+                last: self.last,
+            }),
+        }
+    }
+}
+
+/// Judges the lines of a reader, each of which spells a text by the numbers of its characters.
+fn judged_lines<R: BufRead + Drop>(
     alloc: Global,
     collator: &Collator,
-    input: R,
-) -> Result<Counts, ProgramError> {
-    let Ok(reader) = BufReader::new(alloc, input) else {
-        return Err(ProgramError::NoMemory);
-    };
-    let mut counts = Counts::new();
-    let mut last: Option<Keyed> = None;
+    reader: R,
+) -> Result<Counts, ProgramError>
+    ensures { IfOk result (λ counts. IfSome (R.remaining reader)
+        (λ bytes. CountsLines (collation_kept collator.now) bytes counts)) }
+{
+    let mut judged = JudgedLines::new();
     for line in reader.lines(alloc) {
         let line = match line {
             Ok(line) => line,
             Err(error) => return Err(unread(&error)),
         };
-        let numbers = before_comment(line.as_str()).trim();
-        if numbers.is_empty() {
-            continue;
-        }
-        let Some(text) = spelt(alloc, numbers)? else {
-            counts.passed_over = counts.passed_over.saturating_add(1);
-            continue;
-        };
-        let next = with_key(alloc, collator, text)?;
-        if let Some(last) = &last {
-            counts = counts.with(collator, last, &next)?;
-        }
-        last = Some(next);
+        judged = judged.with_line(alloc, collator, line.as_str())?;
     }
-    Ok(counts)
+    Ok(judged.counts)
+}
+
+/// Judges the lines of the input: each pair of texts that follow one another is counted.
+pub(crate) fn neighbours<R: Read + Drop>(
+    alloc: Global,
+    collator: &Collator,
+    input: R,
+) -> Result<Counts, ProgramError>
+    ensures { IfOk result (λ counts. IfSome (R.remaining input)
+        (λ bytes. CountsLines (collation_kept collator.now) bytes counts)) }
+{
+    let Ok(reader) = BufReader::new(alloc, input) else {
+        return Err(ProgramError::NoMemory);
+    };
+    judged_lines(alloc, collator, reader)
 }

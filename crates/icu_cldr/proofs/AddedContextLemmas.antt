@@ -1,6 +1,6 @@
 -- Contexts that are added to a table: what entries then lead to.
 use Rattle.std.proofs.Common.{◌≡◌, ℕ, ◌+◌, ◌<◌, List, [], ◌∷◌, ◌++◌, length, map, Option, Some, None, true, false, refl, sym, ap, subst, ◌∙◌, if◌then◌else◌, arith, inl, inr, zero, suc, add-one, append_assoc, length-append, take}
-use Rattle.std.specs.Prelude.{is_some, ◌==◌, vec_len}
+use Rattle.std.specs.Prelude.{is_some, ◌==◌}
 use Rattle.std.specs.Borrow.{Bor}
 use Rattle.std.proofs.lemmas.Bool.Decides.{nat_tests}
 use Rattle.std.specs.Global.{Vec}
@@ -13,13 +13,12 @@ use Rattle.std.proofs.Math.ListN.{get_or-append}
 use Rattle.std.proofs.Math.Seq.{get_or-append_seam}
 use Rattle.std.proofs.lemmas.List.{append-nil, map-append}
 use Rattle.icu_entries.specs.declared.entry.EntryKind.{EntryKind}
-use Rattle.icu_entries.specs.declared.entry.EntryKind.TheVariants.{Contraction, Prefix}
 use Rattle.icu_entries.specs.Entries.{kind_of, entry_index}
 use Rattle.icu_collation_data.specs.Data.{Mapping, Context, Data, context_in, mapping_entry, no_context}
 use Rattle.icu_table_builder.specs.Building.{and_context, and_entries}
 use Rattle.icu_table_builder.specs.AddedContexts.{given_mapping}
-use Rattle.icu_cldr.specs.Given.{RefersTo, Leads, Gives, entry_in}
-use Rattle.icu_cldr.specs.inner.Surroundings.{AddsContext, Extends, Suffixes, Surroundings, entry_at, entry_between, mappings_by, nearest_of, own_entry, value_among}
+use Rattle.icu_cldr.specs.Given.{Leads, entry_in}
+use Rattle.icu_cldr.specs.inner.Surroundings.{AddsContext, Extends, Suffixes, Surroundings, entry_at, entry_between, mappings_by, nearest_of, value_among}
 use Rattle.icu_cldr.proofs.SurroundingLemmas.{found_among}
 
 -- ---- look-ups

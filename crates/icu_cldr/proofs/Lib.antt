@@ -2,3 +2,14 @@ pub mod HexDigitLemmas
 pub mod SurroundingLemmas
 pub mod AddedContextLemmas
 pub mod PrefixLemmas
+pub mod WordLemmas
+pub mod ElementLemmas
+pub mod LineLemmas
+pub mod EntryLemmas
+pub mod TakenLemmas
+pub mod LeadLemmas
+pub mod FileLineLemmas
+pub mod IdeographLemmas
+pub mod DigitLemmas
+pub mod RootValueLemmas
+pub mod ResolvedLemmas

@@ -1,13 +1,13 @@
 -- Look-ups by lists of characters: what an insertion changes of them, and what `get` finds.
-use Rattle.std.proofs.Common.{◌≡◌, ℕ, Bool, true, false, List, [], ◌∷◌, Option, Some, None, refl, sym, ap, ◌∙◌, if◌then◌else◌, rules}
-use Rattle.std.specs.BTreeMap.{insert_entry, is_at, BTreeMap, get_by}
+use Rattle.std.proofs.Common.{◌≡◌, ℕ, Bool, true, false, List, [], ◌∷◌, Option, Some, None, refl, sym, ap, ◌∙◌, if◌then◌else◌}
+use Rattle.std.specs.BTreeMap.{insert_entry}
 use Rattle.std.specs.Cmp.Lexicographic.{slice_cmp}
 use Rattle.std.specs.Option.{option_or}
 use Rattle.std.specs.List.{AllByRecursion}
 use Rattle.std.proofs.lemmas.Cmp.{nat_list_eq_equiv}
 use Rattle.std.specs.Global.{Vec}
 use Rattle.std.specs.List.Sorted.{IsStrictlySortedBy}
-use Rattle.std.specs.Map.{lookup, keys_of}
+use Rattle.std.specs.Map.{lookup, keys_of, remove_entry}
 use Rattle.std.specs.Ordering.{match_ordering, is_eq, nat_cmp}
 use Rattle.std.specs.Str.{bytes_eq}
 use Rattle.std.specs.declared.cmp.Ordering.{Ordering}
@@ -131,3 +131,21 @@ pub found_inserted : {X : Type 0} (es : List (Vec ℕ × X)) (k : Vec ℕ) (v : 
 found_inserted es k v =
     inserted_among k.items es k v
     ∙ ap (λ b. if b then Some v else value_among es k.items) ((bytes_eq-Decides k.items k.items).1 refl)
+
+removed_here : {X : Type 0} (key chars : List ℕ) (e : Vec ℕ × X) (es rs : List (Vec ℕ × X)) → bytes_eq key chars ≡ false
+    → value_among rs chars ≡ value_among es chars → (b : Bool) → bytes_eq key e.0.items ≡ b
+    → value_among (if b then es else e ∷ rs) chars ≡ value_among (e ∷ es) chars
+unfolding value_among
+removed_here key chars e es rs other more true here =
+    let apart : bytes_eq e.0.items chars ≡ false = rw (← same_from_true key e.0.items here) other in
+    sym (ap (λ b. if b then Some e.1 else value_among es chars) apart)
+removed_here key chars e es rs other more false here = ap (λ o. if bytes_eq e.0.items chars then Some e.1 else o) more
+
+-- a key that was removed leaves the values at others
+pub removed_among : {X : Type 0} (key chars : List ℕ) (es : List (Vec ℕ × X)) → bytes_eq key chars ≡ false
+    → value_among (remove_entry (λ k. is_eq (slice_cmp nat_cmp key k.items)) es) chars ≡ value_among es chars
+removed_among key chars [] other = refl
+removed_among {X} key chars (e ∷ es) other =
+    let rs : List (Vec ℕ × X) = remove_entry (λ k. is_eq (slice_cmp nat_cmp key k.items)) es in
+    ap (λ b. value_among (if b then es else e ∷ rs) chars) (is_eq-slice_cmp key e.0.items)
+    ∙ removed_here key chars e es rs other (removed_among key chars es other) (bytes_eq key e.0.items) refl

@@ -3,9 +3,9 @@
 use Rattle.std.specs.Prelude.{◌≡◌, ℕ, ◌+◌, ◌<◌, ◌≤◌, List, [], ◌∷◌, Option, Some, ◌⊎◌, flat_map, length}
 use Rattle.icu_entries.specs.Elements.{Element}
 use Rattle.icu_entries.specs.declared.entry.EntryKind.{EntryKind}
-use Rattle.icu_entries.specs.declared.entry.EntryKind.TheVariants.{Expansion32, Expansion, Prefix, Contraction, Digit}
+use Rattle.icu_entries.specs.declared.entry.EntryKind.TheVariants.{Expansion32, Expansion, Prefix, Contraction}
 use Rattle.icu_entries.specs.Entries.{kind_of, entry_index, list_length, self_contained}
-use Rattle.icu_collation_data.specs.Data.{Data, Context, context_in, mapping_entry, plain_of}
+use Rattle.icu_collation_data.specs.Data.{Data, Context, context_in, mapping_entry}
 use Rattle.icu_collation_data.specs.Final.{listed}
 
 -- the entry has these elements by itself, and has some

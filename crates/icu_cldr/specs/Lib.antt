@@ -1,9 +1,15 @@
 pub mod HexDigits
 pub mod LineParts
+pub mod FileLines
+pub mod Words
+pub mod WrittenElements
+pub mod WrittenMappings
+pub mod WrittenLines
 pub mod Ranges
 pub mod Errors
 pub mod Roots
 pub mod Given
 pub mod LineElements
+pub mod Ideographs
 pub mod CharacterEntries
 pub mod inner

@@ -1,9 +1,16 @@
 //! The tables of what the lines said.
-ghost use Rattle.std.specs.Prelude.{◌≡◌, ℕ, ◌+◌, ◌<◌, slice_index, IfOk, IfErr};
+ghost use Rattle.std.specs.Prelude.{◌≡◌, ℕ, ◌+◌, ◌<◌, slice_index, unwrap_or, IfOk, IfErr, OnOk};
+ghost use Rattle.std.specs.BTreeMap.{get};
+ghost use Rattle.std.specs.Ordering.{nat_cmp};
+ghost use Rattle.icu_table_builder.specs.Building.{built_data, SaysOfCharacters};
+ghost use Rattle.icu_table_builder.specs.OwnedData.{owned_data};
 ghost use Rattle.icu_provider.specs.OwnedTables.{owned_tables, owned_jamo, owned_special};
 ghost use Rattle.icu_cldr.specs.CharacterEntries.{entry_of_char};
 ghost use Rattle.icu_cldr.specs.Errors.{IsNumbered};
 ghost use Rattle.icu_cldr.specs.Roots.{IsRoot};
+ghost use Rattle.icu_cldr.specs.inner.Resolved.{IsResolved};
+ghost use Rattle.icu_cldr.specs.inner.Surroundings.{Extends};
+ghost use Rattle.icu_cldr.specs.inner.RootValues.{SameLists, HasEntries};
 
 use crate::collected::Collected;
 use crate::contexts::{Contexts, entry_in_contexts};
@@ -71,7 +78,12 @@ fn resolve_contexts(
     builder: &mut DataBuilder,
     entries: &mut BTreeMap<char, CollationElement32>,
     contexts: &BTreeMap<char, Contexts>,
-) -> Result<(), UnnumberedError> {
+) -> Result<(), UnnumberedError>
+    ensures extends { OnOk result (Extends (built_data builder.old) (built_data builder.new)) }
+    ensures resolved { OnOk result ((c : ℕ) → IsResolved (built_data builder.new)
+        (get nat_cmp contexts.now c) (entry_of_char entries.old c) (get nat_cmp entries.old c)
+        (get nat_cmp entries.new c)) }
+{
     for (c, contexts) in contexts.iter() {
         let own = entry_of_char(entries, *c);
         let entry = entry_in_contexts(alloc, builder, own, contexts)?;
@@ -80,17 +92,37 @@ fn resolve_contexts(
     Ok(())
 }
 
+/// Gives characters their entries.
+fn set_all(builder: &mut DataBuilder, entries: &BTreeMap<char, CollationElement32>)
+    ensures lists { SameLists (built_data builder.old) (built_data builder.new) }
+    ensures entries { (c : ℕ) → (built_data builder.new).value c
+        ≡ unwrap_or (get nat_cmp entries.now c) ((built_data builder.old).value c) }
+{
+    for (c, entry) in entries.iter() {
+        builder.set_entry(*c, *entry);
+    }
+}
+
+/// The root of what was put together.
+fn built_root(builder: DataBuilder) -> Result<OwnedData, ReadError>
+    ensures says { IfOk result (λ o. SaysOfCharacters (built_data builder) (owned_data o)) }
+    ensures numbered { IfErr result IsNumbered }
+{
+    named(DataTable::Root, OwnedData::new(builder.build()?))
+}
+
 /// The root.
 fn root(
     mut builder: DataBuilder,
     entries: &BTreeMap<char, CollationElement32>,
 ) -> Result<OwnedData, ReadError>
-    ensures { IfErr result IsNumbered }
+    ensures lists { IfOk result (λ o. SameLists (built_data builder) (owned_data o)) }
+    ensures entries { IfOk result (λ o.
+        HasEntries entries.now (built_data builder) (owned_data o)) }
+    ensures numbered { IfErr result IsNumbered }
 {
-    for (c, entry) in entries.iter() {
-        builder.set_entry(*c, *entry);
-    }
-    named(DataTable::Root, OwnedData::new(builder.build()?))
+    set_all(&mut builder, entries);
+    built_root(builder)
 }
 
 impl Collected {

@@ -4,7 +4,7 @@ ghost use Rattle.std.specs.Option.{option_or};
 ghost use Rattle.icu_table_builder.specs.AddedContexts.{given_mapping};
 ghost use Rattle.icu_table_builder.specs.Building.{built_data};
 ghost use Rattle.icu_cldr.specs.Given.{Gives};
-ghost use Rattle.icu_cldr.specs.inner.Surroundings.{entry_at, entry_between, nearest, own_entry, mappings_by, AddsContext, Extends, IsBehind, LeadsNearest};
+ghost use Rattle.icu_cldr.specs.inner.Surroundings.{entry_at, entry_between, nearest, own_entry, mappings_by, AddsContext, Extends, PutsEntryBetween, IsBehind, LeadsNearest};
 
 use crate::error::{LineErrorKind, UnnumberedError};
 use icu_entries::{CollationElement32, INDEX_COUNT};
@@ -27,7 +27,10 @@ pub(crate) fn put_between(
     after: Vec<char>,
     entry: CollationElement32,
 ) -> Result<Option<CollationElement32>, UnnumberedError>
-    ensures { OnOk result (entry_between contexts.new before.items after.items ≡ Some entry) }
+    ensures had { IfOk result (λ had.
+        had ≡ entry_between contexts.old before.items after.items) }
+    ensures put { OnOk result
+        (PutsEntryBetween contexts.old contexts.new before.items after.items entry) }
 {
     let mut suffixes = contexts
         .remove(before.as_slice())

@@ -1,14 +1,18 @@
 //! The digits that make numbers: characters with General_Category Nd.
-ghost use Rattle.std.specs.Prelude.{◌%◌, IfOk, OnOk};
+ghost use Rattle.std.specs.Prelude.{◌≡◌, ◌==◌, ◌%◌, ℕ, false, IfOk, OnOk};
+ghost use Rattle.std.specs.BTreeMap.{get};
+ghost use Rattle.std.specs.Char.{IsScalar};
+ghost use Rattle.std.specs.Ordering.{nat_cmp};
 ghost use Rattle.icu_table_builder.specs.Building.{built_data};
 ghost use Rattle.icu_cldr.specs.CharacterEntries.{IsDigitEntry};
+ghost use Rattle.icu_cldr.specs.inner.Digits.{IsDigitOrAbsent, MakesDigits};
 ghost use Rattle.icu_cldr.specs.inner.Surroundings.{Extends};
 
+use crate::character_entries::CharacterEntries;
 use crate::error::{LineErrorKind, UnnumberedError};
 use icu_entries::{CollationElement32, INDEX_COUNT};
 use icu_table_builder::DataBuilder;
 use std::alloc::Global;
-use std::collections::BTreeMap;
 use ucd_perl::digit_ranges;
 
 /// The entry of a digit whose plain entry this is.
@@ -27,34 +31,63 @@ fn entry_of_digit(
     Ok(CollationElement32::digit_with_plain((value % 10) as u8, index))
 }
 
-/// Replaces the entry of each mapped character of a range of digits by a digit entry. Digits follow one another by
-/// tens, from zero to nine (Unicode Standard, "Numeric Value").
+/// Replaces the entry of a character, if it is one and is mapped, by a digit entry.
+#[tactic(auto, using(crate::proofs::AddedContextLemmas::extends_itself))]
+fn make_digit(
+    builder: &mut DataBuilder,
+    entries: &mut CharacterEntries,
+    code: u32,
+    value: u32,
+) -> Result<(), UnnumberedError>
+    ensures extends { OnOk result (Extends (built_data builder.old) (built_data builder.new)) }
+    ensures digit { OnOk result (IsScalar code → IsDigitOrAbsent (built_data builder.new)
+        (value % 10) (get nat_cmp entries.old code) (get nat_cmp entries.new code)) }
+    ensures others { OnOk result ((x : ℕ) → (code == x) ≡ false
+        → get nat_cmp entries.new x ≡ get nat_cmp entries.old x) }
+{
+    let Some(c) = char::from_u32(code) else {
+        return Ok(());
+    };
+    let Some(plain) = entries.get(&c).copied() else {
+        return Ok(());
+    };
+    let entry = entry_of_digit(builder, value, plain)?;
+    entries.insert(c, entry)?;
+    Ok(())
+}
+
+/// Replaces the entry of each mapped character from one code up to another by a digit entry. Digits follow one another
+/// by tens, from zero to nine (Unicode Standard, "Numeric Value").
 fn make_digits_of(
     builder: &mut DataBuilder,
-    entries: &mut BTreeMap<char, CollationElement32>,
+    entries: &mut CharacterEntries,
     first: u32,
-    last: u32,
-) -> Result<(), UnnumberedError> {
-    for (value, code) in (0u32..).zip(first..last.saturating_add(1)) {
-        let Some(c) = char::from_u32(code) else {
-            continue;
-        };
-        if let Some(plain) = entries.get(&c).copied() {
-            let entry = entry_of_digit(builder, value, plain)?;
-            entries.insert(c, entry)?;
-        }
+    end: u32,
+) -> Result<(), UnnumberedError>
+    ensures extends { OnOk result (Extends (built_data builder.old) (built_data builder.new)) }
+    ensures digits { OnOk result (MakesDigits (built_data builder.new) first end
+        entries.old entries.new) }
+{
+    if end < first {
+        return Ok(());
+    }
+    for code in first..end {
+        make_digit(builder, entries, code, code - first)?;
     }
     Ok(())
 }
 
 /// Replaces the entry of each mapped digit by a digit entry.
+#[tactic(auto, using(crate::proofs::AddedContextLemmas::extends_itself, crate::proofs::AddedContextLemmas::extends_further))]
 pub(crate) fn make_digits(
     alloc: Global,
     builder: &mut DataBuilder,
-    entries: &mut BTreeMap<char, CollationElement32>,
-) -> Result<(), UnnumberedError> {
+    entries: &mut CharacterEntries,
+) -> Result<(), UnnumberedError>
+    ensures { OnOk result (Extends (built_data builder.old) (built_data builder.new)) }
+{
     for (first, last) in digit_ranges(alloc)? {
-        make_digits_of(builder, entries, first, last)?;
+        make_digits_of(builder, entries, first, last.saturating_add(1))?;
     }
     Ok(())
 }

@@ -1,5 +1,6 @@
 //! The primary weights of ideographs, which the file leaves to its reader.
-ghost use Rattle.std.specs.Prelude.{◌≡◌, ◌+◌, ◌*◌, ◌%◌, ◌<◌, ◌≤◌, false, IfSome, IfOk};
+ghost use Rattle.std.specs.Prelude.{◌≡◌, ◌+◌, ◌*◌, ◌%◌, ◌<◌, ◌≤◌, false, Some, IfSome};
+ghost use Rattle.std.specs.Bool.{OnTrue};
 ghost use Rattle.icu_entries.specs.Weights.{weight_at};
 
 use crate::CharRange;
@@ -75,15 +76,21 @@ fn first_lead(count: u32) -> Option<u32>
 }
 
 impl IdeographWeights {
+    ghost use Rattle.icu_cldr.specs.Ideographs.{primary_in, HasNoIdeographs};
+
     /// No ideographs.
-    pub(crate) fn new(alloc: Global) -> IdeographWeights {
+    pub(crate) fn new(alloc: Global) -> IdeographWeights
+        ensures { HasNoIdeographs result }
+    {
         IdeographWeights {
             ranges: Vec::new(alloc),
         }
     }
 
     /// Whether there are none.
-    pub(crate) fn is_empty(&self) -> bool {
+    pub(crate) fn is_empty(&self) -> bool
+        ensures { OnTrue result (HasNoIdeographs self.now) }
+    {
         self.ranges.is_empty()
     }
 
@@ -111,7 +118,9 @@ impl IdeographWeights {
     }
 
     /// The primary weight of an ideograph, if it is one of these.
-    pub(crate) fn primary(&self, c: char) -> Option<u32> {
+    pub(crate) fn primary(&self, c: char) -> Option<u32>
+        ensures { IfSome result (λ p. primary_in self.now c ≡ Some p) }
+    {
         for weighted in self.ranges.iter() {
             if weighted.range.contains(c) {
                 return weighted.primary(c);
@@ -122,8 +131,11 @@ impl IdeographWeights {
 }
 
 impl WeightedRange {
+    ghost use Rattle.icu_cldr.specs.Ideographs.{weight_in};
+
     /// The primary weight of a character of the range.
     pub(crate) fn primary(self, c: char) -> Option<u32>
+        ensures weight { IfSome result (λ p. p ≡ weight_in self c) }
         ensures bound { IfSome result (λ p. p < 0xFE000000) }
         ensures three_bytes { IfSome result (λ p. p % 256 ≡ 0) }
     {

@@ -28,6 +28,8 @@ fn ends_of(word: &str) -> (&str, &str)
 }
 
 impl CharRange {
+    ghost use Rattle.icu_cldr.specs.WrittenLines.{WriteRanges};
+
     /// Reads a range: two characters with `..` between, the first not above the last, or one character.
     pub fn parse(word: &str) -> Result<CharRange, Expected>
         ensures { IfOk result (λ r. WritesRange word.now r.first r.last) }
@@ -50,7 +52,9 @@ impl CharRange {
     }
 
     /// Reads ranges with blanks between.
-    pub fn parse_all(alloc: Global, text: &str) -> Result<Vec<CharRange>, LineError> {
+    pub fn parse_all(alloc: Global, text: &str) -> Result<Vec<CharRange>, LineError>
+        ensures { IfOk result (λ v. WriteRanges text.now v.items) }
+    {
         let mut ranges = Vec::new(alloc);
         for word in text.split_whitespace() {
             ranges.push(CharRange::parse(word)?)?;

@@ -3,16 +3,21 @@
 #![tactic(auto)]
 
 mod assembly;
+mod character_entries;
 mod collected;
+mod compressible_leads;
 mod contexts;
 mod digits;
 pub mod error;
+mod expansions;
 pub mod expected;
 pub mod fractional_element;
 pub mod hexadecimal;
+mod ideograph_entries;
 mod ideograph_weights;
 pub mod ideographs;
 pub mod line;
+mod line_elements;
 mod line_reader;
 pub mod mapping;
 pub mod root;

@@ -1,14 +1,18 @@
 //! Lines.
-ghost use Rattle.std.specs.Prelude.{◌≡◌, ◌≢◌, ◌==◌, ◌++◌, ◌∷◌, [], ℕ, List, Ok, Err, MatchOption};
-ghost use Rattle.std.specs.List.{before_first};
+ghost use Rattle.std.specs.Prelude.{◌≡◌, ◌≢◌, ◌==◌, ◌++◌, ◌∷◌, [], ℕ, List, Ok, Err, IfOk, IsTrue, MatchOption, codes, bytes_eq};
+ghost use Rattle.std.specs.List.{before_first, list_any};
+ghost use Rattle.std.specs.Str.Iter.{split_whitespace_rest};
 ghost use Rattle.icu_cldr.specs.LineParts.{text_of};
+ghost use Rattle.icu_cldr.specs.WrittenLines.{AreWords, SaysOfLead, TextSays, HasNumericLead, homeless, is_digit_sample};
+ghost use Rattle.icu_cldr.specs.WrittenMappings.{WritesMapping};
 
 use crate::expected::{Expected, LineError};
-use crate::fractional_element::{FractionalElement, Primary};
+use crate::fractional_element::Primary;
 use crate::hexadecimal::byte;
 use crate::ideographs::CharRange;
 use crate::mapping::Mapping;
 use std::alloc::Global;
+use std::str::SplitWhitespace;
 
 /// A character of no text, with which the file begins mappings that are none of a text's.
 const HOMELESS: char = '\u{FDD0}';
@@ -71,35 +75,73 @@ fn before_bracket(text: &str) -> Option<&str>
     text.strip_suffix(']')
 }
 
+/// Whether one of these words is `COMPRESS`.
+fn has_compress(words: SplitWhitespace<'_>) -> bool
+    ensures { (named : List (List ℕ)) × AreWords (split_whitespace_rest words.entry) named
+        × (result ≡ list_any (λ w. bytes_eq w (codes "COMPRESS")) named) }
+{
+    let mut is_named = false;
+    for word in words {
+        is_named = is_named || word == "COMPRESS";
+    }
+    is_named
+}
+
 /// What is said of a lead byte, by the words behind `top_byte`.
-fn lead_byte(text: &str) -> Result<LeadByte, Expected> {
+fn lead_byte(text: &str) -> Result<LeadByte, Expected>
+    ensures { IfOk result (SaysOfLead text.now) }
+{
     let mut words = text.split_whitespace();
-    let Some(lead) = byte(words.next().unwrap_or("")) else {
+    let Some(word) = words.next() else {
         return Err(Expected::LeadByte);
     };
-    let is_compressible = words.any(|word| word == "COMPRESS");
-    Ok(LeadByte {
-        lead,
-        is_compressible,
-    })
+    match byte(word) {
+        Some(lead) => Ok(LeadByte {
+            lead,
+            is_compressible: has_compress(words),
+        }),
+        None => Err(Expected::LeadByte),
+    }
+}
+
+/// What stands behind a name with which a text begins.
+fn behind_name<'a>(text: &'a str, name: &str) -> Option<&'a str>
+    ensures { MatchOption result
+        ((behind : List ℕ) → text.now ≢ name.now ++ behind)
+        (λ behind. text.now ≡ name.now ++ behind.now) }
+{
+    text.strip_prefix(name)
 }
 
 /// A line in brackets, by what stands between them.
-fn bracketed(alloc: Global, text: &str) -> Result<Line, LineError> {
-    if let Some(ranges) = text.strip_prefix("Unified_Ideograph") {
+fn bracketed(alloc: Global, text: &str) -> Result<Line, LineError>
+    ensures { IfOk result (TextSays (91 ∷ text.now ++ 93 ∷ [])) }
+{
+    if let Some(ranges) = behind_name(text, "Unified_Ideograph") {
         Ok(Line::Ideographs(CharRange::parse_all(alloc, ranges)?))
-    } else if let Some(words) = text.strip_prefix("top_byte") {
+    } else if let Some(words) = behind_name(text, "top_byte") {
         Ok(Line::LeadByte(lead_byte(words)?))
     } else {
         Ok(Line::Nothing)
     }
 }
 
-/// The lead byte of numbers, by the elements of its mapping.
-fn numeric_lead(elements: &[FractionalElement]) -> Result<Line, LineError> {
-    match elements {
+/// Whether this is the sample of digits.
+fn is_sample_digit(suffix: &[char]) -> bool
+    ensures { result ≡ bytes_eq suffix.now (0x34 ∷ []) }
+{
+    suffix == [SAMPLE_DIGIT].as_slice()
+}
+
+/// The lead byte of numbers, by the mapping that has it.
+fn numeric_lead(mapping: &Mapping) -> Result<u8, LineError>
+    requires first { mapping.now.first ≡ homeless }
+    requires suffix { IsTrue (is_digit_sample mapping.now) }
+    ensures { IfOk result (HasNumericLead mapping.now) }
+{
+    match mapping.elements.as_slice() {
         [element] => match element.primary {
-            Primary::Weight(weight) => Ok(Line::NumericLead((weight >> 24) as u8)),
+            Primary::Weight(weight) => Ok((weight >> 24) as u8),
             Primary::OfIdeograph(_) => Err(LineError::Expected(Expected::NumericLead)),
         },
         _ => Err(LineError::Expected(Expected::NumericLead)),
@@ -107,20 +149,26 @@ fn numeric_lead(elements: &[FractionalElement]) -> Result<Line, LineError> {
 }
 
 /// What a mapping says.
-fn line_of(mapping: Mapping) -> Result<Line, LineError> {
+fn line_of(mapping: Mapping) -> Result<Line, LineError>
+    ensures { IfOk result (λ said. (text : List ℕ) → WritesMapping text mapping
+        → TextSays text said) }
+{
     if mapping.first != HOMELESS {
         return Ok(Line::Mapping(mapping));
     }
-    match mapping.suffix.as_slice() {
-        [SAMPLE_DIGIT] => numeric_lead(mapping.elements.as_slice()),
-        _ => Ok(Line::Nothing),
+    if is_sample_digit(mapping.suffix.as_slice()) {
+        return Ok(Line::NumericLead(numeric_lead(&mapping)?));
     }
+    Ok(Line::Nothing)
 }
 
 impl Line {
+    ghost use Rattle.icu_cldr.specs.WrittenLines.{Says};
+
     /// Reads a line, without the line feed at its end. A line with nothing but white space before its comment says
     /// nothing. One that begins with `[` and doesn't end with `]` is refused.
     pub fn parse(alloc: Global, line: &str) -> Result<Line, LineError>
+        ensures says { IfOk result (Says line.now) }
         ensures nothing { text_of line.now ≡ [] → result ≡ Ok Line.Nothing }
         ensures unclosed { (inside : List ℕ) → text_of line.now ≡ 91 ∷ inside
             → ((front : List ℕ) → inside ≢ front ++ 93 ∷ [])

@@ -1,8 +1,9 @@
 //! The lines of a reader.
-ghost use Rattle.std.specs.Prelude.{◌≡◌, ◌<◌, IfOk, IfErr};
+ghost use Rattle.std.specs.Prelude.{◌<◌, IfOk, IfErr, IfSome};
 ghost use Rattle.icu_provider.specs.OwnedTables.{owned_tables};
 ghost use Rattle.icu_cldr.specs.Errors.{IsNumbered};
 ghost use Rattle.icu_cldr.specs.Roots.{IsRoot};
+ghost use Rattle.icu_cldr.specs.inner.Taken.{TakesFile, HasNothing};
 
 use crate::collected::Collected;
 use crate::error::{LineErrorKind, ReadError, UnnumberedError};
@@ -22,12 +23,10 @@ fn failed(kind: ErrorKind, line: u64) -> ReadError
     }
 }
 
-/// The tables that the lines of a reader say.
-pub(crate) fn read_tables<R: BufRead + Drop>(
-    alloc: Global,
-    reader: R,
-) -> Result<OwnedTables, ReadError>
-    ensures root { IfOk result (λ o. IsRoot (owned_tables o)) }
+/// What the lines of a reader say.
+fn collect_lines<R: BufRead + Drop>(alloc: Global, reader: R) -> Result<Collected, ReadError>
+    ensures taken { IfOk result (λ c. IfSome (R.remaining reader) (TakesFile c)) }
+    ensures nothing { IfOk result HasNothing }
     ensures numbered { IfErr result IsNumbered }
 {
     let mut collected = Collected::new(alloc)?;
@@ -42,5 +41,16 @@ pub(crate) fn read_tables<R: BufRead + Drop>(
             return Err(error.at(number));
         }
     }
-    collected.finish()
+    Ok(collected)
+}
+
+/// The tables that the lines of a reader say.
+pub(crate) fn read_tables<R: BufRead + Drop>(
+    alloc: Global,
+    reader: R,
+) -> Result<OwnedTables, ReadError>
+    ensures root { IfOk result (λ o. IsRoot (owned_tables o)) }
+    ensures numbered { IfErr result IsNumbered }
+{
+    collect_lines(alloc, reader)?.finish()
 }

@@ -1,11 +1,15 @@
 //! Mappings.
-ghost use Rattle.std.specs.Prelude.{◌≡◌, Err};
+ghost use Rattle.std.specs.Prelude.{◌≡◌, ◌<◌, ◌∷◌, Err, IfOk, length};
+ghost use Rattle.std.specs.Str.Iter.{split_whitespace_rest};
 ghost use Rattle.icu_cldr.specs.LineParts.{Lacks};
+ghost use Rattle.icu_cldr.specs.Words.{WriteCharacters};
+ghost use Rattle.icu_cldr.specs.WrittenMappings.{WriteContext};
 
 use crate::expected::{Expected, LineError};
 use crate::fractional_element::FractionalElement;
 use crate::hexadecimal::character;
 use std::alloc::Global;
+use std::str::SplitWhitespace;
 
 /// What a text comes to: `004C | 00B7; [, FB DB, 05]`. The characters behind the bar are mapped to the elements where
 /// those before the bar, if there are any, stand before them.
@@ -21,10 +25,20 @@ pub struct Mapping {
     pub elements: Vec<FractionalElement>,
 }
 
-/// The characters whose numbers the words of a text write.
-fn characters(alloc: Global, text: &str) -> Result<Vec<char>, LineError> {
+/// The characters that a line maps.
+#[derive(Drop)]
+struct Context {
+    prefix: Vec<char>,
+    first: char,
+    suffix: Vec<char>,
+}
+
+/// The characters whose numbers words write.
+fn characters(alloc: Global, words: SplitWhitespace<'_>) -> Result<Vec<char>, LineError>
+    ensures { IfOk result (λ v. WriteCharacters (split_whitespace_rest words.entry) v.items) }
+{
     let mut characters = Vec::new(alloc);
-    for word in text.split_whitespace() {
+    for word in words {
         match character(word) {
             Some(c) => characters.push(c)?,
             None => return Err(LineError::Expected(Expected::Character)),
@@ -34,37 +48,69 @@ fn characters(alloc: Global, text: &str) -> Result<Vec<char>, LineError> {
 }
 
 /// The characters before a bar: there is at least one.
-fn prefix(alloc: Global, text: &str) -> Result<Vec<char>, LineError> {
-    let prefix = characters(alloc, text)?;
+fn prefix(alloc: Global, text: &str) -> Result<Vec<char>, LineError>
+    ensures some { IfOk result (λ v. 0 < length v.items) }
+    ensures writes { IfOk result (λ v. WriteCharacters text.now v.items) }
+{
+    let prefix = characters(alloc, text.split_whitespace())?;
     if prefix.is_empty() {
         return Err(LineError::Expected(Expected::Character));
     }
     Ok(prefix)
 }
 
+/// The first character whose number a text writes, and the others.
+#[tactic(auto, unfolding(crate::specs::Words::WordsWrite))]
+fn mapped(alloc: Global, text: &str) -> Result<(char, Vec<char>), LineError>
+    ensures { IfOk result (λ r. WriteCharacters text.now (r.0 ∷ r.1.items)) }
+{
+    let mut words = text.split_whitespace();
+    let Some(word) = words.next() else {
+        return Err(LineError::Expected(Expected::Character));
+    };
+    let Some(first) = character(word) else {
+        return Err(LineError::Expected(Expected::Character));
+    };
+    Ok((first, characters(alloc, words)?))
+}
+
+/// The characters of a mapping.
+fn context_of(alloc: Global, text: &str) -> Result<Context, LineError>
+    ensures { IfOk result (λ r. WriteContext text.now r.prefix.items (r.first ∷ r.suffix.items)) }
+{
+    let (prefix, behind) = match text.split_once('|') {
+        Some((before, behind)) => (prefix(alloc, before)?, behind),
+        None => (Vec::new(alloc), text),
+    };
+    let (first, suffix) = mapped(alloc, behind)?;
+    Ok(Context {
+        prefix,
+        first,
+        suffix,
+    })
+}
+
 impl Mapping {
+    ghost use Rattle.icu_cldr.specs.WrittenMappings.{WritesMapping};
+
     /// Reads a line of a mapping, without its comment. One without `;` is refused.
     pub fn parse(alloc: Global, text: &str) -> Result<Mapping, LineError>
-        ensures { Lacks 59 text.now → result ≡ Err (LineError.Expected Expected.Semicolon) }
+        ensures semicolon { Lacks 59 text.now
+            → result ≡ Err (LineError.Expected Expected.Semicolon) }
+        ensures says { IfOk result (WritesMapping text.now) }
     {
         let Some((left, elements)) = text.split_once(';') else {
             return Err(LineError::Expected(Expected::Semicolon));
         };
-        let (prefix, mapped) = match left.split_once('|') {
-            Some((before, mapped)) => (prefix(alloc, before)?, mapped),
-            None => (Vec::new(alloc), left),
-        };
-        let (first, suffix) = mapped
-            .trim_start()
-            .split_once(' ')
-            .unwrap_or((mapped.trim_start(), ""));
-        let Some(first) = character(first) else {
-            return Err(LineError::Expected(Expected::Character));
-        };
+        let Context {
+            prefix,
+            first,
+            suffix,
+        } = context_of(alloc, left)?;
         Ok(Mapping {
             prefix,
             first,
-            suffix: characters(alloc, suffix)?,
+            suffix,
             elements: FractionalElement::parse_all(alloc, elements)?,
         })
     }

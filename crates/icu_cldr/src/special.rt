@@ -1,9 +1,12 @@
 //! Where groups of variable elements end, the lead byte of numbers, and the lead bytes whose weights compress.
-ghost use Rattle.std.specs.Prelude.{◌≡◌, ◌≤◌, length, IfOk, IfErr};
+ghost use Rattle.std.specs.Prelude.{◌≡◌, true, length, slice_index, IfOk, IfErr, IsTrue};
+ghost use Rattle.icu_entries.specs.Entries.{has_bit};
+ghost use Rattle.icu_provider.specs.SpecialPrimaries.{is_compressible};
 ghost use Rattle.icu_provider.specs.OwnedTables.{owned_special};
 ghost use Rattle.icu_cldr.specs.Errors.{IsNumbered};
 
 use crate::LeadByte;
+use crate::compressible_leads::CompressibleLeads;
 use crate::error::{LineErrorKind, Missing, ReadError, UnnumberedError, named};
 use icu_entries::DataTable;
 use icu_provider::OwnedSpecialPrimaries;
@@ -17,7 +20,7 @@ pub(crate) struct Special {
     symbol_end: Option<u16>,
     currency_end: Option<u16>,
     numeric_lead: Option<u8>,
-    compressible: [u16; 16],
+    compressible: CompressibleLeads,
 }
 
 /// The two highest bytes of the first primary weight after a group. Only such a first weight has the second byte 02, so
@@ -40,15 +43,14 @@ impl Special {
             symbol_end: None,
             currency_end: None,
             numeric_lead: None,
-            compressible: [0, 0, 0, 0, 0, 0, 0, 0, 0, 0, 0, 0, 0, 0, 0, 0x4000],
+            compressible: CompressibleLeads::new(),
         }
     }
 
     /// Takes in what a line says of a lead byte.
     pub(crate) fn set_lead(&mut self, lead: LeadByte) {
         if lead.is_compressible {
-            let index = usize::from(lead.lead / 16);
-            self.compressible[index] |= 1 << (lead.lead % 16);
+            self.compressible.add(lead.lead);
         }
     }
 
@@ -76,6 +78,7 @@ impl Special {
     /// Four ends of groups, and bits for the compressible lead bytes.
     fn last_primaries(&self, alloc: Global) -> Result<Vec<u16>, ReadError>
         ensures count { IfOk result (λ v. length v.items ≡ 20) }
+        ensures implicit { IfOk result (λ v. has_bit 14 (slice_index v.items 19) ≡ true) }
         ensures numbered { IfErr result IsNumbered }
     {
         let ends = [
@@ -85,13 +88,15 @@ impl Special {
             self.currency_end.ok_or(Missing::Digits)?,
         ];
         let mut numbers = Vec::from_slice(alloc, &ends)?;
-        numbers.extend_from_slice(&self.compressible)?;
+        numbers.extend_from_slice(self.compressible.words())?;
         Ok(numbers)
     }
 
     /// The table.
+    #[tactic(auto, unfolding(icu_provider::specs::SpecialPrimaries::is_compressible))]
     pub(crate) fn table(&self, alloc: Global) -> Result<OwnedSpecialPrimaries, ReadError>
         ensures count { IfOk result (λ o. length (owned_special o).last ≡ 20) }
+        ensures implicit { IfOk result (λ o. IsTrue (is_compressible (owned_special o) 0xFE)) }
         ensures numbered { IfErr result IsNumbered }
     {
         let numbers = self.last_primaries(alloc)?;

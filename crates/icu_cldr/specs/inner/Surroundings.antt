@@ -1,5 +1,5 @@
 -- The entries of a character by what stands around it.
-use Rattle.std.specs.Prelude.{◌≡◌, ℕ, zero, suc, ◌<◌, List, [], ◌∷◌, ◌++◌, Bool, true, false, ◌||◌, Option, Some, None, ◌⊎◌, is_some, option_and_then, if◌then◌else◌, take, length, bytes_eq}
+use Rattle.std.specs.Prelude.{◌≡◌, ℕ, zero, suc, ◌<◌, List, [], ◌∷◌, ◌++◌, Bool, true, false, ◌||◌, ◌&&◌, Option, Some, None, ◌⊎◌, is_some, option_and_then, if◌then◌else◌, take, length, bytes_eq}
 use Rattle.std.specs.BTreeMap.{BTreeMap}
 use Rattle.std.specs.Option.{option_or}
 use Rattle.std.specs.Global.{Vec}
@@ -39,10 +39,10 @@ mappings_by (e ∷ es) = elim e.0.items [ [] ↦ mappings_by es | c ∷ cs ↦ r
 abbrev pub entry_between : Surroundings → List ℕ → List ℕ → Option ℕ
 entry_between all before after = option_and_then (λ suffixes. entry_at suffixes after) (value_among all.entries before)
 
--- there are entries by what stands around, and this one behind just these characters and before just those
-abbrev pub HasEntryBetween : Option Surroundings → List ℕ → List ℕ → ℕ → Type 0
-HasEntryBetween None before after e = ⊥
-HasEntryBetween (Some all) before after e = entry_between all before after ≡ Some e
+-- the entry behind these characters and before those is this one, and no other changes
+abbrev pub PutsEntryBetween : Surroundings → Surroundings → List ℕ → List ℕ → ℕ → Type 0
+PutsEntryBetween old new before after e = (b a : List ℕ) → entry_between new b a
+    ≡ (if bytes_eq before b && bytes_eq after a then Some e else entry_between old b a)
 
 -- the entry that the character has by itself, before nothing
 abbrev pub own_entry : ℕ → List ℕ → Option ℕ

@@ -1,4 +1,4 @@
-use Rattle.std.proofs.Common.{◌≡◌, ◌∙◌, [], Some, ap, sym, subst, true, length}
+use Rattle.std.proofs.Common.{◌∙◌, [], ap, subst, length}
 use Rattle.std.specs.Prelude.{is_some}
 use Rattle.icu_entries.specs.declared.entry.EntryKind.TheVariants.{Contraction}
 use Rattle.icu_table_builder.specs.Building.{built_data}

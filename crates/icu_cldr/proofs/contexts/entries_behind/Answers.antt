@@ -1,7 +1,6 @@
-use Rattle.std.proofs.Common.{◌≡◌, ◌+◌, ◌∙◌, ap, sym, [], take, arith}
+use Rattle.std.proofs.Common.{◌+◌, ◌∙◌, ap, sym, [], take}
 use Rattle.std.specs.Option.{option_or}
-use Rattle.std.proofs.lemmas.Grind.{common_steps}
-use Rattle.icu_cldr.specs.inner.Surroundings.{entry_at, entry_between, nearest_of}
+use Rattle.icu_cldr.specs.inner.Surroundings.{entry_between, nearest_of}
 use Rattle.icu_cldr.proofs.AddedContextLemmas.{nearest_more}
 use Rattle.icu_cldr.proofs.contexts.entries_behind.Goals as goal
 

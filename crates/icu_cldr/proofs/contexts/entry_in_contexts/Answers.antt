@@ -1,4 +1,4 @@
-use Rattle.std.proofs.Common.{◌≡◌, ◌<◌, [], ap, sym, subst, ◌∙◌, refl, length, vec_len, arith, inr}
+use Rattle.std.proofs.Common.{◌≡◌, ◌<◌, [], ap, sym, subst, ◌∙◌, length, vec_len, arith, inr}
 use Rattle.icu_entries.specs.declared.entry.EntryKind.TheVariants.{Prefix}
 use Rattle.icu_table_builder.specs.Building.{built_data}
 use Rattle.icu_cldr.specs.inner.Surroundings.{AddsContext, LeadsNearest, is_among}

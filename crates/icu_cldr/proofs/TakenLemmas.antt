@@ -1,0 +1,162 @@
+-- What was taken in stays.
+use Rattle.std.proofs.Common.{◌≡◌, ℕ, ◌+◌, ◌-◌, ◌≤◌, Bool, true, false, List, [], ◌∷◌, ◌++◌, Option, Some, None, refl, sym, ap, ◌∙◌, inl, inr, length, length-append, map, take, drop, arith, option_map, suc}
+use Rattle.std.specs.Prelude.{IfSome, OnOk, Result, Ok, Err, ◌==◌, ◌&&◌, bytes_eq, reverse}
+use Rattle.std.proofs.lemmas.Bool.Decides.{nat_tests}
+use Rattle.icu_table_builder.specs.Building.{built_data}
+use Rattle.icu_cldr.specs.FileLines.{AreLines}
+use Rattle.std.specs.List.{AllByRecursion, flat_map}
+use Rattle.std.proofs.lemmas.List.{take-append-le, drop-append-le, length-drop, length-reverse}
+use Rattle.icu_collation_data.specs.Data.{Data}
+use Rattle.icu_collation_data.specs.Final.{listed}
+use Rattle.icu_entries.specs.Elements.{Element}
+use Rattle.icu_entries.specs.Entries.{entry_index, list_length, self_contained}
+use Rattle.icu_entries.specs.EncodedEntries.{of_weights}
+use Rattle.icu_cldr.specs.Given.{Spells}
+use Rattle.icu_cldr.specs.Ideographs.{primary_in}
+use Rattle.icu_cldr.specs.LineElements.{primary_said, element_said, AreSaid}
+use Rattle.icu_cldr.specs.inner.Entries.{EntriesGrow, HasEntry, is_plain}
+use Rattle.icu_cldr.specs.inner.Surroundings.{Extends}
+use Rattle.icu_cldr.specs.inner.Taken.{Grows, HasMapping, HasSaid, IsTaken, TakesFile}
+use Rattle.icu_cldr.specs.declared.collected.Collected.{Collected}
+use Rattle.icu_cldr.specs.declared.fractional_element.FractionalElement.{FractionalElement}
+use Rattle.icu_cldr.specs.declared.fractional_element.Primary.{Primary}
+use Rattle.icu_cldr.specs.declared.fractional_element.Primary.TheVariants.{Weight, OfIdeograph}
+use Rattle.icu_cldr.specs.declared.line.Line.{Line}
+use Rattle.icu_cldr.specs.declared.line.Line.TheVariants as says
+use Rattle.icu_cldr.specs.declared.mapping.Mapping.{Mapping}
+use Rattle.icu_cldr.proofs.AddedContextLemmas.{extends_further, extends_itself}
+
+-- ---- lists of a table that grows
+
+listed_further : {A : Type 0} (e : ℕ) (xs more ys : List A) → ys ≡ xs ++ more → entry_index e + list_length e ≤ length xs → listed e ys ≡ listed e xs
+listed_further e xs more ys same inside =
+    let i : ℕ = entry_index e in
+    let n : ℕ = list_length e in
+    let fits : i + n ≤ length xs = inside in
+    let size : length (drop i xs) ≡ length xs - i = length-drop i xs in
+    ap (listed e) same
+    ∙ ap (take n) (drop-append-le i xs more (omega arith))
+    ∙ take-append-le n (drop i xs) more (omega arith)
+
+inside_further : {A : Type 0} (n : ℕ) (xs more ys : List A) → ys ≡ xs ++ more → n ≤ length xs → n ≤ length ys
+inside_further n xs more ys same inside =
+    let size : length ys ≡ length xs + length more = ap length same ∙ length-append xs more in
+    omega arith
+
+-- an entry spells what it spelt
+pub spells_further : (d new : Data) (e : ℕ) (es : List Element) → Extends d new → Spells d e es → Spells new e es
+spells_further d new e es grows (inl s) = inl s
+spells_further d new e es grows (inr (inl s)) =
+    inr (inl (record {
+      kind = s.kind;
+      inside = inside_further (entry_index e + list_length e) d.entries grows.more_entries new.entries grows.entries s.inside;
+      elements = ap (flat_map self_contained) (listed_further e d.entries grows.more_entries new.entries grows.entries s.inside) ∙ s.elements;
+    }))
+spells_further d new e es grows (inr (inr s)) =
+    inr (inr (record {
+      kind = s.kind;
+      inside = inside_further (entry_index e + list_length e) d.elements grows.more_elements new.elements grows.elements s.inside;
+      elements = listed_further e d.elements grows.more_elements new.elements grows.elements s.inside ∙ s.elements;
+    }))
+
+-- ---- elements
+
+module _ (old new : ℕ → Option ℕ) (more : (c p : ℕ) → old c ≡ Some p → new c ≡ Some p) where
+  primary_further : (read : Primary) (p : ℕ) → primary_said old read ≡ Some p → primary_said new read ≡ Some p
+  primary_further (Weight w) p h = h
+  primary_further (OfIdeograph c) p h = more c p h
+
+  element_from : (e : FractionalElement) (x : Element) (o : Option ℕ) → primary_said old e.primary ≡ o
+      → option_map (λ p. of_weights p e.secondary e.tertiary) o ≡ Some x → element_said new e ≡ Some x
+  element_from e x None is h = cc
+  element_from e x (Some p) is h =
+      ap (option_map (λ q. of_weights q e.secondary e.tertiary)) (primary_further e.primary p is) ∙ h
+
+  pub said_further : (read : List FractionalElement) (elements : List Element) → AreSaid old read elements → AreSaid new read elements
+  said_further [] [] h = refl
+  said_further [] (x ∷ xs) h = cc
+  said_further (e ∷ es) [] h = cc
+  said_further (e ∷ es) (x ∷ xs) h =
+      let first : element_said old e ≡ Some x = cc in
+      let others : map (element_said old) es ≡ map Some xs = cc in
+      let one : element_said new e ≡ Some x = element_from e x (primary_said old e.primary) refl first in
+      let more : map (element_said new) es ≡ map Some xs = said_further es xs others in
+      ap (λ (o : Option Element). o ∷ map (element_said new) es) one ∙ ap (λ (os : List (Option Element)). Some x ∷ os) more
+
+-- ---- mappings and lines
+
+entry_further : (old new : Collected) (m : Mapping) (e : ℕ) → EntriesGrow old.entries old.contexts new.entries new.contexts
+    → HasEntry old.entries old.contexts m e → HasEntry new.entries new.contexts m e
+entry_further old new m e grow has = by_plain (is_plain m) refl has where
+  by_plain : (b : Bool) → is_plain m ≡ b → HasEntry old.entries old.contexts m e → HasEntry new.entries new.contexts m e
+  by_plain true is has = rw is (grow.alone _ _ (rw is at has))
+  by_plain false is has = rw is (grow.between _ _ _ _ (rw is at has))
+
+pub mapping_further : (old new : Collected) (m : Mapping) → Grows old new → HasMapping old m → HasMapping new m
+mapping_further old new m grows (elements, e, said, spells, has) = (
+  elements,
+  e,
+  said_further (primary_in old.ideographs) (primary_in new.ideographs) grows.ideographs m.elements.items elements said,
+  spells_further _ _ e elements grows.builder spells,
+  entry_further old new m e grows.entries has,
+)
+
+said_stays : (old new : Collected) (said : Line) → Grows old new → HasSaid old said → HasSaid new said
+said_stays old new (says.Mapping m) grows has = mapping_further old new m grows has
+said_stays old new says.Nothing grows has = has
+said_stays old new (says.Ideographs r) grows has = has
+said_stays old new (says.LeadByte l) grows has = has
+said_stays old new (says.NumericLead n) grows has = has
+
+-- a line that was taken in
+pub line_stays : (old new : Collected) (line : List ℕ) → Grows old new → IsTaken old line → IsTaken new line
+line_stays old new line grows (said, is, has) = (said, is, said_stays old new said grows has)
+
+-- growing on
+pub grows_further : (a b c : Collected) → Grows a b → Grows b c → Grows a c
+grows_further a b c p q = record {
+  builder = extends_further _ _ _ p.builder q.builder;
+  entries = record {
+    alone = λ x e h. q.entries.alone x e (p.entries.alone x e h);
+    between = λ x before after e h. q.entries.between x before after e (p.entries.between x before after e h);
+    no_empty = λ x h. q.entries.no_empty x (p.entries.no_empty x h);
+  };
+  ideographs = λ x w h. q.ideographs x w (p.ideographs x w h);
+}
+
+-- the lines that were taken in, and one more
+pub lines_stay : (old new : Collected) (lines : List (List ℕ)) (line : List ℕ) → Grows old new → AllByRecursion (IsTaken old) lines → IsTaken new line
+    → AllByRecursion (IsTaken new) (lines ++ line ∷ [])
+lines_stay old new [] line grows all one = (one, tt)
+lines_stay old new (x ∷ xs) line grows all one = (line_stays old new x grows all.0, lines_stay old new xs line grows all.1 one)
+
+-- all lines of known bytes
+pub takes_file : (c : Collected) (known : Option (List ℕ)) (lines : List (List ℕ)) → IfSome known (λ bytes. AreLines bytes lines)
+    → AllByRecursion (IsTaken c) lines → IfSome known (TakesFile c)
+takes_file c None lines are all = tt
+takes_file c (Some bytes) lines are all = (lines, are, all)
+
+-- nothing was taken in
+pub grows_not : (c : Collected) → Grows c c
+grows_not c = record {
+  builder = extends_itself (built_data c.builder);
+  entries = record { alone = λ x e h. h; between = λ x b a e h. h; no_empty = λ x h. h };
+  ideographs = λ x p h. h;
+}
+
+-- whether something else failed or not
+pub ok_always : {T E P : Type 0} (r : Result T E) → P → OnOk r P
+ok_always (Ok x) p = p
+ok_always (Err e) p = tt
+
+-- a mapping that isn't of one character alone
+pub not_plain : (prefix suffix : List ℕ) → (length prefix == 0 && length suffix == 0) ≡ false
+    → (bytes_eq (reverse prefix) [] && bytes_eq suffix []) ≡ false
+not_plain prefix suffix h =
+    ap (λ t. t && bytes_eq suffix []) (empty_test (reverse prefix) ∙ ap (λ n. n == 0) (length-reverse prefix))
+    ∙ ap (λ t. length prefix == 0 && t) (empty_test suffix) ∙ h where
+      empty_test : (xs : List ℕ) → bytes_eq xs [] ≡ (length xs == 0)
+      empty_test [] = refl
+      empty_test (x ∷ xs) = sym (not_zero (length xs)) where
+        not_zero : (n : ℕ) → (suc n == 0) ≡ false
+        not_zero n = grind (arith, nat_tests)

@@ -1,0 +1,13 @@
+use Rattle.std.proofs.Common.{◌≡◌, None, rules}
+use Rattle.icu_cldr.specs.Ideographs.{primary_in, HasNoIdeographs}
+use Rattle.icu_cldr.proofs.IdeographLemmas.{no_primary}
+use Rattle.icu_cldr.proofs.collected.Collected.add_ideographs.Goals as goal
+
+pub returns : goal.returns
+returns c =
+    let none : HasNoIdeographs c.args.self.now.ideographs = search rules in
+    record {
+      builder = c.in_ok-set_ideographs.ensures;
+      entries = record { alone = λ x e h. h; between = λ x b a e h. h; no_empty = λ x h. h };
+      ideographs = λ x p h. let no : primary_in c.args.self.now.ideographs x ≡ None = no_primary c.args.self.now.ideographs x none in cc;
+    }

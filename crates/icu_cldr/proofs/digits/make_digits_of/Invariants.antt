@@ -1,0 +1,11 @@
+use Rattle.icu_table_builder.specs.Building.{built_data}
+use Rattle.icu_cldr.specs.inner.Digits.{MakesDigits}
+use Rattle.icu_cldr.specs.inner.Surroundings.{Extends}
+use Rattle.icu_cldr.proofs.digits.make_digits_of.Given as goal
+
+-- the digits so far
+abbrev pub invariant-loop-code : goal.invariant-loop-code
+invariant-loop-code l = record {
+  extends : Extends (built_data l.fn.builder) (built_data l.builder);
+  digits : MakesDigits (built_data l.builder) l.first l.code l.fn.entries l.entries;
+}

@@ -1,0 +1,79 @@
+-- What a line says (UTS #35 part 5, "Root Collation Data Files").
+use Rattle.std.specs.Prelude.{◌≡◌, ◌≢◌, ℕ, Bool, true, false, ◌/◌, ◌^◌, List, [], ◌∷◌, ◌++◌, ◌⊎◌, Some, codes, bytes_eq}
+use Rattle.std.specs.List.{list_any}
+use Rattle.icu_cldr.specs.HexDigits.{byte_written}
+use Rattle.icu_cldr.specs.LineParts.{text_of}
+use Rattle.icu_cldr.specs.Ranges.{WritesRange}
+use Rattle.icu_cldr.specs.Words.{BeginsWithWord, WordsWrite}
+use Rattle.icu_cldr.specs.WrittenMappings.{WritesMapping}
+use Rattle.icu_cldr.specs.declared.ideographs.CharRange.{CharRange}
+use Rattle.icu_cldr.specs.declared.fractional_element.FractionalElement.{FractionalElement}
+use Rattle.icu_cldr.specs.declared.fractional_element.Primary.TheVariants.{Weight}
+use Rattle.icu_cldr.specs.declared.line.LeadByte.{LeadByte}
+use Rattle.icu_cldr.specs.declared.line.Line.{Line}
+use Rattle.icu_cldr.specs.declared.line.Line.TheVariants as says
+use Rattle.icu_cldr.specs.declared.mapping.Mapping.{Mapping}
+
+-- the words of a text
+abbrev pub AreWords : List ℕ → List (List ℕ) → Type 0
+AreWords text words = WordsWrite (λ word w. word ≡ w) text words
+
+-- the ranges of characters that words write
+abbrev pub WriteRanges : List ℕ → List CharRange → Type 0
+WriteRanges text ranges = WordsWrite (λ word r. WritesRange word r.first r.last) text ranges
+
+-- what a line begins with, in brackets, that has the ideographs
+abbrev pub ideographs_name : List ℕ
+ideographs_name = codes "Unified_Ideograph"
+
+-- what a line begins with, in brackets, that speaks of a lead byte
+abbrev pub lead_name : List ℕ
+lead_name = codes "top_byte"
+
+-- a text in brackets, whose inside begins with a name and goes on so
+abbrev pub IsBracketed : List ℕ → List ℕ → List ℕ → Type 0
+IsBracketed text name behind = text ≡ 91 ∷ (name ++ behind) ++ 93 ∷ []
+
+-- what is said of a lead byte: the byte, and whether COMPRESS is among the other words
+abbrev pub SaysOfLead : List ℕ → LeadByte → Type 0
+SaysOfLead text l = (word : List ℕ) × (rest : List ℕ) × (words : List (List ℕ)) × BeginsWithWord text word rest
+    × (byte_written word ≡ Some l.lead) × AreWords rest words
+    × (l.is_compressible ≡ list_any (λ w. bytes_eq w (codes "COMPRESS")) words)
+
+-- a character of no text, with which the file begins mappings that are none of a text's
+abbrev pub homeless : ℕ
+homeless = 0xFDD0
+
+-- what is mapped behind the first character is the digit 4
+abbrev pub is_digit_sample : Mapping → Bool
+is_digit_sample m = bytes_eq m.suffix.items (0x34 ∷ [])
+
+-- the mapping of the digit 4 behind the character of no text, whose only element has the lead byte of numbers
+abbrev pub HasNumericLead : Mapping → ℕ → Type 0
+HasNumericLead m lead = (e : FractionalElement) × (weight : ℕ) × (m.first ≡ homeless) × (is_digit_sample m ≡ true)
+    × (m.elements.items ≡ e ∷ []) × (e.primary ≡ Weight weight) × (lead ≡ weight / 2 ^ 24)
+
+-- a text in brackets of another name
+abbrev pub IsOtherBracketed : List ℕ → Type 0
+IsOtherBracketed text = (inside : List ℕ) × (text ≡ 91 ∷ inside ++ 93 ∷ [])
+    × ((behind : List ℕ) → inside ≢ ideographs_name ++ behind) × ((behind : List ℕ) → inside ≢ lead_name ++ behind)
+
+-- a text that tables need nothing of: there is none, it is in brackets and of another name, or it maps what is no text
+abbrev pub SaysNothing : List ℕ → Type 0
+SaysNothing text =
+    (text ≡ [])
+    ⊎ IsOtherBracketed text
+    ⊎ ((m : Mapping) × WritesMapping text m × (m.first ≡ homeless) × (is_digit_sample m ≡ false))
+
+-- what the text of a line says
+abbrev pub TextSays : List ℕ → Line → Type 0
+TextSays text says.Nothing = SaysNothing text
+TextSays text (says.Ideographs ranges) =
+    (behind : List ℕ) × IsBracketed text ideographs_name behind × WriteRanges behind ranges.items
+TextSays text (says.LeadByte l) = (behind : List ℕ) × IsBracketed text lead_name behind × SaysOfLead behind l
+TextSays text (says.NumericLead lead) = (m : Mapping) × WritesMapping text m × HasNumericLead m lead
+TextSays text (says.Mapping m) = WritesMapping text m × (m.first ≢ homeless)
+
+-- what a line says, its comment aside
+abbrev pub Says : List ℕ → Line → Type 0
+Says line said = TextSays (text_of line) said

@@ -1,0 +1,20 @@
+-- Entries of characters that become digit entries.
+use Rattle.std.specs.Prelude.{◌≡◌, ℕ, ◌-◌, ◌%◌, ◌&&◌, nat_le, nat_lt, Option, Some, None, MatchBool}
+use Rattle.std.specs.BTreeMap.{get}
+use Rattle.std.specs.Char.{IsScalar}
+use Rattle.std.specs.Ordering.{nat_cmp}
+use Rattle.icu_collation_data.specs.Data.{Data}
+use Rattle.icu_cldr.specs.CharacterEntries.{IsDigitEntry}
+use Rattle.icu_cldr.specs.inner.Entries.{Plain}
+
+-- a character that had an entry has that of a digit in its place, and one that had none has none
+abbrev pub IsDigitOrAbsent : Data → ℕ → Option ℕ → Option ℕ → Type 0
+IsDigitOrAbsent d value None new = new ≡ None
+IsDigitOrAbsent d value (Some plain) new = (e : ℕ) × (new ≡ Some e) × IsDigitEntry d value plain e
+
+-- the characters from one code up to another have the entries of digits by tens, and no other entry changes
+abbrev pub MakesDigits : Data → ℕ → ℕ → Plain → Plain → Type 0
+MakesDigits d first end old new = (c : ℕ) → IsScalar c
+    → MatchBool (nat_le first c && nat_lt c end)
+    (IsDigitOrAbsent d ((c - first) % 10) (get nat_cmp old c) (get nat_cmp new c))
+    (get nat_cmp new c ≡ get nat_cmp old c)

@@ -1,0 +1,45 @@
+-- What was taken in of the lines so far.
+use Rattle.std.specs.Prelude.{◌≡◌, ℕ, List, [], Some, None}
+use Rattle.icu_entries.specs.Elements.{Element}
+use Rattle.icu_table_builder.specs.Building.{built_data}
+use Rattle.icu_cldr.specs.Given.{Spells}
+use Rattle.icu_cldr.specs.Ideographs.{primary_in}
+use Rattle.icu_cldr.specs.LineElements.{AreSaid}
+use Rattle.std.specs.List.{AllByRecursion}
+use Rattle.icu_cldr.specs.FileLines.{AreLines}
+use Rattle.icu_cldr.specs.WrittenLines.{Says}
+use Rattle.icu_cldr.specs.inner.Entries.{HasEntry, EntriesGrow, entry_around}
+use Rattle.icu_cldr.specs.inner.Surroundings.{Extends}
+use Rattle.icu_cldr.specs.declared.collected.Collected.{Collected}
+use Rattle.icu_cldr.specs.declared.line.Line.{Line}
+use Rattle.icu_cldr.specs.declared.line.Line.TheVariants as says
+use Rattle.icu_cldr.specs.declared.mapping.Mapping.{Mapping}
+
+-- the characters of a mapping have an entry that spells its elements
+abbrev pub HasMapping : Collected → Mapping → Type 0
+HasMapping c m = (elements : List Element) × (e : ℕ)
+    × AreSaid (primary_in c.ideographs) m.elements.items elements × Spells (built_data c.builder) e elements
+    × HasEntry c.entries c.contexts m e
+
+-- what a line says was taken in
+abbrev pub HasSaid : Collected → Line → Type 0
+HasSaid c (says.Mapping m) = HasMapping c m
+HasSaid c _ = Unit {0}
+
+-- a line was taken in: what it says
+abbrev pub IsTaken : Collected → List ℕ → Type 0
+IsTaken c line = (said : Line) × Says line said × HasSaid c said
+
+-- what was taken in stays
+pub record Grows (old new : Collected) : Type 0 where
+  pub builder : Extends (built_data old.builder) (built_data new.builder)
+  pub entries : EntriesGrow old.entries old.contexts new.entries new.contexts
+  pub ideographs : (c p : ℕ) → primary_in old.ideographs c ≡ Some p → primary_in new.ideographs c ≡ Some p
+
+-- nothing was taken in between no characters
+abbrev pub HasNothing : Collected → Type 0
+HasNothing c = (x : ℕ) → entry_around c.contexts x [] [] ≡ None
+
+-- each line of a file was taken in
+abbrev pub TakesFile : Collected → List ℕ → Type 0
+TakesFile c bytes = (lines : List (List ℕ)) × AreLines bytes lines × AllByRecursion (IsTaken c) lines
