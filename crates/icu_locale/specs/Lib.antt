@@ -1,0 +1,3 @@
+pub mod Subtags
+pub mod LanguageTags
+pub mod Keywords
