@@ -1,2 +1,2 @@
 pub mod RootLemmas
-pub mod NeighbourLemmas
+pub mod JudgedLineLemmas

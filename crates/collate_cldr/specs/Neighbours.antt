@@ -63,15 +63,15 @@ abbrev pub HasOtherWord : List ℕ → Type 0
 HasOtherWord text = (words : List (List ℕ)) × HasOtherBehind text words
 
 -- the text that numbers of characters spell, in UTF-8
-abbrev pub SpellsText : List ℕ → List ℕ → Type 0
-SpellsText numbers text = (cs : List ℕ) × WriteCharacters numbers cs × (text ≡ encode_utf8_all cs)
+abbrev pub SpellsLineText : List ℕ → List ℕ → Type 0
+SpellsLineText numbers text = (cs : List ℕ) × WriteCharacters numbers cs × (text ≡ encode_utf8_all cs)
 
 -- a line was judged: it says nothing, or it is passed over for a word that is no character's number, or it spells a text
 abbrev pub JudgesLine : Collation → Judged → List ℕ → Judged → Type 0
 JudgesLine c old line new =
     ((text_of line ≡ []) × (new ≡ old))
     ⊎ (HasOtherWord (text_of line) × (new ≡ with_passed old))
-    ⊎ ((text : List ℕ) × SpellsText (text_of line) text × (new ≡ with_text c old (chars text)))
+    ⊎ ((text : List ℕ) × SpellsLineText (text_of line) text × (new ≡ with_text c old (chars text)))
 
 -- these lines were judged, one after the other
 unfoldable pub JudgesLines : Collation → Judged → List (List ℕ) → Judged → Type 0

@@ -6,7 +6,7 @@ ghost use Rattle.icu_cldr.specs.LineParts.{text_of};
 ghost use Rattle.icu_text_order.specs.Collations.{Collation};
 ghost use Rattle.icu_text_order.specs.TextOrder.{text_key};
 ghost use Rattle.icu_collator.specs.Collators.{collation_kept};
-ghost use Rattle.collate_cldr.specs.Neighbours.{is_greater, is_greater_key, one_more, HasOtherWord, SpellsText, CountsLines};
+ghost use Rattle.collate_cldr.specs.Neighbours.{is_greater, is_greater_key, one_more, HasOtherWord, SpellsLineText, CountsLines};
 ghost use Rattle.std.specs.Ordering.{is_gt};
 
 use collate_commands::ProgramError;
@@ -46,7 +46,7 @@ pub(crate) struct JudgedLines {
 fn spelt(alloc: Global, words: SplitWhitespace<'_>) -> Result<Option<String>, AllocError>
     ensures { IfOk result (λ spelt. MatchOption spelt
         (HasOtherWord (split_whitespace_rest words.entry))
-        (λ text. SpellsText (split_whitespace_rest words.entry) (string_bytes text))) }
+        (λ text. SpellsLineText (split_whitespace_rest words.entry) (string_bytes text))) }
 {
     let mut text = String::new(alloc);
     for word in words {

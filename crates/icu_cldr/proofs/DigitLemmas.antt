@@ -10,7 +10,7 @@ use Rattle.icu_collation_data.specs.Data.{Data, plain_of}
 use Rattle.icu_entries.specs.Entries.{entry_index}
 use Rattle.icu_cldr.specs.CharacterEntries.{IsDigitEntry}
 use Rattle.icu_cldr.specs.inner.Digits.{IsDigitOrAbsent, MakesDigits}
-use Rattle.icu_cldr.specs.inner.Entries.{Plain}
+use Rattle.icu_cldr.specs.inner.LineEntries.{Plain}
 use Rattle.icu_cldr.specs.inner.Surroundings.{Extends}
 
 -- a digit's entry stays one

@@ -8,7 +8,7 @@ use Rattle.std.specs.Map.{remove_entry}
 use Rattle.std.specs.Ordering.{is_eq, nat_cmp}
 use Rattle.std.specs.declared.cmp.Ordering.TheVariants.{Less, Equal, Greater}
 use Rattle.std.proofs.lemmas.Bool.Decides.{nat_tests}
-use Rattle.icu_cldr.specs.inner.Entries.{Plain, Around, PutsPlain, PutsBetween, EntriesGrow, entry_around}
+use Rattle.icu_cldr.specs.inner.LineEntries.{Plain, Around, PutsPlain, PutsBetween, EntriesGrow, entry_around}
 use Rattle.icu_cldr.specs.inner.Surroundings.{Suffixes, Surroundings, entry_at, entry_between, value_among, PutsEntryBetween}
 use Rattle.icu_cldr.proofs.AddedContextLemmas.{between_from_get}
 use Rattle.icu_cldr.proofs.SurroundingLemmas.{inserted_among, key_order, removed_among, same_from_true}

@@ -2,7 +2,7 @@
 use Rattle.std.proofs.Common.{◌≡◌, ℕ, ◌≤◌, Bool, true, false, List, ◌∷◌, Option, Some, None, refl, sym, ap, ◌∙◌, arith, if◌then◌else◌}
 use Rattle.std.specs.Prelude.{◌&&◌, nat_le, IfSome}
 use Rattle.std.proofs.lemmas.Bool.Decides.{nat_tests}
-use Rattle.icu_cldr.specs.Ideographs.{primary_among, primary_in, weight_in, HasNoIdeographs}
+use Rattle.icu_cldr.specs.Ideographs.{primary_among, primary_in, ideograph_weight_in, HasNoIdeographs}
 use Rattle.icu_cldr.specs.declared.ideograph_weights.IdeographWeights.{IdeographWeights}
 use Rattle.icu_cldr.specs.declared.ideograph_weights.WeightedRange.{WeightedRange}
 
@@ -11,11 +11,11 @@ inside a b c h l = grind (arith, nat_tests)
 
 -- the first range has the character
 pub primary_here : (ranges rest : List WeightedRange) (w : WeightedRange) (c : ℕ) → ranges ≡ w ∷ rest → w.range.first ≤ c → c ≤ w.range.last
-    → primary_among ranges c ≡ Some (weight_in w c)
+    → primary_among ranges c ≡ Some (ideograph_weight_in w c)
 unfolding primary_among
 primary_here ranges rest w c is h l =
     ap (λ rs. primary_among rs c) is
-    ∙ ap (λ b. if b then Some (weight_in w c) else primary_among rest c) (inside w.range.first w.range.last c h l)
+    ∙ ap (λ b. if b then Some (ideograph_weight_in w c) else primary_among rest c) (inside w.range.first w.range.last c h l)
 
 outside : (a b c : ℕ) (t : Bool) → (nat_le a c && nat_le c b) ≡ t → (a ≤ c → c ≤ b → ⊥) → t ≡ false
 outside a b c false e never = refl
@@ -27,7 +27,7 @@ pub primary_past : (ranges rest : List WeightedRange) (w : WeightedRange) (c : �
 unfolding primary_among
 primary_past ranges rest w c is never =
     ap (λ rs. primary_among rs c) is
-    ∙ ap (λ b. if b then Some (weight_in w c) else primary_among rest c)
+    ∙ ap (λ b. if b then Some (ideograph_weight_in w c) else primary_among rest c)
     (outside w.range.first w.range.last c (nat_le w.range.first c && nat_le c w.range.last) refl never)
 
 -- there are none

@@ -2,12 +2,12 @@ pub mod HexDigitLemmas
 pub mod SurroundingLemmas
 pub mod AddedContextLemmas
 pub mod PrefixLemmas
-pub mod WordLemmas
+pub mod LineWordLemmas
 pub mod ElementLemmas
-pub mod LineLemmas
+pub mod LinePartLemmas
 pub mod EntryLemmas
 pub mod TakenLemmas
-pub mod LeadLemmas
+pub mod CompressedLeadLemmas
 pub mod FileLineLemmas
 pub mod IdeographLemmas
 pub mod DigitLemmas

@@ -12,7 +12,7 @@ use Rattle.std.proofs.lemmas.Bool.Decides.{nat_tests}
 use Rattle.icu_collation_data.specs.Data.{Data}
 use Rattle.icu_cldr.specs.CharacterEntries.{entry_of_char}
 use Rattle.icu_cldr.specs.Given.{Gives}
-use Rattle.icu_cldr.specs.inner.Entries.{Around, Plain}
+use Rattle.icu_cldr.specs.inner.LineEntries.{Around, Plain}
 use Rattle.icu_cldr.specs.inner.Resolved.{GivesAll, IsResolved}
 use Rattle.icu_cldr.specs.inner.Surroundings.{Extends, Surroundings}
 use Rattle.icu_cldr.proofs.AddedContextLemmas.{leads_further}

@@ -10,7 +10,7 @@ use Rattle.std.specs.declared.cmp.Ordering.TheVariants.{Less, Equal, Greater}
 use Rattle.std.proofs.lemmas.Bool.Decides.{nat_tests}
 use Rattle.icu_collation_data.specs.Data.{Data}
 use Rattle.icu_table_builder.specs.Building.{set_in}
-use Rattle.icu_cldr.specs.inner.Entries.{Plain}
+use Rattle.icu_cldr.specs.inner.LineEntries.{Plain}
 use Rattle.icu_cldr.specs.inner.RootValues.{last_given}
 
 pub same_number : (m n : ℕ) → (m == n) ≡ true → m ≡ n

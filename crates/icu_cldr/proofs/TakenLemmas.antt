@@ -14,7 +14,7 @@ use Rattle.icu_entries.specs.EncodedEntries.{of_weights}
 use Rattle.icu_cldr.specs.Given.{Spells}
 use Rattle.icu_cldr.specs.Ideographs.{primary_in}
 use Rattle.icu_cldr.specs.LineElements.{primary_said, element_said, AreSaid}
-use Rattle.icu_cldr.specs.inner.Entries.{EntriesGrow, HasEntry, is_plain}
+use Rattle.icu_cldr.specs.inner.LineEntries.{EntriesGrow, HasEntry, is_without_context}
 use Rattle.icu_cldr.specs.inner.Surroundings.{Extends}
 use Rattle.icu_cldr.specs.inner.Taken.{Grows, HasMapping, HasSaid, IsTaken, TakesFile}
 use Rattle.icu_cldr.specs.declared.collected.Collected.{Collected}
@@ -87,8 +87,8 @@ module _ (old new : ℕ → Option ℕ) (more : (c p : ℕ) → old c ≡ Some p
 
 entry_further : (old new : Collected) (m : Mapping) (e : ℕ) → EntriesGrow old.entries old.contexts new.entries new.contexts
     → HasEntry old.entries old.contexts m e → HasEntry new.entries new.contexts m e
-entry_further old new m e grow has = by_plain (is_plain m) refl has where
-  by_plain : (b : Bool) → is_plain m ≡ b → HasEntry old.entries old.contexts m e → HasEntry new.entries new.contexts m e
+entry_further old new m e grow has = by_plain (is_without_context m) refl has where
+  by_plain : (b : Bool) → is_without_context m ≡ b → HasEntry old.entries old.contexts m e → HasEntry new.entries new.contexts m e
   by_plain true is has = rw is (grow.alone _ _ (rw is at has))
   by_plain false is has = rw is (grow.between _ _ _ _ (rw is at has))
 

@@ -13,17 +13,17 @@ IsCutAt byte text before behind =
     × (behind ≡ after_first (λ b. b == byte) text)
 
 -- a text is white space, if it is anything
-abbrev pub IsBlank : List ℕ → Type 0
-IsBlank text = NoCharPasses is_not_whitespace text
+abbrev pub IsBlankText : List ℕ → Type 0
+IsBlankText text = NoCharPasses is_not_whitespace text
 
 -- behind white space, if there is any, a text begins with a whole word, and this is left
 abbrev pub BeginsWithWord : List ℕ → List ℕ → List ℕ → Type 0
 BeginsWithWord text word rest = (gap : List ℕ) × (text ≡ gap ++ (word ++ rest)) × (0 < length word)
-    × IsBlank gap × NoCharPasses is_whitespace word × ((more : List ℕ) × EmptyOrStartsWithPassing is_whitespace rest more)
+    × IsBlankText gap × NoCharPasses is_whitespace word × ((more : List ℕ) × EmptyOrStartsWithPassing is_whitespace rest more)
 
 -- the words of a text write these values, each word one
 unfoldable pub WordsWrite : {A : Type 0} → (List ℕ → A → Type 0) → List ℕ → List A → Type 0
-WordsWrite Writes text [] = IsBlank text
+WordsWrite Writes text [] = IsBlankText text
 WordsWrite Writes text (x ∷ xs) =
     (word : List ℕ) × (rest : List ℕ) × BeginsWithWord text word rest × Writes word x × WordsWrite Writes rest xs
 
@@ -34,10 +34,10 @@ WriteCharacters text chars = WordsWrite (λ word c. character_written word ≡ S
 -- a text begins with a word that writes a byte other than 00, or it is blank, and then 00 stands for the byte
 abbrev pub NextByte : List ℕ → ℕ → List ℕ → Type 0
 NextByte text byte rest =
-    (IsBlank text × (byte ≡ 0) × (rest ≡ text))
+    (IsBlankText text × (byte ≡ 0) × (rest ≡ text))
     ⊎ ((word : List ℕ) × BeginsWithWord text word rest × (byte_written word ≡ Some byte) × (0 < byte))
 
 -- the words of a text write bytes other than 00: these, where 00 stands for those that a shorter text hasn't
 unfoldable pub WriteBytes : List ℕ → List ℕ → Type 0
-WriteBytes text [] = IsBlank text
+WriteBytes text [] = IsBlankText text
 WriteBytes text (byte ∷ bytes) = (rest : List ℕ) × NextByte text byte rest × WriteBytes rest bytes

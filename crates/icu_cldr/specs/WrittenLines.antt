@@ -15,8 +15,8 @@ use Rattle.icu_cldr.specs.declared.line.Line.TheVariants as says
 use Rattle.icu_cldr.specs.declared.mapping.Mapping.{Mapping}
 
 -- the words of a text
-abbrev pub AreWords : List ℕ → List (List ℕ) → Type 0
-AreWords text words = WordsWrite (λ word w. word ≡ w) text words
+abbrev pub AreLineWords : List ℕ → List (List ℕ) → Type 0
+AreLineWords text words = WordsWrite (λ word w. word ≡ w) text words
 
 -- the ranges of characters that words write
 abbrev pub WriteRanges : List ℕ → List CharRange → Type 0
@@ -37,7 +37,7 @@ IsBracketed text name behind = text ≡ 91 ∷ (name ++ behind) ++ 93 ∷ []
 -- what is said of a lead byte: the byte, and whether COMPRESS is among the other words
 abbrev pub SaysOfLead : List ℕ → LeadByte → Type 0
 SaysOfLead text l = (word : List ℕ) × (rest : List ℕ) × (words : List (List ℕ)) × BeginsWithWord text word rest
-    × (byte_written word ≡ Some l.lead) × AreWords rest words
+    × (byte_written word ≡ Some l.lead) × AreLineWords rest words
     × (l.is_compressible ≡ list_any (λ w. bytes_eq w (codes "COMPRESS")) words)
 
 -- a character of no text, with which the file begins mappings that are none of a text's
@@ -75,5 +75,5 @@ TextSays text (says.NumericLead lead) = (m : Mapping) × WritesMapping text m ×
 TextSays text (says.Mapping m) = WritesMapping text m × (m.first ≢ homeless)
 
 -- what a line says, its comment aside
-abbrev pub Says : List ℕ → Line → Type 0
-Says line said = TextSays (text_of line) said
+abbrev pub LineSays : List ℕ → Line → Type 0
+LineSays line said = TextSays (text_of line) said

@@ -1,9 +1,9 @@
 -- Words of private contracts and proofs only: no public contract names them.
 pub mod Diacritics
 pub mod Surroundings
-pub mod Entries
+pub mod LineEntries
 pub mod Taken
-pub mod Leads
+pub mod CompressedLeads
 pub mod LeadWords
 pub mod Digits
 pub mod RootValues

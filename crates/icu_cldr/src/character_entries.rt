@@ -1,6 +1,6 @@
 //! The entries of characters, by themselves and between others.
 ghost use Rattle.std.specs.Prelude.{◌≡◌, OnOk, reverse};
-ghost use Rattle.icu_cldr.specs.inner.Entries.{HasEntry, PutsPlain, PutsBetween, EntriesGrow};
+ghost use Rattle.icu_cldr.specs.inner.LineEntries.{HasEntry, PutsPlain, PutsBetween, EntriesGrow};
 
 use crate::Mapping;
 use crate::contexts::{Contexts, put_between};
@@ -16,11 +16,11 @@ pub(crate) type CharacterEntries = BTreeMap<char, CollationElement32>;
 pub(crate) type CharacterContexts = BTreeMap<char, Contexts>;
 
 impl Mapping {
-    ghost use Rattle.icu_cldr.specs.inner.Entries.{is_plain};
+    ghost use Rattle.icu_cldr.specs.inner.LineEntries.{is_without_context};
 
     /// Whether one character is mapped, wherever it stands.
     fn is_plain(&self) -> bool
-        ensures { result ≡ is_plain self.now }
+        ensures { result ≡ is_without_context self.now }
     {
         self.prefix.is_empty() && self.suffix.is_empty()
     }

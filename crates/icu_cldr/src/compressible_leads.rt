@@ -1,6 +1,6 @@
 //! The lead bytes whose weights are written shorter in sort keys.
 ghost use Rattle.std.specs.Prelude.{◌≡◌, ◌==◌, ◌||◌, ◌<◌, ℕ, true, length};
-ghost use Rattle.icu_cldr.specs.inner.Leads.{has_lead};
+ghost use Rattle.icu_cldr.specs.inner.CompressedLeads.{has_lead};
 
 /// A bit for each lead byte whose weights are written shorter where they follow one another: among them that of implicit
 /// weights, FE.

@@ -1,7 +1,7 @@
 //! Elements as a line writes them.
 ghost use Rattle.std.specs.Prelude.{◌≡◌, ◌+◌, ◌*◌, ◌^◌, ◌<◌, IfOk, IfSome, length};
 ghost use Rattle.std.specs.Str.Iter.{split_whitespace_rest};
-ghost use Rattle.icu_cldr.specs.Words.{IsBlank, NextByte};
+ghost use Rattle.icu_cldr.specs.Words.{IsBlankText, NextByte};
 ghost use Rattle.icu_cldr.specs.WrittenElements.{WritesLongWeight, WritesShortWeight, WritesIdeograph, WritesPrimary};
 
 use crate::expected::{Expected, LineError};
@@ -49,7 +49,7 @@ fn next_byte(words: &mut SplitWhitespace<'_>) -> Result<u8, Expected>
 
 /// That no word is left.
 fn end_weight(mut words: SplitWhitespace<'_>) -> Result<(), Expected>
-    ensures { IfOk result (λ _. IsBlank (split_whitespace_rest words.entry)) }
+    ensures { IfOk result (λ _. IsBlankText (split_whitespace_rest words.entry)) }
 {
     match words.next() {
         Some(_) => Err(Expected::ShorterWeight),

@@ -131,11 +131,11 @@ impl IdeographWeights {
 }
 
 impl WeightedRange {
-    ghost use Rattle.icu_cldr.specs.Ideographs.{weight_in};
+    ghost use Rattle.icu_cldr.specs.Ideographs.{ideograph_weight_in};
 
     /// The primary weight of a character of the range.
     pub(crate) fn primary(self, c: char) -> Option<u32>
-        ensures weight { IfSome result (λ p. p ≡ weight_in self c) }
+        ensures weight { IfSome result (λ p. p ≡ ideograph_weight_in self c) }
         ensures bound { IfSome result (λ p. p < 0xFE000000) }
         ensures three_bytes { IfSome result (λ p. p % 256 ≡ 0) }
     {

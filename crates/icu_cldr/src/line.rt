@@ -3,7 +3,7 @@ ghost use Rattle.std.specs.Prelude.{◌≡◌, ◌≢◌, ◌==◌, ◌++◌, �
 ghost use Rattle.std.specs.List.{before_first, list_any};
 ghost use Rattle.std.specs.Str.Iter.{split_whitespace_rest};
 ghost use Rattle.icu_cldr.specs.LineParts.{text_of};
-ghost use Rattle.icu_cldr.specs.WrittenLines.{AreWords, SaysOfLead, TextSays, HasNumericLead, homeless, is_digit_sample};
+ghost use Rattle.icu_cldr.specs.WrittenLines.{AreLineWords, SaysOfLead, TextSays, HasNumericLead, homeless, is_digit_sample};
 ghost use Rattle.icu_cldr.specs.WrittenMappings.{WritesMapping};
 
 use crate::expected::{Expected, LineError};
@@ -77,7 +77,7 @@ fn before_bracket(text: &str) -> Option<&str>
 
 /// Whether one of these words is `COMPRESS`.
 fn has_compress(words: SplitWhitespace<'_>) -> bool
-    ensures { (named : List (List ℕ)) × AreWords (split_whitespace_rest words.entry) named
+    ensures { (named : List (List ℕ)) × AreLineWords (split_whitespace_rest words.entry) named
         × (result ≡ list_any (λ w. bytes_eq w (codes "COMPRESS")) named) }
 {
     let mut is_named = false;
@@ -163,12 +163,12 @@ fn line_of(mapping: Mapping) -> Result<Line, LineError>
 }
 
 impl Line {
-    ghost use Rattle.icu_cldr.specs.WrittenLines.{Says};
+    ghost use Rattle.icu_cldr.specs.WrittenLines.{LineSays};
 
     /// Reads a line, without the line feed at its end. A line with nothing but white space before its comment says
     /// nothing. One that begins with `[` and doesn't end with `]` is refused.
     pub fn parse(alloc: Global, line: &str) -> Result<Line, LineError>
-        ensures says { IfOk result (Says line.now) }
+        ensures says { IfOk result (LineSays line.now) }
         ensures nothing { text_of line.now ≡ [] → result ≡ Ok Line.Nothing }
         ensures unclosed { (inside : List ℕ) → text_of line.now ≡ 91 ∷ inside
             → ((front : List ℕ) → inside ≢ front ++ 93 ∷ [])

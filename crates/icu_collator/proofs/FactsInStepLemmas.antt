@@ -19,7 +19,7 @@ use Rattle.icu_weighting.specs.declared.handled_element.Handled.{Handled}
 use Rattle.icu_weighting.specs.declared.handled_element.Handled.TheVariants.{Stayed}
 use Rattle.icu_text_order.specs.TextOrder.{handled_by, lists_by, reading_by, text_order}
 use Rattle.icu_collator.specs.declared.forward_levels.Level.{Level}
-use Rattle.icu_collator.specs.inner.ElementOrders.{IsPlain, elements_order, leading_order}
+use Rattle.icu_collator.specs.inner.ElementOrders.{ReadsElementsAlone, elements_order, leading_order}
 use Rattle.icu_collator.specs.inner.FactsInStep.{StepsOn, WeighsOn, plain_left, weights_from}
 use Rattle.icu_collator.specs.inner.InStep.{from_first, order_on, order_from, three_order, three_levels, ThreeLevels, IsThreeLevel, StepsBy, StepBoth, DecidesOn}
 use Rattle.icu_collator.specs.inner.LevelWeights.{weight_in, level_weights}
@@ -123,7 +123,7 @@ then_nothing Less p e = refl
 then_nothing Equal p e = e
 then_nothing Greater p e = refl
 
-module _ (collation : Collation) (plain : IsPlain collation) where
+module _ (collation : Collation) (plain : ReadsElementsAlone collation) where
   plain_elements : (t : List ℕ) → handled_by collation (nfd t) ≡ map stayed (elements_of (reading_by collation) (nfd t))
   plain_elements t = all_stay collation.settings.alternate_handling (last_variable_by collation) (elements_of (reading_by collation) (nfd t)) plain.variable
 

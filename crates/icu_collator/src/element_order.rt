@@ -23,7 +23,7 @@ impl<'a> CollatorBorrowed<'a> {
     ghost use Rattle.icu_collator.specs.Collators.{collation_borrowed};
     ghost use Rattle.icu_collator.specs.inner.ElementOrders.{elements_order, leading_order, later_levels_order};
     ghost use Rattle.icu_collator.specs.inner.InStep.{order_on, IsThreeLevel};
-    ghost use Rattle.icu_collator.specs.inner.ElementOrders.{IsPlain};
+    ghost use Rattle.icu_collator.specs.inner.ElementOrders.{ReadsElementsAlone};
 
     /// The order of two texts on a level that is compared forward.
     fn compare_forward_level<L: EncodedText, R: EncodedText>(
@@ -202,7 +202,7 @@ impl<'a> CollatorBorrowed<'a> {
 
     /// Whether no element is variable, and characters don't count.
     fn is_plain(&self) -> bool
-        ensures { IsTrue result → IsPlain (collation_borrowed self.now) }
+        ensures { IsTrue result → ReadsElementsAlone (collation_borrowed self.now) }
     {
         self.last_variable() == 0 && !self.key_form().identical
     }
@@ -212,7 +212,7 @@ impl<'a> CollatorBorrowed<'a> {
     pub(crate) fn plain_form(&self) -> Option<TertiaryForm>
         ensures form { IfSome result
             (λ form. IsThreeLevel (form_by (collation_borrowed self.now)) form) }
-        ensures plain { IfSome result (λ _. IsPlain (collation_borrowed self.now)) }
+        ensures plain { IfSome result (λ _. ReadsElementsAlone (collation_borrowed self.now)) }
     {
         if self.is_plain() {
             self.three_level_form()

@@ -46,7 +46,8 @@ fn order_of_elements(
     order_of_pair(first, form, one, other)
 }
 
-/// The same of what two texts gave, if both gave an element.
+/// The order on the tertiary level of the elements that two texts gave, if both gave one, and these tie on the first
+/// and the secondary level.
 #[inline(always)]
 fn order_of_step(
     first: Level<'_>,

@@ -100,8 +100,8 @@ impl<'a> CollatorBorrowed<'a> {
         }
     }
 
-    /// The order of two texts by the characters that they begin with, as far as these may be read by themselves: on three
-    /// levels where these are all, and else by the primary weights, of which the first that differ decide.
+    /// The order of two texts by the characters that they begin with, as far as these may be read by themselves: on
+    /// three levels where these are all, and else by the primary weights, of which the first that differ decide.
     #[inline(never)]
     fn order_by_facts<L: EncodedText, R: EncodedText>(&self, left: L, right: R) -> Option<Ordering>
         ensures { let collation = collation_borrowed self.now in

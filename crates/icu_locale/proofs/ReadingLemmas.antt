@@ -7,12 +7,12 @@ use Rattle.std.proofs.lemmas.List.Sums.{fails_before_first}
 use Rattle.icu_locale.specs.declared.subtag.SubtagKind.{SubtagKind}
 use Rattle.icu_locale.specs.declared.subtag.Subtag.{Subtag}
 use Rattle.icu_locale.specs.Subtags.{kind_behind, may_end_behind, stands_once, in_case_of}
-use Rattle.icu_locale.specs.LanguageTags.{SubtagText, text_of, texts_of, parts_of, is_repeated, subtag_as, subtag_behind, subtags_behind}
+use Rattle.icu_locale.specs.LanguageTags.{SubtagText, subtag_text_of, texts_of, subtags_of, is_repeated, subtag_as, subtag_behind, subtags_behind}
 
 -- the parts of what is left
 abbrev pub parts_left : Option (Bor (List ℕ)) → List (List ℕ)
 parts_left None = []
-parts_left (Some rest) = parts_of rest.now
+parts_left (Some rest) = subtags_of rest.now
 
 -- one more than the bytes that are left, and 0 at the end
 abbrev pub bytes_left : Option (Bor (List ℕ)) → ℕ
@@ -20,15 +20,15 @@ bytes_left None = 0
 bytes_left (Some rest) = length rest.now + 1
 
 -- a text without a hyphen is one part
-pub parts_where_none : (text : List ℕ) → position_or_len (λ b. b == 45) text ≡ length text → parts_of text ≡ text ∷ []
+pub parts_where_none : (text : List ℕ) → position_or_len (λ b. b == 45) text ≡ length text → subtags_of text ≡ text ∷ []
 parts_where_none text none =
     slice_split_none (λ b. b == 45) text (λ k d below. fails_before_first (λ b. b == 45) text k d (omega (arith, below, none)))
 
 -- a text with a hyphen is what stands before it, and the parts behind it
 pub parts_where_some : (text part rest : List ℕ) → part ≡ before_first (λ b. b == 45) text → rest ≡ after_first (λ b. b == 45) text
-    → position_or_len (λ b. b == 45) text < length text → parts_of text ≡ part ∷ parts_of rest
+    → position_or_len (λ b. b == 45) text < length text → subtags_of text ≡ part ∷ subtags_of rest
 parts_where_some text part rest front back inside =
-    slice_split_first (λ b. b == 45) text 0 inside ∙ (ap (λ t. t ∷ parts_of (after_first (λ b. b == 45) text)) (sym front) ∙ ap (λ t. part ∷ parts_of t) (sym back))
+    slice_split_first (λ b. b == 45) text 0 inside ∙ (ap (λ t. t ∷ subtags_of (after_first (λ b. b == 45) text)) (sym front) ∙ ap (λ t. part ∷ subtags_of t) (sym back))
 
 -- a test of some member of a mapped list
 pub any_mapped : {X Y : Type 0} (p : Y → Bool) (f : X → Y) (xs : List X) → list_any p (map f xs) ≡ list_any (λ x. p (f x)) xs
@@ -63,7 +63,7 @@ pub repeated_once : (before : List Subtag) (kind : SubtagKind) (text : List ℕ)
     → r ≡ list_any (λ other. bytes_eq (string_bytes other.text) text) before → r ≡ is_repeated (texts_of before) (as_subtag kind text)
 unfolding is_repeated
 repeated_once before kind text r e h =
-    h ∙ (sym (any_mapped (λ (other : SubtagText). bytes_eq other.text text) text_of before)
+    h ∙ (sym (any_mapped (λ (other : SubtagText). bytes_eq other.text text) subtag_text_of before)
     ∙ sym (ap (λ b. b && list_any (λ (other : SubtagText). bytes_eq other.text text) (texts_of before)) e))
 
 pub repeated_again : (before : List Subtag) (kind : SubtagKind) (text : List ℕ) (r : Bool) → stands_once kind ≡ false
@@ -105,7 +105,7 @@ some_behind before last part bytes kind same h =
 
 -- the parts that are left behind the first one
 pub parts_left_behind : (text part : List ℕ) (rest : Option (Bor (List ℕ)))
-    → MatchOption rest (parts_of text ≡ part ∷ []) (λ r. parts_of text ≡ part ∷ parts_of r.now) → parts_of text ≡ part ∷ parts_left rest
+    → MatchOption rest (subtags_of text ≡ part ∷ []) (λ r. subtags_of text ≡ part ∷ subtags_of r.now) → subtags_of text ≡ part ∷ parts_left rest
 parts_left_behind text part None h = h
 parts_left_behind text part (Some r) h = h
 
@@ -124,20 +124,20 @@ left_within left rest unread n is shorter within =
 
 module _ (before : List SubtagText) (last : Option SubtagKind) (left : Option (Bor (List ℕ))) (tag : Option (List SubtagText)) (invariant : subtags_behind before last (parts_left left) ≡ tag) where
   -- what is left, where a part is read
-  left_is : (unread : Bor (List ℕ)) (part : List ℕ) (rest : Option (Bor (List ℕ))) → left ≡ Some unread → parts_of unread.now ≡ part ∷ parts_left rest
+  left_is : (unread : Bor (List ℕ)) (part : List ℕ) (rest : Option (Bor (List ℕ))) → left ≡ Some unread → subtags_of unread.now ≡ part ∷ parts_left rest
       → subtags_behind before last (part ∷ parts_left rest) ≡ tag
   left_is unread part rest is parts =
       sym (ap (λ ps. subtags_behind before last ps) parts) ∙ (sym (ap (λ l. subtags_behind before last (parts_left l)) is) ∙ invariant)
 
   -- a part that is no subtag there
-  pub part_refused : (unread : Bor (List ℕ)) (part : List ℕ) (rest : Option (Bor (List ℕ))) → left ≡ Some unread → parts_of unread.now ≡ part ∷ parts_left rest
+  pub part_refused : (unread : Bor (List ℕ)) (part : List ℕ) (rest : Option (Bor (List ℕ))) → left ≡ Some unread → subtags_of unread.now ≡ part ∷ parts_left rest
       → subtag_behind before last part ≡ None → tag ≡ None
   part_refused unread part rest is parts none =
       sym (left_is unread part rest is parts) ∙ subtags_refused before last part (parts_left rest) none
 
   -- a part that is a subtag there
   pub part_read : (unread : Bor (List ℕ)) (part : List ℕ) (rest : Option (Bor (List ℕ))) (s : SubtagText) → left ≡ Some unread
-      → parts_of unread.now ≡ part ∷ parts_left rest → subtag_behind before last part ≡ Some s
+      → subtags_of unread.now ≡ part ∷ parts_left rest → subtag_behind before last part ≡ Some s
       → subtags_behind (before ++ s ∷ []) (Some s.kind) (parts_left rest) ≡ tag
   part_read unread part rest s is parts some =
       sym (subtags_more before last part (parts_left rest) s some) ∙ left_is unread part rest is parts

@@ -54,8 +54,8 @@ abbrev pub setting_of : {T : Type 0} → (List ℕ → Option T) → Option (Lis
 setting_of named None = Some None
 setting_of named (Some word) = option_map (λ x. Some x) (named word)
 
-unfoldable pub strength_named : List ℕ → Option Strength
-strength_named word =
+unfoldable pub strength_by_name : List ℕ → Option Strength
+strength_by_name word =
     if bytes_eq word (codes "level1") then Some strengths.Primary
     else (if bytes_eq word (codes "level2") then Some strengths.Secondary
     else (if bytes_eq word (codes "level3") then Some strengths.Tertiary
@@ -97,7 +97,7 @@ backward_named word =
 
 -- the settings are those that the keys name
 pub record AreSettings (subtags : List Subtag) (s : TagSettings) : Type 0 where
-  pub strength : setting_of strength_named (word_behind (codes "ks") subtags) ≡ Some s.options.strength
+  pub strength : setting_of strength_by_name (word_behind (codes "ks") subtags) ≡ Some s.options.strength
   pub alternate_handling : setting_of handling_named (word_behind (codes "ka") subtags) ≡ Some s.options.alternate_handling
   pub max_variable : setting_of group_named (word_behind (codes "kv") subtags) ≡ Some s.options.max_variable
   pub case_level : setting_of case_level_named (word_behind (codes "kc") subtags) ≡ Some s.options.case_level
@@ -107,7 +107,7 @@ pub record AreSettings (subtags : List Subtag) (s : TagSettings) : Type 0 where
 
 -- a key has a word that it doesn't know
 abbrev pub IsUnknown : List Subtag → UnknownType → Type 0
-IsUnknown subtags unknown.Strength = setting_of strength_named (word_behind (codes "ks") subtags) ≡ None
+IsUnknown subtags unknown.Strength = setting_of strength_by_name (word_behind (codes "ks") subtags) ≡ None
 IsUnknown subtags unknown.AlternateHandling = setting_of handling_named (word_behind (codes "ka") subtags) ≡ None
 IsUnknown subtags unknown.MaxVariable = setting_of group_named (word_behind (codes "kv") subtags) ≡ None
 IsUnknown subtags unknown.CaseLevel = setting_of case_level_named (word_behind (codes "kc") subtags) ≡ None

@@ -13,15 +13,15 @@ pub record SubtagText : Type 0 where
   pub text : List ℕ
 
 -- what subtags of the code are
-abbrev pub text_of : Subtag → SubtagText
-text_of s = record { kind = s.kind; text = string_bytes s.text }
+abbrev pub subtag_text_of : Subtag → SubtagText
+subtag_text_of s = record { kind = s.kind; text = string_bytes s.text }
 
 abbrev pub texts_of : List Subtag → List SubtagText
-texts_of subtags = map text_of subtags
+texts_of subtags = map subtag_text_of subtags
 
 -- the parts of a text between hyphens
-abbrev pub parts_of : List ℕ → List (List ℕ)
-parts_of text = slice_split (λ b. b == 45) text
+abbrev pub subtags_of : List ℕ → List (List ℕ)
+subtags_of text = slice_split (λ b. b == 45) text
 
 -- whether a subtag stands among others already, and may stand there once
 unfoldable pub is_repeated : List SubtagText → SubtagText → Bool
@@ -44,14 +44,14 @@ subtags_behind before last (part ∷ parts) =
     option_and_then (λ s. subtags_behind (before ++ s ∷ []) (Some s.kind) parts) (subtag_behind before last part)
 
 -- the subtags that a text spells, if it is a language tag
-abbrev pub tag_of : List ℕ → Option (List SubtagText)
-tag_of text = subtags_behind [] None (parts_of text)
+abbrev pub language_tag_of : List ℕ → Option (List SubtagText)
+language_tag_of text = subtags_behind [] None (subtags_of text)
 
 -- how subtags are written: with hyphens between
 abbrev pub written : List SubtagText → List ℕ
 written subtags = join_with_byte 45 (map (λ s. s.text) subtags)
 
 -- where an error is: a place within a text of so many bytes
-abbrev pub IsWithin : ℕ → TagError → Type 0
-IsWithin n NoMemory = Unit {0}
-IsWithin n (Refused place kind) = place ≤ n
+abbrev pub IsWithinTag : ℕ → TagError → Type 0
+IsWithinTag n NoMemory = Unit {0}
+IsWithinTag n (Refused place kind) = place ≤ n

@@ -33,19 +33,19 @@ is_the_letter b s = length s == 1 && to_ascii_lowercase (slice_index s 0) == b
 
 -- the form of a subtag of each kind, which has letters and digits alone: `de`, `Latn`, `DE` or `419`, `posix` or
 -- `1996`; `u`, `abc`, `co`, `phonebk`; `t` and any other letter or digit; `x`
-unfoldable pub is_of : SubtagKind → List ℕ → Bool
-is_of Language s = (has_length 2 3 s || has_length 5 8 s) && list_all is_letter s
-is_of Script s = has_length 4 4 s && list_all is_letter s
-is_of Region s = (has_length 2 2 s && list_all is_letter s) || (has_length 3 3 s && list_all is_digit s)
-is_of Variant s = has_length 5 8 s || (has_length 4 4 s && is_digit (slice_index s 0))
-is_of UnicodeExtension s = is_the_letter 117 s
-is_of Attribute s = has_length 3 8 s
-is_of Key s = has_length 2 2 s && is_letter (slice_index s 1)
-is_of TypePart s = has_length 3 8 s
-is_of OtherExtension s = has_length 1 1 s && not (is_the_letter 117 s || is_the_letter 120 s)
-is_of ExtensionPart s = has_length 2 8 s
-is_of PrivateUse s = is_the_letter 120 s
-is_of PrivatePart s = has_length 1 8 s
+unfoldable pub consists_of : SubtagKind → List ℕ → Bool
+consists_of Language s = (has_length 2 3 s || has_length 5 8 s) && list_all is_letter s
+consists_of Script s = has_length 4 4 s && list_all is_letter s
+consists_of Region s = (has_length 2 2 s && list_all is_letter s) || (has_length 3 3 s && list_all is_digit s)
+consists_of Variant s = has_length 5 8 s || (has_length 4 4 s && is_digit (slice_index s 0))
+consists_of UnicodeExtension s = is_the_letter 117 s
+consists_of Attribute s = has_length 3 8 s
+consists_of Key s = has_length 2 2 s && is_letter (slice_index s 1)
+consists_of TypePart s = has_length 3 8 s
+consists_of OtherExtension s = has_length 1 1 s && not (is_the_letter 117 s || is_the_letter 120 s)
+consists_of ExtensionPart s = has_length 2 8 s
+consists_of PrivateUse s = is_the_letter 120 s
+consists_of PrivatePart s = has_length 1 8 s
 
 -- what may stand behind a language, a script, a region or a variant, and behind an extension
 abbrev pub extensions : List SubtagKind
@@ -69,7 +69,7 @@ kinds_behind (Some PrivatePart) = PrivatePart ∷ []
 
 -- the kind of a subtag behind one of a kind: none where no subtag of that form may stand
 unfoldable pub kind_behind : Option SubtagKind → List ℕ → Option SubtagKind
-kind_behind before s = if is_subtag s then find (λ kind. is_of kind s) (kinds_behind before) else None
+kind_behind before s = if is_subtag s then find (λ kind. consists_of kind s) (kinds_behind before) else None
 
 -- whether a tag may end behind a subtag of a kind: not where an extension is empty
 unfoldable pub may_end_behind : Option SubtagKind → Bool

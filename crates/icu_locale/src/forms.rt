@@ -2,7 +2,7 @@
 ghost use Rattle.std.specs.Prelude.{◌≡◌};
 ghost use Rattle.std.specs.List.{list_all, find};
 ghost use Rattle.icu_locale.specs.Subtags.{is_letter, is_digit, is_alphanumeric, has_length};
-ghost use Rattle.icu_locale.specs.Subtags.{is_subtag, is_the_letter, is_of, kinds_behind};
+ghost use Rattle.icu_locale.specs.Subtags.{is_subtag, is_the_letter, consists_of, kinds_behind};
 ghost use Rattle.icu_locale.specs.Subtags.{kind_behind, may_end_behind, stands_once};
 
 use crate::subtag::SubtagKind;
@@ -71,7 +71,7 @@ fn is_the_letter(subtag: &[u8], letter: u8) -> bool
 /// Whether a subtag has the form of a kind.
 #[tactic(auto, unfolding(crate::specs::Subtags::is_of))]
 fn is_of(kind: SubtagKind, subtag: &[u8]) -> bool
-    ensures { result ≡ is_of kind subtag.now }
+    ensures { result ≡ consists_of kind subtag.now }
 {
     match kind {
         SubtagKind::Language => {
@@ -134,7 +134,7 @@ fn kinds_behind(last: Option<SubtagKind>) -> &'static [SubtagKind]
 
 /// The first of some kinds that a subtag has the form of.
 fn first_form(kinds: &[SubtagKind], subtag: &[u8]) -> Option<SubtagKind>
-    ensures { result ≡ find (λ kind. is_of kind subtag.now) kinds.now }
+    ensures { result ≡ find (λ kind. consists_of kind subtag.now) kinds.now }
 {
     kinds.iter().copied().find(|kind| is_of(*kind, subtag))
 }

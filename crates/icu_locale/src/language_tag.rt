@@ -1,8 +1,8 @@
 //! Language tags.
 ghost use Rattle.std.specs.Prelude.{◌≡◌, ◌≢◌, ℕ, ◌<◌, ◌≤◌, ◌++◌, ◌∷◌, [], List, length, IfOk, IfErr, IfSome, MatchOption, Some, None, bytes_eq, string_bytes, codes, option_map};
 ghost use Rattle.std.specs.List.{list_any};
-ghost use Rattle.icu_locale.specs.LanguageTags.{text_of, texts_of, parts_of, is_repeated, subtag_as};
-ghost use Rattle.icu_locale.specs.LanguageTags.{subtag_behind, tag_of, IsWithin};
+ghost use Rattle.icu_locale.specs.LanguageTags.{subtag_text_of, texts_of, subtags_of, is_repeated, subtag_as};
+ghost use Rattle.icu_locale.specs.LanguageTags.{subtag_behind, language_tag_of, IsWithinTag};
 ghost use Rattle.icu_locale.specs.Keywords.{joined, locale_of, type_of, AreSettings, IsUnknown};
 ghost use Rattle.std.specs.Option.{option_copied};
 
@@ -24,8 +24,8 @@ pub struct LanguageTag {
 /// The part of a text before its first hyphen, and what stands behind that.
 fn first_part(text: &str) -> (&str, Option<&str>)
     ensures parts { MatchOption result.1
-        (parts_of text.now ≡ result.0.now ∷ [])
-        (λ rest. parts_of text.now ≡ result.0.now ∷ parts_of rest.now) }
+        (subtags_of text.now ≡ result.0.now ∷ [])
+        (λ rest. subtags_of text.now ≡ result.0.now ∷ subtags_of rest.now) }
     ensures shorter { IfSome result.1 (λ rest. length rest.now < length text.now) }
 {
     match text.split_once('-') {
@@ -57,10 +57,10 @@ fn subtag_as(
     place: usize,
 ) -> Result<Subtag, TagError>
     ensures subtag { IfOk result (λ s.
-        subtag_as (texts_of before.now) part.now kind ≡ Some (text_of s)) }
+        subtag_as (texts_of before.now) part.now kind ≡ Some (subtag_text_of s)) }
     ensures refused { IfErr result (λ e. e ≢ TagError.NoMemory
         → subtag_as (texts_of before.now) part.now kind ≡ None) }
-    ensures place { IfErr result (IsWithin place) }
+    ensures place { IfErr result (IsWithinTag place) }
 {
     let text = in_case_of(alloc, kind, part)?;
     if is_repeated(before, kind, text.as_str()) {
@@ -74,7 +74,7 @@ fn subtag_as(
 
 /// The error at a subtag that may not stand behind one of a kind, or at the beginning.
 fn unexpected(last: Option<SubtagKind>, place: usize) -> TagError
-    ensures { IsWithin place result }
+    ensures { IsWithinTag place result }
 {
     let kind = match last {
         None => TagErrorKind::Language,
@@ -92,10 +92,10 @@ fn subtag_behind(
     place: usize,
 ) -> Result<Subtag, TagError>
     ensures subtag { IfOk result (λ s.
-        subtag_behind (texts_of before.now) last part.now ≡ Some (text_of s)) }
+        subtag_behind (texts_of before.now) last part.now ≡ Some (subtag_text_of s)) }
     ensures refused { IfErr result (λ e. e ≢ TagError.NoMemory
         → subtag_behind (texts_of before.now) last part.now ≡ None) }
-    ensures place { IfErr result (IsWithin place) }
+    ensures place { IfErr result (IsWithinTag place) }
 {
     match kind_behind(last, part.as_bytes()) {
         None => Err(unexpected(last, place)),
@@ -104,13 +104,13 @@ fn subtag_behind(
 }
 
 impl LanguageTag {
-    /// The tag that a text is, by `tag_of`: its parts between hyphens are the subtags, in upper or lower case.
+    /// The tag that a text is, by `language_tag_of`: its parts between hyphens are the subtags, in upper or lower case.
     ///
     /// An error has the place at which the subtag begins that may not stand there, and the reason.
     pub fn parse(alloc: Global, text: &str) -> Result<LanguageTag, TagError>
-        ensures tag { IfOk result (λ tag. tag_of text.now ≡ Some (texts_of tag.subtags.items)) }
-        ensures refused { IfErr result (λ e. e ≢ TagError.NoMemory → tag_of text.now ≡ None) }
-        ensures place { IfErr result (IsWithin (length text.now)) }
+        ensures tag { IfOk result (λ tag. language_tag_of text.now ≡ Some (texts_of tag.subtags.items)) }
+        ensures refused { IfErr result (λ e. e ≢ TagError.NoMemory → language_tag_of text.now ≡ None) }
+        ensures place { IfErr result (IsWithinTag (length text.now)) }
     {
         let mut subtags = Vec::new(alloc);
         let mut last = None;

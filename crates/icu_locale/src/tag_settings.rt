@@ -1,6 +1,6 @@
 //! The settings that the keywords of a tag name.
 ghost use Rattle.std.specs.Prelude.{◌≡◌, Some, None, IfOk, IfErr, codes};
-ghost use Rattle.icu_locale.specs.Keywords.{strength_named, handling_named, group_named};
+ghost use Rattle.icu_locale.specs.Keywords.{strength_by_name, handling_named, group_named};
 ghost use Rattle.icu_locale.specs.Keywords.{case_level_named, case_first_named, numeric_named};
 ghost use Rattle.icu_locale.specs.Keywords.{backward_named, setting_of, word_behind, AreSettings, IsUnknown};
 
@@ -45,9 +45,9 @@ pub enum UnknownType {
     Backward,
 }
 
-#[tactic(auto, unfolding(crate::specs::Keywords::strength_named))]
-fn strength_named(word: &str) -> Option<Strength>
-    ensures { result ≡ strength_named word.now }
+#[tactic(auto, unfolding(crate::specs::Keywords::strength_by_name))]
+fn strength_by_name(word: &str) -> Option<Strength>
+    ensures { result ≡ strength_by_name word.now }
 {
     match word {
         "level1" => Some(Strength::Primary),
@@ -131,14 +131,14 @@ fn backward_named(word: &str) -> Option<bool>
 /// How many levels are compared.
 fn strength(subtags: &[Subtag]) -> Result<Option<Strength>, UnknownType>
     ensures known { IfOk result (λ x.
-        setting_of strength_named (word_behind (codes "ks") subtags.now) ≡ Some x) }
+        setting_of strength_by_name (word_behind (codes "ks") subtags.now) ≡ Some x) }
     ensures unknown { IfErr result (λ e. (e ≡ UnknownType.Strength)
-        × (setting_of strength_named (word_behind (codes "ks") subtags.now) ≡ None)) }
+        × (setting_of strength_by_name (word_behind (codes "ks") subtags.now) ≡ None)) }
 {
     let Some(word) = word_behind(subtags, "ks") else {
         return Ok(None);
     };
-    match strength_named(word) {
+    match strength_by_name(word) {
         Some(named) => Ok(Some(named)),
         None => Err(UnknownType::Strength),
     }

@@ -8,7 +8,7 @@ use Rattle.std.proofs.lemmas.List.{append-nil}
 use Rattle.icu_rules.specs.declared.rules.PlacedStatement.{PlacedStatement}
 use Rattle.icu_rules.specs.declared.statement.Statement.TheVariants.{Import}
 use Rattle.icu_rules.specs.Statements.{SpellStatements}
-use Rattle.icu_rules.specs.Imports.{is_import, has_no_import, outermost, led_by, StandsFor, AddsStated, Resolve, nothing, own, imported, ResolveAs}
+use Rattle.icu_rules.specs.Imports.{is_import, has_no_import, outermost, led_by, StandsForImport, AddsStated, Resolve, nothing, own, imported, ResolveAs}
 
 -- the parts of a list resolve apart
 pub resolve_parts : {has : List ℕ → List ℕ → Type 0} (xs ys : List PlacedStatement) {all : List PlacedStatement} → Resolve has (xs ++ ys) all → (first second : List PlacedStatement) × Resolve has xs first × Resolve has ys second × (all ≡ first ++ second)
@@ -32,7 +32,7 @@ resolve_join (x ∷ xs) ys second (imported inner all i a r e) s =
     (ap (λ t. t ++ second) e ∙ append_assoc inner all second)
 
 -- a statement in front resolves as what it stands for
-pub resolve_stated : {has : List ℕ → List ℕ → Type 0} (placed : PlacedStatement) (added rest : List PlacedStatement) {all : List PlacedStatement} → StandsFor has placed added → Resolve has (added ++ rest) all → Resolve has (placed ∷ rest) all
+pub resolve_stated : {has : List ℕ → List ℕ → Type 0} (placed : PlacedStatement) (added rest : List PlacedStatement) {all : List PlacedStatement} → StandsForImport has placed added → Resolve has (added ++ rest) all → Resolve has (placed ∷ rest) all
 resolve_stated placed added rest (inl i) r =
     let p = resolve_parts added rest r in imported p.0 p.1 i p.2 p.3 p.4
 resolve_stated {has} placed added rest {all} (inr (n, e)) r =
@@ -42,7 +42,7 @@ resolve_stated {has} placed added rest {all} (inr (n, e)) r =
 abbrev pub Replaced : (List ℕ → List ℕ → Type 0) → List PlacedStatement → List PlacedStatement → Type 0
 Replaced has xs ys = (more all : List PlacedStatement) → Resolve has (ys ++ more) all → Resolve has (xs ++ more) all
 
-pub replaced_step : {has : List ℕ → List ℕ → Type 0} (xs ys new_xs new_ys added : List PlacedStatement) (placed : PlacedStatement) → new_xs ≡ xs ++ placed ∷ [] → new_ys ≡ ys ++ added → StandsFor has placed added → Replaced has xs ys → Replaced has new_xs new_ys
+pub replaced_step : {has : List ℕ → List ℕ → Type 0} (xs ys new_xs new_ys added : List PlacedStatement) (placed : PlacedStatement) → new_xs ≡ xs ++ placed ∷ [] → new_ys ≡ ys ++ added → StandsForImport has placed added → Replaced has xs ys → Replaced has new_xs new_ys
 replaced_step {has} xs ys new_xs new_ys added placed e f s h more all r =
     let apart : Resolve has (ys ++ (added ++ more)) all =
     subst (λ t. Resolve has t all) (ap (λ t. t ++ more) f ∙ append_assoc ys added more) r in

@@ -50,13 +50,13 @@ pub data Resolve (has : List ℕ → List ℕ → Type 0) : List PlacedStatement
       → Resolve has (placed ∷ more) whole
 
 -- what a statement stands for: itself, or what it imports
-abbrev pub StandsFor : (List ℕ → List ℕ → Type 0) → PlacedStatement → List PlacedStatement → Type 0
-StandsFor has placed added = AreImported has placed added
+abbrev pub StandsForImport : (List ℕ → List ℕ → Type 0) → PlacedStatement → List PlacedStatement → Type 0
+StandsForImport has placed added = AreImported has placed added
     ⊎ ((is_import placed.statement ≡ false) × (added ≡ placed ∷ []))
 
 -- so were added, to the statements before, those that a statement stands for
 abbrev pub AddsStated : (List ℕ → List ℕ → Type 0) → PlacedStatement → List PlacedStatement → List PlacedStatement → Type 0
-AddsStated has placed before after = (added : List PlacedStatement) × StandsFor has placed added
+AddsStated has placed before after = (added : List PlacedStatement) × StandsForImport has placed added
     × (after ≡ before ++ added)
 
 -- whatever the second statements resolve to, the first ones do

@@ -4,7 +4,7 @@ use Rattle.std.specs.List.{AllByRecursion, Any, Contains}
 use Rattle.std.proofs.lemmas.Bool.{cases_Bool, leb-true, leb-false}
 use Rattle.icu_search.specs.LeastMatches.{Span, least_from, apart_from, RisesTo, StandsApart, ReachesInto}
 use Rattle.icu_search.specs.LeastMatchLaws.{AreFound}
-use Rattle.icu_search.proofs.ListLemmas.{not_in_nil, at_head, in_tail, head_or_tail, member_of, each_member, some_member, the_member, InPairs, AllPairs-in_pairs}
+use Rattle.icu_search.proofs.SpanListLemmas.{not_in_nil, at_head, in_tail, head_or_tail, member_of, each_member, some_member, the_member, InPairs, AllPairs-in_pairs}
 use Rattle.icu_search.proofs.LeastLemmas.{least_rise, least_ordered}
 
 pub apart_from-nil : (offset : ℕ) → apart_from offset [] ≡ []
@@ -29,7 +29,7 @@ taken_member offset (x ∷ later) m at =
           let here : Contains (x ∷ apart_from x.stop later) m = subst (λ (l : List Span). Contains l m) (apart_from-taken offset x later taken) at in
           elim (head_or_tail m x (apart_from x.stop later) here) as (λ _. Contains (x ∷ later) m) [
             | inl first ↦ at_head m x later first
-            | inr behind ↦ in_tail m x later (taken_member x.stop later m behind)
+            | inr from_behind ↦ in_tail m x later (taken_member x.stop later m from_behind)
           ]
       | inr passed ↦ in_tail m x later (taken_member offset later m (subst (λ (l : List Span). Contains l m) (apart_from-passed offset x later passed) at))
     ]
@@ -41,9 +41,9 @@ begins_after offset (x ∷ later) ordered =
     elim (cases_Bool (nat_le offset x.start)) [
       | inl taken ↦
           let from : offset ≤ x.start = leb-true offset x.start taken in
-          let behind = begins_after x.stop later ordered.1 in
+          let from_behind = begins_after x.stop later ordered.1 in
           let all : AllByRecursion (λ (m : Span). offset ≤ m.start) (x ∷ apart_from x.stop later) =
-          (from, each_member (λ (m : Span). offset ≤ m.start) (apart_from x.stop later) (λ m at. omega (arith, from, ordered.0, member_of (λ (m : Span). x.stop ≤ m.start) m (apart_from x.stop later) behind at))) in
+          (from, each_member (λ (m : Span). offset ≤ m.start) (apart_from x.stop later) (λ m at. omega (arith, from, ordered.0, member_of (λ (m : Span). x.stop ≤ m.start) m (apart_from x.stop later) from_behind at))) in
           rw (apart_from-taken offset x later taken) all
       | inr passed ↦ rw (apart_from-passed offset x later passed) (begins_after offset later ordered.1)
     ]
@@ -53,10 +53,10 @@ stand_apart offset [] rise ordered = rw (apart_from-nil offset) tt
 stand_apart offset (x ∷ later) rise ordered =
     elim (cases_Bool (nat_le offset x.start)) [
       | inl taken ↦
-          let behind = begins_after x.stop later ordered.1 in
+          let from_behind = begins_after x.stop later ordered.1 in
           let stands : (m : Span) → Contains (apart_from x.stop later) m → StandsApart x m = λ m at. record {
             start = (member_of (RisesTo x) m later rise.0 (taken_member x.stop later m at)).start;
-            apart = member_of (λ (m : Span). x.stop ≤ m.start) m (apart_from x.stop later) behind at;
+            apart = member_of (λ (m : Span). x.stop ≤ m.start) m (apart_from x.stop later) from_behind at;
           } in
           let all : InPairs StandsApart (x ∷ apart_from x.stop later) = (each_member (StandsApart x) (apart_from x.stop later) stands, stand_apart x.stop later rise.1 ordered.1) in
           rw (apart_from-taken offset x later taken) all
@@ -81,7 +81,7 @@ each_is_met offset (x ∷ later) rise m at =
       | inl taken ↦
           let met : Met offset (x ∷ apart_from x.stop later) m = elim (head_or_tail m x later at) as (λ _. Met offset (x ∷ apart_from x.stop later) m) [
             | inl first ↦ inl (at_head m x (apart_from x.stop later) first)
-            | inr behind ↦ met_behind x m (apart_from x.stop later) (member_of (RisesTo x) m later rise.0 behind) (each_is_met x.stop later rise.1 m behind) offset
+            | inr from_behind ↦ met_behind x m (apart_from x.stop later) (member_of (RisesTo x) m later rise.0 from_behind) (each_is_met x.stop later rise.1 m from_behind) offset
           ] in
           subst (λ (l : List Span). Met offset l m) (sym (apart_from-taken offset x later taken)) met
       | inr passed ↦
@@ -89,7 +89,7 @@ each_is_met offset (x ∷ later) rise m at =
             | inl first ↦
                 let before : x.start < offset = leb-false offset x.start passed in
                 inr (inl (subst (λ (s : Span). s.start < offset) first before))
-            | inr behind ↦ each_is_met offset later rise.1 m behind
+            | inr from_behind ↦ each_is_met offset later rise.1 m from_behind
           ] in
           subst (λ (l : List Span). Met offset l m) (sym (apart_from-passed offset x later passed)) met
     ]

@@ -23,10 +23,10 @@ use Rattle.icu_laws.specs.OrderLaws.{strength_rank, with_strength, AreEquivalent
 use Rattle.icu_laws.proofs.StrengthLemmas.{strength_keeps}
 use Rattle.icu_search.specs.LeastMatches.{Span, span, least_from, apart_from, HoldsSpan, StandsApart}
 use Rattle.icu_search.specs.LeastMatchLaws.{IsMatchWithin}
-use Rattle.icu_search.specs.Places.{is_place, is_place_before}
+use Rattle.icu_search.specs.SearchPlaces.{is_place, is_place_before}
 use Rattle.icu_search.specs.Searches.{Search, is_match, least, found}
 use Rattle.icu_search.specs.SearchLaws.{part, IsMatch, MatchesAreMet, at_strength}
-use Rattle.icu_search.proofs.ListLemmas.{the_member}
+use Rattle.icu_search.proofs.SpanListLemmas.{the_member}
 use Rattle.icu_search.proofs.LeastLemmas.{least_matches_hold_no_other}
 use Rattle.icu_search.proofs.ApartLemmas.{found_matches_stand_apart, apart_from-taken}
 

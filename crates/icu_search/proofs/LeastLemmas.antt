@@ -4,7 +4,7 @@ use Rattle.std.specs.List.{AllByRecursion, Any, Contains}
 use Rattle.std.proofs.lemmas.Bool.{cases_Bool, cases_lt, cases_eq, leb-true, leb-false, true≢false}
 use Rattle.icu_search.specs.LeastMatches.{Span, span, shortest_from, narrowed, least_from, HoldsSpan, RisesTo}
 use Rattle.icu_search.specs.LeastMatchLaws.{IsMatchWithin, IsLeastWithin, AreLeastWithin}
-use Rattle.icu_search.proofs.ListLemmas.{at_head, in_tail, member_of, each_member, some_member, the_member, InPairs, AllPairs-in_pairs}
+use Rattle.icu_search.proofs.SpanListLemmas.{at_head, in_tail, member_of, each_member, some_member, the_member, InPairs, AllPairs-in_pairs}
 
 -- ---- the shortest match from a start
 
@@ -183,7 +183,7 @@ narrow matches low high (Some first) (l ∷ later) is ls =
 
 -- no match begins behind the last offset
 nothing_behind : (matches : ℕ → ℕ → Bool) (low high : ℕ) → high < low → Leasts matches low high []
-nothing_behind matches low high behind = record { each = tt; rise = tt; held = λ m is. absurd (omega (arith, is.from_low, is.ordered, is.to_high)) }
+nothing_behind matches low high from_behind = record { each = tt; rise = tt; held = λ m is. absurd (omega (arith, is.from_low, is.ordered, is.to_high)) }
 
 pub Leasts-least_from : (matches : ℕ → ℕ → Bool) (low n high : ℕ) → high ≡ low + n → Leasts matches low high (least_from matches low n)
 unfolding least_from

@@ -1,13 +1,13 @@
-pub mod ListLemmas
+pub mod SpanListLemmas
 pub mod LeastLemmas
 pub mod ApartLemmas
-pub mod MatchEndLemmas
+pub mod FoundEndLemmas
 pub mod StepEndLemmas
-pub mod Computing
+pub mod ComputedSearches
 mod WorkedSearches
 pub mod RestLemmas
-pub mod PartLemmas
+pub mod SearchPartLemmas
 pub mod FoundLemmas
-pub mod CutLemmas
-pub mod PieceLemmas
+pub mod SearchCutLemmas
+pub mod SearchPieceLemmas
 pub mod SelectionLemmas

@@ -13,7 +13,7 @@ use Rattle.icu_elements.specs.TextElements.{Reading, Step, step, consumed, last_
 use Rattle.icu_elements.specs.ReadAhead.{and_more}
 use Rattle.icu_elements.proofs.StepLemmas.{Rests-step, elements_after_cons, elements_after_nil}
 use Rattle.icu_boundaries.specs.LeftContexts.{context_along, context_left}
-use Rattle.icu_search.specs.Places.{rests_along}
+use Rattle.icu_search.specs.SearchPlaces.{rests_along}
 use Rattle.icu_search.proofs.StepEndLemmas.{step-front}
 
 -- ---- what is left after some step

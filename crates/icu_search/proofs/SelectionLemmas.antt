@@ -6,19 +6,19 @@ use Rattle.std.proofs.lemmas.Bool.{cases_Bool, cases_lt, le-leb, lt-leb, lt-ltb,
 use Rattle.std.proofs.lemmas.Option.{same_Some}
 use Rattle.icu_search.specs.LeastMatches.{Span, span, shortest_from, narrowed, least_from, apart_from, RisesTo}
 use Rattle.icu_search.specs.LeastMatchLaws.{IsMatchWithin, IsLeastWithin}
-use Rattle.icu_search.specs.inner.HeldSpans.{joined, stops_before, behind, found_behind}
+use Rattle.icu_search.specs.inner.HeldSpans.{joined_to_held, stops_before, from_behind, found_behind}
 use Rattle.icu_search.specs.Selections.{first_span, found_from}
-use Rattle.icu_search.proofs.ListLemmas.{member_of, each_member, InPairs}
+use Rattle.icu_search.proofs.SpanListLemmas.{member_of, each_member, InPairs}
 use Rattle.icu_search.proofs.LeastLemmas.{ShortestOf, ShortestOf-shortest_from, Leasts-least_from}
 use Rattle.icu_search.proofs.ApartLemmas.{apart_from-nil, apart_from-taken, apart_from-passed}
 
 -- ---- of two matches the one that is least
 
-pub joined-none : (o : Option Span) → joined o None ≡ o
-joined-none None = refl
-joined-none (Some m) = refl
+pub joined_to_held-none : (o : Option Span) → joined_to_held o None ≡ o
+joined_to_held-none None = refl
+joined_to_held-none (Some m) = refl
 
-first_span-narrowed : (o : Option Span) (later : List Span) → first_span (narrowed o later) ≡ joined o (first_span later)
+first_span-narrowed : (o : Option Span) (later : List Span) → first_span (narrowed o later) ≡ joined_to_held o (first_span later)
 unfolding narrowed
 first_span-narrowed None later = refl
 first_span-narrowed (Some m) [] = refl
@@ -28,8 +28,8 @@ first_span-narrowed (Some m) (l ∷ later) =
       | inr goes_on ↦ rw goes_on refl
     ]
 
-joined-three : (a b c : Span) → joined (joined (Some a) (Some b)) (Some c) ≡ joined (Some a) (joined (Some b) (Some c))
-joined-three a b c =
+joined_to_held-three : (a b c : Span) → joined_to_held (joined_to_held (Some a) (Some b)) (Some c) ≡ joined_to_held (Some a) (joined_to_held (Some b) (Some c))
+joined_to_held-three a b c =
     elim (cases_lt a.stop b.stop) [
       | inl longer ↦
           let stays : nat_le b.stop a.stop ≡ false = lt-leb b.stop a.stop longer in
@@ -49,11 +49,11 @@ joined-three a b c =
           ]
     ]
 
-pub joined-assoc : (a b c : Option Span) → joined (joined a b) c ≡ joined a (joined b c)
-joined-assoc None b c = refl
-joined-assoc (Some a) None c = refl
-joined-assoc (Some a) (Some b) None = joined-none (joined (Some a) (Some b))
-joined-assoc (Some a) (Some b) (Some c) = joined-three a b c
+pub joined_to_held-assoc : (a b c : Option Span) → joined_to_held (joined_to_held a b) c ≡ joined_to_held a (joined_to_held b c)
+joined_to_held-assoc None b c = refl
+joined_to_held-assoc (Some a) None c = refl
+joined_to_held-assoc (Some a) (Some b) None = joined_to_held-none (joined_to_held (Some a) (Some b))
+joined_to_held-assoc (Some a) (Some b) (Some c) = joined_to_held-three a b c
 
 -- ---- the least matches that begin at an offset or after it
 
@@ -81,7 +81,7 @@ module _ (matches : ℕ → ℕ → Bool) (n : ℕ) where
       least_to-at start (suc k) e ∙ ap (narrowed (shortest_from matches start start (suc k))) (sym (least_to-at (start + 1) k (omega (arith, e))))
 
   -- the first of them is that at the offset, or the first behind it
-  pub first_turn : (start : ℕ) → start ≤ n → first_span (least_to matches n start) ≡ joined (shortest_from matches start start (n - start)) (first_span (least_to matches n (start + 1)))
+  pub first_turn : (start : ℕ) → start ≤ n → first_span (least_to matches n start) ≡ joined_to_held (shortest_from matches start start (n - start)) (first_span (least_to matches n (start + 1)))
   first_turn start inside =
       ap first_span (turn start (n - start) (omega (arith, inside))) ∙ first_span-narrowed (shortest_from matches start start (n - start)) (least_to matches n (start + 1))
 
@@ -108,12 +108,12 @@ module _ (matches : ℕ → ℕ → Bool) (n : ℕ) where
       ]
 
   -- a match that ends before an offset is kept, whatever begins there or after it
-  kept_over : (held : Span) (start : ℕ) (spans : List Span) → held.stop < start → AllByRecursion (IsMatchWithin matches start n) spans → joined (Some held) (first_span spans) ≡ Some held
+  kept_over : (held : Span) (start : ℕ) (spans : List Span) → held.stop < start → AllByRecursion (IsMatchWithin matches start n) spans → joined_to_held (Some held) (first_span spans) ≡ Some held
   kept_over held start [] before all = refl
   kept_over held start (m ∷ later) before all =
       let longer : nat_le m.stop held.stop ≡ false = lt-leb m.stop held.stop (omega (arith, before, all.0.from_low, all.0.ordered)) in rw longer refl
 
-  pub kept : (held : Span) (start : ℕ) → held.stop < start → joined (Some held) (first_span (least_to matches n start)) ≡ Some held
+  pub kept : (held : Span) (start : ℕ) → held.stop < start → joined_to_held (Some held) (first_span (least_to matches n start)) ≡ Some held
   kept held start before = kept_over held start (least_to matches n start) before (within start)
 
   -- ---- what is found from an offset on
@@ -162,7 +162,7 @@ module _ (matches : ℕ → ℕ → Bool) (n : ℕ) where
   first_found offset = ap first_span (from_offset offset offset (omega arith)) ∙ first_taken offset (least_to matches n offset) (within offset)
 
   -- where a match is held that ends before an offset, it stays
-  pub held_stays : (held : Option Span) (start : ℕ) → stops_before held start ≡ true → joined held (first_span (least_to matches n start)) ≡ held
+  pub held_stays : (held : Option Span) (start : ℕ) → stops_before held start ≡ true → joined_to_held held (first_span (least_to matches n start)) ≡ held
   held_stays None start h = absurd (false≢true h)
   held_stays (Some m) start h = kept m start (ltb-true m.stop start h)
 
@@ -181,36 +181,36 @@ module _ (matches : ℕ → ℕ → Bool) (n : ℕ) where
   -- ---- one, and then the others
 
   -- of parts that begin behind an offset, those are taken that begin behind the next one
-  same_taken : (start stop : ℕ) (spans : List Span) → AllByRecursion (λ (m : Span). start < m.start) spans → apart_from (behind (span start stop)) spans ≡ apart_from stop spans
-  same_taken start stop [] all = apart_from-nil (behind (span start stop)) ∙ sym (apart_from-nil stop)
+  same_taken : (start stop : ℕ) (spans : List Span) → AllByRecursion (λ (m : Span). start < m.start) spans → apart_from (from_behind (span start stop)) spans ≡ apart_from stop spans
+  same_taken start stop [] all = apart_from-nil (from_behind (span start stop)) ∙ sym (apart_from-nil stop)
   same_taken start stop (x ∷ later) all =
       elim (cases_lt start stop) [
         | inl longer ↦ ap (λ b. apart_from (if b then stop else start + 1) (x ∷ later)) (lt-ltb start stop longer)
         | inr empty ↦
-            let next : behind (span start stop) ≡ start + 1 = ap (λ b. if b then stop else start + 1) (le-ltb start stop empty) in
+            let next : from_behind (span start stop) ≡ start + 1 = ap (λ b. if b then stop else start + 1) (le-ltb start stop empty) in
             ap (λ o. apart_from o (x ∷ later)) next
             ∙ apart_from-taken (start + 1) x later (le-leb (start + 1) x.start (omega (arith, all.0)))
             ∙ sym (apart_from-taken stop x later (le-leb stop x.start (omega (arith, all.0, empty))))
       ]
 
-  goes_behind : (m : Span) → m.start < behind m
+  goes_behind : (m : Span) → m.start < from_behind m
   goes_behind m =
       elim (cases_lt m.start m.stop) [
-        | inl longer ↦ let next : behind m ≡ m.stop = ap (λ b. if b then m.stop else m.start + 1) (lt-ltb m.start m.stop longer) in omega (arith, next, longer)
-        | inr empty ↦ let next : behind m ≡ m.start + 1 = ap (λ b. if b then m.stop else m.start + 1) (le-ltb m.start m.stop empty) in omega (arith, next)
+        | inl longer ↦ let next : from_behind m ≡ m.stop = ap (λ b. if b then m.stop else m.start + 1) (lt-ltb m.start m.stop longer) in omega (arith, next, longer)
+        | inr empty ↦ let next : from_behind m ≡ m.start + 1 = ap (λ b. if b then m.stop else m.start + 1) (le-ltb m.start m.stop empty) in omega (arith, next)
       ]
 
   one_and_others : (offset : ℕ) (spans : List Span) → AllByRecursion (IsMatchWithin matches offset n) spans → InPairs RisesTo spans
-      → ((o : ℕ) → offset ≤ o → found_from matches n o ≡ apart_from o spans) → (m : Span) → Some m ≡ first_span spans → found_from matches n offset ≡ m ∷ found_from matches n (behind m)
+      → ((o : ℕ) → offset ≤ o → found_from matches n o ≡ apart_from o spans) → (m : Span) → Some m ≡ first_span spans → found_from matches n offset ≡ m ∷ found_from matches n (from_behind m)
   one_and_others offset [] all rising is m e = cc
   one_and_others offset (x ∷ later) all rising is m e =
       let past = goes_behind x in
       let later_ones : AllByRecursion (λ (m : Span). x.start < m.start) later = each_member (λ (m : Span). x.start < m.start) later (λ m at. (member_of (RisesTo x) m later rising.0 at).start) in
       let first = is offset (omega arith) ∙ apart_from-taken offset x later (le-leb offset x.start all.0.from_low) in
-      let others : found_from matches n (behind x) ≡ apart_from x.stop later =
-      is (behind x) (omega (arith, past, all.0.from_low)) ∙ apart_from-passed (behind x) x later (lt-leb (behind x) x.start past) ∙ same_taken x.start x.stop later later_ones in
-      let here : found_from matches n offset ≡ x ∷ found_from matches n (behind x) = first ∙ ap (λ (l : List Span). x ∷ l) (sym others) in
-      subst (λ (m : Span). found_from matches n offset ≡ m ∷ found_from matches n (behind m)) (sym (same_Some m x e)) here
+      let others : found_from matches n (from_behind x) ≡ apart_from x.stop later =
+      is (from_behind x) (omega (arith, past, all.0.from_low)) ∙ apart_from-passed (from_behind x) x later (lt-leb (from_behind x) x.start past) ∙ same_taken x.start x.stop later later_ones in
+      let here : found_from matches n offset ≡ x ∷ found_from matches n (from_behind x) = first ∙ ap (λ (l : List Span). x ∷ l) (sym others) in
+      subst (λ (m : Span). found_from matches n offset ≡ m ∷ found_from matches n (from_behind m)) (sym (same_Some m x e)) here
 
   -- what is left, by what is given
   pub left_behind : (offset : ℕ) (o : Option Span) → o ≡ first_span (found_from matches n offset) → found_from matches n offset ≡ option_to_list o ++ found_behind matches n offset o

@@ -17,7 +17,7 @@ use Rattle.icu_elements.specs.ReadAhead.{and_more}
 use Rattle.icu_elements.proofs.Computing.{icu_elements}
 use Rattle.icu_elements.proofs.StepLemmas.{Rests}
 use Rattle.icu_matches.proofs.ChoiceLemmas.{either, either_by, maybe_any, at_nil}
-use Rattle.icu_search.proofs.MatchEndLemmas.{Keeps, match_of-front}
+use Rattle.icu_search.proofs.FoundEndLemmas.{Keeps, match_of-front}
 
 -- a step leaves at least this many characters
 pub record KeepsAt (n : ℕ) (s : Step) : Type 0 where

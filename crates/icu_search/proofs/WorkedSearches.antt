@@ -8,7 +8,7 @@ use Rattle.icu_weighting.specs.Collations.{Collation}
 use Rattle.icu_text_order.proofs.WorkedSettings.{plain_at, shifted_at, blanked_at, numeric_at, upper_first_at, case_level_at, mini, backward, spanish, prefixed, kana, with_secondary}
 use Rattle.icu_search.specs.LeastMatches.{Span, span}
 use Rattle.icu_search.specs.Searches.{Search, least, found}
-use Rattle.icu_search.proofs.Computing.{icu_search}
+use Rattle.icu_search.proofs.ComputedSearches.{icu_search}
 
 -- a letter with a ring above is another letter, and sharp s expands to two letters
 abbrev ringed : CollatorTables

@@ -1,6 +1,6 @@
 pub mod LeastMatches
 pub mod LeastMatchLaws
-pub mod Places
+pub mod SearchPlaces
 pub mod Searches
 pub mod PartLaws
 pub mod SearchLaws

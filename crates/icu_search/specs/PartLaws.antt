@@ -7,7 +7,7 @@ use Rattle.icu_elements.specs.TextElements.{Reading, elements_of, elements_after
 use Rattle.icu_boundaries.specs.LeftContexts.{context_left}
 use Rattle.icu_weighting.specs.Collations.{Collation}
 use Rattle.icu_text_order.specs.TextOrder.{reading_by, lists_by}
-use Rattle.icu_search.specs.Places.{is_place_before}
+use Rattle.icu_search.specs.SearchPlaces.{is_place_before}
 
 -- up to a place a text is read as the part before it is by itself
 abbrev pub PartsAreReadAsInTheWhole : Type 0

@@ -7,7 +7,7 @@ use Rattle.icu_boundaries.specs.Cuts.{IsBoundary}
 use Rattle.icu_checks.specs.WellFormedTables.{IsWellFormedTables}
 use Rattle.icu_elements.specs.TextElementLaws.{IsText}
 use Rattle.icu_text_order.specs.TextOrder.{reading_by}
-use Rattle.icu_search.specs.Places.{leads}
+use Rattle.icu_search.specs.SearchPlaces.{leads}
 use Rattle.icu_search.specs.Searches.{Search, is_match}
 
 -- A text may be cut before the character, whatever stands before and after it: its decomposition begins with a boundary
@@ -26,7 +26,7 @@ search_behind k s = record s { allowed = λ i. s.allowed (k + i) }
 -- up to the cut the matches of the whole are those of the first piece, and from there on those of the second
 pub record HasMatchesOfPieces (s : Search) (front back : List ℕ) : Type 0 where
   pub before : (start stop : ℕ) → stop ≤ length front → is_match s (front ++ back) start stop ≡ is_match s front start stop
-  pub behind : (start stop : ℕ)
+  pub from_behind : (start stop : ℕ)
       → is_match s (front ++ back) (length front + start) (length front + stop) ≡ is_match (search_behind (length front) s) back start stop
 
 abbrev pub SearchIsLocal : Type 0

@@ -8,7 +8,7 @@ use Rattle.icu_text_order.specs.TextOrder.{reading_by, text_order, text_key}
 use Rattle.icu_options.specs.declared.settings.Strength.{Strength}
 use Rattle.icu_laws.specs.OrderLaws.{strength_rank, with_strength, AreEquivalent}
 use Rattle.icu_search.specs.LeastMatches.{Span, span, HoldsSpan, StandsApart, ReachesInto}
-use Rattle.icu_search.specs.Places.{is_place}
+use Rattle.icu_search.specs.SearchPlaces.{is_place}
 use Rattle.icu_search.specs.Searches.{Search, least, found}
 
 -- the characters of a part

@@ -5,7 +5,7 @@ use Rattle.std.specs.Ordering.{is_eq}
 use Rattle.icu_weighting.specs.Collations.{Collation}
 use Rattle.icu_text_order.specs.TextOrder.{reading_by, text_order}
 use Rattle.icu_search.specs.LeastMatches.{Span, least_matches, found_matches}
-use Rattle.icu_search.specs.Places.{is_place}
+use Rattle.icu_search.specs.SearchPlaces.{is_place}
 
 -- The collation to search by, the pattern to look for, and the offsets that the caller allows a match to begin or end
 -- at, as those of grapheme clusters or words. Offsets count characters.

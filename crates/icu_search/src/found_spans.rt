@@ -3,7 +3,7 @@
 ghost use Rattle.std.specs.Prelude.{◌≡◌, ◌++◌, ◌<◌, ◌≤◌, ◌-◌, [], option_to_list, IfOk, IfSome, OnErr};
 ghost use Rattle.icu_search.specs.LeastMatches.{shortest_from};
 ghost use Rattle.icu_search.specs.Selections.{first_span, found_from};
-ghost use Rattle.icu_search.specs.inner.HeldSpans.{behind, joined, stops_before};
+ghost use Rattle.icu_search.specs.inner.HeldSpans.{from_behind, joined_to_held, stops_before};
 ghost use Rattle.icu_search.specs.LeastMatches.{found_matches};
 
 use crate::char_span::CharSpan;
@@ -24,7 +24,7 @@ fn shortest_at<M: MatchEnds>(ends: &M, start: usize) -> Result<Option<CharSpan>,
 
 /// Of two matches, the second of which begins later, the one that is least: the later one, unless it ends later.
 fn joined(held: Option<CharSpan>, next: Option<CharSpan>) -> Option<CharSpan>
-    ensures { result ≡ joined held next }
+    ensures { result ≡ joined_to_held held next }
 {
     match (held, next) {
         (None, next) => next,
@@ -70,7 +70,7 @@ pub fn first_least<M: MatchEnds>(ends: &M, offset: usize) -> Result<Option<CharS
 /// Where the match after this one may begin: where it ends, or behind its start where it is empty.
 fn behind(m: CharSpan) -> usize
     requires { m.start < usize.MAX }
-    ensures { result ≡ behind m }
+    ensures { result ≡ from_behind m }
 {
     if m.start() < m.stop() {
         m.stop()

@@ -9,9 +9,9 @@ use Rattle.icu_entries.specs.Elements.{common}
 use Rattle.icu_tailoring.specs.Rules.{ResetPlace, Rule, reset, relation, suppression, setting}
 use Rattle.icu_tailoring.specs.SymbolicElements.{SymbolicWeight, rooted, tailored, SymbolicElement, is_same_weight, are_same_weights, ends_with_zero}
 use Rattle.icu_tailoring.specs.WeightTrees.{WeightTree, first_tree, with_siblings, with_rooted, with_behind, with_weight, with_weights, above_level, weight_at_level}
-use Rattle.icu_tailoring.specs.Roots.{Root, lesser_weight}
+use Rattle.icu_tailoring.specs.TailoredRoots.{Root, lesser_weight}
 use Rattle.icu_tailoring.specs.Steps.{TailoringState, first_state, counting_at, last_element, with_lesser, place_elements, before_level, before_step, reset_step, difference_step, strength_step, case_step, relation_step, suppression_step, rule_step, state_after, tailoring_of}
-use Rattle.icu_tailoring.specs.SymbolicOrders.{IsAmong, StandsBefore}
+use Rattle.icu_tailoring.specs.SymbolicOrders.{IsAmongWeights, IsOrderedBefore}
 use Rattle.icu_tailoring.specs.AscendingLaws.{WeightsOfTheRootAscend}
 use Rattle.icu_tailoring.proofs.TreeLemmas.{either, is_itself, mapping_tree}
 use Rattle.icu_tailoring.proofs.WholeElements.{IsWhole, counting_whole, last_whole}
@@ -20,7 +20,7 @@ use Rattle.icu_tailoring.proofs.BetweenLemmas.{rooted_is_among, with_rooted_sibl
 
 -- all weights of the root among the siblings are greater
 abbrev AreGreater : ℕ → List SymbolicWeight → Type 0
-AreGreater v siblings = (u : ℕ) → IsAmong (rooted u) siblings → v < u
+AreGreater v siblings = (u : ℕ) → IsAmongWeights (rooted u) siblings → v < u
 
 -- the weights of the root ascend
 abbrev Ascends : List SymbolicWeight → Type 0
@@ -47,18 +47,18 @@ greater_from n u e f = grind (arith, nat_tests)
 
 -- ---- among siblings
 
-among_or : (n : ℕ) (w : SymbolicWeight) (xs : List SymbolicWeight) → IsAmong w (with_rooted n xs)
-    → (rooted n ≡ w) ⊎ IsAmong w xs
+among_or : (n : ℕ) (w : SymbolicWeight) (xs : List SymbolicWeight) → IsAmongWeights w (with_rooted n xs)
+    → (rooted n ≡ w) ⊎ IsAmongWeights w xs
 unfolding with_rooted
 among_or n w [] (inl e) = inl e
 among_or n w [] (inr a) = absurd a
 among_or n w (tailored k ∷ xs) (inl e) = inr (inl e)
 among_or n w (tailored k ∷ xs) (inr a) = elim (among_or n w xs a) [ inl e ↦ inl e | inr b ↦ inr (inr b) ]
 among_or n w (rooted u ∷ xs) a =
-    let Says : List SymbolicWeight → Type 0 = λ ys. IsAmong w ys → (rooted n ≡ w) ⊎ IsAmong w (rooted u ∷ xs) in
+    let Says : List SymbolicWeight → Type 0 = λ ys. IsAmongWeights w ys → (rooted n ≡ w) ⊎ IsAmongWeights w (rooted u ∷ xs) in
     let later : List SymbolicWeight = if nat_lt n u then rooted n ∷ rooted u ∷ xs else rooted u ∷ with_rooted n xs in
-    let put : IsAmong w (rooted n ∷ rooted u ∷ xs) → (rooted n ≡ w) ⊎ IsAmong w (rooted u ∷ xs) = λ b. b in
-    let further : IsAmong w (rooted u ∷ with_rooted n xs) → (rooted n ≡ w) ⊎ IsAmong w (rooted u ∷ xs) = λ b. elim b [
+    let put : IsAmongWeights w (rooted n ∷ rooted u ∷ xs) → (rooted n ≡ w) ⊎ IsAmongWeights w (rooted u ∷ xs) = λ b. b in
+    let further : IsAmongWeights w (rooted u ∷ with_rooted n xs) → (rooted n ≡ w) ⊎ IsAmongWeights w (rooted u ∷ xs) = λ b. elim b [
       | inl e ↦ inr (inl e)
       | inr c ↦ (elim (among_or n w xs c) [ inl e ↦ inl e | inr d ↦ inr (inr d) ])
     ] in
@@ -75,11 +75,11 @@ ascends_rooted n (rooted u ∷ xs) (greater, s) =
     (λ other. either Ascends (nat_lt n u) (rooted n ∷ rooted u ∷ xs) (rooted u ∷ with_rooted n xs)
     (λ less. (λ t a. above_new (less_from n u less) t a, (greater, s)))
     (λ no. (λ t a. above_old (greater_from n u other no) t a, ascends_rooted n xs s))) where
-      above_new : n < u → (t : ℕ) → IsAmong (rooted t) (rooted u ∷ xs) → n < t
+      above_new : n < u → (t : ℕ) → IsAmongWeights (rooted t) (rooted u ∷ xs) → n < t
       above_new less t (inl e) = let same = same_number u t e in omega (arith, less, same)
       above_new less t (inr a) = let more = greater t a in omega (arith, less, more)
 
-      above_old : u < n → (t : ℕ) → IsAmong (rooted t) (with_rooted n xs) → u < t
+      above_old : u < n → (t : ℕ) → IsAmongWeights (rooted t) (with_rooted n xs) → u < t
       above_old more t a = elim (among_or n (rooted t) xs a) [
         | inl e ↦ (let same = same_number n t e in omega (arith, more, same))
         | inr b ↦ greater t b
@@ -87,7 +87,7 @@ ascends_rooted n (rooted u ∷ xs) (greater, s) =
 
 -- a weight of the root is among the siblings
 abbrev IsPut : SymbolicWeight → List SymbolicWeight → Type 0
-IsPut (rooted n) siblings = IsAmong (rooted n) siblings
+IsPut (rooted n) siblings = IsAmongWeights (rooted n) siblings
 IsPut (tailored k) siblings = Unit {0}
 
 put_further : (w u : SymbolicWeight) (xs : List SymbolicWeight) → is_same_weight u w ≡ false → IsPut w (u ∷ xs) → IsPut w xs
@@ -96,15 +96,15 @@ put_further (rooted n) u xs other (inr a) = a
 put_further (tailored k) u xs other p = tt
 
 among_behind : (w : SymbolicWeight) (k t : ℕ) (xs : List SymbolicWeight) → IsPut w xs
-    → IsAmong (rooted t) (with_behind w (tailored k) xs) → IsAmong (rooted t) xs
+    → IsAmongWeights (rooted t) (with_behind w (tailored k) xs) → IsAmongWeights (rooted t) xs
 unfolding with_behind
 among_behind (rooted n) k t [] p a = absurd p
 among_behind (tailored j) k t [] p (inl e) = absurd (not_rooted j t e)
 among_behind (tailored j) k t [] p (inr (inl e)) = absurd (not_rooted k t e)
 among_behind (tailored j) k t [] p (inr (inr a)) = absurd a
 among_behind w k t (u ∷ xs) p a =
-    let Says : List SymbolicWeight → Type 0 = λ ys. IsAmong (rooted t) ys → IsAmong (rooted t) (u ∷ xs) in
-    let near : IsAmong (rooted t) (u ∷ tailored k ∷ xs) → IsAmong (rooted t) (u ∷ xs) = λ b. elim b [
+    let Says : List SymbolicWeight → Type 0 = λ ys. IsAmongWeights (rooted t) ys → IsAmongWeights (rooted t) (u ∷ xs) in
+    let near : IsAmongWeights (rooted t) (u ∷ tailored k ∷ xs) → IsAmongWeights (rooted t) (u ∷ xs) = λ b. elim b [
       | inl e ↦ inl e
       | inr c ↦ (elim c [ inl e ↦ absurd (not_rooted k t e) | inr d ↦ inr d ])
     ] in
@@ -152,7 +152,7 @@ weights_ascend tree above [] t = t
 weights_ascend tree above (x ∷ ws) t = weights_ascend (with_weight tree above x) (above ++ x ∷ []) ws (weight_ascends tree above x t)
 
 is_put : (tree : WeightTree) (above : List SymbolicWeight) (w : SymbolicWeight) → IsPut w (with_weight tree above w above)
-is_put tree above (rooted n) = subst (IsAmong (rooted n)) (sym (with_rooted_siblings tree above n)) (rooted_is_among n (tree above))
+is_put tree above (rooted n) = subst (IsAmongWeights (rooted n)) (sym (with_rooted_siblings tree above n)) (rooted_is_among n (tree above))
 is_put tree above (tailored k) = tt
 
 abbrev IsPutAt : WeightTree → ℕ → List SymbolicWeight → Type 0
@@ -234,7 +234,7 @@ state_ascends root state [] w t = t
 state_ascends root state (rule ∷ rules) w t =
     state_ascends root (rule_step root state rule) rules (rule_whole root state rule w) (rule_ascends root state rule w t)
 
-stands_less : (xs : List SymbolicWeight) (v w : ℕ) → Ascends xs → StandsBefore (rooted v) (rooted w) xs → v < w
+stands_less : (xs : List SymbolicWeight) (v w : ℕ) → Ascends xs → IsOrderedBefore (rooted v) (rooted w) xs → v < w
 stands_less [] v w s b = absurd b
 stands_less (tailored k ∷ xs) v w s (inl e) = absurd (not_rooted k v e.0)
 stands_less (tailored k ∷ xs) v w s (inr b) = stands_less xs v w s b

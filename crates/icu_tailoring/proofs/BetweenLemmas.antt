@@ -7,9 +7,9 @@ use Rattle.unicode_normalization.specs.Forms.{nfd}
 use Rattle.icu_tailoring.specs.Rules.{ResetPlace, Rule, reset, relation, suppression, setting, level_of}
 use Rattle.icu_tailoring.specs.SymbolicElements.{SymbolicWeight, rooted, tailored, is_same_weight, are_same_weights}
 use Rattle.icu_tailoring.specs.WeightTrees.{WeightTree, with_siblings, with_rooted, with_behind, with_weight, with_weights, with_new_weight, above_level, weight_at_level}
-use Rattle.icu_tailoring.specs.Roots.{Root, lesser_weight}
+use Rattle.icu_tailoring.specs.TailoredRoots.{Root, lesser_weight}
 use Rattle.icu_tailoring.specs.Steps.{TailoringState, first_state, counting_at, last_element, with_lesser, place_elements, before_level, before_step, reset_step, difference_step, strength_step, case_step, relation_step, suppression_step, rule_step, state_after, tailoring_of}
-use Rattle.icu_tailoring.specs.SymbolicOrders.{IsAmong, StandsBefore, Numbering, NumbersTree}
+use Rattle.icu_tailoring.specs.SymbolicOrders.{IsAmongWeights, IsOrderedBefore, Numbering, NumbersTree}
 use Rattle.icu_tailoring.specs.BetweenLaws.{IsNotBetween, NothingOfTheRootIsBetween}
 use Rattle.icu_tailoring.specs.RelationLaws.{weights_before}
 use Rattle.icu_tailoring.proofs.TreeLemmas.{either, same_weight_is, same_weights_are, are_themselves, mapping_tree}
@@ -203,24 +203,24 @@ relation_is_close root strength prefix string extension state other =
 
 -- ---- a weight of the root beside it
 
-pub rooted_is_among : (n : ℕ) (xs : List SymbolicWeight) → IsAmong (rooted n) (with_rooted n xs)
+pub rooted_is_among : (n : ℕ) (xs : List SymbolicWeight) → IsAmongWeights (rooted n) (with_rooted n xs)
 unfolding with_rooted
 rooted_is_among n [] = inl refl
 rooted_is_among n (tailored j ∷ xs) = inr (rooted_is_among n xs)
 rooted_is_among n (rooted u ∷ xs) =
     let later : List SymbolicWeight = if nat_lt n u then rooted n ∷ rooted u ∷ xs else rooted u ∷ with_rooted n xs in
-    either (IsAmong (rooted n)) (n == u) (rooted u ∷ xs) later
+    either (IsAmongWeights (rooted n)) (n == u) (rooted u ∷ xs) later
     (λ e. inl (sym (same_weight_is (rooted n) (rooted u) e)))
-    (λ _. either (IsAmong (rooted n)) (nat_lt n u) (rooted n ∷ rooted u ∷ xs) (rooted u ∷ with_rooted n xs)
+    (λ _. either (IsAmongWeights (rooted n)) (nat_lt n u) (rooted n ∷ rooted u ∷ xs) (rooted u ∷ with_rooted n xs)
     (λ _. inl refl) (λ _. inr (rooted_is_among n xs)))
 
-close_is_among : (k : ℕ) (w : SymbolicWeight) (xs : List SymbolicWeight) → IsCloseBehind k w xs → IsAmong w xs
+close_is_among : (k : ℕ) (w : SymbolicWeight) (xs : List SymbolicWeight) → IsCloseBehind k w xs → IsAmongWeights w xs
 close_is_among k w [] c = absurd c
 close_is_among k w (x ∷ xs) (inl e) = inl e.0
 close_is_among k w (x ∷ xs) (inr c) = inr (close_is_among k w xs c)
 
 -- of a list that leads to a tailored weight, a weight of the root stands behind that one
-stands_past : (k n : ℕ) (xs : List SymbolicWeight) → LeadsTo k xs → IsAmong (rooted n) xs → StandsBefore (tailored k) (rooted n) xs
+stands_past : (k n : ℕ) (xs : List SymbolicWeight) → LeadsTo k xs → IsAmongWeights (rooted n) xs → IsOrderedBefore (tailored k) (rooted n) xs
 stands_past k n [] l a = absurd l
 stands_past k n (rooted v ∷ xs) l a = absurd l
 stands_past k n (tailored j ∷ xs) l (inl e) = absurd (apart e) where
@@ -230,8 +230,8 @@ stands_past k n (tailored j ∷ xs) (inl e) (inr a) = inl (ap tailored e, a)
 stands_past k n (tailored j ∷ xs) (inr l) (inr a) = inr (stands_past k n xs l a)
 
 -- a weight of the root is the first one, stands before it, or stands behind the tailored one
-stands_apart : (k n : ℕ) (w : SymbolicWeight) (xs : List SymbolicWeight) → IsCloseBehind k w xs → IsAmong (rooted n) xs
-    → (rooted n ≡ w) ⊎ (StandsBefore (rooted n) w xs ⊎ StandsBefore (tailored k) (rooted n) xs)
+stands_apart : (k n : ℕ) (w : SymbolicWeight) (xs : List SymbolicWeight) → IsCloseBehind k w xs → IsAmongWeights (rooted n) xs
+    → (rooted n ≡ w) ⊎ (IsOrderedBefore (rooted n) w xs ⊎ IsOrderedBefore (tailored k) (rooted n) xs)
 stands_apart k n w [] c a = absurd c
 stands_apart k n w (x ∷ xs) (inl e) (inl f) = inl (sym f ∙ e.0)
 stands_apart k n w (x ∷ xs) (inl e) (inr a) = inr (inr (inr (stands_past k n xs e.1 a)))
@@ -248,18 +248,18 @@ with_rooted_siblings tree above n = ap (λ (b : Bool). if b then with_rooted n (
 close_is_not_between : (tree : WeightTree) (level : ℕ) (ws : List SymbolicWeight) (k n : ℕ) (numbering : Numbering)
     → IsCloseIn tree level ws k → NumbersTree (with_weight tree (above_level level ws) (rooted n)) numbering
     → IsNotBetween numbering level ws (tailored k) n
-close_is_not_between tree level ws k n numbering c g below behind =
+close_is_not_between tree level ws k n numbering c g below put_behind =
     let above = above_level level ws in
     let w = weight_at_level level ws in
     let siblings = with_weight tree above (rooted n) above in
-    let among : IsAmong (rooted n) siblings =
-    subst (IsAmong (rooted n)) (sym (with_rooted_siblings tree above n)) (rooted_is_among n (tree above)) in
+    let among : IsAmongWeights (rooted n) siblings =
+    subst (IsAmongWeights (rooted n)) (sym (with_rooted_siblings tree above n)) (rooted_is_among n (tree above)) in
     let close : IsCloseBehind k w siblings = weight_keeps tree above (rooted n) above k w c in
     elim (stands_apart k n w siblings close among) [
       | inl e ↦ (let same = ap (λ v. numbering (above ++ v ∷ [])) e in absurd (omega (arith, same, below)))
       | inr s ↦ (elim s [
         | inl b ↦ (let less = g.ascends above (rooted n) w b in absurd (omega (arith, less, below)))
-        | inr b ↦ (let less = g.ascends above (tailored k) (rooted n) b in absurd (omega (arith, less, behind)))
+        | inr b ↦ (let less = g.ascends above (tailored k) (rooted n) b in absurd (omega (arith, less, put_behind)))
       ])
     ]
 

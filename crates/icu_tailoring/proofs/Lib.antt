@@ -1,8 +1,8 @@
-mod Computing
+mod ComputedRules
 mod SmallRoot
-mod WorkedOrders
-mod WorkedRules
-mod RootLemmas
+mod WorkedDifferences
+mod WorkedTailorings
+mod KeptRootLemmas
 mod TreeLemmas
 mod WholeElements
 mod WholeStates

@@ -10,11 +10,11 @@ use Rattle.unicode_normalization.specs.Forms.{nfd}
 use Rattle.icu_tailoring.specs.Rules.{Rule, relation}
 use Rattle.icu_tailoring.specs.SymbolicElements.{SymbolicWeight, tailored, SymbolicElement, are_same_weights, element_with, ignorable}
 use Rattle.icu_tailoring.specs.WeightTrees.{WeightTree, with_behind, with_weights, with_new_weight, above_level, weight_at_level}
-use Rattle.icu_tailoring.specs.Roots.{Root}
-use Rattle.icu_tailoring.specs.Mappings.{root_mappings, symbolic_elements}
-use Rattle.icu_tailoring.specs.Cases.{counts_first_at, with_case_bits, upper_case, with_cases, cases_for, cases_of, primary_elements}
+use Rattle.icu_tailoring.specs.TailoredRoots.{Root}
+use Rattle.icu_tailoring.specs.TailoredMappings.{root_mappings, symbolic_elements}
+use Rattle.icu_tailoring.specs.TailoredCases.{counts_first_at, with_case_bits, upper_case_bits, with_cases, cases_for, cases_of, primary_elements}
 use Rattle.icu_tailoring.specs.Steps.{TailoringState, first_state, counting_at, last_element, with_last_element, difference_step, strength_step, case_step, mapping_step, relation_step, rule_step, state_after, tailoring_of}
-use Rattle.icu_tailoring.specs.SymbolicOrders.{Numbering, NumbersTree, StandsBefore, KeepsOrder, weights_in, level_numbers, level_order, AreLessAt}
+use Rattle.icu_tailoring.specs.SymbolicOrders.{Numbering, NumbersTree, IsOrderedBefore, KeepsOrder, weights_in, level_numbers, level_order, AreLessAt}
 use Rattle.icu_tailoring.specs.RelationLaws.{AreRelated, elements_at, RelationsHold, UnmovedStringsAreRelated}
 use Rattle.icu_tailoring.proofs.TreeLemmas.{either, are_themselves, stands_behind, mapping_tree, state_keeps}
 use Rattle.icu_tailoring.proofs.WholeStates.{tailoring_whole}
@@ -114,12 +114,12 @@ last_less numbering level (e ∷ f ∷ es) new l =
 -- ---- a difference
 
 new_stands : (tree : WeightTree) (level : ℕ) (ws : List SymbolicWeight) (new : SymbolicWeight)
-    → StandsBefore (weight_at_level level ws) new (with_new_weight tree level ws new (above_level level ws))
+    → IsOrderedBefore (weight_at_level level ws) new (with_new_weight tree level ws new (above_level level ws))
 new_stands tree level ws new =
     let above = above_level level ws in
     let placed = with_weights tree [] (take level ws) in
     let w = weight_at_level level ws in
-    either (StandsBefore w new) (are_same_weights above above) (with_behind w new (placed above)) (placed above)
+    either (IsOrderedBefore w new) (are_same_weights above above) (with_behind w new (placed above)) (placed above)
     (λ _. stands_behind w new (placed above)) (λ e. absurd (true≢false (sym (are_themselves above) ∙ e)))
 
 -- the element that a difference of a level puts in the place of another one
@@ -175,7 +175,7 @@ unfolding with_cases
 cases_weights cases [] = refl
 cases_weights [] (e ∷ es) = ap (λ ws. e.weights ∷ ws) (cases_weights [] es)
 cases_weights (c ∷ cases) (e ∷ es) =
-    let other = with_case_bits e (if counts_first_at 3 e then upper_case else 0) in
+    let other = with_case_bits e (if counts_first_at 3 e then upper_case_bits else 0) in
     either (λ fs. weights_in fs ≡ weights_in (e ∷ es)) (counts_first_at 1 e)
     (with_case_bits e c ∷ with_cases cases es) (other ∷ with_cases (c ∷ cases) es)
     (λ _. ap (λ ws. e.weights ∷ ws) (cases_weights cases es))

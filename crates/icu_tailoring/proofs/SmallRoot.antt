@@ -1,7 +1,7 @@
 -- A small root for worked rules: some letters of three scripts with their capitals, marks, digits and symbols.
 use Rattle.std.proofs.Common.{ℕ, ◌==◌, List, [], ◌∷◌, map, if◌then◌else◌, Some, None, Option}
 use Rattle.icu_entries.specs.Elements.{Element, of_primary, of_secondary, common}
-use Rattle.icu_tailoring.specs.Roots.{RootMapping, Root}
+use Rattle.icu_tailoring.specs.TailoredRoots.{RootMapping, Root}
 
 -- characters with their primary weights
 pub record Letter : Type 0 where

@@ -7,9 +7,9 @@ use Rattle.unicode_normalization.specs.Forms.{nfd}
 use Rattle.icu_tailoring.specs.Rules.{ResetPlace, Rule, reset, relation, suppression, setting}
 use Rattle.icu_tailoring.specs.SymbolicElements.{SymbolicWeight, rooted, tailored, SymbolicElement, is_same_weight, are_same_weights}
 use Rattle.icu_tailoring.specs.WeightTrees.{WeightTree, with_siblings, with_rooted, with_behind, with_weight, with_weights, with_new_weight, above_level, weight_at_level}
-use Rattle.icu_tailoring.specs.Roots.{Root, lesser_weight}
+use Rattle.icu_tailoring.specs.TailoredRoots.{Root, lesser_weight}
 use Rattle.icu_tailoring.specs.Steps.{TailoringState, counting_at, last_element, with_lesser, place_elements, before_level, before_step, reset_step, difference_step, strength_step, case_step, mapping_step, relation_step, suppression_step, rule_step, state_after}
-use Rattle.icu_tailoring.specs.SymbolicOrders.{IsAmong, StandsBefore, KeepsOrder}
+use Rattle.icu_tailoring.specs.SymbolicOrders.{IsAmongWeights, IsOrderedBefore, KeepsOrder}
 
 pub either : {A : Type 0} (P : A → Type 0) (b : Bool) (x y : A) → (b ≡ true → P x) → (b ≡ false → P y) → P (if b then x else y)
 either P true x y p q = p refl
@@ -45,68 +45,68 @@ are_themselves (w ∷ ws) = rw (is_itself w, are_themselves ws) refl
 
 -- ---- among siblings
 
-among_rooted : (n : ℕ) (w : SymbolicWeight) (xs : List SymbolicWeight) → IsAmong w xs → IsAmong w (with_rooted n xs)
+among_rooted : (n : ℕ) (w : SymbolicWeight) (xs : List SymbolicWeight) → IsAmongWeights w xs → IsAmongWeights w (with_rooted n xs)
 unfolding with_rooted
 among_rooted n w [] a = absurd a
 among_rooted n w (tailored k ∷ xs) (inl e) = inl e
 among_rooted n w (tailored k ∷ xs) (inr a) = inr (among_rooted n w xs a)
 among_rooted n w (rooted u ∷ xs) a =
-    let further : IsAmong w (rooted u ∷ with_rooted n xs) = elim a [ inl e ↦ inl e | inr b ↦ inr (among_rooted n w xs b) ] in
+    let further : IsAmongWeights w (rooted u ∷ with_rooted n xs) = elim a [ inl e ↦ inl e | inr b ↦ inr (among_rooted n w xs b) ] in
     let later : List SymbolicWeight = if nat_lt n u then rooted n ∷ rooted u ∷ xs else rooted u ∷ with_rooted n xs in
-    either (IsAmong w) (n == u) (rooted u ∷ xs) later (λ _. a)
-    (λ _. either (IsAmong w) (nat_lt n u) (rooted n ∷ rooted u ∷ xs) (rooted u ∷ with_rooted n xs) (λ _. inr a) (λ _. further))
+    either (IsAmongWeights w) (n == u) (rooted u ∷ xs) later (λ _. a)
+    (λ _. either (IsAmongWeights w) (nat_lt n u) (rooted n ∷ rooted u ∷ xs) (rooted u ∷ with_rooted n xs) (λ _. inr a) (λ _. further))
 
-keeps_rooted : (n : ℕ) (v w : SymbolicWeight) (xs : List SymbolicWeight) → StandsBefore v w xs
-    → StandsBefore v w (with_rooted n xs)
+keeps_rooted : (n : ℕ) (v w : SymbolicWeight) (xs : List SymbolicWeight) → IsOrderedBefore v w xs
+    → IsOrderedBefore v w (with_rooted n xs)
 unfolding with_rooted
 keeps_rooted n v w [] s = absurd s
 keeps_rooted n v w (tailored k ∷ xs) (inl e) = inl (e.0, among_rooted n w xs e.1)
 keeps_rooted n v w (tailored k ∷ xs) (inr s) = inr (keeps_rooted n v w xs s)
 keeps_rooted n v w (rooted u ∷ xs) s =
-    let further : StandsBefore v w (rooted u ∷ with_rooted n xs) = elim s [
+    let further : IsOrderedBefore v w (rooted u ∷ with_rooted n xs) = elim s [
       | inl e ↦ inl (e.0, among_rooted n w xs e.1)
       | inr t ↦ inr (keeps_rooted n v w xs t)
     ] in
     let later : List SymbolicWeight = if nat_lt n u then rooted n ∷ rooted u ∷ xs else rooted u ∷ with_rooted n xs in
-    either (StandsBefore v w) (n == u) (rooted u ∷ xs) later (λ _. s)
-    (λ _. either (StandsBefore v w) (nat_lt n u) (rooted n ∷ rooted u ∷ xs) (rooted u ∷ with_rooted n xs) (λ _. inr s) (λ _. further))
+    either (IsOrderedBefore v w) (n == u) (rooted u ∷ xs) later (λ _. s)
+    (λ _. either (IsOrderedBefore v w) (nat_lt n u) (rooted n ∷ rooted u ∷ xs) (rooted u ∷ with_rooted n xs) (λ _. inr s) (λ _. further))
 
-among_behind : (x new w : SymbolicWeight) (xs : List SymbolicWeight) → IsAmong w xs → IsAmong w (with_behind x new xs)
+among_behind : (x new w : SymbolicWeight) (xs : List SymbolicWeight) → IsAmongWeights w xs → IsAmongWeights w (with_behind x new xs)
 unfolding with_behind
 among_behind x new w [] a = absurd a
 among_behind x new w (u ∷ xs) a =
-    let close : IsAmong w (u ∷ new ∷ xs) = elim a [ inl e ↦ inl e | inr b ↦ inr (inr b) ] in
-    let further : IsAmong w (u ∷ with_behind x new xs) = elim a [ inl e ↦ inl e | inr b ↦ inr (among_behind x new w xs b) ] in
-    either (IsAmong w) (is_same_weight u x) (u ∷ new ∷ xs) (u ∷ with_behind x new xs) (λ _. close) (λ _. further)
+    let close : IsAmongWeights w (u ∷ new ∷ xs) = elim a [ inl e ↦ inl e | inr b ↦ inr (inr b) ] in
+    let further : IsAmongWeights w (u ∷ with_behind x new xs) = elim a [ inl e ↦ inl e | inr b ↦ inr (among_behind x new w xs b) ] in
+    either (IsAmongWeights w) (is_same_weight u x) (u ∷ new ∷ xs) (u ∷ with_behind x new xs) (λ _. close) (λ _. further)
 
-keeps_behind : (x new v w : SymbolicWeight) (xs : List SymbolicWeight) → StandsBefore v w xs
-    → StandsBefore v w (with_behind x new xs)
+keeps_behind : (x new v w : SymbolicWeight) (xs : List SymbolicWeight) → IsOrderedBefore v w xs
+    → IsOrderedBefore v w (with_behind x new xs)
 unfolding with_behind
 keeps_behind x new v w [] s = absurd s
 keeps_behind x new v w (u ∷ xs) s =
-    let close : StandsBefore v w (u ∷ new ∷ xs) = elim s [ inl e ↦ inl (e.0, inr e.1) | inr t ↦ inr (inr t) ] in
-    let further : StandsBefore v w (u ∷ with_behind x new xs) = elim s [
+    let close : IsOrderedBefore v w (u ∷ new ∷ xs) = elim s [ inl e ↦ inl (e.0, inr e.1) | inr t ↦ inr (inr t) ] in
+    let further : IsOrderedBefore v w (u ∷ with_behind x new xs) = elim s [
       | inl e ↦ inl (e.0, among_behind x new w xs e.1)
       | inr t ↦ inr (keeps_behind x new v w xs t)
     ] in
-    either (StandsBefore v w) (is_same_weight u x) (u ∷ new ∷ xs) (u ∷ with_behind x new xs) (λ _. close) (λ _. further)
+    either (IsOrderedBefore v w) (is_same_weight u x) (u ∷ new ∷ xs) (u ∷ with_behind x new xs) (λ _. close) (λ _. further)
 
 -- the new weight stands behind the other
-pub stands_behind : (w new : SymbolicWeight) (xs : List SymbolicWeight) → StandsBefore w new (with_behind w new xs)
+pub stands_behind : (w new : SymbolicWeight) (xs : List SymbolicWeight) → IsOrderedBefore w new (with_behind w new xs)
 unfolding with_behind
 stands_behind w new [] = inl (refl, inl refl)
 stands_behind w new (u ∷ xs) =
-    either (StandsBefore w new) (is_same_weight u w) (u ∷ new ∷ xs) (u ∷ with_behind w new xs)
+    either (IsOrderedBefore w new) (is_same_weight u w) (u ∷ new ∷ xs) (u ∷ with_behind w new xs)
     (λ e. inl (same_weight_is u w e, inl refl)) (λ _. inr (stands_behind w new xs))
 
 -- ---- in the tree
 
 siblings_keep : (tree : WeightTree) (above siblings : List SymbolicWeight)
-    → ((v w : SymbolicWeight) → StandsBefore v w (tree above) → StandsBefore v w siblings)
+    → ((v w : SymbolicWeight) → IsOrderedBefore v w (tree above) → IsOrderedBefore v w siblings)
     → KeepsOrder tree (with_siblings tree above siblings)
 siblings_keep tree above siblings keeps other v w s =
-    either (StandsBefore v w) (are_same_weights other above) siblings (tree other)
-    (λ e. keeps v w (subst (λ o. StandsBefore v w (tree o)) (same_weights_are other above e) s)) (λ _. s)
+    either (IsOrderedBefore v w) (are_same_weights other above) siblings (tree other)
+    (λ e. keeps v w (subst (λ o. IsOrderedBefore v w (tree o)) (same_weights_are other above e) s)) (λ _. s)
 
 weight_keeps : (tree : WeightTree) (above : List SymbolicWeight) (w : SymbolicWeight)
     → KeepsOrder tree (with_weight tree above w)
@@ -169,7 +169,7 @@ rule_keeps : (root : Root) (state : TailoringState) (rule : Rule) → KeepsOrder
 unfolding relation_step suppression_step
 rule_keeps root state (reset before place) = reset_keeps root before place state
 rule_keeps root state (relation strength prefix string extension) = λ other v w s.
-    subst (λ (t : WeightTree). StandsBefore v w (t other))
+    subst (λ (t : WeightTree). IsOrderedBefore v w (t other))
     (sym (mapping_tree (nfd prefix) (nfd string) _ (case_step root (nfd string) (strength_step strength state))))
     (strength_keeps strength state other v w s)
 rule_keeps root state (suppression ranges) = λ other v w s. s

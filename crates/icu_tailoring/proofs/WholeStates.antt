@@ -10,12 +10,12 @@ use Rattle.unicode_normalization.specs.Forms.{nfd}
 use Rattle.unicode_normalization.specs.Order.{is_starter}
 use Rattle.icu_entries.specs.Elements.{Element}
 use Rattle.icu_tailoring.specs.Rules.{ResetPlace, at_string, at_position, Rule, reset, relation, suppression, setting, have_character}
-use Rattle.icu_tailoring.specs.SymbolicElements.{SymbolicWeight, rooted, tailored, SymbolicElement, is_tailored, to_all_levels, element_with, first_level, tertiary_of, quaternary_of, of_root}
+use Rattle.icu_tailoring.specs.SymbolicElements.{SymbolicWeight, rooted, tailored, SymbolicElement, has_tailored_weight, to_all_levels, element_with, first_level, tertiary_of, quaternary_of, of_root}
 use Rattle.icu_tailoring.specs.WeightTrees.{WeightTree}
-use Rattle.icu_tailoring.specs.Roots.{RootMapping, Root, first_above}
-use Rattle.icu_tailoring.specs.Mappings.{SymbolicMapping, SymbolicMappings, SymbolicMatch, has_prefix, has_no_context, begin_suffix, beginnings, mappings_behind, longer_mapping, longest_suffix, mapping_with, is_blocked_by, joined_marks, match_by, symbolic_match, context_behind, symbolic_along, symbolic_elements}
-use Rattle.icu_tailoring.specs.Cases.{counts_first_at, with_case_bits, upper_case, with_cases}
-use Rattle.icu_tailoring.specs.Positions.{tailored_behind, first_of_primary, with_last, last_of, first_of_group, position_element}
+use Rattle.icu_tailoring.specs.TailoredRoots.{RootMapping, Root, first_above}
+use Rattle.icu_tailoring.specs.TailoredMappings.{SymbolicMapping, SymbolicMappings, SymbolicMatch, stands_after_prefix, has_no_context, begin_suffix, beginnings, mappings_behind, longer_mapping, longest_suffix, mapping_with, is_blocked_by, joined_marks, match_by, symbolic_match, context_behind, symbolic_along, symbolic_elements}
+use Rattle.icu_tailoring.specs.TailoredCases.{counts_first_at, with_case_bits, upper_case_bits, with_cases}
+use Rattle.icu_tailoring.specs.RootPositions.{tailored_behind, first_of_primary, with_last, last_of, first_of_group, position_element}
 use Rattle.icu_tailoring.specs.Steps.{TailoringState, first_state, counting_at, last_element, place_elements, before_level, before_step, reset_step, difference_step, strength_step, case_step, mapping_step, relation_step, suppression_step, rule_step, state_after, tailoring_of}
 use Rattle.icu_tailoring.proofs.TreeLemmas.{either}
 use Rattle.icu_tailoring.proofs.WholeElements.{IsWhole, AreWhole, counting_whole, last_whole, with_last_whole, new_whole}
@@ -90,8 +90,8 @@ behind_whole : (ms : List SymbolicMapping) (prefixes : List (List ℕ)) → Have
 unfolding mappings_behind
 behind_whole ms [] p = tt
 behind_whole ms (prefix ∷ shorter) p =
-    let own = filter (has_prefix prefix) ms in
-    let own_whole = have_filter (has_prefix prefix) ms p in
+    let own = filter (stands_after_prefix prefix) ms in
+    let own_whole = have_filter (stands_after_prefix prefix) ms p in
     let further = mappings_behind ms shorter in
     let not_begun : SymbolicMapping → Bool = λ m. not (begin_suffix own m) in
     either HaveWhole (list_any (λ (m : SymbolicMapping). bytes_eq m.suffix []) own) own (own ++ filter not_begun further)
@@ -217,19 +217,19 @@ first_whole tree p = primary_whole p _ _ _
 primary_last_whole : (tree : WeightTree) (p : SymbolicWeight) → MakesWhole 1 (last_of tree (p ∷ []))
 primary_last_whole tree p =
     let last = with_last 3 tree (p ∷ []) in
-    either (MakesWhole 1) (list_any is_tailored (drop 1 last)) last (to_all_levels (p ∷ []))
+    either (MakesWhole 1) (list_any has_tailored_weight (drop 1 last)) last (to_all_levels (p ∷ []))
     (λ _. primary_whole p _ _ _) (λ _. primary_whole p _ _ _)
 
 secondary_last_whole : (tree : WeightTree) (s : SymbolicWeight) → MakesWhole 2 (last_of tree (rooted 0 ∷ s ∷ []))
 secondary_last_whole tree s =
     let last = with_last 2 tree (rooted 0 ∷ s ∷ []) in
-    either (MakesWhole 2) (list_any is_tailored (drop 2 last)) last (to_all_levels (rooted 0 ∷ s ∷ []))
+    either (MakesWhole 2) (list_any has_tailored_weight (drop 2 last)) last (to_all_levels (rooted 0 ∷ s ∷ []))
     (λ _. secondary_whole s _ _) (λ _. secondary_whole s _ _)
 
 tertiary_last_whole : (tree : WeightTree) (t : SymbolicWeight) → MakesWhole 3 (last_of tree (rooted 0 ∷ rooted 0 ∷ t ∷ []))
 tertiary_last_whole tree t =
     let last = with_last 1 tree (rooted 0 ∷ rooted 0 ∷ t ∷ []) in
-    either (MakesWhole 3) (list_any is_tailored (drop 3 last)) last (to_all_levels (rooted 0 ∷ rooted 0 ∷ t ∷ []))
+    either (MakesWhole 3) (list_any has_tailored_weight (drop 3 last)) last (to_all_levels (rooted 0 ∷ rooted 0 ∷ t ∷ []))
     (λ _. tertiary_whole t _) (λ _. tertiary_whole t _)
 
 run_or : (tree : WeightTree) (run : List SymbolicWeight) (next : SymbolicWeight)
@@ -243,7 +243,7 @@ group_whole root tree p =
     let below = first_of_primary tree (rooted p) in
     let run = tailored_behind tree [] (rooted p) in
     let other : List SymbolicWeight = elim run [ [] ↦ first_of_primary tree next | w ∷ _ ↦ w ∷ [] ] in
-    either (MakesWhole 1) (list_any is_tailored below) below other (λ _. first_whole tree (rooted p)) (λ _. run_or tree run next)
+    either (MakesWhole 1) (list_any has_tailored_weight below) below other (λ _. first_whole tree (rooted p)) (λ _. run_or tree run next)
 
 position_whole : (root : Root) (tree : WeightTree) (position : LogicalPosition) → IsWhole (position_element root tree position)
 position_whole root tree positions.FirstSecondaryIgnorable = tertiary_whole _ _
@@ -285,7 +285,7 @@ unfolding with_cases
 cases_whole cases [] ws = tt
 cases_whole [] (e ∷ es) (w, ws) = (case_bits_whole e _ w, cases_whole [] es ws)
 cases_whole (c ∷ cases) (e ∷ es) (w, ws) =
-    let other = with_case_bits e (if counts_first_at 3 e then upper_case else 0) in
+    let other = with_case_bits e (if counts_first_at 3 e then upper_case_bits else 0) in
     either AreWhole (counts_first_at 1 e) (with_case_bits e c ∷ with_cases cases es) (other ∷ with_cases (c ∷ cases) es)
     (λ _. (case_bits_whole e c w, cases_whole cases es ws)) (λ _. (case_bits_whole e _ w, cases_whole (c ∷ cases) es ws))
 
@@ -357,11 +357,11 @@ relation_whole root strength prefix string extension state w =
     let stepped = strength_step strength state in
     let stepped_whole = strength_whole strength state w in
     let different : TailoringState = case_step root (nfd string) stepped in
-    let behind = symbolic_elements state.mappings (nfd extension) in
+    let put_behind = symbolic_elements state.mappings (nfd extension) in
     let cased = cases_whole _ stepped.elements stepped_whole.elements in
     let different_whole : IsWholeState different = record { elements = cased; mappings = stepped_whole.mappings } in
-    mapping_whole (nfd prefix) (nfd string) (different.elements ++ behind) different
-    (whole_append different.elements behind cased (along_whole (nfd extension) state.mappings [] (nfd extension) w.mappings))
+    mapping_whole (nfd prefix) (nfd string) (different.elements ++ put_behind) different
+    (whole_append different.elements put_behind cased (along_whole (nfd extension) state.mappings [] (nfd extension) w.mappings))
     different_whole
 
 pub rule_whole : (root : Root) (state : TailoringState) (rule : Rule) → IsWholeState state

@@ -2,11 +2,11 @@
 use Rattle.std.specs.Prelude.{ℕ, ◌<◌, List}
 use Rattle.icu_tailoring.specs.Rules.{Rule}
 use Rattle.icu_tailoring.specs.SymbolicElements.{SymbolicWeight, rooted}
-use Rattle.icu_tailoring.specs.Roots.{Root}
+use Rattle.icu_tailoring.specs.TailoredRoots.{Root}
 use Rattle.icu_tailoring.specs.Steps.{tailoring_of}
-use Rattle.icu_tailoring.specs.SymbolicOrders.{StandsBefore}
+use Rattle.icu_tailoring.specs.SymbolicOrders.{IsOrderedBefore}
 
 -- among siblings the weights of the root ascend, whatever the rules are
 abbrev pub WeightsOfTheRootAscend : Type 0
 WeightsOfTheRootAscend = (root : Root) (rules : List Rule) (above : List SymbolicWeight) (v w : ℕ)
-    → StandsBefore (rooted v) (rooted w) ((tailoring_of root rules).tree above) → v < w
+    → IsOrderedBefore (rooted v) (rooted w) ((tailoring_of root rules).tree above) → v < w

@@ -5,7 +5,7 @@ use Rattle.icu_options.specs.declared.settings.Strength.TheVariants.{Identical}
 use Rattle.icu_tailoring.specs.Rules.{Rule, relation, level_of}
 use Rattle.icu_tailoring.specs.SymbolicElements.{SymbolicWeight, rooted, tailored}
 use Rattle.icu_tailoring.specs.WeightTrees.{above_level, weight_at_level, with_weight}
-use Rattle.icu_tailoring.specs.Roots.{Root}
+use Rattle.icu_tailoring.specs.TailoredRoots.{Root}
 use Rattle.icu_tailoring.specs.RelationLaws.{weights_before}
 use Rattle.icu_tailoring.specs.Steps.{tailoring_of}
 use Rattle.icu_tailoring.specs.SymbolicOrders.{Numbering, NumbersTree}

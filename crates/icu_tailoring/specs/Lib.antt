@@ -1,10 +1,10 @@
 pub mod Rules
 pub mod SymbolicElements
 pub mod WeightTrees
-pub mod Roots
-pub mod Mappings
-pub mod Cases
-pub mod Positions
+pub mod TailoredRoots
+pub mod TailoredMappings
+pub mod TailoredCases
+pub mod RootPositions
 pub mod Steps
 pub mod RootLaws
 pub mod SymbolicOrders

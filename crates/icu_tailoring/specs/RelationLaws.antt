@@ -5,8 +5,8 @@ use Rattle.icu_options.specs.declared.settings.Strength.{Strength}
 use Rattle.icu_options.specs.declared.settings.Strength.TheVariants.{Identical}
 use Rattle.icu_tailoring.specs.Rules.{Rule, relation, level_of}
 use Rattle.icu_tailoring.specs.SymbolicElements.{SymbolicWeight, SymbolicElement}
-use Rattle.icu_tailoring.specs.Roots.{Root}
-use Rattle.icu_tailoring.specs.Mappings.{symbolic_elements}
+use Rattle.icu_tailoring.specs.TailoredRoots.{Root}
+use Rattle.icu_tailoring.specs.TailoredMappings.{symbolic_elements}
 use Rattle.icu_tailoring.specs.Steps.{counting_at, last_element, tailoring_of}
 use Rattle.icu_tailoring.specs.SymbolicOrders.{Numbering, NumbersTree, level_numbers, AreLessAt}
 
@@ -38,11 +38,11 @@ weights_before root rules level = (last_element (counting_at level (elements_at 
 -- from has a number at the level.
 abbrev pub ExtendedRelationsHold : Type 0
 ExtendedRelationsHold = (root : Root) (earlier later : List Rule) (strength : Strength)
-    (prefix string extension : List ℕ) (behind : List SymbolicElement) (numbering : Numbering)
+    (prefix string extension : List ℕ) (put_behind : List SymbolicElement) (numbering : Numbering)
     → NumbersTree (tailoring_of root (earlier ++ relation strength prefix string extension ∷ later)).tree numbering
     → numbering (take (level_of strength) (weights_before root earlier (level_of strength))) ≢ 0
-    → AreRelated numbering strength (elements_at root earlier ++ behind)
-    (elements_at root (earlier ++ relation strength prefix string extension ∷ []) ++ behind)
+    → AreRelated numbering strength (elements_at root earlier ++ put_behind)
+    (elements_at root (earlier ++ relation strength prefix string extension ∷ []) ++ put_behind)
 
 -- Two strings are related as a relation says, where by all rules they have the elements that they had at the relation:
 -- no later rule moved them.

@@ -3,19 +3,19 @@ use Rattle.std.specs.Prelude.{ℕ, Bool, false, ◌==◌, ◌≡◌, List, [], �
 use Rattle.std.specs.List.{list_any, AllByRecursion}
 use Rattle.unicode_normalization.specs.Forms.{nfd}
 use Rattle.icu_tailoring.specs.Rules.{Rule, reset, relation, suppression, setting, have_character}
-use Rattle.icu_tailoring.specs.Roots.{Root}
-use Rattle.icu_tailoring.specs.Mappings.{root_mappings, symbolic_elements}
+use Rattle.icu_tailoring.specs.TailoredRoots.{Root}
+use Rattle.icu_tailoring.specs.TailoredMappings.{root_mappings, symbolic_elements}
 use Rattle.icu_tailoring.specs.Steps.{tailoring_of}
 
 -- the string begins with the character
-abbrev pub begins_with : ℕ → List ℕ → Bool
-begins_with c [] = false
-begins_with c (d ∷ string) = c == d
+abbrev pub string_begins : ℕ → List ℕ → Bool
+string_begins c [] = false
+string_begins c (d ∷ string) = c == d
 
 -- the rule changes mappings of the character: it begins the decomposed string, or its contractions are suppressed
 abbrev pub touches : ℕ → Rule → Bool
 touches c (reset before place) = false
-touches c (relation strength prefix string extension) = begins_with c (nfd string)
+touches c (relation strength prefix string extension) = string_begins c (nfd string)
 touches c (suppression ranges) = have_character ranges c
 touches c (setting s) = false
 

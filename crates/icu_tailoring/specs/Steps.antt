@@ -8,10 +8,10 @@ use Rattle.icu_rules.specs.declared.statement.RuleSetting.{RuleSetting}
 use Rattle.icu_tailoring.specs.Rules.{ResetPlace, at_string, at_position, Rule, reset, relation, suppression, setting, level_of, have_character}
 use Rattle.icu_tailoring.specs.SymbolicElements.{SymbolicWeight, rooted, tailored, SymbolicElement, element_with, ignorable}
 use Rattle.icu_tailoring.specs.WeightTrees.{WeightTree, first_tree, with_weight, with_weights, with_new_weight, directly_before, above_level, weight_at_level}
-use Rattle.icu_tailoring.specs.Roots.{Root, lesser_weight}
-use Rattle.icu_tailoring.specs.Mappings.{SymbolicMapping, SymbolicMappings, root_mappings, has_no_context, with_mapping, with_mappings, symbolic_elements}
-use Rattle.icu_tailoring.specs.Cases.{cased_elements}
-use Rattle.icu_tailoring.specs.Positions.{position_element}
+use Rattle.icu_tailoring.specs.TailoredRoots.{Root, lesser_weight}
+use Rattle.icu_tailoring.specs.TailoredMappings.{SymbolicMapping, SymbolicMappings, root_mappings, has_no_context, with_mapping, with_mappings, symbolic_elements}
+use Rattle.icu_tailoring.specs.TailoredCases.{cased_elements}
+use Rattle.icu_tailoring.specs.RootPositions.{position_element}
 
 -- What rules have said so far: the order of weights, the mappings of characters, the elements of the last reset or
 -- relation, how many weights were made, and the settings, the last one first.
@@ -123,8 +123,8 @@ unfoldable pub relation_step : Root → Strength → List ℕ → List ℕ → L
 relation_step root strength prefix string extension state =
     let decomposed = nfd string in
     let different : TailoringState = case_step root decomposed (strength_step strength state) in
-    let behind = symbolic_elements state.mappings (nfd extension) in
-    mapping_step (nfd prefix) decomposed (different.elements ++ behind) different
+    let put_behind = symbolic_elements state.mappings (nfd extension) in
+    mapping_step (nfd prefix) decomposed (different.elements ++ put_behind) different
 
 -- `[suppressContractions [..]]`: characters of the ranges keep the mapping without a context alone
 unfoldable pub suppression_step : List CharacterRange → TailoringState → TailoringState

@@ -27,9 +27,9 @@ are_same_weights (v ∷ vs) (w ∷ ws) = is_same_weight v w && are_same_weights 
 are_same_weights _ _ = false
 
 -- the weight is tailored
-abbrev pub is_tailored : SymbolicWeight → Bool
-is_tailored (rooted w) = false
-is_tailored (tailored k) = true
+abbrev pub has_tailored_weight : SymbolicWeight → Bool
+has_tailored_weight (rooted w) = false
+has_tailored_weight (tailored k) = true
 
 -- the last weight is 0
 abbrev pub ends_with_zero : List SymbolicWeight → Bool

@@ -11,19 +11,19 @@ abbrev pub Numbering : Type 0
 Numbering = List SymbolicWeight → ℕ
 
 -- a weight is among siblings
-abbrev pub IsAmong : SymbolicWeight → List SymbolicWeight → Type 0
-IsAmong w [] = ⊥
-IsAmong w (v ∷ siblings) = (v ≡ w) ⊎ IsAmong w siblings
+abbrev pub IsAmongWeights : SymbolicWeight → List SymbolicWeight → Type 0
+IsAmongWeights w [] = ⊥
+IsAmongWeights w (v ∷ siblings) = (v ≡ w) ⊎ IsAmongWeights w siblings
 
 -- one weight stands before another among siblings
-abbrev pub StandsBefore : SymbolicWeight → SymbolicWeight → List SymbolicWeight → Type 0
-StandsBefore v w [] = ⊥
-StandsBefore v w (x ∷ siblings) = ((x ≡ v) × IsAmong w siblings) ⊎ StandsBefore v w siblings
+abbrev pub IsOrderedBefore : SymbolicWeight → SymbolicWeight → List SymbolicWeight → Type 0
+IsOrderedBefore v w [] = ⊥
+IsOrderedBefore v w (x ∷ siblings) = ((x ≡ v) × IsAmongWeights w siblings) ⊎ IsOrderedBefore v w siblings
 
 -- the weight 0 has the number 0, and numbers ascend among siblings
 pub record NumbersTree (tree : WeightTree) (numbering : Numbering) : Type 0 where
   pub zero : (above : List SymbolicWeight) → numbering (above ++ rooted 0 ∷ []) ≡ 0
-  pub ascends : (above : List SymbolicWeight) (v w : SymbolicWeight) → StandsBefore v w (tree above)
+  pub ascends : (above : List SymbolicWeight) (v w : SymbolicWeight) → IsOrderedBefore v w (tree above)
       → numbering (above ++ v ∷ []) < numbering (above ++ w ∷ [])
 
 -- the weights of each element
@@ -41,7 +41,7 @@ level_order numbering level es fs = list_order (level_numbers numbering level es
 -- what stands before another weight in one order does so in the other
 abbrev pub KeepsOrder : WeightTree → WeightTree → Type 0
 KeepsOrder tree later = (above : List SymbolicWeight) (v w : SymbolicWeight)
-    → StandsBefore v w (tree above) → StandsBefore v w (later above)
+    → IsOrderedBefore v w (tree above) → IsOrderedBefore v w (later above)
 
 -- elements are the same on the levels before this one, and the first are less here
 pub record AreLessAt (numbering : Numbering) (level : ℕ) (es fs : List SymbolicElement) : Type 0 where

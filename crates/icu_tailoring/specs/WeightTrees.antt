@@ -33,9 +33,9 @@ with_behind w new (v ∷ siblings) =
     if is_same_weight v w then v ∷ new ∷ siblings else v ∷ with_behind w new siblings
 
 -- what stands behind a weight
-unfoldable pub behind : SymbolicWeight → List SymbolicWeight → List SymbolicWeight
-behind w [] = []
-behind w (v ∷ siblings) = if is_same_weight v w then siblings else behind w siblings
+unfoldable pub put_behind : SymbolicWeight → List SymbolicWeight → List SymbolicWeight
+put_behind w [] = []
+put_behind w (v ∷ siblings) = if is_same_weight v w then siblings else put_behind w siblings
 
 -- the weight directly before one of the siblings; the first weight stands before the siblings
 unfoldable pub before_from : Option SymbolicWeight → SymbolicWeight → List SymbolicWeight → Option SymbolicWeight

@@ -5,7 +5,7 @@ use Rattle.std.specs.Char.{IsScalar}
 use Rattle.std.specs.Ordering.{nat_cmp}
 use Rattle.icu_collation_data.specs.Data.{Data}
 use Rattle.icu_cldr.specs.CharacterEntries.{IsDigitEntry}
-use Rattle.icu_cldr.specs.inner.Entries.{Plain}
+use Rattle.icu_cldr.specs.inner.LineEntries.{Plain}
 
 -- a character that had an entry has that of a digit in its place, and one that had none has none
 abbrev pub IsDigitOrAbsent : Data → ℕ → Option ℕ → Option ℕ → Type 0

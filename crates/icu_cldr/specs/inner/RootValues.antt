@@ -4,7 +4,7 @@ use Rattle.std.specs.BTreeMap.{get}
 use Rattle.std.specs.Ordering.{nat_cmp}
 use Rattle.icu_collation_data.specs.CodePointTables.{code_point_count}
 use Rattle.icu_collation_data.specs.Data.{Data}
-use Rattle.icu_cldr.specs.inner.Entries.{Plain}
+use Rattle.icu_cldr.specs.inner.LineEntries.{Plain}
 
 -- two that have the same lists and contexts
 pub record SameLists (d e : Data) : Type 0 where

@@ -7,8 +7,8 @@ use Rattle.icu_cldr.specs.Ideographs.{primary_in}
 use Rattle.icu_cldr.specs.LineElements.{AreSaid}
 use Rattle.std.specs.List.{AllByRecursion}
 use Rattle.icu_cldr.specs.FileLines.{AreLines}
-use Rattle.icu_cldr.specs.WrittenLines.{Says}
-use Rattle.icu_cldr.specs.inner.Entries.{HasEntry, EntriesGrow, entry_around}
+use Rattle.icu_cldr.specs.WrittenLines.{LineSays}
+use Rattle.icu_cldr.specs.inner.LineEntries.{HasEntry, EntriesGrow, entry_around}
 use Rattle.icu_cldr.specs.inner.Surroundings.{Extends}
 use Rattle.icu_cldr.specs.declared.collected.Collected.{Collected}
 use Rattle.icu_cldr.specs.declared.line.Line.{Line}
@@ -28,7 +28,7 @@ HasSaid c _ = Unit {0}
 
 -- a line was taken in: what it says
 abbrev pub IsTaken : Collected → List ℕ → Type 0
-IsTaken c line = (said : Line) × Says line said × HasSaid c said
+IsTaken c line = (said : Line) × LineSays line said × HasSaid c said
 
 -- what was taken in stays
 pub record Grows (old new : Collected) : Type 0 where

@@ -38,6 +38,6 @@ unfoldable pub later_levels_order : Collation → List ℕ → List ℕ → Orde
 later_levels_order c t u = after_primaries (form_by c) (lists_by c t) (lists_by c u)
 
 -- no element is variable, and characters don't count
-pub record IsPlain (c : Collation) : Type 0 where
+pub record ReadsElementsAlone (c : Collation) : Type 0 where
   pub variable : last_variable_by c ≡ 0
   pub identical : (form_by c).identical ≡ false

@@ -4,10 +4,10 @@ use Rattle.icu_search.specs.LeastMatches.{Span}
 use Rattle.icu_search.specs.Selections.{found_from}
 
 -- of two matches, the second of which begins later, the one that is least: the later one, unless it ends later
-abbrev pub joined : Option Span → Option Span → Option Span
-joined None next = next
-joined (Some m) None = Some m
-joined (Some m) (Some l) = if nat_le l.stop m.stop then Some l else Some m
+abbrev pub joined_to_held : Option Span → Option Span → Option Span
+joined_to_held None next = next
+joined_to_held (Some m) None = Some m
+joined_to_held (Some m) (Some l) = if nat_le l.stop m.stop then Some l else Some m
 
 -- the match ends before the offset
 abbrev pub stops_before : Option Span → ℕ → Bool
@@ -15,10 +15,10 @@ stops_before None offset = false
 stops_before (Some m) offset = nat_lt m.stop offset
 
 -- where the next match may begin: where the match ends, or behind its start where it is empty
-abbrev pub behind : Span → ℕ
-behind m = if nat_lt m.start m.stop then m.stop else m.start + 1
+abbrev pub from_behind : Span → ℕ
+from_behind m = if nat_lt m.start m.stop then m.stop else m.start + 1
 
 -- what is found behind a match that was given, or from the same offset on where none was
 abbrev pub found_behind : (ℕ → ℕ → Bool) → ℕ → ℕ → Option Span → List Span
 found_behind matches n offset None = found_from matches n offset
-found_behind matches n offset (Some m) = found_from matches n (behind m)
+found_behind matches n offset (Some m) = found_from matches n (from_behind m)

@@ -1,5 +1,5 @@
 use Rattle.unicode_normalization.specs.Forms.{nfd}
-use Rattle.icu_tailoring.proofs.RootLemmas.{untouched_elements}
+use Rattle.icu_tailoring.proofs.KeptRootLemmas.{untouched_elements}
 use Rattle.icu_tailoring.proofs.untouched_texts_keep_elements.Goals as goal
 
 pub returns : goal.returns

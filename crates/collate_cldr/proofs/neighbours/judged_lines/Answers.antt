@@ -6,7 +6,7 @@ use Rattle.icu_cldr.proofs.FileLineLemmas.{none_read, more_read, all_read}
 use Rattle.icu_collator.specs.Collators.{collation_kept}
 use Rattle.collate_cldr.specs.KeyedTexts.{judged_so_far, keyed_text}
 use Rattle.collate_cldr.specs.Neighbours.{JudgesLine, nothing_judged}
-use Rattle.collate_cldr.proofs.NeighbourLemmas.{judges_none, judges_more, counts_lines}
+use Rattle.collate_cldr.proofs.JudgedLineLemmas.{judges_none, judges_more, counts_lines}
 use Rattle.collate_cldr.proofs.neighbours.judged_lines.Goals as goal
 
 pub loop-line-init : goal.loop-line-init

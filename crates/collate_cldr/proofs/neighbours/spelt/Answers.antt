@@ -2,8 +2,8 @@ use Rattle.std.proofs.Common.{◌≡◌, ◌∙◌, ◌∷◌, ◌++◌, [], ℕ
 use Rattle.std.specs.Char.{encode_utf8}
 use Rattle.std.specs.Str.Iter.{split_whitespace_rest}
 use Rattle.icu_cldr.specs.HexDigits.{character_written}
-use Rattle.icu_cldr.proofs.WordLemmas.{write_more, write_end}
-use Rattle.collate_cldr.proofs.NeighbourLemmas.{encoded_more, other_first, other_later}
+use Rattle.icu_cldr.proofs.LineWordLemmas.{write_more, write_end}
+use Rattle.collate_cldr.proofs.JudgedLineLemmas.{encoded_more, other_first, other_later}
 use Rattle.collate_cldr.proofs.neighbours.spelt.Goals as goal
 
 pub loop-word-preserved : goal.loop-word-preserved

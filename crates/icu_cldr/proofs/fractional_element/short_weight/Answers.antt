@@ -1,7 +1,7 @@
 use Rattle.std.proofs.Common.{ℕ, List, [], ◌∷◌, rules, subst}
 use Rattle.std.specs.Str.Iter.{split_whitespace_rest}
 use Rattle.icu_cldr.specs.Words.{WriteBytes}
-use Rattle.icu_cldr.proofs.WordLemmas.{two_bytes}
+use Rattle.icu_cldr.proofs.LineWordLemmas.{two_bytes}
 use Rattle.icu_cldr.proofs.fractional_element.short_weight.Goals as goal
 
 pub returns : goal.returns

@@ -1,8 +1,8 @@
 use Rattle.std.proofs.Common.{◌≡◌, ℕ, List, [], ◌∷◌, ◌++◌, refl}
 use Rattle.std.specs.Prelude.{codes, bytes_eq}
 use Rattle.std.specs.Str.Iter.{split_whitespace_rest}
-use Rattle.icu_cldr.proofs.LineLemmas.{any_before, any_now}
-use Rattle.icu_cldr.proofs.WordLemmas.{write_more, write_end}
+use Rattle.icu_cldr.proofs.LinePartLemmas.{any_before, any_now}
+use Rattle.icu_cldr.proofs.LineWordLemmas.{write_more, write_end}
 use Rattle.icu_cldr.proofs.line.has_compress.Goals as goal
 
 pub loop-word-preserved-then-is_named : goal.loop-word-preserved-then-is_named

@@ -1,7 +1,7 @@
 use Rattle.std.proofs.Common.{◌≡◌, ◌∙◌, sym, Some}
 use Rattle.std.specs.Str.Iter.{split_whitespace_rest}
 use Rattle.icu_cldr.specs.HexDigits.{character_written}
-use Rattle.icu_cldr.proofs.WordLemmas.{write_more, write_end}
+use Rattle.icu_cldr.proofs.LineWordLemmas.{write_more, write_end}
 use Rattle.icu_cldr.proofs.mapping.characters.Goals as goal
 
 pub loop-word-preserved : goal.loop-word-preserved

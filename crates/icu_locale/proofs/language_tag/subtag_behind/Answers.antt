@@ -1,7 +1,7 @@
 use Rattle.std.proofs.Common.{◌≡◌, ◌≢◌, Option, Some, None, sym, subst}
 use Rattle.std.specs.Prelude.{IfOk, IfErr}
 use Rattle.icu_locale.specs.declared.tag_error.TagError.TheVariants.{NoMemory}
-use Rattle.icu_locale.specs.LanguageTags.{SubtagText, text_of, texts_of}
+use Rattle.icu_locale.specs.LanguageTags.{SubtagText, subtag_text_of, texts_of}
 use Rattle.icu_locale.proofs.ReadingLemmas.{none_behind, some_behind}
 use Rattle.icu_locale.proofs.language_tag.subtag_behind.Goals as goal
 
@@ -11,7 +11,7 @@ returns-in-None-clause-refused c = λ _.
 
 pub returns-in-Some-clause-subtag : goal.returns-in-Some-clause-subtag
 returns-in-Some-clause-subtag c =
-    let P : Option SubtagText → Type 0 = λ o. IfOk c.subtag_as.result (λ s. o ≡ Some (text_of s)) in
+    let P : Option SubtagText → Type 0 = λ o. IfOk c.subtag_as.result (λ s. o ≡ Some (subtag_text_of s)) in
     subst P (sym (some_behind (texts_of c.args.before.now) c.args.last c.args.part.now c.as_bytes.result.now c.in-Some.kind c.as_bytes.ensures.value c.in-Some.ensures))
     c.subtag_as.ensures.subtag
 

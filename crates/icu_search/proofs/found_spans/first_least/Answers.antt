@@ -1,8 +1,8 @@
 use Rattle.std.proofs.Common.{◌≡◌, ◌<◌, ◌≤◌, ◌+◌, ◌-◌, true, List, Option, sym, ap, ◌∙◌, arith, rules}
 use Rattle.icu_search.specs.LeastMatches.{Span, shortest_from}
 use Rattle.icu_search.specs.Selections.{first_span}
-use Rattle.icu_search.specs.inner.HeldSpans.{joined, stops_before}
-use Rattle.icu_search.proofs.SelectionLemmas.{joined-none, joined-assoc, least_to, least_to-past, first_turn, first_found, held_stays, starts_below}
+use Rattle.icu_search.specs.inner.HeldSpans.{joined_to_held, stops_before}
+use Rattle.icu_search.proofs.SelectionLemmas.{joined_to_held-none, joined_to_held-assoc, least_to, least_to-past, first_turn, first_found, held_stays, starts_below}
 use Rattle.icu_search.proofs.found_spans.first_least.Goals as goal
 
 pub loop-start-init : goal.loop-start-init
@@ -30,10 +30,10 @@ loop-start-preserved g c =
     let held = c.loop-start.held in
     let later = first_span (least_to matches n (start + 1)) in
     let inside : start ≤ n = omega (arith, c.loop-start-test.true, c.char_count-count.ensures.count) in
-    let next : c.joined-held.result ≡ joined held (shortest_from matches start start (n - start)) = search rules in
-    ap (λ (o : Option Span). joined o later) next
-    ∙ joined-assoc held (shortest_from matches start start (n - start)) later
-    ∙ ap (joined held) (sym (first_turn matches n start inside))
+    let next : c.joined-held.result ≡ joined_to_held held (shortest_from matches start start (n - start)) = search rules in
+    ap (λ (o : Option Span). joined_to_held o later) next
+    ∙ joined_to_held-assoc held (shortest_from matches start start (n - start)) later
+    ∙ ap (joined_to_held held) (sym (first_turn matches n start inside))
     ∙ c.loop-start.invariant
 
 pub returns-clause-least : goal.returns-clause-least
@@ -42,7 +42,7 @@ returns-clause-least g c =
     let n = g.M.MatchEnds.char_len c.args.ends.now in
     let held = c.loop-start.held in
     let past : n < c.loop-start.start = omega (arith, c.loop-start-test.false, c.char_count-count.ensures.count) in
-    sym (joined-none held) ∙ ap (λ (l : List Span). joined held (first_span l)) (sym (least_to-past matches n c.loop-start.start past)) ∙ c.loop-start.invariant
+    sym (joined_to_held-none held) ∙ ap (λ (l : List Span). joined_to_held held (first_span l)) (sym (least_to-past matches n c.loop-start.start past)) ∙ c.loop-start.invariant
 
 pub returns-clause-bound : goal.returns-clause-bound
 returns-clause-bound g c =
@@ -51,4 +51,4 @@ returns-clause-bound g c =
     let held = c.loop-start.held in
     let small = rw c.char_count-count.ensures.count at c.char_count-count.ensures.bound in
     let past : n < c.loop-start.start = omega (arith, c.loop-start-test.false, c.char_count-count.ensures.count) in
-    starts_below matches n c.args.offset held (sym (joined-none held) ∙ ap (λ (l : List Span). joined held (first_span l)) (sym (least_to-past matches n c.loop-start.start past)) ∙ c.loop-start.invariant) _ small
+    starts_below matches n c.args.offset held (sym (joined_to_held-none held) ∙ ap (λ (l : List Span). joined_to_held held (first_span l)) (sym (least_to-past matches n c.loop-start.start past)) ∙ c.loop-start.invariant) _ small

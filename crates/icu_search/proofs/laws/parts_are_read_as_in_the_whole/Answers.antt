@@ -1,4 +1,4 @@
-use Rattle.icu_search.proofs.PartLemmas as lemmas
+use Rattle.icu_search.proofs.SearchPartLemmas as lemmas
 use Rattle.icu_search.proofs.laws.parts_are_read_as_in_the_whole.Goals as goal
 
 pub returns-clause-elements : goal.returns-clause-elements

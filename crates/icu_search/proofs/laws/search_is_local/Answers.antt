@@ -1,4 +1,4 @@
-use Rattle.icu_search.proofs.PieceLemmas as lemmas
+use Rattle.icu_search.proofs.SearchPieceLemmas as lemmas
 use Rattle.icu_search.proofs.laws.search_is_local.Goals as goal
 
 pub returns : goal.returns

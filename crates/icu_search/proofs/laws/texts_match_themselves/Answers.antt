@@ -1,5 +1,5 @@
 use Rattle.icu_search.proofs.FoundLemmas as lemmas
-use Rattle.icu_search.proofs.PieceLemmas as pieces
+use Rattle.icu_search.proofs.SearchPieceLemmas as pieces
 use Rattle.icu_search.proofs.laws.texts_match_themselves.Goals as goal
 
 pub returns-clause-whole : goal.returns-clause-whole

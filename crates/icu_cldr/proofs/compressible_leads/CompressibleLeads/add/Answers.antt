@@ -1,8 +1,8 @@
 use Rattle.std.proofs.Common.{◌≡◌, ◌<◌, ◌^◌, ◌*◌, ◌/◌, ◌%◌, ◌∙◌, ℕ, List, length, ap, rules}
 use Rattle.std.specs.Prelude.{slice_index, slice_set}
 use Rattle.std.specs.Int.RustNames.{bit_or}
-use Rattle.icu_cldr.specs.inner.Leads.{has_lead}
-use Rattle.icu_cldr.proofs.LeadLemmas.{adds_lead, or_true}
+use Rattle.icu_cldr.specs.inner.CompressedLeads.{has_lead}
+use Rattle.icu_cldr.proofs.CompressedLeadLemmas.{adds_lead, or_true}
 use Rattle.icu_cldr.proofs.compressible_leads.CompressibleLeads.add.Goals as goal
 
 pub invariant_of-self : goal.invariant_of-self

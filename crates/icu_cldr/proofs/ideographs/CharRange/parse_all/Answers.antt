@@ -1,7 +1,7 @@
 use Rattle.std.specs.Str.Iter.{split_whitespace_rest}
 use Rattle.icu_cldr.specs.Ranges.{WritesRange}
 use Rattle.icu_cldr.specs.declared.ideographs.CharRange.{CharRange}
-use Rattle.icu_cldr.proofs.WordLemmas.{write_more, write_end}
+use Rattle.icu_cldr.proofs.LineWordLemmas.{write_more, write_end}
 use Rattle.icu_cldr.proofs.ideographs.CharRange.parse_all.Goals as goal
 
 pub loop-word-preserved : goal.loop-word-preserved

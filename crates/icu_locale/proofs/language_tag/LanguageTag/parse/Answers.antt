@@ -5,7 +5,7 @@ use Rattle.std.proofs.lemmas.List.{map-append}
 use Rattle.icu_locale.specs.declared.subtag.Subtag.{Subtag}
 use Rattle.icu_locale.specs.declared.tag_error.TagError.{TagError}
 use Rattle.icu_locale.specs.declared.tag_error.TagError.TheVariants.{NoMemory}
-use Rattle.icu_locale.specs.LanguageTags.{text_of, texts_of, tag_of, subtag_behind, subtags_behind}
+use Rattle.icu_locale.specs.LanguageTags.{subtag_text_of, texts_of, language_tag_of, subtag_behind, subtags_behind}
 use Rattle.icu_locale.proofs.ReadingLemmas.{parts_left, parts_left_behind, left_within, part_refused, part_read, end_read, end_refused}
 use Rattle.icu_locale.proofs.language_tag.LanguageTag.parse.Goals as goal
 
@@ -15,10 +15,10 @@ handed_on (Err x) e P is p = subst P (sym is) p
 
 pub returns-in_err-subtag-clause-refused : goal.returns-in_err-subtag-clause-refused
 returns-in_err-subtag-clause-refused c =
-    let P : TagError → Type 0 = λ e. e ≢ NoMemory → tag_of c.args.text.now ≡ None in
+    let P : TagError → Type 0 = λ e. e ≢ NoMemory → language_tag_of c.args.text.now ≡ None in
     let Q : List Subtag → Type 0 = λ xs. subtag_behind (texts_of xs) c.reading.last c.first_part.result.0.now ≡ None in
     handed_on c.from_residual.result c.in_err-subtag.field-0.0 P c.from_residual.ensures.1
-    (λ some. part_refused (texts_of c.reading.subtags.items) c.reading.last c.reading.left (tag_of c.args.text.now) c.reading.invariant.subtags
+    (λ some. part_refused (texts_of c.reading.subtags.items) c.reading.last c.reading.left (language_tag_of c.args.text.now) c.reading.invariant.subtags
     c.in-Some.unread c.first_part.result.0.now c.first_part.result.1 c.in-Some.is
     (parts_left_behind c.in-Some.unread.now c.first_part.result.0.now c.first_part.result.1 c.first_part.ensures.parts)
     (subst Q c.as_slice.ensures.value (c.in_err-subtag.ensures.refused some)))
@@ -26,25 +26,25 @@ returns-in_err-subtag-clause-refused c =
 pub reading-preserved : goal.reading-preserved
 reading-preserved c =
     let pushed : c.push.new.self.items ≡ c.reading.subtags.items ++ c.in_ok-subtag.subtag ∷ [] = search rules in
-    let Q : List Subtag → Type 0 = λ xs. subtag_behind (texts_of xs) c.reading.last c.first_part.result.0.now ≡ Some (text_of c.in_ok-subtag.subtag) in
-    let read = part_read (texts_of c.reading.subtags.items) c.reading.last c.reading.left (tag_of c.args.text.now) c.reading.invariant.subtags
-    c.in-Some.unread c.first_part.result.0.now c.first_part.result.1 (text_of c.in_ok-subtag.subtag) c.in-Some.is
+    let Q : List Subtag → Type 0 = λ xs. subtag_behind (texts_of xs) c.reading.last c.first_part.result.0.now ≡ Some (subtag_text_of c.in_ok-subtag.subtag) in
+    let read = part_read (texts_of c.reading.subtags.items) c.reading.last c.reading.left (language_tag_of c.args.text.now) c.reading.invariant.subtags
+    c.in-Some.unread c.first_part.result.0.now c.first_part.result.1 (subtag_text_of c.in_ok-subtag.subtag) c.in-Some.is
     (parts_left_behind c.in-Some.unread.now c.first_part.result.0.now c.first_part.result.1 c.first_part.ensures.parts)
     (subst Q c.as_slice.ensures.value c.in_ok-subtag.ensures.subtag) in
     record {
       subtags =
           ap (λ xs. subtags_behind (texts_of xs) (Some c.in_ok-subtag.subtag.kind) (parts_left c.first_part.result.1)) pushed
           ∙ (ap (λ xs. subtags_behind xs (Some c.in_ok-subtag.subtag.kind) (parts_left c.first_part.result.1))
-          (map-append text_of c.reading.subtags.items (c.in_ok-subtag.subtag ∷ [])) ∙ read);
+          (map-append subtag_text_of c.reading.subtags.items (c.in_ok-subtag.subtag ∷ [])) ∙ read);
       within = left_within c.reading.left c.first_part.result.1 c.in-Some.unread _ c.in-Some.is c.first_part.ensures.shorter c.reading.invariant.within;
     }
 
 pub returns-then-may_end_behind-clause-tag : goal.returns-then-may_end_behind-clause-tag
 returns-then-may_end_behind-clause-tag c =
-    end_read (texts_of c.reading.subtags.items) c.reading.last c.reading.left (tag_of c.args.text.now) c.reading.invariant.subtags
+    end_read (texts_of c.reading.subtags.items) c.reading.last c.reading.left (language_tag_of c.args.text.now) c.reading.invariant.subtags
     c.in_default.is (sym c.may_end_behind.ensures ∙ c.if-may_end_behind.true)
 
 pub returns-clause-refused : goal.returns-clause-refused
 returns-clause-refused c = λ _.
-    end_refused (texts_of c.reading.subtags.items) c.reading.last c.reading.left (tag_of c.args.text.now) c.reading.invariant.subtags
+    end_refused (texts_of c.reading.subtags.items) c.reading.last c.reading.left (language_tag_of c.args.text.now) c.reading.invariant.subtags
     c.in_default.is (sym c.may_end_behind.ensures ∙ c.if-may_end_behind.false)

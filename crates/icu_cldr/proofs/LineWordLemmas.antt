@@ -1,7 +1,7 @@
 -- The words of a text, one by one.
 use Rattle.std.proofs.Common.{◌≡◌, ℕ, List, [], ◌∷◌, ◌++◌, subst, sym, ap, ◌∙◌, append_assoc}
 use Rattle.std.proofs.lemmas.List.{append-nil}
-use Rattle.icu_cldr.specs.Words.{IsBlank, BeginsWithWord, WordsWrite, NextByte, WriteBytes}
+use Rattle.icu_cldr.specs.Words.{IsBlankText, BeginsWithWord, WordsWrite, NextByte, WriteBytes}
 
 -- the first word writes one value, and the others the others
 pub write_first : {A : Type 0} (Writes : List ℕ → A → Type 0) (text word rest : List ℕ) (x : A) (xs : List A)
@@ -10,7 +10,7 @@ unfolding WordsWrite
 write_first Writes text word rest x xs begins writes more = (word, rest, begins, writes, more)
 
 -- no word writes no value
-pub write_nothing : {A : Type 0} (Writes : List ℕ → A → Type 0) (text : List ℕ) → IsBlank text → WordsWrite Writes text []
+pub write_nothing : {A : Type 0} (Writes : List ℕ → A → Type 0) (text : List ℕ) → IsBlankText text → WordsWrite Writes text []
 unfolding WordsWrite
 write_nothing Writes text blank = blank
 
@@ -25,19 +25,19 @@ write_more Writes all text word rest done new x added begins writes before more 
 
 -- no word is left
 pub write_end : {A : Type 0} (Writes : List ℕ → A → Type 0) (all text : List ℕ) (done : List A)
-    → IsBlank text → ((more : List A) → WordsWrite Writes text more → WordsWrite Writes all (done ++ more))
+    → IsBlankText text → ((more : List A) → WordsWrite Writes text more → WordsWrite Writes all (done ++ more))
     → WordsWrite Writes all done
 write_end Writes all text done blank before =
     subst (WordsWrite Writes all) (append-nil done) (before [] (write_nothing Writes text blank))
 
 -- two bytes
-pub two_bytes : (text second end : List ℕ) (a b : ℕ) → NextByte text a second → NextByte second b end → IsBlank end
+pub two_bytes : (text second end : List ℕ) (a b : ℕ) → NextByte text a second → NextByte second b end → IsBlankText end
     → WriteBytes text (a ∷ b ∷ [])
 unfolding WriteBytes
 two_bytes text second end a b p q blank = (second, p, (end, q, blank))
 
 -- four bytes
 pub four_bytes : (text second third fourth end : List ℕ) (a b c d : ℕ) → NextByte text a second → NextByte second b third
-    → NextByte third c fourth → NextByte fourth d end → IsBlank end → WriteBytes text (a ∷ b ∷ c ∷ d ∷ [])
+    → NextByte third c fourth → NextByte fourth d end → IsBlankText end → WriteBytes text (a ∷ b ∷ c ∷ d ∷ [])
 unfolding WriteBytes
 four_bytes text second third fourth end a b c d p q r s blank = (second, p, (third, q, (fourth, r, (end, s, blank))))

@@ -18,13 +18,13 @@ abbrev pub entry_around : Around → ℕ → List ℕ → List ℕ → Option �
 entry_around contexts c before after = option_and_then (λ all. entry_between all before after) (get nat_cmp contexts c)
 
 -- a mapping of one character wherever it stands
-abbrev pub is_plain : Mapping → Bool
-is_plain m = length m.prefix.items == 0 && length m.suffix.items == 0
+abbrev pub is_without_context : Mapping → Bool
+is_without_context m = length m.prefix.items == 0 && length m.suffix.items == 0
 
 -- the characters of a mapping have this entry
 abbrev pub HasEntry : Plain → Around → Mapping → ℕ → Type 0
 HasEntry entries contexts m e =
-    MatchBool (is_plain m) (get nat_cmp entries m.first ≡ Some e)
+    MatchBool (is_without_context m) (get nat_cmp entries m.first ≡ Some e)
     (entry_around contexts m.first (reverse m.prefix.items) m.suffix.items ≡ Some e)
 
 -- a character that had no entry has this one, and no other character's changes

@@ -20,8 +20,8 @@ abbrev pub mixed_case : ℕ
 mixed_case = 1
 
 -- case bits of upper case
-abbrev pub upper_case : ℕ
-upper_case = 2
+abbrev pub upper_case_bits : ℕ
+upper_case_bits = 2
 
 -- what the case bits have in common, or mixed; those of lower case for none
 abbrev pub merged_case : List ℕ → ℕ
@@ -44,10 +44,10 @@ with_case_bits e bits = record e { case_bits = bits }
 unfoldable pub with_cases : List ℕ → List SymbolicElement → List SymbolicElement
 with_cases cases [] = []
 with_cases [] (e ∷ es) =
-    with_case_bits e (if counts_first_at 3 e then upper_case else 0) ∷ with_cases [] es
+    with_case_bits e (if counts_first_at 3 e then upper_case_bits else 0) ∷ with_cases [] es
 with_cases (c ∷ cases) (e ∷ es) =
     if counts_first_at 1 e then with_case_bits e c ∷ with_cases cases es
-    else with_case_bits e (if counts_first_at 3 e then upper_case else 0) ∷ with_cases (c ∷ cases) es
+    else with_case_bits e (if counts_first_at 3 e then upper_case_bits else 0) ∷ with_cases (c ∷ cases) es
 
 -- the elements with the case of the root's elements of their string
 abbrev pub cased_elements : List SymbolicElement → List SymbolicElement → List SymbolicElement

@@ -8,9 +8,9 @@ use Rattle.icu_options.specs.declared.settings.Strength.TheVariants.{Primary, Se
 use Rattle.icu_tailoring.specs.Rules.{ResetPlace, Rule, reset, relation, suppression, setting, have_character}
 use Rattle.icu_tailoring.specs.SymbolicElements.{SymbolicElement}
 use Rattle.icu_tailoring.specs.Roots.{Root}
-use Rattle.icu_tailoring.specs.Mappings.{SymbolicMapping, SymbolicMappings, SymbolicMatch, root_mappings, beginnings, mappings_behind, mapping_with, is_blocked_by, joined_marks, longest_suffix, match_by, symbolic_match, context_behind, symbolic_along, symbolic_elements}
+use Rattle.icu_tailoring.specs.TailoredMappings.{SymbolicMapping, SymbolicMappings, SymbolicMatch, root_mappings, beginnings, mappings_behind, mapping_with, is_blocked_by, joined_marks, longest_suffix, match_by, symbolic_match, context_behind, symbolic_along, symbolic_elements}
 use Rattle.icu_tailoring.specs.Steps.{TailoringState, first_state, difference_step, strength_step, case_step, mapping_step, reset_step, before_step, relation_step, suppression_step, rule_step, state_after, tailoring_of}
-use Rattle.icu_tailoring.specs.RootLaws.{begins_with, touches, IsUntouched}
+use Rattle.icu_tailoring.specs.RootLaws.{string_begins, touches, IsUntouched}
 
 -- ---- untouched characters keep their mappings
 
@@ -43,7 +43,7 @@ strength_keeps Quaternary state = refl
 strength_keeps Identical state = refl
 
 mapping_keeps : (prefix string : List ℕ) (es : List SymbolicElement) (state : TailoringState) (c : ℕ)
-    → begins_with c string ≡ false → (mapping_step prefix string es state).mappings c ≡ state.mappings c
+    → string_begins c string ≡ false → (mapping_step prefix string es state).mappings c ≡ state.mappings c
 mapping_keeps prefix [] es state c e = refl
 mapping_keeps prefix (d ∷ suffix) es state c e = second_of (c == d) _ (state.mappings c) e
 

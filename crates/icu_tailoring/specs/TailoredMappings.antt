@@ -26,8 +26,8 @@ abbrev pub root_mappings : Root → SymbolicMappings
 root_mappings root c = map mapping_of_root (root.mappings c)
 
 -- the mapping is of this prefix
-abbrev pub has_prefix : List ℕ → SymbolicMapping → Bool
-has_prefix prefix m = bytes_eq m.prefix prefix
+abbrev pub stands_after_prefix : List ℕ → SymbolicMapping → Bool
+stands_after_prefix prefix m = bytes_eq m.prefix prefix
 
 -- the mapping is of this prefix and this suffix
 abbrev pub is_mapping_of : List ℕ → List ℕ → SymbolicMapping → Bool
@@ -60,7 +60,7 @@ begin_suffix mappings m = list_any (λ (own : SymbolicMapping). starts_with nat_
 unfoldable pub mappings_behind : List SymbolicMapping → List (List ℕ) → List SymbolicMapping
 mappings_behind mappings [] = []
 mappings_behind mappings (prefix ∷ shorter) =
-    let own = filter (has_prefix prefix) mappings in
+    let own = filter (stands_after_prefix prefix) mappings in
     let further = mappings_behind mappings shorter in
     if list_any (λ m. bytes_eq m.suffix []) own then own else own ++ filter (λ m. not (begin_suffix own m)) further
 

@@ -3,8 +3,8 @@ use Rattle.std.specs.Prelude.{ℕ, zero, suc, not, ◌==◌, ◌-◌, if◌then�
 use Rattle.std.specs.List.{list_any}
 use Rattle.icu_rules.specs.declared.statement.LogicalPosition.{LogicalPosition}
 use Rattle.icu_rules.specs.declared.statement.LogicalPosition.TheVariants as positions
-use Rattle.icu_tailoring.specs.SymbolicElements.{SymbolicWeight, rooted, SymbolicElement, is_tailored, is_same_weight, common_below, to_all_levels, element_with, ignorable}
-use Rattle.icu_tailoring.specs.WeightTrees.{WeightTree, behind}
+use Rattle.icu_tailoring.specs.SymbolicElements.{SymbolicWeight, rooted, SymbolicElement, has_tailored_weight, is_same_weight, common_below, to_all_levels, element_with, ignorable}
+use Rattle.icu_tailoring.specs.WeightTrees.{WeightTree, put_behind}
 use Rattle.icu_tailoring.specs.Roots.{Root, first_above}
 
 -- the first of the weights, or 0
@@ -28,7 +28,7 @@ nonzero_weights = filter (λ w. not (w == 0))
 
 -- the weights that were tailored directly behind one of the root
 abbrev pub tailored_behind : WeightTree → List SymbolicWeight → SymbolicWeight → List SymbolicWeight
-tailored_behind tree above w = take_while is_tailored (behind w (tree above))
+tailored_behind tree above w = take_while has_tailored_weight (put_behind w (tree above))
 
 -- the first of the weights, or another one
 abbrev pub first_weight_or : SymbolicWeight → List SymbolicWeight → SymbolicWeight
@@ -41,7 +41,7 @@ before_common tree above = take_while (λ w. not (is_same_weight w (common_below
 
 -- the first tailored weight before the common one below these, or the common one
 abbrev pub first_tailored_below : WeightTree → List SymbolicWeight → SymbolicWeight
-first_tailored_below tree above = first_weight_or (common_below above) (filter is_tailored (before_common tree above))
+first_tailored_below tree above = first_weight_or (common_below above) (filter has_tailored_weight (before_common tree above))
 
 -- a primary weight with what was tailored first below it: secondary and tertiary weights before the common ones
 abbrev pub first_of_primary : WeightTree → SymbolicWeight → List SymbolicWeight
@@ -62,7 +62,7 @@ with_last (suc levels) tree above =
 abbrev pub last_of : WeightTree → List SymbolicWeight → List SymbolicWeight
 last_of tree above =
     let last = with_last (4 - length above) tree above in
-    if list_any is_tailored (drop (length above) last) then last else to_all_levels above
+    if list_any has_tailored_weight (drop (length above) last) then last else to_all_levels above
 
 -- the last of what was tailored behind a weight of the root, at its level and below
 abbrev pub last_from : WeightTree → List SymbolicWeight → ℕ → List SymbolicWeight
@@ -75,7 +75,7 @@ abbrev pub first_of_group : Root → WeightTree → ℕ → List SymbolicWeight
 first_of_group root tree p =
     let next : SymbolicWeight = elim (first_above (root.weights []) p) [ Some w ↦ rooted w | None ↦ rooted p ] in
     let below = first_of_primary tree (rooted p) in
-    if list_any is_tailored below then below
+    if list_any has_tailored_weight below then below
     else (elim (tailored_behind tree [] (rooted p)) [
       | [] ↦ first_of_primary tree next
       | w ∷ _ ↦ w ∷ []

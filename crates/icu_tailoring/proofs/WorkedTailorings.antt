@@ -3,8 +3,8 @@ use Rattle.std.proofs.Common.{◌≡◌, refl, [], ◌∷◌, codes}
 use Rattle.icu_options.specs.declared.settings.Strength.TheVariants.{Primary, Secondary, Tertiary, Quaternary, Identical}
 use Rattle.icu_rules.specs.declared.statement.LogicalPosition.TheVariants.{FirstVariable, LastVariable, FirstRegular, LastRegular, FirstPrimaryIgnorable, LastPrimaryIgnorable, LastSecondaryIgnorable, LastTertiaryIgnorable, FirstImplicit}
 use Rattle.icu_tailoring.specs.Rules.{relation, suppression}
-use Rattle.icu_tailoring.proofs.Computing.{icu_tailoring}
-use Rattle.icu_tailoring.proofs.WorkedOrders.{to, before, at, differs, order_by}
+use Rattle.icu_tailoring.proofs.ComputedRules.{icu_tailoring}
+use Rattle.icu_tailoring.proofs.WorkedDifferences.{to, before, at, differs, order_by}
 
 -- ---- the four strengths and identity
 -- &a<x => a < ax < x < b << b́ < X

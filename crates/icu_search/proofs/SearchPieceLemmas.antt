@@ -15,8 +15,8 @@ use Rattle.icu_search.specs.Places.{first_leads, reaches, is_place_before, is_pl
 use Rattle.icu_search.specs.Searches.{Search, is_match}
 use Rattle.icu_search.specs.PieceLaws.{BeginsPieces, search_behind, HasMatchesOfPieces}
 use Rattle.icu_search.proofs.RestLemmas.{comes_to-now}
-use Rattle.icu_search.proofs.PartLemmas.{leading_at, part_has_places}
-use Rattle.icu_search.proofs.CutLemmas.{cut_rests}
+use Rattle.icu_search.proofs.SearchPartLemmas.{leading_at, part_has_places}
+use Rattle.icu_search.proofs.SearchCutLemmas.{cut_rests}
 use Rattle.icu_checks.specs.WellFormedTables.{IsWellFormedTables}
 use Rattle.icu_elements.specs.TextElementLaws.{IsText}
 use Rattle.icu_search.specs.LeastMatches.{span}
@@ -192,7 +192,7 @@ matches_before s c cut front tail start stop fits =
 pub search_is_local : (s : Search) (c : ℕ) → BeginsPieces (reading_by s.collation) c → (front tail : List ℕ) → HasMatchesOfPieces s front (c ∷ tail)
 search_is_local s c cut front tail = record {
   before = matches_before s c cut front tail;
-  behind = matches_behind s c cut front tail;
+  from_behind = matches_behind s c cut front tail;
 }
 
 -- a pattern where it stands
@@ -203,14 +203,14 @@ pub matches_there : (s : Search) → IsWellFormedTables s.collation.tables → (
 matches_there s well_formed p ps is is_text begins c ends front tail first last =
     let n = length (p ∷ ps) in
     let k = length front in
-    let behind = search_behind k s in
-    let searched : Search = record behind { pattern = p ∷ ps } in
+    let from_behind = search_behind k s in
+    let searched : Search = record from_behind { pattern = p ∷ ps } in
     let whole = front ++ (p ∷ ps ++ c ∷ tail) in
     let none : k + 0 ≡ k = omega arith in
     let itself : is_match searched (p ∷ ps) 0 n ≡ true =
     test_from_match searched (p ∷ ps) (span 0 n) (matches_itself searched well_formed is_text (ap s.allowed none ∙ first) last) in
     ap (λ start. is_match s whole start (k + n)) (sym none)
     ∙ matches_behind s p begins front (ps ++ c ∷ tail) 0 n
-    ∙ matches_before behind c ends (p ∷ ps) tail 0 n (omega arith)
-    ∙ ap (λ (pattern : List ℕ). is_match (record behind { pattern = pattern }) (p ∷ ps) 0 n) is
+    ∙ matches_before from_behind c ends (p ∷ ps) tail 0 n (omega arith)
+    ∙ ap (λ (pattern : List ℕ). is_match (record from_behind { pattern = pattern }) (p ∷ ps) 0 n) is
     ∙ itself

@@ -6,7 +6,7 @@ use Rattle.icu_rules.specs.declared.statement.LogicalPosition.{LogicalPosition}
 use Rattle.icu_tailoring.specs.Rules.{at_string, at_position, Rule, reset, relation}
 use Rattle.icu_tailoring.specs.SymbolicElements.{SymbolicWeight, rooted, tailored, SymbolicElement, is_same_weight}
 use Rattle.icu_tailoring.specs.WeightTrees.{WeightTree}
-use Rattle.icu_tailoring.specs.Mappings.{symbolic_elements}
+use Rattle.icu_tailoring.specs.TailoredMappings.{symbolic_elements}
 use Rattle.icu_tailoring.specs.Steps.{TailoringState, tailoring_of}
 use Rattle.icu_tailoring.specs.SymbolicOrders.{Numbering, level_order}
 use Rattle.icu_tailoring.proofs.SmallRoot.{small_root}

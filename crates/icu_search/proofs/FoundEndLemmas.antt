@@ -86,7 +86,7 @@ with_marks-leaves mappings entry suffix passed (m ∷ ms) =
     record { fits = omega (arith, (with_marks-leaves mappings entry suffix (passed ++ m ∷ []) ms).fits, length-append passed (m ∷ [])) } in
     either (LeavesUpTo n) (is_starter m) _ _ (record { fits = simp length-append (omega arith) })
     (either (LeavesUpTo n) (is_blocked passed m) _ _ over
-    (maybe_any (LeavesUpTo n) (mapping_entry mappings (suffix ++ m ∷ [])) _ _ (λ joined. record { fits = omega (arith, (with_marks-leaves mappings joined (suffix ++ m ∷ []) passed ms).fits) }) over))
+    (maybe_any (LeavesUpTo n) (mapping_entry mappings (suffix ++ m ∷ [])) _ _ (λ joined_to_held. record { fits = omega (arith, (with_marks-leaves mappings joined_to_held (suffix ++ m ∷ []) passed ms).fits) }) over))
 
 -- the match of a context, once its longest mapping is known
 abbrev match_by : Context → List ℕ → Option Mapping → Match
