@@ -14,6 +14,8 @@ OTHERS = {"collate", "collate_cldr", "collate_commands", "sort_names", "test_con
 KEY, CHECK, FILE, READ = "`key`", "`check`", "`root`", "`next` and `whole`"
 # Calls to which no question comes: each request of this program, or of this crate, is refused or tested by itself.
 PROGRAM, TYPES = "the program `collate-cldr`", "`test_types`"
+# Generic, over a trait that no crate implements yet.
+NOTHING = "nothing"
 # The crate and the name of a call, and the question of the driver that comes to it, or what else makes it.
 LEFT_OUT = {
     ("icu_collation_data", "collect_weights"): CHECK,
@@ -23,6 +25,7 @@ LEFT_OUT = {
     ("icu_collator", "try_from_tables"): PROGRAM,
     ("icu_collator", "with_options"): TYPES,
     ("icu_small_tables", "checked_small_tables"): TYPES,
+    ("icu_search", "first_least"): NOTHING,
     ("icu_weights", "first_overlap"): CHECK,
     ("icu_weights", "first_common_overlap"): CHECK,
     ("icu_elements", "decomposed_text"): KEY,

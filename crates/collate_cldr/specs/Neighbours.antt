@@ -66,7 +66,8 @@ HasOtherWord text = (words : List (List ℕ)) × HasOtherBehind text words
 abbrev pub SpellsLineText : List ℕ → List ℕ → Type 0
 SpellsLineText numbers text = (cs : List ℕ) × WriteCharacters numbers cs × (text ≡ encode_utf8_all cs)
 
--- a line was judged: it says nothing, or it is passed over for a word that is no character's number, or it spells a text
+-- a line was judged: it says nothing, or it is passed over for a word that is no character's number, or it spells a
+-- text
 abbrev pub JudgesLine : Collation → Judged → List ℕ → Judged → Type 0
 JudgesLine c old line new =
     ((text_of line ≡ []) × (new ≡ old))

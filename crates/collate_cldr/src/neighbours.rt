@@ -230,7 +230,8 @@ impl JudgedLines {
     ) -> Result<JudgedLines, ProgramError>
         requires { HasKey (collation_kept collator.now) self.last }
         ensures judged { IfOk result (λ new. judged_so_far new
-            ≡ with_text (collation_kept collator.now) (judged_so_far self) (chars (string_bytes text))) }
+            ≡ with_text (collation_kept collator.now) (judged_so_far self)
+            (chars (string_bytes text))) }
         ensures key { IfOk result (λ new. HasKey (collation_kept collator.now) new.last) }
     {
         let next = with_key(alloc, collator, text)?;

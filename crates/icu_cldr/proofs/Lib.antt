@@ -3,13 +3,13 @@ pub mod SurroundingLemmas
 pub mod AddedContextLemmas
 pub mod PrefixLemmas
 pub mod LineWordLemmas
-pub mod ElementLemmas
+pub mod SaidElementLemmas
 pub mod LinePartLemmas
-pub mod EntryLemmas
+pub mod SpeltEntryLemmas
 pub mod TakenLemmas
 pub mod CompressedLeadLemmas
 pub mod FileLineLemmas
 pub mod IdeographLemmas
-pub mod DigitLemmas
+pub mod DigitRangeLemmas
 pub mod RootValueLemmas
 pub mod ResolvedLemmas

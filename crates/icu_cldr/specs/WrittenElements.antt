@@ -1,6 +1,7 @@
 -- What is written of elements (UTS #35 part 5, "Root Collation Data Files").
 use Rattle.std.specs.Prelude.{◌≡◌, ℕ, ◌+◌, ◌*◌, ◌^◌, List, [], ◌∷◌, ◌++◌, ◌⊎◌, Some, codes}
 use Rattle.std.specs.Str.{trim, trim_start}
+use Rattle.icu_entries.specs.Elements.{common}
 use Rattle.icu_cldr.specs.HexDigits.{character_written}
 use Rattle.icu_cldr.specs.Words.{IsCutAt, WriteBytes}
 use Rattle.icu_cldr.specs.declared.fractional_element.FractionalElement.{FractionalElement}
@@ -25,10 +26,6 @@ WritesIdeograph text primary = (word : List ℕ) × (c : ℕ)
 abbrev pub WritesPrimary : List ℕ → Primary → Type 0
 WritesPrimary text primary =
     WritesIdeograph text primary ⊎ ((weight : ℕ) × WritesLongWeight (trim text) weight × (primary ≡ Weight weight))
-
--- the common secondary and tertiary weight
-abbrev pub common : ℕ
-common = 0x0500
 
 -- an element, by what stands between its brackets: its three weights, or an ideograph and the tertiary weight, or an
 -- ideograph alone, where a weight that is left out is common

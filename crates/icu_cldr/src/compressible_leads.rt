@@ -2,8 +2,8 @@
 ghost use Rattle.std.specs.Prelude.{◌≡◌, ◌==◌, ◌||◌, ◌<◌, ℕ, true, length};
 ghost use Rattle.icu_cldr.specs.inner.CompressedLeads.{has_lead};
 
-/// A bit for each lead byte whose weights are written shorter where they follow one another: among them that of implicit
-/// weights, FE.
+/// A bit for each lead byte whose weights are written shorter where they follow one another: among them that of
+/// implicit weights, FE.
 #[derive(Debug, Clone, Copy, PartialEq)]
 pub(crate) struct CompressibleLeads {
     words: [u16; 16],

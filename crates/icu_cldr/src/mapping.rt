@@ -27,7 +27,7 @@ pub struct Mapping {
 
 /// The characters that a line maps.
 #[derive(Drop)]
-struct Context {
+struct MappedCharacters {
     prefix: Vec<char>,
     first: char,
     suffix: Vec<char>,
@@ -75,7 +75,7 @@ fn mapped(alloc: Global, text: &str) -> Result<(char, Vec<char>), LineError>
 }
 
 /// The characters of a mapping.
-fn context_of(alloc: Global, text: &str) -> Result<Context, LineError>
+fn context_of(alloc: Global, text: &str) -> Result<MappedCharacters, LineError>
     ensures { IfOk result (λ r. WriteContext text.now r.prefix.items (r.first ∷ r.suffix.items)) }
 {
     let (prefix, behind) = match text.split_once('|') {
@@ -83,7 +83,7 @@ fn context_of(alloc: Global, text: &str) -> Result<Context, LineError>
         None => (Vec::new(alloc), text),
     };
     let (first, suffix) = mapped(alloc, behind)?;
-    Ok(Context {
+    Ok(MappedCharacters {
         prefix,
         first,
         suffix,
@@ -102,7 +102,7 @@ impl Mapping {
         let Some((left, elements)) = text.split_once(';') else {
             return Err(LineError::Expected(Expected::Semicolon));
         };
-        let Context {
+        let MappedCharacters {
             prefix,
             first,
             suffix,

@@ -20,10 +20,12 @@ use Rattle.icu_locale.specs.declared.tag_settings.TagSettings.{TagSettings}
 use Rattle.icu_locale.specs.declared.tag_settings.UnknownType.{UnknownType}
 use Rattle.icu_locale.specs.declared.tag_settings.UnknownType.TheVariants as unknown
 
+-- whether a subtag is the key of a keyword
 abbrev pub is_key : SubtagKind → Bool
 is_key Key = true
 is_key _ = false
 
+-- whether a subtag is a part of a keyword's type
 abbrev pub is_type_part : SubtagKind → Bool
 is_type_part TypePart = true
 is_type_part _ = false
@@ -54,6 +56,7 @@ abbrev pub setting_of : {T : Type 0} → (List ℕ → Option T) → Option (Lis
 setting_of named None = Some None
 setting_of named (Some word) = option_map (λ x. Some x) (named word)
 
+-- the strength that a word names
 unfoldable pub strength_by_name : List ℕ → Option Strength
 strength_by_name word =
     if bytes_eq word (codes "level1") then Some strengths.Primary
@@ -62,11 +65,13 @@ strength_by_name word =
     else (if bytes_eq word (codes "level4") then Some strengths.Quaternary
     else (if bytes_eq word (codes "identic") then Some strengths.Identical else None))))
 
+-- the handling of variable elements that a word names
 unfoldable pub handling_named : List ℕ → Option AlternateHandling
 handling_named word =
     if bytes_eq word (codes "noignore") then Some handling.NonIgnorable
     else (if bytes_eq word (codes "shifted") then Some handling.Shifted else None)
 
+-- the last group of variable characters that a word names
 unfoldable pub group_named : List ℕ → Option MaxVariable
 group_named word =
     if bytes_eq word (codes "space") then Some groups.Space
@@ -74,22 +79,26 @@ group_named word =
     else (if bytes_eq word (codes "symbol") then Some groups.Symbol
     else (if bytes_eq word (codes "currency") then Some groups.Currency else None)))
 
+-- whether a word asks for the case level
 unfoldable pub case_level_named : List ℕ → Option CaseLevel
 case_level_named word =
     if bytes_eq word (codes "true") then Some levels.On
     else (if bytes_eq word (codes "false") then Some levels.Off else None)
 
+-- the case that a word puts first
 unfoldable pub case_first_named : List ℕ → Option CollationCaseFirst
 case_first_named word =
     if bytes_eq word (codes "upper") then Some cases.Upper
     else (if bytes_eq word (codes "lower") then Some cases.Lower
     else (if bytes_eq word (codes "false") then Some cases.False else None))
 
+-- whether a word asks for digits as numbers
 unfoldable pub numeric_named : List ℕ → Option CollationNumericOrdering
 numeric_named word =
     if bytes_eq word (codes "true") then Some numeric.True
     else (if bytes_eq word (codes "false") then Some numeric.False else None)
 
+-- whether a word asks for a backward secondary level
 unfoldable pub backward_named : List ℕ → Option Bool
 backward_named word =
     if bytes_eq word (codes "true") then Some true
@@ -115,7 +124,7 @@ IsUnknown subtags unknown.CaseFirst = setting_of case_first_named (word_behind (
 IsUnknown subtags unknown.Numeric = setting_of numeric_named (word_behind (codes "kn") subtags) ≡ None
 IsUnknown subtags unknown.Backward = setting_of backward_named (word_behind (codes "kb") subtags) ≡ None
 
--- the subtags before the first extension
+-- whether a subtag stands before the extensions
 abbrev pub is_of_locale : SubtagKind → Bool
 is_of_locale Language = true
 is_of_locale Script = true
@@ -123,6 +132,7 @@ is_of_locale Region = true
 is_of_locale Variant = true
 is_of_locale _ = false
 
+-- the subtags before the first extension
 abbrev pub locale_of : List Subtag → List Subtag
 locale_of subtags = before_first (λ s. not (is_of_locale s.kind)) subtags
 

@@ -16,6 +16,7 @@ pub record SubtagText : Type 0 where
 abbrev pub subtag_text_of : Subtag → SubtagText
 subtag_text_of s = record { kind = s.kind; text = string_bytes s.text }
 
+-- what each of several subtags is
 abbrev pub texts_of : List Subtag → List SubtagText
 texts_of subtags = map subtag_text_of subtags
 

@@ -6,10 +6,10 @@ ghost use Rattle.icu_locale.specs.LanguageTags.{subtag_behind, language_tag_of, 
 ghost use Rattle.icu_locale.specs.Keywords.{joined, locale_of, type_of, AreSettings, IsUnknown};
 ghost use Rattle.std.specs.Option.{option_copied};
 
-use crate::forms::{kind_behind, may_end_behind, stands_once};
 use crate::keywords::{joined, locale_of, type_of};
 use crate::letter_case::in_case_of;
 use crate::subtag::{Subtag, SubtagKind};
+use crate::subtag_forms::{kind_behind, may_end_behind, stands_once};
 use crate::tag_error::{TagError, TagErrorKind};
 use crate::tag_settings::{TagSettings, UnknownType, settings_of};
 use std::alloc::{AllocError, Global};
@@ -108,8 +108,10 @@ impl LanguageTag {
     ///
     /// An error has the place at which the subtag begins that may not stand there, and the reason.
     pub fn parse(alloc: Global, text: &str) -> Result<LanguageTag, TagError>
-        ensures tag { IfOk result (λ tag. language_tag_of text.now ≡ Some (texts_of tag.subtags.items)) }
-        ensures refused { IfErr result (λ e. e ≢ TagError.NoMemory → language_tag_of text.now ≡ None) }
+        ensures tag { IfOk result
+            (λ tag. language_tag_of text.now ≡ Some (texts_of tag.subtags.items)) }
+        ensures refused { IfErr result
+            (λ e. e ≢ TagError.NoMemory → language_tag_of text.now ≡ None) }
         ensures place { IfErr result (IsWithinTag (length text.now)) }
     {
         let mut subtags = Vec::new(alloc);

@@ -1,14 +1,14 @@
 //! Language tags of BCP 47, and the settings that their keywords name.
 //!
-//! A text such as `de-u-co-phonebk` is read into its subtags, each with its kind and in the case of its kind. What is no
-//! tag is refused, with its place and the reason.
+//! A text such as `de-u-co-phonebk` is read into its subtags, each with its kind and in the case of its kind. What is
+//! no tag is refused, with its place and the reason.
 #![tactic(auto)]
 
-mod forms;
 mod keywords;
 pub mod language_tag;
 mod letter_case;
 pub mod subtag;
+mod subtag_forms;
 pub mod tag_error;
 pub mod tag_settings;
 

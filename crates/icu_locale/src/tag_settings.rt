@@ -29,18 +29,25 @@ pub struct TagSettings {
 /// A keyword with a type that it doesn't have.
 #[derive(Debug, Clone, Copy, PartialEq, Eq, Error)]
 pub enum UnknownType {
+    /// Of the strength.
     #[error("expected `ks` with level1, level2, level3, level4 or identic")]
     Strength,
+    /// Of the handling of variable elements.
     #[error("expected `ka` with noignore or shifted")]
     AlternateHandling,
+    /// Of the last group of variable characters.
     #[error("expected `kv` with space, punct, symbol or currency")]
     MaxVariable,
+    /// Of the case level.
     #[error("expected `kc` with true or false")]
     CaseLevel,
+    /// Of the case that comes first.
     #[error("expected `kf` with upper, lower or false")]
     CaseFirst,
+    /// Of digits as numbers.
     #[error("expected `kn` with true or false")]
     Numeric,
+    /// Of a backward secondary level.
     #[error("expected `kb` with true or false")]
     Backward,
 }

@@ -84,7 +84,8 @@ fn add_led(
     added: Vec<PlacedStatement>,
     statements: &mut Vec<PlacedStatement>,
 ) -> Result<(), RulesError>
-    ensures { OnOk result (statements.new.items ≡ statements.old.items ++ map (led_by led) added.items) }
+    ensures { OnOk result (statements.new.items
+        ≡ statements.old.items ++ map (led_by led) added.items) }
 {
     for placed in added {
         statements.push(PlacedStatement {
@@ -123,7 +124,8 @@ fn add_stated<S: RuleSource>(
     allowed: &mut u32,
     statements: &mut Vec<PlacedStatement>,
 ) -> Result<(), RulesError>
-    ensures { OnOk result (AddsStated (S.has source.now) placed statements.old.items statements.new.items) }
+    ensures { OnOk result (AddsStated (S.has source.now) placed
+        statements.old.items statements.new.items) }
 {
     let PlacedStatement {
         place,

@@ -29,6 +29,7 @@ pub record HasMatchesOfPieces (s : Search) (front back : List ℕ) : Type 0 wher
   pub from_behind : (start stop : ℕ)
       → is_match s (front ++ back) (length front + start) (length front + stop) ≡ is_match (search_behind (length front) s) back start stop
 
+-- a text may be searched in pieces, cut before a character with which they may begin
 abbrev pub SearchIsLocal : Type 0
 SearchIsLocal =
     (s : Search) (c : ℕ) → BeginsPieces (reading_by s.collation) c → (front tail : List ℕ) → HasMatchesOfPieces s front (c ∷ tail)

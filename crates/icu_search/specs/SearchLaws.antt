@@ -44,6 +44,7 @@ pub record MatchesAreMet (s : Search) (text : List ℕ) : Type 0 where
   pub held : (m : Span) → IsMatch s text m → Any (HoldsSpan m) (least s text)
   pub others : (m : Span) → Contains (least s text) m → Contains (found s text) m ⊎ Any (λ f. ReachesInto f m) (found s text)
 
+-- so it is whatever is searched for, in any text
 abbrev pub EveryMatchIsMet : Type 0
 EveryMatchIsMet = (s : Search) (text : List ℕ) → MatchesAreMet s text
 

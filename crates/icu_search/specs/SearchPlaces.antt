@@ -13,12 +13,13 @@ use Rattle.icu_elements.specs.TextElements.{Reading, step, consumed, last_two}
 
 -- ---- characters that lead
 
--- it may compose with what stands before it (UAX #15, "Detecting Normalization Forms")
+-- it may compose with what stands before it (UAX #15, "Normalization Forms")
 abbrev pub may_compose : QuickCheck → Bool
 may_compose Maybe = true
 may_compose _ = false
 
--- A character that may stand behind the first one of a canonical decomposition. U+0FB5 and U+0FB7 do, and don't compose.
+-- A character that may stand behind the first one of a canonical decomposition. U+0FB5 and U+0FB7 do, and don't
+-- compose.
 abbrev pub is_follower : ℕ → Bool
 is_follower c = may_compose (quick_check Nfc c) || c == 0xFB5 || c == 0xFB7
 
@@ -33,8 +34,8 @@ first_leads (c ∷ cs) = leads c
 
 -- ---- what the reading comes to
 
--- What is left of a decomposed text, after a context, before its first step and after each step. The first list is one at
--- least as long as the text, to go by.
+-- What is left of a decomposed text, after a context, before its first step and after each step. The first list is one
+-- at least as long as the text, to go by.
 unfoldable pub rests_along : List ℕ → Reading → List ℕ → List ℕ → List (List ℕ)
 rests_along along reading before [] = [] ∷ []
 rests_along [] reading before (c ∷ text) = (c ∷ text) ∷ []

@@ -66,8 +66,8 @@ pub fn parts_are_read_as_in_the_whole()
     ensures lists { ListsBeginWithThoseOfParts }
 {}
 
-/// A text may be searched in pieces. It is cut before a character whose decomposition begins with a boundary that leads:
-/// up to there the matches of the whole are those of the first piece, from there on those of the second.
+/// A text may be searched in pieces. It is cut before a character whose decomposition begins with a boundary that
+/// leads: up to there the matches of the whole are those of the first piece, from there on those of the second.
 pub fn search_is_local()
     ensures { SearchIsLocal }
 {}

@@ -1,6 +1,6 @@
 use Rattle.std.proofs.Common.{◌≡◌, ◌∙◌, sym, subst, List, ℕ, None}
 use Rattle.icu_cldr.specs.inner.Surroundings.{PutsEntryBetween, entry_between}
-use Rattle.icu_cldr.proofs.EntryLemmas.{other_key, put_around}
+use Rattle.icu_cldr.proofs.SpeltEntryLemmas.{other_key, put_around}
 use Rattle.icu_cldr.proofs.character_entries.add_between.Goals as goal
 
 pub returns-in-None : goal.returns-in-None

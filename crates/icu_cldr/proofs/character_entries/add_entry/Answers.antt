@@ -1,6 +1,6 @@
 use Rattle.std.proofs.Common.{◌∙◌, reverse, sym}
 use Rattle.std.proofs.lemmas.Result.{on_ok_weaker}
-use Rattle.icu_cldr.proofs.EntryLemmas.{grow_around}
+use Rattle.icu_cldr.proofs.SpeltEntryLemmas.{grow_around}
 use Rattle.icu_cldr.proofs.TakenLemmas.{not_plain}
 use Rattle.icu_cldr.proofs.character_entries.add_entry.Goals as goal
 

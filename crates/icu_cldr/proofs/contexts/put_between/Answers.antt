@@ -4,7 +4,7 @@ use Rattle.std.specs.Cmp.Lexicographic.{slice_cmp}
 use Rattle.std.specs.Global.{Vec}
 use Rattle.std.specs.Map.{remove_entry}
 use Rattle.std.specs.Ordering.{is_eq, nat_cmp}
-use Rattle.icu_cldr.proofs.EntryLemmas.{before_put, put_between}
+use Rattle.icu_cldr.proofs.SpeltEntryLemmas.{before_put, put_between}
 use Rattle.icu_cldr.proofs.SurroundingLemmas.{found_among}
 use Rattle.icu_cldr.proofs.contexts.put_between.Goals as goal
 

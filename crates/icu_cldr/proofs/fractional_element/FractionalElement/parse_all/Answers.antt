@@ -1,5 +1,5 @@
 use Rattle.std.proofs.Common.{rules, ◌≡◌, [], ◌∷◌, sym, ◌∙◌}
-use Rattle.icu_cldr.proofs.ElementLemmas.{write_more, write_end, nothing_at}
+use Rattle.icu_cldr.proofs.SaidElementLemmas.{write_more, write_end, nothing_at}
 use Rattle.icu_cldr.proofs.fractional_element.FractionalElement.parse_all.Goals as goal
 
 pub loop-rest-init : goal.loop-rest-init
