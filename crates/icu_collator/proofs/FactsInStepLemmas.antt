@@ -10,7 +10,7 @@ use Rattle.icu_levels.proofs.Order.{same_front}
 use Rattle.icu_levels.proofs.Orderings.{then_equal}
 use Rattle.icu_elements.specs.TextElements.{elements_of, elements_after}
 use Rattle.icu_cursor.specs.declared.facts_cursor.FactsCursor.{FactsCursor}
-use Rattle.icu_cursor.specs.FactsCursors.{facts_give, GivesNext}
+use Rattle.icu_cursor.specs.FactsCursors.{facts_give, GivesNextOrEnds}
 use Rattle.icu_weighting.specs.Collations.{Collation}
 use Rattle.icu_weighting.specs.Forms.{form_by, last_variable_by}
 use Rattle.icu_weighting.specs.Handled.{HandledElement, stayed}
@@ -29,10 +29,10 @@ use Rattle.icu_collator.proofs.OrdersInTurn.{all_stay, order_in_two}
 -- ---- one element
 
 -- an element that comes next stays
-pub steps_on : {T : Type 0} (text : T → List ℕ) (old new : FactsCursor T) (e : Element) → GivesNext text old (Some e) new → StepsOn text old (Some (Stayed e)) new
+pub steps_on : {T : Type 0} (text : T → List ℕ) (old new : FactsCursor T) (e : Element) → GivesNextOrEnds text old (Some e) new → StepsOn text old (Some (Stayed e)) new
 steps_on text old new e h = λ before. let next = h before in (next.0, ap (map stayed) next.1)
 
-pub steps_end : {T : Type 0} (text : T → List ℕ) (old new : FactsCursor T) → GivesNext text old None new → StepsOn text old None new
+pub steps_end : {T : Type 0} (text : T → List ℕ) (old new : FactsCursor T) → GivesNextOrEnds text old None new → StepsOn text old None new
 steps_end text old new h = λ before. (before, ap (map stayed) (h before))
 
 -- the same element on both sides
