@@ -34,6 +34,9 @@ const FIRST: u32 = 0xE00;
 /// The character after the last of them.
 const LIMIT: u32 = 0xF00;
 
+/// Where so many pairs are kept, no further character is looked at: tables may give each character many.
+const MANY_PAIRS: usize = 4096;
+
 /// Two characters, with the elements that they give together wherever they stand.
 #[derive(Debug, Clone, Copy)]
 pub(crate) struct KeptPair {
@@ -177,7 +180,7 @@ fn push_pairs(
     Ok(())
 }
 
-/// Appends the pairs of the character with a code, where it begins contractions.
+/// Appends the pairs of the character with a code, where it begins contractions and there aren't many pairs yet.
 fn push_pairs_at(
     alloc: Global,
     places: &Boundaries<'_>,
@@ -187,6 +190,9 @@ fn push_pairs_at(
     ensures { OnOk result (ArePairs (boundary_reading places.now) pairs.old.items
         → ArePairs (boundary_reading places.now) pairs.new.items) }
 {
+    if pairs.len() >= MANY_PAIRS {
+        return Ok(());
+    }
     let Some(c) = char::from_u32(code) else {
         return Ok(());
     };
