@@ -7,7 +7,7 @@ use Rattle.std.proofs.lemmas.Bool.Decides.{nat_tests}
 use Rattle.std.proofs.lemmas.List.{get_or-set_same, get_or-set_other}
 use Rattle.std.proofs.lemmas.Nat.Bits.{bit_at_set_same, bit_at_set_other}
 use Rattle.icu_entries.specs.Entries.{has_bit}
-use Rattle.icu_cldr.specs.inner.Leads.{has_lead}
+use Rattle.icu_cldr.specs.inner.CompressedLeads.{has_lead}
 
 same_number : (m n : ℕ) → (m == n) ≡ true → m ≡ n
 same_number m n h = grind (arith, nat_tests)

@@ -2,7 +2,7 @@
 use Rattle.ucd_normal.specs.QuickCheck.{quick_check}
 use Rattle.icu_text_order.proofs.Computing.{icu_text_order}
 use Rattle.icu_search.specs.LeastMatches.{shortest_from, narrowed, least_from, apart_from}
-use Rattle.icu_search.specs.Places.{rests_along}
+use Rattle.icu_search.specs.SearchPlaces.{rests_along}
 
 -- `unfolding icu_search` lets `refl` compute what is found in short texts
 unfoldable pub icu_search : Unit {0}

@@ -9,7 +9,7 @@ use Rattle.icu_elements.proofs.StepLemmas.{Rests-step}
 use Rattle.icu_boundaries.specs.Cuts.{cut, IsBoundary}
 use Rattle.icu_boundaries.proofs.MatchCuts.{same_cut}
 use Rattle.icu_boundaries.proofs.StepCuts.{step-append, step-same, step-at, cut-last_two, cut_taken}
-use Rattle.icu_search.specs.Places.{rests_along}
+use Rattle.icu_search.specs.SearchPlaces.{rests_along}
 use Rattle.icu_search.proofs.RestLemmas.{comes_to, rests_along-enough}
 
 -- ---- what a boundary leaves to come

@@ -18,7 +18,7 @@ use Rattle.icu_weighting.specs.Handled.{stayed_elements}
 use Rattle.icu_provider.specs.CollatorTables.{reorder}
 use Rattle.icu_text_order.specs.TextOrder.{reading_by, handled_elements, lists_by}
 use Rattle.icu_text_order.proofs.AppendLemmas.{weights-append, cases_in-append, tertiaries_in-append, quaternaries-append, stayed_elements-append, ends_after, handled-append}
-use Rattle.icu_search.specs.Places.{first_leads, reaches, is_place_before}
+use Rattle.icu_search.specs.SearchPlaces.{first_leads, reaches, is_place_before}
 use Rattle.icu_search.proofs.RestLemmas.{comes_to, part_elements, part_places}
 
 -- ---- what a place says

@@ -11,7 +11,7 @@ use Rattle.unicode_normalization.specs.Forms.{nfd}
 use Rattle.icu_elements.specs.TextElements.{Reading}
 use Rattle.icu_boundaries.proofs.NfdLemmas.{rest_after, nfd-begins, nfd-parted}
 use Rattle.icu_text_order.specs.TextOrder.{reading_by, text_order}
-use Rattle.icu_search.specs.Places.{first_leads, reaches, is_place_before, is_place}
+use Rattle.icu_search.specs.SearchPlaces.{first_leads, reaches, is_place_before, is_place}
 use Rattle.icu_search.specs.Searches.{Search, is_match}
 use Rattle.icu_search.specs.PieceLaws.{BeginsPieces, search_behind, HasMatchesOfPieces}
 use Rattle.icu_search.proofs.RestLemmas.{comes_to-now}

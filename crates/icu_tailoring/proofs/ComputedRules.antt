@@ -1,8 +1,8 @@
 -- What short rules need unfolded so that `refl` computes what they say.
 use Rattle.unicode_normalization.proofs.Computing.{unicode_normalization}
 use Rattle.icu_tailoring.specs.WeightTrees.{with_rooted, with_behind, put_behind, before_from, with_weights}
-use Rattle.icu_tailoring.specs.Roots.{last_below, first_above, lesser_weight}
-use Rattle.icu_tailoring.specs.Mappings.{mappings_behind, longest_suffix, joined_marks, symbolic_along}
+use Rattle.icu_tailoring.specs.TailoredRoots.{last_below, first_above, lesser_weight}
+use Rattle.icu_tailoring.specs.TailoredMappings.{mappings_behind, longest_suffix, joined_marks, symbolic_along}
 use Rattle.icu_tailoring.specs.TailoredCases.{cases_for, with_cases}
 use Rattle.icu_tailoring.specs.Steps.{counting_at, before_step, reset_step, difference_step, relation_step, suppression_step}
 

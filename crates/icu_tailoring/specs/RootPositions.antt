@@ -5,7 +5,7 @@ use Rattle.icu_rules.specs.declared.statement.LogicalPosition.{LogicalPosition}
 use Rattle.icu_rules.specs.declared.statement.LogicalPosition.TheVariants as positions
 use Rattle.icu_tailoring.specs.SymbolicElements.{SymbolicWeight, rooted, SymbolicElement, has_tailored_weight, is_same_weight, common_below, to_all_levels, element_with, ignorable}
 use Rattle.icu_tailoring.specs.WeightTrees.{WeightTree, put_behind}
-use Rattle.icu_tailoring.specs.Roots.{Root, first_above}
+use Rattle.icu_tailoring.specs.TailoredRoots.{Root, first_above}
 
 -- the first of the weights, or 0
 abbrev pub first_number : List ℕ → ℕ

@@ -5,7 +5,7 @@ use Rattle.std.specs.List.{list_any, starts_with}
 use Rattle.ucd_normal.specs.CanonicalCombiningClass.{canonical_combining_class as class_of}
 use Rattle.unicode_normalization.specs.Order.{is_starter}
 use Rattle.icu_tailoring.specs.SymbolicElements.{SymbolicElement, of_root}
-use Rattle.icu_tailoring.specs.Roots.{RootMapping, Root}
+use Rattle.icu_tailoring.specs.TailoredRoots.{RootMapping, Root}
 
 -- the elements of a character behind a prefix, nearest character first, with the suffix after it
 pub record SymbolicMapping : Type 0 where
