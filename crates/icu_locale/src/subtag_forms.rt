@@ -69,7 +69,7 @@ fn is_the_letter(subtag: &[u8], letter: u8) -> bool
 }
 
 /// Whether a subtag has the form of a kind.
-#[tactic(auto, unfolding(crate::specs::Subtags::is_of))]
+#[tactic(auto, unfolding(crate::specs::Subtags::consists_of))]
 fn is_of(kind: SubtagKind, subtag: &[u8]) -> bool
     ensures { result ≡ consists_of kind subtag.now }
 {
