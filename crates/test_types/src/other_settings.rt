@@ -49,18 +49,24 @@ fn a_collator_is_made_of_checked_tables(rt: HostRuntime) {
     assert!(rt; made);
 }
 
+/// Whether a collator stands beside this one with other settings, and this one keeps its own.
+fn stands_beside(collator: &Collator) -> bool {
+    let own = collator.as_borrowed();
+    let preferences = CollatorPreferences::default();
+    let other = match own.with_options(preferences, strength(Strength::Primary)) {
+        Some(other) => orders(&other, Ordering::Equal),
+        None => false,
+    };
+    let numeric = own.with_options(numbers(), CollatorOptions::default());
+    other && orders(&own, Ordering::Less) && numeric.is_none()
+}
+
 #[test]
 fn other_settings_stand_beside(rt: HostRuntime) {
-    let both = small_collator(rt.alloc()).is_some_and(|c| {
-        let own = c.as_borrowed();
-        let none = CollatorPreferences::default();
-        let other = own.with_options(none, strength(Strength::Primary));
-        other.is_some_and(|other| orders(&other, Ordering::Equal))
-            && orders(&own, Ordering::Less)
-            && own
-                .with_options(numbers(), CollatorOptions::default())
-                .is_none()
-    });
+    let both = match small_collator(rt.alloc()) {
+        Some(collator) => stands_beside(&collator),
+        None => false,
+    };
     assert!(rt; both);
 }
 
