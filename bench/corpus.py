@@ -176,6 +176,8 @@ def name_rows(lists, group, name, limit, key_limit):
     yield from compare_rows(lists, group, name, limit)
     yield list_row(lists, group, "keys", name, key_limit)
     yield list_row(lists, group, "elements", name, 0.8)
+    if name in ("ASCII names", "composed names", "Cyrillic", "Han"):
+        yield list_row(lists, group, "elements of characters", name, 0.8)
 
 
 def long_rows(lists):

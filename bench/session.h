@@ -147,6 +147,7 @@ class Session {
                 sum += peer_.key(texts_.utf16(left)) + peer_.key(texts_.utf16(right));
                 break;
             case Operation::Elements:
+            case Operation::ElementsOfCharacters:
                 sum += peer_.elements(texts_.utf16(left)) + peer_.elements(texts_.utf16(right));
                 break;
             default:

@@ -20,9 +20,10 @@ enum class Operation : uint32_t {
     Index = 7,
     Make = 8,
     MakeFromAnother = 9,
-    Signs = 10,
-    SignsUtf16 = 11,
-    KeySigns = 12,
+    ElementsOfCharacters = 10,
+    Signs = 11,
+    SignsUtf16 = 12,
+    KeySigns = 13,
 };
 
 // A row of the plan, and the least time of a call so far, in nanoseconds, of the peer and of the library.
@@ -65,7 +66,7 @@ inline std::string contents(const std::string &file) {
 
 inline Operation operation_named(std::string_view name) {
     constexpr std::string_view names[] = {"compare", "compare UTF-16", "keys", "elements", "sort by comparisons", "sort by keys",
-                                          "index",   "make",           "make from another"};
+                                          "index",   "make",           "make from another", "elements of characters"};
     const auto found = std::find(std::begin(names), std::end(names), name);
     return static_cast<Operation>(1 + (found - std::begin(names)));
 }

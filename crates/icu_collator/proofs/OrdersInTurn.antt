@@ -1,5 +1,5 @@
 -- Orders one after another, as code tests them.
-use Rattle.std.proofs.Common.{arith, ◌≡◌, ℕ, Bool, true, false, not, ◌==◌, List, [], ◌∷◌, map, Result, Ok, Err, IfOk, refl, sym, subst, ◌∙◌, ap}
+use Rattle.std.proofs.Common.{arith, ◌≡◌, ℕ, Bool, true, false, not, ◌==◌, List, [], ◌∷◌, map, refl, sym, subst, ◌∙◌, ap}
 use Rattle.std.specs.Ordering.{ordering_then, ordering_index}
 use Rattle.std.proofs.lemmas.Bool.Decides.{nat_tests}
 use Rattle.unicode_normalization.specs.Forms.{nfd}
@@ -40,11 +40,6 @@ last : (o p q r : Ordering) → p ≡ ordering_then q r → ordering_then o p �
 last o p q r e = ap (ordering_then o) e ∙ then_assoc o q r
 
 -- an order that ties goes on with the rest, which may fail
-pub goes_on_ok : {E : Type 0} (p q rest : Ordering) (test : Bool) (r : Result Ordering E) → test ≡ not (ordering_index p == 1) → test ≡ false → p ≡ q
-    → IfOk r (λ o. o ≡ rest) → IfOk r (λ o. o ≡ ordering_then q rest)
-goes_on_ok p q rest test (Ok o) is unset e h = goes_on p q rest o test is unset e h
-goes_on_ok p q rest test (Err x) is unset e h = tt
-
 -- the last of six orders, after the other five
 pub sixth : (p s k t q i : Ordering)
     → ordering_then p (ordering_then s (ordering_then k (ordering_then t (ordering_then q (ordering_then i Equal)))))

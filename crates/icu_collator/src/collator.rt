@@ -391,9 +391,11 @@ impl<'a> CollatorBorrowed<'a> {
         )
     }
 
-    /// What texts are read by.
+    /// What texts are read by: an `ElementCursor` over these tables gives the collation elements of a text, one by one,
+    /// as the comparison reads them, by what is kept of each character (UTS #10, "Produce Collation Element Arrays").
+    /// Make them once for many texts.
     #[inline(always)]
-    pub(crate) fn cursor_tables(&self) -> CursorTables<'a>
+    pub fn cursor_tables(&self) -> CursorTables<'a>
         ensures { cursor_reading result ≡ reading_by (collation_borrowed self.now) }
     {
         CursorTables::new(

@@ -172,24 +172,21 @@ impl<'a> CollatorBorrowed<'a> {
         if order != Ordering::Equal {
             return Ok(order);
         }
-        self.compare_identical_level(left, right)
+        Ok(self.compare_identical_level(left, right))
     }
 
-    /// The order of two texts on the identical level, by their decomposed characters, where that counts.
+    /// The order of two texts on the identical level, by their decomposed characters, where that counts. Nothing is
+    /// allocated.
     #[tactic(auto, unfolding(icu_text_order::specs::TextOrder::lists_by))]
-    fn compare_identical_level<L: EncodedText, R: EncodedText>(
-        &self,
-        left: L,
-        right: R,
-    ) -> Result<Ordering, AllocError>
+    fn compare_identical_level<L: EncodedText, R: EncodedText>(&self, left: L, right: R) -> Ordering
         ensures { let collation = collation_borrowed self.now in
-            IfOk result (λ o. o ≡ characters_order (form_by collation).identical
-            (lists_by collation (nfd (L.text left))) (lists_by collation (nfd (R.text right)))) }
+            result ≡ characters_order (form_by collation).identical
+            (lists_by collation (nfd (L.text left))) (lists_by collation (nfd (R.text right))) }
     {
         if self.key_form().identical {
-            compare_characters(self.tables.allocator(), left, right)
+            compare_characters(left, right)
         } else {
-            Ok(Ordering::Equal)
+            Ordering::Equal
         }
     }
 }

@@ -32,7 +32,11 @@ pub use icu_options::CollatorPreferences;
 pub mod comparison {
     pub use crate::collator::{Collator, CollatorBorrowed};
     pub use crate::handled::HandledElements;
-    pub use icu_encodings::{Latin1Chars, Latin1Iter};
+    pub use crate::texts::str_text;
+    pub use icu_cursor::{CursorTables, ElementCursor};
+    pub use icu_encodings::{
+        EncodedText, Latin1Chars, Latin1Iter, Latin1Text, Utf8Text, Utf16Text,
+    };
     pub use icu_keys::accumulator::AnyQuaternaryAccumulator;
     pub use icu_keys::{CollationKeySink, SortKeyError, TooSmall};
     pub use icu_weighting::{Handled, HandledSource, key_form};

@@ -1,6 +1,6 @@
 //! The bytes of a difference at the identical level.
 
-ghost use Rattle.std.specs.Prelude.{◌≡◌, ◌≤◌, [], ◌∷◌, take};
+ghost use Rattle.std.specs.Prelude.{◌≡◌, ◌≤◌, [], ◌∷◌, take, IfSome};
 ghost use Rattle.icu_levels.specs.Identical.{last_tail, middle_tail, first_tail, difference_bytes};
 
 /// How many values a tail byte can have.
@@ -54,6 +54,19 @@ impl DifferenceBytes {
             bytes: [first, second, third, last],
             length: 4,
         }
+    }
+}
+
+/// The byte of a difference that one byte spells, which comes as d plus `SHIFT`: `None` where it takes more.
+#[inline(always)]
+pub(crate) fn single(difference: u32) -> Option<u8>
+    ensures { IfSome result (λ byte. difference_bytes difference ≡ byte ∷ []) }
+{
+    let e = difference;
+    if e >= SHIFT - 80 && e < SHIFT + 81 {
+        Some((129 + e - SHIFT) as u8)
+    } else {
+        None
     }
 }
 

@@ -1,10 +1,10 @@
 //! The identical level, written as it is fed.
 
 ghost use Rattle.std.specs.Prelude.{◌≡◌, ℕ, ◌<◌, List, ◌∷◌};
-ghost use Rattle.icu_levels.specs.Identical.{base_after, identical_level};
-ghost use Rattle.icu_keys.specs.Writes.{Feeds};
+ghost use Rattle.icu_levels.specs.Identical.{base_after, difference_bytes, identical_level};
+ghost use Rattle.icu_keys.specs.Writes.{Feeds, Writes};
 
-use crate::differences::{SHIFT, spelled};
+use crate::differences::{SHIFT, single, spelled};
 use crate::sink::CollationKeySink;
 
 /// The base of the first character, and of the one after U+FFFE.
@@ -23,6 +23,25 @@ fn next_base(character: u32) -> u32
     } else {
         character / 128 * 128 + 80
     }
+}
+
+/// Writes the bytes of a difference d, which comes as d plus `SHIFT`: mostly one. An error is the sink's own.
+#[inline(always)]
+fn write_difference<S: CollationKeySink>(
+    sink: &mut S,
+    state: &mut S::State,
+    difference: u32,
+) -> Result<(), S::Error>
+    requires { S.is_sound sink.old state.old }
+    ensures sound { S.is_sound sink.new state.new }
+    ensures bytes { Writes S.effects sink.old state.old (difference_bytes difference)
+        result sink.new state.new }
+{
+    if let Some(byte) = single(difference) {
+        return sink.write_byte(state, byte);
+    }
+    let spelled = spelled(difference);
+    sink.write(state, &spelled.bytes[..spelled.length])
 }
 
 /// Writes the identical level of a text: its decomposed characters, each by its difference from a base that the
@@ -64,9 +83,9 @@ impl IdenticalWriter {
             self.base = FIRST_BASE;
             sink.write_byte(state, 2)
         } else {
-            let difference = spelled(number + SHIFT - self.base);
+            let difference = number + SHIFT - self.base;
             self.base = next_base(number);
-            sink.write(state, &difference.bytes[..difference.length])
+            write_difference(sink, state, difference)
         }
     }
 }

@@ -7,7 +7,7 @@ use icu_keys::SortKeyError;
 use icu_weighting::{Handled, HandledSource};
 
 /// The next element, with the error of a key.
-#[inline]
+#[inline(always)]
 pub(crate) fn next_element<H: HandledSource, E>(
     elements: &mut H,
 ) -> Result<Option<Handled>, SortKeyError<E>>
@@ -15,8 +15,5 @@ pub(crate) fn next_element<H: HandledSource, E>(
         (λ next. GivesNext (H.handled_left elements.old) next (H.handled_left elements.new)) }
     ensures memory { IfErr result (λ error. error ≡ SortKeyError.NoMemory) }
 {
-    match elements.next_handled() {
-        Ok(next) => Ok(next),
-        Err(_) => Err(SortKeyError::NoMemory),
-    }
+    Ok(elements.next_handled()?)
 }

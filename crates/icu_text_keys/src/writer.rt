@@ -95,10 +95,8 @@ impl KeyWriter {
         if let Err(error) = push_primary(&mut self.primaries, sink, state, compression, element) {
             return Err(SortKeyError::Sink(error));
         }
-        match self.levels.push_stayed(form, element) {
-            Ok(()) => Ok(()),
-            Err(_) => Err(SortKeyError::NoMemory),
-        }
+        self.levels.push_stayed(form, element)?;
+        Ok(())
     }
 
     /// Holds the primary of the next element, which is shifted: it is variable. The sink takes nothing. After an error,
@@ -121,10 +119,8 @@ impl KeyWriter {
             (λ (hs : List HandledElement). key_rest c f self.old cs (shifted_primary primary ∷ hs))
             (key_rest c f self.new cs) result sink.new state.new }
     {
-        match self.levels.push_shifted(form, compression, primary) {
-            Ok(()) => Ok(()),
-            Err(_) => Err(SortKeyError::NoMemory),
-        }
+        self.levels.push_shifted(form, compression, primary)?;
+        Ok(())
     }
 
     /// Writes what the next element gives. After an error, discard the writer.

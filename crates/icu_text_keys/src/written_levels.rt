@@ -32,12 +32,10 @@ fn write_segments<S: CollationKeySink>(
     ensures bytes { KeyWrites S.effects sink.old state.old
         (part_bytes (closed (held_segments level ([], [])))) result sink.new state.new }
 {
-    match level.finish() {
-        Ok(bytes) => match write_closed(sink, state, bytes.as_slice()) {
-            Ok(()) => Ok(()),
-            Err(error) => Err(SortKeyError::Sink(error)),
-        },
-        Err(_) => Err(SortKeyError::NoMemory),
+    let bytes = level.finish()?;
+    match write_closed(sink, state, bytes.as_slice()) {
+        Ok(()) => Ok(()),
+        Err(error) => Err(SortKeyError::Sink(error)),
     }
 }
 
@@ -82,12 +80,10 @@ fn write_held_cases<S: CollationKeySink>(
     ensures bytes { KeyWrites S.effects sink.old state.old
         (part_bytes (opened (held_cases level.old []))) result sink.new state.new }
 {
-    match level.finish() {
-        Ok(()) => match write_opened(sink, state, level.bytes()) {
-            Ok(()) => Ok(()),
-            Err(error) => Err(SortKeyError::Sink(error)),
-        },
-        Err(_) => Err(SortKeyError::NoMemory),
+    level.finish()?;
+    match write_opened(sink, state, level.bytes()) {
+        Ok(()) => Ok(()),
+        Err(error) => Err(SortKeyError::Sink(error)),
     }
 }
 
@@ -150,12 +146,10 @@ fn write_held_quaternaries<S: CollationKeySink>(
     ensures bytes { KeyWrites S.effects sink.old state.old
         (part_bytes (closed (held_quaternaries level.old []))) result sink.new state.new }
 {
-    match level.finish() {
-        Ok(()) => match write_closed(sink, state, level.bytes()) {
-            Ok(()) => Ok(()),
-            Err(error) => Err(SortKeyError::Sink(error)),
-        },
-        Err(_) => Err(SortKeyError::NoMemory),
+    level.finish()?;
+    match write_closed(sink, state, level.bytes()) {
+        Ok(()) => Ok(()),
+        Err(error) => Err(SortKeyError::Sink(error)),
     }
 }
 

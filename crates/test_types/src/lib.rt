@@ -13,6 +13,8 @@ mod names;
 #[cfg(test)]
 mod other_settings;
 #[cfg(test)]
+mod read_elements;
+#[cfg(test)]
 mod settings;
 #[cfg(test)]
 mod sinks;

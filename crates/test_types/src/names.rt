@@ -42,8 +42,9 @@ mod element_names {
 
 mod comparison_names {
     use icu_collator::comparison::{
-        AnyQuaternaryAccumulator, CollationKeySink, Collator, CollatorBorrowed, Latin1Chars,
-        Latin1Iter, SortKeyError, TooSmall,
+        AnyQuaternaryAccumulator, CollationKeySink, Collator, CollatorBorrowed, CursorTables,
+        ElementCursor, EncodedText, Latin1Chars, Latin1Iter, Latin1Text, SortKeyError, TooSmall,
+        Utf8Text, Utf16Text, str_text,
     };
     use icu_collator::laws::{
         common_beginnings_do_not_count, keys_keep_text_order, levels_keep_text_order,

@@ -8,7 +8,7 @@ use std::cmp::Ordering;
 use std::process::Abort;
 
 /// A collator by the small tables, with the settings that are given where there are none.
-fn small_collator(alloc: Global) -> Option<Collator> {
+pub(crate) fn small_collator(alloc: Global) -> Option<Collator> {
     let tables = checked_small_tables(alloc).ok()?;
     Collator::from_checked_tables(
         alloc,

@@ -27,5 +27,5 @@ returns-in-None-None g c =
 pub returns-in-None : goal.returns-in-None
 returns-in-None g c =
     out_of_step g.L.EncodedText.text g.R.EncodedText.text (three_levels c.args.first c.args.form) c.args.left.now c.pairs.left c.next_stayed.new.text
-    c.args.right.now c.pairs.right c.next_stayed-in-pairs.new.text c.pairs.third c.in_ok-one.one c.in_ok-other.other c.order_out_of_step.result
-    c.pairs.invariant c.in_ok-one.ensures c.in_ok-other.ensures c.order_out_of_step.ensures
+    c.args.right.now c.pairs.right c.next_stayed-in-pairs.new.text c.pairs.third c.in_ok-one.one c.in_ok-other.other c.order_from_pair.result
+    c.pairs.invariant c.in_ok-one.ensures c.in_ok-other.ensures c.order_from_pair.ensures

@@ -1,8 +1,7 @@
 -- The order of the elements decides, or the characters do.
-use Rattle.std.proofs.Common.{◌≡◌, ◌∙◌, sym, subst, IfOk}
-use Rattle.std.specs.declared.cmp.Ordering.{Ordering}
+use Rattle.std.proofs.Common.{◌∙◌, sym}
 use Rattle.icu_collator.specs.Collators.{collation_borrowed}
-use Rattle.icu_collator.proofs.OrdersInTurn.{ends, goes_on_ok, order_in_two}
+use Rattle.icu_collator.proofs.OrdersInTurn.{ends, goes_on, order_in_two}
 use Rattle.icu_collator.proofs.collator.CollatorBorrowed.compare_all_levels.Goals as goal
 
 pub returns-then-ne : goal.returns-then-ne
@@ -12,6 +11,5 @@ returns-then-ne g c =
 
 pub returns : goal.returns
 returns g c =
-    let parts = order_in_two (collation_borrowed c.args.self.now) (g.L.EncodedText.text c.args.left) (g.R.EncodedText.text c.args.right) in
-    subst (λ (w : Ordering). IfOk c.compare_identical_level.result (λ o. o ≡ w)) (sym parts)
-    (goes_on_ok _ _ _ _ c.compare_identical_level.result c.ne.ensures c.if-ne.false c.in_ok-order.ensures c.compare_identical_level.ensures)
+    goes_on _ _ _ _ _ c.ne.ensures c.if-ne.false c.in_ok-order.ensures c.compare_identical_level.ensures
+    ∙ sym (order_in_two (collation_borrowed c.args.self.now) (g.L.EncodedText.text c.args.left) (g.R.EncodedText.text c.args.right))

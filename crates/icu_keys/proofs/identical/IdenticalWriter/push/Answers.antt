@@ -1,4 +1,4 @@
-use Rattle.std.proofs.Common.{ℕ, ◌+◌, ◌-◌, ◌^◌, [], ◌∷◌, ◌∙◌, ap, sym, take}
+use Rattle.std.proofs.Common.{ℕ, ◌+◌, ◌-◌, ◌^◌, [], ◌∷◌, ◌∙◌, ap, sym}
 use Rattle.icu_levels.specs.Identical.{difference_bytes, base_after}
 use Rattle.icu_keys.proofs.IdenticalSteps.{merge_step, other_step}
 use Rattle.icu_keys.proofs.Writing.{writes_one, feeds_writes}
@@ -14,10 +14,10 @@ pub returns-else-number-eq65534-clause-bytes : goal.returns-else-number-eq65534-
 returns-else-number-eq65534-clause-bytes g c =
     let e = c.from-number.ensures in
     let n : ℕ = c.args.self.now.base in
-    let bytes = take c.spelled-difference.result.length c.spelled-difference.result.bytes in
+    let bytes = difference_bytes (c.from-number.result + 253 ^ 3 - n) in
     feeds_writes g.S.CollationKeySink.effects _ _ _ _ bytes _ _ _
     (λ cs. other_step n c.args.character c.next_base-self.result cs bytes
     (λ same. c.if-number-eq65534.false (e ∙ same))
-    (c.spelled-difference.ensures ∙ ap (λ k. difference_bytes (k + 253 ^ 3 - n)) e)
+    (ap (λ k. difference_bytes (k + 253 ^ 3 - n)) e)
     (c.next_base-self.ensures ∙ ap base_after e))
-    (writes_one g.S.CollationKeySink.effects _ _ _ _ _ _ (g.met.S.CollationKeySink.took_nothing _ _ c.requires) c.write.ensures.outcome)
+    c.write_difference.ensures.bytes
