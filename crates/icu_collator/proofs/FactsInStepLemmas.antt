@@ -1,13 +1,12 @@
 -- Two texts of which characters are read, gone through in step, where no element is variable.
-use Rattle.std.proofs.Common.{◌≡◌, ◌≢◌, ℕ, false, List, [], ◌∷◌, ◌++◌, map, Option, Some, None, IfSome, Ordering, Less, Equal, Greater, refl, sym, ap, ap₂, subst, ◌∙◌}
-use Rattle.std.specs.Ordering.{nat_cmp, ordering_then}
+use Rattle.std.proofs.Common.{◌≡◌, ℕ, List, [], ◌∷◌, map, Option, Some, None, IfSome, Ordering, Less, Equal, Greater, refl, sym, ap, ap₂, subst, ◌∙◌}
+use Rattle.std.specs.Ordering.{ordering_then}
 use Rattle.unicode_normalization.specs.Forms.{nfd}
 use Rattle.icu_entries.specs.Elements.{Element}
 use Rattle.icu_levels.specs.ListOrder.{list_order}
 use Rattle.icu_levels.specs.Keys.{characters_order}
 use Rattle.icu_levels.specs.declared.forms.TertiaryForm.{TertiaryForm}
 use Rattle.icu_levels.proofs.Order.{same_front}
-use Rattle.icu_levels.proofs.Orderings.{then_equal}
 use Rattle.icu_elements.specs.TextElements.{elements_of, elements_after}
 use Rattle.icu_cursor.specs.declared.facts_cursor.FactsCursor.{FactsCursor}
 use Rattle.icu_cursor.specs.FactsCursors.{facts_give, GivesNextOrEnds}
@@ -21,9 +20,9 @@ use Rattle.icu_text_order.specs.TextOrder.{handled_by, lists_by, reading_by, tex
 use Rattle.icu_collator.specs.declared.forward_levels.Level.{Level}
 use Rattle.icu_collator.specs.inner.ElementOrders.{ReadsElementsAlone, elements_order, leading_order}
 use Rattle.icu_collator.specs.inner.FactsInStep.{StepsOn, WeighsOn, plain_left, weights_from}
-use Rattle.icu_collator.specs.inner.InStep.{from_first, order_on, order_from, three_order, three_levels, ThreeLevels, IsThreeLevel, StepsBy, StepBoth, DecidesOn}
+use Rattle.icu_collator.specs.inner.InStep.{from_first, order_on, three_order, three_levels, ThreeLevels, IsThreeLevel, StepsBy, StepBoth, DecidesOn}
 use Rattle.icu_collator.specs.inner.LevelWeights.{weight_in, level_weights}
-use Rattle.icu_collator.proofs.InStepLemmas.{tied_order, step_both, same_three, first_decides, second_decides, three_read, weights_of_first, no_weight_of_first}
+use Rattle.icu_collator.proofs.InStepLemmas.{tied_order, step_both, same_three, second_decides, three_read, weights_of_first, no_weight_of_first}
 use Rattle.icu_collator.proofs.OrdersInTurn.{all_stay, order_in_two}
 
 -- ---- one element

@@ -83,31 +83,10 @@ pub(crate) fn order_in_step<L: EncodedText, R: EncodedText>(
         }
         match order_of_step(first, form, &one, &other) {
             Some(order) => third = third.then(order),
-            None => return order_from_pair(first, form, (one, other), left, right),
+            None => return order_out_of_step(first, form, (one, other), left, right),
         }
     }
     None
-}
-
-/// The order from elements on that aren't in step: they decide on the first level, as letters mostly do, or what
-/// follows them has to be read.
-#[inline(always)]
-fn order_from_pair<L: EncodedText, R: EncodedText>(
-    first: Level<'_>,
-    form: TertiaryForm,
-    pair: Pair,
-    left: &mut FactsCursor<'_, '_, L>,
-    right: &mut FactsCursor<'_, '_, R>,
-) -> Option<Ordering>
-    ensures { (b d : List ℕ) (third : Ordering) → IfSome result (λ o.
-        o ≡ three_order (three_levels first.entry form) third
-        (from_first pair.0 (plain_left L.text left.old b))
-        (from_first pair.1 (plain_left R.text right.old d))) }
-{
-    match first.decide(&pair.0, &pair.1) {
-        Some(order) => Some(order),
-        None => order_out_of_step(first, form, pair, left, right),
-    }
 }
 
 /// The order from elements on that aren't in step: the rest of the first level decides, or, where it ties, these
@@ -134,8 +113,8 @@ fn order_out_of_step<L: EncodedText, R: EncodedText>(
     }
 }
 
-/// The next weight of a text on a level, or `Some(None)` after the last one. Not inlined: it is called at four places.
-#[inline(never)]
+/// The next weight of a text on a level, or `Some(None)` after the last one.
+#[inline(always)]
 fn next_weight<T: EncodedText>(
     level: Level<'_>,
     text: &mut FactsCursor<'_, '_, T>,

@@ -3,18 +3,26 @@
 ghost use Rattle.std.specs.Prelude.{◌≡◌, ◌≢◌, ◌≤◌, ℕ, IfSome};
 ghost use Rattle.icu_levels.specs.CommonBeginnings.{ReadsForward};
 ghost use Rattle.icu_text_order.specs.Forms.{form_by};
-ghost use Rattle.icu_text_order.specs.TextOrder.{text_order};
+ghost use Rattle.icu_text_order.specs.TextOrder.{reading_by, text_order};
+ghost use Rattle.icu_cursor.specs.Cursors.{cursor_reading};
+ghost use Rattle.icu_collator.specs.inner.ElementOrders.{ReadsElementsAlone};
+ghost use Rattle.icu_collator.specs.inner.InStep.{IsThreeLevel};
 
 use crate::collator::CollatorBorrowed;
 use crate::facts_in_step::order_in_step;
 use crate::first_facts::FirstFacts;
-use icu_cursor::FactsCursor;
+use icu_cursor::{CursorTables, FactsCursor};
 use icu_encodings::EncodedText;
+use icu_levels::forms::TertiaryForm;
 use icu_text_order::laws::common_beginnings_do_not_count;
 use std::cmp::Ordering;
 
 /// How many primary weights of two texts are compared by their characters, at most.
 const WEIGHTS_AHEAD: u32 = 6;
+
+/// How many are, before their elements are gone through in step: of texts that differ in letters, the first mostly
+/// decide.
+const WEIGHTS_BEFORE_STEPS: u32 = 2;
 
 /// How many elements are passed over to the next primary weight of a text, at most.
 const ELEMENTS_AHEAD: u32 = 3;
@@ -100,20 +108,44 @@ impl<'a> CollatorBorrowed<'a> {
         }
     }
 
-    /// The order of two texts by the characters that they begin with, as far as these may be read by themselves: on
-    /// three levels where these are all, and else by the primary weights, of which the first that differ decide.
+    /// The order of two texts by the characters that they begin with, as far as these may be read by themselves: by the
+    /// first primary weights that differ, or, where three levels are all and the first few tie, on these in step.
     #[inline(never)]
     fn order_by_facts<L: EncodedText, R: EncodedText>(&self, left: L, right: R) -> Option<Ordering>
         ensures { let collation = collation_borrowed self.now in
             IfSome result (λ o. o ≡ text_order collation (L.text left) (R.text right)) }
     {
         let tables = self.cursor_tables();
-        let mut one = FactsCursor::new(&tables, left);
-        let mut other = FactsCursor::new(&tables, right);
-        if let Some(form) = self.plain_form() {
-            return order_in_step(self.primary_level(), form, &mut one, &mut other);
+        let form = self.plain_form();
+        let ahead = if form.is_some() {
+            WEIGHTS_BEFORE_STEPS
+        } else {
+            WEIGHTS_AHEAD
+        };
+        let order = self.order_by_primaries(&tables, ahead, left, right);
+        if order.is_some() {
+            return order;
         }
-        'weights: for _ in 0..WEIGHTS_AHEAD {
+        self.order_on_levels(&tables, form?, left, right)
+    }
+
+    /// The order of two texts by the first primary weights that differ, among so many, of the characters that they
+    /// begin with.
+    #[inline(always)]
+    fn order_by_primaries<L: EncodedText, R: EncodedText>(
+        &self,
+        tables: &CursorTables<'a>,
+        ahead: u32,
+        left: L,
+        right: R,
+    ) -> Option<Ordering>
+        requires { cursor_reading tables.now ≡ reading_by (collation_borrowed self.now) }
+        ensures { let collation = collation_borrowed self.now in
+            IfSome result (λ o. o ≡ text_order collation (L.text left) (R.text right)) }
+    {
+        let mut one = FactsCursor::new(tables, left);
+        let mut other = FactsCursor::new(tables, right);
+        'weights: for _ in 0..ahead {
             let weight = self.next_primary(&mut one)?;
             let other_weight = self.next_primary(&mut other)?;
             if weight != other_weight {
@@ -121,6 +153,26 @@ impl<'a> CollatorBorrowed<'a> {
             }
         }
         None
+    }
+
+    /// The order of two texts on three levels, which are all, by the characters that they begin with.
+    #[inline(never)]
+    fn order_on_levels<L: EncodedText, R: EncodedText>(
+        &self,
+        tables: &CursorTables<'a>,
+        form: TertiaryForm,
+        left: L,
+        right: R,
+    ) -> Option<Ordering>
+        requires reading { cursor_reading tables.now ≡ reading_by (collation_borrowed self.now) }
+        requires form { IsThreeLevel (form_by (collation_borrowed self.now)) form }
+        requires plain { ReadsElementsAlone (collation_borrowed self.now) }
+        ensures { let collation = collation_borrowed self.now in
+            IfSome result (λ o. o ≡ text_order collation (L.text left) (R.text right)) }
+    {
+        let mut one = FactsCursor::new(tables, left);
+        let mut other = FactsCursor::new(tables, right);
+        order_in_step(self.primary_level(), form, &mut one, &mut other)
     }
 
     /// The next primary weight of the characters of a text, where elements that have it aren't variable.

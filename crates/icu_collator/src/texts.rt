@@ -4,9 +4,9 @@ ghost use Rattle.std.specs.Prelude.{◌≡◌, chars, IfOk};
 ghost use Rattle.icu_encodings.specs.DecodedTexts.{utf8_text};
 ghost use Rattle.unicode_normalization.specs.Forms.{nfd};
 
-use icu_decomposed_text::DecomposedText;
+use icu_elements::decomposed_text;
 use icu_encodings::laws::encoded_texts_are_read_back;
-use icu_encodings::{EncodedText, Utf8Text};
+use icu_encodings::{Characters, EncodedText, Utf8Text};
 use std::alloc::{AllocError, Global};
 
 /// A string, which is UTF-8 without damage.
@@ -22,10 +22,5 @@ pub fn str_text(text: &str) -> Utf8Text<'_>
 pub(crate) fn decomposed<T: EncodedText>(alloc: Global, text: T) -> Result<Vec<char>, AllocError>
     ensures { IfOk result (λ cs. cs.items ≡ nfd (T.text text)) }
 {
-    let mut characters = Vec::new(alloc);
-    let mut rest = DecomposedText::new(text);
-    'characters: while let Some(c) = rest.next() {
-        characters.push(c)?;
-    }
-    Ok(characters)
+    decomposed_text(alloc, Characters::new(text))
 }

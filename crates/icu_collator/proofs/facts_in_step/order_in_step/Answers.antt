@@ -1,5 +1,5 @@
 -- Both go on in step, or out of it.
-use Rattle.std.proofs.Common.{◌≡◌, Ordering, sym, subst}
+use Rattle.std.proofs.Common.{Ordering, sym, subst}
 use Rattle.icu_collator.specs.inner.InStep.{three_levels}
 use Rattle.icu_collator.proofs.FactsInStepLemmas.{LeavesOrder, nothing_compared, both_step, both_ended, out_of_step}
 use Rattle.icu_collator.proofs.facts_in_step.order_in_step.Goals as goal
@@ -27,5 +27,5 @@ returns-in-None-None g c =
 pub returns-in-None : goal.returns-in-None
 returns-in-None g c =
     out_of_step g.L.EncodedText.text g.R.EncodedText.text (three_levels c.args.first c.args.form) c.args.left.now c.pairs.left c.next_stayed.new.text
-    c.args.right.now c.pairs.right c.next_stayed-in-pairs.new.text c.pairs.third c.in_ok-one.one c.in_ok-other.other c.order_from_pair.result
-    c.pairs.invariant c.in_ok-one.ensures c.in_ok-other.ensures c.order_from_pair.ensures
+    c.args.right.now c.pairs.right c.next_stayed-in-pairs.new.text c.pairs.third c.in_ok-one.one c.in_ok-other.other c.order_out_of_step.result
+    c.pairs.invariant c.in_ok-one.ensures c.in_ok-other.ensures c.order_out_of_step.ensures

@@ -1,7 +1,7 @@
 use Rattle.std.proofs.Common.{ℕ, List}
 use Rattle.icu_collator.specs.Collators.{collation_borrowed}
 use Rattle.icu_collator.specs.inner.FirstPrimaries.{ReadsOn}
-use Rattle.icu_collator.proofs.collator.CollatorBorrowed.order_by_facts.Given as goal
+use Rattle.icu_collator.proofs.collator.CollatorBorrowed.order_by_primaries.Given as goal
 
 -- the primaries that were read are the same in both texts
 abbrev pub invariant-weights : goal.invariant-weights

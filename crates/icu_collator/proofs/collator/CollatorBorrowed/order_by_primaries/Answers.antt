@@ -4,9 +4,8 @@ use Rattle.unicode_normalization.specs.Forms.{nfd}
 use Rattle.icu_elements.specs.TextElements.{Reading, elements_after}
 use Rattle.icu_collator.specs.Collators.{collation_borrowed}
 use Rattle.icu_collator.specs.inner.FirstPrimaries.{ReadsOn}
-use Rattle.icu_collator.proofs.FactsInStepLemmas.{facts_order}
 use Rattle.icu_collator.proofs.FirstPrimaryLemmas.{reads_from_start, reads_on, facts_decide}
-use Rattle.icu_collator.proofs.collator.CollatorBorrowed.order_by_facts.Goals as goal
+use Rattle.icu_collator.proofs.collator.CollatorBorrowed.order_by_primaries.Goals as goal
 
 pub weights-init : goal.weights-init
 weights-init g c =
@@ -15,9 +14,9 @@ weights-init g c =
     let right = g.R.EncodedText.text in (
       [],
       reads_from_start collation left (left c.args.left) c.new-one.result
-          (λ before. c.new-one.ensures before ∙ ap (λ (r : Reading). elements_after r before (nfd (left c.args.left))) c.cursor_tables-tables.ensures),
+          (λ before. c.new-one.ensures before ∙ ap (λ (r : Reading). elements_after r before (nfd (left c.args.left))) c.requires),
       reads_from_start collation right (right c.args.right) c.new-other.result
-          (λ before. c.new-other.ensures before ∙ ap (λ (r : Reading). elements_after r before (nfd (right c.args.right))) c.cursor_tables-tables.ensures),
+          (λ before. c.new-other.ensures before ∙ ap (λ (r : Reading). elements_after r before (nfd (right c.args.right))) c.requires),
     )
 
 pub weights-preserved : goal.weights-preserved
@@ -47,15 +46,3 @@ returns-then-weight-other_weight g c =
     (reads_on collation left (left c.args.left) read p c.weights.one c.next_primary.new.characters c.weights.invariant.1 c.in_ok-weight.ensures.given)
     (reads_on collation right (right c.args.right) read q c.weights.other c.next_primary-in-weights.new.characters c.weights.invariant.2 c.in_ok-other_weight.ensures.given)
     c.in_ok-weight.ensures.some c.in_ok-other_weight.ensures.some c.order_of_primaries.ensures
-
-pub returns-in-Some : goal.returns-in-Some
-returns-in-Some g c =
-    let collation = collation_borrowed c.args.self.now in
-    let left = g.L.EncodedText.text in
-    let right = g.R.EncodedText.text in
-    let t = left c.args.left in
-    let u = right c.args.right in
-    facts_order collation c.in-Some.ensures.plain left right c.new-one.result c.new-other.result t u c.primary_level.result c.in-Some.form c.order_in_step.result
-    (c.new-one.ensures [] ∙ ap (λ (r : Reading). elements_after r [] (nfd t)) c.cursor_tables-tables.ensures)
-    (c.new-other.ensures [] ∙ ap (λ (r : Reading). elements_after r [] (nfd u)) c.cursor_tables-tables.ensures)
-    (c.primary_level.ensures (nfd t) (nfd u)) c.in-Some.ensures.form (c.order_in_step.ensures [] [])
