@@ -9,6 +9,7 @@ pub mod EnoughLemmas
 pub mod ReadsAheadLemmas
 pub mod AheadLemmas
 pub mod StreamLemmas
+pub mod StepReaderLemmas
 pub mod ReaderLemmas
 pub mod TakenDigitLemmas
 pub mod Computing

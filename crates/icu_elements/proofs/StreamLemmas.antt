@@ -33,7 +33,7 @@ fresh_by r reading left is ready before unread = ap (λ (t : TextReading). eleme
 -- ---- a step
 
 -- what was read ahead is enough, or nothing more comes
-enough_or_ended : (reading : Reading) (before : List ℕ) (c : ℕ) (text left : List ℕ) → HasWholeStep reading before c text ⊎ (left ≡ []) → IsEnough reading before c text left
+pub enough_or_ended : (reading : Reading) (before : List ℕ) (c : ℕ) (text left : List ℕ) → HasWholeStep reading before c text ⊎ (left ≡ []) → IsEnough reading before c text left
 enough_or_ended reading before c text left (inl whole) = whole left
 enough_or_ended reading before c text left (inr none) = subst (IsEnough reading before c text) (sym none) (IsEnough-ended reading before c text)
 

@@ -22,6 +22,7 @@ pub mod ReadAhead
 pub mod Reading
 pub mod ElementReaders
 pub mod CollationElements
+pub mod StepReaders
 pub mod TextParts
 pub mod TextElementLaws
 pub mod ReachableTexts

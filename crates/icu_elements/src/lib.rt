@@ -10,6 +10,7 @@ pub mod laws;
 pub mod look_up;
 pub mod read;
 mod reader;
+pub mod step_reader;
 pub mod text_reading;
 pub mod whole;
 
@@ -18,5 +19,6 @@ pub use element_reader::ElementReader;
 pub use element_tables::ElementTables;
 pub use icu_entries::{CollationElement, CollationElement32, NonPrimary, Tag};
 pub use read::decomposed_text;
+pub use step_reader::StepReader;
 pub use text_reading::TextReading;
 pub use whole::all_elements;

@@ -6,7 +6,7 @@ ghost use Rattle.std.specs.Prelude.{◌≡◌, IfOk};
 ghost use Rattle.icu_elements.specs.TextElements.{elements_of};
 ghost use Rattle.icu_elements.specs.Reading.{reading_of};
 
-mod ahead;
+pub(crate) mod ahead;
 mod entry_step;
 pub(crate) mod position;
 pub(crate) mod recent;
