@@ -228,9 +228,8 @@ impl<'d> CollationData<'d> {
         requires inside { IsTrue (is_inside (data_of self) entry) }
         ensures { result ≡ list_all is_self_contained (listed entry (data_of self.entry).entries) }
     {
-        self.get_ce32s(entry.index(), entry.len()).iter().all(
-            |member| CollationElement32::new(*member).is_self_contained(),
-        )
+        let members = self.get_ce32s(entry.index(), entry.len());
+        members.iter().all(|member| CollationElement32::new(*member).is_self_contained())
     }
 
     /// The plain entry of a digit entry, or 0 where the list of entries is too short.
