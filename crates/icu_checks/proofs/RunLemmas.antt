@@ -1,16 +1,18 @@
 -- Characters in a row with one offset entry: where the first and the last of their weights fail no condition and share
 -- a lead byte, which reordering takes to one, none between them fails one.
-use Rattle.std.proofs.Common.{◌≡◌, ◌≢◌, ℕ, ◌*◌, ◌/◌, ◌%◌, ◌^◌, ◌≤◌, Bool, true, false, not, ◌==◌, ◌&&◌, ◌||◌, nat_eq, nat_le, nat_lt, List, [], ◌∷◌, map, take, drop, Some, None, IsTrue, refl, sym, ap, ◌∙◌, subst, arith}
-use Rattle.std.specs.Prelude.{slice_index}
+use Rattle.std.proofs.Common.{◌≡◌, ◌≢◌, ℕ, ◌*◌, ◌/◌, ◌%◌, ◌^◌, ◌≤◌, Bool, true, false, not, ◌==◌, ◌&&◌, ◌||◌, nat_eq, nat_le, nat_lt, List, [], ◌∷◌, map, Some, None, IsTrue, refl, sym, ap, ◌∙◌, subst, arith}
+use Rattle.std.specs.Prelude.{slice_index, filter}
+use Rattle.std.specs.List.{list_all}
 use Rattle.std.proofs.lemmas.Bool.{and_parts}
 use Rattle.std.proofs.lemmas.Bool.Decides.{nat_tests}
 use Rattle.icu_entries.specs.declared.error.DataTable.{DataTable}
 use Rattle.icu_entries.specs.Elements.{Element, of_primary}
 use Rattle.icu_entries.specs.declared.entry.EntryKind.TheVariants.{Offset}
-use Rattle.icu_entries.specs.Entries.{kind_of, entry_index}
+use Rattle.icu_entries.specs.Entries.{kind_of}
+use Rattle.icu_entries.specs.EntryConditions.{has_offset_weight}
 use Rattle.icu_entries.specs.Weights.{weight_at, offset_compressible, offset_ordinal, offset_weight, offset_element}
-use Rattle.icu_collation_data.specs.Data.{Data, homed}
-use Rattle.icu_collation_data.specs.DataConditions.{avoids_diacritics}
+use Rattle.icu_collation_data.specs.Data.{Data, homed, found_data}
+use Rattle.icu_collation_data.specs.DataConditions.{avoids_diacritics, fits_offset}
 use Rattle.icu_collation_data.specs.Final.{final_elements}
 use Rattle.icu_collation_data.specs.ReachableConditions.{first_failing}
 use Rattle.icu_collation_data.specs.Violations.{earlier}
@@ -175,9 +177,17 @@ pub record GivesBetween (home : Data) (e c least greatest : ℕ) : Type 0 where
   pub low : least ≤ weight
   pub high : weight ≤ greatest
 
-elements_at : (home : Data) (e c : ℕ) → kind_of e ≡ Offset → final_elements (homed home e) c ≡ map (λ d. offset_element d c) (take 1 (drop (entry_index e) home.elements))
-unfolding final_elements
-elements_at home e c is = rw (is, final_elements) refl
+-- a test that each member passes keeps the list
+all_kept : (p : Element → Bool) (xs : List Element) → IsTrue (list_all p xs) → filter p xs ≡ xs
+all_kept p [] h = refl
+all_kept p (x ∷ xs) h =
+    let both = and_parts (p x) (list_all p xs) h in rw both.0 (ap (λ ys. x ∷ ys) (all_kept p xs both.1))
+
+elements_at : (home : Data) (e c : ℕ) → kind_of e ≡ Offset → IsTrue (fits_offset home c e) → final_elements (homed home e) c ≡ map (λ d. offset_element d c) (found_data home e)
+unfolding final_elements fits_offset
+elements_at home e c is fits =
+    let each : IsTrue (list_all (λ d. has_offset_weight d c) (found_data home e)) = rw is at fits in
+    rw (is, final_elements, all_kept (λ d. has_offset_weight d c) (found_data home e) each) refl
 
 of_data : (ds : List Element) (a z c : ℕ) (x y : Element) → map (λ d. offset_element d a) ds ≡ x ∷ [] → map (λ d. offset_element d z) ds ≡ y ∷ [] → a ≤ c → c ≤ z
     → (es : List Element) → es ≡ map (λ d. offset_element d c) ds → (home : Data) (e : ℕ) → final_elements (homed home e) c ≡ es → GivesBetween home e c x.primary y.primary
@@ -193,11 +203,13 @@ of_data (d ∷ []) a z c x y at_a at_z low high es is home e gives =
     }
 of_data (d ∷ f ∷ ds) a z c x y at_a at_z low high es is home e gives = cc
 
-pub gives_between : (home : Data) (e a z c : ℕ) (x y : Element) → kind_of e ≡ Offset → final_elements (homed home e) a ≡ x ∷ [] → final_elements (homed home e) z ≡ y ∷ [] → a ≤ c → c ≤ z
+pub gives_between : (home : Data) (e a z c : ℕ) (x y : Element) → kind_of e ≡ Offset → ((m : ℕ) → a ≤ m → m ≤ z → IsTrue (fits_offset home m e)) → final_elements (homed home e) a ≡ x ∷ [] → final_elements (homed home e) z ≡ y ∷ [] → a ≤ c → c ≤ z
     → GivesBetween home e c x.primary y.primary
-gives_between home e a z c x y is at_a at_z low high =
-    of_data (take 1 (drop (entry_index e) home.elements)) a z c x y (sym (elements_at home e a is) ∙ at_a) (sym (elements_at home e z is) ∙ at_z) low high
-    _ refl home e (elements_at home e c is)
+gives_between home e a z c x y is fits at_a at_z low high =
+    let first = elements_at home e a is (fits a (omega arith) (omega arith)) in
+    let last = elements_at home e z is (fits z (omega arith) (omega arith)) in
+    of_data (found_data home e) a z c x y (sym first ∙ at_a) (sym last ∙ at_z) low high
+    _ refl home e (elements_at home e c is (fits c low high))
 
 no_mappings : (home : Data) (n e : ℕ) → kind_of e ≡ Offset → avoids_diacritics n home e ≡ true
 unfolding avoids_diacritics

@@ -1,6 +1,6 @@
 -- What was taken in stays.
-use Rattle.std.proofs.Common.{◌≡◌, ℕ, ◌+◌, ◌-◌, ◌≤◌, Bool, true, false, List, [], ◌∷◌, ◌++◌, Option, Some, None, refl, sym, ap, ◌∙◌, inl, inr, length, length-append, map, take, drop, arith, option_map, suc}
-use Rattle.std.specs.Prelude.{IfSome, OnOk, Result, Ok, Err, ◌==◌, ◌&&◌, bytes_eq, reverse}
+use Rattle.std.proofs.Common.{◌≡◌, ℕ, ◌+◌, ◌-◌, ◌≤◌, Bool, true, false, List, [], ◌∷◌, ◌++◌, Option, Some, None, refl, sym, ap, ◌∙◌, inl, inr, length, length-append, map, take, drop, arith, option_map, zero, suc}
+use Rattle.std.specs.Prelude.{IfSome, OnOk, Result, Ok, Err, ◌==◌, ◌&&◌, nat_lt, nat_le, bytes_eq, reverse, if◌then◌else◌}
 use Rattle.std.proofs.lemmas.Bool.Decides.{nat_tests}
 use Rattle.icu_table_builder.specs.Building.{built_data}
 use Rattle.icu_cldr.specs.FileLines.{AreLines}
@@ -28,20 +28,33 @@ use Rattle.icu_cldr.proofs.AddedContextLemmas.{extends_further, extends_itself}
 
 -- ---- lists of a table that grows
 
+inside_further : {A : Type 0} (n : ℕ) (xs more ys : List A) → ys ≡ xs ++ more → n ≤ length xs → n ≤ length ys
+inside_further n xs more ys same inside =
+    let size : length ys ≡ length xs + length more = ap length same ∙ length-append xs more in
+    omega arith
+
+some_or_none : {A : Type 0} (i n : ℕ) (xs : List A) → i + n ≤ length xs → (if nat_lt 0 n && nat_le (i + n) (length xs) then take n (drop i xs) else []) ≡ take n (drop i xs)
+some_or_none i zero xs inside = refl
+some_or_none i (suc n) xs inside =
+    let some : nat_lt 0 (suc n) ≡ true = grind (arith, nat_tests) in
+    let fits : nat_le (i + suc n) (length xs) ≡ true = grind (arith, nat_tests) in
+    rw (some, fits) refl
+
+-- a list that lies inside is the part of the table's list
+pub listed_inside : {A : Type 0} (e : ℕ) (xs : List A) → entry_index e + list_length e ≤ length xs → listed e xs ≡ take (list_length e) (drop (entry_index e) xs)
+listed_inside e xs inside = some_or_none (entry_index e) (list_length e) xs inside
+
 listed_further : {A : Type 0} (e : ℕ) (xs more ys : List A) → ys ≡ xs ++ more → entry_index e + list_length e ≤ length xs → listed e ys ≡ listed e xs
 listed_further e xs more ys same inside =
     let i : ℕ = entry_index e in
     let n : ℕ = list_length e in
     let fits : i + n ≤ length xs = inside in
     let size : length (drop i xs) ≡ length xs - i = length-drop i xs in
-    ap (listed e) same
+    listed_inside e ys (inside_further (i + n) xs more ys same inside)
+    ∙ ap (λ zs. take n (drop i zs)) same
     ∙ ap (take n) (drop-append-le i xs more (omega arith))
     ∙ take-append-le n (drop i xs) more (omega arith)
-
-inside_further : {A : Type 0} (n : ℕ) (xs more ys : List A) → ys ≡ xs ++ more → n ≤ length xs → n ≤ length ys
-inside_further n xs more ys same inside =
-    let size : length ys ≡ length xs + length more = ap length same ∙ length-append xs more in
-    omega arith
+    ∙ sym (listed_inside e xs inside)
 
 -- an entry spells what it spelt
 pub spells_further : (d new : Data) (e : ℕ) (es : List Element) → Extends d new → Spells d e es → Spells new e es

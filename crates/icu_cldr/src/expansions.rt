@@ -52,6 +52,7 @@ pub(crate) fn add_elements(
 }
 
 /// The entry of a list of entries.
+#[tactic(auto, using(crate::proofs::TakenLemmas::listed_inside))]
 fn add_entry_list(
     builder: &mut DataBuilder,
     entries: &[CollationElement32],
@@ -69,6 +70,7 @@ fn add_entry_list(
 }
 
 /// The entry of a list of elements.
+#[tactic(auto, using(crate::proofs::TakenLemmas::listed_inside))]
 fn add_element_list(
     builder: &mut DataBuilder,
     elements: &[CollationElement],

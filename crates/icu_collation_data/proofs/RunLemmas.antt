@@ -100,9 +100,9 @@ module _ (home : Data) (d : Element) (e : ℕ) (is : kind_of e ≡ Offset) (insi
   offset_meets c fits high Digits = rw (is, has_digit) refl
   offset_meets c fits high Bytes = rw (is, has_known_byte, has_known_members) refl
   offset_meets c fits high Offsets = rw (is, fits_offset, taken) (and_true _ fits)
-  offset_meets c fits high Shapes = rw (is, final_elements, taken) (and_true _ (offset_shape d c fits high))
-  offset_meets c fits high Leads = rw (is, final_elements, taken) refl
-  offset_meets c fits high Primaries = rw (is, final_elements, taken) (and_true _ (offset_lead d c fits high))
+  offset_meets c fits high Shapes = rw (is, final_elements, taken, fits) (and_true _ (offset_shape d c fits high))
+  offset_meets c fits high Leads = rw (is, final_elements, taken, fits) refl
+  offset_meets c fits high Primaries = rw (is, final_elements, taken, fits) (and_true _ (offset_lead d c fits high))
 
 -- none of the characters by such data fails a condition, if the first one's weight isn't below 03
 pub run_passes : (home : Data) (first e : ℕ) (d : Element) → IsRunData home first e d → 0x03000000 ≤ offset_weight d first → (c : ℕ) → first ≤ c → c < first + 64 → first_failing home c e ≡ None
@@ -125,7 +125,7 @@ module _ (home : Data) (d : Element) (e : ℕ) (is : kind_of e ≡ Offset) (insi
 
   finals : final_elements (homed home e) c ≡ offset_element d c ∷ []
   unfolding final_elements
-  finals = rw (is, final_elements, taken) refl
+  finals = rw (is, final_elements, taken, fits) refl
 
   if_so : (b : Bool) (xs ys : List Element) → b ≡ true → xs ≡ ys → (if b then xs else []) ≡ ys
   if_so true xs ys h same = same

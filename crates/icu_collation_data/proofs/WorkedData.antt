@@ -5,7 +5,7 @@ use Rattle.icu_collation_data.specs.declared.reachable_condition.ReachableCondit
 use Rattle.icu_entries.specs.Elements.{element_of}
 use Rattle.icu_entries.specs.Entries.{kind_of, self_contained}
 use Rattle.icu_entries.specs.Weights.{ordinal_of, weight_at, offset_ordinal, offset_weight}
-use Rattle.icu_collation_data.specs.Data.{Data}
+use Rattle.icu_collation_data.specs.Data.{Data, homed}
 use Rattle.icu_collation_data.specs.Final.{final_elements}
 use Rattle.icu_collation_data.specs.Reachable.{reachable_digit, reachable_contraction, reachable_from, reachable_at}
 use Rattle.icu_entries.specs.ElementConditions.{ends_at_zero, has_shape, has_secondary_lead, has_tertiary_lead, has_primary_lead}
@@ -90,6 +90,19 @@ entries_past_the_end = refl
 elements_past_the_end : fails_with 0x02C6 (Some Indices)
 unfolding first_failing is_inside kind_of
 elements_past_the_end = refl
+
+-- such entries have no elements, though one of two elements is there
+nothing_before_the_base : final_elements (homed (with_entry 0xCE) 0xCE) 0x3B0 ≡ []
+unfolding final_elements has_offset_weight kind_of
+nothing_before_the_base = refl
+
+nothing_of_entries_past_the_end : final_elements (homed (with_entry 0x02C5) 0x02C5) 0x61 ≡ []
+unfolding final_elements kind_of
+nothing_of_entries_past_the_end = refl
+
+nothing_of_elements_past_the_end : final_elements (homed (with_entry 0x02C6) 0x02C6) 0x61 ≡ []
+unfolding final_elements kind_of
+nothing_of_elements_past_the_end = refl
 
 bad_secondary : fails_with 0x61103005 (Some Leads)
 unfolding first_failing is_inside has_short_mappings leads_on has_digit has_known_byte has_known_members fits_offset final_elements self_contained has_shape ends_at_zero has_secondary_lead kind_of

@@ -1,5 +1,5 @@
 -- What a root or a tailoring says, apart from how it is stored.
-use Rattle.std.specs.Prelude.{ℕ, Bool, true, ◌&&◌, nat_lt, nat_eq, List, [], ◌∷◌, Option, Some, None, if◌then◌else◌, slice_index, slice_index_or, bytes_eq, length}
+use Rattle.std.specs.Prelude.{ℕ, Bool, true, ◌&&◌, nat_lt, nat_eq, List, [], ◌∷◌, Option, Some, None, if◌then◌else◌, slice_index, slice_index_or, bytes_eq, length, take, drop}
 use Rattle.std.specs.List.{starts_with}
 use Rattle.icu_entries.specs.Elements.{Element, end_element}
 use Rattle.icu_entries.specs.Entries.{entry_index}
@@ -47,6 +47,10 @@ context_of h = context_in h.home.contexts (entry_index h.entry)
 -- the data that an offset entry refers to, or the end element where its home has none at that index
 abbrev pub data_element : Data → ℕ → Element
 data_element home e = slice_index_or home.elements (entry_index e) end_element
+
+-- the data that an offset entry refers to, if its home has them
+abbrev pub found_data : Data → ℕ → List Element
+found_data home e = take 1 (drop (entry_index e) home.elements)
 
 -- the plain entry that a digit entry refers to, or 0 where its home has none at that index
 abbrev pub plain_of : Data → ℕ → ℕ

@@ -1,10 +1,10 @@
 -- The conditions on one entry of a root or a tailoring, each in one word over the entry, its home and, where it counts,
 -- its character.
-use Rattle.std.specs.Prelude.{ℕ, ◌+◌, Bool, true, not, ◌&&◌, nat_le, nat_lt, List, length, take, drop}
+use Rattle.std.specs.Prelude.{ℕ, ◌+◌, Bool, true, not, ◌&&◌, nat_le, nat_lt, List, length}
 use Rattle.std.specs.List.{list_all}
 use Rattle.icu_entries.specs.declared.entry.EntryKind.TheVariants.{Expansion32, Expansion, Prefix, Contraction, Digit, Offset}
 use Rattle.icu_entries.specs.Entries.{kind_of, entry_index, is_self_contained}
-use Rattle.icu_collation_data.specs.Data.{Mapping, Data, homed, context_of, plain_of}
+use Rattle.icu_collation_data.specs.Data.{Mapping, Data, homed, context_of, found_data, plain_of}
 use Rattle.icu_collation_data.specs.Final.{listed}
 use Rattle.icu_entries.specs.Entries.{is_final}
 use Rattle.icu_collation_data.specs.Reachable.{named_entries}
@@ -76,10 +76,7 @@ has_known_members home e = elim (kind_of e) [ Expansion32 ↦ list_all is_self_c
 -- the character has a weight by the data that the entry refers to
 unfoldable pub fits_offset : Data → ℕ → ℕ → Bool
 fits_offset home c e =
-    elim (kind_of e) [
-      | Offset ↦ list_all (λ d. has_offset_weight d c) (take 1 (drop (entry_index e) home.elements))
-      | _ ↦ true
-    ]
+    elim (kind_of e) [ Offset ↦ list_all (λ d. has_offset_weight d c) (found_data home e) | _ ↦ true ]
 
 -- the elements of the entry with the character can be read, if it is final
 unfoldable pub is_readable : Data → ℕ → ℕ → Bool

@@ -221,15 +221,15 @@ impl<'d> CollationData<'d> {
         }
     }
 
-    /// Whether the members of the list that an entry refers to, as far as the table goes, have one element each.
-    #[tactic(auto, unfolding(crate::specs::StoredData::data_of))]
+    /// Whether the members of the list that an entry refers to have one element each.
+    #[tactic(auto, unfolding(crate::specs::DataConditions::is_inside))]
     pub(crate) fn members_are_self_contained(self, entry: CollationElement32) -> bool
-        requires { kind_of entry ≡ EntryKind.Expansion32 }
+        requires list { kind_of entry ≡ EntryKind.Expansion32 }
+        requires inside { IsTrue (is_inside (data_of self) entry) }
         ensures { result ≡ list_all is_self_contained (listed entry (data_of self.entry).entries) }
     {
-        self.ce32s.iter().skip(entry.index()).take(entry.len()).all(
-            |member| CollationElement32::new(*member).is_self_contained(),
-        )
+        let members = self.get_ce32s(entry.index(), entry.len());
+        members.iter().all(|member| CollationElement32::new(*member).is_self_contained())
     }
 
     /// The plain entry of a digit entry, or 0 where the list of entries is too short.

@@ -38,9 +38,10 @@ impl<'d> CollationData<'d> {
         }
     }
 
-    /// Whether the members of a list of entries, as far as the table goes, have one element each.
+    /// Whether the members of a list of entries have one element each.
     #[tactic(auto, unfolding(crate::specs::DataConditions::has_known_members))]
     pub(crate) fn has_known_members(self, entry: CollationElement32) -> bool
+        requires { IsTrue (is_inside (data_of self) entry) }
         ensures { result ≡ has_known_members (data_of self.entry) entry }
     {
         match entry.kind() {

@@ -43,7 +43,7 @@ returns-in-Offset-Some c passes char low below =
     let last : c.in-Offset-Some.last ≡ c.args.first + 63 = search rules in
     let own : first_failing home char c.args.entry ≡ None = c.passes_run.ensures ran char low below in
     let gives : GivesBetween home c.args.entry char c.ce_from_offset_ce32.result.primary c.ce_from_offset_ce32-in-Offset-Some.result.primary =
-    gives_between home c.args.entry c.args.first c.in-Offset-Some.last char _ _ is c.ce_from_offset_ce32.ensures.value c.ce_from_offset_ce32-in-Offset-Some.ensures.value low (omega arith) in
+    gives_between home c.args.entry c.args.first c.in-Offset-Some.last char _ _ is (λ other from to. passes_meets home other c.args.entry (c.passes_run.ensures ran other from (omega arith)) Offsets) c.ce_from_offset_ce32.ensures.value c.ce_from_offset_ce32-in-Offset-Some.ensures.value low (omega arith) in
     let above : c.primary-least.result ≤ gives.weight = subst (λ n. n ≤ gives.weight) (sym c.primary-least.ensures) gives.low in
     let under : gives.weight ≤ c.primary-greatest.result = subst (λ n. gives.weight ≤ n) (sym c.primary-greatest.ensures) gives.high in
     let none : first_failing_element all (of_primary gives.weight) ≡ None = c.passes_between.ensures passes gives.weight above under in
