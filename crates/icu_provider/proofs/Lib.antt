@@ -1,3 +1,4 @@
 pub mod SpecialLemmas
 mod WorkedTables
 pub mod MetadataLemmas
+pub mod ReachedRangeLemmas

@@ -14,3 +14,4 @@ pub mod CollatorTables
 pub mod LoadedTables
 pub mod TableSets
 pub mod OwnedTables
+pub mod inner

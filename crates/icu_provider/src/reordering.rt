@@ -1,6 +1,12 @@
 //! Reorderings of scripts.
-ghost use Rattle.std.specs.Prelude.{◌≡◌, ◌<◌, ◌%◌, ◌^◌, ◌↔◌, IsOk, IfOk, IfErr, length, find, All};
+ghost use Rattle.std.specs.Prelude.{◌≡◌, ◌<◌, ◌%◌, ◌^◌, ◌↔◌, ◌==◌, ◌&&◌, IsOk, IfOk, IfErr, length, find, All, nat_eq, slice_get};
+ghost use Rattle.std.specs.Option.{ForSome};
+ghost use Rattle.std.proofs.Common.{rules};
+ghost use Rattle.std.specs.Cmp.Lexicographic.{pointwise};
+ghost use Rattle.std.specs.Cmp.Rules.{comparing};
+ghost use Rattle.std.specs.List.Sorted.{IsNonDecreasing};
 ghost use Rattle.icu_provider.specs.Reorderings.{lead_byte, with_lead, lies_below, moved, reordered};
+ghost use Rattle.icu_provider.specs.inner.ReachedRanges.{reached_ranges};
 
 use icu_entries::DataErrorKind;
 use std::alloc::{AllocError, Global};
@@ -9,12 +15,30 @@ use std::alloc::{AllocError, Global};
 const LEAD_COUNT: usize = 256;
 
 /// A reordering of scripts: where the lead bytes of primary weights go (UTS #35 part 5, "Collation Reordering").
-#[derive(Debug, Clone, Copy, PartialEq)]
+#[derive(Debug, Clone, Copy)]
 pub struct CollationReordering<'d> {
     min_high_no_reorder: u32,
     reorder_table: &'d [u8],
     reorder_ranges: &'d [u32],
+    // those of the ranges that move some weight, where they were worked out
+    reached: Option<&'d [u32]>,
     ghost whole: { length reorder_table.now ≡ 256 },
+    ghost alike: { ForSome reached (λ some. some.now ≡ reached_ranges reorder_ranges.now) },
+}
+
+/// Two are equal that say the same, whether or not it was worked out for one of them which ranges move a weight.
+impl PartialEq for CollationReordering<'_> {
+    ghost eq = { λ a b. (a.min_high_no_reorder == b.min_high_no_reorder)
+        && pointwise nat_eq a.reorder_table.now b.reorder_table.now
+        && pointwise nat_eq a.reorder_ranges.now b.reorder_ranges.now };
+
+    ghost laws = { Prim.search (comparing, rules) };
+
+    fn eq(&self, other: &Self) -> bool {
+        self.min_high_no_reorder == other.min_high_no_reorder
+            && self.reorder_table == other.reorder_table
+            && self.reorder_ranges == other.reorder_ranges
+    }
 }
 
 /// The lead byte of a primary weight.
@@ -42,13 +66,58 @@ fn range_above(ranges: &[u32], primary: u32) -> Option<u32>
         .find(|range| primary | 0xFFFF < *range)
 }
 
+/// The range with an index, if there is one.
+fn range_at(ranges: &[u32], index: usize) -> Option<u32>
+    ensures { result ≡ slice_get ranges.now index }
+{
+    ranges.get(index).copied()
+}
+
+/// The first range that the weight lies below, of ranges in ascending order.
+fn ascending_range_above(ranges: &[u32], primary: u32) -> Option<u32>
+    requires { IsNonDecreasing ranges.now }
+    ensures { result ≡ find (lies_below primary) ranges.now }
+{
+    let end = primary | 0xFFFF;
+    let index = ranges.partition_point(|range| *range <= end);
+    range_at(ranges, index)
+}
+
+/// Those of the ranges that move some weight: each ends above all before it.
+fn reached_ranges(alloc: Global, ranges: &[u32]) -> Result<Vec<u32>, AllocError>
+    ensures { IfOk result (λ reached. reached.items ≡ reached_ranges ranges.now) }
+{
+    let mut reached = Vec::new(alloc);
+    let mut highest = 0u32;
+    for range in ranges {
+        if highest | 0xFFFF < *range {
+            reached.push(*range)?;
+            highest = *range;
+        }
+    }
+    Ok(reached)
+}
+
+/// The first range that the weight lies below, by halves among those that move some weight, where these are known.
+#[tactic(auto, using(crate::proofs::ReachedRangeLemmas::reached_ascend, crate::proofs::ReachedRangeLemmas::found_alike))]
+fn found_range(ranges: &[u32], reached: Option<&[u32]>, primary: u32) -> Option<u32>
+    requires { ForSome reached (λ some. some.now ≡ reached_ranges ranges.now) }
+    ensures { result ≡ find (lies_below primary) ranges.now }
+{
+    match reached {
+        Some(reached) => ascending_range_above(reached, primary),
+        None => range_above(ranges, primary),
+    }
+}
+
 /// The weight, moved by the first range that it lies below.
 #[tactic(auto, unfolding(crate::specs::Reorderings::moved))]
-fn moved(ranges: &[u32], primary: u32) -> u32
+fn moved(ranges: &[u32], reached: Option<&[u32]>, primary: u32) -> u32
+    requires { ForSome reached (λ some. some.now ≡ reached_ranges ranges.now) }
     ensures value { result ≡ moved ranges.now primary }
     ensures lead_alone { result % 2 ^ 24 ≡ primary % 2 ^ 24 }
 {
-    match range_above(ranges, primary) {
+    match found_range(ranges, reached, primary) {
         Some(range) => {
             let lead = lead_byte(primary);
             with_lead(lead.wrapping_add((range & 0xff) as u8), primary)
@@ -106,6 +175,7 @@ impl<'d> CollationReordering<'d> {
             min_high_no_reorder,
             reorder_table,
             reorder_ranges,
+            reached: None,
         }
     }
 
@@ -143,7 +213,7 @@ impl<'d> CollationReordering<'d> {
         } else if primary <= 1 || primary >= self.min_high_no_reorder {
             primary
         } else {
-            moved(self.reorder_ranges, primary)
+            moved(self.reorder_ranges, self.reached, primary)
         }
     }
 }
@@ -154,14 +224,17 @@ pub struct OwnedReordering {
     min_high_no_reorder: u32,
     reorder_table: Vec<u8>,
     reorder_ranges: Vec<u32>,
+    reached: Vec<u32>,
     ghost whole: { length reorder_table.items ≡ 256 },
+    ghost alike: { reached.items ≡ reached_ranges reorder_ranges.items },
 }
 
 impl OwnedReordering {
     ghost use Rattle.icu_provider.specs.StoredTables.{reordering_of};
     ghost use Rattle.icu_provider.specs.OwnedTables.{owned_reordering};
 
-    /// Copies the lead bytes and the ranges.
+    /// Copies the lead bytes and the ranges, and works out which of these move a weight, so that a reordering of many
+    /// ranges finds the one of a weight by halves.
     #[tactic(auto, unfolding(crate::specs::OwnedTables::owned_reordering))]
     pub fn copy(
         alloc: Global,
@@ -174,6 +247,7 @@ impl OwnedReordering {
             min_high_no_reorder,
             reorder_table: Vec::from_slice(alloc, reorder_table)?,
             reorder_ranges: Vec::from_slice(alloc, reorder_ranges)?,
+            reached: reached_ranges(alloc, reorder_ranges)?,
         })
     }
 
@@ -182,10 +256,11 @@ impl OwnedReordering {
     pub fn as_reordering(&self) -> CollationReordering<'_>
         ensures { reordering_of result ≡ owned_reordering self.now }
     {
-        CollationReordering::from_parts(
-            self.min_high_no_reorder,
-            self.reorder_table.as_slice(),
-            self.reorder_ranges.as_slice(),
-        )
+        CollationReordering {
+            min_high_no_reorder: self.min_high_no_reorder,
+            reorder_table: self.reorder_table.as_slice(),
+            reorder_ranges: self.reorder_ranges.as_slice(),
+            reached: Some(self.reached.as_slice()),
+        }
     }
 }

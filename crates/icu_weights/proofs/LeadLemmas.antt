@@ -2,17 +2,12 @@
 -- alike, but for the limit between them.
 use Rattle.std.proofs.Common.{◌≡◌, ℕ, ◌+◌, ◌*◌, ◌/◌, ◌%◌, ◌^◌, ◌<◌, ◌≤◌, true, false, List, Option, Some, None, refl, inl, inr, sym, ◌∙◌, ap, subst, arith, get_or}
 use Rattle.std.specs.Prelude.{◌==◌, ◌||◌, nat_le, nat_lt, All, find, bit_or, slice_index}
-use Rattle.std.specs.Int.Bits.{or_add_and}
-use Rattle.std.proofs.lemmas.Nat.{and_mask}
 use Rattle.std.proofs.lemmas.Bool.{cases_Bool}
 use Rattle.std.proofs.lemmas.Bool.Decides.{nat_tests}
 use Rattle.std.proofs.lemmas.Grind.{common_steps}
 use Rattle.icu_provider.specs.Reorderings.{Reordering, lead_byte, with_lead, lies_below, moved, reordered}
+use Rattle.icu_provider.proofs.ReachedRangeLemmas.{block_end}
 use Rattle.icu_weights.specs.Leads.{reordered_lead, TakesLead, TakesBlock}
-
--- the highest of the weights that share their two highest bytes
-pub block_end : (p : ℕ) → bit_or p 0xFFFF ≡ p / 65536 * 65536 + 65535
-block_end p = omega (arith, or_add_and p 0xFFFF, and_mask p 16)
 
 block_end-same : (p q : ℕ) → p / 65536 ≡ q / 65536 → bit_or p 0xFFFF ≡ bit_or q 0xFFFF
 block_end-same p q e = block_end p ∙ ap (λ h. h * 65536 + 65535) e ∙ sym (block_end q)
@@ -111,11 +106,11 @@ takes_lead-same r b p takes small e = reordered-same r p (takes p small e ∙ sy
 
 -- ---- leads as wholes
 
--- The weights of a block go where its first and its last go: under a byte of the table all do, and else those below the
--- limit move alike, and those from it on keep their lead.
-block_by_ends : (r : Reordering) (h d p : ℕ) → 256 ≤ h → p / 65536 ≡ h → reordered_lead r (h * 65536) ≡ d → reordered_lead r (h * 65536 + 65535) ≡ d
-    → reordered_lead r p ≡ d
-block_by_ends r h d p high at first last =
+-- The weights of a block go where its first or its last goes: under a byte of the table all go alike, and else those
+-- below the limit move alike, and those from it on keep their lead.
+pub block_where_ends : (P : ℕ → Type 0) (r : Reordering) (h p : ℕ) → 256 ≤ h → p / 65536 ≡ h → P (reordered_lead r (h * 65536)) → P (reordered_lead r (h * 65536 + 65535))
+    → P (reordered_lead r p)
+block_where_ends P r h p high at first last =
     let a : ℕ = h * 65536 in
     let z : ℕ = h * 65536 + 65535 in
     let lead_a : lead_byte a ≡ lead_byte p = omega arith in
@@ -124,21 +119,30 @@ block_by_ends r h d p high at first last =
     elim (cases_Bool (slice_index r.leads (lead_byte p) == 0)) [
       | inr given ↦
           let given_a : (slice_index r.leads (lead_byte a) == 0) ≡ false = ap (λ l. slice_index r.leads l == 0) lead_a ∙ given in
+          let with_first : reordered_lead r p ≡ reordered_lead r a =
           ap (λ w. lead_byte w) (replaced r p given) ∙ lead-with_lead (slice_index r.leads (lead_byte p)) p ∙ ap (λ l. slice_index r.leads l) (sym lead_a)
-          ∙ sym (lead-with_lead (slice_index r.leads (lead_byte a)) a) ∙ sym (ap (λ w. lead_byte w) (replaced r a given_a)) ∙ first
+          ∙ sym (lead-with_lead (slice_index r.leads (lead_byte a)) a) ∙ sym (ap (λ w. lead_byte w) (replaced r a given_a)) in
+          subst P (sym with_first) first
       | inl zero_byte ↦
           let zero_a : (slice_index r.leads (lead_byte a) == 0) ≡ true = ap (λ l. slice_index r.leads l == 0) lead_a ∙ zero_byte in
           let zero_z : (slice_index r.leads (lead_byte z) == 0) ≡ true = ap (λ l. slice_index r.leads l == 0) lead_z ∙ zero_byte in
           elim (cases_Bool (nat_le p 1 || nat_le r.limit p)) [
             | inl s ↦
                 let s_z : (nat_le z 1 || nat_le r.limit z) ≡ true = grind (arith, nat_tests) in
-                ap (λ w. lead_byte w) (stays r p zero_byte s) ∙ sym lead_z ∙ sym (ap (λ w. lead_byte w) (stays r z zero_z s_z)) ∙ last
+                let with_last : reordered_lead r p ≡ reordered_lead r z =
+                ap (λ w. lead_byte w) (stays r p zero_byte s) ∙ sym lead_z ∙ sym (ap (λ w. lead_byte w) (stays r z zero_z s_z)) in
+                subst P (sym with_last) last
             | inr s ↦
                 let s_a : (nat_le a 1 || nat_le r.limit a) ≡ false = grind (arith, nat_tests) in
-                ap (λ w. lead_byte w) (moves r p zero_byte s) ∙ moved-lead r.ranges p a (sym same_a)
-                ∙ sym (ap (λ w. lead_byte w) (moves r a zero_a s_a)) ∙ first
+                let with_first : reordered_lead r p ≡ reordered_lead r a =
+                ap (λ w. lead_byte w) (moves r p zero_byte s) ∙ moved-lead r.ranges p a (sym same_a) ∙ sym (ap (λ w. lead_byte w) (moves r a zero_a s_a)) in
+                subst P (sym with_first) first
           ]
     ]
+
+block_by_ends : (r : Reordering) (h d p : ℕ) → 256 ≤ h → p / 65536 ≡ h → reordered_lead r (h * 65536) ≡ d → reordered_lead r (h * 65536 + 65535) ≡ d
+    → reordered_lead r p ≡ d
+block_by_ends r h d p high at first last = block_where_ends (λ lead. lead ≡ d) r h p high at first last
 
 pub takes_block : (r : Reordering) (h d : ℕ) → 256 ≤ h → reordered_lead r (h * 65536) ≡ d → reordered_lead r (h * 65536 + 65535) ≡ d → TakesBlock r h d
 takes_block r h d high first last = λ p small at. block_by_ends r h d p high at first last
