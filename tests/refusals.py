@@ -12,7 +12,7 @@ from sweeps import TESTS, TOP, Refused, faults_of, is_beginning, run, sweep, tri
 PARTS = ["collators", "comparisons", "keys", "elements", "sinks", "names", "files"]
 NO_MEMORY = b"no memory\n"
 # The tables that a refused collator names as one allocation after another fails: tables are copied in the order in which they are
-# loaded, the check before that is named by the root, and so are the characters that rows name, which come last.
+# loaded, the check after that is named by the root, and so are the characters that rows name, which come last.
 OF_MINI = ["Root", "Jamo", "SpecialPrimaries", "Diacritics"]
 OF_SWAPPED_LEADS = ["Root", "Jamo", "SpecialPrimaries", "Tailoring", "Reordering", "Diacritics"]
 NAMED_TABLES = 2 * OF_MINI + 2 * OF_SWAPPED_LEADS + ["Root"]

@@ -1,6 +1,7 @@
--- Implicit weights: none of them is collected, and they meet every condition where reordering takes them to a lead byte
--- of their own.
-use Rattle.std.proofs.Common.{◌≡◌, ◌≢◌, ℕ, ◌+◌, ◌*◌, ◌/◌, ◌%◌, ◌^◌, ◌<◌, ◌≤◌, Bool, true, false, not, ◌==◌, ◌&&◌, ◌||◌, nat_eq, nat_le, nat_lt, Option, None, IsTrue, if◌then◌else◌, refl, sym, ap, ◌∙◌, subst, arith}
+-- Implicit weights: none of them is collected, and they meet every condition where reordering takes the first and the
+-- last weight for each second byte to lead bytes from 03 to FE that aren't that of numbers.
+use Rattle.std.proofs.Common.{◌≡◌, ◌≢◌, ℕ, ◌+◌, ◌*◌, ◌/◌, ◌%◌, ◌^◌, ◌<◌, ◌≤◌, Bool, true, false, not, ◌==◌, ◌&&◌, ◌||◌, nat_eq, nat_le, nat_lt, Option, Some, None, IsTrue, if◌then◌else◌, refl, sym, ap, subst, arith}
+use Rattle.std.proofs.lemmas.Bool.{and_parts}
 use Rattle.std.proofs.lemmas.Bool.Decides.{nat_tests}
 use Rattle.icu_entries.specs.declared.error.DataTable.{DataTable}
 use Rattle.icu_entries.specs.Elements.{of_primary}
@@ -9,7 +10,7 @@ use Rattle.icu_entries.specs.Entries.{kind_of}
 use Rattle.icu_collation_data.specs.DataConditions.{avoids_diacritics}
 use Rattle.icu_collation_data.specs.Violations.{earlier}
 use Rattle.icu_collation_data.specs.Final.{final_elements}
-use Rattle.icu_provider.specs.Reorderings.{lead_byte}
+use Rattle.icu_provider.specs.Reorderings.{Reordering, lead_byte}
 use Rattle.icu_collation_data.specs.Data.{Data}
 use Rattle.icu_entries.specs.Weights.{weight, implicit_weight}
 use Rattle.icu_collation_data.proofs.ViolationLemmas.{none_found, negated}
@@ -19,12 +20,11 @@ use Rattle.icu_checks.specs.declared.condition.ReachableElementCondition.TheVari
 use Rattle.icu_checks.specs.declared.violation.Violation.{Violation}
 use Rattle.icu_checks.specs.declared.check.weights.WeightList.{WeightList}
 use Rattle.icu_checks.specs.declared.check.weights.WeightList.TheVariants.{Primaries, Secondaries, Tertiaries, TertiaryElements, WithSecondary}
-use Rattle.icu_provider.specs.CollatorTables.{CollatorTables, is_forward, reorder, new_lead}
+use Rattle.icu_provider.specs.CollatorTables.{CollatorTables, is_forward, reorder, reorder_by, new_lead}
+use Rattle.icu_weights.proofs.LeadLemmas.{block_where_ends}
 use Rattle.icu_weights.specs.Leads.{is_middle}
 use Rattle.icu_checks.specs.ElementConditions.{implicit_lead, has_low_bytes, has_second_byte, is_apart, primary_meets, reachable_element_meets, element_conditions}
-use Rattle.icu_checks.specs.declared.condition.LeadCondition.TheVariants.{ImplicitLead, LeadsApart}
-use Rattle.icu_checks.specs.LeadConditions.{TakesTogether, LeadMeets}
-use Rattle.icu_checks.specs.inner.EntryViolations.{first_failing_element, elements_violation, entry_violation, ImplicitPasses}
+use Rattle.icu_checks.specs.inner.EntryViolations.{first_failing_element, elements_violation, entry_violation, is_taken_apart, HasEndsApart, ImplicitPasses}
 use Rattle.icu_checks.specs.inner.ComparedWeights.{compared_weight}
 
 -- ---- the bytes of an implicit weight
@@ -101,7 +101,20 @@ weighs_nothing WithSecondary p other = refl
 
 -- ---- they meet every condition
 
-module _ (all : CollatorTables) (together : TakesTogether all implicit_lead) (apart : new_lead all implicit_lead ≢ new_lead all all.special.numeric) (below : all.special.numeric ≤ 0xFD) where
+-- what holds of the lead bytes that the first and the last weight of a block go to holds of where each goes
+where_ends : (P : ℕ → Type 0) (r : Option Reordering) (h p : ℕ) → 256 ≤ h → p / 65536 ≡ h → P (lead_byte (reorder_by r (h * 65536))) → P (lead_byte (reorder_by r (h * 65536 + 65535)))
+    → P (lead_byte (reorder_by r p))
+where_ends P None h p high at first last = let same : lead_byte (h * 65536) ≡ lead_byte p = omega arith in subst P same first
+where_ends P (Some r) h p high at first last = block_where_ends P r h p high at first last
+
+taken_apart : (all : CollatorTables) → ((s : ℕ) → s < 256 → HasEndsApart all (0xFE00 + s)) → (p : ℕ) → lead_byte p ≡ 0xFE → IsTrue (is_taken_apart all p)
+taken_apart all ends p lead =
+    let s : ℕ = p / 65536 % 256 in
+    let at : p / 65536 ≡ 0xFE00 + s = omega (arith, lead) in
+    let of_block : HasEndsApart all (0xFE00 + s) = ends s (omega arith) in
+    where_ends (λ to. IsTrue (is_middle to && not (to == new_lead all all.special.numeric))) all.reordering (0xFE00 + s) p (omega arith) at of_block.0 of_block.1
+
+module _ (all : CollatorTables) (apart : (p : ℕ) → lead_byte p ≡ 0xFE → IsTrue (is_taken_apart all p)) (below : all.special.numeric ≤ 0xFD) where
   or_second : (a b : Bool) → IsTrue b → IsTrue (a || b)
   or_second true b h = refl
   or_second false b h = h
@@ -122,19 +135,19 @@ module _ (all : CollatorTables) (together : TakesTogether all implicit_lead) (ap
   same a b h = grind (arith, nat_tests)
 
   module _ (p : ℕ) (is : AreBytes p) where
-    taken : lead_byte (reorder all p) ≡ new_lead all implicit_lead
-    taken = together.together p is.fits is.lead
+    taken : IsTrue (is_middle (lead_byte (reorder all p))) × IsTrue (not (lead_byte (reorder all p) == new_lead all all.special.numeric))
+    taken = and_parts (is_middle (lead_byte (reorder all p))) _ (apart p is.lead)
 
     not_numeric : lead_byte p ≢ all.special.numeric
     not_numeric h = omega (arith, is.lead, h, below)
 
     primary : (condition : ReachableElementCondition) → IsTrue (primary_meets condition all p)
-    primary MiddleLead = or_second _ (is_middle (lead_byte (reorder all p))) (subst (λ b. IsTrue (is_middle b)) (sym taken) together.middle)
+    primary MiddleLead = or_second _ (is_middle (lead_byte (reorder all p))) taken.0
     primary ImplicitLength = or_second _ (has_low_bytes p) is.low
     primary NumericLead = differs (lead_byte p) all.special.numeric not_numeric
     primary SharedLead = and_both (is_apart all implicit_lead p) (is_apart all all.special.numeric p)
         (or_first _ _ (same (lead_byte p) implicit_lead is.lead))
-        (or_second _ _ (differs (lead_byte (reorder all p)) (new_lead all all.special.numeric) (λ h. apart (sym taken ∙ h))))
+        (or_second _ _ taken.1)
     primary SecondByte = or_second _ (has_second_byte p) is.second
     primary Width = refl
     primary BackwardLead = refl
@@ -170,6 +183,6 @@ unfolding entry_violation avoids_diacritics final_elements earlier
 implicit_no_violation all table home c e is none =
     rw (implicit_passes home c e is, is, avoids_diacritics) (read_or_not _ (elements_violation all table home c e) (rw (is, final_elements, none) refl))
 
--- both from the conditions on lead bytes
-pub implicit_pass : (all : CollatorTables) → LeadMeets ImplicitLead all → LeadMeets LeadsApart all → all.special.numeric ≤ 0xFD → ImplicitPasses all
-implicit_pass all together apart below = implicit_meets all together apart below
+-- both from the ends of each block
+pub implicit_pass : (all : CollatorTables) → ((s : ℕ) → s < 256 → HasEndsApart all (0xFE00 + s)) → all.special.numeric ≤ 0xFD → ImplicitPasses all
+implicit_pass all ends below = implicit_meets all (taken_apart all ends) below

@@ -41,7 +41,7 @@ fn check(alloc: Global, tables: TableSet<'_>) -> Result<(), DataError>
 impl CheckedTables {
     ghost use Rattle.icu_checks.specs.Checked.{checked_tables, tables_of};
 
-    /// Checks the tables of a collator together, and copies them. Allocates the copies and, while the check runs, the
+    /// Copies the tables of a collator, and checks them together. Allocates the copies and, while the check runs, the
     /// weights that are compared with one another.
     ///
     /// Where a condition fails, the error names its kind and a table that takes part in it: of several the first by
@@ -54,13 +54,8 @@ impl CheckedTables {
             → IsWellFormedTables (tables_in tables.entry) → ⊥) }
         ensures keeps { IfOk result (λ t. checked_tables t ≡ tables_in tables.entry) }
     {
-        match check(alloc, tables) {
-            Ok(()) => {
-                let tables = OwnedTables::copy(alloc, tables)?;
-                Ok(CheckedTables { alloc, tables })
-            }
-            Err(error) => Err(error),
-        }
+        // the copies are checked, since a copied reordering finds the range of a weight by halves
+        CheckedTables::from_owned(alloc, OwnedTables::copy(alloc, tables)?)
     }
 
     /// Checks the tables of a collator together, and keeps them: nothing is copied. Allocates, while the check runs,
@@ -81,7 +76,7 @@ impl CheckedTables {
         }
     }
 
-    /// Checks tables that are handed in one by one, and copies them, as `from_set` does. The tailoring and the
+    /// Copies tables that are handed in one by one, and checks them, as `from_set` does. The tailoring and the
     /// reordering are to be there exactly where the metadata names them.
     pub fn new(
         alloc: Global,

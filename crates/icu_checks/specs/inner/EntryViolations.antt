@@ -1,5 +1,5 @@
 -- The violations of entries and of elements, as a check names them.
-use Rattle.std.specs.Prelude.{ℕ, ◌+◌, not, find, fold, length, Option, Some, None, option_map, ◌≡◌, false, slice_index, if◌then◌else◌, IsTrue}
+use Rattle.std.specs.Prelude.{ℕ, ◌+◌, ◌*◌, Bool, ◌==◌, ◌&&◌, not, find, fold, length, Option, Some, None, option_map, ◌≡◌, false, slice_index, if◌then◌else◌, IsTrue}
 use Rattle.std.specs.List.{AllByRecursion}
 use Rattle.icu_entries.specs.declared.error.DataTable.{DataTable}
 use Rattle.icu_entries.specs.declared.error.DataTable.TheVariants as tables
@@ -18,7 +18,8 @@ use Rattle.icu_checks.specs.declared.condition.ReachableElementCondition.{Reacha
 use Rattle.icu_checks.specs.declared.violation.Violation.{Violation}
 use Rattle.icu_provider.specs.Reorderings.{Reordering, lead_byte}
 use Rattle.icu_provider.specs.Tables.{jamo_base}
-use Rattle.icu_provider.specs.CollatorTables.{CollatorTables, reorder_by}
+use Rattle.icu_provider.specs.CollatorTables.{CollatorTables, reorder_by, reorder, new_lead}
+use Rattle.icu_weights.specs.Leads.{is_middle}
 use Rattle.icu_checks.specs.ElementConditions.{reachable_element_meets, element_conditions}
 use Rattle.icu_checks.specs.WellFormedTables.{later, table_of_element, EachEntry, EachElement, EntryMeets, HasPlainMappings}
 use Rattle.icu_checks.specs.inner.Violations.{violation_rank}
@@ -30,6 +31,14 @@ of_element table condition = record { condition = conditions.Element condition; 
 -- the first condition that an element fails
 unfoldable pub first_failing_element : CollatorTables → Element → Option ReachableElementCondition
 first_failing_element all x = find (λ condition. not (reachable_element_meets condition all x)) element_conditions
+
+-- reordering takes a primary weight to a lead byte from 03 to FE, and not to that of numbers
+abbrev pub is_taken_apart : CollatorTables → ℕ → Bool
+is_taken_apart all p = is_middle (lead_byte (reorder all p)) && not (lead_byte (reorder all p) == new_lead all all.special.numeric)
+
+-- it takes the first and the last weight there whose two highest bytes are the number h
+abbrev pub HasEndsApart : CollatorTables → ℕ → Type 0
+HasEndsApart all h = IsTrue (is_taken_apart all (h * 0x10000)) × IsTrue (is_taken_apart all (h * 0x10000 + 0xFFFF))
 
 -- implicit weights fail none
 abbrev pub ImplicitPasses : CollatorTables → Type 0

@@ -8,10 +8,11 @@ ghost use Rattle.icu_collation_data.specs.ReachableConditions.{first_failing};
 ghost use Rattle.icu_collation_data.specs.StoredData.{data_of};
 ghost use Rattle.icu_provider.specs.CollatorTables.{CollatorTables};
 ghost use Rattle.icu_provider.specs.TableSets.{tables_in};
-ghost use Rattle.icu_checks.specs.inner.EntryViolations.{first_failing_element, element_violation, after_element, judged_element, elements_violation, mappings_violation, entry_violation, ImplicitPasses, KeepsLeadTogether};
+ghost use Rattle.icu_checks.specs.inner.EntryViolations.{first_failing_element, element_violation, after_element, judged_element, elements_violation, mappings_violation, entry_violation, is_taken_apart, HasEndsApart, ImplicitPasses, KeepsLeadTogether};
 
+use crate::check::element_conditions::IMPLICIT_LEAD;
 use crate::check::lead_conditions::numeric_lead;
-use crate::condition::{Condition, LeadCondition, ReachableElementCondition};
+use crate::condition::{Condition, ReachableElementCondition};
 use crate::violation::{Violation, later};
 use icu_collation_data::CollationData;
 use icu_collation_data::element_walk::{VisitElement, visit_elements};
@@ -20,6 +21,7 @@ use icu_collation_data::violation::{Judge, earlier};
 use icu_entries::{CollationElement, CollationElement32, DataTable, EntryKind};
 use icu_provider::TableSet;
 use icu_provider::reordering::lead_byte;
+use icu_weights::leads::is_middle;
 use std::convert::Infallible;
 
 /// The first condition that an element fails, in the order in which an error names them.
@@ -203,7 +205,7 @@ fn violation_beside(
 }
 
 /// What finds the violations of the entries that are reachable in a table, by all tables of a collator. Entries for
-/// implicit weights, a million of them, are passed over where reordering leaves these weights a lead byte of their own.
+/// implicit weights, a million of them, are passed over where reordering takes none of these to where it mustn't.
 #[derive(Drop)]
 pub(crate) struct TablesJudge<'d> {
     pub(crate) tables: TableSet<'d>,
@@ -212,14 +214,37 @@ pub(crate) struct TablesJudge<'d> {
     ghost passes: { implicit_passes ≡ true → ImplicitPasses (tables_in tables) },
 }
 
-/// Whether implicit weights meet every condition on elements: reordering takes them to one lead byte, and numbers to
-/// another.
+/// Whether reordering takes a primary weight to a lead byte from 03 to FE, and not to that of numbers.
+#[tactic(auto, unfolding(icu_provider::specs::TableSets::tables_in))]
+fn is_taken_apart(tables: TableSet<'_>, primary: u32) -> bool
+    ensures { result ≡ is_taken_apart (tables_in tables.entry) primary }
+{
+    let lead = lead_byte(tables.reorder(primary));
+    is_middle(lead) && lead != tables.new_lead(tables.special.numeric_primary())
+}
+
+/// Whether it takes the first and the last weight there that have these two highest bytes.
+fn has_ends_apart(tables: TableSet<'_>, high: u16) -> bool
+    ensures { result ≡ true → HasEndsApart (tables_in tables.entry) high }
+{
+    let first = u32::from(high) * 0x10000;
+    is_taken_apart(tables, first) && is_taken_apart(tables, first + 0xFFFF)
+}
+
+/// Whether implicit weights meet every condition on elements: reordering takes none of them out of 03 to FE, or to the
+/// lead byte of numbers. That is asked of the first and the last weight for each second byte alone, as weights between
+/// them go with one or the other.
 #[tactic(auto, using(crate::proofs::ImplicitLemmas::implicit_pass))]
 pub(crate) fn implicit_passes(tables: TableSet<'_>) -> bool
     ensures { result ≡ true → ImplicitPasses (tables_in tables.entry) }
 {
     numeric_lead(tables);
-    LeadCondition::ImplicitLead.holds(tables) && LeadCondition::LeadsApart.holds(tables)
+    for second in 0..256u16 {
+        if !has_ends_apart(tables, u16::from(IMPLICIT_LEAD) * 256 + second) {
+            return false;
+        }
+    }
+    true
 }
 
 impl<'d> Judge for TablesJudge<'d> {
