@@ -21,8 +21,8 @@ use std::cmp::Ordering;
 const WEIGHTS_AHEAD: u32 = 6;
 
 /// How many are, before their elements are gone through in step: of texts that differ in letters, the first mostly
-/// decide.
-const WEIGHTS_BEFORE_STEPS: u32 = 2;
+/// decide. A Hangul syllable has three.
+const WEIGHTS_BEFORE_STEPS: u32 = 3;
 
 /// How many elements are passed over to the next primary weight of a text, at most.
 const ELEMENTS_AHEAD: u32 = 3;
