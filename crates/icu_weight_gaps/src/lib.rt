@@ -1,0 +1,10 @@
+//! Weights for the gaps between those of the root: so many as a gap is asked for, in order, and prefix free.
+#![tactic(auto)]
+
+pub mod byte_range;
+
+mod last_begun;
+mod least_above;
+
+pub use byte_range::{ByteRange, WeightForm};
+
