@@ -72,3 +72,22 @@ pub record IsNextAbove (ranges : List ByteRange) (bound w : ℕ) : Type 0 where
 abbrev pub IsLeastAbove : List ByteRange → ℕ → Option ℕ → Type 0
 IsLeastAbove ranges bound None = (v : ℕ) → HasBytesIn ranges v → v ≤ bound
 IsLeastAbove ranges bound (Some w) = IsNextAbove ranges bound w
+
+-- no more weights of a form than so many may stand between two others
+abbrev pub HoldsNoMore : WeightForm → ℕ → ℕ → ℕ → Type 0
+HoldsNoMore form low high n = (ws : List ℕ) → FillsGap form low high ws → length ws ≤ n
+
+-- numbers above the last one are clear of the weight below a gap, and of those in it
+pub record IsPast (low : ℕ) (ws : List ℕ) (last : ℕ) : Type 0 where
+  pub after_low : (w : ℕ) → w < 2 ^ 32 → last < w → IsClearBelow low w
+  pub after_all : (w : ℕ) → w < 2 ^ 32 → last < w → All (λ v. IsClearBelow v w) ws
+
+-- the least weight of so many bytes above the last one that may stand below another weight
+pub record IsNextIn (seconds : ByteRange) (length last high w : ℕ) : Type 0 where
+  pub next : IsNextAbove (byte_ranges seconds length) last w
+  pub below : IsClearBelow w high
+
+-- no weight of so many bytes above the last one may stand below another weight
+abbrev pub HasNoNext : ByteRange → ℕ → ℕ → ℕ → Type 0
+HasNoNext seconds length last high =
+    (v : ℕ) → HasBytesIn (byte_ranges seconds length) v → last < v → ¬ (IsClearBelow v high)

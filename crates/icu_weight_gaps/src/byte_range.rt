@@ -26,4 +26,5 @@ pub struct WeightForm {
     ghost few: { longest ≤ 4 },
     ghost written: { 2 ≤ seconds.least },
     ghost ordered: { seconds.least ≤ seconds.greatest },
+    ghost in_byte: { seconds.greatest ≤ 255 },
 }

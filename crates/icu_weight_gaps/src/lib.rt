@@ -2,9 +2,10 @@
 #![tactic(auto)]
 
 pub mod byte_range;
+pub mod gap;
 
 mod last_begun;
 mod least_above;
 
 pub use byte_range::{ByteRange, WeightForm};
-
+pub use gap::WeightGap;
