@@ -162,12 +162,18 @@ module _ (form : WeightForm) (low high : ℕ) where
           (subst (λ v. IsClearBelow (get_or ws i d) v) (sym (get_or-take n ws j d (omega arith))) (fills.ascending i j d l (omega arith)))
 
   -- past the last weight, numbers are clear of all
-  pub past_last : (ws : List ℕ) (i w end : ℕ) → low < 2 ^ 32 → FillsGap form low high ws → i + 1 ≡ length ws → w ≡ get_or ws i w → w ≤ end
+  pub past_last : (ws : List ℕ) (i w end : ℕ) → FillsGap form low high ws → i + 1 ≡ length ws → w ≡ get_or ws i w → w ≤ end
       → ((u : ℕ) → u < 2 ^ 32 → IsClearBelow w u ↔ (end < u)) → IsPast low ws end
-  past_last ws i w end l fills last is up clear = record {
-    after_low = λ u m over. clear_further low w u l (subst (IsClearBelow low) (sym is) (fills.above i w (omega arith))) (omega arith);
+  past_last ws i w end fills last is up clear = record {
+    after_low = λ u m over. clear_further low w u low_fits above_low (omega arith);
     after_all = λ u m over k d n. by u m over k d n (cases_lt k i);
   } where
+      above_low : IsClearBelow low w
+      above_low = subst (IsClearBelow low) (sym is) (fills.above i w (omega arith))
+
+      low_fits : low < 2 ^ 32
+      low_fits = let fits = form_fits (get_or ws i w) (fills.of_form i w (omega arith)) in omega (arith, above_low.less, is)
+
       by : (u : ℕ) → u < 2 ^ 32 → end < u → (k d : ℕ) → k < length ws → (k < i) ⊎ (i ≤ k) → IsClearBelow (get_or ws k d) u
       by u m over k d n (inl before) =
           clear_further (get_or ws k d) (get_or ws i d) u (form_fits (get_or ws k d) (fills.of_form k d n))

@@ -54,17 +54,17 @@ fn byte_ranges(seconds: ByteRange, length: usize) -> [ByteRange; 4]
     ]
 }
 
-/// The next weight of so many bytes that may stand in the gap, above the number `last`.
-fn next_weight(gap: WeightGap, length: usize, last: u32) -> Option<u32>
+/// The next weight of so many bytes that is above the number `last` and may stand below `high`.
+fn next_weight(form: WeightForm, length: usize, last: u32, high: u32) -> Option<u32>
     requires long { 1 ≤ length }
     requires short { length ≤ 4 }
     ensures { MatchOption result
-        (HasNoNext gap.form.seconds length last gap.high)
-        (IsNextIn gap.form.seconds length last gap.high) }
+        (HasNoNext form.seconds length last high)
+        (IsNextIn form.seconds length last high) }
 {
-    let ranges = byte_ranges(gap.form.seconds, length);
+    let ranges = byte_ranges(form.seconds, length);
     let next = least_above(&ranges, last)?;
-    if last_begun(next) < gap.high {
+    if last_begun(next) < high {
         Some(next)
     } else {
         None
@@ -104,11 +104,84 @@ fn add_weights(
 {
     let mut last = last_taken(weights.as_slice(), gap);
     for have in weights.len()..count {
-        let Some(next) = next_weight(gap, length, last) else {
+        let Some(next) = next_weight(gap.form, length, last, gap.high) else {
             return Ok(());
         };
         weights.push(next)?;
         last = last_begun(next);
     }
     Ok(())
+}
+
+/// How many of `short` weights stay as they are, if those behind are made longer by a byte until there are `count`.
+fn kept_of(short: usize, count: usize, form: WeightForm, length: usize) -> usize
+    requires small { count < 2 ^ 63 }
+    ensures { result ≤ short }
+{
+    let range = if length == 2 {
+        form.seconds
+    } else {
+        ByteRange {
+            least: 2,
+            greatest: 255,
+        }
+    };
+    let more = usize::from(range.greatest.saturating_sub(range.least)).max(1);
+    let longer = (count.saturating_sub(short) + more - 1) / more;
+    short.saturating_sub(longer)
+}
+
+/// Makes the last of weights that are too few longer by a byte, as many as are needed for `weights.len()` of them: where
+/// that isn't possible, the weights stay as they are.
+fn shortened(
+    shorter: Vec<u32>,
+    weights: Vec<u32>,
+    gap: WeightGap,
+    length: usize,
+) -> Result<Vec<u32>, AllocError>
+    requires shorter_fills { FillsGap gap.form gap.low gap.high shorter.items }
+    requires fills { FillsGap gap.form gap.low gap.high weights.items }
+    requires long { gap.form.shortest ≤ length }
+    requires short { length ≤ gap.form.longest }
+    ensures fills { IfOk result (λ ws. FillsGap gap.form gap.low gap.high ws.items) }
+    ensures as_many { IfOk result (λ ws. vec_len ws ≡ vec_len weights) }
+{
+    let mut shorter = shorter;
+    let count = weights.len();
+    let kept = kept_of(shorter.len(), count, gap.form, length);
+    if kept == 0 {
+        return Ok(weights);
+    }
+    shorter.truncate(kept);
+    add_weights(&mut shorter, gap, length, count)?;
+    if shorter.len() == count { Ok(shorter) } else { Ok(weights) }
+}
+
+/// So many weights between two others, or `None` exactly if there is no room for so many.
+///
+/// They are of one length where that is enough, the shortest one, and else of two: the last ones are longer.
+pub fn weights_between(
+    alloc: Global,
+    gap: WeightGap,
+    count: usize,
+) -> Result<Option<Vec<u32>>, AllocError>
+    // Each is of the form, less than the next one, and not written as a beginning of it; so are the gap's ends.
+    ensures fills { IfOk result (λ found.
+        IfSome found (λ ws. FillsGap gap.form gap.low gap.high ws.items)) }
+    ensures so_many { IfOk result (λ found. IfSome found (λ ws. vec_len ws ≡ count)) }
+
+    // Without room for them there are no such weights.
+    ensures room { IfOk result (λ found. IsNone found → (ws : List ℕ)
+        → FillsGap gap.form gap.low gap.high ws → length ws < count) }
+{
+    let mut shorter = Vec::new(alloc);
+    for length in gap.form.shortest..gap.form.longest + 1 {
+        let mut weights = Vec::new(alloc);
+        add_weights(&mut weights, gap, length, count)?;
+        if weights.len() == count {
+            return Ok(Some(shortened(shorter, weights, gap, length)?));
+        }
+        shorter = weights;
+    }
+    Ok(None)
 }

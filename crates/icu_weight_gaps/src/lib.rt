@@ -8,4 +8,4 @@ mod last_begun;
 mod least_above;
 
 pub use byte_range::{ByteRange, WeightForm};
-pub use gap::WeightGap;
+pub use gap::{WeightGap, weights_between};
