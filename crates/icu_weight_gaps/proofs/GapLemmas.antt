@@ -1,12 +1,13 @@
 -- Weights of a form in a gap, and that no other choice of them holds more.
-use Rattle.std.proofs.Common.{◌≡◌, ◌≢◌, ℕ, zero, suc, ◌+◌, ◌-◌, ◌*◌, ◌/◌, ◌%◌, ◌^◌, ◌<◌, ◌≤◌, ◌↔◌, List, [], ◌∷◌, ◌++◌, length, get_or, min, take, Option, Some, None, sym, ap, subst, inl, inr, ◌⊎◌, arith, lit<, lit≤, ◌∙◌, All, AllPairs}
+use Rattle.std.proofs.Common.{◌≡◌, ◌≢◌, ℕ, zero, suc, ◌+◌, ◌-◌, ◌*◌, ◌/◌, ◌%◌, ◌^◌, ◌<◌, ◌≤◌, ◌↔◌, List, [], ◌∷◌, ◌++◌, length, get_or, min, take, Option, Some, None, sym, ap, subst, inl, inr, ◌⊎◌, arith, lit<, lit≤, ◌∙◌, All, AllPairs, Contains}
 use Rattle.std.proofs.lemmas.Bool.{cases_lt}
 use Rattle.std.proofs.lemmas.List.{get_or-take, get_or_default, length-take}
 use Rattle.std.proofs.lemmas.List.Elements.{All-push, All-take}
 use Rattle.std.proofs.lemmas.List.Quantifiers.{all_pairs_push}
 use Rattle.icu_levels.specs.ListOrder.{IsBeginning}
+use Rattle.icu_levels.specs.Premises.{IsPrefixFree}
 use Rattle.icu_levels.specs.WeightBytes.{weight_bytes}
-use Rattle.icu_weights.proofs.BeginningLemmas.{beginning_between}
+use Rattle.icu_weights.proofs.BeginningLemmas.{beginning_between, beginning_le}
 use Rattle.icu_weight_gaps.specs.declared.byte_range.ByteRange.{ByteRange}
 use Rattle.icu_weight_gaps.specs.declared.byte_range.WeightForm.{WeightForm}
 use Rattle.icu_weight_gaps.specs.GapWeights.{HasBytesIn, AreOrderedRanges, byte_ranges, IsOfForm, IsClearBelow, FillsGap, HoldsNoMore, IsNextAbove, IsLeastAbove, IsPast, IsNextIn, HasNoNext}
@@ -260,3 +261,29 @@ module _ (form : WeightForm) (low high : ℕ) where
       by : (n < length vs) ⊎ (length vs ≤ n) → length vs ≤ n
       by (inl some) = absurd (more some)
       by (inr none) = none
+
+  -- ---- prefix free
+
+  pub filled_free : (ws : List ℕ) → FillsGap form low high ws → IsPrefixFree (weight_bytes 4) (Contains ws)
+  filled_free ws fills v w (i, l, e) (j, m, f) other b = by (cases_lt i j)
+    where
+      at_i : get_or ws i 0 ≡ v
+      at_i = get_or_default ws i 0 v l ∙ e
+
+      at_j : get_or ws j 0 ≡ w
+      at_j = get_or_default ws j 0 w m ∙ f
+
+      by : (i < j) ⊎ (j ≤ i) → ⊥
+      by (inl before) =
+          (subst (IsClearBelow v) at_j (subst (λ x. IsClearBelow x (get_or ws j 0)) at_i (fills.ascending i j 0 before m))).begins_not b
+      by (inr after) = apart (cases_lt j i)
+        where
+          apart : (j < i) ⊎ (i ≤ j) → ⊥
+          apart (inl less) =
+              let clear : IsClearBelow w v = subst (IsClearBelow w) at_i (subst (λ x. IsClearBelow x (get_or ws i 0)) at_j (fills.ascending j i 0 less l)) in
+              let v_fits : v < 2 ^ 32 = subst (λ x. x < 2 ^ 32) at_i (form_fits (get_or ws i 0) (fills.of_form i 0 l)) in
+              let up = beginning_le v w v_fits (omega (arith, clear.less)) b in
+              omega (arith, up, clear.less)
+          apart (inr same) =
+              let places : i ≡ j = omega arith in
+              other (sym at_i ∙ ap (λ k. get_or ws k 0) places ∙ at_j)

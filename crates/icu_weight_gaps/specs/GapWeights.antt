@@ -1,6 +1,7 @@
 -- Weights that a tailoring puts between two weights of the root (UTS #10, "Large Weight Values").
-use Rattle.std.specs.Prelude.{ℕ, ◌/◌, ◌%◌, ◌^◌, ◌<◌, ◌≤◌, ◌≡◌, nat_lt, if◌then◌else◌, List, [], ◌∷◌, length, Option, Some, None, All, AllPairs}
+use Rattle.std.specs.Prelude.{ℕ, ◌/◌, ◌%◌, ◌^◌, ◌<◌, ◌≤◌, ◌≡◌, nat_lt, if◌then◌else◌, List, [], ◌∷◌, length, Option, Some, None, All, AllPairs, Contains}
 use Rattle.icu_levels.specs.ListOrder.{IsBeginning}
+use Rattle.icu_levels.specs.Premises.{IsPrefixFree}
 use Rattle.icu_levels.specs.WeightBytes.{weight_bytes}
 use Rattle.icu_weight_gaps.specs.declared.byte_range.ByteRange.{ByteRange}
 use Rattle.icu_weight_gaps.specs.declared.byte_range.WeightForm.{WeightForm}
@@ -54,6 +55,11 @@ pub record FillsGap (form : WeightForm) (low high : ℕ) (ws : List ℕ) : Type 
   pub above : All (IsClearBelow low) ws
   pub ascending : AllPairs IsClearBelow ws
   pub below : All (λ w. IsClearBelow w high) ws
+
+-- of weights that fill a gap none is written as a beginning of another
+abbrev pub FilledGapsArePrefixFree : Type 0
+FilledGapsArePrefixFree = (form : WeightForm) (low high : ℕ) (ws : List ℕ) → FillsGap form low high ws
+    → IsPrefixFree (weight_bytes 4) (Contains ws)
 
 -- the least number with these bytes
 pub record IsLeastOf (ranges : List ByteRange) (w : ℕ) : Type 0 where

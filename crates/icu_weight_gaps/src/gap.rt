@@ -1,7 +1,7 @@
 //! Weights between two others.
 
 ghost use Rattle.std.specs.Prelude.{ℕ, ◌≡◌, ◌<◌, ◌≤◌, ◌^◌, List, [], length, All, IfOk, IfSome, IsNone, MatchOption, OnOk, vec_len};
-ghost use Rattle.icu_weight_gaps.specs.GapWeights.{bytes_at, byte_ranges, AreOrderedRanges, IsClearBelow, FillsGap, HoldsNoMore, IsPast, IsNextIn, HasNoNext};
+ghost use Rattle.icu_weight_gaps.specs.GapWeights.{bytes_at, byte_ranges, AreOrderedRanges, IsClearBelow, FillsGap, FilledGapsArePrefixFree, HoldsNoMore, IsPast, IsNextIn, HasNoNext};
 
 use crate::byte_range::{ByteRange, WeightForm};
 use crate::last_begun::last_begun;
@@ -116,7 +116,8 @@ fn add_weights(
 /// How many of `short` weights stay as they are, if those behind are made longer by a byte until there are `count`.
 fn kept_of(short: usize, count: usize, form: WeightForm, length: usize) -> usize
     requires small { count < 2 ^ 63 }
-    ensures { result ≤ short }
+    ensures of_short { result ≤ short }
+    ensures of_count { result ≤ count }
 {
     let range = if length == 2 {
         form.seconds
@@ -128,7 +129,7 @@ fn kept_of(short: usize, count: usize, form: WeightForm, length: usize) -> usize
     };
     let more = usize::from(range.greatest.saturating_sub(range.least)).max(1);
     let longer = (count.saturating_sub(short) + more - 1) / more;
-    short.saturating_sub(longer)
+    short.min(count).saturating_sub(longer)
 }
 
 /// Makes the last of weights that are too few longer by a byte, as many as are needed for `weights.len()` of them: where
@@ -185,3 +186,8 @@ pub fn weights_between(
     }
     Ok(None)
 }
+
+/// Weights that fill a gap are prefix free (UTS #10, "Large Weight Values").
+pub fn filled_gaps_are_prefix_free()
+    ensures { FilledGapsArePrefixFree }
+{}
