@@ -11,24 +11,28 @@ abbrev pub LastBegun : ℕ → ℕ → Type 0
 LastBegun v u = (w : ℕ) → w < 2 ^ 32 → Begins 4 v w ↔ ((v ≤ w) × (w ≤ u))
 
 pub four_bytes : (v : ℕ) → v < 2 ^ 32 → v % 256 ≢ 0 → LastBegun v v
-four_bytes v l n w m =
-    (λ h. (omega (arith, h), omega (arith, h)),
-    λ h. inr (omega arith, inr (omega arith, inr (omega arith, inr (omega arith, tt)))))
+four_bytes v l n w m = (
+  λ h. (omega (arith, h), omega (arith, h)),
+  λ h. inr (omega arith, inr (omega arith, inr (omega arith, inr (omega arith, tt)))),
+)
 
 pub three_bytes : (v : ℕ) → v < 2 ^ 32 → v % 256 ≡ 0 → v % 65536 ≢ 0 → LastBegun v (v + 255)
-three_bytes v l z n w m =
-    (λ h. (omega (arith, h), omega (arith, h)),
-    λ h. inr (omega arith, inr (omega arith, inr (omega arith, inl (omega arith)))))
+three_bytes v l z n w m = (
+  λ h. (omega (arith, h), omega (arith, h)),
+  λ h. inr (omega arith, inr (omega arith, inr (omega arith, inl (omega arith)))),
+)
 
 pub two_bytes : (v : ℕ) → v < 2 ^ 32 → v % 65536 ≡ 0 → v % 16777216 ≢ 0 → LastBegun v (v + 65535)
-two_bytes v l z n w m =
-    (λ h. (omega (arith, h), omega (arith, h)),
-    λ h. inr (omega arith, inr (omega arith, inl (omega arith))))
+two_bytes v l z n w m = (
+  λ h. (omega (arith, h), omega (arith, h)),
+  λ h. inr (omega arith, inr (omega arith, inl (omega arith))),
+)
 
 pub one_byte : (v : ℕ) → v < 2 ^ 32 → v % 16777216 ≡ 0 → v ≢ 0 → LastBegun v (v + 16777215)
-one_byte v l z n w m =
-    (λ h. (omega (arith, h), omega (arith, h)),
-    λ h. inr (omega arith, inl (omega arith)))
+one_byte v l z n w m = (
+  λ h. (omega (arith, h), omega (arith, h)),
+  λ h. inr (omega arith, inl (omega arith)),
+)
 
 pub no_byte : LastBegun 0 4294967295
 no_byte w m = (λ h. (omega arith, omega arith), λ h. inl (omega arith))

@@ -39,9 +39,11 @@ module _ (r : ByteRange) (rs : List ByteRange) where
   place = 256 ^ length rs
 
   bytes_joined : (c t : ℕ) → r.least ≤ c → c ≤ r.greatest → t < place → HasBytesIn rs t → HasBytesIn (r ∷ rs) (c * place + t)
-  bytes_joined c t a b l h =
-      (subst (λ q. r.least ≤ q) (sym (div-mul-add c place t l)) a, subst (λ q. q ≤ r.greatest) (sym (div-mul-add c place t l)) b,
-      subst (HasBytesIn rs) (sym (mod-mul-add c place t l)) h)
+  bytes_joined c t a b l h = (
+    subst (λ q. r.least ≤ q) (sym (div-mul-add c place t l)) a,
+    subst (λ q. q ≤ r.greatest) (sym (div-mul-add c place t l)) b,
+    subst (HasBytesIn rs) (sym (mod-mul-add c place t l)) h,
+  )
 
   pub least_joined : (t : ℕ) → r.least ≤ r.greatest → r.least * place + t < 256 ^ suc (length rs) → IsLeastOf rs t → IsLeastOf (r ∷ rs) (r.least * place + t)
   least_joined t l m least = record {
@@ -83,14 +85,14 @@ module _ (r : ByteRange) (rs : List ByteRange) where
     above = omega (arith, next.above, div-add-mod' x place);
     least = λ v h l. by v h l (cases_lt (x / place) (v / place));
   } where
-      by : (v : ℕ) → HasBytesIn (r ∷ rs) v → x < v → (x / place < v / place) ⊎ (v / place ≤ x / place)
-          → x / place * place + t ≤ v
-      by v h l (inl more) =
-          omega (arith, outweighs (x / place) (v / place) place t more next.fits, div-add-mod' v place)
-      by v h l (inr less) =
-          let same : x / place ≡ v / place = omega (arith, quotient_le x v place (some_place (length rs)) (omega arith), less) in
-          let product : x / place * place ≡ v / place * place = ap (λ q. q * place) same in
-          omega (arith, next.least (v % place) h.2 (greater_behind x v place same l), product, div-add-mod' v place)
+    by : (v : ℕ) → HasBytesIn (r ∷ rs) v → x < v → (x / place < v / place) ⊎ (v / place ≤ x / place)
+        → x / place * place + t ≤ v
+    by v h l (inl more) =
+        omega (arith, outweighs (x / place) (v / place) place t more next.fits, div-add-mod' v place)
+    by v h l (inr less) =
+        let same : x / place ≡ v / place = omega (arith, quotient_le x v place (some_place (length rs)) (omega arith), less) in
+        let product : x / place * place ≡ v / place * place = ap (λ q. q * place) same in
+        omega (arith, next.least (v % place) h.2 (greater_behind x v place same l), product, div-add-mod' v place)
 
   -- no number has the same highest byte and is next
   none_behind : (x v : ℕ) → IsLeastAbove rs (x % place) None → HasBytesIn (r ∷ rs) v → x < v → x / place < v / place

@@ -144,11 +144,11 @@ module _ (form : WeightForm) (low high : ℕ) where
     ascending = all_pairs_push IsClearBelow ws w fills.ascending (past.after_all w fits next.next.above);
     below = All-push (λ v. IsClearBelow v high) ws w fills.below next.below;
   } where
-      is_of_form : IsOfForm form w
-      is_of_form = record { length = n; long = a; short = b; bytes = next.next.bytes }
+    is_of_form : IsOfForm form w
+    is_of_form = record { length = n; long = a; short = b; bytes = next.next.bytes }
 
-      fits : w < 2 ^ 32
-      fits = form_fits w is_of_form
+    fits : w < 2 ^ 32
+    fits = form_fits w is_of_form
 
   pub fills_taken : (ws : List ℕ) (n : ℕ) → FillsGap form low high ws → FillsGap form low high (take n ws)
   fills_taken ws n fills = record {
@@ -157,10 +157,10 @@ module _ (form : WeightForm) (low high : ℕ) where
     ascending = λ i j d l m. pairs i j d l (subst (λ k. j < k) (length-take n ws) m);
     below = All-take (λ v. IsClearBelow v high) n ws fills.below;
   } where
-      pairs : (i j d : ℕ) → i < j → j < min n (length ws) → IsClearBelow (get_or (take n ws) i d) (get_or (take n ws) j d)
-      pairs i j d l m =
-          subst (λ v. IsClearBelow v (get_or (take n ws) j d)) (sym (get_or-take n ws i d (omega arith)))
-          (subst (λ v. IsClearBelow (get_or ws i d) v) (sym (get_or-take n ws j d (omega arith))) (fills.ascending i j d l (omega arith)))
+    pairs : (i j d : ℕ) → i < j → j < min n (length ws) → IsClearBelow (get_or (take n ws) i d) (get_or (take n ws) j d)
+    pairs i j d l m =
+        subst (λ v. IsClearBelow v (get_or (take n ws) j d)) (sym (get_or-take n ws i d (omega arith)))
+        (subst (λ v. IsClearBelow (get_or ws i d) v) (sym (get_or-take n ws j d (omega arith))) (fills.ascending i j d l (omega arith)))
 
   -- past the last weight, numbers are clear of all
   pub past_last : (ws : List ℕ) (i w end : ℕ) → FillsGap form low high ws → i + 1 ≡ length ws → w ≡ get_or ws i w → w ≤ end
@@ -169,20 +169,20 @@ module _ (form : WeightForm) (low high : ℕ) where
     after_low = λ u m over. clear_further low w u low_fits above_low (omega arith);
     after_all = λ u m over k d n. by u m over k d n (cases_lt k i);
   } where
-      above_low : IsClearBelow low w
-      above_low = subst (IsClearBelow low) (sym is) (fills.above i w (omega arith))
+    above_low : IsClearBelow low w
+    above_low = subst (IsClearBelow low) (sym is) (fills.above i w (omega arith))
 
-      low_fits : low < 2 ^ 32
-      low_fits = let fits = form_fits (get_or ws i w) (fills.of_form i w (omega arith)) in omega (arith, above_low.less, is)
+    low_fits : low < 2 ^ 32
+    low_fits = let fits = form_fits (get_or ws i w) (fills.of_form i w (omega arith)) in omega (arith, above_low.less, is)
 
-      by : (u : ℕ) → u < 2 ^ 32 → end < u → (k d : ℕ) → k < length ws → (k < i) ⊎ (i ≤ k) → IsClearBelow (get_or ws k d) u
-      by u m over k d n (inl before) =
-          clear_further (get_or ws k d) (get_or ws i d) u (form_fits (get_or ws k d) (fills.of_form k d n))
-          (fills.ascending k i d before (omega arith)) (omega (arith, get_or_default ws i d w (omega arith)))
-      by u m over k d n (inr after) =
-          let same : i ≡ k = omega arith in
-          let at : w ≡ get_or ws k d = subst (λ j. w ≡ get_or ws j d) same (is ∙ get_or_default ws i w d (omega arith)) in
-          subst (λ v. IsClearBelow v u) at ((clear u m).1 over)
+    by : (u : ℕ) → u < 2 ^ 32 → end < u → (k d : ℕ) → k < length ws → (k < i) ⊎ (i ≤ k) → IsClearBelow (get_or ws k d) u
+    by u m over k d n (inl before) =
+        clear_further (get_or ws k d) (get_or ws i d) u (form_fits (get_or ws k d) (fills.of_form k d n))
+        (fills.ascending k i d before (omega arith)) (omega (arith, get_or_default ws i d w (omega arith)))
+    by u m over k d n (inr after) =
+        let same : i ≡ k = omega arith in
+        let at : w ≡ get_or ws k d = subst (λ j. w ≡ get_or ws j d) same (is ∙ get_or_default ws i w d (omega arith)) in
+        subst (λ v. IsClearBelow v u) at ((clear u m).1 over)
 
   pub past_further : (ws : List ℕ) (last w end : ℕ) → IsPast low ws last → last < w → w ≤ end
       → ((u : ℕ) → u < 2 ^ 32 → IsClearBelow w u ↔ (end < u)) → IsPast low (ws ++ w ∷ []) end

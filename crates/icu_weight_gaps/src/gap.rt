@@ -155,7 +155,11 @@ fn shortened(
     }
     shorter.truncate(kept);
     add_weights(&mut shorter, gap, length, count)?;
-    if shorter.len() == count { Ok(shorter) } else { Ok(weights) }
+    if shorter.len() == count {
+        Ok(shorter)
+    } else {
+        Ok(weights)
+    }
 }
 
 /// So many weights between two others, or `None` exactly if there is no room for so many.

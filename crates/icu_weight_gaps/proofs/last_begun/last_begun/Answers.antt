@@ -23,4 +23,3 @@ returns-then-weight-ne0-4-clause-clear c = clear_from c.args.weight (c.args.weig
 
 pub returns-then-weight-ne0-4-clause-begun : goal.returns-then-weight-ne0-4-clause-begun
 returns-then-weight-ne0-4-clause-begun c = begun_from c.args.weight (c.args.weight + 16777215) (omega arith) (omega (arith, and_mask c.args.weight 8, and_mask c.args.weight 16, and_mask c.args.weight 24)) (one_byte c.args.weight (omega arith) (omega (arith, and_mask c.args.weight 24)) (omega arith))
-
