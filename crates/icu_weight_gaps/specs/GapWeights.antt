@@ -27,14 +27,14 @@ abbrev pub unwritten_byte : ByteRange
 unwritten_byte = record { least = 0; greatest = 0 }
 
 -- the bytes of a place of weights of so many bytes
-abbrev pub bytes_at : ByteRange → ℕ → ℕ → ByteRange
-bytes_at written place length = if nat_lt place length then written else unwritten_byte
+abbrev pub place_range : ByteRange → ℕ → ℕ → ByteRange
+place_range written place length = if nat_lt place length then written else unwritten_byte
 
 -- the bytes at the four places of weights of so many bytes
 abbrev pub byte_ranges : ByteRange → ℕ → List ByteRange
 byte_ranges seconds length =
-    bytes_at written_byte 0 length ∷ bytes_at seconds 1 length ∷ bytes_at written_byte 2 length
-    ∷ bytes_at written_byte 3 length ∷ []
+    place_range written_byte 0 length ∷ place_range seconds 1 length ∷ place_range written_byte 2 length
+    ∷ place_range written_byte 3 length ∷ []
 
 -- a weight has as many bytes as a form allows, each of them in its range
 pub record IsOfForm (form : WeightForm) (w : ℕ) : Type 0 where

@@ -1,7 +1,7 @@
 //! Weights between two others.
 
 ghost use Rattle.std.specs.Prelude.{ℕ, ◌≡◌, ◌<◌, ◌≤◌, ◌^◌, List, [], length, All, IfOk, IfSome, IsNone, MatchOption, OnOk, vec_len};
-ghost use Rattle.icu_weight_gaps.specs.GapWeights.{bytes_at, byte_ranges, AreOrderedRanges, IsClearBelow, FillsGap, FilledGapsArePrefixFree, HoldsNoMore, IsPast, IsNextIn, HasNoNext};
+ghost use Rattle.icu_weight_gaps.specs.GapWeights.{place_range, byte_ranges, AreOrderedRanges, IsClearBelow, FillsGap, FilledGapsArePrefixFree, HoldsNoMore, IsPast, IsNextIn, HasNoNext};
 
 use crate::byte_range::{ByteRange, WeightForm};
 use crate::last_begun::last_begun;
@@ -20,8 +20,8 @@ pub struct WeightGap {
 }
 
 /// The bytes of a place of weights of so many bytes.
-fn bytes_at(written: ByteRange, place: usize, length: usize) -> ByteRange
-    ensures { result ≡ bytes_at written place length }
+fn place_range(written: ByteRange, place: usize, length: usize) -> ByteRange
+    ensures { result ≡ place_range written place length }
 {
     if place < length {
         written
@@ -47,10 +47,10 @@ fn byte_ranges(seconds: ByteRange, length: usize) -> [ByteRange; 4]
         greatest: 255,
     };
     [
-        bytes_at(written, 0, length),
-        bytes_at(seconds, 1, length),
-        bytes_at(written, 2, length),
-        bytes_at(written, 3, length),
+        place_range(written, 0, length),
+        place_range(seconds, 1, length),
+        place_range(written, 2, length),
+        place_range(written, 3, length),
     ]
 }
 
@@ -75,7 +75,8 @@ fn next_weight(form: WeightForm, length: usize, last: u32, high: u32) -> Option<
 fn last_taken(weights: &[u32], gap: WeightGap) -> u32
     requires { FillsGap gap.form gap.low gap.high weights.now }
     ensures past { IsPast gap.low weights.now result }
-    ensures first { weights.now ≡ [] → (w : ℕ) → w < 2 ^ 32 → IsClearBelow gap.low w → result < w }
+    ensures first { weights.now ≡ []
+        → (w : ℕ) → w < 2 ^ 32 → IsClearBelow gap.low w → result < w }
 {
     if weights.is_empty() {
         last_begun(gap.low)
@@ -132,8 +133,8 @@ fn kept_of(short: usize, count: usize, form: WeightForm, length: usize) -> usize
     short.min(count).saturating_sub(longer)
 }
 
-/// Makes the last of weights that are too few longer by a byte, as many as are needed for `weights.len()` of them: where
-/// that isn't possible, the weights stay as they are.
+/// Makes the last of weights that are too few longer by a byte, as many as are needed for as many as there are of the
+/// others, which are returned where that isn't possible.
 fn shortened(
     shorter: Vec<u32>,
     weights: Vec<u32>,
