@@ -1,0 +1,3 @@
+pub mod ByteLemmas
+pub mod BegunLemmas
+pub mod GapLemmas
