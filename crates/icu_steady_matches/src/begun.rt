@@ -1,7 +1,7 @@
 //! Mappings that begin with some characters and one more, found by bisection: mappings ascend by the numbers of their
 //! characters, a list before those that it begins.
 
-ghost use Rattle.std.specs.Prelude.{◌≡◌, ◌∷◌, ◌++◌, [], true, None, IsTrue, IfSome, bytes_eq, nat_eq, option_map, length};
+ghost use Rattle.std.specs.Prelude.{◌≡◌, ◌∷◌, ◌++◌, [], true, None, IsTrue, IfSome, bytes_eq, nat_eq, option_map, slice_get};
 ghost use Rattle.std.specs.List.{starts_with};
 ghost use Rattle.icu_collation_data.specs.Contexts.{has_ascending_mappings, is_before};
 ghost use Rattle.icu_collation_data.specs.Data.{mapping_entry};
@@ -20,11 +20,18 @@ fn comes_after(mapping: &[char], front: &[char], last: char) -> bool
     front.cmp(begin).then([last].as_slice().cmp(rest)).is_lt()
 }
 
+/// The character at an index.
+fn char_at(chars: &[char], index: usize) -> Option<char>
+    ensures { result ≡ slice_get chars.now index }
+{
+    chars.get(index).copied()
+}
+
 /// Whether a mapping begins with these characters and one more.
 fn begins_with(mapping: &[char], front: &[char], last: char) -> bool
     ensures { result ≡ starts_with nat_eq mapping.now (front.now ++ last ∷ []) }
 {
-    let Some(next) = mapping.get(front.len()).copied() else {
+    let Some(next) = char_at(mapping, front.len()) else {
         return false;
     };
     if next != last {
@@ -86,11 +93,7 @@ pub(crate) fn find_joined<'d>(
 }
 
 /// The first characters of a mapping that goes on after these characters and one more.
-fn find_longer<'d>(
-    context: FoundContext<'d>,
-    front: &[char],
-    last: char,
-) -> Option<&'d [char]>
+fn find_longer<'d>(context: FoundContext<'d>, front: &[char], last: char) -> Option<&'d [char]>
     requires { IsTrue (has_ascending_mappings (found_context context)) }
     ensures some { IfSome result (λ chars. chars.now ≡ front.now ++ last ∷ []) }
     ensures none { result ≡ None

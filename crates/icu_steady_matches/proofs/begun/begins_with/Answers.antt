@@ -1,12 +1,12 @@
-use Rattle.std.proofs.Common.{◌≡◌, ◌∷◌, ◌++◌, [], Some, None, false, true, ◌&&◌, ◌≢◌, ℕ, List, length, ap, sym, ◌∙◌, rules}
+use Rattle.std.proofs.Common.{◌≡◌, Some, None, ◌&&◌, ◌≢◌, ℕ, List, length, ap, sym, ◌∙◌, rules}
 use Rattle.std.specs.Prelude.{nat_eq, slice_get}
 use Rattle.std.specs.List.{starts_with}
 use Rattle.std.proofs.lemmas.Bool.{eq-eqb, ne_eqb}
 use Rattle.icu_steady_matches.proofs.BegunLemmas.{begins_there, ends_before}
 use Rattle.icu_steady_matches.proofs.begun.begins_with.Goals as goal
 
-pub returns-in-None : goal.returns-in-None
-returns-in-None c =
+pub returns-in_default : goal.returns-in_default
+returns-in_default c =
     let none : slice_get c.args.mapping.now (length c.args.front.now) ≡ None = search rules in
     sym (ends_before c.args.mapping.now c.args.front.now c.args.last none)
 

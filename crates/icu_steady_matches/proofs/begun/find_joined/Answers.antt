@@ -1,4 +1,4 @@
-use Rattle.std.proofs.Common.{◌≡◌, ◌+◌, ◌-◌, ◌∷◌, ◌++◌, [], true, false, ℕ, List, subst, sym, bytes_eq, rules, arith}
+use Rattle.std.proofs.Common.{◌≡◌, ◌+◌, ◌-◌, ◌∷◌, ◌++◌, [], true, false, ℕ, List, subst, bytes_eq, rules, arith}
 use Rattle.icu_collation_data.specs.StoredData.{found_context, found_mapping}
 use Rattle.icu_collation_data.specs.Data.{Mapping}
 use Rattle.icu_matches.specs.inner.Mappings.{SplitsMappings}
