@@ -11,7 +11,7 @@ use Rattle.icu_weights.proofs.BeginningLemmas.{beginning_between, beginning_le}
 use Rattle.icu_weight_gaps.specs.declared.byte_range.ByteRange.{ByteRange}
 use Rattle.icu_weight_gaps.specs.declared.byte_range.WeightForm.{WeightForm}
 use Rattle.icu_weight_gaps.specs.GapWeights.{HasBytesIn, AreOrderedRanges, byte_ranges, IsOfForm, IsClearBelow, FillsGap, HoldsNoMore, IsNextAbove, IsLeastAbove, IsPast, IsNextIn, HasNoNext}
-use Rattle.icu_weight_gaps.proofs.BegunLemmas.{LastBegun, four_bytes, three_bytes, two_bytes, one_byte, clear_from}
+use Rattle.icu_weight_gaps.proofs.BegunGapLemmas.{LastBegun, four_bytes, three_bytes, two_bytes, one_byte, clear_from}
 
 -- ---- by the number of bytes
 

@@ -1,3 +1,3 @@
 pub mod ByteLemmas
-pub mod BegunLemmas
+pub mod BegunGapLemmas
 pub mod GapLemmas

@@ -1,6 +1,6 @@
 use Rattle.std.proofs.Common.{◌+◌, arith}
 use Rattle.std.proofs.lemmas.Nat.{and_mask}
-use Rattle.icu_weight_gaps.proofs.BegunLemmas.{four_bytes, three_bytes, two_bytes, one_byte, no_byte, clear_from, begun_from}
+use Rattle.icu_weight_gaps.proofs.BegunGapLemmas.{four_bytes, three_bytes, two_bytes, one_byte, no_byte, clear_from, begun_from}
 use Rattle.icu_weight_gaps.proofs.last_begun.last_begun.Goals as goal
 
 pub returns-then-weight-ne0-clause-clear : goal.returns-then-weight-ne0-clause-clear
