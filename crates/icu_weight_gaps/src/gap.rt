@@ -100,8 +100,9 @@ fn add_weights(
     ensures at_most { OnOk result (vec_len weights.new ≤ count) }
 
     // Of the longest weights there is room for as many as of any.
-    ensures best { OnOk result (length ≡ gap.form.longest → weights.old.items ≡ []
-        → vec_len weights.new < count → HoldsNoMore gap.form gap.low gap.high (vec_len weights.new)) }
+    ensures best { OnOk result (length ≡ gap.form.longest
+        → weights.old.items ≡ [] → vec_len weights.new < count
+        → HoldsNoMore gap.form gap.low gap.high (vec_len weights.new)) }
 {
     let mut last = last_taken(weights.as_slice(), gap);
     for have in weights.len()..count {
