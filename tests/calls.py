@@ -16,6 +16,8 @@ KEY, CHECK, FILE, READ = "`key`", "`check`", "`root`", "`next` and `whole`"
 PROGRAM, TYPES = "the program `collate-cldr`", "`test_types`"
 # Generic, over a trait that no crate implements yet.
 NOTHING = "nothing"
+# No crate stands on it yet.
+OWN = "tests of its own crate"
 # The crate and the name of a call, and the question of the driver that comes to it, or what else makes it.
 LEFT_OUT = {
     ("icu_collation_data", "collect_weights"): CHECK,
@@ -26,6 +28,7 @@ LEFT_OUT = {
     ("icu_collator", "with_options"): TYPES,
     ("icu_small_tables", "checked_small_tables"): TYPES,
     ("icu_search", "first_least"): NOTHING,
+    ("icu_weight_gaps", "weights_between"): OWN,
     ("icu_weights", "first_overlap"): CHECK,
     ("icu_weights", "first_common_overlap"): CHECK,
     ("icu_elements", "decomposed_text"): KEY,

@@ -1,0 +1,2 @@
+pub mod SteadyMatches
+pub mod inner

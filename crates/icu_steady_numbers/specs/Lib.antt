@@ -1,0 +1,2 @@
+pub mod SteadyNumbers
+pub mod inner

@@ -1,0 +1,8 @@
+//! The weights of a number, one by one and without memory, for collators that order numbers by value.
+#![tactic(auto)]
+
+mod number_room;
+mod spelled_number;
+pub mod steady_number;
+
+pub use steady_number::SteadyNumber;

@@ -1,0 +1,3 @@
+pub mod ByteLemmas
+pub mod BegunGapLemmas
+pub mod GapLemmas
