@@ -11,5 +11,8 @@ pub mod CompressedLeadLemmas
 pub mod FileLineLemmas
 pub mod IdeographLemmas
 pub mod DigitRangeLemmas
+pub mod CountedDigitLemmas
 pub mod RootValueLemmas
 pub mod ResolvedLemmas
+pub mod FinishedLemmas
+pub mod FileRootLemmas

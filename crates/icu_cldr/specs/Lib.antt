@@ -12,4 +12,6 @@ pub mod Given
 pub mod LineElements
 pub mod Ideographs
 pub mod CharacterEntries
+pub mod DecimalValues
+pub mod FileRoots
 pub mod inner

@@ -5,7 +5,10 @@ use Rattle.icu_table_builder.specs.Building.{built_data}
 use Rattle.icu_cldr.specs.Given.{Spells}
 use Rattle.icu_cldr.specs.Ideographs.{primary_in}
 use Rattle.icu_cldr.specs.LineElements.{AreSaid}
-use Rattle.std.specs.List.{AllByRecursion}
+use Rattle.std.specs.Char.{IsScalar}
+use Rattle.std.specs.List.{AllByRecursion, AllZip}
+use Rattle.icu_provider.specs.CollatorTables.{CollatorTables}
+use Rattle.icu_cldr.specs.FileRoots.{GivesMapping}
 use Rattle.icu_cldr.specs.FileLines.{AreLines}
 use Rattle.icu_cldr.specs.WrittenLines.{LineSays}
 use Rattle.icu_cldr.specs.inner.LineEntries.{HasEntry, EntriesGrow, entry_around}
@@ -40,6 +43,15 @@ pub record Grows (old new : Collected) : Type 0 where
 abbrev pub HasNothing : Collected → Type 0
 HasNothing c = (x : ℕ) → entry_around c.contexts x [] [] ≡ None
 
--- each line of a file was taken in
+-- what lines say was taken in
+abbrev pub TakesLines : Collected → List (List ℕ) → List Line → Type 0
+TakesLines c lines said = AllZip LineSays lines said × AllByRecursion (HasSaid c) said
+
+-- what each line of a file says was taken in
 abbrev pub TakesFile : Collected → List ℕ → Type 0
-TakesFile c bytes = (lines : List (List ℕ)) × AreLines bytes lines × AllByRecursion (IsTaken c) lines
+TakesFile c bytes = (lines : List (List ℕ)) × (said : List Line) × AreLines bytes lines × TakesLines c lines said
+
+-- the tables give each mapping that was taken in
+abbrev pub KeepsMappings : Collected → CollatorTables → Type 0
+KeepsMappings c all = HasNothing c → (m : Mapping) → IsScalar m.first → HasMapping c m
+    → GivesMapping (primary_in c.ideographs) all.tables.root m
