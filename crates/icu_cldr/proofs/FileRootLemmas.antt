@@ -1,12 +1,14 @@
 -- What tables say of the lines of a file.
-use Rattle.std.proofs.Common.{◌≡◌, ℕ, Bool, true, false, List, [], ◌∷◌, Option, Some, None, refl, subst, inl, inr, if◌then◌else◌, arith}
+use Rattle.std.proofs.Common.{◌≡◌, ℕ, Bool, true, false, List, [], ◌∷◌, Option, Some, None, refl, sym, subst, ◌∙◌, inl, inr, if◌then◌else◌, arith}
 use Rattle.std.specs.Prelude.{◌&&◌, ◌||◌, nat_le, nat_lt, IfSome, length, option_and_then}
 use Rattle.std.specs.Char.{IsScalar}
 use Rattle.std.specs.List.{AllByRecursion, AllZip}
 use Rattle.std.proofs.lemmas.Bool.Decides.{nat_tests}
 use Rattle.icu_provider.specs.CollatorTables.{CollatorTables}
-use Rattle.icu_cldr.specs.FileRoots.{SaysFile, StandsIn}
+use Rattle.icu_collation_data.specs.Data.{Data}
+use Rattle.icu_cldr.specs.FileRoots.{GivesMapping, SaysFile, StandsIn}
 use Rattle.icu_cldr.specs.HexDigits.{number_written, scalar_from}
+use Rattle.icu_cldr.specs.IdeographOrder.{ideograph_weight, ideographs_of}
 use Rattle.icu_cldr.specs.Ideographs.{primary_in}
 use Rattle.icu_cldr.specs.LineParts.{text_of}
 use Rattle.icu_cldr.specs.Words.{WordsWrite, WriteCharacters}
@@ -17,6 +19,8 @@ use Rattle.icu_cldr.specs.declared.collected.Collected.{Collected}
 use Rattle.icu_cldr.specs.declared.line.Line.{Line}
 use Rattle.icu_cldr.specs.declared.line.Line.TheVariants as says
 use Rattle.icu_cldr.specs.declared.mapping.Mapping.{Mapping}
+use Rattle.icu_cldr.proofs.TakenLemmas.{said_further}
+use Rattle.icu_cldr.proofs.WeightedRangeLemmas.{weights_are}
 
 -- ---- characters that are written are no surrogates
 
@@ -48,29 +52,44 @@ mapped_scalar text m (left, right, cut, context, elements, some) = context_scala
 
 -- ---- line by line
 
-module _ (c : Collected) (all : CollatorTables) (nothing : HasNothing c) (keeps : KeepsMappings c all) where
-  one_stands : (line : List ℕ) (said : Line) → LineSays line said → HasSaid c said → StandsIn (primary_in c.ideographs) all said
-  one_stands line (says.Mapping m) is has = keeps nothing m (mapped_scalar (text_of line) m is.0) has
+-- a mapping is given by any weights of ideographs that agree
+given_by : (old new : ℕ → Option ℕ) (d : Data) (m : Mapping) → ((x p : ℕ) → old x ≡ Some p → new x ≡ Some p) → GivesMapping old d m → GivesMapping new d m
+given_by old new d m more g = record {
+  elements = g.elements;
+  letter = g.letter;
+  entry = g.entry;
+  said = said_further old new more m.elements.items g.elements g.said;
+  spells = g.spells;
+  digit = g.digit;
+  gives = g.gives;
+}
+
+module _ (c : Collected) (all : CollatorTables) (nothing : HasNothing c) (keeps : KeepsMappings c all)
+    (of_ideograph : ℕ → Option ℕ) (more : (x p : ℕ) → primary_in c.ideographs x ≡ Some p → of_ideograph x ≡ Some p) where
+  one_stands : (line : List ℕ) (said : Line) → LineSays line said → HasSaid c said → StandsIn of_ideograph all said
+  one_stands line (says.Mapping m) is has =
+      given_by (primary_in c.ideographs) of_ideograph all.tables.root m more (keeps nothing m (mapped_scalar (text_of line) m is.0) has)
   one_stands line says.Nothing is has = tt
   one_stands line (says.Ideographs r) is has = tt
   one_stands line (says.LeadByte l) is has = tt
   one_stands line (says.NumericLead n) is has = tt
 
-  all_stand : (lines : List (List ℕ)) (said : List Line) → AllZip LineSays lines said → AllByRecursion (HasSaid c) said
-      → AllByRecursion (StandsIn (primary_in c.ideographs) all) said
+  pub all_stand : (lines : List (List ℕ)) (said : List Line) → AllZip LineSays lines said → AllByRecursion (HasSaid c) said
+      → AllByRecursion (StandsIn of_ideograph all) said
   all_stand [] [] are has = tt
   all_stand [] (x ∷ xs) are has = absurd are
   all_stand (l ∷ ls) [] are has = tt
   all_stand (l ∷ ls) (x ∷ xs) are has = (one_stands l x are.0 has.0, all_stand ls xs are.1 has.1)
 
-  -- all lines of known bytes stand in the tables
-  pub file_stands : (known : Option (List ℕ)) → IfSome known (TakesFile c) → IfSome known (λ bytes. SaysFile bytes all)
-  file_stands None takes = tt
-  file_stands (Some bytes) (lines, said, are, takes) = record {
-    lines = lines;
-    said = said;
-    of_ideograph = primary_in c.ideographs;
-    are_lines = are;
-    say = takes.0;
-    stand = all_stand lines said takes.0 takes.1;
-  }
+-- all lines of known bytes stand in the tables
+pub file_stands : (c : Collected) (all : CollatorTables) → HasNothing c → KeepsMappings c all → (known : Option (List ℕ)) → IfSome known (TakesFile c)
+    → IfSome known (λ bytes. SaysFile bytes all)
+file_stands c all nothing keeps None takes = tt
+file_stands c all nothing keeps (Some bytes) (lines, said, are, takes) = record {
+  lines = lines;
+  said = said;
+  are_lines = are;
+  say = takes.0;
+  stand = all_stand c all nothing keeps (ideograph_weight (ideographs_of said))
+      (λ x p h. sym (weights_are c.ideographs (ideographs_of said) x takes.2) ∙ h) lines said takes.0 takes.1;
+}

@@ -10,6 +10,7 @@ pub mod TakenLemmas
 pub mod CompressedLeadLemmas
 pub mod FileLineLemmas
 pub mod IdeographLemmas
+pub mod WeightedRangeLemmas
 pub mod DigitRangeLemmas
 pub mod CountedDigitLemmas
 pub mod RootValueLemmas

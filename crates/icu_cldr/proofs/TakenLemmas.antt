@@ -18,6 +18,7 @@ use Rattle.icu_cldr.specs.WrittenLines.{LineSays}
 use Rattle.icu_cldr.specs.WrittenMappings.{is_without_context}
 use Rattle.icu_cldr.specs.inner.LineEntries.{EntriesGrow, HasEntry}
 use Rattle.icu_cldr.specs.inner.Surroundings.{Extends}
+use Rattle.icu_cldr.specs.inner.WeightedRanges.{AddsIdeographs}
 use Rattle.icu_cldr.specs.inner.Taken.{Grows, HasMapping, HasSaid, TakesFile, TakesLines}
 use Rattle.icu_cldr.specs.declared.collected.Collected.{Collected}
 use Rattle.icu_cldr.specs.declared.fractional_element.FractionalElement.{FractionalElement}
@@ -27,6 +28,7 @@ use Rattle.icu_cldr.specs.declared.line.Line.{Line}
 use Rattle.icu_cldr.specs.declared.line.Line.TheVariants as says
 use Rattle.icu_cldr.specs.declared.mapping.Mapping.{Mapping}
 use Rattle.icu_cldr.proofs.AddedContextLemmas.{extends_further, extends_itself}
+use Rattle.icu_cldr.proofs.WeightedRangeLemmas.{ideographs_more}
 
 -- ---- lists of a table that grows
 
@@ -136,8 +138,13 @@ has_more old new (x ∷ xs) one grows all has = (said_stays old new x grows all.
 
 -- the lines that were taken in, and one more
 pub lines_stay : (old new : Collected) (lines : List (List ℕ)) (said : List Line) (line : List ℕ) (one : Line) → Grows old new
-    → TakesLines old lines said → LineSays line one → HasSaid new one → TakesLines new (lines ++ line ∷ []) (said ++ one ∷ [])
-lines_stay old new lines said line one grows all is has = (says_more lines said line one all.0 is, has_more old new said one grows all.1 has)
+    → TakesLines old lines said → LineSays line one → HasSaid new one → AddsIdeographs old.ideographs new.ideographs one
+    → TakesLines new (lines ++ line ∷ []) (said ++ one ∷ [])
+lines_stay old new lines said line one grows all is has adds = (
+  says_more lines said line one all.0 is,
+  has_more old new said one grows all.1 has,
+  ideographs_more old.ideographs new.ideographs said all.2 one adds,
+)
 
 -- all lines of known bytes
 pub takes_file : (c : Collected) (known : Option (List ℕ)) (lines : List (List ℕ)) (said : List Line) → IfSome known (λ bytes. AreLines bytes lines)

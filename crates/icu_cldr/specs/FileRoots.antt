@@ -9,6 +9,7 @@ use Rattle.icu_cldr.specs.CharacterEntries.{IsDigitEntry}
 use Rattle.icu_cldr.specs.DecimalValues.{decimal_value}
 use Rattle.icu_cldr.specs.FileLines.{AreLines}
 use Rattle.icu_cldr.specs.Given.{Spells, Gives}
+use Rattle.icu_cldr.specs.IdeographOrder.{ideograph_weight, ideographs_of}
 use Rattle.icu_cldr.specs.LineElements.{AreSaid}
 use Rattle.icu_cldr.specs.WrittenLines.{LineSays}
 use Rattle.icu_cldr.specs.WrittenMappings.{is_without_context}
@@ -33,11 +34,11 @@ abbrev pub StandsIn : (ℕ → Option ℕ) → CollatorTables → Line → Type 
 StandsIn of_ideograph all (says.Mapping m) = GivesMapping of_ideograph all.tables.root m
 StandsIn of_ideograph all _ = Unit {0}
 
--- the tables say what each line of a file says, with these weights of ideographs
+-- The tables say what each line of a file says, where elements `U+X` have the weights of ideographs by the ranges that
+-- the file's line has.
 pub record SaysFile (bytes : List ℕ) (all : CollatorTables) : Type 0 where
   pub lines : List (List ℕ)
   pub said : List Line
-  pub of_ideograph : ℕ → Option ℕ
   pub are_lines : AreLines bytes lines
   pub say : AllZip LineSays lines said
-  pub stand : AllByRecursion (StandsIn of_ideograph all) said
+  pub stand : AllByRecursion (StandsIn (ideograph_weight (ideographs_of said)) all) said

@@ -6,6 +6,7 @@ use Rattle.icu_cldr.specs.declared.line.Line.{Line}
 use Rattle.icu_cldr.specs.inner.Taken.{IsTaken}
 use Rattle.icu_cldr.proofs.FileLineLemmas.{none_read, more_read, all_read}
 use Rattle.icu_cldr.proofs.TakenLemmas.{lines_stay, takes_file}
+use Rattle.icu_cldr.proofs.WeightedRangeLemmas.{none_said}
 use Rattle.icu_cldr.proofs.line_reader.collect_lines.Goals as goal
 
 pub loop-line-init : goal.loop-line-init
@@ -13,8 +14,8 @@ loop-line-init g c =
     let known = g.R.Read.remaining c.args.reader in
     let same = ap (lines_known_bytes g.R.Read.remaining) c.into_iter-line-iterator.ensures.into_iter_gives ∙ c.lines-line-items.ensures in
     record {
-      nothing = c.in_ok-collected.ensures;
-      taken = ([], [], subst (λ (left : Option (List ℕ)). LinesRead known [] left) (sym same) (none_read known), (tt, tt));
+      nothing = c.in_ok-collected.ensures.nothing;
+      taken = ([], [], subst (λ (left : Option (List ℕ)). LinesRead known [] left) (sym same) (none_read known), (tt, tt, none_said c.in_ok-collected.collected.ideographs c.in_ok-collected.ensures.none));
     }
 
 pub loop-line-preserved : goal.loop-line-preserved
@@ -25,14 +26,14 @@ loop-line-preserved g c =
     let old = lines_known_bytes g.R.Read.remaining c.loop-line.line-iterator in
     let new = lines_known_bytes g.R.Read.remaining c.next.new.self in
     let read = IfOk-at_ok _ c.in-Ok.is c.in-Some.ensures.steps.1 in
-    let one = subst (λ (l : List ℕ). IsTaken c.read_line.new.self l) c.as_str.ensures.value c.in_default.ensures.taken in
+    let one = subst (λ (l : List ℕ). IsTaken c.loop-line.collected c.read_line.new.self l) c.as_str.ensures.value c.in_default.ensures.taken in
     record {
       nothing = λ x. c.in_default.ensures.grows.entries.no_empty x (c.loop-line.invariant.nothing x);
       taken = (
         lines ++ line ∷ [],
         said ++ one.0 ∷ [],
         more_read (g.R.Read.remaining c.args.reader) old new lines line read.0 read.1 c.loop-line.invariant.taken.2,
-        lines_stay c.loop-line.collected c.read_line.new.self lines said line one.0 c.in_default.ensures.grows c.loop-line.invariant.taken.3 one.1 one.2,
+        lines_stay c.loop-line.collected c.read_line.new.self lines said line one.0 c.in_default.ensures.grows c.loop-line.invariant.taken.3 one.1 one.2 one.3,
       );
     }
 
