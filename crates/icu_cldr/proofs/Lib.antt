@@ -10,6 +10,10 @@ pub mod TakenLemmas
 pub mod CompressedLeadLemmas
 pub mod FileLineLemmas
 pub mod IdeographLemmas
+pub mod WeightedRangeLemmas
 pub mod DigitRangeLemmas
+pub mod CountedDigitLemmas
 pub mod RootValueLemmas
 pub mod ResolvedLemmas
+pub mod FinishedLemmas
+pub mod FileRootLemmas

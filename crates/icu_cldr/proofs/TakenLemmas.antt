@@ -4,7 +4,7 @@ use Rattle.std.specs.Prelude.{IfSome, OnOk, Result, Ok, Err, ◌==◌, ◌&&◌,
 use Rattle.std.proofs.lemmas.Bool.Decides.{nat_tests}
 use Rattle.icu_table_builder.specs.Building.{built_data}
 use Rattle.icu_cldr.specs.FileLines.{AreLines}
-use Rattle.std.specs.List.{AllByRecursion, flat_map}
+use Rattle.std.specs.List.{AllByRecursion, AllZip, flat_map}
 use Rattle.std.proofs.lemmas.List.{take-append-le, drop-append-le, length-drop, length-reverse}
 use Rattle.icu_collation_data.specs.Data.{Data}
 use Rattle.icu_collation_data.specs.Final.{listed}
@@ -14,9 +14,12 @@ use Rattle.icu_entries.specs.EncodedEntries.{of_weights}
 use Rattle.icu_cldr.specs.Given.{Spells}
 use Rattle.icu_cldr.specs.Ideographs.{primary_in}
 use Rattle.icu_cldr.specs.LineElements.{primary_said, element_said, AreSaid}
-use Rattle.icu_cldr.specs.inner.LineEntries.{EntriesGrow, HasEntry, is_without_context}
+use Rattle.icu_cldr.specs.WrittenLines.{LineSays}
+use Rattle.icu_cldr.specs.WrittenMappings.{is_without_context}
+use Rattle.icu_cldr.specs.inner.LineEntries.{EntriesGrow, HasEntry}
 use Rattle.icu_cldr.specs.inner.Surroundings.{Extends}
-use Rattle.icu_cldr.specs.inner.Taken.{Grows, HasMapping, HasSaid, IsTaken, TakesFile}
+use Rattle.icu_cldr.specs.inner.WeightedRanges.{AddsIdeographs}
+use Rattle.icu_cldr.specs.inner.Taken.{Grows, HasMapping, HasSaid, TakesFile, TakesLines}
 use Rattle.icu_cldr.specs.declared.collected.Collected.{Collected}
 use Rattle.icu_cldr.specs.declared.fractional_element.FractionalElement.{FractionalElement}
 use Rattle.icu_cldr.specs.declared.fractional_element.Primary.{Primary}
@@ -25,6 +28,7 @@ use Rattle.icu_cldr.specs.declared.line.Line.{Line}
 use Rattle.icu_cldr.specs.declared.line.Line.TheVariants as says
 use Rattle.icu_cldr.specs.declared.mapping.Mapping.{Mapping}
 use Rattle.icu_cldr.proofs.AddedContextLemmas.{extends_further, extends_itself}
+use Rattle.icu_cldr.proofs.WeightedRangeLemmas.{ideographs_more}
 
 -- ---- lists of a table that grows
 
@@ -121,10 +125,6 @@ said_stays old new (says.Ideographs r) grows has = has
 said_stays old new (says.LeadByte l) grows has = has
 said_stays old new (says.NumericLead n) grows has = has
 
--- a line that was taken in
-pub line_stays : (old new : Collected) (line : List ℕ) → Grows old new → IsTaken old line → IsTaken new line
-line_stays old new line grows (said, is, has) = (said, is, said_stays old new said grows has)
-
 -- growing on
 pub grows_further : (a b c : Collected) → Grows a b → Grows b c → Grows a c
 grows_further a b c p q = record {
@@ -137,17 +137,33 @@ grows_further a b c p q = record {
   ideographs = λ x w h. q.ideographs x w (p.ideographs x w h);
 }
 
+says_more : (lines : List (List ℕ)) (said : List Line) (line : List ℕ) (one : Line) → AllZip LineSays lines said → LineSays line one
+    → AllZip LineSays (lines ++ line ∷ []) (said ++ one ∷ [])
+says_more [] [] line one all is = (is, tt)
+says_more [] (x ∷ xs) line one all is = absurd all
+says_more (l ∷ ls) [] line one all is = absurd all
+says_more (l ∷ ls) (x ∷ xs) line one all is = (all.0, says_more ls xs line one all.1 is)
+
+has_more : (old new : Collected) (said : List Line) (one : Line) → Grows old new → AllByRecursion (HasSaid old) said → HasSaid new one
+    → AllByRecursion (HasSaid new) (said ++ one ∷ [])
+has_more old new [] one grows all has = (has, tt)
+has_more old new (x ∷ xs) one grows all has = (said_stays old new x grows all.0, has_more old new xs one grows all.1 has)
+
 -- the lines that were taken in, and one more
-pub lines_stay : (old new : Collected) (lines : List (List ℕ)) (line : List ℕ) → Grows old new → AllByRecursion (IsTaken old) lines → IsTaken new line
-    → AllByRecursion (IsTaken new) (lines ++ line ∷ [])
-lines_stay old new [] line grows all one = (one, tt)
-lines_stay old new (x ∷ xs) line grows all one = (line_stays old new x grows all.0, lines_stay old new xs line grows all.1 one)
+pub lines_stay : (old new : Collected) (lines : List (List ℕ)) (said : List Line) (line : List ℕ) (one : Line) → Grows old new
+    → TakesLines old lines said → LineSays line one → HasSaid new one → AddsIdeographs old.ideographs new.ideographs one
+    → TakesLines new (lines ++ line ∷ []) (said ++ one ∷ [])
+lines_stay old new lines said line one grows all is has adds = (
+  says_more lines said line one all.0 is,
+  has_more old new said one grows all.1 has,
+  ideographs_more old.ideographs new.ideographs said all.2 one adds,
+)
 
 -- all lines of known bytes
-pub takes_file : (c : Collected) (known : Option (List ℕ)) (lines : List (List ℕ)) → IfSome known (λ bytes. AreLines bytes lines)
-    → AllByRecursion (IsTaken c) lines → IfSome known (TakesFile c)
-takes_file c None lines are all = tt
-takes_file c (Some bytes) lines are all = (lines, are, all)
+pub takes_file : (c : Collected) (known : Option (List ℕ)) (lines : List (List ℕ)) (said : List Line) → IfSome known (λ bytes. AreLines bytes lines)
+    → TakesLines c lines said → IfSome known (TakesFile c)
+takes_file c None lines said are all = tt
+takes_file c (Some bytes) lines said are all = (lines, said, are, all)
 
 -- nothing was taken in
 pub grows_not : (c : Collected) → Grows c c

@@ -11,5 +11,8 @@ pub mod Roots
 pub mod Given
 pub mod LineElements
 pub mod Ideographs
+pub mod IdeographOrder
 pub mod CharacterEntries
+pub mod DecimalValues
+pub mod FileRoots
 pub mod inner

@@ -1,5 +1,5 @@
 -- What a line of a mapping says (UTS #35 part 5, "Root Collation Data Files" and "Context-Sensitive Mappings").
-use Rattle.std.specs.Prelude.{◌≡◌, ℕ, ◌<◌, List, [], ◌∷◌, ◌⊎◌, length}
+use Rattle.std.specs.Prelude.{◌≡◌, ℕ, ◌<◌, ◌==◌, ◌&&◌, Bool, List, [], ◌∷◌, ◌⊎◌, length}
 use Rattle.icu_cldr.specs.LineParts.{Lacks}
 use Rattle.icu_cldr.specs.Words.{IsCutAt, WriteCharacters}
 use Rattle.icu_cldr.specs.WrittenElements.{WriteElements}
@@ -17,3 +17,7 @@ abbrev pub WritesMapping : List ℕ → Mapping → Type 0
 WritesMapping text m = (left : List ℕ) × (right : List ℕ) × IsCutAt 59 text left right
     × WriteContext left m.prefix.items (m.first ∷ m.suffix.items)
     × WriteElements right m.elements.items × (0 < length m.elements.items)
+
+-- a mapping of one character wherever it stands
+abbrev pub is_without_context : Mapping → Bool
+is_without_context m = length m.prefix.items == 0 && length m.suffix.items == 0

@@ -8,3 +8,4 @@ pub mod LeadWords
 pub mod Digits
 pub mod RootValues
 pub mod Resolved
+pub mod WeightedRanges

@@ -11,6 +11,7 @@ ghost use Rattle.icu_cldr.specs.Roots.{IsRoot};
 ghost use Rattle.icu_cldr.specs.inner.Resolved.{IsResolved};
 ghost use Rattle.icu_cldr.specs.inner.Surroundings.{Extends};
 ghost use Rattle.icu_cldr.specs.inner.RootValues.{SameLists, HasEntries};
+ghost use Rattle.icu_cldr.specs.inner.Taken.{KeepsMappings};
 
 use crate::collected::Collected;
 use crate::contexts::{Contexts, entry_in_contexts};
@@ -130,6 +131,7 @@ impl Collected {
     #[tactic(auto, unfolding(icu_provider::specs::OwnedTables::owned_tables))]
     pub(crate) fn finish(self) -> Result<OwnedTables, ReadError>
         ensures root { IfOk result (λ o. IsRoot (owned_tables o)) }
+        ensures mappings { IfOk result (λ o. KeepsMappings self (owned_tables o)) }
         ensures numbered { IfErr result IsNumbered }
     {
         let Collected {

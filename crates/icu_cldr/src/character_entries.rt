@@ -16,7 +16,7 @@ pub(crate) type CharacterEntries = BTreeMap<char, CollationElement32>;
 pub(crate) type CharacterContexts = BTreeMap<char, Contexts>;
 
 impl Mapping {
-    ghost use Rattle.icu_cldr.specs.inner.LineEntries.{is_without_context};
+    ghost use Rattle.icu_cldr.specs.WrittenMappings.{is_without_context};
 
     /// Whether one character is mapped, wherever it stands.
     fn is_plain(&self) -> bool

@@ -94,11 +94,14 @@ fn set_boundary(special: &mut Special, mapping: &Mapping, elements: &[CollationE
 }
 
 impl Collected {
+    ghost use Rattle.icu_cldr.specs.Ideographs.{HasNoIdeographs};
     ghost use Rattle.icu_cldr.specs.inner.Taken.{HasMapping, Grows, IsTaken, HasNothing};
+    ghost use Rattle.icu_cldr.specs.inner.WeightedRanges.{HasIdeographs};
 
     /// Nothing is said.
     pub(crate) fn new(alloc: Global) -> Result<Collected, AllocError>
-        ensures { IfOk result HasNothing }
+        ensures nothing { IfOk result HasNothing }
+        ensures none { IfOk result (λ c. HasNoIdeographs c.ideographs) }
     {
         Ok(Collected {
             alloc,
@@ -113,7 +116,7 @@ impl Collected {
 
     /// Takes in what a line says.
     pub(crate) fn read_line(&mut self, line: &str) -> Result<(), UnnumberedError>
-        ensures taken { OnOk result (IsTaken self.new line.now) }
+        ensures taken { OnOk result (IsTaken self.old self.new line.now) }
         ensures grows { OnOk result (Grows self.old self.new) }
     {
         match Line::parse(self.alloc, line)? {
@@ -130,7 +133,9 @@ impl Collected {
 
     /// Takes in the ideographs.
     fn add_ideographs(&mut self, ranges: &[CharRange]) -> Result<(), UnnumberedError>
-        ensures { OnOk result (Grows self.old self.new) }
+        ensures none { OnOk result (HasNoIdeographs self.old.ideographs) }
+        ensures has { OnOk result (HasIdeographs self.new.ideographs ranges.now) }
+        ensures grows { OnOk result (Grows self.old self.new) }
     {
         if !self.ideographs.is_empty() {
             return Err(UnnumberedError::Refused(LineErrorKind::Repeated));
@@ -144,6 +149,7 @@ impl Collected {
     /// Takes in a mapping.
     fn add_mapping(&mut self, mapping: Mapping) -> Result<(), UnnumberedError>
         ensures has { OnOk result (HasMapping self.new mapping) }
+        ensures ideographs { OnOk result (self.new.ideographs ≡ self.old.ideographs) }
         ensures grows { OnOk result (Grows self.old self.new) }
     {
         let elements = elements_said(self.alloc, &self.ideographs, mapping.elements.as_slice())?;

@@ -1,11 +1,11 @@
 //! The digits that make numbers: characters with General_Category Nd.
-ghost use Rattle.std.specs.Prelude.{◌≡◌, ◌==◌, ◌%◌, ℕ, false, IfOk, OnOk};
+ghost use Rattle.std.specs.Prelude.{◌≡◌, ◌≤◌, ◌==◌, ◌%◌, ℕ, false, if◌then◌else◌, IfOk, OnOk};
 ghost use Rattle.std.specs.BTreeMap.{get};
 ghost use Rattle.std.specs.Char.{IsScalar};
 ghost use Rattle.std.specs.Ordering.{nat_cmp};
 ghost use Rattle.icu_table_builder.specs.Building.{built_data};
 ghost use Rattle.icu_cldr.specs.CharacterEntries.{IsDigitEntry};
-ghost use Rattle.icu_cldr.specs.inner.Digits.{IsDigitOrAbsent, MakesDigits};
+ghost use Rattle.icu_cldr.specs.inner.Digits.{IsDigitOrAbsent, MakesDigits, MakesAllDigits};
 ghost use Rattle.icu_cldr.specs.inner.Surroundings.{Extends};
 
 use crate::character_entries::CharacterEntries;
@@ -56,38 +56,56 @@ fn make_digit(
     Ok(())
 }
 
-/// Replaces the entry of each mapped character from one code up to another by a digit entry. Digits follow one another
-/// by tens, from zero to nine (Unicode Standard, "Numeric Value").
+/// Replaces the entry of each mapped character from one code up to another by a digit entry, with values that count by
+/// tens from a start.
 fn make_digits_of(
     builder: &mut DataBuilder,
     entries: &mut CharacterEntries,
+    start: u32,
     first: u32,
     end: u32,
 ) -> Result<(), UnnumberedError>
+    requires { start ≤ first }
     ensures extends { OnOk result (Extends (built_data builder.old) (built_data builder.new)) }
-    ensures digits { OnOk result (MakesDigits (built_data builder.new) first end
+    ensures digits { OnOk result (MakesDigits (built_data builder.new) start first end
         entries.old entries.new) }
 {
     if end < first {
         return Ok(());
     }
     for code in first..end {
-        make_digit(builder, entries, code, code - first)?;
+        make_digit(builder, entries, code, code - start)?;
     }
     Ok(())
 }
 
-/// Replaces the entry of each mapped digit by a digit entry.
-#[tactic(auto, using(crate::proofs::AddedContextLemmas::extends_itself, crate::proofs::AddedContextLemmas::extends_further))]
+/// Where the digits of a range begin to count. Those of a range that stands directly behind another one go on counting
+/// from the start of that.
+fn start_of(first: u32, end: u32, start: u32) -> u32
+    ensures { result ≡ (if first == end then start else first) }
+{
+    if first == end { start } else { first }
+}
+
+/// Replaces the entry of each mapped digit by a digit entry. Digits follow one another by tens, from zero to nine
+/// (Unicode Standard, "Numeric Value").
 pub(crate) fn make_digits(
     alloc: Global,
     builder: &mut DataBuilder,
     entries: &mut CharacterEntries,
 ) -> Result<(), UnnumberedError>
-    ensures { OnOk result (Extends (built_data builder.old) (built_data builder.new)) }
+    ensures extends { OnOk result (Extends (built_data builder.old) (built_data builder.new)) }
+    ensures digits { OnOk result (MakesAllDigits (built_data builder.new)
+        entries.old entries.new) }
 {
-    for (first, last) in digit_ranges(alloc)? {
-        make_digits_of(builder, entries, first, last.saturating_add(1))?;
+    let ranges = digit_ranges(alloc)?;
+    let mut start = 0;
+    let mut end = 0;
+    for range in ranges.iter() {
+        let (first, last) = *range;
+        start = start_of(first, end, start);
+        end = last.saturating_add(1);
+        make_digits_of(builder, entries, start, first, end)?;
     }
     Ok(())
 }

@@ -1,7 +1,8 @@
 //! The primary weights of ideographs, which the file leaves to its reader.
-ghost use Rattle.std.specs.Prelude.{◌≡◌, ◌+◌, ◌*◌, ◌%◌, ◌<◌, ◌≤◌, false, Some, IfSome};
+ghost use Rattle.std.specs.Prelude.{◌≡◌, ◌+◌, ◌*◌, ◌%◌, ◌<◌, ◌≤◌, false, Some, IfSome, IfOk};
 ghost use Rattle.std.specs.Bool.{OnTrue};
 ghost use Rattle.icu_entries.specs.Weights.{weight_at};
+ghost use Rattle.icu_cldr.specs.IdeographOrder.{first_ideograph_lead, first_ordinal, ideograph_count};
 
 use crate::CharRange;
 use crate::error::{LineErrorKind, UnnumberedError};
@@ -54,18 +55,22 @@ pub(crate) fn char_count(range: CharRange) -> u32
     range.last as u32 - range.first as u32 + 1
 }
 
-/// How many characters ranges have.
-fn count(ranges: &[CharRange]) -> u32 {
+/// How many characters ranges have, unless they are too many to be counted.
+fn count(ranges: &[CharRange]) -> Option<u32>
+    ensures { IfSome result (λ n. n ≡ ideograph_count ranges.now) }
+{
     let mut count = 0u32;
     for range in ranges {
-        count = count.saturating_add(char_count(*range));
+        count = count.checked_add(char_count(*range))?;
     }
-    count
+    Some(count)
 }
 
 /// The lead byte of the first ideograph of so many; one weight is left before and after them.
 fn first_lead(count: u32) -> Option<u32>
-    ensures { IfSome result (λ lead. (0x80 ≤ lead) × (lead < 0xFE)) }
+    ensures value { IfSome result (λ lead. lead ≡ first_ideograph_lead count) }
+    ensures bounds { IfSome result (λ lead. (0x80 ≤ lead) × (lead < 0xFE)) }
+    ensures room { IfSome result (λ lead. 64516 * lead + 2 * count < 0xFE * 64516) }
 {
     let weights = count.checked_mul(STEP)?.checked_add(STEP + 2)?;
     let leads = (weights - 1) / WEIGHTS_PER_LEAD + 1;
@@ -75,8 +80,18 @@ fn first_lead(count: u32) -> Option<u32>
     Some(IMPLICIT_LEAD - leads)
 }
 
+/// The ordinal of the first weight of ranges, if they fit below the implicit weights.
+fn first_ordinal(ranges: &[CharRange]) -> Option<u32>
+    ensures value { IfSome result (λ o. o ≡ first_ordinal ranges.now) }
+    ensures room { IfSome result (λ o. o + 2 * ideograph_count ranges.now < 0xFE * 64516) }
+{
+    let lead = first_lead(count(ranges)?)?;
+    Some(lead * WEIGHTS_PER_LEAD)
+}
+
 impl IdeographWeights {
     ghost use Rattle.icu_cldr.specs.Ideographs.{primary_in, HasNoIdeographs};
+    ghost use Rattle.icu_cldr.specs.inner.WeightedRanges.{HasIdeographs};
 
     /// No ideographs.
     pub(crate) fn new(alloc: Global) -> IdeographWeights
@@ -98,11 +113,12 @@ impl IdeographWeights {
     pub(crate) fn assign(
         alloc: Global,
         ranges: &[CharRange],
-    ) -> Result<IdeographWeights, UnnumberedError> {
-        let Some(lead) = first_lead(count(ranges)) else {
+    ) -> Result<IdeographWeights, UnnumberedError>
+        ensures { IfOk result (λ w. HasIdeographs w ranges.now) }
+    {
+        let Some(mut ordinal) = first_ordinal(ranges) else {
             return Err(UnnumberedError::Refused(LineErrorKind::FewerIdeographs));
         };
-        let mut ordinal = lead * WEIGHTS_PER_LEAD;
         let mut weighted = Vec::new(alloc);
         for range in ranges {
             let range = *range;

@@ -2,6 +2,7 @@
 ghost use Rattle.std.specs.Prelude.{◌<◌, IfOk, IfErr, IfSome};
 ghost use Rattle.icu_provider.specs.OwnedTables.{owned_tables};
 ghost use Rattle.icu_cldr.specs.Errors.{IsNumbered};
+ghost use Rattle.icu_cldr.specs.FileRoots.{SaysFile};
 ghost use Rattle.icu_cldr.specs.Roots.{IsRoot};
 ghost use Rattle.icu_cldr.specs.inner.Taken.{TakesFile, HasNothing};
 
@@ -50,6 +51,8 @@ pub(crate) fn read_tables<R: BufRead + Drop>(
     reader: R,
 ) -> Result<OwnedTables, ReadError>
     ensures root { IfOk result (λ o. IsRoot (owned_tables o)) }
+    ensures says { IfOk result (λ o.
+        IfSome (R.remaining reader) (λ bytes. SaysFile bytes (owned_tables o))) }
     ensures numbered { IfErr result IsNumbered }
 {
     collect_lines(alloc, reader)?.finish()

@@ -1,7 +1,8 @@
 //! The root collation as a provider.
-ghost use Rattle.std.specs.Prelude.{◌≡◌, IfOk, IfErr};
+ghost use Rattle.std.specs.Prelude.{◌≡◌, IfOk, IfErr, IfSome};
 ghost use Rattle.icu_provider.specs.OwnedTables.{owned_tables};
 ghost use Rattle.icu_cldr.specs.Errors.{IsNumbered};
+ghost use Rattle.icu_cldr.specs.FileRoots.{SaysFile};
 ghost use Rattle.icu_cldr.specs.Roots.{IsRoot, root_tables};
 
 use crate::error::ReadError;
@@ -21,6 +22,8 @@ pub struct CldrRoot {
 #[tactic(auto, unfolding(crate::specs::Roots::root_tables))]
 pub fn read_root<R: BufRead + Drop>(alloc: Global, reader: R) -> Result<CldrRoot, ReadError>
     ensures root { IfOk result (λ r. IsRoot (root_tables r)) }
+    ensures says { IfOk result (λ r.
+        IfSome (R.remaining reader) (λ bytes. SaysFile bytes (root_tables r))) }
     ensures numbered { IfErr result IsNumbered }
 {
     Ok(CldrRoot {

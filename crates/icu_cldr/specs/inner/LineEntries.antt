@@ -1,8 +1,9 @@
 -- The entries of characters, by themselves and between others, while lines are taken in.
-use Rattle.std.specs.Prelude.{◌≡◌, ℕ, ◌==◌, ◌&&◌, Bool, false, List, [], Option, Some, None, option_and_then, if◌then◌else◌, length, reverse, bytes_eq, MatchBool}
+use Rattle.std.specs.Prelude.{◌≡◌, ℕ, ◌==◌, ◌&&◌, false, List, [], Option, Some, None, option_and_then, if◌then◌else◌, reverse, bytes_eq, MatchBool}
 use Rattle.std.specs.BTreeMap.{BTreeMap, get}
 use Rattle.std.specs.Ordering.{nat_cmp}
 use Rattle.icu_cldr.specs.inner.Surroundings.{Surroundings, entry_between}
+use Rattle.icu_cldr.specs.WrittenMappings.{is_without_context}
 use Rattle.icu_cldr.specs.declared.mapping.Mapping.{Mapping}
 
 -- the entries of characters by themselves
@@ -16,10 +17,6 @@ Around = BTreeMap ℕ Surroundings
 -- the entry of a character behind just these characters, the nearest first, and before just those
 abbrev pub entry_around : Around → ℕ → List ℕ → List ℕ → Option ℕ
 entry_around contexts c before after = option_and_then (λ all. entry_between all before after) (get nat_cmp contexts c)
-
--- a mapping of one character wherever it stands
-abbrev pub is_without_context : Mapping → Bool
-is_without_context m = length m.prefix.items == 0 && length m.suffix.items == 0
 
 -- the characters of a mapping have this entry
 abbrev pub HasEntry : Plain → Around → Mapping → ℕ → Type 0

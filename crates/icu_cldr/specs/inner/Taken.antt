@@ -3,13 +3,18 @@ use Rattle.std.specs.Prelude.{◌≡◌, ℕ, List, [], Some, None}
 use Rattle.icu_entries.specs.Elements.{Element}
 use Rattle.icu_table_builder.specs.Building.{built_data}
 use Rattle.icu_cldr.specs.Given.{Spells}
+use Rattle.icu_cldr.specs.IdeographOrder.{ideographs_of}
 use Rattle.icu_cldr.specs.Ideographs.{primary_in}
 use Rattle.icu_cldr.specs.LineElements.{AreSaid}
-use Rattle.std.specs.List.{AllByRecursion}
+use Rattle.std.specs.Char.{IsScalar}
+use Rattle.std.specs.List.{AllByRecursion, AllZip}
+use Rattle.icu_provider.specs.CollatorTables.{CollatorTables}
+use Rattle.icu_cldr.specs.FileRoots.{GivesMapping}
 use Rattle.icu_cldr.specs.FileLines.{AreLines}
 use Rattle.icu_cldr.specs.WrittenLines.{LineSays}
 use Rattle.icu_cldr.specs.inner.LineEntries.{HasEntry, EntriesGrow, entry_around}
 use Rattle.icu_cldr.specs.inner.Surroundings.{Extends}
+use Rattle.icu_cldr.specs.inner.WeightedRanges.{AddsIdeographs, HasIdeographs}
 use Rattle.icu_cldr.specs.declared.collected.Collected.{Collected}
 use Rattle.icu_cldr.specs.declared.line.Line.{Line}
 use Rattle.icu_cldr.specs.declared.line.Line.TheVariants as says
@@ -27,8 +32,8 @@ HasSaid c (says.Mapping m) = HasMapping c m
 HasSaid c _ = Unit {0}
 
 -- a line was taken in: what it says
-abbrev pub IsTaken : Collected → List ℕ → Type 0
-IsTaken c line = (said : Line) × LineSays line said × HasSaid c said
+abbrev pub IsTaken : Collected → Collected → List ℕ → Type 0
+IsTaken old new line = (said : Line) × LineSays line said × HasSaid new said × AddsIdeographs old.ideographs new.ideographs said
 
 -- what was taken in stays
 pub record Grows (old new : Collected) : Type 0 where
@@ -40,6 +45,16 @@ pub record Grows (old new : Collected) : Type 0 where
 abbrev pub HasNothing : Collected → Type 0
 HasNothing c = (x : ℕ) → entry_around c.contexts x [] [] ≡ None
 
--- each line of a file was taken in
+-- what lines say was taken in
+abbrev pub TakesLines : Collected → List (List ℕ) → List Line → Type 0
+TakesLines c lines said =
+    AllZip LineSays lines said × AllByRecursion (HasSaid c) said × HasIdeographs c.ideographs (ideographs_of said)
+
+-- what each line of a file says was taken in
 abbrev pub TakesFile : Collected → List ℕ → Type 0
-TakesFile c bytes = (lines : List (List ℕ)) × AreLines bytes lines × AllByRecursion (IsTaken c) lines
+TakesFile c bytes = (lines : List (List ℕ)) × (said : List Line) × AreLines bytes lines × TakesLines c lines said
+
+-- the tables give each mapping that was taken in
+abbrev pub KeepsMappings : Collected → CollatorTables → Type 0
+KeepsMappings c all = HasNothing c → (m : Mapping) → IsScalar m.first → HasMapping c m
+    → GivesMapping (primary_in c.ideographs) all.tables.root m

@@ -1,6 +1,12 @@
+use Rattle.std.proofs.Common.{drop}
 use Rattle.icu_table_builder.specs.Building.{built_data}
 use Rattle.icu_cldr.specs.inner.Surroundings.{Extends}
+use Rattle.icu_cldr.proofs.CountedDigitLemmas.{DigitsSoFar}
 use Rattle.icu_cldr.proofs.digits.make_digits.Given as goal
 
-abbrev pub invariant-loop-first : goal.invariant-loop-first
-invariant-loop-first l = Extends (built_data l.fn.builder) (built_data l.builder)
+-- the digits of the ranges so far
+abbrev pub invariant-loop-range : goal.invariant-loop-range
+invariant-loop-range l = record {
+  extends : Extends (built_data l.fn.builder) (built_data l.builder);
+  so_far : DigitsSoFar (built_data l.builder) l.fn.entries l.entries l.start l.end (drop l.range-index l.range-items);
+}

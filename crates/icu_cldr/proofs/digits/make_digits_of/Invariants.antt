@@ -7,5 +7,5 @@ use Rattle.icu_cldr.proofs.digits.make_digits_of.Given as goal
 abbrev pub invariant-loop-code : goal.invariant-loop-code
 invariant-loop-code l = record {
   extends : Extends (built_data l.fn.builder) (built_data l.builder);
-  digits : MakesDigits (built_data l.builder) l.first l.code l.fn.entries l.entries;
+  digits : MakesDigits (built_data l.builder) l.start l.first l.code l.fn.entries l.entries;
 }

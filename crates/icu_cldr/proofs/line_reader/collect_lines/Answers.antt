@@ -2,9 +2,11 @@ use Rattle.std.proofs.Common.{◌∙◌, ◌∷◌, ◌++◌, [], ℕ, List, Opt
 use Rattle.std.specs.Io.Iter.{lines_known_bytes}
 use Rattle.std.proofs.lemmas.Result.{IfOk-at_ok}
 use Rattle.icu_cldr.specs.FileLines.{LinesRead}
+use Rattle.icu_cldr.specs.declared.line.Line.{Line}
 use Rattle.icu_cldr.specs.inner.Taken.{IsTaken}
 use Rattle.icu_cldr.proofs.FileLineLemmas.{none_read, more_read, all_read}
 use Rattle.icu_cldr.proofs.TakenLemmas.{lines_stay, takes_file}
+use Rattle.icu_cldr.proofs.WeightedRangeLemmas.{none_said}
 use Rattle.icu_cldr.proofs.line_reader.collect_lines.Goals as goal
 
 pub loop-line-init : goal.loop-line-init
@@ -12,24 +14,26 @@ loop-line-init g c =
     let known = g.R.Read.remaining c.args.reader in
     let same = ap (lines_known_bytes g.R.Read.remaining) c.into_iter-line-iterator.ensures.into_iter_gives ∙ c.lines-line-items.ensures in
     record {
-      nothing = c.in_ok-collected.ensures;
-      taken = ([], subst (λ (left : Option (List ℕ)). LinesRead known [] left) (sym same) (none_read known), tt);
+      nothing = c.in_ok-collected.ensures.nothing;
+      taken = ([], [], subst (λ (left : Option (List ℕ)). LinesRead known [] left) (sym same) (none_read known), (tt, tt, none_said c.in_ok-collected.collected.ideographs c.in_ok-collected.ensures.none));
     }
 
 pub loop-line-preserved : goal.loop-line-preserved
 loop-line-preserved g c =
     let lines : List (List ℕ) = c.loop-line.invariant.taken.0 in
+    let said : List Line = c.loop-line.invariant.taken.1 in
     let line : List ℕ = string_bytes c.in-Ok.line in
     let old = lines_known_bytes g.R.Read.remaining c.loop-line.line-iterator in
     let new = lines_known_bytes g.R.Read.remaining c.next.new.self in
     let read = IfOk-at_ok _ c.in-Ok.is c.in-Some.ensures.steps.1 in
-    let one = subst (λ (l : List ℕ). IsTaken c.read_line.new.self l) c.as_str.ensures.value c.in_default.ensures.taken in
+    let one = subst (λ (l : List ℕ). IsTaken c.loop-line.collected c.read_line.new.self l) c.as_str.ensures.value c.in_default.ensures.taken in
     record {
       nothing = λ x. c.in_default.ensures.grows.entries.no_empty x (c.loop-line.invariant.nothing x);
       taken = (
         lines ++ line ∷ [],
-        more_read (g.R.Read.remaining c.args.reader) old new lines line read.0 read.1 c.loop-line.invariant.taken.1,
-        lines_stay c.loop-line.collected c.read_line.new.self lines line c.in_default.ensures.grows c.loop-line.invariant.taken.2 one,
+        said ++ one.0 ∷ [],
+        more_read (g.R.Read.remaining c.args.reader) old new lines line read.0 read.1 c.loop-line.invariant.taken.2,
+        lines_stay c.loop-line.collected c.read_line.new.self lines said line one.0 c.in_default.ensures.grows c.loop-line.invariant.taken.3 one.1 one.2 one.3,
       );
     }
 
@@ -37,6 +41,7 @@ pub returns-clause-taken : goal.returns-clause-taken
 returns-clause-taken g c =
     let known = g.R.Read.remaining c.args.reader in
     let lines : List (List ℕ) = c.loop-line.invariant.taken.0 in
-    takes_file c.loop-line.collected known lines
-    (all_read known (lines_known_bytes g.R.Read.remaining c.loop-line.line-iterator) lines c.in-None.ensures.steps.1 c.loop-line.invariant.taken.1)
-    c.loop-line.invariant.taken.2
+    let said : List Line = c.loop-line.invariant.taken.1 in
+    takes_file c.loop-line.collected known lines said
+    (all_read known (lines_known_bytes g.R.Read.remaining c.loop-line.line-iterator) lines c.in-None.ensures.steps.1 c.loop-line.invariant.taken.2)
+    c.loop-line.invariant.taken.3

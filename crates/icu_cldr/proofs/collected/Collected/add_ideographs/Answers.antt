@@ -3,8 +3,8 @@ use Rattle.icu_cldr.specs.Ideographs.{primary_in, HasNoIdeographs}
 use Rattle.icu_cldr.proofs.IdeographLemmas.{no_primary}
 use Rattle.icu_cldr.proofs.collected.Collected.add_ideographs.Goals as goal
 
-pub returns : goal.returns
-returns c =
+pub returns-clause-grows : goal.returns-clause-grows
+returns-clause-grows c =
     let none : HasNoIdeographs c.args.self.now.ideographs = search rules in
     record {
       builder = c.in_ok-set_ideographs.ensures;

@@ -1,0 +1,44 @@
+-- What tables say that a file of lines became (UTS #35 part 5, "Root Collation Data Files").
+use Rattle.std.specs.Prelude.{◌≡◌, ℕ, ◌&&◌, List, Option, MatchBool, reverse}
+use Rattle.std.specs.List.{AllByRecursion, AllZip}
+use Rattle.ucd_perl.specs.Perl.{is_digit_char}
+use Rattle.icu_entries.specs.Elements.{Element}
+use Rattle.icu_collation_data.specs.Data.{Data}
+use Rattle.icu_provider.specs.CollatorTables.{CollatorTables}
+use Rattle.icu_cldr.specs.CharacterEntries.{IsDigitEntry}
+use Rattle.icu_cldr.specs.DecimalValues.{decimal_value}
+use Rattle.icu_cldr.specs.FileLines.{AreLines}
+use Rattle.icu_cldr.specs.Given.{Spells, Gives}
+use Rattle.icu_cldr.specs.IdeographOrder.{ideograph_weight, ideographs_of}
+use Rattle.icu_cldr.specs.LineElements.{AreSaid}
+use Rattle.icu_cldr.specs.WrittenLines.{LineSays}
+use Rattle.icu_cldr.specs.WrittenMappings.{is_without_context}
+use Rattle.icu_cldr.specs.declared.line.Line.{Line}
+use Rattle.icu_cldr.specs.declared.line.Line.TheVariants as says
+use Rattle.icu_cldr.specs.declared.mapping.Mapping.{Mapping}
+
+-- The root gives the characters of a mapping the elements that its line writes: behind those of the prefix, the nearest
+-- first, and before those that follow, the entry of the first character comes to one that spells the elements. A digit
+-- that is mapped wherever it stands comes to a digit entry with its value, which names that one.
+pub record GivesMapping (of_ideograph : ℕ → Option ℕ) (d : Data) (m : Mapping) : Type 0 where
+  pub elements : List Element
+  pub letter : ℕ
+  pub entry : ℕ
+  pub said : AreSaid of_ideograph m.elements.items elements
+  pub spells : Spells d letter elements
+  pub digit : MatchBool (is_without_context m && is_digit_char m.first) (IsDigitEntry d (decimal_value m.first) letter entry) (entry ≡ letter)
+  pub gives : Gives d (d.value m.first) (reverse m.prefix.items) m.suffix.items entry
+
+-- what a line says stands in the tables
+abbrev pub StandsIn : (ℕ → Option ℕ) → CollatorTables → Line → Type 0
+StandsIn of_ideograph all (says.Mapping m) = GivesMapping of_ideograph all.tables.root m
+StandsIn of_ideograph all _ = Unit {0}
+
+-- The tables say what each line of a file says, where elements `U+X` have the weights of ideographs by the ranges that
+-- the file's line has.
+pub record SaysFile (bytes : List ℕ) (all : CollatorTables) : Type 0 where
+  pub lines : List (List ℕ)
+  pub said : List Line
+  pub are_lines : AreLines bytes lines
+  pub say : AllZip LineSays lines said
+  pub stand : AllByRecursion (StandsIn (ideograph_weight (ideographs_of said)) all) said
