@@ -186,7 +186,7 @@ all_kept p (x ∷ xs) h =
 elements_at : (home : Data) (e c : ℕ) → kind_of e ≡ Offset → IsTrue (fits_offset home c e) → final_elements (homed home e) c ≡ map (λ d. offset_element d c) (found_data home e)
 unfolding final_elements fits_offset
 elements_at home e c is fits =
-    let each : IsTrue (list_all (λ d. has_offset_weight d c) (found_data home e)) = rw is at fits in
+    let each : IsTrue (list_all (λ d. has_offset_weight d c) (found_data home e)) = rw (is, fits_offset) at fits in
     rw (is, final_elements, all_kept (λ d. has_offset_weight d c) (found_data home e) each) refl
 
 of_data : (ds : List Element) (a z c : ℕ) (x y : Element) → map (λ d. offset_element d a) ds ≡ x ∷ [] → map (λ d. offset_element d z) ds ≡ y ∷ [] → a ≤ c → c ≤ z
