@@ -17,7 +17,7 @@ import tempfile
 
 import sweeps
 from calls import check_calls
-from cldr_program import check_collate_cldr
+from cldr_program import check_collate_cldr, cut_lines, letter_lines, wrong_cuts
 from hostile import check_hostile
 from long_orders import check_long_orders
 from long_sorts import check_long_sorts
@@ -225,6 +225,7 @@ ENDLESS_CHECKS = {
     "refused requests": lambda shim, endless: faults_of(sweep(shim, endless, [], b"", REQUESTS, collate_is_right)),
     "losses": lambda shim, endless: losses_missed([], run(endless, [], shim=shim), collate_is_right),
     "other answers": lambda shim, endless: other_answers_missed(shim, endless),
+    "cut files": lambda _, endless: wrong_cuts(endless, os.path.dirname(endless), cut_lines(letter_lines())[:1]),
 }
 
 
