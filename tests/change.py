@@ -157,7 +157,7 @@ def main(names):
     check_layout(steps, listed, names)
     unproved = prove(steps, listed, names)
     try_edits(steps, listed, names, unproved)
-    run_programs(steps, crates.above(listed, names), unproved)
+    steps.also("the programs", run_programs, crates.above(listed, names), unproved)
     return steps.end()
 
 

@@ -205,7 +205,7 @@ def wrong_cuts(program, room, cuts):
     lines = letter_lines()
     probe = probe_of(lines)
     whole = key_over(program, room, "whole", lines, probe)
-    if whole.status:
+    if whole.status != 0:
         return [f"the whole file: {whole}"]
 
     def wrong(at, end):

@@ -5,11 +5,11 @@ between them, and `61*3` is 61 three times.
 """
 import itertools
 import re
-import subprocess
+
+from sweeps import ENVIRONMENT, ended
 
 # How long a run may take, for each so many questions that it is asked.
 SECONDS, QUESTIONS = 60, 100_000
-ENVIRONMENT = {"PATH": "/usr/bin:/bin", "LANG": "C.UTF-8"}
 # What answers a question that can't be read.
 UNREAD = "?"
 
@@ -35,11 +35,8 @@ class Driver:
 
     def output(self, given, seconds):
         """What a run writes that is given these bytes."""
-        try:
-            ran = subprocess.run([self.path], input=given, capture_output=True, env=ENVIRONMENT, timeout=seconds)
-        except subprocess.TimeoutExpired:
-            raise DriverFault(f"{self.path}: it had not ended after {seconds} seconds") from None
-        if ran.returncode or ran.stderr:
+        ran = ended([self.path], given, seconds, env=ENVIRONMENT)
+        if ran.returncode != 0 or ran.stderr:
             raise DriverFault(f"{self.path}: status {ran.returncode}, faults {ran.stderr[:200]!r}")
         return ran.stdout.decode("utf-8", "backslashreplace")
 

@@ -15,15 +15,15 @@ import subprocess
 import sys
 import tempfile
 
+import sweeps
 from calls import check_calls
-from cldr_program import check_collate_cldr
-from driver import DriverFault
+from cldr_program import check_collate_cldr, cut_lines, letter_lines, wrong_cuts
 from hostile import check_hostile
 from long_orders import check_long_orders
 from long_sorts import check_long_sorts
 from names_program import check_sort_names
 from reads import check_reads
-from refusals import check_refusals, driver_is_right
+from refusals import check_refusals, driver_is_right, other_answers_missed
 from rows import check_rows
 from settings_pairs import check_settings
 from sweeps import REQUESTS, TESTS, Run, built, faults_of, losses_missed, run, run_on_streams, says_refusals, sweep, wrapped
@@ -215,6 +215,33 @@ def refusals_missed(shim, careless):
     return [f"not found: {it.refused}" for it in outcomes if not it.fault] + ["too few"] * (len(outcomes) < CARELESS_RUNS)
 
 
+# A script that never ends, as what it waits for doesn't, and how many seconds it is given.
+ENDLESS, BRIEFLY = '"$COLLATE" 600; exit 0', 0.2
+# Checks that such a program may neither pass nor end by a fault of their own.
+ENDLESS_CHECKS = {
+    "runs": lambda _, endless: wrong_runs(endless, COLLATE_RUNS[:1]),
+    "sorts": lambda _, endless: wrong_sorts(endless, SORT_RUNS[:1]),
+    "streams": lambda _, endless: wrong_streams(endless, STREAM_RUNS[:1]),
+    "refused requests": lambda shim, endless: faults_of(sweep(shim, endless, [], b"", REQUESTS, collate_is_right)),
+    "losses": lambda shim, endless: losses_missed([], run(endless, [], shim=shim), collate_is_right),
+    "other answers": lambda shim, endless: other_answers_missed(shim, endless),
+    "cut files": lambda _, endless: wrong_cuts(endless, os.path.dirname(endless), cut_lines(letter_lines())[:1]),
+}
+
+
+def endless_passed(shim, endless):
+    """The checks that a program which never ends passes, and those that end early by it."""
+    found, kept = [], sweeps.SECONDS
+    sweeps.SECONDS = BRIEFLY
+    for what, check in ENDLESS_CHECKS.items():
+        try:
+            found += [f"not found: {what}"] * (not check(shim, endless))
+        except Exception as fault:
+            found.append(f"{what}: {fault!r}")
+    sweeps.SECONDS = kept
+    return found
+
+
 # ---- the run of all checks
 
 
@@ -233,15 +260,31 @@ class Report:
             print(f"       and {len(faults) - 12} more", flush=True)
 
     def also(self, what, check, *given):
-        """Makes some checks. A run of the driver without an answer for each question ends them, and counts as failed."""
+        """Makes some checks. What ends them early counts as failed, as a run of the driver without an answer for each question, and
+        the checks after them are made."""
         try:
             check(self, *given)
-        except (DriverFault, OSError, ValueError) as fault:
-            self.say(f"{what}: a run ended early", [f"{type(fault).__name__}: {fault}"], 1)
+        except Exception as fault:
+            self.say(f"{what}: ended early", [f"{type(fault).__name__}: {fault}"], 1)
 
     def end(self):
         print(f"{self.passed} passed, {self.failed} failed")
         return 1 if self.failed else 0
+
+
+class Counted(Report):
+    """Counts checks alone."""
+
+    def say(self, what, faults, runs):
+        self.passed, self.failed = self.passed + (not faults), self.failed + bool(faults)
+
+
+def early_ends_missed():
+    """What is wrong where a check ends early: it counts as failed, and those after it are made."""
+    counted = Counted()
+    counted.also("a number that isn't there", lambda _: {}["allocation"])
+    counted.also("a check after it", lambda report: report.say("", [], 1))
+    return [] if (counted.passed, counted.failed) == (1, 1) else [f"{counted.passed} passed, {counted.failed} failed"]
 
 
 def compiled(room, name, *options):
@@ -284,10 +327,18 @@ def drivers():
     return [built("test_driver"), f"{built('test_driver')}.by-rattle"]
 
 
-def check_all(report, room):
-    shim, careless = compiled(room, "refuse", "-shared", "-fPIC"), compiled(room, "careless")
-    missed = refusals_missed(shim, careless)
+def check_faults(report, room, shim):
+    """Checks that programs which do wrong whatever is asked of them are found."""
+    missed = refusals_missed(shim, compiled(room, "careless"))
     report.say("a program that looks at no refusal is found", missed, CARELESS_RUNS)
+    passed = endless_passed(shim, wrapped(room, "endless", "sleep", ENDLESS))
+    report.say("a program that never ends is found", passed, len(ENDLESS_CHECKS))
+    report.say("a check that ends early is found", early_ends_missed(), 2)
+
+
+def check_all(report, room):
+    shim = compiled(room, "refuse", "-shared", "-fPIC")
+    report.also("programs that do wrong", check_faults, room, shim)
     report.also("collate", check_collate, room, shim)
     report.also("collate-cldr", check_collate_cldr, room, shim)
     report.also("sort_names", check_sort_names, shim)
@@ -312,7 +363,7 @@ def main():
         report.failed += len(missing)
         return report.end()
     with tempfile.TemporaryDirectory(prefix="collate-tests-") as room:
-        check_all(report, room)
+        report.also("the programs", check_all, room)
     return report.end()
 
 

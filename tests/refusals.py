@@ -176,6 +176,8 @@ def other_answers_missed(shim, program):
     asked = [question for question, _ in questions_of("comparisons")[:3]]
     given, other = given_by(asked), given_by([*asked[:-1], "compare c 61 42 , c 61 62"])
     plain = run(program, [], given, shim=shim)
+    if not plain.counts:
+        return [f"no allocation was counted: {plain}"]
     places = range(1, 1 + plain.counts["allocation"], 3)
     outcomes = [tried(shim, program, [], other, plain, Refused("allocation", at), driver_is_right) for at in places]
     return [f"not found: {it.refused}" for it in outcomes if not it.fault] + ["too few"] * (len(outcomes) < 3)

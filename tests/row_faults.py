@@ -82,7 +82,7 @@ CARELESS = [
     ("an answer too many", '"$DRIVER"; echo', SECONDS),
     ("a status that isn't 0", '"$DRIVER"; exit 1', SECONDS),
     ("a message on standard error", '"$DRIVER"; echo no memory >&2', SECONDS),
-    ("an end that doesn't come", f'"$DRIVER"; exec sleep {SECONDS}', 2),
+    ("an end that doesn't come", f'"$DRIVER"; sleep {SECONDS}; exit 0', 2),
 ]
 
 

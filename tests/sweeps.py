@@ -2,6 +2,7 @@
 import concurrent.futures
 import os
 import shlex
+import signal
 import stat
 import subprocess
 import tempfile
@@ -66,12 +67,20 @@ class Refused:
         return f"{self.request} {self.at}{' and each after it' if self.also_after else ''} {how}"
 
 
-def ended(command, **how):
-    """The run of a command, which is killed where it takes too long."""
-    try:
-        return subprocess.run(command, capture_output=True, timeout=SECONDS, **how)
-    except subprocess.TimeoutExpired:
-        return subprocess.CompletedProcess(command, None, b"", f"it had not ended after {SECONDS} seconds\n".encode())
+def ended(command, given=None, seconds=None, **how):
+    """The run of a command, which is killed where it takes too long, with all that it has started."""
+    seconds = seconds or SECONDS
+    how.update({"stdout": subprocess.PIPE, "stderr": subprocess.PIPE, "start_new_session": True})
+    how.update({} if given is None else {"stdin": subprocess.PIPE})
+    with subprocess.Popen(command, **how) as it:
+        try:
+            output, faults = it.communicate(given, timeout=seconds)
+        except BaseException as fault:
+            os.killpg(it.pid, signal.SIGKILL)
+            if not isinstance(fault, subprocess.TimeoutExpired):
+                raise
+            return subprocess.CompletedProcess(command, None, b"", f"it had not ended after {seconds} seconds\n".encode())
+    return subprocess.CompletedProcess(command, it.returncode, output, faults)
 
 
 def run(program, words, given=b"", refused=None, shim=None):
@@ -79,7 +88,7 @@ def run(program, words, given=b"", refused=None, shim=None):
     pipe the number of reads would depend on how fast the pipe is filled."""
     env = dict(ENVIRONMENT)
     if not shim:
-        ran = ended([program, *words], input=given, env=env)
+        ran = ended([program, *words], given, env=env)
         return Run(ran.returncode, ran.stdout, ran.stderr, None)
     reader, writer = os.pipe()
     try:
@@ -174,6 +183,8 @@ def says_refusals(name, *read_failures):
 def losses_missed(outcomes, plain, is_right):
     """The failed requests after which a run is let through that says nothing and has lost lines of its output, as if its input had
     ended there, or as if a call had been left out."""
+    if not plain.counts:
+        return [f"no request was counted: {plain}"]
     counts = {it: count + 1 for it, count in plain.counts.items()}
     lines = plain.output.splitlines(keepends=True)
     lost = [Run(0, b"".join(some), b"", counts) for some in (lines[:-1], lines[1:], [])]

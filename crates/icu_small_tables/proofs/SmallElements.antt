@@ -1,6 +1,6 @@
 -- The elements of the small tables, and what the conditions on elements ask of them.
-use Rattle.std.proofs.Common.{◌≡◌, ◌≢◌, ◌⊎◌, ◌<◌, ◌/◌, ◌%◌, ◌^◌, ℕ, false, List, [], ◌∷◌, refl, sym, ap, subst, ◌∙◌, arith, inl, inr, IsTrue, ◌*◌, ◌≤◌, nat_eq}
-use Rattle.std.proofs.lemmas.Bool.{eqb-true}
+use Rattle.std.proofs.Common.{◌≡◌, ◌≢◌, ◌⊎◌, ◌<◌, ◌/◌, ◌%◌, ◌^◌, ◌&&◌, ◌||◌, ℕ, Bool, true, false, not, List, map, [], ◌∷◌, refl, sym, ap, subst, ◌∙◌, arith, inl, inr, IsTrue, ◌*◌, ◌≤◌, nat_eq}
+use Rattle.std.proofs.lemmas.Bool.{eq-eqb, eqb-true}
 use Rattle.std.proofs.lemmas.Bool.Decides.{nat_tests}
 use Rattle.std.specs.List.{Contains, list_all}
 use Rattle.icu_entries.specs.Elements.{Element, common, of_primary, of_secondary}
@@ -8,6 +8,7 @@ use Rattle.icu_entries.specs.ElementConditions.{tertiary_of}
 use Rattle.icu_entries.specs.Entries.{simple_element}
 use Rattle.icu_entries.specs.Weights.{implicit_weight}
 use Rattle.icu_collation_data.specs.Data.{Data}
+use Rattle.icu_levels.specs.ListOrder.{IsBeginning}
 use Rattle.icu_levels.specs.WeightBytes.{weight_bytes}
 use Rattle.icu_provider.specs.SpecialPrimaries.{is_compressible}
 use Rattle.icu_checks.specs.declared.condition.ReachableElementCondition.{ReachableElementCondition}
@@ -19,13 +20,14 @@ use Rattle.icu_checks.specs.declared.condition.LeadCondition.TheVariants as of_l
 use Rattle.icu_checks.specs.ElementConditions.{has_low_bytes, is_tertiary_element, reachable_element_meets}
 use Rattle.icu_checks.specs.LeadConditions.{LeadMeets}
 use Rattle.icu_checks.specs.PairConditions.{BeginsNot, PairMeets}
-use Rattle.icu_collation_data.proofs.ListLemmas.{of_member}
+use Rattle.icu_collation_data.proofs.ListLemmas.{all_members, of_member}
 use Rattle.icu_checks.proofs.ComparedLevelLemmas.{passes}
 use Rattle.icu_checks.proofs.EntryViolationLemmas.{passes_element}
 use Rattle.icu_checks.proofs.ImplicitLemmas.{AreBytes, implicit_bytes, implicit_pass}
 use Rattle.icu_weights.specs.Leads.{is_middle}
-use Rattle.icu_weights.proofs.BeginningLemmas.{four_bytes_begin, one_byte_begins}
+use Rattle.icu_weights.proofs.BeginningLemmas.{four_bytes_begin}
 use Rattle.icu_weights.proofs.WrittenWeightLemmas.{same_first}
+use Rattle.icu_small_tables.specs.declared.small_root.TheConstants.{LETTER_B}
 use Rattle.icu_small_tables.specs.SmallTables.{letter_a, letter_b, letter_a_grave, grave, IsLowLead, with_root}
 
 -- the elements that don't go by a character
@@ -36,6 +38,9 @@ stated_elements = simple_element letter_a ∷ simple_element letter_b ∷ simple
 pub data IsSmallElement (x : Element) : Type 0 where
   stated : Contains stated_elements x → IsSmallElement x
   implicit : (c : ℕ) → x ≡ of_primary (implicit_weight c) → IsSmallElement x
+
+both : {a b : Bool} → IsTrue a → IsTrue b → IsTrue (a && b)
+both first second = rw (first, second) refl
 
 -- ---- lead bytes
 
@@ -69,6 +74,9 @@ module _ (n : ℕ) (low : IsLowLead n) (root : Data) where
   no_letter : (b : ℕ) → 0x29 ≤ b → nat_eq b n ≡ false
   no_letter b least = let most = low.high in grind (arith, nat_tests, most)
 
+  shares_none : (b : ℕ) → 0x29 ≤ b → IsTrue (nat_eq b n || not (nat_eq b (n * 0x1000000 / 0x1000000)))
+  shares_none b least = rw (lead_is n, no_letter b least) refl
+
   stated_meet : (condition : ReachableElementCondition) → IsTrue (list_all (reachable_element_meets condition (with_root n root)) stated_elements)
   unfolding is_compressible
   stated_meet of_element.Width = refl
@@ -76,8 +84,10 @@ module _ (n : ℕ) (low : IsLowLead n) (root : Data) where
   stated_meet of_element.TertiaryElement = refl
   stated_meet of_element.MiddleLead = refl
   stated_meet of_element.ImplicitLength = refl
-  stated_meet of_element.NumericLead = rw (no_letter 0x29 (omega arith), no_letter 0x2A (omega arith), no_letter 0x2B (omega arith)) refl
-  stated_meet of_element.SharedLead = rw (lead_is n, no_letter 0x29 (omega arith), no_letter 0x2A (omega arith), no_letter 0x2B (omega arith)) refl
+  stated_meet of_element.NumericLead =
+      both (ap not (no_letter 0x29 (omega arith))) (both (ap not (no_letter (LETTER_B / 256) (omega arith))) (both (ap not (no_letter 0x2B (omega arith))) refl))
+  stated_meet of_element.SharedLead =
+      both (shares_none 0x29 (omega arith)) (both (shares_none (LETTER_B / 256) (omega arith)) (both (shares_none 0x2B (omega arith)) refl))
   stated_meet of_element.SecondByte = refl
 
   pub element_is_well_formed : (condition : ReachableElementCondition) (x : Element) → IsSmallElement x → IsTrue (reachable_element_meets condition (with_root n root) x)
@@ -87,11 +97,44 @@ module _ (n : ℕ) (low : IsLowLead n) (root : Data) where
       (passes_element (with_root n root) (of_primary (implicit_weight c))
       (implicit_pass (with_root n root) (lead_meets of_lead.ImplicitLead) (lead_meets of_lead.LeadsApart) (let most = low.high in omega (arith, most)) c) condition)
 
--- ---- two elements: each weight is one byte, but for implicit ones, whose lead byte is theirs alone
+-- ---- two elements: weights that don't go by a character are tried in pairs, and implicit ones have a lead byte alone
 
--- the primary weight is one byte below FE, or none
-record HasByte (p : ℕ) : Type 0 where
-  alone : p % 0x1000000 ≡ 0
+stated_primaries : List ℕ
+stated_primaries = map (λ (x : Element). x.primary) stated_elements
+
+-- a list is a beginning of another
+begins_list : List ℕ → List ℕ → Bool
+begins_list [] qs = true
+begins_list (p ∷ ps) [] = false
+begins_list (p ∷ ps) (q ∷ qs) = nat_eq p q && begins_list ps qs
+
+tries_beginnings : (ps qs : List ℕ) → IsBeginning ps qs → IsTrue (begins_list ps qs)
+unfolding begins_list
+tries_beginnings [] qs is = refl
+tries_beginnings (p ∷ ps) [] is = absurd is
+tries_beginnings (p ∷ ps) (q ∷ qs) is = both (eq-eqb p q is.0) (tries_beginnings ps qs is.1)
+
+are_apart : ℕ → ℕ → Bool
+are_apart v w = nat_eq v 0 || nat_eq w 0 || nat_eq v w || not (begins_list (weight_bytes 4 v) (weight_bytes 4 w))
+
+stated_are_apart : IsTrue (list_all (λ v. list_all (are_apart v) stated_primaries) stated_primaries)
+unfolding stated_primaries are_apart begins_list
+stated_are_apart = refl
+
+tried_apart : (v w : ℕ) (b : Bool) → IsTrue (nat_eq v 0 || nat_eq w 0 || nat_eq v w || not b) → v ≢ 0 → w ≢ 0 → v ≢ w → IsTrue b → ⊥
+tried_apart v w b tried some other differ is = grind (arith, nat_tests, tried, some, other, differ, is)
+
+stated_apart : (v w : ℕ) → Contains stated_primaries v → Contains stated_primaries w → BeginsNot (weight_bytes 4) v w
+unfolding are_apart
+stated_apart v w first second some other differ is =
+    tried_apart v w (begins_list (weight_bytes 4 v) (weight_bytes 4 w))
+    (passes (are_apart v) stated_primaries w (passes (λ x. list_all (are_apart x) stated_primaries) stated_primaries v stated_are_apart first) second)
+    some other differ (tries_beginnings _ _ is)
+
+-- the primary weight is that of an element that doesn't go by a character
+record IsStated (p : ℕ) : Type 0 where
+  stated : Contains stated_primaries p
+  led : p ≢ 0 → 1 ≤ p / 0x1000000
   below : p / 0x1000000 < 0xFE
 
 -- it is four bytes from FE on
@@ -100,13 +143,13 @@ record HasFourBytes (p : ℕ) : Type 0 where
   last : p % 256 ≢ 0
 
 record HasSmallWeights (x : Element) : Type 0 where
-  primary : HasByte x.primary ⊎ HasFourBytes x.primary
+  primary : IsStated x.primary ⊎ HasFourBytes x.primary
   secondary : x.secondary % 256 ≡ 0
   some : x.secondary ≢ 0
   tertiary : tertiary_of x ≡ common
 
-one_byte : (x : Element) → HasByte x.primary → x.secondary % 256 ≡ 0 → x.secondary ≢ 0 → tertiary_of x ≡ common → HasSmallWeights x
-one_byte x byte secondary some tertiary = record { primary = inl byte; secondary = secondary; some = some; tertiary = tertiary }
+small : (x : Element) → IsStated x.primary → x.secondary % 256 ≡ 0 → x.secondary ≢ 0 → tertiary_of x ≡ common → HasSmallWeights x
+small x primary secondary some tertiary = record { primary = inl primary; secondary = secondary; some = some; tertiary = tertiary }
 
 last_byte : (p : ℕ) → IsTrue (has_low_bytes p) → p % 256 ≢ 0
 last_byte p low zero = grind (arith, nat_tests)
@@ -115,15 +158,17 @@ four_bytes : (p : ℕ) → AreBytes p → HasFourBytes p
 four_bytes p bytes = record { lead = bytes.lead; last = last_byte p bytes.low }
 
 small_weights : (x : Element) → IsSmallElement x → HasSmallWeights x
+unfolding stated_primaries
 small_weights x (stated is) =
+    let all = all_members stated_primaries in
     of_member HasSmallWeights stated_elements x (
-      one_byte (simple_element letter_a) (record { alone = refl; below = omega arith }) refl (λ z. let h = z in omega arith) refl,
+      small (simple_element letter_a) (record { stated = all.0; led = λ some. omega arith; below = omega arith }) refl (λ z. let h = z in omega arith) refl,
       (
-        one_byte (simple_element letter_b) (record { alone = refl; below = omega arith }) refl (λ z. let h = z in omega arith) refl,
+        small (simple_element letter_b) (record { stated = all.1.0; led = λ some. omega arith; below = omega arith }) refl (λ z. let h = z in omega arith) refl,
         (
-          one_byte (simple_element letter_a_grave) (record { alone = refl; below = omega arith }) refl (λ z. let h = z in omega arith) refl,
+          small (simple_element letter_a_grave) (record { stated = all.1.1.0; led = λ some. omega arith; below = omega arith }) refl (λ z. let h = z in omega arith) refl,
           (
-            one_byte (of_secondary grave) (record { alone = refl; below = omega arith }) refl (λ z. let h = z in omega arith) refl,
+            small (of_secondary grave) (record { stated = all.1.1.1.0; led = λ some. absurd (some refl); below = omega arith }) refl (λ z. let h = z in omega arith) refl,
             tt,
           ),
         ),
@@ -133,17 +178,12 @@ small_weights x (implicit c is) =
     subst HasSmallWeights (sym is)
     (record { primary = inr (four_bytes _ (implicit_bytes c)); secondary = refl; some = λ z. let h = z in omega arith; tertiary = refl })
 
-primaries_apart : (v w : ℕ) → HasByte v ⊎ HasFourBytes v → HasByte w ⊎ HasFourBytes w → BeginsNot (weight_bytes 4) v w
+primaries_apart : (v w : ℕ) → IsStated v ⊎ HasFourBytes v → IsStated w ⊎ HasFourBytes w → BeginsNot (weight_bytes 4) v w
 primaries_apart v w (inl first) (inl second) some other differ begins =
-    let alone = first.alone in let below = first.below in let lone = second.alone in let under = second.below in
-    let lead = (one_byte_begins v w (omega arith) (omega arith) alone some).1 begins in
-    differ (same_leads v w (eqb-true _ _ lead) alone lone)
-  where
-    same_leads : (v w : ℕ) → v / 0x1000000 ≡ w / 0x1000000 → v % 0x1000000 ≡ 0 → w % 0x1000000 ≡ 0 → v ≡ w
-    same_leads v w lead alone lone = omega arith
+    stated_apart v w first.stated second.stated some other differ begins
 primaries_apart v w (inl first) (inr second) some other differ begins =
-    let alone = first.alone in let below = first.below in let high = second.lead in
-    let lead = eqb-true _ _ ((one_byte_begins v w (omega arith) (omega arith) alone some).1 begins) in
+    let below = first.below in let high = second.lead in
+    let lead : v / 0x1000000 ≡ w / 0x1000000 = same_first 3 v w (first.led some) begins in
     omega (arith, lead, below, high)
 primaries_apart v w (inr first) (inl second) some other differ begins =
     let high = first.lead in let under = second.below in

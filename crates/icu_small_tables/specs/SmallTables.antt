@@ -5,6 +5,7 @@ use Rattle.icu_collation_data.specs.Data.{Context, Data}
 use Rattle.icu_table_builder.specs.Building.{SaysOfCharacters}
 use Rattle.icu_provider.specs.CollatorTables.{CollatorTables}
 use Rattle.icu_provider.specs.Tables.{Tables}
+use Rattle.icu_small_tables.specs.declared.small_root.TheConstants.{LETTER_B}
 
 -- the entry of "a": its primary weight is one byte
 abbrev pub letter_a : ℕ
@@ -12,7 +13,7 @@ letter_a = common_entry 0x2900
 
 -- that of "b"
 abbrev pub letter_b : ℕ
-letter_b = common_entry 0x2A00
+letter_b = common_entry LETTER_B
 
 -- that of "a" with a grave, U+0300
 abbrev pub letter_a_grave : ℕ

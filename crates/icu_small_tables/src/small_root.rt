@@ -10,6 +10,9 @@ use icu_entries::{CollationElement32, DataError, DataErrorKind, DataTable};
 use icu_table_builder::{DataBuilder, DataVectors, OwnedData};
 use std::alloc::{AllocError, Global};
 
+/// The primary weight of "b". It begins no other letter's, and none begins it.
+const LETTER_B: u16 = 0x2A00;
+
 /// The lists of the root, as a builder makes them: "a" contracts by context 0, "b" is a letter, and the weights of all
 /// others follow from their numbers.
 fn built(alloc: Global) -> Result<DataVectors, AllocError>
@@ -24,7 +27,7 @@ fn built(alloc: Global) -> Result<DataVectors, AllocError>
         &[(&['\u{300}'], CollationElement32::common(0x2B00))],
     )?;
     builder.set_entry('a', CollationElement32::contraction(0));
-    builder.set_entry('b', CollationElement32::common(0x2A00));
+    builder.set_entry('b', CollationElement32::common(LETTER_B));
     builder.build()
 }
 
