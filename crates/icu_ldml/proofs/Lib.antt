@@ -1,0 +1,2 @@
+pub mod ParentLemmas
+pub mod TypeLemmas
