@@ -11,7 +11,7 @@ import crates
 
 DRIVER = "test_driver"
 # What says that a call may fail so, in the type that it returns.
-FAILURES = {"AllocError", "DataError", "LineError", "ReadError", "RulesError", "SortKeyError", "TagError", "XmlError"}
+FAILURES = {"AllocError", "DataError", "LdmlError", "LineError", "ReadError", "RulesError", "SortKeyError", "TagError", "XmlError"}
 # Errors that say so within another one, and such as no public call returns.
 WITHIN = {"DataErrorKind", "UnplacedError"}
 # A public error, of which one kind is that an allocation failed.
@@ -29,8 +29,8 @@ KEY, CHECK, FILE, READ, LINE = "`key`", "`check`", "`root`", "`next` and `whole`
 # Calls to which no question comes: each request of this program, or of this crate, is refused or tested by itself; some are run by
 # the tests of their own crates alone, without a refusal.
 PROGRAM, TYPES, TESTS = "the program `collate-cldr`", "`test_types`", "the crate's own tests, where no allocation is refused"
-# Calls that nothing makes: those over a trait that no crate implements yet, and one that hands tables which come one by one to
-# `from_set`.
+# Calls that nothing makes: those over a trait that no crate implements yet, those of the reader of steps, and one that hands tables
+# which come one by one to `from_set`.
 NOTHING = "nothing"
 # The crate and the name of a call, behind its type where it has one, and the question of the driver that comes to it, or what else
 # makes it.
@@ -42,6 +42,7 @@ LEFT_OUT = {
     ("icu_collator", "Collator::from_checked_tables"): TYPES,
     ("icu_collator", "Collator::try_from_tables"): PROGRAM,
     ("icu_collator", "Collator::with_options"): TYPES,
+    ("icu_ldml", "CollationFile::parse"): TESTS,
     ("icu_locale", "LanguageTag::collation_type"): TESTS,
     ("icu_locale", "LanguageTag::locale"): TESTS,
     ("icu_locale", "LanguageTag::parse"): TESTS,
@@ -56,6 +57,8 @@ LEFT_OUT = {
     ("icu_weights", "first_overlap"): CHECK,
     ("icu_weights", "first_common_overlap"): CHECK,
     ("icu_elements", "ElementReader::next"): "`cursor`",
+    ("icu_elements", "StepReader::next"): NOTHING,
+    ("icu_elements", "StepReader::peek"): NOTHING,
     ("icu_elements", "decomposed_text"): KEY,
     ("icu_matches", "Text::push"): READ,
     ("icu_matches", "find_match"): READ,
