@@ -1,5 +1,5 @@
 -- The elements of the small tables, and what the conditions on elements ask of them.
-use Rattle.std.proofs.Common.{◌≡◌, ◌≢◌, ◌⊎◌, ◌<◌, ◌/◌, ◌%◌, ◌^◌, ◌&&◌, ◌||◌, ℕ, Bool, true, false, not, List, map, [], ◌∷◌, refl, sym, ap, subst, ◌∙◌, arith, inl, inr, IsTrue, ◌*◌, ◌≤◌, nat_eq}
+use Rattle.std.proofs.Common.{◌≡◌, ◌≢◌, ◌⊎◌, ◌<◌, ◌+◌, ◌/◌, ◌%◌, ◌^◌, ◌&&◌, ◌||◌, ℕ, Bool, true, false, not, List, map, [], ◌∷◌, refl, sym, ap, subst, ◌∙◌, arith, inl, inr, IsTrue, ◌*◌, ◌≤◌, nat_eq}
 use Rattle.std.proofs.lemmas.Bool.{eq-eqb, eqb-true}
 use Rattle.std.proofs.lemmas.Bool.Decides.{nat_tests}
 use Rattle.std.specs.List.{Contains, list_all}
@@ -19,6 +19,8 @@ use Rattle.icu_checks.specs.declared.condition.LeadCondition.{LeadCondition}
 use Rattle.icu_checks.specs.declared.condition.LeadCondition.TheVariants as of_lead
 use Rattle.icu_checks.specs.ElementConditions.{has_low_bytes, is_tertiary_element, reachable_element_meets}
 use Rattle.icu_checks.specs.LeadConditions.{LeadMeets}
+use Rattle.icu_checks.specs.inner.EntryViolations.{is_taken_apart, HasEndsApart}
+use Rattle.icu_provider.specs.Reorderings.{lead_byte}
 use Rattle.icu_checks.specs.PairConditions.{BeginsNot, PairMeets}
 use Rattle.icu_collation_data.proofs.ListLemmas.{all_members, of_member}
 use Rattle.icu_checks.proofs.ComparedLevelLemmas.{passes}
@@ -90,12 +92,19 @@ module _ (n : ℕ) (low : IsLowLead n) (root : Data) where
       both (shares_none 0x29 (omega arith)) (both (shares_none (LETTER_B / 256) (omega arith)) (both (shares_none 0x2B (omega arith)) refl))
   stated_meet of_element.SecondByte = refl
 
+  -- an implicit weight keeps its lead byte, which isn't that of numbers
+  taken_apart : (p : ℕ) → lead_byte p ≡ 0xFE → IsTrue (is_taken_apart (with_root n root) p)
+  taken_apart p lead = rw (lead, lead_is n) (let most = low.high in grind (arith, nat_tests, most))
+
+  ends_apart : (s : ℕ) → s < 256 → HasEndsApart (with_root n root) (0xFE00 + s)
+  ends_apart s small = (taken_apart ((0xFE00 + s) * 0x10000) (omega (arith, small)), taken_apart ((0xFE00 + s) * 0x10000 + 0xFFFF) (omega (arith, small)))
+
   pub element_is_well_formed : (condition : ReachableElementCondition) (x : Element) → IsSmallElement x → IsTrue (reachable_element_meets condition (with_root n root) x)
   element_is_well_formed condition x (stated is) = passes (reachable_element_meets condition (with_root n root)) stated_elements x (stated_meet condition) is
   element_is_well_formed condition x (implicit c is) =
       subst (λ y. IsTrue (reachable_element_meets condition (with_root n root) y)) (sym is)
       (passes_element (with_root n root) (of_primary (implicit_weight c))
-      (implicit_pass (with_root n root) (lead_meets of_lead.ImplicitLead) (lead_meets of_lead.LeadsApart) (let most = low.high in omega (arith, most)) c) condition)
+      (implicit_pass (with_root n root) ends_apart (let most = low.high in omega (arith, most)) c) condition)
 
 -- ---- two elements: weights that don't go by a character are tried in pairs, and implicit ones have a lead byte alone
 
