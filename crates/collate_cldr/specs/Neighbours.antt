@@ -1,5 +1,5 @@
 -- Whether texts that follow one another are in order, and how many that aren't are counted.
-use Rattle.std.specs.Prelude.{◌≡◌, ℕ, ◌+◌, ◌-◌, ◌^◌, ◌==◌, ◌&&◌, Bool, true, List, [], ◌∷◌, ◌⊎◌, Option, Some, None, chars, min, if◌then◌else◌}
+use Rattle.std.specs.Prelude.{◌≡◌, ℕ, ◌+◌, ◌-◌, ◌^◌, ◌==◌, ◌&&◌, Bool, true, List, [], ◌∷◌, ◌⊎◌, Option, Some, None, IfSome, chars, min, if◌then◌else◌}
 use Rattle.std.specs.Str.{encode_utf8_all}
 use Rattle.std.specs.Cmp.Lexicographic.{slice_cmp}
 use Rattle.std.specs.Ordering.{is_gt, nat_cmp}
@@ -87,3 +87,9 @@ nothing_judged = record { counts = record { pairs = 0; greater = 0; greater_by_k
 abbrev pub CountsLines : Collation → List ℕ → Counts → Type 0
 CountsLines c bytes counts = (lines : List (List ℕ)) × (last : Option (List ℕ)) × AreLines bytes lines
     × JudgesLines c nothing_judged lines (record { counts = counts; last = last })
+
+-- the lines of an input, as far as its bytes are known, are judged by one of these collations, and the status is 0
+-- exactly where no pair is out of order, else 1
+abbrev pub JudgesInput : (Collation → Type 0) → Option (List ℕ) → ℕ → Type 0
+JudgesInput compares input status = (c : Collation) × (counts : Counts)
+    × compares c × IfSome input (λ bytes. CountsLines c bytes counts) × (status ≡ (if are_in_order counts then 0 else 1))

@@ -1,5 +1,5 @@
 //! One run of the program.
-ghost use Rattle.std.specs.Prelude.{◌≡◌, ◌≤◌, ◌↔◌, None, IfSome, map, string_bytes, if◌then◌else◌};
+ghost use Rattle.std.specs.Prelude.{◌≡◌, ◌≤◌, ◌↔◌, None, IfOk, IfSome, map, string_bytes, if◌then◌else◌};
 ghost use Rattle.std.specs.Io.KnownBytes.{Keeps};
 ghost use Rattle.collate_commands.specs.Commands.{command_of};
 ghost use Rattle.collate_commands.specs.ProgramErrors.{lines_in};
@@ -7,7 +7,7 @@ ghost use Rattle.collate_commands.specs.ProgramRuns.{PrintsAnswer, Fails};
 ghost use Rattle.collate_commands.specs.PartialWrites.{AppendsBeginning};
 ghost use Rattle.collate_cldr.specs.CldrLines.{cldr_lines, usage_text};
 ghost use Rattle.collate_cldr.specs.Files.{ComparesAs, IsLineOf};
-ghost use Rattle.collate_cldr.specs.Neighbours.{are_in_order};
+ghost use Rattle.collate_cldr.specs.Neighbours.{are_in_order, JudgesInput};
 
 use crate::asked::{Asked, Request};
 use crate::file_source::FileSource;
@@ -62,7 +62,7 @@ pub(crate) fn run<R: Files + AllocGlobal, I: Read + Drop, W: Write, E: Write>(
         Some(Asked::Over(request)) => match neighbours_asked(request.words) {
             Some(strength) => {
                 match print_neighbours(rt, request, strength, input, output) {
-                    Ok(counts) => status_of_counts(counts),
+                    Ok(status) => status,
                     Err(error) => report(error, wording(), errors),
                 }
             }
@@ -126,14 +126,19 @@ fn neighbours_asked(words: &[String]) -> Option<Strength> {
     }
 }
 
-/// Looks at the lines of the input, and prints what was seen.
+/// Looks at the lines of the input, prints what was seen, and returns the status: 0 exactly where no pair of neighbours
+/// was out of order, else 1.
 fn print_neighbours<R: Files + AllocGlobal, I: Read + Drop, W: Write>(
     rt: &R,
     request: Request<'_>,
     strength: Strength,
     input: I,
     output: &mut W,
-) -> Result<Counts, ProgramError> {
+) -> Result<u8, ProgramError>
+    ensures bound { IfOk result (λ status. status ≤ 1) }
+    ensures judged { IfOk result (λ status.
+        JudgesInput (ComparesAs request.entry.chosen strength) (I.remaining input) status) }
+{
     let source = FileSource {
         rt,
         file: request.file,
@@ -142,7 +147,7 @@ fn print_neighbours<R: Files + AllocGlobal, I: Read + Drop, W: Write>(
     let collator = source.collator(rt.alloc(), strength)?;
     let counts = neighbours(rt.alloc(), &collator, input)?;
     print_counts(counts, output)?;
-    Ok(counts)
+    Ok(status_of_counts(counts))
 }
 
 /// The status after counts were printed: 0 exactly where no pair was out of order.
