@@ -1,0 +1,2 @@
+pub mod RunDigitLemmas
+pub mod SteadyStepLemmas
