@@ -1,2 +1,3 @@
+pub mod NumberDigitLemmas
 pub mod RunDigitLemmas
 pub mod SteadyStepLemmas

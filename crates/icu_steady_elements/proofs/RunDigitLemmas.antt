@@ -1,5 +1,5 @@
 -- A run of digits that is read number by number is the run.
-use Rattle.std.proofs.Common.{◌≡◌, ℕ, zero, suc, ◌<◌, ◌≤◌, ◌⊎◌, inl, inr, Bool, true, false, List, [], ◌∷◌, ◌++◌, length, take, drop, map, refl, sym, ap, ap₂, ◌∙◌, append_assoc, append-nil, arith}
+use Rattle.std.proofs.Common.{◌≡◌, ℕ, zero, suc, ◌<◌, ◌≤◌, ◌⊎◌, inl, inr, Bool, true, false, if◌then◌else◌, Option, Some, None, option_to_list, slice_get, List, [], ◌∷◌, ◌++◌, length, take, drop, map, refl, sym, ap, ap₂, ◌∙◌, append_assoc, append-nil, arith}
 use Rattle.std.proofs.lemmas.List.{take_all, map-append}
 use Rattle.std.proofs.Math.ListN.{drop_of_length-le}
 use Rattle.std.proofs.Math.Seq.{take-append_seam, drop-append_seam}
@@ -10,25 +10,18 @@ use Rattle.icu_numbers.proofs.DigitRunLemmas.{run_turn}
 use Rattle.icu_provider.specs.Tables.{Tables}
 use Rattle.icu_elements.specs.declared.reader.recent.RecentChars.{RecentChars}
 use Rattle.icu_elements.specs.LastChars.{recent_chars}
-use Rattle.icu_elements.specs.TextElements.{Reading, digit_of_char, last_two, number_elements, elements_after}
+use Rattle.icu_elements.specs.TextElements.{Reading, continues_number, digit_of_char, last_two, number_elements, elements_after}
 use Rattle.icu_elements.specs.inner.TakenDigits.{run_of}
 use Rattle.icu_elements.proofs.ReaderLemmas.{last_two-append, none_more}
-use Rattle.icu_elements.proofs.TakenDigitLemmas.{run_goes_on}
-use Rattle.icu_steady_elements.specs.inner.RunDigits.{IsDigitRead, IsWholeNumber, run_digits, elements_behind_run, run_elements, started_weights, started_elements}
+use Rattle.icu_elements.proofs.TakenDigitLemmas.{run_goes_on, run_ends, continuing, not_continuing, first_char, no_char}
+use Rattle.icu_steady_elements.proofs.NumberDigitLemmas.{zeros_before}
+use Rattle.icu_steady_elements.specs.inner.RunDigits.{IsRunEnd, IsDigitRead, IsWholeNumber, run_digits, elements_behind_run, run_elements, started_weights, started_elements}
 
--- ---- zeros at the front
-
--- they may be dropped before the other digits are read
+-- zeros at the front may be dropped before the other digits are read
 without_zeros-append : (xs ys : List ℕ) → without_first_zeros (without_first_zeros xs ++ ys) ≡ without_first_zeros (xs ++ ys)
 without_zeros-append [] ys = refl
 without_zeros-append (zero ∷ xs) ys = without_zeros-append xs ys
 without_zeros-append (suc x ∷ xs) ys = refl
-
--- those behind another digit stay
-zeros_before : (ds ys : List ℕ) → 0 < length (without_first_zeros ds) → without_first_zeros (ds ++ ys) ≡ without_first_zeros ds ++ ys
-zeros_before [] ys some = absurd (omega arith)
-zeros_before (zero ∷ ds) ys some = zeros_before ds ys some
-zeros_before (suc d ∷ ds) ys some = refl
 
 -- ---- a whole number, and the digits behind it
 
@@ -75,6 +68,12 @@ pub run_started : (reading : Reading) (lead d : ℕ) (before text : List ℕ) �
 run_started reading lead d before text =
     ap (λ ws. map of_primary ws ++ elements_behind_run reading before text) (sym (run_turn lead (d ∷ run_digits reading.tables text) (omega arith)))
 
+-- zeros at the front of a number may be dropped
+pub zeros_dropped : (reading : Reading) (lead : ℕ) (ds before text : List ℕ) → started_elements reading lead (without_first_zeros ds) before text ≡ started_elements reading lead ds before text
+zeros_dropped reading lead ds before text =
+    ap (λ (l : List ℕ). map of_primary (number_weights lead (value_of (take longest_number l)) ++ run_weights lead (drop longest_number l)) ++ elements_behind_run reading before text)
+    (without_zeros-append ds (run_digits reading.tables text))
+
 -- ---- a digit is read
 
 module _ (reading : Reading) (d : ℕ) (before text before_now text_now : List ℕ) (t : IsDigitRead reading.tables d before text before_now text_now) where
@@ -98,15 +97,12 @@ module _ (reading : Reading) (d : ℕ) (before text before_now text_now : List �
   run_digit_read lead =
       ap₂ (λ (ds : List ℕ) (es : List Element). number_elements lead ds ++ es) (sym one_digit) same_behind
 
-  -- it goes on a number, or is dropped where it is a zero at the front
-  pub number_digit_read : (lead : ℕ) (ds : List ℕ) → started_elements reading lead (without_first_zeros (ds ++ d ∷ [])) before_now text_now ≡ started_elements reading lead ds before text
+  -- it goes on a number
+  pub number_digit_read : (lead : ℕ) (ds : List ℕ) → started_elements reading lead (ds ++ d ∷ []) before_now text_now ≡ started_elements reading lead ds before text
   number_digit_read lead ds =
       let rest : List ℕ = run_digits reading.tables text_now in
-      let same : without_first_zeros (without_first_zeros (ds ++ d ∷ []) ++ rest) ≡ without_first_zeros (ds ++ run_digits reading.tables text) =
-          without_zeros-append (ds ++ d ∷ []) rest
-          ∙ ap without_first_zeros (append_assoc ds (d ∷ []) rest ∙ ap (λ l. ds ++ l) (sym one_digit)) in
-      ap₂ (λ (l : List ℕ) (es : List Element). map of_primary (number_weights lead (value_of (take longest_number l)) ++ run_weights lead (drop longest_number l)) ++ es)
-      same same_behind
+      ap₂ (λ (l : List ℕ) (es : List Element). map of_primary (started_weights lead l) ++ es)
+      (append_assoc ds (d ∷ []) rest ∙ ap (λ l. ds ++ l) (sym one_digit)) same_behind
 
   pub fewer_chars : length text_now < length text
   fewer_chars = let all : length text ≡ length (t.char ∷ text_now) = ap length t.taken in omega (arith, all)
@@ -117,3 +113,43 @@ pub run_over : (reading : Reading) (lead : ℕ) (r : RecentChars) (text : List �
 run_over reading lead r text none =
     let by : List ℕ → List Element = λ run. number_elements lead (map (digit_of_char reading.tables) run) ++ elements_after reading (last_two (recent_chars r) run) (drop (length run) text) in
     ap by none ∙ ap (λ l. elements_after reading l text) (none_more r)
+
+-- ---- taking a digit
+
+next_char : (o : Option ℕ) (text rest : List ℕ) (c : ℕ) → slice_get text 0 ≡ Some c → text ≡ option_to_list o ++ rest → (o ≡ None → text ≡ []) → text ≡ c ∷ rest
+next_char None [] rest c first is ended = absurd (cc)
+next_char None (x ∷ xs) rest c first is ended = let none : x ∷ xs ≡ [] = ended refl in absurd (cc)
+next_char (Some x) text rest c first is ended =
+    let was : slice_get text 0 ≡ Some x = ap (λ l. slice_get l 0) is in
+    let same : x ≡ c = cc in
+    is ∙ ap (λ y. y ∷ rest) same
+
+module _ (tables : Tables) (before text before_now text_now : List ℕ) where
+  -- nothing is left
+  pub no_char_left : slice_get text 0 ≡ None → text_now ≡ text → before_now ≡ before → IsRunEnd tables before text before_now text_now
+  no_char_left none unread recent =
+      record { run = ap (run_of tables) (no_char text none); unread = unread; recent = recent }
+
+  module _ (c d : ℕ) (first : slice_get text 0 ≡ Some c) where
+    -- the next character is none that goes on a number
+    pub no_digit_left : (if continues_number tables c then Some d else None) ≡ None → text_now ≡ text → before_now ≡ before → IsRunEnd tables before text before_now text_now
+    no_digit_left off unread recent = record {
+      run = ap (run_of tables) (first_char text c first) ∙ run_ends tables c (drop 1 text) (not_continuing (continues_number tables c) d off);
+      unread = unread;
+      recent = recent;
+    }
+
+    -- the next character was read
+    pub digit_read : Some d ≡ (if continues_number tables c then Some (digit_of_char tables c) else None) → d < 10
+        → (next : Option ℕ) → text ≡ option_to_list next ++ text_now → (next ≡ None → text ≡ []) → before_now ≡ last_two before (c ∷ [])
+        → IsDigitRead tables d before text before_now text_now
+    digit_read on decimal next is ended recent =
+        let by = continuing (continues_number tables c) (digit_of_char tables c) d on in
+        record {
+          char = c;
+          taken = next_char next text text_now c first is ended;
+          continues = by.0;
+          digit = by.1;
+          decimal = decimal;
+          recent = recent;
+        }

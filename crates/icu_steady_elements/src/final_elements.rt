@@ -85,24 +85,20 @@ impl<'d> FinalElements<'d> {
         ensures next { final_left self.old ≡ option_to_list result ++ final_left self.new }
         ensures end { result ≡ None → final_left self.old ≡ [] }
     {
-        match *self {
+        match self {
             FinalElements::Ended => None,
             FinalElements::Single(element) => {
+                let element = *element;
                 *self = FinalElements::Ended;
                 Some(element)
             }
-            FinalElements::Entries(list) => {
-                let mut list = list;
-                let next = list.next();
-                *self = FinalElements::Entries(list);
-                next
-            }
-            FinalElements::Elements([first, rest @ ..]) => {
+            FinalElements::Entries(list) => list.next(),
+            FinalElements::Elements(list) => {
+                let (first, rest) = list.split_first()?;
                 let element = CollationElement::new(*first);
-                *self = FinalElements::Elements(rest);
+                *list = rest;
                 Some(element)
             }
-            FinalElements::Elements([]) => None,
         }
     }
 }

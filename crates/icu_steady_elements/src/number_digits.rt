@@ -1,6 +1,6 @@
 //! Room for the digits of one number.
 
-ghost use Rattle.std.specs.Prelude.{◌≡◌, ◌≤◌, ◌<◌, ◌++◌, ◌∷◌, [], ◌↔◌, All, IsTrue, length, take};
+ghost use Rattle.std.specs.Prelude.{◌≡◌, ◌≤◌, ◌<◌, ◌++◌, ◌∷◌, [], All, MatchBool, length, take};
 ghost use Rattle.icu_levels.specs.Numbers.{longest_number, without_first_zeros};
 
 /// How many digits are read as one number at most.
@@ -34,7 +34,8 @@ impl NumberDigits {
     /// Whether it has as many digits as one number has at most.
     #[tactic(auto, unfolding(crate::specs::inner::RunDigits::digits_in))]
     pub(crate) fn is_full(&self) -> bool
-        ensures { IsTrue result ↔ (length (digits_in self.now) ≡ longest_number) }
+        ensures { MatchBool result (length (digits_in self.now) ≡ longest_number)
+            (length (digits_in self.now) < longest_number) }
     {
         self.len >= ROOM
     }
@@ -47,7 +48,10 @@ impl NumberDigits {
         ensures { digits_in self.new ≡ without_first_zeros (digits_in self.old ++ digit ∷ []) }
     {
         let len = self.len;
-        if len == 0 && digit == 0 || len >= ROOM {
+        if len >= ROOM {
+            return;
+        }
+        if len == 0 && digit == 0 {
             return;
         }
         let mut digits = self.digits;

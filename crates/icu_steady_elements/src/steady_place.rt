@@ -6,7 +6,7 @@ use icu_decomposed_text::TextForMatches;
 use icu_elements::RecentChars;
 
 /// How far a text is read: the characters that were consumed last, and those that are still to be read.
-#[derive(Debug, Drop)]
+#[derive(Debug, Clone, Copy)]
 pub(crate) struct SteadyPlace<X> {
     pub(crate) recent: RecentChars,
     pub(crate) text: X,

@@ -1,10 +1,10 @@
 //! One step of reading a text.
 
-ghost use Rattle.std.specs.Prelude.{◌≡◌, ◌≤◌, length, slice_get, IsTrue};
+ghost use Rattle.std.specs.Prelude.{◌≡◌, ◌≤◌, ◌<◌, length, IsTrue};
 ghost use Rattle.icu_collation_data.specs.DataConditions.{is_readable};
 ghost use Rattle.icu_collation_data.specs.StoredData.{data_of};
 ghost use Rattle.icu_entries.specs.declared.entry.EntryKind.TheVariants.{Digit};
-ghost use Rattle.icu_entries.specs.Entries.{kind_of};
+ghost use Rattle.icu_entries.specs.Entries.{kind_of, digit_value};
 ghost use Rattle.icu_matches.specs.WellFormedEntries.{IsWellFormedMatch};
 ghost use Rattle.icu_elements.specs.LastChars.{recent_chars};
 ghost use Rattle.icu_elements.specs.Reading.{reading_of, element_tables};
@@ -62,14 +62,14 @@ fn read_final<'d, X: TextForMatches>(
     c: char,
     home: CollationData<'d>,
     ce32: CollationElement32,
-    found: SteadyMatch<'d>,
+    found: &SteadyMatch<'d>,
 ) -> StepElements<'d>
     requires { IsTrue (is_readable (data_of home) c ce32) }
     ensures elements { elements_at (reading_of reading.entry) result
         (recent_chars at.new.recent) (X.unread at.new.text)
         ≡ elements_from (reading_of reading.entry) (recent_chars at.old.recent) c
         (final_step (data_of home.entry) c ce32
-        (steady_match found.entry (X.unread at.old.text))) }
+        (steady_match found.now (X.unread at.old.text))) }
     ensures unread { X.unread at.new.text ≡ X.unread at.old.text }
 {
     at.recent.push_with(c, found.suffix);
@@ -77,11 +77,21 @@ fn read_final<'d, X: TextForMatches>(
 }
 
 /// Whether a digit is a number by itself, since its match consumed a suffix or a mark follows.
-fn stands_alone<X: TextForMatches>(found: SteadyMatch<'_>, text: &mut X) -> bool
-    ensures alone { result ≡ stands_alone (steady_match found.entry (X.unread text.old)) }
+fn stands_alone<X: TextForMatches>(found: &SteadyMatch<'_>, text: &mut X) -> bool
+    ensures alone { result ≡ stands_alone (steady_match found.now (X.unread text.old)) }
     ensures unread { X.unread text.new ≡ X.unread text.old }
 {
     !found.suffix.is_empty() || begins_with_mark(text)
+}
+
+/// The digit of an entry that a match came to.
+fn decimal_digit(home: CollationData<'_>, c: char, found: &SteadyMatch<'_>) -> u8
+    requires is_digit { kind_of found.now.ce32 ≡ Digit }
+    requires well_formed { IsWellFormedMatch (data_of home) c found.now.ce32 }
+    ensures value { result ≡ digit_value found.now.ce32 }
+    ensures decimal { result < 10 }
+{
+    found.ce32.digit()
 }
 
 /// Reads a number, at a digit whose match is done: the digit with the run of digits after it, or the digit alone where
@@ -92,20 +102,20 @@ fn read_digits_from<'d, X: TextForMatches>(
     at: &mut SteadyPlace<X>,
     c: char,
     home: CollationData<'d>,
-    found: SteadyMatch<'d>,
+    matched: &SteadyMatch<'d>,
 ) -> StepElements<'d>
-    requires is_digit { kind_of found.ce32 ≡ Digit }
-    requires well_formed { IsWellFormedMatch (data_of home) c found.ce32 }
+    requires is_digit { kind_of matched.now.ce32 ≡ Digit }
+    requires well_formed { IsWellFormedMatch (data_of home) c matched.now.ce32 }
     ensures elements { elements_at (reading_of reading.entry) result
         (recent_chars at.new.recent) (X.unread at.new.text)
         ≡ elements_from (reading_of reading.entry) (recent_chars at.old.recent) c
         (number_step (element_tables reading.entry.tables) lead
-        (steady_match found.entry (X.unread at.old.text))) }
+        (steady_match matched.now (X.unread at.old.text))) }
     ensures fewer { length (X.unread at.new.text) ≤ length (X.unread at.old.text) }
 {
-    at.recent.push_with(c, found.suffix);
-    let digit = found.ce32.digit();
-    if stands_alone(found, &mut at.text) {
+    at.recent.push_with(c, matched.suffix);
+    let digit = decimal_digit(home, c, matched);
+    if stands_alone(matched, &mut at.text) {
         return StepElements::Digit(lone_digit(lead, digit));
     }
     StepElements::Run(read_number(reading, lead, digit, at), lead)
@@ -117,15 +127,15 @@ fn read_digit<'d, X: TextForMatches>(
     at: &mut SteadyPlace<X>,
     c: char,
     home: CollationData<'d>,
-    found: SteadyMatch<'d>,
+    found: &SteadyMatch<'d>,
 ) -> StepElements<'d>
-    requires is_digit { kind_of found.ce32 ≡ Digit }
-    requires well_formed { IsWellFormedMatch (data_of home) c found.ce32 }
+    requires is_digit { kind_of found.now.ce32 ≡ Digit }
+    requires well_formed { IsWellFormedMatch (data_of home) c found.now.ce32 }
     ensures elements { elements_at (reading_of reading.entry) result
         (recent_chars at.new.recent) (X.unread at.new.text)
         ≡ elements_from (reading_of reading.entry) (recent_chars at.old.recent) c
         (digit_step (reading_of reading.entry) (data_of home.entry) c
-        (steady_match found.entry (X.unread at.old.text))) }
+        (steady_match found.now (X.unread at.old.text))) }
     ensures fewer { length (X.unread at.new.text) ≤ length (X.unread at.old.text) }
 {
     match reading.numeric_primary {
@@ -141,14 +151,14 @@ fn read_entry<'d, X: TextForMatches>(
     at: &mut SteadyPlace<X>,
     c: char,
     home: CollationData<'d>,
-    found: SteadyMatch<'d>,
+    found: &SteadyMatch<'d>,
 ) -> StepElements<'d>
-    requires { IsWellFormedMatch (data_of home) c found.ce32 }
+    requires { IsWellFormedMatch (data_of home) c found.now.ce32 }
     ensures elements { elements_at (reading_of reading.entry) result
         (recent_chars at.new.recent) (X.unread at.new.text)
         ≡ elements_from (reading_of reading.entry) (recent_chars at.old.recent) c
         (entry_step (reading_of reading.entry) (data_of home.entry) c
-        (steady_match found.entry (X.unread at.old.text))) }
+        (steady_match found.now (X.unread at.old.text))) }
     ensures fewer { length (X.unread at.new.text) ≤ length (X.unread at.old.text) }
 {
     match found.ce32.kind() {
@@ -177,5 +187,5 @@ pub(crate) fn read_char<'d, X: TextForMatches>(
     let (home, ce32) = tables.homed_entry(c);
     let recent = at.recent;
     let found = find_steady_match(home, c, ce32, recent.as_slice(), &mut at.text);
-    read_entry(reading, at, c, home, found)
+    read_entry(reading, at, c, home, &found)
 }

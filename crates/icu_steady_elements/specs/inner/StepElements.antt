@@ -1,5 +1,5 @@
 -- The elements of one step, and of what it leaves.
-use Rattle.std.specs.Prelude.{ℕ, List, [], ◌∷◌, ◌++◌, Option, Some, None, map, flat_map}
+use Rattle.std.specs.Prelude.{◌≡◌, ℕ, List, [], ◌∷◌, ◌++◌, Option, Some, None, map, flat_map}
 use Rattle.icu_entries.specs.Elements.{Element, element_of}
 use Rattle.icu_entries.specs.Entries.{self_contained}
 use Rattle.icu_elements.specs.TextElements.{Reading, Step, consumed, last_two, elements_after}
@@ -40,3 +40,8 @@ elements_at reading given before text = given_left given ++ elements_behind read
 -- the elements of a step at a character after these characters, and of the text that it leaves
 abbrev pub elements_from : Reading → List ℕ → ℕ → Step → List Element
 elements_from reading before c s = s.elements ++ elements_after reading (last_two before (consumed c s)) s.rest
+
+-- no element of a step is still to be given, and no run of digits goes on
+pub record IsBetweenSteps (given : StepElements) : Type 0 where
+  pub given_is : given_left given ≡ []
+  pub lead_is : run_lead given ≡ None
