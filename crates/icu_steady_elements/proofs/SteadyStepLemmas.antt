@@ -10,7 +10,7 @@ use Rattle.icu_elements.proofs.ReaderLemmas.{last_two-append}
 use Rattle.icu_elements.proofs.StepLemmas.{Leaves-match_of, elements_after_cons, elements_after_nil}
 use Rattle.icu_steady_elements.specs.declared.step_elements.StepElements.{StepElements}
 use Rattle.icu_steady_elements.specs.inner.RunDigits.{run_digits, run_elements}
-use Rattle.icu_steady_elements.specs.inner.StepElements.{given_left, run_lead, elements_behind, elements_at, elements_from, IsBetweenSteps}
+use Rattle.icu_steady_elements.specs.inner.StepElements.{given_left, run_lead, elements_behind, elements_to_give, elements_from, IsBetweenSteps}
 
 -- ---- numbers
 
@@ -42,31 +42,31 @@ module _ (reading : Reading) (lead c e : ℕ) (before now : List ℕ) where
 
 module _ (reading : Reading) (given : StepElements) (before text : List ℕ) where
   -- all of its elements were given, in the midst of a run of digits
-  pub amid_run : (lead : ℕ) → given_left given ≡ [] → run_lead given ≡ Some lead → elements_at reading given before text ≡ run_elements reading lead [] before text
+  pub amid_run : (lead : ℕ) → given_left given ≡ [] → run_lead given ≡ Some lead → elements_to_give reading given before text ≡ run_elements reading lead [] before text
   amid_run lead none is =
       ap (λ (es : List Element). es ++ elements_behind reading (run_lead given) before text) none
       ∙ ap (λ o. elements_behind reading o before text) is
 
   -- all of its elements were given, and no run goes on
-  pub between_steps : IsBetweenSteps given → elements_at reading given before text ≡ elements_after reading before text
+  pub between_steps : IsBetweenSteps given → elements_to_give reading given before text ≡ elements_after reading before text
   between_steps h =
       ap (λ (es : List Element). es ++ elements_behind reading (run_lead given) before text) h.given_is
       ∙ ap (λ o. elements_behind reading o before text) h.lead_is
 
   -- then nothing is left where the text is read
-  pub none_left : IsBetweenSteps given → text ≡ [] → elements_at reading given before text ≡ []
+  pub none_left : IsBetweenSteps given → text ≡ [] → elements_to_give reading given before text ≡ []
   none_left h none =
       between_steps h ∙ ap (elements_after reading before) none ∙ elements_after_nil reading before
 
   -- and else the step at the next character comes
   pub step_next : (c : ℕ) (rest : List ℕ) → IsBetweenSteps given → text ≡ c ∷ rest
-      → elements_from reading before c (step reading before c rest) ≡ elements_at reading given before text
+      → elements_from reading before c (step reading before c rest) ≡ elements_to_give reading given before text
   step_next c rest h is =
       sym (elements_after_cons reading before c rest) ∙ ap (elements_after reading before) (sym is) ∙ sym (between_steps h)
 
   -- the next of its elements comes first
   pub element_next : (o : Option Element) (now : StepElements) → given_left given ≡ option_to_list o ++ given_left now → run_lead now ≡ run_lead given
-      → elements_at reading given before text ≡ option_to_list o ++ elements_at reading now before text
+      → elements_to_give reading given before text ≡ option_to_list o ++ elements_to_give reading now before text
   element_next o now is run =
       let behind : List Element = elements_behind reading (run_lead given) before text in
       ap (λ (es : List Element). es ++ behind) is

@@ -18,12 +18,12 @@ pub(crate) struct NumberDigits {
 }
 
 impl NumberDigits {
-    ghost use Rattle.icu_steady_elements.specs.inner.RunDigits.{digits_in};
+    ghost use Rattle.icu_steady_elements.specs.inner.RunDigits.{room_digits};
 
     /// No digit.
-    #[tactic(auto, unfolding(crate::specs::inner::RunDigits::digits_in))]
+    #[tactic(auto, unfolding(crate::specs::inner::RunDigits::room_digits))]
     pub(crate) fn new() -> NumberDigits
-        ensures { digits_in result ≡ [] }
+        ensures { room_digits result ≡ [] }
     {
         NumberDigits {
             digits: [0; 254],
@@ -32,20 +32,20 @@ impl NumberDigits {
     }
 
     /// Whether it has as many digits as one number has at most.
-    #[tactic(auto, unfolding(crate::specs::inner::RunDigits::digits_in))]
+    #[tactic(auto, unfolding(crate::specs::inner::RunDigits::room_digits))]
     pub(crate) fn is_full(&self) -> bool
-        ensures { MatchBool result (length (digits_in self.now) ≡ longest_number)
-            (length (digits_in self.now) < longest_number) }
+        ensures { MatchBool result (length (room_digits self.now) ≡ longest_number)
+            (length (room_digits self.now) < longest_number) }
     {
         self.len >= ROOM
     }
 
     /// One digit more. A zero at the front is dropped.
-    #[tactic(auto, unfolding(crate::specs::inner::RunDigits::digits_in))]
+    #[tactic(auto, unfolding(crate::specs::inner::RunDigits::room_digits))]
     pub(crate) fn push(&mut self, digit: u8)
         requires decimal { digit < 10 }
-        requires room { length (digits_in self.old) < longest_number }
-        ensures { digits_in self.new ≡ without_first_zeros (digits_in self.old ++ digit ∷ []) }
+        requires room { length (room_digits self.old) < longest_number }
+        ensures { room_digits self.new ≡ without_first_zeros (room_digits self.old ++ digit ∷ []) }
     {
         let len = self.len;
         if len >= ROOM {
@@ -63,12 +63,12 @@ impl NumberDigits {
     }
 
     /// All digits.
-    #[tactic(auto, unfolding(crate::specs::inner::RunDigits::digits_in))]
+    #[tactic(auto, unfolding(crate::specs::inner::RunDigits::room_digits))]
     pub(crate) fn as_slice(&self) -> &[u8]
-        ensures value { result.now ≡ digits_in self.now }
-        ensures decimal { All (λ d. d < 10) (digits_in self.now) }
-        ensures first { without_first_zeros (digits_in self.now) ≡ digits_in self.now }
-        ensures fits { length (digits_in self.now) ≤ longest_number }
+        ensures value { result.now ≡ room_digits self.now }
+        ensures decimal { All (λ d. d < 10) (room_digits self.now) }
+        ensures first { without_first_zeros (room_digits self.now) ≡ room_digits self.now }
+        ensures fits { length (room_digits self.now) ≤ longest_number }
     {
         &self.digits[..self.len]
     }

@@ -5,7 +5,7 @@ ghost use Rattle.icu_levels.specs.Numbers.{longest_number};
 ghost use Rattle.icu_elements.specs.LastChars.{recent_chars};
 ghost use Rattle.icu_elements.specs.Reading.{element_tables, reading_of};
 ghost use Rattle.icu_elements.specs.TextElements.{begins_with_mark, number_elements};
-ghost use Rattle.icu_steady_elements.specs.inner.RunDigits.{IsRunEnd, IsDigitRead, IsWholeNumber, digits_in, started_elements, weights_given, run_elements};
+ghost use Rattle.icu_steady_elements.specs.inner.RunDigits.{IsRunEnd, IsDigitRead, IsWholeNumber, room_digits, started_elements, weights_given, run_elements};
 
 use crate::number_digits::NumberDigits;
 use crate::steady_place::{SteadyPlace, peek};
@@ -53,9 +53,9 @@ fn read_digits<X: TextForMatches>(
     at: &mut SteadyPlace<X>,
 ) -> NumberDigits
     requires { first < 10 }
-    ensures number { IsWholeNumber (element_tables reading.entry.tables) (digits_in result)
+    ensures number { IsWholeNumber (element_tables reading.entry.tables) (room_digits result)
         (X.unread at.new.text) }
-    ensures elements { started_elements (reading_of reading.entry) lead (digits_in result)
+    ensures elements { started_elements (reading_of reading.entry) lead (room_digits result)
         (recent_chars at.new.recent) (X.unread at.new.text)
         ≡ started_elements (reading_of reading.entry) lead (first ∷ [])
         (recent_chars at.old.recent) (X.unread at.old.text) }

@@ -11,7 +11,7 @@ ghost use Rattle.icu_elements.specs.Reading.{reading_of, element_tables};
 ghost use Rattle.icu_elements.specs.TextElements.{is_silent_dot, diacritic_step, number_step, final_step, entry_step, step};
 ghost use Rattle.icu_elements.specs.inner.TakenDigits.{digit_step, stands_alone};
 ghost use Rattle.icu_steady_matches.specs.SteadyMatches.{steady_match};
-ghost use Rattle.icu_steady_elements.specs.inner.StepElements.{elements_at, elements_from};
+ghost use Rattle.icu_steady_elements.specs.inner.StepElements.{elements_to_give, elements_from};
 
 use crate::final_elements::FinalElements;
 use crate::run_digits::{begins_with_mark, lone_digit, read_number};
@@ -41,7 +41,7 @@ fn read_diacritic<'d, X: TextForMatches>(
     c: char,
     secondary: u16,
 ) -> StepElements<'d>
-    ensures elements { elements_at (reading_of reading.entry) result
+    ensures elements { elements_to_give (reading_of reading.entry) result
         (recent_chars at.new.recent) (X.unread at.new.text)
         ≡ elements_from (reading_of reading.entry) (recent_chars at.old.recent) c
         (diacritic_step (reading_of reading.entry) secondary c (X.unread at.old.text)) }
@@ -65,7 +65,7 @@ fn read_final<'d, X: TextForMatches>(
     found: &SteadyMatch<'d>,
 ) -> StepElements<'d>
     requires { IsTrue (is_readable (data_of home) c ce32) }
-    ensures elements { elements_at (reading_of reading.entry) result
+    ensures elements { elements_to_give (reading_of reading.entry) result
         (recent_chars at.new.recent) (X.unread at.new.text)
         ≡ elements_from (reading_of reading.entry) (recent_chars at.old.recent) c
         (final_step (data_of home.entry) c ce32
@@ -106,7 +106,7 @@ fn read_digits_from<'d, X: TextForMatches>(
 ) -> StepElements<'d>
     requires is_digit { kind_of matched.now.ce32 ≡ Digit }
     requires well_formed { IsWellFormedMatch (data_of home) c matched.now.ce32 }
-    ensures elements { elements_at (reading_of reading.entry) result
+    ensures elements { elements_to_give (reading_of reading.entry) result
         (recent_chars at.new.recent) (X.unread at.new.text)
         ≡ elements_from (reading_of reading.entry) (recent_chars at.old.recent) c
         (number_step (element_tables reading.entry.tables) lead
@@ -131,7 +131,7 @@ fn read_digit<'d, X: TextForMatches>(
 ) -> StepElements<'d>
     requires is_digit { kind_of found.now.ce32 ≡ Digit }
     requires well_formed { IsWellFormedMatch (data_of home) c found.now.ce32 }
-    ensures elements { elements_at (reading_of reading.entry) result
+    ensures elements { elements_to_give (reading_of reading.entry) result
         (recent_chars at.new.recent) (X.unread at.new.text)
         ≡ elements_from (reading_of reading.entry) (recent_chars at.old.recent) c
         (digit_step (reading_of reading.entry) (data_of home.entry) c
@@ -154,7 +154,7 @@ fn read_entry<'d, X: TextForMatches>(
     found: &SteadyMatch<'d>,
 ) -> StepElements<'d>
     requires { IsWellFormedMatch (data_of home) c found.now.ce32 }
-    ensures elements { elements_at (reading_of reading.entry) result
+    ensures elements { elements_to_give (reading_of reading.entry) result
         (recent_chars at.new.recent) (X.unread at.new.text)
         ≡ elements_from (reading_of reading.entry) (recent_chars at.old.recent) c
         (entry_step (reading_of reading.entry) (data_of home.entry) c
@@ -174,7 +174,7 @@ pub(crate) fn read_char<'d, X: TextForMatches>(
     at: &mut SteadyPlace<X>,
     c: char,
 ) -> StepElements<'d>
-    ensures elements { elements_at (reading_of reading.entry) result
+    ensures elements { elements_to_give (reading_of reading.entry) result
         (recent_chars at.new.recent) (X.unread at.new.text)
         ≡ elements_from (reading_of reading.entry) (recent_chars at.old.recent) c
         (step (reading_of reading.entry) (recent_chars at.old.recent) c (X.unread at.old.text)) }

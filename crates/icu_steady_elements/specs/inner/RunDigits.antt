@@ -10,8 +10,8 @@ use Rattle.icu_steady_numbers.specs.SteadyNumbers.{weights_left}
 use Rattle.icu_steady_elements.specs.declared.number_digits.NumberDigits.{NumberDigits}
 
 -- the digits of a number
-unfoldable pub digits_in : NumberDigits → List ℕ
-digits_in d = take d.len d.digits
+unfoldable pub room_digits : NumberDigits → List ℕ
+room_digits d = take d.len d.digits
 
 -- nothing was read, since no digit comes next
 pub record IsRunEnd (tables : Tables) (before text before_now text_now : List ℕ) : Type 0 where

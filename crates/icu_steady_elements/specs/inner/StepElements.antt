@@ -34,8 +34,8 @@ elements_behind reading None before text = elements_after reading before text
 elements_behind reading (Some lead) before text = run_elements reading lead [] before text
 
 -- the elements of a step that are still to be given, and then those of the text that is left after these characters
-abbrev pub elements_at : Reading → StepElements → List ℕ → List ℕ → List Element
-elements_at reading given before text = given_left given ++ elements_behind reading (run_lead given) before text
+abbrev pub elements_to_give : Reading → StepElements → List ℕ → List ℕ → List Element
+elements_to_give reading given before text = given_left given ++ elements_behind reading (run_lead given) before text
 
 -- the elements of a step at a character after these characters, and of the text that it leaves
 abbrev pub elements_from : Reading → List ℕ → ℕ → Step → List Element

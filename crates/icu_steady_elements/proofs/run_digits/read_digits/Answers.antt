@@ -2,7 +2,7 @@ use Rattle.std.proofs.Common.{◌≡◌, ℕ, List, [], ◌∷◌, ◌++◌, ap,
 use Rattle.icu_elements.specs.LastChars.{recent_chars}
 use Rattle.icu_elements.specs.Reading.{reading_of}
 use Rattle.icu_elements.specs.TextElements.{Reading}
-use Rattle.icu_steady_elements.specs.inner.RunDigits.{digits_in, started_elements}
+use Rattle.icu_steady_elements.specs.inner.RunDigits.{room_digits, started_elements}
 use Rattle.icu_steady_elements.proofs.RunDigitLemmas.{zeros_dropped, number_digit_read, fewer_chars}
 use Rattle.icu_steady_elements.proofs.run_digits.read_digits.Goals as goal
 
@@ -13,7 +13,7 @@ run-preserved g c =
     let text : List ℕ = g.X.TextForMatches.unread c.run.at.text in
     let before_now : List ℕ = recent_chars c.take_digit.new.at.recent in
     let text_now : List ℕ = g.X.TextForMatches.unread c.take_digit.new.at.text in
-    let digits : List ℕ = digits_in c.run.digits in
+    let digits : List ℕ = room_digits c.run.digits in
     let fewer = fewer_chars reading c.in-Some.digit before text before_now text_now c.in-Some.ensures in
     record {
       elements =
