@@ -1,5 +1,5 @@
 -- The elements of a step, and of the text that it leaves.
-use Rattle.std.proofs.Common.{◌≡◌, ℕ, ◌<◌, ◌≤◌, Bool, true, false, Option, Some, None, IfSome, option_to_list, List, [], ◌∷◌, ◌++◌, length, drop, refl, sym, ap, ap₂, ◌∙◌, append_assoc, arith}
+use Rattle.std.proofs.Common.{◌≡◌, ℕ, ◌<◌, ◌≤◌, Bool, true, false, Option, Some, None, IfSome, is_some, option_to_list, List, [], ◌∷◌, ◌++◌, length, drop, refl, sym, ap, ap₂, ◌∙◌, append_assoc, arith}
 use Rattle.icu_entries.specs.Elements.{Element}
 use Rattle.icu_entries.specs.Entries.{digit_value}
 use Rattle.icu_collation_data.specs.Data.{HomedEntry}
@@ -72,6 +72,16 @@ module _ (reading : Reading) (given : StepElements) (before text : List ℕ) whe
       ap (λ (es : List Element). es ++ behind) is
       ∙ append_assoc (option_to_list o) (given_left now) behind
       ∙ ap (λ l. option_to_list o ++ (given_left now ++ elements_behind reading l before text)) (sym run)
+
+  -- none of its elements is left
+  pub none_next : (o : Option Element) (now : StepElements) → o ≡ None → given_left given ≡ option_to_list o ++ given_left now → run_lead now ≡ run_lead given
+      → elements_to_give reading given before text ≡ elements_to_give reading now before text
+  none_next o now none is run =
+      element_next o now is run ∙ ap (λ o. option_to_list o ++ elements_to_give reading now before text) none
+
+pub not_some : (o : Option Element) → is_some o ≡ false → o ≡ None
+not_some None h = refl
+not_some (Some e) h = absurd (cc)
 
 -- after an element fewer are left
 pub one_fewer : (o : Option Element) (es fs : List Element) → es ≡ option_to_list o ++ fs → IfSome o (λ _. length fs < length es)
