@@ -1,10 +1,9 @@
 -- A run of digits that is read number by number is the run.
-use Rattle.std.proofs.Common.{◌≡◌, ℕ, zero, suc, ◌<◌, ◌≤◌, ◌⊎◌, inl, inr, Bool, true, false, if◌then◌else◌, Option, Some, None, option_to_list, slice_get, List, [], ◌∷◌, ◌++◌, length, take, drop, map, refl, sym, ap, ap₂, ◌∙◌, append_assoc, append-nil, arith}
+use Rattle.std.proofs.Common.{◌≡◌, ℕ, zero, suc, ◌<◌, ◌≤◌, ◌⊎◌, inl, inr, true, if◌then◌else◌, Some, None, slice_get, List, [], ◌∷◌, ◌++◌, length, take, drop, map, refl, sym, ap, ap₂, ◌∙◌, append_assoc, append-nil, arith}
 use Rattle.std.proofs.lemmas.List.{take_all, map-append}
 use Rattle.std.proofs.Math.ListN.{drop_of_length-le}
 use Rattle.std.proofs.Math.Seq.{take-append_seam, drop-append_seam}
 use Rattle.icu_entries.specs.Elements.{Element, of_primary}
-use Rattle.icu_entries.specs.Entries.{digit_value}
 use Rattle.icu_levels.specs.Numbers.{number_weights, value_of, without_first_zeros, longest_number, run_weights}
 use Rattle.icu_numbers.proofs.DigitRunLemmas.{run_turn}
 use Rattle.icu_provider.specs.Tables.{Tables}
@@ -13,7 +12,7 @@ use Rattle.icu_elements.specs.LastChars.{recent_chars}
 use Rattle.icu_elements.specs.TextElements.{Reading, continues_number, digit_of_char, last_two, number_elements, elements_after}
 use Rattle.icu_elements.specs.inner.TakenDigits.{run_of}
 use Rattle.icu_elements.proofs.ReaderLemmas.{last_two-append, none_more}
-use Rattle.icu_elements.proofs.TakenDigitLemmas.{run_goes_on, run_ends, continuing, not_continuing, first_char, no_char}
+use Rattle.icu_elements.proofs.TakenDigitLemmas.{run_goes_on, run_ends, not_continuing, first_char}
 use Rattle.icu_steady_elements.proofs.NumberDigitLemmas.{zeros_before}
 use Rattle.icu_steady_elements.specs.inner.RunDigits.{IsRunEnd, IsDigitRead, IsWholeNumber, run_digits, elements_behind_run, run_elements, started_weights, started_elements}
 
@@ -88,7 +87,7 @@ module _ (reading : Reading) (d : ℕ) (before text before_now text_now : List �
   same_behind =
       let run : List ℕ = run_of reading.tables text_now in
       let seen : last_two before_now run ≡ last_two before (run_of reading.tables text) =
-          ap (λ l. last_two l run) t.recent ∙ last_two-append before (t.char ∷ []) run ∙ ap (last_two before) (sym one_char) in
+      ap (λ l. last_two l run) t.recent ∙ last_two-append before (t.char ∷ []) run ∙ ap (last_two before) (sym one_char) in
       let left : drop (length run) text_now ≡ drop (length (run_of reading.tables text)) text = rw (one_char, t.taken) refl in
       ap₂ (elements_after reading) seen left
 
@@ -116,40 +115,11 @@ run_over reading lead r text none =
 
 -- ---- taking a digit
 
-next_char : (o : Option ℕ) (text rest : List ℕ) (c : ℕ) → slice_get text 0 ≡ Some c → text ≡ option_to_list o ++ rest → (o ≡ None → text ≡ []) → text ≡ c ∷ rest
-next_char None [] rest c first is ended = absurd (cc)
-next_char None (x ∷ xs) rest c first is ended = let none : x ∷ xs ≡ [] = ended refl in absurd (cc)
-next_char (Some x) text rest c first is ended =
-    let was : slice_get text 0 ≡ Some x = ap (λ l. slice_get l 0) is in
-    let same : x ≡ c = cc in
-    is ∙ ap (λ y. y ∷ rest) same
-
-module _ (tables : Tables) (before text before_now text_now : List ℕ) where
-  -- nothing is left
-  pub no_char_left : slice_get text 0 ≡ None → text_now ≡ text → before_now ≡ before → IsRunEnd tables before text before_now text_now
-  no_char_left none unread recent =
-      record { run = ap (run_of tables) (no_char text none); unread = unread; recent = recent }
-
-  module _ (c d : ℕ) (first : slice_get text 0 ≡ Some c) where
-    -- the next character is none that goes on a number
-    pub no_digit_left : (if continues_number tables c then Some d else None) ≡ None → text_now ≡ text → before_now ≡ before → IsRunEnd tables before text before_now text_now
-    no_digit_left off unread recent = record {
-      run = ap (run_of tables) (first_char text c first) ∙ run_ends tables c (drop 1 text) (not_continuing (continues_number tables c) d off);
-      unread = unread;
-      recent = recent;
-    }
-
-    -- the next character was read
-    pub digit_read : Some d ≡ (if continues_number tables c then Some (digit_of_char tables c) else None) → d < 10
-        → (next : Option ℕ) → text ≡ option_to_list next ++ text_now → (next ≡ None → text ≡ []) → before_now ≡ last_two before (c ∷ [])
-        → IsDigitRead tables d before text before_now text_now
-    digit_read on decimal next is ended recent =
-        let by = continuing (continues_number tables c) (digit_of_char tables c) d on in
-        record {
-          char = c;
-          taken = next_char next text text_now c first is ended;
-          continues = by.0;
-          digit = by.1;
-          decimal = decimal;
-          recent = recent;
-        }
+-- the next character is none that goes on a number
+pub no_digit_left : (tables : Tables) (before text before_now text_now : List ℕ) (c d : ℕ) → slice_get text 0 ≡ Some c → (if continues_number tables c then Some d else None) ≡ None
+    → text_now ≡ text → before_now ≡ before → IsRunEnd tables before text before_now text_now
+no_digit_left tables before text before_now text_now c d first off unread recent = record {
+  run = ap (run_of tables) (first_char text c first) ∙ run_ends tables c (drop 1 text) (not_continuing (continues_number tables c) d off);
+  unread = unread;
+  recent = recent;
+}

@@ -140,7 +140,14 @@ fn read_digit<'d, X: TextForMatches>(
 {
     match reading.numeric_primary {
         Some(lead) => read_digits_from(reading, lead, at, c, home, found),
-        None => read_final(reading, at, c, home, home.get_ce32(found.ce32.index()), found),
+        None => read_final(
+            reading,
+            at,
+            c,
+            home,
+            home.get_ce32(found.ce32.index()),
+            found,
+        ),
     }
 }
 
