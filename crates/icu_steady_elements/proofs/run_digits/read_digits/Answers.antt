@@ -1,4 +1,4 @@
-use Rattle.std.proofs.Common.{◌≡◌, ℕ, List, [], ◌∷◌, ◌++◌, ap, ◌∙◌, arith}
+use Rattle.std.proofs.Common.{ℕ, List, [], ◌∷◌, ◌++◌, ap, ◌∙◌, arith}
 use Rattle.icu_elements.specs.LastChars.{recent_chars}
 use Rattle.icu_elements.specs.Reading.{reading_of}
 use Rattle.icu_elements.specs.TextElements.{Reading}

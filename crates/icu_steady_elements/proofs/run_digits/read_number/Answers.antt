@@ -1,4 +1,4 @@
-use Rattle.std.proofs.Common.{◌≡◌, ℕ, List, [], ◌∷◌, ◌++◌, map, sym, ap, ◌∙◌}
+use Rattle.std.proofs.Common.{ℕ, List, [], ◌++◌, map, sym, ap, ◌∙◌}
 use Rattle.icu_entries.specs.Elements.{of_primary}
 use Rattle.icu_levels.specs.Numbers.{number_weights, value_of}
 use Rattle.icu_elements.specs.LastChars.{recent_chars}

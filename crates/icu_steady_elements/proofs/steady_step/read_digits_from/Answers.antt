@@ -1,4 +1,4 @@
-use Rattle.std.proofs.Common.{◌≡◌, ℕ, List, [], ◌∷◌, ◌++◌, sym, ap, ap₂, ◌∙◌}
+use Rattle.std.proofs.Common.{ℕ, List, [], ◌∷◌, ◌++◌, sym, ap, ap₂, ◌∙◌}
 use Rattle.icu_entries.specs.Elements.{Element}
 use Rattle.icu_elements.specs.LastChars.{recent_chars}
 use Rattle.icu_elements.specs.Reading.{reading_of}

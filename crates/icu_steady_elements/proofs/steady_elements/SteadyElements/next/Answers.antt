@@ -1,7 +1,6 @@
-use Rattle.std.proofs.Common.{◌≡◌, ℕ, false, is_some, List, None, sym, ◌∙◌, rules}
+use Rattle.std.proofs.Common.{◌≡◌, None, sym, ◌∙◌, rules}
 use Rattle.icu_elements.specs.LastChars.{recent_chars}
 use Rattle.icu_elements.specs.Reading.{reading_of}
-use Rattle.icu_elements.specs.TextElements.{Reading}
 use Rattle.icu_steady_elements.specs.SteadyElements.{elements_left, text_left}
 use Rattle.icu_steady_elements.proofs.SteadyStepLemmas.{element_next, none_next, not_some, one_fewer}
 use Rattle.icu_steady_elements.proofs.steady_elements.SteadyElements.next.Goals as goal
