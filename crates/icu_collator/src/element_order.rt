@@ -12,7 +12,7 @@ ghost use Rattle.unicode_normalization.specs.Forms.{nfd};
 use crate::collator::CollatorBorrowed;
 use crate::forward_levels::Level;
 use crate::in_step::{compare_from_difference, compare_in_step};
-use crate::segments::compare_segments;
+use crate::segments::{TwoReaders, compare_segments};
 use icu_encodings::EncodedText;
 use icu_levels::forms::{SecondaryForm, TertiaryForm};
 use icu_weighting::HandledSource;
@@ -64,8 +64,8 @@ impl<'a> CollatorBorrowed<'a> {
         }
     }
 
-    /// The order of the secondary weights, backward. The elements are read into lists, since they are gone through from
-    /// the end.
+    /// The order of the secondary weights, backward. The elements are read into lists, since they are gone through
+    /// twice.
     fn compare_backward_secondaries<L: EncodedText, R: EncodedText>(
         &self,
         left: L,
@@ -79,6 +79,8 @@ impl<'a> CollatorBorrowed<'a> {
         let right = self.elements(right)?;
         let left = self.handled(left.as_slice());
         let right = self.handled(right.as_slice());
+        let left = TwoReaders::new(left, left);
+        let right = TwoReaders::new(right, right);
         Ok(compare_segments(left, right))
     }
 

@@ -7,6 +7,7 @@ use Rattle.icu_weighting.specs.Levels.{segments}
 use Rattle.icu_text_order.specs.TextOrder.{handled_elements, handled_by, lists_by}
 use Rattle.icu_collator.specs.Collators.{collation_borrowed}
 use Rattle.icu_collator.specs.HandledRests.{handled_rest}
+use Rattle.icu_collator.specs.inner.SegmentsLeft.{reversed_segments}
 use Rattle.icu_collator.proofs.collator.CollatorBorrowed.compare_backward_secondaries.Goals as goal
 
 pub returns : goal.returns
@@ -20,5 +21,7 @@ returns g c =
     let right : handled_rest c.handled-right.result ≡ handled_by collation u =
     c.handled-right.ensures ∙ ap (handled_elements collation false) (c.as_slice-2.ensures.value ∙ c.in_ok-right.ensures) in
     c.compare_segments.ensures
-    ∙ ap (λ hs. segments_order (segments (stayed_elements hs)) (segments (stayed_elements (handled_rest c.handled-right.result)))) left
-    ∙ ap (λ hs. segments_order (segments (stayed_elements (handled_by collation t))) (segments (stayed_elements hs))) right
+    ∙ ap (λ ss. segments_order ss (reversed_segments handled_rest c.new-right.result))
+    (c.new-left.ensures.segments ∙ ap (λ hs. segments (stayed_elements hs)) left)
+    ∙ ap (segments_order (segments (stayed_elements (handled_by collation t))))
+    (c.new-right.ensures.segments ∙ ap (λ hs. segments (stayed_elements hs)) right)
