@@ -9,6 +9,7 @@
 
 pub mod collator;
 pub mod compare;
+mod compare_calls;
 mod element_order;
 mod facts_in_step;
 mod first_facts;
@@ -20,6 +21,8 @@ mod rests;
 mod segments;
 pub mod sort_key;
 mod sorting;
+mod steady_order;
+mod steady_text;
 mod texts;
 
 pub use collator::{Collator, CollatorBorrowed};

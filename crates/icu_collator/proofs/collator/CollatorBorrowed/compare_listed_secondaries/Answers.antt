@@ -8,7 +8,7 @@ use Rattle.icu_text_order.specs.TextOrder.{handled_elements, handled_by, lists_b
 use Rattle.icu_collator.specs.Collators.{collation_borrowed}
 use Rattle.icu_collator.specs.HandledRests.{handled_rest}
 use Rattle.icu_collator.specs.inner.SegmentsLeft.{reversed_segments}
-use Rattle.icu_collator.proofs.collator.CollatorBorrowed.compare_backward_secondaries.Goals as goal
+use Rattle.icu_collator.proofs.collator.CollatorBorrowed.compare_listed_secondaries.Goals as goal
 
 pub returns : goal.returns
 unfolding lists_by
