@@ -7,3 +7,4 @@ mod FirstPrimaryLemmas
 mod TieLemmas
 pub mod OtherSettings
 pub mod FactsInStepLemmas
+mod TotalOrder

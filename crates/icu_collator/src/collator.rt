@@ -23,10 +23,12 @@ ghost use Rattle.icu_facts.specs.BoundaryTables.{boundary_reading};
 ghost use Rattle.unicode_normalization.specs.Forms.{nfd};
 
 use crate::handled::{HandledElements, HandledText, PlainText};
+use crate::steady_text::SteadyText;
 use icu_checks::CheckedTables;
 use icu_cursor::{
     Boundaries, CharFacts, CursorTables, ElementCursor, Kept, KeptFacts, NamedCharacters,
 };
+use icu_decomposed_text::CountedText;
 use icu_elements::{ElementTables, TextReading, all_elements};
 use icu_encodings::{Characters, EncodedText};
 use icu_entries::{CollationElement, DataError, DataErrorKind, DataTable};
@@ -268,7 +270,7 @@ pub struct CollatorBorrowed<'a> {
 
 impl<'a> CollatorBorrowed<'a> {
     ghost use Rattle.icu_collator.specs.Collators.{collation_borrowed, settings_borrowed, tables_borrowed};
-    ghost use Rattle.icu_collator.specs.HandledRests.{handled_rest, handled_to_come, plain_to_come};
+    ghost use Rattle.icu_collator.specs.HandledRests.{handled_rest, handled_to_come, plain_to_come, steady_to_come};
 
     /// The settings that the collator works by.
     pub fn resolved_options(&self) -> ResolvedCollatorOptions
@@ -436,5 +438,15 @@ impl<'a> CollatorBorrowed<'a> {
             ≡ handled_by (collation_borrowed self.now) (nfd (T.text text)) }
     {
         PlainText::new(ElementCursor::new(tables, text))
+    }
+
+    /// Reads the elements of a text without memory, as the collation handles variable ones.
+    pub(crate) fn steady_text<T: CountedText>(&self, text: T) -> SteadyText<'a, T>
+        ensures { steady_to_come T.EncodedText.text result
+            ≡ handled_by (collation_borrowed self.now) (nfd (T.EncodedText.text text)) }
+    {
+        let reading = text_reading(self.tables, self.settings);
+        let handling = self.settings.alternate_handling();
+        SteadyText::new(text, reading, handling, self.last_variable())
     }
 }

@@ -1,6 +1,6 @@
-//! The order of texts.
+//! The order of texts. No call fails: where an allocation does, `steady_order` goes on without memory.
 
-ghost use Rattle.std.specs.Prelude.{◌≡◌, IfOk, Ok, chars};
+ghost use Rattle.std.specs.Prelude.{◌≡◌, chars};
 ghost use Rattle.icu_encodings.specs.DecodedTexts.{latin1_text, utf16_text, utf8_text};
 ghost use Rattle.icu_levels.specs.ListOrder.{list_order};
 ghost use Rattle.icu_levels.specs.Keys.{characters_order};
@@ -11,9 +11,9 @@ ghost use Rattle.unicode_normalization.specs.Forms.{nfd};
 use crate::collator::CollatorBorrowed;
 use crate::identical_level::compare_characters;
 use crate::texts::str_text;
+use icu_decomposed_text::CountedText;
 use icu_encodings::{CommonUnits, EncodedText, Latin1Text, Utf8Text, Utf16Text};
 use icu_text_order::laws::keys_keep_text_order;
-use std::alloc::AllocError;
 use std::cmp::Ordering;
 
 impl<'a> CollatorBorrowed<'a> {
@@ -22,109 +22,109 @@ impl<'a> CollatorBorrowed<'a> {
     /// The order of two texts by the collation (UTS #10, "Compare Sort Keys"), for each collation. The first
     /// level that differs decides: primary weights, reordered, then secondary weights, forward or backward, cases,
     /// tertiary weights, quaternary weights, and the characters of the decomposed texts, as far as the settings name
-    /// these levels. It is the dictionary order of the two texts' sort keys. Fails only where an allocation does.
-    pub fn compare(&self, left: &str, right: &str) -> Result<Ordering, AllocError>
-        ensures order { IfOk result (λ o. o ≡ text_order (collation_borrowed self.now)
-            (chars left.now) (chars right.now)) }
-        ensures keys { IfOk result (λ o. o ≡ list_order
+    /// these levels. It is the dictionary order of the two texts' sort keys.
+    ///
+    /// The call never fails. Where an allocation does, the rest of the texts' order is found without memory, slower.
+    pub fn order(&self, left: &str, right: &str) -> Ordering
+        ensures order { result ≡ text_order (collation_borrowed self.now)
+            (chars left.now) (chars right.now) }
+        ensures keys { result ≡ list_order
             (text_key (collation_borrowed self.now) (chars left.now))
-            (text_key (collation_borrowed self.now) (chars right.now))) }
-        ensures same { left.now ≡ right.now → result ≡ Ok Ordering.Equal }
+            (text_key (collation_borrowed self.now) (chars right.now)) }
+        ensures same { left.now ≡ right.now → result ≡ Ordering.Equal }
     {
-        self.compare_encoded(str_text(left), str_text(right))
+        self.order_encoded(str_text(left), str_text(right))
     }
 
     /// The order of two texts in UTF-8 that may be damaged: each maximal ill-formed part is one U+FFFD (Unicode
-    /// Standard, "Unicode Encoding Forms"). Fails only where an allocation does.
-    pub fn compare_utf8(&self, left: &[u8], right: &[u8]) -> Result<Ordering, AllocError>
-        ensures order { IfOk result (λ o. o ≡ text_order (collation_borrowed self.now)
-            (utf8_text left.now) (utf8_text right.now)) }
-        ensures keys { IfOk result (λ o. o ≡ list_order
+    /// Standard, "Unicode Encoding Forms"). Never fails.
+    pub fn order_utf8(&self, left: &[u8], right: &[u8]) -> Ordering
+        ensures order { result ≡ text_order (collation_borrowed self.now)
+            (utf8_text left.now) (utf8_text right.now) }
+        ensures keys { result ≡ list_order
             (text_key (collation_borrowed self.now) (utf8_text left.now))
-            (text_key (collation_borrowed self.now) (utf8_text right.now))) }
-        ensures same { left.now ≡ right.now → result ≡ Ok Ordering.Equal }
+            (text_key (collation_borrowed self.now) (utf8_text right.now)) }
+        ensures same { left.now ≡ right.now → result ≡ Ordering.Equal }
     {
-        self.compare_encoded(Utf8Text(left), Utf8Text(right))
+        self.order_encoded(Utf8Text(left), Utf8Text(right))
     }
 
     /// The order of two texts in UTF-16: each unpaired surrogate is U+FFFD (Unicode Standard, "Unicode Encoding
-    /// Forms"). Fails only where an allocation does.
-    pub fn compare_utf16(&self, left: &[u16], right: &[u16]) -> Result<Ordering, AllocError>
-        ensures order { IfOk result (λ o. o ≡ text_order (collation_borrowed self.now)
-            (utf16_text left.now) (utf16_text right.now)) }
-        ensures keys { IfOk result (λ o. o ≡ list_order
+    /// Forms"). Never fails.
+    pub fn order_utf16(&self, left: &[u16], right: &[u16]) -> Ordering
+        ensures order { result ≡ text_order (collation_borrowed self.now)
+            (utf16_text left.now) (utf16_text right.now) }
+        ensures keys { result ≡ list_order
             (text_key (collation_borrowed self.now) (utf16_text left.now))
-            (text_key (collation_borrowed self.now) (utf16_text right.now))) }
-        ensures same { left.now ≡ right.now → result ≡ Ok Ordering.Equal }
+            (text_key (collation_borrowed self.now) (utf16_text right.now)) }
+        ensures same { left.now ≡ right.now → result ≡ Ordering.Equal }
     {
-        self.compare_encoded(Utf16Text(left), Utf16Text(right))
+        self.order_encoded(Utf16Text(left), Utf16Text(right))
     }
 
     /// The order of two texts in Latin-1: each byte is the character of its number (Unicode Standard,
-    /// "Latin"). Fails only where an allocation does.
-    pub fn compare_latin1(&self, left: &[u8], right: &[u8]) -> Result<Ordering, AllocError>
-        ensures order { IfOk result (λ o. o ≡ text_order (collation_borrowed self.now)
-            (latin1_text left.now) (latin1_text right.now)) }
-        ensures keys { IfOk result (λ o. o ≡ list_order
+    /// "Latin"). Never fails.
+    pub fn order_latin1(&self, left: &[u8], right: &[u8]) -> Ordering
+        ensures order { result ≡ text_order (collation_borrowed self.now)
+            (latin1_text left.now) (latin1_text right.now) }
+        ensures keys { result ≡ list_order
             (text_key (collation_borrowed self.now) (latin1_text left.now))
-            (text_key (collation_borrowed self.now) (latin1_text right.now))) }
-        ensures same { left.now ≡ right.now → result ≡ Ok Ordering.Equal }
+            (text_key (collation_borrowed self.now) (latin1_text right.now)) }
+        ensures same { left.now ≡ right.now → result ≡ Ordering.Equal }
     {
-        self.compare_encoded(Latin1Text(left), Latin1Text(right))
+        self.order_encoded(Latin1Text(left), Latin1Text(right))
     }
 
-    /// The order of a text in Latin-1 and one in UTF-16. Fails only where an allocation does.
-    pub fn compare_latin1_utf16(&self, left: &[u8], right: &[u16]) -> Result<Ordering, AllocError>
-        ensures order { IfOk result (λ o. o ≡ text_order (collation_borrowed self.now)
-            (latin1_text left.now) (utf16_text right.now)) }
-        ensures keys { IfOk result (λ o. o ≡ list_order
+    /// The order of a text in Latin-1 and one in UTF-16. Never fails.
+    pub fn order_latin1_utf16(&self, left: &[u8], right: &[u16]) -> Ordering
+        ensures order { result ≡ text_order (collation_borrowed self.now)
+            (latin1_text left.now) (utf16_text right.now) }
+        ensures keys { result ≡ list_order
             (text_key (collation_borrowed self.now) (latin1_text left.now))
-            (text_key (collation_borrowed self.now) (utf16_text right.now))) }
-        ensures same { left.now ≡ right.now → result ≡ Ok Ordering.Equal }
+            (text_key (collation_borrowed self.now) (utf16_text right.now)) }
+        ensures same { left.now ≡ right.now → result ≡ Ordering.Equal }
     {
-        self.compare_encoded(Latin1Text(left), Utf16Text(right))
+        self.order_encoded(Latin1Text(left), Utf16Text(right))
     }
 
     /// The order of two texts, whatever their encodings.
-    fn compare_encoded<L: CommonUnits<R>, R: EncodedText>(
+    fn order_encoded<L: CommonUnits<R> + CountedText, R: CountedText>(
         &self,
         left: L,
         right: R,
-    ) -> Result<Ordering, AllocError>
-        ensures order { IfOk result (λ o. o ≡ text_order (collation_borrowed self.now)
-            (L.text left) (R.text right)) }
-        ensures keys { IfOk result (λ o. o ≡ list_order
-            (text_key (collation_borrowed self.now) (L.text left))
-            (text_key (collation_borrowed self.now) (R.text right))) }
-        ensures same { L.units left ≡ R.units right → result ≡ Ok Ordering.Equal }
+    ) -> Ordering
+        ensures order { result ≡ text_order (collation_borrowed self.now)
+            (L.text left) (R.text right) }
+        ensures keys { result ≡ list_order (text_key (collation_borrowed self.now) (L.text left))
+            (text_key (collation_borrowed self.now) (R.text right)) }
+        ensures same { L.units left ≡ R.units right → result ≡ Ordering.Equal }
     {
-        let order = self.compare_past_beginning(left, right)?;
         keys_keep_text_order();
         self.tables.are_well_formed();
         left.has_scalar_values();
         right.has_scalar_values();
-        Ok(order)
+        self.compare_past_beginning(left, right)
     }
 
     /// The order of two texts by what follows their common beginning, as far as that may be passed over.
-    fn compare_past_beginning<L: CommonUnits<R>, R: EncodedText>(
+    fn compare_past_beginning<L: CommonUnits<R> + CountedText, R: CountedText>(
         &self,
         left: L,
         right: R,
-    ) -> Result<Ordering, AllocError>
-        ensures order { IfOk result (λ o. o ≡ text_order (collation_borrowed self.now)
-            (L.text left) (R.text right)) }
-        ensures same { L.units left ≡ R.units right → result ≡ Ok Ordering.Equal }
+    ) -> Ordering
+        ensures order { result ≡ text_order (collation_borrowed self.now)
+            (L.text left) (R.text right) }
+        ensures same { L.units left ≡ R.units right → result ≡ Ordering.Equal }
     {
         let common = left.common_units(right);
         if common == left.unit_count() && common == right.unit_count() {
             self.is_equal_to_itself(left);
-            return Ok(Ordering::Equal);
+            return Ordering::Equal;
         }
         if !self.reads_backward() {
             if let Some((one, other, order)) = self.last_rests(left, right, common) {
                 return match order {
-                    Some(order) => Ok(order),
+                    Some(order) => order,
                     None => self.compare_all_levels(one, other),
                 };
             }
@@ -143,36 +143,28 @@ impl<'a> CollatorBorrowed<'a> {
     }
 
     /// The order of two texts from their first characters on: by these where they decide, or else by all levels.
-    fn compare_whole<L: EncodedText, R: EncodedText>(
-        &self,
-        left: L,
-        right: R,
-    ) -> Result<Ordering, AllocError>
-        ensures { IfOk result (λ o. o ≡ text_order (collation_borrowed self.now)
-            (L.text left) (R.text right)) }
+    fn compare_whole<L: CountedText, R: CountedText>(&self, left: L, right: R) -> Ordering
+        ensures { result ≡ text_order (collation_borrowed self.now)
+            (L.text left) (R.text right) }
     {
         let facts = self.first_facts(left);
         let other_facts = self.first_facts(right);
         match self.order_by_first_characters(left, right, facts, other_facts) {
-            Some(order) => Ok(order),
+            Some(order) => order,
             None => self.compare_all_levels(left, right),
         }
     }
 
     /// The order of two texts by all levels in turn.
-    fn compare_all_levels<L: EncodedText, R: EncodedText>(
-        &self,
-        left: L,
-        right: R,
-    ) -> Result<Ordering, AllocError>
-        ensures { IfOk result (λ o. o ≡ text_order (collation_borrowed self.now)
-            (L.text left) (R.text right)) }
+    fn compare_all_levels<L: CountedText, R: CountedText>(&self, left: L, right: R) -> Ordering
+        ensures { result ≡ text_order (collation_borrowed self.now)
+            (L.text left) (R.text right) }
     {
-        let order = self.compare_element_levels(left, right)?;
+        let order = self.compare_element_levels(left, right);
         if order != Ordering::Equal {
-            return Ok(order);
+            return order;
         }
-        Ok(self.compare_identical_level(left, right))
+        self.compare_identical_level(left, right)
     }
 
     /// The order of two texts on the identical level, by their decomposed characters, where that counts. Nothing is

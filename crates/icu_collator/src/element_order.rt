@@ -12,7 +12,8 @@ ghost use Rattle.unicode_normalization.specs.Forms.{nfd};
 use crate::collator::CollatorBorrowed;
 use crate::forward_levels::Level;
 use crate::in_step::{compare_from_difference, compare_in_step};
-use crate::segments::compare_segments;
+use crate::segments::{TwoReaders, compare_segments};
+use icu_decomposed_text::CountedText;
 use icu_encodings::EncodedText;
 use icu_levels::forms::{SecondaryForm, TertiaryForm};
 use icu_weighting::HandledSource;
@@ -26,35 +27,33 @@ impl<'a> CollatorBorrowed<'a> {
     ghost use Rattle.icu_collator.specs.inner.ElementOrders.{ReadsElementsAlone};
 
     /// The order of two texts on a level that is compared forward.
-    fn compare_forward_level<L: EncodedText, R: EncodedText>(
+    fn compare_forward_level<L: CountedText, R: CountedText>(
         &self,
         level: Level<'_>,
         left: L,
         right: R,
-    ) -> Result<Ordering, AllocError>
-        ensures { let collation = collation_borrowed self.now in
-            IfOk result (λ o. o ≡ list_order
+    ) -> Ordering
+        ensures { let collation = collation_borrowed self.now in result ≡ list_order
             (level_weights level.entry (handled_by collation (nfd (L.text left))))
-            (level_weights level.entry (handled_by collation (nfd (R.text right))))) }
+            (level_weights level.entry (handled_by collation (nfd (R.text right)))) }
     {
         let tables = self.cursor_tables();
-        let mut left = self.handled_text(&tables, left);
-        let mut right = self.handled_text(&tables, right);
-        level.compare(&mut left, &mut right)
+        let mut one = self.handled_text(&tables, left);
+        let mut other = self.handled_text(&tables, right);
+        match level.compare(&mut one, &mut other) {
+            Ok(order) => order,
+            Err(AllocError) => self.compare_steady_level(level, left, right),
+        }
     }
 
     /// The order of the secondary weights, forward or backward, where they count.
-    fn compare_secondaries<L: EncodedText, R: EncodedText>(
-        &self,
-        left: L,
-        right: R,
-    ) -> Result<Ordering, AllocError>
+    fn compare_secondaries<L: CountedText, R: CountedText>(&self, left: L, right: R) -> Ordering
         ensures { let collation = collation_borrowed self.now in
-            IfOk result (λ o. o ≡ secondaries_order (form_by collation).secondary
-            (lists_by collation (nfd (L.text left))) (lists_by collation (nfd (R.text right)))) }
+            result ≡ secondaries_order (form_by collation).secondary
+            (lists_by collation (nfd (L.text left))) (lists_by collation (nfd (R.text right))) }
     {
         match self.key_form().secondary {
-            None => Ok(Ordering::Equal),
+            None => Ordering::Equal,
             Some(SecondaryForm::Forward) => self.compare_forward_level(
                 Level::Secondary,
                 left,
@@ -64,9 +63,25 @@ impl<'a> CollatorBorrowed<'a> {
         }
     }
 
-    /// The order of the secondary weights, backward. The elements are read into lists, since they are gone through from
-    /// the end.
-    fn compare_backward_secondaries<L: EncodedText, R: EncodedText>(
+    /// The order of the secondary weights, backward.
+    fn compare_backward_secondaries<L: CountedText, R: CountedText>(
+        &self,
+        left: L,
+        right: R,
+    ) -> Ordering
+        ensures { let collation = collation_borrowed self.now in
+            result ≡ segments_order (lists_by collation (nfd (L.text left))).segments
+            (lists_by collation (nfd (R.text right))).segments }
+    {
+        match self.compare_listed_secondaries(left, right) {
+            Ok(order) => order,
+            Err(AllocError) => self.compare_steady_segments(left, right),
+        }
+    }
+
+    /// The order of the secondary weights, backward. The elements are read into lists, since they are gone through
+    /// twice. Fails only where an allocation does.
+    fn compare_listed_secondaries<L: EncodedText, R: EncodedText>(
         &self,
         left: L,
         right: R,
@@ -79,22 +94,20 @@ impl<'a> CollatorBorrowed<'a> {
         let right = self.elements(right)?;
         let left = self.handled(left.as_slice());
         let right = self.handled(right.as_slice());
+        let left = TwoReaders::new(left, left);
+        let right = TwoReaders::new(right, right);
         Ok(compare_segments(left, right))
     }
 
     /// The order of the cases, where they count by themselves.
-    fn compare_cases<L: EncodedText, R: EncodedText>(
-        &self,
-        left: L,
-        right: R,
-    ) -> Result<Ordering, AllocError>
+    fn compare_cases<L: CountedText, R: CountedText>(&self, left: L, right: R) -> Ordering
         ensures { let collation = collation_borrowed self.now in
-            IfOk result (λ o. o ≡ cases_order (form_by collation).cases
-            (lists_by collation (nfd (L.text left))) (lists_by collation (nfd (R.text right)))) }
+            result ≡ cases_order (form_by collation).cases
+            (lists_by collation (nfd (L.text left))) (lists_by collation (nfd (R.text right))) }
     {
         let form = self.key_form();
         match form.cases {
-            None => Ok(Ordering::Equal),
+            None => Ordering::Equal,
             Some(cases) => self.compare_forward_level(
                 Level::Case(form.secondary, cases),
                 left,
@@ -104,33 +117,25 @@ impl<'a> CollatorBorrowed<'a> {
     }
 
     /// The order of the tertiary weights, with case bits where they count among them.
-    fn compare_tertiaries<L: EncodedText, R: EncodedText>(
-        &self,
-        left: L,
-        right: R,
-    ) -> Result<Ordering, AllocError>
+    fn compare_tertiaries<L: CountedText, R: CountedText>(&self, left: L, right: R) -> Ordering
         ensures { let collation = collation_borrowed self.now in
-            IfOk result (λ o. o ≡ tertiaries_order (form_by collation).tertiary
-            (lists_by collation (nfd (L.text left))) (lists_by collation (nfd (R.text right)))) }
+            result ≡ tertiaries_order (form_by collation).tertiary
+            (lists_by collation (nfd (L.text left))) (lists_by collation (nfd (R.text right))) }
     {
         match self.key_form().tertiary {
-            None => Ok(Ordering::Equal),
+            None => Ordering::Equal,
             Some(form) => self.compare_forward_level(Level::Tertiary(form), left, right),
         }
     }
 
     /// The order of the quaternary weights, where they count.
-    fn compare_quaternaries<L: EncodedText, R: EncodedText>(
-        &self,
-        left: L,
-        right: R,
-    ) -> Result<Ordering, AllocError>
+    fn compare_quaternaries<L: CountedText, R: CountedText>(&self, left: L, right: R) -> Ordering
         ensures { let collation = collation_borrowed self.now in
-            IfOk result (λ o. o ≡ quaternaries_order (form_by collation).quaternary
-            (lists_by collation (nfd (L.text left))) (lists_by collation (nfd (R.text right)))) }
+            result ≡ quaternaries_order (form_by collation).quaternary
+            (lists_by collation (nfd (L.text left))) (lists_by collation (nfd (R.text right))) }
     {
         match self.key_form().quaternary {
-            None => Ok(Ordering::Equal),
+            None => Ordering::Equal,
             Some(_) => self.compare_forward_level(
                 Level::Quaternary(self.tables.reordering()),
                 left,
@@ -141,24 +146,25 @@ impl<'a> CollatorBorrowed<'a> {
 
     /// The order of two texts by their elements: all levels but the identical one.
     #[inline(never)]
-    pub(crate) fn compare_element_levels<L: EncodedText, R: EncodedText>(
+    pub(crate) fn compare_element_levels<L: CountedText, R: CountedText>(
         &self,
         left: L,
         right: R,
-    ) -> Result<Ordering, AllocError>
-        ensures { IfOk result (λ o. o ≡ elements_order (collation_borrowed self.now)
-            (nfd (L.text left)) (nfd (R.text right))) }
+    ) -> Ordering
+        ensures { result ≡ elements_order (collation_borrowed self.now)
+            (nfd (L.text left)) (nfd (R.text right)) }
     {
-        match self.compare_in_one_pass(left, right)? {
-            Some(order) => Ok(order),
-            None => self.compare_later_levels(left, right),
+        match self.compare_in_one_pass(left, right) {
+            Ok(Some(order)) => order,
+            Ok(None) => self.compare_later_levels(left, right),
+            Err(AllocError) => self.compare_steady_elements(left, right),
         }
     }
 
     /// The order of the elements of two texts, where one pass over both shows it. It goes past the elements that both
     /// have, and compares primary weights from the first on that differ; where only secondary and tertiary weights
     /// count after them, it compares these as well, as far as elements are in step. None where the primary weights tie,
-    /// and no more is known.
+    /// and no more is known. Fails only where an allocation does.
     fn compare_in_one_pass<L: EncodedText, R: EncodedText>(
         &self,
         left: L,
@@ -247,25 +253,25 @@ impl<'a> CollatorBorrowed<'a> {
     /// that differs decides.
     #[inline(never)]
     #[tactic(auto, unfolding(crate::specs::inner::ElementOrders::later_levels_order))]
-    fn compare_later_levels<L: EncodedText, R: EncodedText>(
+    pub(crate) fn compare_later_levels<L: CountedText, R: CountedText>(
         &self,
         left: L,
         right: R,
-    ) -> Result<Ordering, AllocError>
-        ensures { IfOk result (λ o. o ≡ later_levels_order (collation_borrowed self.now)
-            (nfd (L.text left)) (nfd (R.text right))) }
+    ) -> Ordering
+        ensures { result ≡ later_levels_order (collation_borrowed self.now)
+            (nfd (L.text left)) (nfd (R.text right)) }
     {
-        let order = self.compare_secondaries(left, right)?;
+        let order = self.compare_secondaries(left, right);
         if order != Ordering::Equal {
-            return Ok(order);
+            return order;
         }
-        let order = self.compare_cases(left, right)?;
+        let order = self.compare_cases(left, right);
         if order != Ordering::Equal {
-            return Ok(order);
+            return order;
         }
-        let order = self.compare_tertiaries(left, right)?;
+        let order = self.compare_tertiaries(left, right);
         if order != Ordering::Equal {
-            return Ok(order);
+            return order;
         }
         self.compare_quaternaries(left, right)
     }

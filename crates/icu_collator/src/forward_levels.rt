@@ -15,7 +15,7 @@ use icu_provider::CollationReordering;
 use icu_weighting::element_weights::{
     case_rank, case_read, masked_tertiary, quaternary_number, reordered, tertiary_weight,
 };
-use icu_weighting::{Handled, HandledSource};
+use icu_weighting::{Handled, HandledSource, SteadySource};
 use std::alloc::AllocError;
 use std::cmp::Ordering;
 
@@ -244,5 +244,49 @@ impl<'d> Level<'d> {
             }
         }
         Ok(None)
+    }
+
+    /// The order of what two sources give on this level, which never fail: the first pair of weights that differs
+    /// decides, and a prefix comes first.
+    pub(crate) fn order<L: SteadySource, R: SteadySource>(
+        self,
+        left: &mut L,
+        right: &mut R,
+    ) -> Ordering
+        ensures { result ≡ list_order (level_weights self.entry (L.steady_left left.old))
+            (level_weights self.entry (R.steady_left right.old)) }
+    {
+        'pairs: loop {
+            match (
+                self.next_steady_weight(left),
+                self.next_steady_weight(right),
+            ) {
+                (Some(one), Some(other)) => {
+                    let order = one.cmp(&other);
+                    if order != Ordering::Equal {
+                        return order;
+                    }
+                }
+                (one, other) => return one.is_some().cmp(&other.is_some()),
+            }
+        }
+    }
+
+    /// The next weight of a text on this level, or `None` after the last one.
+    #[tactic(auto, unfolding(crate::specs::inner::LevelWeights::level_weights))]
+    fn next_steady_weight<S: SteadySource>(self, elements: &mut S) -> Option<u64>
+        ensures weights { MatchOption result
+            (level_weights self.entry (S.steady_left elements.old) ≡ [])
+            (λ w. level_weights self.entry (S.steady_left elements.old)
+            ≡ w ∷ level_weights self.entry (S.steady_left elements.new)) }
+        ensures smaller { IfSome result (λ w. length (S.steady_left elements.new) + 1
+            ≤ length (S.steady_left elements.old)) }
+    {
+        'passing: while let Some(handled) = elements.next_steady() {
+            if let Some(weight) = self.weight(handled) {
+                return Some(weight);
+            }
+        }
+        None
     }
 }

@@ -6,7 +6,7 @@ use icu_cursor::ElementCursor;
 use icu_encodings::EncodedText;
 use icu_entries::CollationElement;
 use icu_options::AlternateHandling;
-use icu_weighting::{Handled, HandledSource, VariableWeighting};
+use icu_weighting::{Handled, HandledSource, SteadySource, VariableWeighting};
 use std::alloc::AllocError;
 
 /// The elements of a text that are left, as variable weighting handles them: a variable element is
@@ -74,6 +74,16 @@ impl<'a> HandledSource for HandledElements<'a> {
 
     fn next_handled(&mut self) -> Result<Option<Handled>, AllocError> {
         Ok(self.next())
+    }
+}
+
+impl<'a> SteadySource for HandledElements<'a> {
+    ghost use Rattle.icu_collator.specs.HandledRests.{handled_rest};
+
+    ghost steady_left = { handled_rest };
+
+    fn next_steady(&mut self) -> Option<Handled> {
+        self.next()
     }
 }
 

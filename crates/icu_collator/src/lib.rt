@@ -9,6 +9,7 @@
 
 pub mod collator;
 pub mod compare;
+mod compare_calls;
 mod element_order;
 mod facts_in_step;
 mod first_facts;
@@ -19,6 +20,9 @@ mod in_step;
 mod rests;
 mod segments;
 pub mod sort_key;
+mod sorting;
+mod steady_order;
+mod steady_text;
 mod texts;
 
 pub use collator::{Collator, CollatorBorrowed};
@@ -65,6 +69,7 @@ pub mod preferences {
 /// What holds of the order of all texts and of their keys. A law is a function with an empty body, called for its
 /// contract.
 pub mod laws {
+    pub use crate::sorting::text_order_is_total;
     pub use icu_laws::{
         common_weights_add_few_bytes, equivalent_texts_are_equal, identical_level_determines_texts,
         number_texts_order_by_value, sinks_hold_one_key, strength_keeps_order, texts_are_ordered,

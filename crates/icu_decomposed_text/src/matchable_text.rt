@@ -1,17 +1,18 @@
 //! Texts from which matches take marks.
 
-ghost use Rattle.std.specs.Prelude.{◌≡◌};
+ghost use Rattle.std.specs.Prelude.{◌≡◌, IfOk};
 ghost use Rattle.unicode_normalization.specs.Forms.{nfd};
 ghost use Rattle.icu_decomposed_text.specs.inner.Taking.{IsTaking};
 
 use crate::counted_text::CountedText;
 use crate::taking::Taking;
 use crate::text_for_matches::TextForMatches;
+use std::alloc::AllocError;
 
 /// A text in canonical decomposition from which marks are taken while it is read. It never allocates: what is left of a
 /// run of marks is in canonical order, so of each combining class those that come first were taken, and a count for
 /// each class tells which.
-#[derive(Debug, Drop)]
+#[derive(Debug)]
 pub struct MatchableText<T: CountedText> {
     taking: Taking<T>,
     ghost places: { IsTaking T.EncodedText.text taking },
@@ -28,6 +29,17 @@ impl<T: CountedText> MatchableText<T> {
         MatchableText {
             taking: Taking::new(text),
         }
+    }
+}
+
+impl<T: CountedText> Copy for MatchableText<T> {}
+
+impl<T: CountedText> Clone for MatchableText<T> {
+    /// A text of which just as much is still to be read. A copy, `*text`, is the same and can't fail.
+    fn clone(&self) -> Result<Self, AllocError>
+        ensures { IfOk result (λ copy. copy ≡ self.now) }
+    {
+        Ok(*self)
     }
 }
 

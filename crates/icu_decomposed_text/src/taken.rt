@@ -25,7 +25,7 @@ impl TakenMarks for NoneTaken {
 }
 
 /// A count for each class. A text has fewer than 18 times 2^64 parts, so that no count overflows.
-#[derive(Debug, Drop)]
+#[derive(Debug, Clone, Copy)]
 pub(crate) struct MarkCounts {
     counts: [u128; 256],
 }

@@ -15,7 +15,7 @@ use unicode_normalization::char::canonical_combining_class;
 
 /// A place in a decomposed text, a place further ahead up to which characters were passed over, and how many marks of
 /// each class were taken from the run at the first place.
-#[derive(Debug, Drop)]
+#[derive(Debug, Clone, Copy)]
 pub(crate) struct Taking<T> {
     pub(crate) place: OrderedParts<T>,
     pub(crate) look: Option<OrderedParts<T>>,

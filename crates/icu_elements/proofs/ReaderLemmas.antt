@@ -8,7 +8,8 @@ use Rattle.icu_elements.specs.declared.reader.position.Position.{Position}
 use Rattle.icu_elements.specs.declared.text_reading.TextReading.{TextReading}
 use Rattle.icu_elements.specs.TextElements.{Reading, step, last_two, elements_after}
 use Rattle.icu_elements.proofs.StepLemmas.{Rests-step, elements_after_cons, elements_after_nil}
-use Rattle.icu_elements.specs.inner.Positions.{recent_chars, consumed_last, unread_at, elements_left, IsStep}
+use Rattle.icu_elements.specs.inner.Positions.{consumed_last, unread_at, elements_left, IsStep}
+use Rattle.icu_elements.specs.LastChars.{recent_chars}
 use Rattle.icu_elements.specs.Reading.{reading_of}
 
 -- ---- the characters consumed last

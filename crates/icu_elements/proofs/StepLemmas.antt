@@ -15,8 +15,8 @@ use Rattle.icu_matches.proofs.ChoiceLemmas.{either, maybe_any, at_nil}
 -- ---- matches
 
 -- a match leaves at most this many characters
-record Leaves (n : ℕ) (m : Match) : Type 0 where
-  fits : length m.rest ≤ n
+pub record Leaves (n : ℕ) (m : Match) : Type 0 where
+  pub fits : length m.rest ≤ n
 
 Leaves-with_marks : (mappings : List Mapping) (entry : ℕ) (suffix passed text : List ℕ) → Leaves (length passed + length text) (with_marks mappings entry suffix passed text)
 unfolding with_marks
@@ -40,7 +40,7 @@ at_contraction : (P : Match → Type 0) (k : EntryKind) (x y : Match) → P x �
 at_contraction P Contraction x y p q = p
 at_contraction P _ x y p q = q
 
-Leaves-match_of : (h : HomedEntry) (before text : List ℕ) → Leaves (length text) (match_of h before text)
+pub Leaves-match_of : (h : HomedEntry) (before text : List ℕ) → Leaves (length text) (match_of h before text)
 unfolding match_from
 Leaves-match_of h before text =
     let alone : Match = record { entry = after_prefix h before; suffix = []; rest = text } in

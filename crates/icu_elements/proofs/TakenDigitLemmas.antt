@@ -24,19 +24,19 @@ run_goes_on tables c text on = take_while-cons (continues_number tables) c text 
 pub run_ends : (tables : Tables) (c : ℕ) (text : List ℕ) → continues_number tables c ≡ false → run_of tables (c ∷ text) ≡ []
 run_ends tables c text off = take_while-cons (continues_number tables) c text ∙ rw off refl
 
-continuing : (b : Bool) (d e : ℕ) → Some e ≡ (if b then Some d else None) → (b ≡ true) × (e ≡ d)
+pub continuing : (b : Bool) (d e : ℕ) → Some e ≡ (if b then Some d else None) → (b ≡ true) × (e ≡ d)
 continuing true d e h = (refl, (cc))
 continuing false d e h = absurd (cc)
 
-not_continuing : (b : Bool) (d : ℕ) → (if b then Some d else None) ≡ None → b ≡ false
+pub not_continuing : (b : Bool) (d : ℕ) → (if b then Some d else None) ≡ None → b ≡ false
 not_continuing true d h = absurd (cc)
 not_continuing false d h = refl
 
-first_char : (xs : List ℕ) (c : ℕ) → slice_get xs 0 ≡ Some c → xs ≡ c ∷ drop 1 xs
+pub first_char : (xs : List ℕ) (c : ℕ) → slice_get xs 0 ≡ Some c → xs ≡ c ∷ drop 1 xs
 first_char [] c h = absurd (cc)
 first_char (x ∷ xs) c h = let same : x ≡ c = cc in ap (λ y. y ∷ xs) same
 
-no_char : (xs : List ℕ) → slice_get xs 0 ≡ None → xs ≡ []
+pub no_char : (xs : List ℕ) → slice_get xs 0 ≡ None → xs ≡ []
 no_char [] h = refl
 no_char (x ∷ xs) h = absurd (cc)
 

@@ -20,6 +20,7 @@ pub use Rattle.icu_matches.specs.WellFormedEntries
 pub mod TextElements
 pub mod ReadAhead
 pub mod Reading
+pub mod LastChars
 pub mod ElementReaders
 pub mod CollationElements
 pub mod StepReaders

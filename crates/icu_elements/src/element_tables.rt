@@ -78,7 +78,7 @@ impl<'d> ElementTables<'d> {
 
     /// The digit of a character that goes on a number: no diacritic, and its own entry is a digit's.
     #[tactic(auto, using(crate::proofs::TakenDigitLemmas::other_kind))]
-    pub(crate) fn digit(self, c: char) -> Option<u8>
+    pub fn digit(self, c: char) -> Option<u8>
         ensures value { let tables = element_tables self.entry in
             result ≡ (if continues_number tables c then Some (digit_of_char tables c) else None) }
         ensures decimal { IfSome result (λ d. d < 10) }

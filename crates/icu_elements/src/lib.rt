@@ -19,6 +19,7 @@ pub use element_reader::ElementReader;
 pub use element_tables::ElementTables;
 pub use icu_entries::{CollationElement, CollationElement32, NonPrimary, Tag};
 pub use read::decomposed_text;
+pub use reader::recent::RecentChars;
 pub use step_reader::StepReader;
 pub use text_reading::TextReading;
 pub use whole::all_elements;

@@ -11,5 +11,5 @@ pub mod handled_element;
 pub mod weighting;
 
 pub use form::{key_form, last_variable};
-pub use handled_element::{Handled, HandledSource};
+pub use handled_element::{Handled, HandledSource, SteadySource};
 pub use weighting::VariableWeighting;

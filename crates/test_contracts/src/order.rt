@@ -1,6 +1,6 @@
 //! The order of texts, their keys, and an index of names.
 
-ghost use Rattle.std.specs.Prelude.{◌≡◌, IfOk, OnOk, OnErr, Ok, chars};
+ghost use Rattle.std.specs.Prelude.{◌≡◌, IfOk, IsOk, OnOk, OnErr, chars};
 ghost use Rattle.icu_keys.specs.KeyWrites.{WritesKey};
 ghost use Rattle.icu_text_order.specs.TextOrder.{text_order, text_key};
 ghost use Rattle.icu_collator.specs.Collators.{collation_kept};
@@ -13,14 +13,22 @@ use icu_keys::{CollationKeySink, SortKeyError};
 use std::alloc::AllocError;
 use std::cmp::Ordering;
 
+/// As `order`.
+pub fn order(collator: &Collator, left: &str, right: &str) -> Ordering
+    ensures order { result ≡ text_order (collation_kept collator.now)
+        (chars left.now) (chars right.now) }
+    ensures same { left.now ≡ right.now → result ≡ Ordering.Equal }
+{
+    collator.as_borrowed().order(left, right)
+}
+
 /// As `compare`.
-pub fn order(collator: &Collator, left: &str, right: &str) -> Result<Ordering, AllocError>
+pub fn compare(collator: &Collator, left: &str, right: &str) -> Result<Ordering, AllocError>
+    ensures succeeds { IsOk result }
     ensures order { IfOk result (λ o.
         o ≡ text_order (collation_kept collator.now) (chars left.now) (chars right.now)) }
-    ensures same { left.now ≡ right.now → result ≡ Ok Ordering.Equal }
 {
-    let order = collator.as_borrowed().compare(left, right)?;
-    Ok(order)
+    collator.as_borrowed().compare(left, right)
 }
 
 /// As `write_sort_key_to`.

@@ -6,7 +6,30 @@ use std::alloc::{AllocError, Global};
 use std::cmp::Ordering;
 
 /// The order of two texts, by the call for their encodings, if there is one.
-fn order(
+fn order(collator: &Collator, left: &WrittenText, right: &WrittenText) -> Option<Ordering> {
+    let borrowed = collator.as_borrowed();
+    match (left, right) {
+        (WrittenText::Characters(left), WrittenText::Characters(right)) => {
+            Some(borrowed.order(left.as_str(), right.as_str()))
+        }
+        (WrittenText::Utf8(left), WrittenText::Utf8(right)) => {
+            Some(borrowed.order_utf8(left.as_slice(), right.as_slice()))
+        }
+        (WrittenText::Utf16(left), WrittenText::Utf16(right)) => {
+            Some(borrowed.order_utf16(left.as_slice(), right.as_slice()))
+        }
+        (WrittenText::Latin1(left), WrittenText::Latin1(right)) => {
+            Some(borrowed.order_latin1(left.as_slice(), right.as_slice()))
+        }
+        (WrittenText::Latin1(left), WrittenText::Utf16(right)) => {
+            Some(borrowed.order_latin1_utf16(left.as_slice(), right.as_slice()))
+        }
+        _ => None,
+    }
+}
+
+/// Their order by the call that returns a result, which is never an error.
+fn compared(
     collator: &Collator,
     left: &WrittenText,
     right: &WrittenText,
@@ -32,22 +55,20 @@ fn order(
     }
 }
 
-/// What so many comparisons return, if all return the same.
+/// What so many comparisons return, the first by the call that returns a result, if all return the same.
 fn order_of_times(
     collator: &Collator,
     left: &WrittenText,
     right: &WrittenText,
     times: u64,
-) -> Result<Option<Ordering>, DriverError> {
-    let mut first = None;
-    for _ in 0..times {
-        let order = order(collator, left, right).ok_or(DriverError::Unread)??;
-        if first.is_some() && first != Some(order) {
-            return Ok(None);
+) -> Option<Ordering> {
+    let first = compared(collator, left, right)?.ok()?;
+    for _ in 1..times {
+        if order(collator, left, right)? != first {
+            return None;
         }
-        first = Some(order);
     }
-    Ok(first)
+    Some(first)
 }
 
 fn has_call(left: &WrittenText, right: &WrittenText) -> bool {
@@ -71,7 +92,7 @@ pub(crate) fn compare(
     if !has_call(&left, &right) {
         return Ok(String::from_str(alloc, "no call")?);
     }
-    match order_of_times(collator, &left, &right, times)? {
+    match order_of_times(collator, &left, &right, times) {
         Some(order) => Ok(format!(in alloc; "{order:?}")?),
         None => Ok(String::from_str(alloc, "unlike")?),
     }

@@ -48,7 +48,7 @@ mod comparison_names {
     };
     use icu_collator::laws::{
         common_beginnings_do_not_count, keys_keep_text_order, levels_keep_text_order,
-        well_formed_tables_serve_levels,
+        text_order_is_total, well_formed_tables_serve_levels,
     };
 }
 

@@ -1,16 +1,12 @@
 -- How far a text is read, and what a step of reading does.
-use Rattle.std.specs.Prelude.{ℕ, ◌≡◌, List, ◌++◌, take}
+use Rattle.std.specs.Prelude.{ℕ, ◌≡◌, List, ◌++◌}
 use Rattle.icu_entries.specs.Elements.{Element}
 use Rattle.icu_matches.specs.Texts.{unread}
-use Rattle.icu_elements.specs.declared.reader.recent.RecentChars.{RecentChars}
 use Rattle.icu_elements.specs.declared.reader.position.Position.{Position}
 use Rattle.icu_elements.specs.declared.text_reading.TextReading.{TextReading}
 use Rattle.icu_elements.specs.Reading.{reading_of}
+use Rattle.icu_elements.specs.LastChars.{recent_chars}
 use Rattle.icu_elements.specs.TextElements.{Step, last_two, consumed, elements_after}
-
--- the last characters that were consumed, nearest first
-unfoldable pub recent_chars : RecentChars → List ℕ
-recent_chars r = take r.len r.chars
 
 -- the characters that were consumed last, nearest first
 abbrev pub consumed_last : Position → List ℕ

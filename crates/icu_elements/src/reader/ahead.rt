@@ -7,7 +7,7 @@ ghost use Rattle.icu_collation_data.specs.StoredData.{found_context};
 ghost use Rattle.icu_entries.specs.Entries.{kind_of};
 ghost use Rattle.icu_elements.specs.ReadAhead.{HasWholeStep};
 ghost use Rattle.icu_elements.specs.TextElements.{is_digit_kind};
-ghost use Rattle.icu_elements.specs.inner.Positions.{recent_chars};
+ghost use Rattle.icu_elements.specs.LastChars.{recent_chars};
 ghost use Rattle.icu_elements.specs.inner.ReadsAhead.{ReadsTo, ReadsOne, IsBegun, has_run_end, IsRunRead, IsMatchRead, HasWholeContraction, IsDotRead};
 ghost use Rattle.icu_elements.specs.Reading.{element_tables, reading_of};
 ghost use Rattle.icu_collation_data.specs.Data.{longest_mapping};

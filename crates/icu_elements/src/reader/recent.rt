@@ -6,18 +6,18 @@ ghost use Rattle.icu_elements.specs.TextElements.{last_two};
 /// The last characters that were consumed, two at most, the nearest first. A prefix looks no further back (UTS #35 part
 /// 5, "Context-Sensitive Mappings").
 #[derive(Debug, Clone, Copy)]
-pub(crate) struct RecentChars {
+pub struct RecentChars {
     chars: [char; 2],
     len: usize,
     ghost short: { len ≤ 2 },
 }
 
 impl RecentChars {
-    ghost use Rattle.icu_elements.specs.inner.Positions.{recent_chars};
+    ghost use Rattle.icu_elements.specs.LastChars.{recent_chars};
 
     /// No character was consumed yet.
-    #[tactic(auto, unfolding(crate::specs::inner::Positions::recent_chars))]
-    pub(crate) fn new() -> RecentChars
+    #[tactic(auto, unfolding(crate::specs::LastChars::recent_chars))]
+    pub fn new() -> RecentChars
         ensures { recent_chars result ≡ [] }
     {
         RecentChars {
@@ -27,16 +27,16 @@ impl RecentChars {
     }
 
     /// The characters, the nearest first.
-    #[tactic(auto, unfolding(crate::specs::inner::Positions::recent_chars))]
-    pub(crate) fn as_slice(&self) -> &[char]
+    #[tactic(auto, unfolding(crate::specs::LastChars::recent_chars))]
+    pub fn as_slice(&self) -> &[char]
         ensures { result.now ≡ recent_chars self.now }
     {
         &self.chars[..self.len]
     }
 
     /// One more character was consumed.
-    #[tactic(auto, using(crate::proofs::ReaderLemmas::one_more), unfolding(crate::specs::inner::Positions::recent_chars))]
-    pub(crate) fn push(&mut self, c: char)
+    #[tactic(auto, using(crate::proofs::ReaderLemmas::one_more), unfolding(crate::specs::LastChars::recent_chars))]
+    pub fn push(&mut self, c: char)
         ensures { recent_chars self.new ≡ last_two (recent_chars self.old) (c ∷ []) }
     {
         self.chars = [c, self.chars[0]];
@@ -44,7 +44,7 @@ impl RecentChars {
     }
 
     /// A character was consumed, and then those after it.
-    pub(crate) fn push_with(&mut self, c: char, suffix: &[char])
+    pub fn push_with(&mut self, c: char, suffix: &[char])
         ensures { recent_chars self.new ≡ last_two (recent_chars self.old) (c ∷ suffix.now) }
     {
         self.push(c);
@@ -52,7 +52,7 @@ impl RecentChars {
     }
 
     /// More characters were consumed, the first of these first.
-    pub(crate) fn push_all(&mut self, chars: &[char])
+    pub fn push_all(&mut self, chars: &[char])
         ensures { recent_chars self.new ≡ last_two (recent_chars self.old) chars.now }
     {
         for c in chars {

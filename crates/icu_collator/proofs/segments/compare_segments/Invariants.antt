@@ -1,13 +1,16 @@
-use Rattle.std.proofs.Common.{◌≡◌, length, ◌∷◌, map, reverse}
+use Rattle.std.proofs.Common.{◌≡◌, length}
 use Rattle.icu_levels.specs.ListOrder.{segments_order}
-use Rattle.icu_collator.specs.inner.SegmentsLeft.{this_segment, next_segments}
+use Rattle.icu_collator.specs.inner.SegmentsLeft.{next_segments, reversed_segments, AtOnePlace}
 use Rattle.icu_collator.proofs.segments.compare_segments.Given as goal
 
 -- what is left orders as the whole
 abbrev pub invariant-segments : goal.invariant-segments
-invariant-segments l =
-    segments_order (map reverse (this_segment l.left ∷ next_segments l.left)) (map reverse (this_segment l.right ∷ next_segments l.right))
-    ≡ segments_order (map reverse (this_segment l.fn.left ∷ next_segments l.fn.left)) (map reverse (this_segment l.fn.right ∷ next_segments l.fn.right))
+invariant-segments g l = record {
+  left : AtOnePlace g.L.SteadySource.steady_left l.left;
+  right : AtOnePlace g.R.SteadySource.steady_left l.right;
+  order : segments_order (reversed_segments g.L.SteadySource.steady_left l.left) (reversed_segments g.R.SteadySource.steady_left l.right)
+      ≡ segments_order (reversed_segments g.L.SteadySource.steady_left l.fn.left) (reversed_segments g.R.SteadySource.steady_left l.fn.right);
+}
 
 abbrev pub decreases-segments : goal.decreases-segments
-decreases-segments l = length l.left.rest.now
+decreases-segments g l = length (next_segments g.L.SteadySource.steady_left l.left.behind)

@@ -1,5 +1,5 @@
 -- The weights of the level are the quaternaries.
-use Rattle.std.proofs.Common.{◌≡◌, ◌∙◌, Ordering, Some, IfOk, subst, sym, ap}
+use Rattle.std.proofs.Common.{◌≡◌, ◌∙◌, Some, sym, ap}
 use Rattle.unicode_normalization.specs.Forms.{nfd}
 use Rattle.icu_weighting.specs.Forms.{form_by}
 use Rattle.icu_collator.specs.Collators.{collation_borrowed}
@@ -15,7 +15,6 @@ returns-in-Some g c =
     let t = nfd (g.L.EncodedText.text c.args.left) in
     let u = nfd (g.R.EncodedText.text c.args.right) in
     let counts : (form_by collation).quaternary ≡ Some c.in-Some.field-0 = sym (ap (λ (k : KeyForm). k.quaternary) c.key_form.ensures) ∙ c.in-Some.is in
-    subst (λ (w : Ordering). IfOk c.compare_forward_level.result (λ o. o ≡ w))
-    (quaternaries_read collation t u c.reordering.result c.in-Some.field-0 c.reordering.ensures
-    ∙ ap (λ f. quaternaries_order f (lists_by collation t) (lists_by collation u)) (sym counts))
     c.compare_forward_level.ensures
+    ∙ quaternaries_read collation t u c.reordering.result c.in-Some.field-0 c.reordering.ensures
+    ∙ ap (λ f. quaternaries_order f (lists_by collation t) (lists_by collation u)) (sym counts)

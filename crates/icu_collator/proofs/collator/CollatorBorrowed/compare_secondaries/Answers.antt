@@ -1,5 +1,5 @@
 -- The weights of the level are the secondaries.
-use Rattle.std.proofs.Common.{◌≡◌, ◌∙◌, Ordering, Some, IfOk, subst, sym, ap, rules}
+use Rattle.std.proofs.Common.{◌≡◌, ◌∙◌, Some, sym, ap, rules}
 use Rattle.unicode_normalization.specs.Forms.{nfd}
 use Rattle.icu_levels.specs.Keys.{secondaries_order}
 use Rattle.icu_levels.specs.declared.forms.KeyForm.{KeyForm}
@@ -16,6 +16,5 @@ returns-in-Some-Forward g c =
     let t = nfd (g.L.EncodedText.text c.args.left) in
     let u = nfd (g.R.EncodedText.text c.args.right) in
     let counts : (form_by collation).secondary ≡ Some Forward = sym (ap (λ (k : KeyForm). k.secondary) c.key_form.ensures) ∙ c.in-Some-Forward.is ∙ ap (λ f. Some f) (search rules) in
-    subst (λ (w : Ordering). IfOk c.compare_forward_level.result (λ o. o ≡ w))
-    (secondaries_read collation t u ∙ ap (λ f. secondaries_order f (lists_by collation t) (lists_by collation u)) (sym counts))
     c.compare_forward_level.ensures
+    ∙ secondaries_read collation t u ∙ ap (λ f. secondaries_order f (lists_by collation t) (lists_by collation u)) (sym counts)

@@ -1,5 +1,5 @@
 -- The weights of the level are the tertiaries.
-use Rattle.std.proofs.Common.{◌≡◌, ◌∙◌, Ordering, Some, IfOk, subst, sym, ap}
+use Rattle.std.proofs.Common.{◌≡◌, ◌∙◌, Some, sym, ap}
 use Rattle.unicode_normalization.specs.Forms.{nfd}
 use Rattle.icu_weighting.specs.Forms.{form_by}
 use Rattle.icu_collator.specs.Collators.{collation_borrowed}
@@ -11,6 +11,5 @@ pub returns-in-Some : goal.returns-in-Some
 returns-in-Some g c =
     let collation = collation_borrowed c.args.self.now in
     let counts : (form_by collation).tertiary ≡ Some c.in-Some.form = sym (ap (λ (k : KeyForm). k.tertiary) c.key_form.ensures) ∙ c.in-Some.is in
-    subst (λ (w : Ordering). IfOk c.compare_forward_level.result (λ o. o ≡ w))
-    (tertiaries_read collation (nfd (g.L.EncodedText.text c.args.left)) (nfd (g.R.EncodedText.text c.args.right)) c.in-Some.form counts)
     c.compare_forward_level.ensures
+    ∙ tertiaries_read collation (nfd (g.L.EncodedText.text c.args.left)) (nfd (g.R.EncodedText.text c.args.right)) c.in-Some.form counts

@@ -6,7 +6,7 @@ use Rattle.icu_collation_data.specs.StoredData.{data_of, found_context}
 use Rattle.icu_provider.specs.Tables.{diacritic_of}
 use Rattle.icu_matches.proofs.MatchLemmas.{prefix_inside, contraction_inside}
 use Rattle.icu_elements.specs.Reading.{element_tables, reading_of}
-use Rattle.icu_elements.specs.inner.Positions.{recent_chars}
+use Rattle.icu_elements.specs.LastChars.{recent_chars}
 use Rattle.icu_elements.proofs.AheadLemmas.{HasWholeStep-by_dot, HasWholeStep-by_run, HasWholeStep-by_contraction}
 use Rattle.icu_elements.proofs.ReaderLemmas.{on_ok}
 use Rattle.icu_elements.proofs.ReadsAheadLemmas.{ReadsTo-weaker}

@@ -3,7 +3,7 @@ use Rattle.icu_collation_data.specs.Data.{homed}
 use Rattle.icu_collation_data.specs.Final.{final_elements}
 use Rattle.icu_collation_data.specs.StoredData.{data_of}
 use Rattle.icu_elements.specs.TextElements.{last_two}
-use Rattle.icu_elements.specs.inner.Positions.{recent_chars}
+use Rattle.icu_elements.specs.LastChars.{recent_chars}
 use Rattle.icu_elements.proofs.ReaderLemmas.{on_ok, fold_pushed}
 use Rattle.icu_elements.proofs.reader.entry_step.read_final.Goals as goal
 

@@ -4,7 +4,8 @@ use Rattle.icu_elements.specs.declared.reader.position.Position.{Position}
 use Rattle.icu_elements.specs.Reading.{element_tables}
 use Rattle.icu_elements.specs.TextElements.{last_two}
 use Rattle.icu_elements.specs.inner.TakenDigits.{matched, IsRunTaken}
-use Rattle.icu_elements.specs.inner.Positions.{recent_chars, unread_at}
+use Rattle.icu_elements.specs.inner.Positions.{unread_at}
+use Rattle.icu_elements.specs.LastChars.{recent_chars}
 use Rattle.icu_elements.proofs.TakenDigitLemmas.{taken_alone, taken_together}
 use Rattle.icu_elements.proofs.reader.taken_digits.take_number.Goals as goal
 

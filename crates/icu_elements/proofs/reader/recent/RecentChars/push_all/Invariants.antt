@@ -1,6 +1,6 @@
 use Rattle.std.proofs.Common.{◌≡◌, take}
 use Rattle.icu_elements.specs.TextElements.{last_two}
-use Rattle.icu_elements.specs.inner.Positions.{recent_chars}
+use Rattle.icu_elements.specs.LastChars.{recent_chars}
 use Rattle.icu_elements.proofs.reader.recent.RecentChars.push_all.Given as goal
 
 abbrev pub invariant-loop-c : goal.invariant-loop-c

@@ -1,6 +1,6 @@
 use Rattle.std.proofs.Common.{List, ℕ, [], ◌∷◌, ap, ◌∙◌}
 use Rattle.icu_elements.specs.TextElements.{last_two}
-use Rattle.icu_elements.specs.inner.Positions.{recent_chars}
+use Rattle.icu_elements.specs.LastChars.{recent_chars}
 use Rattle.icu_elements.proofs.ReaderLemmas.{last_two-append}
 use Rattle.icu_elements.proofs.reader.recent.RecentChars.push_with.Goals as goal
 

@@ -1,0 +1,3 @@
+pub mod NumberDigitLemmas
+pub mod RunDigitLemmas
+pub mod SteadyStepLemmas

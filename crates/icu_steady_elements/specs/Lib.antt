@@ -1,0 +1,2 @@
+pub mod SteadyElements
+pub mod inner

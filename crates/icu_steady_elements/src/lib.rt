@@ -1,0 +1,12 @@
+//! The collation elements of a text, one by one and without memory: no call allocates, and none returns an error.
+#![tactic(auto)]
+
+mod final_elements;
+mod number_digits;
+mod run_digits;
+pub mod steady_elements;
+mod steady_place;
+mod steady_step;
+mod step_elements;
+
+pub use steady_elements::SteadyElements;

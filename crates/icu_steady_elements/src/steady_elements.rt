@@ -1,0 +1,121 @@
+//! The elements of a text, one by one.
+
+ghost use Rattle.std.specs.Prelude.{◌≡◌, ◌<◌, ◌++◌, [], None, false, IfSome, length, option_to_list, MatchBool};
+ghost use Rattle.unicode_normalization.specs.Forms.{nfd};
+ghost use Rattle.icu_elements.specs.Reading.{reading_of};
+ghost use Rattle.icu_elements.specs.TextElements.{elements_of};
+
+use crate::final_elements::FinalElements;
+use crate::run_digits::{read_number, take_digit};
+use crate::steady_place::SteadyPlace;
+use crate::steady_step::read_char;
+use crate::step_elements::StepElements;
+use icu_decomposed_text::{CountedText, MatchableText, TextForMatches};
+use icu_elements::{RecentChars, TextReading};
+use icu_entries::CollationElement;
+
+/// Reads a text and gives its collation elements, one by one (UTS #10, "Produce Collation Element Arrays"). The text is
+/// decomposed while it is read. No call allocates or fails, and the state doesn't grow with the text.
+#[derive(Debug, Clone, Copy)]
+pub struct SteadyElements<'d, T: CountedText> {
+    pub(crate) reading: TextReading<'d>,
+    pub(crate) place: SteadyPlace<MatchableText<T>>,
+    pub(crate) given: StepElements<'d>,
+}
+
+impl<'d, T: CountedText> SteadyElements<'d, T> {
+    ghost use Rattle.icu_steady_elements.specs.SteadyElements.{elements_left, text_left};
+    ghost use Rattle.icu_steady_elements.specs.inner.StepElements.{given_left, IsBetweenSteps};
+
+    /// All elements of a text, in any encoding, decomposed or not.
+    pub fn new(text: T, reading: TextReading<'d>) -> SteadyElements<'d, T>
+        ensures { elements_left T.EncodedText.text result
+            ≡ elements_of (reading_of reading.entry) (nfd (T.EncodedText.text text)) }
+    {
+        SteadyElements {
+            reading,
+            place: SteadyPlace {
+                recent: RecentChars::new(),
+                text: MatchableText::new(text),
+            },
+            given: StepElements::Final(FinalElements::Ended),
+        }
+    }
+
+    /// The next element, or `None` after the last one.
+    pub fn next(&mut self) -> Option<CollationElement>
+        ensures next { elements_left T.EncodedText.text self.old
+            ≡ option_to_list result ++ elements_left T.EncodedText.text self.new }
+        ensures end { result ≡ None → elements_left T.EncodedText.text self.old ≡ [] }
+        ensures smaller { IfSome result (λ e. length (elements_left T.EncodedText.text self.new)
+            < length (elements_left T.EncodedText.text self.old)) }
+    {
+        'steps: loop {
+            let next = self.given.next();
+            if next.is_some() {
+                return next;
+            }
+            if !self.take_step() {
+                return None;
+            }
+        }
+    }
+
+    /// Takes the next step: of a run of digits the next number, or the step at the next character. Returns whether a
+    /// character was left.
+    fn take_step(&mut self) -> bool
+        requires { given_left self.old.given ≡ [] }
+        ensures elements { elements_left T.EncodedText.text self.new
+            ≡ elements_left T.EncodedText.text self.old }
+        ensures shorter { MatchBool result
+            (length (text_left T.EncodedText.text self.new)
+            < length (text_left T.EncodedText.text self.old))
+            (elements_left T.EncodedText.text self.old ≡ []) }
+    {
+        if self.take_number() {
+            return true;
+        }
+        self.take_char()
+    }
+
+    /// Reads the next number of the run of digits in hand. Where there is no run, or no digit comes next, reads nothing
+    /// and returns `false`: no run is in hand then.
+    fn take_number(&mut self) -> bool
+        requires { given_left self.old.given ≡ [] }
+        ensures elements { elements_left T.EncodedText.text self.new
+            ≡ elements_left T.EncodedText.text self.old }
+        ensures shorter { MatchBool result
+            (length (text_left T.EncodedText.text self.new)
+            < length (text_left T.EncodedText.text self.old))
+            (text_left T.EncodedText.text self.new ≡ text_left T.EncodedText.text self.old) }
+        ensures ended { result ≡ false → IsBetweenSteps self.new.given }
+    {
+        let Some(lead) = self.given.lead() else {
+            return false;
+        };
+        let Some(digit) = take_digit(self.reading.tables, &mut self.place) else {
+            self.given = StepElements::Final(FinalElements::Ended);
+            return false;
+        };
+        let number = read_number(self.reading, lead, digit, &mut self.place);
+        self.given = StepElements::Run(number, lead);
+        true
+    }
+
+    /// Takes the step at the next character. Returns whether one was left.
+    fn take_char(&mut self) -> bool
+        requires { IsBetweenSteps self.old.given }
+        ensures elements { elements_left T.EncodedText.text self.new
+            ≡ elements_left T.EncodedText.text self.old }
+        ensures shorter { MatchBool result
+            (length (text_left T.EncodedText.text self.new)
+            < length (text_left T.EncodedText.text self.old))
+            (elements_left T.EncodedText.text self.old ≡ []) }
+    {
+        let Some(c) = self.place.text.next() else {
+            return false;
+        };
+        self.given = read_char(self.reading, &mut self.place, c);
+        true
+    }
+}
