@@ -1,6 +1,6 @@
 -- At first a walk remembers no entry, and after one more it remembers no other that leads elsewhere.
-use Rattle.std.proofs.Common.{◌≡◌, ℕ, ◌+◌, ◌*◌, ◌/◌, ◌%◌, ◌<◌, ◌≤◌, ◌^◌, ◌⊎◌, inl, inr, Option, Some, None, List, length, get_or, refl, sym, ap, ◌∙◌, subst, replicate, arith, true, w64}
-use Rattle.std.specs.Prelude.{set, slice_index}
+use Rattle.std.proofs.Common.{◌≡◌, ℕ, ◌*◌, ◌/◌, ◌%◌, ◌<◌, ◌≤◌, ◌^◌, ◌⊎◌, inl, inr, Option, Some, None, List, length, get_or, refl, sym, ap, ◌∙◌, replicate, arith, w64}
+use Rattle.std.specs.Prelude.{set}
 use Rattle.std.specs.Int.{bit_at}
 use Rattle.std.specs.Int.Bits.{bit_or}
 use Rattle.std.specs.List.{Contains}
@@ -11,8 +11,8 @@ use Rattle.std.proofs.lemmas.List.{get_or-replicate, get_or-set_same, get_or-set
 use Rattle.std.proofs.lemmas.List.Elements.{All-replicate, All-contains}
 use Rattle.icu_entries.specs.declared.entry.EntryKind.TheVariants.{Prefix, Contraction}
 use Rattle.icu_entries.specs.Entries.{kind_of, entry_index}
-use Rattle.icu_collation_data.specs.Reachable.{names_context, SameContext, ReferAlike}
-use Rattle.icu_collation_data.specs.inner.VisitedEntries.{IsMarked, IsMarkedAs, IsRememberedBy}
+use Rattle.icu_collation_data.specs.Reachable.{names_context, ReferAlike}
+use Rattle.icu_collation_data.specs.inner.VisitedEntries.{IsMarked, IsRememberedBy}
 
 differ : (e : ℕ) → Some e ≡ None → ⊥
 differ e h = cc

@@ -1,5 +1,5 @@
 -- Which of the violations that are found is reported.
-use Rattle.std.specs.Prelude.{ℕ, ◌≡◌, ◌≤◌, Bool, false, nat_lt, List, Option, Some, None, IfSome, if◌then◌else◌}
+use Rattle.std.specs.Prelude.{ℕ, ◌≡◌, ◌≤◌, Bool, nat_lt, List, Option, Some, None, IfSome, if◌then◌else◌}
 use Rattle.std.specs.Char.{IsScalar}
 use Rattle.std.specs.List.{AllByRecursion, Contains}
 use Rattle.icu_collation_data.specs.declared.reachable_condition.ReachableCondition.{ReachableCondition}

@@ -46,8 +46,8 @@ pub record WalkedTo {V : Type 0} (after : V → Data → ℕ → ℕ → V) (fal
 abbrev pub AreShared : Data → VisitedEntries → Type 0
 AreShared home seen = (e : ℕ) → IsRemembered seen e → leads_to_character home e ≡ false
 
--- at most this entry is remembered beside those that were, and what refers as it does, if that leads to none that goes by
--- its character
+-- at most this entry is remembered beside those that were, and what refers as it does, if that leads to none that goes
+-- by its character
 abbrev pub AddsShared : Data → VisitedEntries → VisitedEntries → ℕ → Type 0
 AddsShared home old new entry =
     (e : ℕ) → IsRemembered new e → IsRemembered old e ⊎ (ReferAlike entry e × (leads_to_character home e ≡ false))
