@@ -2,6 +2,9 @@
 
 The time is that of some checks more, so that reading the questions is no part of it.
 """
+import functools
+import random
+
 from driver import numbers, written
 from timing import RUNS, Slowed, least_times
 
@@ -98,6 +101,59 @@ def of_listed_mappings():
     return builder
 
 
+def context_entry(index, hints):
+    """A contraction's entry, by its context's index and the five bits between that and the kind, which say nothing."""
+    return index << 13 | hints << 8 | MAPPED
+
+
+def add_mapped(builder, lead, count):
+    """Adds a context of so many mappings with unlike weights, and returns its index."""
+    mappings = [([0x20000 + number], unlike_entry(lead, number)) for number in range(count)]
+    return builder.add_context(unlike_entry(0x31, 0), mappings)
+
+
+def of_spellings(size):
+    """A root in which 3,200 values a size name one context of 5,000 mappings a size, by 32 spellings of the bits that say nothing."""
+    rng, builder = random.Random(size), Builder(0xCF)
+    index = add_mapped(builder, 0x30, 5_000 * size)
+    for number in range(3_200 * size):
+        builder.set_entry(0x4000 + number, context_entry(index, rng.randrange(32)))
+    return builder
+
+
+def of_far_contexts(size):
+    """A root in which 1,600 values a size name two contexts of 2,500 mappings a size, 1,024 indices apart."""
+    rng, builder = random.Random(size), Builder(0xCF)
+    first = add_mapped(builder, 0x30, 2_500 * size)
+    for _ in range(1_023):
+        builder.add_context(unlike_entry(0x31, 0), [])
+    second = add_mapped(builder, 0x32, 2_500 * size)
+    for number in range(1_600 * size):
+        builder.set_entry(0x4000 + number, context_entry(rng.choice((first, second)), 0))
+    return builder
+
+
+def of_random_contexts(seed, size):
+    """A root in which 1,600 values a size name six contexts of some 4,000 mappings a size, with gaps between their indices, in any
+    order and by any spelling."""
+    rng, builder = random.Random(seed), Builder(0xCF)
+    shares = [rng.random() for _ in range(6)]
+    named = []
+    for lead, share in enumerate(shares, 0x30):
+        for _ in range(rng.choice((0, 1, 511, 1_023))):
+            builder.add_context(unlike_entry(0x31, 0), [])
+        named.append(add_mapped(builder, lead, 1 + int(4_000 * size * share / sum(shares))))
+    for number in range(1_600 * size):
+        builder.set_entry(0x4000 + number, context_entry(rng.choice(named), rng.randrange(32)))
+    return builder
+
+
+# What makes a root by its size, by name.
+GROWING = {"spellings": of_spellings, "far-contexts": of_far_contexts}
+GROWING |= {f"random-contexts-{seed}": functools.partial(of_random_contexts, seed) for seed in range(3)}
+SIZES = (1, 2, 4)
+
+
 # ---- tables of the size of CLDR's
 
 # The element that ideographs are counted by: U+3400 has the weight A00202, and each character after it the next one.
@@ -184,6 +240,33 @@ def dear_tables(mini, check):
     return check.faults + [f"{check}; {mini}"] * (check.for_each() > allowed)
 
 
+def growing_tables(mini, checks):
+    """What is wrong with the checks of one root in sizes 1, 2 and 4: one takes long, or the time grows faster than the size."""
+    faults = [it for check in checks for it in dear_tables(mini, check)]
+    least, greatest = checks[0], checks[-1]
+    # more than twice the growth of the numbers is no other work of the machine
+    allowed = 2 * least.seconds * greatest.numbers / least.numbers
+    return faults + [f"grows too fast: {least}; {greatest}"] * (greatest.seconds > max(allowed, 1e-3))
+
+
+def grown_checks(driver, name, make):
+    """The checks of one root in each size."""
+    return [Check(driver, TimedTables(f"{name}-{size}", "Mini", make(size)), CHECKS // 6) for size in SIZES]
+
+
+def check_growth(report, driver):
+    """Hostile tables by a generator, each in three sizes."""
+    for _ in range(ATTEMPTS):
+        mini = Check(driver, TimedTables("mini", "Mini"), 4 * CHECKS)
+        grown = [grown_checks(driver, name, make) for name, make in GROWING.items()]
+        faults = mini.faults + [it for checks in grown for it in growing_tables(mini, checks)]
+        if not faults:
+            break
+    report.say("hostile input: checks take no more than in proportion to the tables", faults, 2 * RUNS * len(SIZES) * len(grown))
+    for check in [it for checks in grown for it in checks]:
+        print(f"       {check}", flush=True)
+
+
 def check_times(report, driver):
     """Small hostile tables, whose checks are held against Mini's, and large good ones, of which the times are printed alone."""
     hostile = [
@@ -205,6 +288,7 @@ def check_times(report, driver):
     report.say("hostile input: checks of hostile tables take little", faults, 2 * RUNS * (1 + len(checks) + len(others)))
     for check in [mini, *checks, *others]:
         print(f"       {check}", flush=True)
+    check_growth(report, driver)
 
 
 def dear_checks_missed(driver):

@@ -1,18 +1,21 @@
 -- The violations of entries and elements are true, and where there is none every condition is met.
-use Rattle.std.proofs.Common.{◌≡◌, ℕ, Bool, true, false, not, List, [], ◌∷◌, Option, Some, None, IfSome, IsTrue, if◌then◌else◌, fold, option_map, length, refl, ap, ◌∙◌}
+use Rattle.std.proofs.Common.{◌≡◌, ℕ, Bool, true, false, not, List, [], ◌∷◌, Option, Some, None, IfSome, IsTrue, if◌then◌else◌, fold, option_map, length, refl, sym, ap, ◌∙◌}
 use Rattle.std.specs.List.{AllByRecursion, Contains}
 use Rattle.icu_entries.specs.declared.error.DataTable.{DataTable}
 use Rattle.icu_entries.specs.declared.error.DataTable.TheVariants.{Root, Jamo, SpecialPrimaries, Metadata, Tailoring, Reordering, Diacritics}
 use Rattle.icu_collation_data.specs.declared.reachable_condition.ReachableCondition.{ReachableCondition}
+use Rattle.icu_entries.specs.declared.entry.EntryKind.{EntryKind}
+use Rattle.icu_entries.specs.declared.entry.EntryKind.TheVariants.{Prefix, Contraction}
+use Rattle.icu_entries.specs.Entries.{kind_of, entry_index}
 use Rattle.icu_entries.specs.Elements.{Element}
 use Rattle.icu_collation_data.specs.Data.{Data, homed}
 use Rattle.icu_collation_data.specs.Final.{final_elements}
 use Rattle.icu_collation_data.specs.DataConditions.{avoids_diacritics, is_readable}
 use Rattle.icu_collation_data.specs.Violations.{earlier}
-use Rattle.icu_collation_data.specs.Reachable.{goes_by_character}
+use Rattle.icu_collation_data.specs.Reachable.{goes_by_character, names_context, SameContext, AreAlike}
 use Rattle.icu_collation_data.specs.ReachableConditions.{meets, first_failing}
 use Rattle.icu_collation_data.proofs.ViolationLemmas.{find_passes, find_none, not_false, not_true, weaker_some, passes_meets, meets_readable, failing_fails, earlier-none, earlier-keeps}
-use Rattle.icu_collation_data.proofs.SameEntryLemmas.{failing_alike, readable_alike, elements_alike}
+use Rattle.icu_collation_data.proofs.SameEntryLemmas.{failing_alike, readable_alike, elements_alike, failing_context, readable_context, elements_context, by_alike}
 use Rattle.icu_collation_data.proofs.ListLemmas.{weaker, all_members}
 use Rattle.icu_checks.specs.declared.condition.Condition.TheVariants as conditions
 use Rattle.icu_checks.specs.declared.condition.ReachableElementCondition.{ReachableElementCondition}
@@ -147,20 +150,46 @@ module _ (all : CollatorTables) where
       (earlier-keeps violation_rank (IsTrueViolation all) _ _ own (mappings_true table home c e is))
       (read_true (is_readable home c e) (elements_violation all table home c e) (elements_true table None (final_elements (homed home e) c) tt given))
 
--- ---- entries that don't go by their character
+-- ---- entries that say the same with each character
 
 -- the violation of an entry by what is asked of it and its character
 abbrev judged_by : CollatorTables → DataTable → Option Violation → Option ReachableCondition → Bool → List Element → Option Violation
 judged_by all table mappings own readable es =
     earlier violation_rank (earlier violation_rank (option_map (of_entry table) own) mappings) (if readable then fold (after_element all table) None es else None)
 
-pub entry_alike : (all : CollatorTables) (table : DataTable) (home : Data) (c d e : ℕ) → goes_by_character e ≡ false → entry_violation all table home c e ≡ entry_violation all table home d e
+one_alike : (all : CollatorTables) (table : DataTable) (home : Data) (c d e : ℕ) → goes_by_character e ≡ false → entry_violation all table home c e ≡ entry_violation all table home d e
 unfolding entry_violation
-entry_alike all table home c d e by =
+one_alike all table home c d e by =
     let judged : Option ReachableCondition → Bool → List Element → Option Violation = judged_by all table (mappings_violation all home e) in
     ap (λ own. judged own (is_readable home c e) (final_elements (homed home e) c)) (failing_alike home c d e by)
     ∙ ap (λ readable. judged (first_failing home d e) readable (final_elements (homed home e) c)) (readable_alike home c d e by)
     ∙ ap (λ es. judged (first_failing home d e) (is_readable home d e) es) (elements_alike home c d e by)
+
+-- entries that refer to one context have the same mappings
+avoids_by : (k : EntryKind) (count : ℕ) (home : Data) (e f : ℕ) → names_context k ≡ true → kind_of e ≡ k → kind_of f ≡ k → entry_index e ≡ entry_index f
+    → avoids_diacritics count home e ≡ avoids_diacritics count home f
+unfolding avoids_diacritics
+avoids_by Prefix count home e f h is_e is_f index = rw (is_e, is_f, index, avoids_diacritics) refl
+avoids_by Contraction count home e f h is_e is_f index = rw (is_e, is_f, avoids_diacritics) refl
+avoids_by _ count home e f h is_e is_f index = cc
+
+abbrev by_mappings : Bool → Option Violation
+by_mappings b = if b then None else Some (record { condition = conditions.PrefixMappings; table = Diacritics })
+
+mappings_same : (all : CollatorTables) (home : Data) (e f : ℕ) → SameContext e f → mappings_violation all home e ≡ mappings_violation all home f
+mappings_same all home e f same =
+    ap by_mappings (avoids_by (kind_of f) (length all.tables.diacritics) home e f (ap names_context (sym same.kind) ∙ same.context) same.kind refl same.index)
+
+context_alike : (all : CollatorTables) (table : DataTable) (home : Data) (c d e f : ℕ) → SameContext e f → entry_violation all table home c e ≡ entry_violation all table home d f
+unfolding entry_violation
+context_alike all table home c d e f same =
+    ap (λ mappings. judged_by all table mappings (first_failing home c e) (is_readable home c e) (final_elements (homed home e) c)) (mappings_same all home e f same)
+    ∙ ap (λ own. judged_by all table (mappings_violation all home f) own (is_readable home c e) (final_elements (homed home e) c)) (failing_context home c d e f same)
+    ∙ ap (λ readable. judged_by all table (mappings_violation all home f) (first_failing home d f) readable (final_elements (homed home e) c)) (readable_context home c d e f same)
+    ∙ ap (λ es. judged_by all table (mappings_violation all home f) (first_failing home d f) (is_readable home d f) es) (elements_context home c d e f same)
+
+pub entry_alike : (all : CollatorTables) (table : DataTable) (home : Data) (c d e f : ℕ) → AreAlike e f → entry_violation all table home c e ≡ entry_violation all table home d f
+entry_alike all table home = by_alike (entry_violation all table home) (one_alike all table home) (context_alike all table home)
 
 -- ---- entries that fail no condition of their own
 

@@ -1,8 +1,8 @@
 -- How a walk goes on from block to block.
 use Rattle.std.proofs.Common.{◌≡◌, ℕ, zero, suc, ◌+◌, ◌-◌, ◌*◌, ◌/◌, ◌%◌, ◌<◌, ◌≤◌, Bool, true, false, List, [], ◌∷◌, ◌++◌, ◌⊎◌, inl, inr, refl, sym, ap, ◌∙◌, subst, arith, fold}
-use Rattle.std.specs.Prelude.{◌||◌, ◌==◌, slice_index_or, set, replicate, length}
+use Rattle.std.specs.Prelude.{◌||◌, ◌&&◌, ◌==◌, if◌then◌else◌, map, flat_map, slice_index_or, set, replicate, length}
 use Rattle.std.specs.Char.{IsScalar}
-use Rattle.std.specs.List.{list_any}
+use Rattle.std.specs.List.{AllByRecursion, Contains, list_any}
 use Rattle.std.proofs.Math.Utf8.{scalar, scalar_cases, low_scalar}
 use Rattle.std.proofs.lemmas.Bool.Decides.{nat_tests}
 use Rattle.std.proofs.lemmas.Bool.{cases_Bool, cases_eq}
@@ -11,23 +11,24 @@ use Rattle.std.proofs.lemmas.List.{get_or-set_same, get_or-set_other}
 use Rattle.std.proofs.lemmas.List.Sums.{fold-append}
 use Rattle.std.proofs.lemmas.List.Elements.{Contains-append_left, Contains-append_right, Contains-push}
 use Rattle.icu_entries.specs.declared.entry.EntryKind.{EntryKind}
-use Rattle.icu_entries.specs.declared.entry.EntryKind.TheVariants.{Fallback, Simple, LongPrimary, LongSecondary, Offset, Implicit as ImplicitKind}
-use Rattle.icu_entries.specs.Entries.{kind_of, is_self_contained}
+use Rattle.icu_entries.specs.declared.entry.EntryKind.TheVariants.{Fallback, Simple, LongPrimary, LongSecondary, Prefix, Contraction, Offset, Implicit as ImplicitKind}
+use Rattle.icu_entries.specs.Entries.{kind_of, entry_index, is_self_contained}
 use Rattle.icu_collation_data.specs.declared.block_walk.BlockState.{BlockState}
 use Rattle.icu_collation_data.specs.declared.block_walk.BlockState.TheVariants.{Unread, Visited, Shared}
 use Rattle.icu_collation_data.specs.declared.block_walk.Part.{Part}
 use Rattle.icu_collation_data.specs.declared.block_walk.Part.TheVariants.{Stated, ByCharacter, Implicit}
 use Rattle.icu_collation_data.specs.declared.data.CollationData.{CollationData}
-use Rattle.icu_collation_data.specs.Data.{Data}
-use Rattle.icu_collation_data.specs.Reachable.{goes_by_character, leads_to_character, reachable_digit, reachable_contraction, reachable_from, reachable_at}
+use Rattle.icu_collation_data.specs.Data.{Data, context_in}
+use Rattle.icu_collation_data.specs.Reachable.{goes_by_character, leads_to_character, context_entries, reachable_digit, reachable_contraction, reachable_from, reachable_at, names_context, SameContext, ReferAlike}
 use Rattle.icu_collation_data.specs.StoredData.{data_of, block_in}
-use Rattle.icu_collation_data.specs.Walks.{after_all, after_run, after_chars, StandsFor, Walked}
-use Rattle.icu_collation_data.specs.inner.BlockWalks.{is_wanted, WalkedTo, AreShared, IsVisited, HasWalked, IsRun, IsShared, IsState, IsRead, HasState, AreStates}
+use Rattle.icu_collation_data.specs.Walks.{CharVisit, visit_of, after_all, after_run, after_visits, IsReachableVisit, IsSharedVisit, IsCovered, Walked}
+use Rattle.icu_collation_data.specs.inner.BlockWalks.{is_wanted, after_chars, StandsFor, WalkedTo, AreShared, IsVisited, HasWalked, IsRun, IsShared, IsState, IsRead, HasState, AreStates}
 use Rattle.icu_collation_data.specs.inner.VisitedEntries.{IsRemembered}
 use Rattle.icu_collation_data.specs.declared.visited_entries.VisitedEntries.{VisitedEntries}
-use Rattle.icu_collation_data.proofs.ListLemmas.{all_append}
+use Rattle.icu_collation_data.proofs.ListLemmas.{all_append, all_members, of_member, weaker}
 use Rattle.icu_collation_data.proofs.CharLemmas.{scalar_below}
-use Rattle.icu_collation_data.proofs.WalkLemmas.{isnt_fallback, kept}
+use Rattle.icu_collation_data.proofs.WalkLemmas.{isnt_fallback, kept, implicit_alone}
+use Rattle.icu_collation_data.proofs.SameEntryLemmas.{none_passes}
 
 -- ---- the search for an entry that goes by its character
 
@@ -121,6 +122,71 @@ offset_alone falls_back home c is =
     kept falls_back (home.value c == 0xC0) (home.value c) (reachable_from home (home.value c)) (isnt_fallback Offset (home.value c) not_offset is)
     ∙ offset_from (home.value c) home is
 
+-- ---- entries that refer to one context
+
+-- what an entry of this kind leads to beside itself, by the index of its context
+abbrev rest_of : EntryKind → Data → ℕ → List ℕ
+rest_of Prefix home i = flat_map (reachable_contraction home) (context_entries (context_in home.contexts i))
+rest_of Contraction home i = flat_map (reachable_digit home) (context_entries (context_in home.contexts i))
+rest_of _ home i = []
+
+contraction_by : (e : ℕ) (home : Data) → kind_of e ≡ Contraction → reachable_contraction home e ≡ e ∷ rest_of Contraction home (entry_index e)
+unfolding reachable_contraction
+contraction_by e home is = rw (is, reachable_contraction) refl
+
+context_by : (k : EntryKind) (e : ℕ) (home : Data) → names_context k ≡ true → kind_of e ≡ k → reachable_from home e ≡ e ∷ rest_of k home (entry_index e)
+unfolding reachable_from
+context_by Prefix e home h is = rw (is, reachable_from) refl
+context_by Contraction e home h is = rw (is, reachable_from) (contraction_by e home is)
+context_by _ e home h is = cc
+
+context_from : (e : ℕ) (home : Data) → names_context (kind_of e) ≡ true → reachable_from home e ≡ e ∷ rest_of (kind_of e) home (entry_index e)
+context_from e home h = context_by (kind_of e) e home h refl
+
+context_second : (e f : ℕ) → SameContext e f → names_context (kind_of f) ≡ true
+context_second e f same = ap names_context (sym same.kind) ∙ same.context
+
+rest_same : (home : Data) (e f : ℕ) → SameContext e f → rest_of (kind_of e) home (entry_index e) ≡ rest_of (kind_of f) home (entry_index f)
+rest_same home e f same = ap (λ k. rest_of k home (entry_index e)) same.kind ∙ ap (rest_of (kind_of f) home) same.index
+
+not_fallback : (k : EntryKind) → names_context k ≡ true → Fallback ≡ k → ⊥
+not_fallback Fallback h same = cc
+not_fallback _ h same = cc
+
+context_at : (falls_back : Bool) (home : Data) (c : ℕ) → names_context (kind_of (home.value c)) ≡ true
+    → reachable_at falls_back home c ≡ home.value c ∷ rest_of (kind_of (home.value c)) home (entry_index (home.value c))
+context_at falls_back home c h =
+    kept falls_back (home.value c == 0xC0) (home.value c) (reachable_from home (home.value c)) (isnt_fallback (kind_of (home.value c)) (home.value c) (not_fallback (kind_of (home.value c)) h) refl)
+    ∙ context_from (home.value c) home h
+
+context_itself : (k : EntryKind) (e : ℕ) → names_context k ≡ true → kind_of e ≡ k → goes_by_character e ≡ false
+unfolding goes_by_character
+context_itself Prefix e h is = rw (is, goes_by_character) refl
+context_itself Contraction e h is = rw (is, goes_by_character) refl
+context_itself _ e h is = cc
+
+context_leads : (home : Data) (e : ℕ) → names_context (kind_of e) ≡ true → leads_to_character home e ≡ list_any goes_by_character (rest_of (kind_of e) home (entry_index e))
+unfolding leads_to_character
+context_leads home e h =
+    ap (list_any goes_by_character) (context_from e home h)
+    ∙ ap (λ b. b || list_any goes_by_character (rest_of (kind_of e) home (entry_index e))) (context_itself (kind_of e) e h refl)
+
+-- entries that refer alike lead to none that goes by its character, or both do
+pub refer_leads : (home : Data) (e f : ℕ) → ReferAlike e f → leads_to_character home e ≡ false → leads_to_character home f ≡ false
+refer_leads home e f (inl same) none = subst (λ e. leads_to_character home e ≡ false) same none
+refer_leads home e f (inr same) none =
+    context_leads home f (context_second e f same) ∙ ap (list_any goes_by_character) (sym (rest_same home e f same)) ∙ sym (context_leads home e same.context) ∙ none
+
+-- ---- members that were mapped
+
+map_all : {X Y : Type 0} (P : Y → Type 0) (f : X → Y) (xs : List X) → AllByRecursion (λ x. P (f x)) xs → AllByRecursion P (map f xs)
+map_all P f [] all = tt
+map_all P f (x ∷ xs) all = (all.0, map_all P f xs all.1)
+
+all_mapped : {X Y : Type 0} (P : Y → Type 0) (f : X → Y) (xs : List X) → AllByRecursion P (map f xs) → AllByRecursion (λ x. P (f x)) xs
+all_mapped P f [] all = tt
+all_mapped P f (x ∷ xs) all = (all.0, all_mapped P f xs all.1)
+
 -- ---- parts of the characters
 
 clash : (b : Bool) → b ≡ true → b ≡ false → ⊥
@@ -158,10 +224,10 @@ module _ {V : Type 0} (after : V → Data → ℕ → ℕ → V) (falls_back : B
   Chars v cs = after_chars after falls_back v home cs
 
   stands_left : (xs ys : List ℕ) (c : ℕ) → StandsFor home xs c → StandsFor home (xs ++ ys) c
-  stands_left xs ys c s = record { other = s.other; among = Contains-append_left xs ys s.other s.among; same_entry = s.same_entry; same = s.same }
+  stands_left xs ys c s = record { other = s.other; among = Contains-append_left xs ys s.other s.among; refers = s.refers; same = s.same }
 
   stands_right : (xs ys : List ℕ) (c : ℕ) → StandsFor home ys c → StandsFor home (xs ++ ys) c
-  stands_right xs ys c s = record { other = s.other; among = Contains-append_right xs ys s.other s.among; same_entry = s.same_entry; same = s.same }
+  stands_right xs ys c s = record { other = s.other; among = Contains-append_right xs ys s.other s.among; refers = s.refers; same = s.same }
 
   both_add : (s t u : V) (xs ys : List ℕ) → t ≡ Chars s xs → u ≡ Chars t ys → u ≡ Chars s (xs ++ ys)
   both_add s t u xs ys p q =
@@ -188,7 +254,7 @@ module _ {V : Type 0} (after : V → Data → ℕ → ℕ → V) (falls_back : B
     adds_up = is;
     each = λ d low high s wanted.
         let same : c ≡ d = omega arith in
-        record { other = c; among = Contains-push [] c; same_entry = ap home.value same; same = inr same };
+        record { other = c; among = Contains-push [] c; refers = inl (ap home.value same); same = inr same };
   }
 
   pub walked_on : (part : Part) (s t u : V) (a b d : ℕ) → To part s t a b → To part t u b d → To part s u a d
@@ -260,7 +326,7 @@ module _ {V : Type 0} (after : V → Data → ℕ → ℕ → V) (falls_back : B
                 let twin : StandsFor home done.chars (other + (c - first)) =
                 done.each (other + (c - first)) (omega arith) (omega arith) at.0 (ap (is_wanted Stated home) at.1 ∙ wanted) in
                 stands_left done.chars again.chars c
-                (record { other = twin.other; among = twin.among; same_entry = twin.same_entry ∙ at.1; same = inl none })
+                (record { other = twin.other; among = twin.among; refers = subst (ReferAlike (home.value twin.other)) at.1 twin.refers; same = inl none })
           ]
         ];
   }
@@ -281,32 +347,148 @@ module _ {V : Type 0} (after : V → Data → ℕ → ℕ → V) (falls_back : B
         (ap (is_wanted ByCharacter home) (sym at.1) ∙ shared (other + (c - first)) (omega arith) (omega arith) at.0));
   }
 
+  -- the visits of all that is reachable with characters
+  char_visits : List ℕ → List CharVisit
+  char_visits [] = []
+  char_visits (c ∷ cs) = map (visit_of c) (reachable_at falls_back home c) ++ char_visits cs
+
+  visits_add : (v : V) (c : ℕ) (es : List ℕ) → after_visits after v home (map (visit_of c) es) ≡ after_all after v home c es
+  visits_add v c [] = refl
+  visits_add v c (e ∷ es) = visits_add (after v home c e) c es
+
+  chars_add : (v : V) (cs : List ℕ) → after_visits after v home (char_visits cs) ≡ Chars v cs
+  unfolding char_visits
+  chars_add v [] = refl
+  chars_add v (c ∷ cs) =
+      fold-append (λ v (p : CharVisit). after v home p.char p.entry) v (map (visit_of c) (reachable_at falls_back home c)) (char_visits cs)
+      ∙ ap (λ u. after_visits after u home (char_visits cs)) (visits_add v c (reachable_at falls_back home c))
+      ∙ chars_add (after_all after v home c (reachable_at falls_back home c)) cs
+
+  chars_reach : (cs : List ℕ) → AllByRecursion IsScalar cs → AllByRecursion (IsReachableVisit falls_back home) (char_visits cs)
+  unfolding char_visits
+  chars_reach [] scalars = tt
+  chars_reach (c ∷ cs) scalars =
+      all_append (IsReachableVisit falls_back home) (map (visit_of c) (reachable_at falls_back home c)) (char_visits cs)
+      (map_all (IsReachableVisit falls_back home) (visit_of c) (reachable_at falls_back home c)
+      (weaker (Contains (reachable_at falls_back home c)) (λ e. IsReachableVisit falls_back home (visit_of c e))
+      (λ e has. record { scalar = scalars.0; reachable = has }) (reachable_at falls_back home c) (all_members (reachable_at falls_back home c))))
+      (chars_reach cs scalars.1)
+
+  abbrev VisitsOf : List CharVisit → ℕ → Type 0
+  VisitsOf visits c = AllByRecursion (λ e. Contains visits (visit_of c e)) (reachable_at falls_back home c)
+
+  later_visits : (xs ys : List CharVisit) (c : ℕ) → VisitsOf ys c → VisitsOf (xs ++ ys) c
+  later_visits xs ys c =
+      weaker (λ e. Contains ys (visit_of c e)) (λ e. Contains (xs ++ ys) (visit_of c e)) (λ e has. Contains-append_right xs ys (visit_of c e) has) (reachable_at falls_back home c)
+
+  first_visits : (c : ℕ) (ys : List CharVisit) → VisitsOf (map (visit_of c) (reachable_at falls_back home c) ++ ys) c
+  first_visits c ys =
+      let es = reachable_at falls_back home c in
+      weaker (λ e. Contains (map (visit_of c) es) (visit_of c e)) (λ e. Contains (map (visit_of c) es ++ ys) (visit_of c e))
+      (λ e has. Contains-append_left (map (visit_of c) es) ys (visit_of c e) has) es
+      (all_mapped (Contains (map (visit_of c) es)) (visit_of c) es (all_members (map (visit_of c) es)))
+
+  each_visited : (cs : List ℕ) → AllByRecursion (VisitsOf (char_visits cs)) cs
+  unfolding char_visits
+  each_visited [] = tt
+  each_visited (c ∷ cs) = (
+    first_visits c (char_visits cs),
+    weaker (VisitsOf (char_visits cs)) (VisitsOf (map (visit_of c) (reachable_at falls_back home c) ++ char_visits cs))
+        (λ d has. later_visits (map (visit_of c) (reachable_at falls_back home c)) (char_visits cs) d has) cs (each_visited cs),
+  )
+
+  was_visited : (cs : List ℕ) (d e : ℕ) → Contains cs d → Contains (reachable_at falls_back home d) e → Contains (char_visits cs) (visit_of d e)
+  was_visited cs d e among has =
+      of_member (λ e. Contains (char_visits cs) (visit_of d e)) (reachable_at falls_back home d) e
+      (of_member (VisitsOf (char_visits cs)) cs d (each_visited cs) among) has
+
+  -- what stands for a character covers what is reachable with it
+  abbrev Shares : List ℕ → ℕ → Type 0
+  Shares cs e = goes_by_character e ≡ false → IsSharedVisit (char_visits cs) e
+
+  same_shares : (cs : List ℕ) (c d e : ℕ) → Contains cs d → home.value d ≡ home.value c → Contains (reachable_at falls_back home c) e → Shares cs e
+  same_shares cs c d e among same has shared =
+      let there : Contains (reachable_at falls_back home d) e = subst (λ v. Contains (if falls_back && v == 0xC0 then [] else reachable_from home v) e) (sym same) has in
+      record { other = visit_of d e; among = was_visited cs d e among there; alike = record { shared = shared; same = inl refl } }
+
+  context_shares : (cs : List ℕ) (c d e : ℕ) → Contains cs d → SameContext (home.value d) (home.value c) → Contains (reachable_at falls_back home c) e → Shares cs e
+  context_shares cs c d e among same has =
+      of_member (Shares cs) (home.value c ∷ rest) e (first, others) (subst (λ es. Contains es e) (context_at falls_back home c (context_second (home.value d) (home.value c) same)) has)
+    where
+      rest : List ℕ
+      rest = rest_of (kind_of (home.value c)) home (entry_index (home.value c))
+
+      there : reachable_at falls_back home d ≡ home.value d ∷ rest
+      there = context_at falls_back home d same.context ∙ ap (λ es. home.value d ∷ es) (rest_same home (home.value d) (home.value c) same)
+
+      at : (f : ℕ) → Contains (home.value d ∷ rest) f → Contains (char_visits cs) (visit_of d f)
+      at f in_list = was_visited cs d f among (subst (λ es. Contains es f) (sym there) in_list)
+
+      first : Shares cs (home.value c)
+      first shared = record {
+        other = visit_of d (home.value d);
+        among = at (home.value d) (Contains-append_left (home.value d ∷ []) rest (home.value d) (Contains-push [] (home.value d)));
+        alike = record { shared = shared; same = inr same };
+      }
+
+      others : AllByRecursion (Shares cs) rest
+      others =
+          weaker (Contains rest) (Shares cs)
+          (λ f in_rest shared. record { other = visit_of d f; among = at f (Contains-append_right (home.value d ∷ []) rest f in_rest); alike = record { shared = shared; same = inl refl } })
+          rest (all_members rest)
+
+  none_by_character : (c e : ℕ) → leads_to_character home (home.value c) ≡ false → Contains (reachable_at falls_back home c) e → goes_by_character e ≡ false
+  unfolding leads_to_character
+  none_by_character c e none has =
+      of_member (λ e. goes_by_character e ≡ false) (reachable_at falls_back home c) e
+      (none_if (falls_back && home.value c == 0xC0) (reachable_from home (home.value c)) (none_passes goes_by_character (reachable_from home (home.value c)) none)) has
+    where
+      none_if : (b : Bool) (es : List ℕ) → AllByRecursion (λ e. goes_by_character e ≡ false) es → AllByRecursion (λ e. goes_by_character e ≡ false) (if b then [] else es)
+      none_if true es all = tt
+      none_if false es all = all
+
+  stood : (cs : List ℕ) (c e : ℕ) → StandsFor home cs c → Contains (reachable_at falls_back home c) e → IsCovered (char_visits cs) c e
+  stood cs c e stands has =
+      elim stands.same [
+        | inl none ↦ inl (shares (none_by_character c e none has))
+        | inr same ↦ inr (subst (λ d. Contains (char_visits cs) (visit_of d e)) same
+            (was_visited cs stands.other e stands.among (subst (λ d. Contains (reachable_at falls_back home d) e) (sym same) has)))
+      ]
+    where
+      shares : Shares cs e
+      shares =
+          elim stands.refers [
+            | inl one ↦ same_shares cs c stands.other e stands.among one has
+            | inr context ↦ context_shares cs c stands.other e stands.among context has
+          ]
+
   -- all characters, where implicit weights change nothing, and where they were visited
   pub walked_stated : (s t : V) → To Stated s t 0 0x110000 → ((home : Data) (c e : ℕ) → kind_of e ≡ ImplicitKind → after t home c e ≡ t) → Walked after falls_back home s t
   walked_stated s t w passes = record {
-    chars = w.chars;
-    scalars = w.scalars;
-    adds_up = w.adds_up;
-    each = λ c scalar.
+    visits = char_visits w.chars;
+    reach = chars_reach w.chars w.scalars;
+    adds_up = w.adds_up ∙ sym (chars_add s w.chars);
+    each = λ c e scalar has.
         elim (cases_Bool (is_wanted Stated home (home.value c))) [
-          | inl wanted ↦ inl (w.each c (omega arith) (scalar_below c scalar) scalar wanted)
+          | inl wanted ↦ inl (stood w.chars c e (w.each c (omega arith) (scalar_below c scalar) scalar wanted) has)
           | inr other ↦
               let is = implicit_is home (home.value c) other in
-              inr (record { implicit = is; nothing = passes home c (home.value c) is })
+              let same : e ≡ home.value c = of_member (λ e. e ≡ home.value c) (home.value c ∷ []) e (refl, tt) (subst (λ es. Contains es e) (implicit_alone falls_back home c is) has) in
+              inr (record { implicit = ap kind_of same ∙ is; nothing = passes home c e (ap kind_of same ∙ is) })
         ];
   }
 
   pub walked_all : (s t u : V) → To Stated s t 0 0x110000 → To Implicit t u 0 0x110000 → Walked after falls_back home s u
   walked_all s t u w v = record {
-    chars = w.chars ++ v.chars;
-    scalars = all_append IsScalar w.chars v.chars w.scalars v.scalars;
-    adds_up = both_add s t u w.chars v.chars w.adds_up v.adds_up;
-    each = λ c scalar.
+    visits = char_visits (w.chars ++ v.chars);
+    reach = chars_reach (w.chars ++ v.chars) (all_append IsScalar w.chars v.chars w.scalars v.scalars);
+    adds_up = both_add s t u w.chars v.chars w.adds_up v.adds_up ∙ sym (chars_add s (w.chars ++ v.chars));
+    each = λ c e scalar has.
         elim (cases_Bool (is_wanted Stated home (home.value c))) [
-          | inl wanted ↦ inl (stands_left w.chars v.chars c (w.each c (omega arith) (scalar_below c scalar) scalar wanted))
+          | inl wanted ↦ inl (stood (w.chars ++ v.chars) c e (stands_left w.chars v.chars c (w.each c (omega arith) (scalar_below c scalar) scalar wanted)) has)
           | inr other ↦
-              inl (stands_right w.chars v.chars c
-              (v.each c (omega arith) (scalar_below c scalar) scalar (implicit_wanted home (home.value c) (implicit_is home (home.value c) other))))
+              inl (stood (w.chars ++ v.chars) c e (stands_right w.chars v.chars c
+              (v.each c (omega arith) (scalar_below c scalar) scalar (implicit_wanted home (home.value c) (implicit_is home (home.value c) other)))) has)
         ];
   }
 
@@ -406,7 +588,7 @@ unfolding is_wanted
 implicit_unwanted home e is = rw (is, is_wanted) refl
 
 -- one more entry that leads to none is remembered
-pub still_shared : (home : Data) (old new : VisitedEntries) (bits : ℕ) → ((e : ℕ) → IsRemembered new e → IsRemembered old e ⊎ ((e ≡ bits) × (leads_to_character home e ≡ false))) → AreShared home old → AreShared home new
+pub still_shared : (home : Data) (old new : VisitedEntries) (bits : ℕ) → ((e : ℕ) → IsRemembered new e → IsRemembered old e ⊎ (ReferAlike bits e × (leads_to_character home e ≡ false))) → AreShared home old → AreShared home new
 still_shared home old new bits more shared e has = elim (more e has) [ inl before ↦ shared e before | inr is ↦ is.1 ]
 
 module _ {V : Type 0} (after : V → Data → ℕ → ℕ → V) (falls_back : Bool) (home : Data) where
@@ -414,10 +596,10 @@ module _ {V : Type 0} (after : V → Data → ℕ → ℕ → V) (falls_back : B
   Held = HasWalked after falls_back home
 
   visited_left : (cs ds : List ℕ) (e : ℕ) → IsVisited home cs e → IsVisited home (cs ++ ds) e
-  visited_left cs ds e v = record { char = v.char; among = Contains-append_left cs ds v.char v.among; has = v.has }
+  visited_left cs ds e v = record { char = v.char; among = Contains-append_left cs ds v.char v.among; refers = v.refers }
 
   visited_right : (cs ds : List ℕ) (e : ℕ) → IsVisited home ds e → IsVisited home (cs ++ ds) e
-  visited_right cs ds e v = record { char = v.char; among = Contains-append_right cs ds v.char v.among; has = v.has }
+  visited_right cs ds e v = record { char = v.char; among = Contains-append_right cs ds v.char v.among; refers = v.refers }
 
   pub held_none : (seen : VisitedEntries) (v : V) → ((e : ℕ) → IsRemembered seen e → ⊥) → Held seen v v 0
   held_none seen v none = record { walked = walked_none after falls_back home Stated v 0; visited = λ e has. absurd (none e has) }
@@ -467,18 +649,18 @@ module _ {V : Type 0} (after : V → Data → ℕ → ℕ → V) (falls_back : B
       known : StandsFor home h.walked.chars c
       known =
           let there = h.visited (home.value c) has in
-          record { other = there.char; among = there.among; same_entry = there.has; same = inl (shared (home.value c) has) }
+          record { other = there.char; among = there.among; refers = there.refers; same = inl (shared (home.value c) has) }
 
   -- a character that is visited
   pub held_char : (old new : VisitedEntries) (t u : V) (c : ℕ) → IsScalar c
-      → ((e : ℕ) → IsRemembered new e → IsRemembered old e ⊎ ((e ≡ home.value c) × (leads_to_character home e ≡ false)))
+      → ((e : ℕ) → IsRemembered new e → IsRemembered old e ⊎ (ReferAlike (home.value c) e × (leads_to_character home e ≡ false)))
       → u ≡ after_all after t home c (reachable_at falls_back home c) → (s : V) → Held old s t c → Held new s u (c + 1)
   unfolding walked_char
   held_char old new t u c is more adds s =
       held_with old new s t u c (c + 1) (walked_char after falls_back home Stated t u c is adds)
       (λ e has. elim (more e has) [
         | inl before ↦ inl before
-        | inr same ↦ inr (record { char = c; among = Contains-push [] c; has = sym same.0 })
+        | inr same ↦ inr (record { char = c; among = Contains-push [] c; refers = same.0 })
       ])
 
 module _ {V : Type 0} (after : V → Data → ℕ → ℕ → V) (falls_back : Bool) (d : CollationData) (i : ℕ) (inside : i < 17408) where

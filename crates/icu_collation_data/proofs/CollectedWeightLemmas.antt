@@ -14,12 +14,12 @@ use Rattle.icu_entries.specs.Entries.{kind_of}
 use Rattle.icu_entries.specs.Weights.{implicit_weight, offset_weight, offset_element}
 use Rattle.icu_collation_data.specs.Data.{Data, homed}
 use Rattle.icu_collation_data.specs.Final.{final_elements}
-use Rattle.icu_collation_data.specs.Reachable.{goes_by_character, reachable_at, EachReachable}
-use Rattle.icu_collation_data.specs.Walks.{after_all, after_chars, StandsFor, IsPassed, Walked}
+use Rattle.icu_collation_data.specs.Reachable.{AreAlike, goes_by_character, reachable_at, EachReachable}
+use Rattle.icu_collation_data.specs.Walks.{CharVisit, after_all, after_visits, IsCovered, IsPassed, Walked}
 use Rattle.icu_collation_data.specs.CollectedWeights.{is_stated, IsWeightAmong, IsReachableWeight}
 use Rattle.icu_collation_data.specs.inner.Visitors.{holds, and_weight, and_found, collected, collected_at, given_elements}
 use Rattle.icu_collation_data.proofs.ListLemmas.{weaker, all_of, all_members, of_member}
-use Rattle.icu_collation_data.proofs.SameEntryLemmas.{given_alike}
+use Rattle.icu_collation_data.proofs.SameEntryLemmas.{gives_alike}
 use Rattle.icu_collation_data.proofs.WalkLemmas.{fold_keeps, fold_back, walk_keeps, walk_back}
 
 -- ---- one more weight
@@ -175,29 +175,28 @@ module _ {W : Type 0} (weight : W → Element → Option ℕ) (weigh : W) (falls
   same_all c ws (e ∷ es) =
       ap (λ s. after_all (collected_at weight) s home c es) (same_elements ws (given_elements home c e)) ∙ same_all c (kept ws home c e) es
 
-  same_chars : (ws : ℕ → Bool) (cs : List ℕ) → after_chars (collected_at weight) falls_back (weigh, ws) home cs ≡ (weigh, after_chars kept falls_back ws home cs)
-  same_chars ws [] = refl
-  same_chars ws (c ∷ cs) =
-      let es = reachable_at falls_back home c in
-      ap (λ s. after_chars (collected_at weight) falls_back s home cs) (same_all c ws es) ∙ same_chars (after_all kept ws home c es) cs
+  same_visits : (ws : ℕ → Bool) (visits : List CharVisit) → after_visits (collected_at weight) (weigh, ws) home visits ≡ (weigh, after_visits kept ws home visits)
+  same_visits ws [] = refl
+  same_visits ws (p ∷ visits) =
+      ap (λ s. after_visits (collected_at weight) s home visits) (same_elements ws (given_elements home p.char p.entry)) ∙ same_visits (kept ws home p.char p.entry) visits
 
   abbrev Collected : W × (ℕ → Bool) → W × (ℕ → Bool) → Type 0
   Collected = Walked (collected_at weight) falls_back home
 
   -- a walk of a collector is a walk of the weights that it holds
   kept_walk : (ws : ℕ → Bool) (s : W × (ℕ → Bool)) → Collected (weigh, ws) s → Walked kept falls_back home ws s.1
-  kept_walk ws s w = record { chars = w.chars; scalars = w.scalars; adds_up = ap (λ s. s.1) is; each = λ c scalar. each c (w.each c scalar) }
+  kept_walk ws s w = record { visits = w.visits; reach = w.reach; adds_up = ap (λ s. s.1) is; each = λ c e scalar has. each c e (w.each c e scalar has) }
     where
-      is : s ≡ (weigh, after_chars kept falls_back ws home w.chars)
-      is = w.adds_up ∙ same_chars ws w.chars
+      is : s ≡ (weigh, after_visits kept ws home w.visits)
+      is = w.adds_up ∙ same_visits ws w.visits
 
-      nothing : (c : ℕ) (s : W × (ℕ → Bool)) → s ≡ (weigh, s.1) → collected_at weight s home c (home.value c) ≡ s → kept s.1 home c (home.value c) ≡ s.1
-      nothing c s same h =
-          ap (λ s. s.1) (sym (same_elements s.1 (given_elements home c (home.value c))) ∙ ap (λ s. collected_at weight s home c (home.value c)) (sym same) ∙ h)
+      nothing : (c e : ℕ) (s : W × (ℕ → Bool)) → s ≡ (weigh, s.1) → collected_at weight s home c e ≡ s → kept s.1 home c e ≡ s.1
+      nothing c e s same h =
+          ap (λ s. s.1) (sym (same_elements s.1 (given_elements home c e)) ∙ ap (λ s. collected_at weight s home c e) (sym same) ∙ h)
 
-      each : (c : ℕ) → StandsFor home w.chars c ⊎ IsPassed (collected_at weight) home s c → StandsFor home w.chars c ⊎ IsPassed kept home s.1 c
-      each c (inl stands) = inl stands
-      each c (inr passed) = inr (record { implicit = passed.implicit; nothing = nothing c s (subst (λ (t : W × (ℕ → Bool)). t ≡ (weigh, t.1)) (sym is) refl) passed.nothing })
+      each : (c e : ℕ) → IsCovered w.visits c e ⊎ IsPassed (collected_at weight) home s c e → IsCovered w.visits c e ⊎ IsPassed kept home s.1 c e
+      each c e (inl covered) = inl covered
+      each c e (inr passed) = inr (record { implicit = passed.implicit; nothing = nothing c e s (subst (λ (t : W × (ℕ → Bool)). t ≡ (weigh, t.1)) (sym is) refl) passed.nothing })
 
   -- a weight that is there at the end was there at the start, or is that of an element
   abbrev Among : ℕ → List ℕ → ℕ → Type 0
@@ -244,8 +243,8 @@ module _ {W : Type 0} (weight : W → Element → Option ℕ) (weigh : W) (falls
   abbrev Reachable : ℕ → Type 0
   Reachable = IsReachableWeight (weight weigh) falls_back home
 
-  leads_alike : (w : ℕ) (G : Type 0) (c d e : ℕ) → goes_by_character e ≡ false → Leads w G d e → Leads w G c e
-  leads_alike w G c d e by = subst (AllByRecursion (λ x. weight weigh x ≡ Some w → G)) (given_alike home d c e by)
+  leads_alike : (w : ℕ) (G : Type 0) (c d e f : ℕ) → AreAlike f e → Leads w G d f → Leads w G c e
+  leads_alike w G c d e f alike = subst (AllByRecursion (λ x. weight weigh x ≡ Some w → G)) (gives_alike home d c f e alike)
 
   reachable : (ws end : ℕ → Bool) → Walked kept falls_back home ws end → (w : ℕ) → (end w ≡ true) ↔ ((ws w ≡ true) ⊎ Reachable w)
   reachable ws end walked w =

@@ -8,11 +8,11 @@ use Rattle.std.specs.List.{AllByRecursion, Contains}
 use Rattle.icu_collation_data.specs.Data.{Data}
 use Rattle.icu_collation_data.specs.declared.reachable_condition.ReachableCondition.{ReachableCondition}
 use Rattle.icu_collation_data.specs.declared.reachable_condition.ReachableCondition.TheVariants.{Indices, PrefixMappings, Chains, Digits, Bytes, Offsets, Shapes, Leads, Primaries}
-use Rattle.icu_collation_data.specs.Reachable.{goes_by_character, reachable_at, EachReachable}
+use Rattle.icu_collation_data.specs.Reachable.{AreAlike, reachable_at, EachReachable}
 use Rattle.icu_collation_data.specs.ReachableConditions.{meets, reachable_conditions, first_failing, EachMeets, IsWellFormedData}
 use Rattle.icu_collation_data.specs.DataConditions.{is_inside, is_readable, has_known_members, fits_offset}
 use Rattle.icu_entries.specs.EntryConditions.{has_known_byte}
-use Rattle.icu_collation_data.specs.Walks.{after_all, after_chars, StandsFor, IsPassed, Walked}
+use Rattle.icu_collation_data.specs.Walks.{CharVisit, after_all, after_visits, IsCovered, IsPassed, Walked}
 use Rattle.icu_collation_data.specs.Violations.{condition_rank, earlier, ComesFirst, IsViolationAmong, IsReachableViolation}
 use Rattle.icu_collation_data.specs.inner.Visitors.{judged}
 use Rattle.icu_collation_data.proofs.ListLemmas.{weaker, all_of, all_members, of_member}
@@ -207,28 +207,26 @@ module _ {J F : Type 0} (rank : F → ℕ) (violation : J → Data → ℕ → �
   same_all c o [] = refl
   same_all c o (e ∷ es) = same_all c (kept o home c e) es
 
-  same_chars : (o : Option F) (cs : List ℕ) → after_chars (judged rank violation) falls_back (judge, o) home cs ≡ (judge, after_chars kept falls_back o home cs)
-  same_chars o [] = refl
-  same_chars o (c ∷ cs) =
-      let es = reachable_at falls_back home c in
-      ap (λ s. after_chars (judged rank violation) falls_back s home cs) (same_all c o es) ∙ same_chars (after_all kept o home c es) cs
+  same_visits : (o : Option F) (visits : List CharVisit) → after_visits (judged rank violation) (judge, o) home visits ≡ (judge, after_visits kept o home visits)
+  same_visits o [] = refl
+  same_visits o (p ∷ visits) = same_visits (kept o home p.char p.entry) visits
 
   abbrev Judged : J × Option F → J × Option F → Type 0
   Judged = Walked (judged rank violation) falls_back home
 
   -- a walk of a judge is a walk of the violation that is kept
   kept_walk : (o : Option F) (s : J × Option F) → Judged (judge, o) s → Walked kept falls_back home o s.1
-  kept_walk o s w = record { chars = w.chars; scalars = w.scalars; adds_up = ap (λ s. s.1) is; each = λ c scalar. each c (w.each c scalar) }
+  kept_walk o s w = record { visits = w.visits; reach = w.reach; adds_up = ap (λ s. s.1) is; each = λ c e scalar has. each c e (w.each c e scalar has) }
     where
-      is : s ≡ (judge, after_chars kept falls_back o home w.chars)
-      is = w.adds_up ∙ same_chars o w.chars
+      is : s ≡ (judge, after_visits kept o home w.visits)
+      is = w.adds_up ∙ same_visits o w.visits
 
-      nothing : (c : ℕ) (s : J × Option F) → s.0 ≡ judge → judged rank violation s home c (home.value c) ≡ s → kept s.1 home c (home.value c) ≡ s.1
-      nothing c s same h = subst (λ j. earlier rank s.1 (violation j home c (home.value c)) ≡ s.1) same (ap (λ s. s.1) h)
+      nothing : (c e : ℕ) (s : J × Option F) → s.0 ≡ judge → judged rank violation s home c e ≡ s → kept s.1 home c e ≡ s.1
+      nothing c e s same h = subst (λ j. earlier rank s.1 (violation j home c e) ≡ s.1) same (ap (λ s. s.1) h)
 
-      each : (c : ℕ) → StandsFor home w.chars c ⊎ IsPassed (judged rank violation) home s c → StandsFor home w.chars c ⊎ IsPassed kept home s.1 c
-      each c (inl stands) = inl stands
-      each c (inr passed) = inr (record { implicit = passed.implicit; nothing = nothing c s (ap (λ s. s.0) is) passed.nothing })
+      each : (c e : ℕ) → IsCovered w.visits c e ⊎ IsPassed (judged rank violation) home s c e → IsCovered w.visits c e ⊎ IsPassed kept home s.1 c e
+      each c e (inl covered) = inl covered
+      each c e (inr passed) = inr (record { implicit = passed.implicit; nothing = nothing c e s (ap (λ s. s.0) is) passed.nothing })
 
   -- none is found exactly if there is none
   abbrev Passes : ℕ → ℕ → Type 0
@@ -247,11 +245,11 @@ module _ {J F : Type 0} (rank : F → ℕ) (violation : J → Data → ℕ → �
   )
 
   abbrev IsAlike : Type 0
-  IsAlike = (c d e : ℕ) → goes_by_character e ≡ false → violation judge home c e ≡ violation judge home d e
+  IsAlike = (c d e f : ℕ) → AreAlike e f → violation judge home c e ≡ violation judge home d f
 
   none_reachable : IsAlike → (o end : Option F) → Walked kept falls_back home o end → (end ≡ None) ↔ ((o ≡ None) × EachReachable Passes falls_back home)
   none_reachable alike o end w = (
-    walk_back kept falls_back home (λ o. o ≡ None) Passes none_at (λ c d e by passes. alike c d e by ∙ passes) o end w,
+    walk_back kept falls_back home (λ o. o ≡ None) Passes none_at (λ c d e f same passes. sym (alike d c f e same) ∙ passes) o end w,
     λ both. walk_keeps kept falls_back home (λ o. o ≡ None) (λ c scalar. weaker (Passes c) _ (none_on c) (reachable_at falls_back home c) (both.1 c scalar)) o end w both.0,
   )
 
@@ -293,7 +291,7 @@ module _ {J F : Type 0} (rank : F → ℕ) (violation : J → Data → ℕ → �
   least_reachable : IsAlike → (o end : Option F) → Walked kept falls_back home o end → IfSome end (λ f. ComesFirst rank f o × EachReachable (After f) falls_back home)
   least_reachable alike o end w =
       weaker_some (λ f. ComesFirst rank f end) _
-      (λ f h. walk_back kept falls_back home (ComesFirst rank f) (After f) (least_at f) (λ c d e by first. subst (ComesFirst rank f) (sym (alike c d e by)) first) o end w h) end (comes_first rank end)
+      (λ f h. walk_back kept falls_back home (ComesFirst rank f) (After f) (least_at f) (λ c d e g same first. subst (ComesFirst rank f) (alike d c g e same) first) o end w h) end (comes_first rank end)
 
   -- what a walk with this judge, which began with one violation, comes to
   pub record FirstAmong (c : ℕ) (es : List ℕ) (o found : Option F) : Type 0 where

@@ -1,17 +1,15 @@
 -- A walk over characters: what each of its visits keeps it keeps, and what its end says goes back to each entry that is
 -- reachable.
-use Rattle.std.proofs.Common.{◌≡◌, ℕ, Bool, true, false, ◌==◌, ◌&&◌, List, [], ◌∷◌, if◌then◌else◌, refl, sym, ap, ◌∙◌, subst, arith, fold, Result, Ok, Err, OnOk, inl, inr}
+use Rattle.std.proofs.Common.{◌≡◌, ℕ, Bool, true, false, ◌==◌, ◌&&◌, List, [], ◌∷◌, if◌then◌else◌, refl, sym, ap, ◌∙◌, subst, arith, fold, Result, Ok, Err, OnOk, inl, inr, ◌⊎◌}
 use Rattle.std.proofs.lemmas.Bool.Decides.{nat_tests}
-use Rattle.std.specs.List.{AllByRecursion}
-use Rattle.std.specs.Char.{IsScalar}
+use Rattle.std.specs.List.{AllByRecursion, Contains}
 use Rattle.icu_collation_data.specs.Data.{Data}
 use Rattle.icu_entries.specs.declared.entry.EntryKind.{EntryKind}
 use Rattle.icu_entries.specs.declared.entry.EntryKind.TheVariants.{Fallback, Implicit}
 use Rattle.icu_entries.specs.Entries.{kind_of}
-use Rattle.icu_collation_data.specs.Reachable.{goes_by_character, leads_to_character, reachable_digit, reachable_contraction, reachable_from, reachable_at, EachReachable}
-use Rattle.icu_collation_data.specs.Walks.{after_all, StandsFor, IsPassed, Walked}
-use Rattle.icu_collation_data.proofs.ListLemmas.{all_of, of_member, weaker}
-use Rattle.icu_collation_data.proofs.SameEntryLemmas.{none_passes}
+use Rattle.icu_collation_data.specs.Reachable.{AreAlike, reachable_digit, reachable_contraction, reachable_from, reachable_at, EachReachable}
+use Rattle.icu_collation_data.specs.Walks.{CharVisit, visit_of, IsReachableVisit, IsCovered, IsPassed, Walked}
+use Rattle.icu_collation_data.proofs.ListLemmas.{all_of, all_members, of_member, weaker}
 
 -- ---- what a fold keeps, and what its end says of each step
 
@@ -69,46 +67,23 @@ module _ {S : Type 0} (after : S → Data → ℕ → ℕ → S) (falls_back : B
   pub walk_keeps : (I : S → Type 0) → EachReachable (λ c e. (s : S) → I s → I (after s home c e)) falls_back home → (s t : S) → Walked after falls_back home s t → I s → I t
   walk_keeps I each s t w i =
       subst I (sym w.adds_up)
-      (fold_keeps (λ s c. after_all after s home c (reachable_at falls_back home c)) I w.chars
-      (weaker IsScalar _ (λ c scalar. fold_keeps (λ s e. after s home c e) I (reachable_at falls_back home c) (each c scalar)) w.chars w.scalars) s i)
-
-  -- the entries that are reachable with a character, by its entry
-  abbrev reachable_by : ℕ → List ℕ
-  reachable_by e = if falls_back && e == 0xC0 then [] else reachable_from home e
-
-  shared_if : (P : ℕ → Type 0) (b : Bool) (es : List ℕ) → AllByRecursion P es → AllByRecursion P (if b then [] else es)
-  shared_if P true es all = tt
-  shared_if P false es all = all
-
-  -- what is said of entries with one character is said of them with another, where none goes by the character
-  alike_all : (P Q : ℕ → Type 0) → ((e : ℕ) → goes_by_character e ≡ false → P e → Q e) → (es : List ℕ) → AllByRecursion (λ e. goes_by_character e ≡ false) es → AllByRecursion P es → AllByRecursion Q es
-  alike_all P Q f [] none all = tt
-  alike_all P Q f (e ∷ es) none all = (f e none.0 all.0, alike_all P Q f es none.1 all.1)
-
-  none_reachable : (e : ℕ) → leads_to_character home e ≡ false → AllByRecursion (λ e. goes_by_character e ≡ false) (reachable_by e)
-  unfolding leads_to_character
-  none_reachable e none = shared_if (λ e. goes_by_character e ≡ false) (falls_back && e == 0xC0) (reachable_from home e) (none_passes goes_by_character (reachable_from home e) none)
+      (fold_keeps (λ s (p : CharVisit). after s home p.char p.entry) I w.visits
+      (weaker (IsReachableVisit falls_back home) (λ (p : CharVisit). (s : S) → I s → I (after s home p.char p.entry))
+      (λ p r. of_member (λ e. (s : S) → I s → I (after s home p.char e)) (reachable_at falls_back home p.char) p.entry (each p.char r.scalar) r.reachable) w.visits w.reach) s i)
 
   pub walk_back : (J : S → Type 0) (Q : ℕ → ℕ → Type 0) → ((c e : ℕ) (s : S) → J (after s home c e) → J s × Q c e)
-      → ((c d e : ℕ) → goes_by_character e ≡ false → Q d e → Q c e) → (s t : S) → Walked after falls_back home s t → J t → J s × EachReachable Q falls_back home
+      → ((c d e f : ℕ) → AreAlike f e → Q d f → Q c e) → (s t : S) → Walked after falls_back home s t → J t → J s × EachReachable Q falls_back home
   walk_back J Q turn alike s t w j =
-      let both = fold_back (λ s c. after_all after s home c (reachable_at falls_back home c)) J (λ c. AllByRecursion (Q c) (reachable_at falls_back home c)) w.chars
-      (all_of _ (λ c. fold_back (λ s e. after s home c e) J (Q c) (reachable_at falls_back home c) (all_of _ (turn c) (reachable_at falls_back home c))) w.chars) s (subst J w.adds_up j) in
-      (both.0, λ c scalar. elim (w.each c scalar) [ inl stands ↦ stood both.1 c stands | inr passed ↦ passed_by c passed ])
+      let both : J s × AllByRecursion (λ (p : CharVisit). Q p.char p.entry) w.visits =
+      fold_back (λ s (p : CharVisit). after s home p.char p.entry) J (λ (p : CharVisit). Q p.char p.entry) w.visits
+      (all_of (λ (p : CharVisit). (s : S) → J (after s home p.char p.entry) → J s × Q p.char p.entry) (λ p. turn p.char p.entry) w.visits) s (subst J w.adds_up j) in
+      (both.0, λ c scalar. weaker (Contains (reachable_at falls_back home c)) (Q c) (λ e has. covered_or_passed both.1 c e (w.each c e scalar has)) (reachable_at falls_back home c) (all_members (reachable_at falls_back home c)))
     where
-      stood : AllByRecursion (λ c. AllByRecursion (Q c) (reachable_at falls_back home c)) w.chars → (c : ℕ) → StandsFor home w.chars c → AllByRecursion (Q c) (reachable_at falls_back home c)
-      stood all c stands =
-          let there : AllByRecursion (Q stands.other) (reachable_by (home.value stands.other)) = of_member (λ c. AllByRecursion (Q c) (reachable_at falls_back home c)) w.chars stands.other all stands.among in
-          let here : AllByRecursion (Q stands.other) (reachable_by (home.value c)) = subst (λ e. AllByRecursion (Q stands.other) (reachable_by e)) stands.same_entry there in
-          elim stands.same [
-            | inl none ↦ alike_all (Q stands.other) (Q c) (alike c stands.other) (reachable_by (home.value c)) (none_reachable (home.value c) none) here
-            | inr same ↦ subst (λ d. AllByRecursion (Q d) (reachable_by (home.value c))) same here
-          ]
-
-      passed_by : (c : ℕ) → IsPassed after home t c → AllByRecursion (Q c) (reachable_at falls_back home c)
-      passed_by c passed =
-          subst (AllByRecursion (Q c)) (sym (implicit_alone falls_back home c passed.implicit))
-          ((turn c (home.value c) t (subst J (sym passed.nothing) j)).1, tt)
+      covered_or_passed : AllByRecursion (λ (p : CharVisit). Q p.char p.entry) w.visits → (c e : ℕ) → IsCovered w.visits c e ⊎ IsPassed after home t c e → Q c e
+      covered_or_passed all c e (inl (inl shared)) =
+          alike c shared.other.char e shared.other.entry shared.alike (of_member (λ (p : CharVisit). Q p.char p.entry) w.visits shared.other all shared.among)
+      covered_or_passed all c e (inl (inr exact)) = of_member (λ (p : CharVisit). Q p.char p.entry) w.visits (visit_of c e) all exact
+      covered_or_passed all c e (inr passed) = (turn c e t (subst J (sym passed.nothing) j)).1
 
 -- what follows where a call ends well
 pub on_ok : {X E : Type 0} (A B : Type 0) → (A → B) → (r : Result X E) → OnOk r A → OnOk r B

@@ -2,11 +2,12 @@
 -- to final entries, so there are three layers. Where an entry leads to one that it may not lead to, that one is
 -- reachable, and opens nothing. An index outside its table reads as the empty context, or as entry 0, as it does where
 -- texts are read.
-use Rattle.std.specs.Prelude.{ℕ, Bool, true, false, ◌&&◌, ◌==◌, List, [], ◌∷◌, map, flat_map, if◌then◌else◌}
+use Rattle.std.specs.Prelude.{ℕ, ◌≡◌, ◌⊎◌, Bool, true, false, ◌&&◌, ◌==◌, List, [], ◌∷◌, map, flat_map, if◌then◌else◌}
 use Rattle.std.specs.Char.{IsScalar}
 use Rattle.std.specs.List.{AllByRecursion, list_any}
+use Rattle.icu_entries.specs.declared.entry.EntryKind.{EntryKind}
 use Rattle.icu_entries.specs.declared.entry.EntryKind.TheVariants.{Prefix, Contraction, Digit, Offset, Implicit}
-use Rattle.icu_entries.specs.Entries.{fallback_entry, kind_of}
+use Rattle.icu_entries.specs.Entries.{fallback_entry, kind_of, entry_index}
 use Rattle.icu_collation_data.specs.Data.{Mapping, Context, Data, homed, context_of, plain_of}
 
 -- what a context leads to
@@ -48,3 +49,25 @@ leads_to_character home e = list_any goes_by_character (reachable_from home e)
 -- what holds of each pair of a character and an entry that is reachable with it
 abbrev pub EachReachable : (ℕ → ℕ → Type 0) → Bool → Data → Type 0
 EachReachable P falls_back home = (c : ℕ) → IsScalar c → AllByRecursion (P c) (reachable_at falls_back home c)
+
+-- an entry of this kind refers to a context
+abbrev pub names_context : EntryKind → Bool
+names_context Prefix = true
+names_context Contraction = true
+names_context _ = false
+
+-- Two entries refer to one context in the same way: their kinds and indices are the same. The bits between these say
+-- nothing.
+pub record SameContext (e f : ℕ) : Type 0 where
+  pub context : names_context (kind_of e) ≡ true
+  pub kind : kind_of e ≡ kind_of f
+  pub index : entry_index e ≡ entry_index f
+
+-- the entries are one, or refer to one context
+abbrev pub ReferAlike : ℕ → ℕ → Type 0
+ReferAlike e f = (e ≡ f) ⊎ SameContext e f
+
+-- an entry says the same with each character as another one
+pub record AreAlike (e f : ℕ) : Type 0 where
+  pub shared : goes_by_character f ≡ false
+  pub same : ReferAlike e f

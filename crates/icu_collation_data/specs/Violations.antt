@@ -1,11 +1,11 @@
 -- Which of the violations that are found is reported.
-use Rattle.std.specs.Prelude.{ℕ, ◌≡◌, ◌≤◌, Bool, false, nat_lt, List, Option, Some, None, IfSome, if◌then◌else◌}
+use Rattle.std.specs.Prelude.{ℕ, ◌≡◌, ◌≤◌, Bool, nat_lt, List, Option, Some, None, IfSome, if◌then◌else◌}
 use Rattle.std.specs.Char.{IsScalar}
 use Rattle.std.specs.List.{AllByRecursion, Contains}
 use Rattle.icu_collation_data.specs.declared.reachable_condition.ReachableCondition.{ReachableCondition}
 use Rattle.icu_collation_data.specs.declared.reachable_condition.ReachableCondition.TheVariants.{Indices, PrefixMappings, Chains, Digits, Bytes, Offsets, Shapes, Leads, Primaries}
 use Rattle.icu_collation_data.specs.Data.{Data}
-use Rattle.icu_collation_data.specs.Reachable.{goes_by_character, reachable_at, EachReachable}
+use Rattle.icu_collation_data.specs.Reachable.{AreAlike, reachable_at, EachReachable}
 
 -- conditions in the order in which they are reported
 abbrev pub condition_rank : ReachableCondition → ℕ
@@ -29,9 +29,9 @@ earlier rank (Some a) (Some b) = if nat_lt (rank b) (rank a) then Some b else So
 abbrev pub ComesFirst : {F : Type 0} → (F → ℕ) → F → Option F → Type 0
 ComesFirst rank f found = IfSome found (λ g. rank f ≤ rank g)
 
--- a judge of entries finds the same violation of an entry that doesn't go by its character with each character
+-- a judge of entries finds the same violation of entries that say the same, whatever the characters
 abbrev pub JudgesAlike : {F : Type 0} → (Data → ℕ → ℕ → Option F) → Type 0
-JudgesAlike violation = (home : Data) (c d e : ℕ) → goes_by_character e ≡ false → violation home c e ≡ violation home d e
+JudgesAlike violation = (home : Data) (c d e f : ℕ) → AreAlike e f → violation home c e ≡ violation home d f
 
 -- none of these entries has a violation with this character
 abbrev pub AreFreeOf : {F : Type 0} → (Data → ℕ → ℕ → Option F) → Data → ℕ → List ℕ → Type 0

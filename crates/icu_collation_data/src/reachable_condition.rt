@@ -105,7 +105,7 @@ impl Judge for EntryJudge {
         home.first_failing(c, entry)
     }
 
-    #[tactic(auto, using(crate::proofs::SameEntryLemmas::failing_alike))]
+    #[tactic(auto, using(crate::proofs::SameEntryLemmas::says_alike))]
     fn is_alike(&self) {}
 
     #[tactic(auto, using(crate::proofs::ImplicitLemmas::implicit_passes))]

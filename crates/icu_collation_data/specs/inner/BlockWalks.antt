@@ -1,5 +1,5 @@
 -- How a walk goes on from block to block.
-use Rattle.std.specs.Prelude.{ℕ, ◌≡◌, ◌*◌, ◌<◌, ◌≤◌, ◌⊎◌, Bool, true, false, List, slice_index_or, ⊤}
+use Rattle.std.specs.Prelude.{ℕ, ◌≡◌, ◌*◌, ◌<◌, ◌≤◌, ◌⊎◌, Bool, true, false, List, fold, slice_index_or, ⊤}
 use Rattle.std.specs.Char.{IsScalar}
 use Rattle.std.specs.List.{AllByRecursion, Contains}
 use Rattle.icu_entries.specs.declared.entry.EntryKind.TheVariants.{Offset, Implicit as ImplicitKind}
@@ -11,9 +11,9 @@ use Rattle.icu_collation_data.specs.declared.block_walk.Part.TheVariants.{Stated
 use Rattle.icu_collation_data.specs.declared.visited_entries.VisitedEntries.{VisitedEntries}
 use Rattle.icu_collation_data.specs.declared.data.CollationData.{CollationData}
 use Rattle.icu_collation_data.specs.Data.{Data}
-use Rattle.icu_collation_data.specs.Reachable.{leads_to_character}
+use Rattle.icu_collation_data.specs.Reachable.{leads_to_character, ReferAlike}
 use Rattle.icu_collation_data.specs.StoredData.{data_of, block_in}
-use Rattle.icu_collation_data.specs.Walks.{after_chars, StandsFor, EachOfBlock}
+use Rattle.icu_collation_data.specs.Walks.{after_char, EachOfBlock}
 use Rattle.icu_collation_data.specs.inner.VisitedEntries.{IsRemembered}
 
 -- a character with this entry is visited
@@ -21,6 +21,18 @@ unfoldable pub is_wanted : Part → Data → ℕ → Bool
 is_wanted Stated home e = elim (kind_of e) [ ImplicitKind ↦ false | _ ↦ true ]
 is_wanted ByCharacter home e = elim (kind_of e) [ ImplicitKind ↦ false | _ ↦ leads_to_character home e ]
 is_wanted Implicit home e = elim (kind_of e) [ ImplicitKind ↦ true | _ ↦ false ]
+
+-- what a visitor is after the entries that are reachable with each of these characters, in order
+abbrev pub after_chars : {V : Type 0} → (V → Data → ℕ → ℕ → V) → Bool → V → Data → List ℕ → V
+after_chars after falls_back v home cs = fold (λ v c. after_char after falls_back home c v) v cs
+
+-- One of these characters stands for a character: it has its entry or one that refers to the same context, and nothing
+-- that is reachable from there goes by the character, unless it is that character.
+pub record StandsFor (home : Data) (cs : List ℕ) (c : ℕ) : Type 0 where
+  pub other : ℕ
+  pub among : Contains cs other
+  pub refers : ReferAlike (home.value other) (home.value c)
+  pub same : (leads_to_character home (home.value c) ≡ false) ⊎ (other ≡ c)
 
 -- A visitor went from one state to another by visits of entries that are reachable with these characters and stand for
 -- those of a part from one code point up to another.
@@ -34,16 +46,17 @@ pub record WalkedTo {V : Type 0} (after : V → Data → ℕ → ℕ → V) (fal
 abbrev pub AreShared : Data → VisitedEntries → Type 0
 AreShared home seen = (e : ℕ) → IsRemembered seen e → leads_to_character home e ≡ false
 
--- at most this entry is remembered beside those that were, if it leads to none that goes by its character
+-- at most this entry is remembered beside those that were, and what refers as it does, if that leads to none that goes
+-- by its character
 abbrev pub AddsShared : Data → VisitedEntries → VisitedEntries → ℕ → Type 0
 AddsShared home old new entry =
-    (e : ℕ) → IsRemembered new e → IsRemembered old e ⊎ ((e ≡ entry) × (leads_to_character home e ≡ false))
+    (e : ℕ) → IsRemembered new e → IsRemembered old e ⊎ (ReferAlike entry e × (leads_to_character home e ≡ false))
 
--- one of these characters has the entry
+-- one of these characters has the entry, or one that refers to the same context
 pub record IsVisited (home : Data) (cs : List ℕ) (e : ℕ) : Type 0 where
   pub char : ℕ
   pub among : Contains cs char
-  pub has : home.value char ≡ e
+  pub refers : ReferAlike (home.value char) e
 
 -- a visitor went up to a code point, but for implicit weights, and the entries that are remembered were visited on the
 -- way
