@@ -1,0 +1,4 @@
+//! The order of weights while rules are read.
+#![tactic(auto)]
+
+mod siblings;
