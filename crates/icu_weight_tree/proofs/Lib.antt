@@ -1,1 +1,3 @@
 mod SiblingLemmas
+mod ParentLemmas
+mod ListLemmas

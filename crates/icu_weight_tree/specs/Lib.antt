@@ -1,1 +1,2 @@
+pub mod BuiltTrees
 pub mod inner

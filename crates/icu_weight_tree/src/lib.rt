@@ -1,4 +1,7 @@
 //! The order of weights while rules are read.
 #![tactic(auto)]
 
+mod change;
+mod lists;
+mod parents;
 mod siblings;

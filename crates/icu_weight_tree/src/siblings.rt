@@ -3,8 +3,10 @@ ghost use Rattle.std.specs.Prelude.{◌≡◌, ◌<◌, ◌≤◌, ◌++◌, ◌
 ghost use Rattle.std.specs.Bool.{OnTrue};
 ghost use Rattle.icu_tailoring.specs.SymbolicElements.{is_same_weight};
 ghost use Rattle.icu_tailoring.specs.WeightTrees.{with_rooted, with_behind, directly_before};
+ghost use Rattle.icu_weight_tree.specs.inner.SiblingChanges.{changed};
 ghost use Rattle.icu_weight_tree.specs.inner.SiblingPlaces.{ends_search, place_among, first_place, IsFoundAt, AreUpTo, number_in};
 
+use crate::change::Change;
 use icu_tailoring::SymbolicWeight;
 use std::alloc::AllocError;
 
@@ -127,7 +129,7 @@ impl Siblings {
     }
 
     /// Puts a weight of the root in its place, where it doesn't stand there.
-    pub(crate) fn put_rooted(&mut self, w: u32) -> Result<(), AllocError>
+    fn put_rooted(&mut self, w: u32) -> Result<(), AllocError>
         ensures ok { OnOk result (self.new.weights.items ≡ with_rooted w self.old.weights.items) }
         ensures err { OnErr result (self.new.weights.items ≡ self.old.weights.items) }
     {
@@ -143,7 +145,7 @@ impl Siblings {
     }
 
     /// Puts a new tailored weight directly behind another; both at the end where that one doesn't stand here.
-    pub(crate) fn put_behind(&mut self, w: SymbolicWeight, new: usize) -> Result<(), AllocError>
+    fn put_behind(&mut self, w: SymbolicWeight, new: usize) -> Result<(), AllocError>
         ensures ok { OnOk result (self.new.weights.items
             ≡ with_behind w (SymbolicWeight.Tailored new) self.old.weights.items) }
         ensures err { OnErr result (self.new.weights.items ≡ self.old.weights.items) }
@@ -153,6 +155,16 @@ impl Siblings {
             return self.insert_new(place + 1, new);
         }
         self.push_both(w, new)
+    }
+
+    /// Makes a change.
+    pub(crate) fn change(&mut self, change: Change) -> Result<(), AllocError>
+        ensures { OnOk result (self.new.weights.items ≡ changed change self.old.weights.items) }
+    {
+        match change {
+            Change::PutRooted(w) => self.put_rooted(w),
+            Change::PutBehind(w, new) => self.put_behind(w, new),
+        }
     }
 
     /// Puts a new tailored weight at a place, which is remembered where its number is greater than all before.
