@@ -1,3 +1,5 @@
 mod SiblingLemmas
 mod ParentLemmas
 mod ListLemmas
+mod TreeLoopLemmas
+mod ElementLemmas

@@ -1,2 +1,3 @@
 pub mod BuiltTrees
+pub mod TreeBuilders
 pub mod inner
