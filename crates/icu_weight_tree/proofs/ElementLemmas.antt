@@ -28,12 +28,18 @@ unfolding counting_at
 counting_without level [] e more = rw (lt-leb e.strength level more) refl
 counting_without level (f ∷ es) e more = rw (counting_without level es e more) refl
 
+counting_more : (level : ℕ) (f g : SymbolicElement) (es gs : List SymbolicElement) → counting_at level es ≡ g ∷ gs
+    → counting_at level (f ∷ es) ≡ f ∷ g ∷ gs
+unfolding counting_at
+counting_more level f g es gs is = rw is refl
+
 counting_with : (level : ℕ) (es : List SymbolicElement) (e : SymbolicElement) → e.strength ≤ level
     → counting_at level (es ++ e ∷ []) ≡ es ++ e ∷ []
 unfolding counting_at
 counting_with level [] e most = rw (le-leb e.strength level most) refl
-counting_with level (f ∷ []) e most = rw (counting_with level [] e most) refl
-counting_with level (f ∷ g ∷ es) e most = rw (counting_with level (g ∷ es) e most) refl
+counting_with level (f ∷ []) e most = counting_more level f e (e ∷ []) [] (counting_with level [] e most)
+counting_with level (f ∷ g ∷ es) e most =
+    counting_more level f g (g ∷ (es ++ e ∷ [])) (es ++ e ∷ []) (counting_with level (g ∷ es) e most)
 
 -- an element that doesn't count is passed over
 pub counting_further : (level : ℕ) (es : List SymbolicElement) (kept : ℕ) (d : SymbolicElement) → 0 < kept → kept ≤ length es
@@ -53,6 +59,8 @@ counting_ended level es kept d some most counts =
     ap (λ n. take n es) (sym last) ∙ take_more es (kept - 1) d (omega arith) in
     ap (counting_at level) whole ∙ (counting_with level (take (kept - 1) es) (get_or es (kept - 1) d) counts ∙ sym whole)
 
-pub counting_none : (level : ℕ) → counting_at level [] ≡ []
+-- where none is left, none counts
+pub counting_stopped : (level : ℕ) (es : List SymbolicElement) (kept : ℕ) → kept ≤ 0 → take kept es ≡ counting_at level (take kept es)
 unfolding counting_at
-counting_none level = refl
+counting_stopped level es zero most = refl
+counting_stopped level es (suc kept) most = absurd (omega arith)

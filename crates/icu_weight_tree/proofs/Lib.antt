@@ -3,3 +3,4 @@ mod ParentLemmas
 mod ListLemmas
 mod TreeLoopLemmas
 mod ElementLemmas
+mod RuleStateLemmas

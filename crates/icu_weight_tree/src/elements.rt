@@ -41,10 +41,11 @@ pub(crate) fn make_element(above: &[SymbolicWeight], w: SymbolicWeight, strength
 pub(crate) fn last_or_ignorable(elements: &[SymbolicElement]) -> SymbolicElement
     ensures { result ≡ last_element elements.now }
 {
-    if elements.is_empty() {
+    let count = elements.len();
+    if count == 0 {
         return make_element(&[], SymbolicWeight::Rooted(0), 5);
     }
-    elements[elements.len() - 1]
+    elements[count - 1]
 }
 
 /// Drops the last elements that don't count at a level.

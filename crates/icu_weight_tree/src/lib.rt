@@ -6,8 +6,10 @@ mod elements;
 mod lists;
 mod parents;
 pub mod root_weights;
+pub mod rule_elements;
 mod siblings;
 pub mod tree;
 
 pub use root_weights::RootWeights;
+pub use rule_elements::RuleElements;
 pub use tree::WeightTreeBuilder;
