@@ -1,6 +1,6 @@
 mod SiblingLemmas
-mod ParentLemmas
-mod ListLemmas
+mod ParentOrderLemmas
+mod ListedTreeLemmas
 mod TreeLoopLemmas
-mod ElementLemmas
+mod CountingLemmas
 mod RuleStateLemmas

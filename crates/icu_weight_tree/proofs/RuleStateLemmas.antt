@@ -1,5 +1,5 @@
 -- The states after a difference and before a weight.
-use Rattle.std.proofs.Common.{◌≡◌, ℕ, suc, ◌-◌, min, List, [], ◌∷◌, ◌++◌, take, Option, Some, None, unwrap_or, refl, ap, sym, ◌∙◌}
+use Rattle.std.proofs.Common.{◌≡◌, ℕ, suc, ◌-◌, min, List, [], ◌∷◌, ◌++◌, take, Option, Some, None, unwrap_or, refl, ap, ◌∙◌}
 use Rattle.icu_tailoring.specs.declared.symbolic.SymbolicWeight.{SymbolicWeight}
 use Rattle.icu_tailoring.specs.declared.symbolic.SymbolicWeight.TheVariants.{Tailored}
 use Rattle.icu_tailoring.specs.declared.symbolic.SymbolicElement.{SymbolicElement}
@@ -7,7 +7,7 @@ use Rattle.icu_tailoring.specs.SymbolicElements.{element_with}
 use Rattle.icu_tailoring.specs.WeightTrees.{WeightTree, with_new_weight, directly_before, above_level, weight_at_level}
 use Rattle.icu_tailoring.specs.TailoredRoots.{Root}
 use Rattle.icu_tailoring.specs.Steps.{TailoringState, counting_at, last_element, with_last_element, difference_step, before_step}
-use Rattle.icu_weight_tree.specs.TreeBuilders.{tree_before, weight_before}
+use Rattle.icu_weight_tree.specs.TreeBuilders.{tree_before, weight_in_front}
 
 -- an element with another weight at a level
 pub other_is : (other e : SymbolicElement) (level count strength : ℕ) (new w : SymbolicWeight) → count ≡ level
@@ -38,7 +38,7 @@ found_is (Some v) w = refl
 pub before_is : (root : Root) (level : ℕ) (state : TailoringState) (tree : WeightTree) (elements counting : List SymbolicElement)
     (made : ℕ) (e other : SymbolicElement) → counting ≡ counting_at level state.elements → e ≡ last_element counting
     → tree ≡ tree_before root state.tree level e.weights
-    → other ≡ element_with (take (level - 1) e.weights ++ weight_before root state.tree level e.weights ∷ []) (min level e.strength)
+    → other ≡ element_with (take (level - 1) e.weights ++ weight_in_front root state.tree level e.weights ∷ []) (min level e.strength)
     → elements ≡ with_last_element counting other → made ≡ state.made
     → (let after : TailoringState = record state { tree = tree; elements = elements; made = made } in after) ≡ before_step root level state
 unfolding before_step

@@ -1,5 +1,5 @@
 -- What edits of siblings leave, by the places of weights among them.
-use Rattle.std.proofs.Common.{◌≡◌, ℕ, zero, suc, ◌+◌, ◌<◌, ◌≤◌, ◌==◌, Bool, true, false, nat_lt, nat_le, List, [], ◌∷◌, ◌++◌, length, take, drop, get_or, cond, if◌then◌else◌, inl, inr, Option, Some, None, refl, ap, sym, ◌∙◌, subst, arith}
+use Rattle.std.proofs.Common.{◌≡◌, ℕ, zero, suc, ◌+◌, ◌<◌, ◌≤◌, Bool, true, false, List, [], ◌∷◌, ◌++◌, length, take, drop, get_or, cond, if◌then◌else◌, inl, inr, Option, Some, None, refl, ap, sym, ◌∙◌, subst, arith}
 use Rattle.std.proofs.lemmas.Bool.{both_ways, cases_Bool, cases_order, eqb-true, eq-eqb, ne_eqb, lt-ltb, le-ltb, le-leb, lt-leb}
 use Rattle.std.proofs.lemmas.List.Recursion.{is_position_or_len}
 use Rattle.std.proofs.lemmas.List.Sums.{position_or_len_is}
@@ -7,7 +7,7 @@ use Rattle.std.proofs.lemmas.List.{get_or_default}
 use Rattle.std.proofs.lemmas.List.Edits.{get_or-insert_at}
 use Rattle.std.proofs.lemmas.List.Elements.{All-cons, All-append, All-take, All-drop}
 use Rattle.std.specs.Bool.{OnTrue}
-use Rattle.std.specs.List.{insert, All, position_or_len}
+use Rattle.std.specs.List.{insert, All}
 use Rattle.icu_tailoring.specs.declared.symbolic.SymbolicWeight.{SymbolicWeight}
 use Rattle.icu_tailoring.specs.declared.symbolic.SymbolicWeight.TheVariants.{Rooted, Tailored}
 use Rattle.icu_tailoring.specs.SymbolicElements.{is_same_weight}
@@ -23,7 +23,7 @@ pub place_is : (p : SymbolicWeight → Bool) (xs : List SymbolicWeight) (i : ℕ
 place_is p xs i d most fails passes =
     is_position_or_len (place_by p) p refl (λ x ys. ap (λ n. cond (p x) 0 n) (sym (one_more (place_by p ys)))) xs
     ∙ position_or_len_is p xs i d most fails passes
-    where
+  where
     one_more : (n : ℕ) → 1 + n ≡ suc n
     one_more n = omega arith
 
@@ -41,11 +41,11 @@ place_inserted p xs zero x most passes = rw passes refl
 place_inserted p [] (suc i) x most passes = absurd (omega arith)
 place_inserted p (v ∷ xs) (suc i) x most passes = elim (cases_Bool (p v)) [
   | inl e ↦
-    let none : place_by p (v ∷ xs) ≡ zero = rw e refl in
-    absurd (omega arith)
+      let none : place_by p (v ∷ xs) ≡ zero = rw e refl in
+      absurd (omega arith)
   | inr e ↦
-    let further : place_by p (v ∷ xs) ≡ suc (place_by p xs) = rw e refl in
-    rw e (ap suc (place_inserted p xs i x (omega arith) passes))
+      let further : place_by p (v ∷ xs) ≡ suc (place_by p xs) = rw e refl in
+      rw e (ap suc (place_inserted p xs i x (omega arith) passes))
 ]
 
 -- ---- the same weight
@@ -65,18 +65,18 @@ pub first_at_place : (w : SymbolicWeight) (xs : List SymbolicWeight) (d : Symbol
 first_at_place w [] d small e = refl
 first_at_place w (v ∷ xs) d small e = elim (cases_Bool (ends_search w v)) [
   | inl ends ↦
-    let here : place_among w (v ∷ xs) ≡ zero = rw ends refl in
-    let same : is_same_weight v w ≡ true = ap (λ n. is_same_weight (get_or (v ∷ xs) n d) w) (sym here) ∙ e in
-    rw (same, ends) refl
+      let here : place_among w (v ∷ xs) ≡ zero = rw ends refl in
+      let same : is_same_weight v w ≡ true = ap (λ n. is_same_weight (get_or (v ∷ xs) n d) w) (sym here) ∙ e in
+      rw (same, ends) refl
   | inr ends ↦
-    let further : place_among w (v ∷ xs) ≡ suc (place_among w xs) = rw ends refl in
-    let same : is_same_weight (get_or xs (place_among w xs) d) w ≡ true =
-    ap (λ n. is_same_weight (get_or (v ∷ xs) n d) w) (sym further) ∙ e in
-    let other : is_same_weight v w ≡ false = elim (cases_Bool (is_same_weight v w)) [
-      | inl t ↦ absurd (both_ways (ends_search w v) ends (same_ends w v t))
-      | inr f ↦ f
-    ] in
-    rw (other, ends) (ap suc (first_at_place w xs d (omega arith) same))
+      let further : place_among w (v ∷ xs) ≡ suc (place_among w xs) = rw ends refl in
+      let same : is_same_weight (get_or xs (place_among w xs) d) w ≡ true =
+      ap (λ n. is_same_weight (get_or (v ∷ xs) n d) w) (sym further) ∙ e in
+      let other : is_same_weight v w ≡ false = elim (cases_Bool (is_same_weight v w)) [
+        | inl t ↦ absurd (both_ways (ends_search w v) ends (same_ends w v t))
+        | inr f ↦ f
+      ] in
+      rw (other, ends) (ap suc (first_at_place w xs d (omega arith) same))
 ]
 
 -- ---- a weight of the root
@@ -100,11 +100,11 @@ with_rooted_is n (Rooted v ∷ xs) = elim (cases_order n v) [
   | inl same ↦ rw (eq-eqb n v same, le-leb n v (omega arith), eq-eqb v n (sym same)) refl
   | inr (inl less) ↦ rw (ne_eqb n v (λ e. omega arith), lt-ltb n v less, le-leb n v (omega arith), ne_eqb v n (λ e. omega arith)) refl
   | inr (inr more) ↦
-    rw (ne_eqb n v (λ e. omega arith), le-ltb n v (omega arith), lt-leb n v more)
-    (ap (λ ys. Rooted v ∷ ys) (with_rooted_is n xs)
-    ∙ if_both (λ ys. Rooted v ∷ ys)
-    (is_same_weight (get_or xs (place_among (Rooted n) xs) (Tailored 0)) (Rooted n)) xs
-    (insert xs (place_among (Rooted n) xs) (Rooted n)))
+      rw (ne_eqb n v (λ e. omega arith), le-ltb n v (omega arith), lt-leb n v more)
+      (ap (λ ys. Rooted v ∷ ys) (with_rooted_is n xs)
+      ∙ if_both (λ ys. Rooted v ∷ ys)
+      (is_same_weight (get_or xs (place_among (Rooted n) xs) (Tailored 0)) (Rooted n)) xs
+      (insert xs (place_among (Rooted n) xs) (Rooted n)))
 ]
 
 at_its_place : (n place : ℕ) (xs : List SymbolicWeight) (b : Bool) → place ≡ place_among (Rooted n) xs
@@ -134,8 +134,8 @@ behind_found w new [] small = absurd (omega arith)
 behind_found w new (v ∷ xs) small = elim (cases_Bool (is_same_weight v w)) [
   | inl e ↦ rw e refl
   | inr e ↦
-    let further : first_place w (v ∷ xs) ≡ suc (first_place w xs) = rw e refl in
-    rw e (ap (λ ys. v ∷ ys) (behind_found w new xs (omega arith)))
+      let further : first_place w (v ∷ xs) ≡ suc (first_place w xs) = rw e refl in
+      rw e (ap (λ ys. v ∷ ys) (behind_found w new xs (omega arith)))
 ]
 
 pub behind_none : (w new : SymbolicWeight) (xs : List SymbolicWeight) → length xs ≤ first_place w xs
@@ -144,11 +144,11 @@ unfolding with_behind
 behind_none w new [] most = refl
 behind_none w new (v ∷ xs) most = elim (cases_Bool (is_same_weight v w)) [
   | inl e ↦
-    let here : first_place w (v ∷ xs) ≡ zero = rw e refl in
-    absurd (omega arith)
+      let here : first_place w (v ∷ xs) ≡ zero = rw e refl in
+      absurd (omega arith)
   | inr e ↦
-    let further : first_place w (v ∷ xs) ≡ suc (first_place w xs) = rw e refl in
-    rw e (ap (λ ys. v ∷ ys) (behind_none w new xs (omega arith)))
+      let further : first_place w (v ∷ xs) ≡ suc (first_place w xs) = rw e refl in
+      rw e (ap (λ ys. v ∷ ys) (behind_none w new xs (omega arith)))
 ]
 
 -- ---- the weight before
@@ -160,8 +160,8 @@ before_first last w [] e small = absurd (omega arith)
 before_first last w (v ∷ xs) e small = elim (cases_Bool (is_same_weight v w)) [
   | inl same ↦ rw same refl
   | inr other ↦
-    let further : first_place w (v ∷ xs) ≡ suc (first_place w xs) = rw other refl in
-    absurd (omega arith)
+      let further : first_place w (v ∷ xs) ≡ suc (first_place w xs) = rw other refl in
+      absurd (omega arith)
 ]
 
 pub before_later : (last : Option SymbolicWeight) (w : SymbolicWeight) (xs : List SymbolicWeight) (i : ℕ) (d : SymbolicWeight)
@@ -170,19 +170,19 @@ unfolding before_from
 before_later last w [] i d e small = absurd (omega arith)
 before_later last w (v ∷ xs) i d e small = elim (cases_Bool (is_same_weight v w)) [
   | inl same ↦
-    let here : first_place w (v ∷ xs) ≡ zero = rw same refl in
-    absurd (omega arith)
+      let here : first_place w (v ∷ xs) ≡ zero = rw same refl in
+      absurd (omega arith)
   | inr other ↦
-    let further : first_place w (v ∷ xs) ≡ suc (first_place w xs) = rw other refl in
-    let rest : first_place w xs ≡ i = omega arith in
-    let room : i < length xs = omega arith in
-    rw other (at_rest (λ j. before_later (Some v) w xs j d) i rest room)
+      let further : first_place w (v ∷ xs) ≡ suc (first_place w xs) = rw other refl in
+      let rest : first_place w xs ≡ i = omega arith in
+      let room : i < length xs = omega arith in
+      rw other (at_rest (λ j. before_later (Some v) w xs j d) i rest room)
 ]
   where
-  at_rest : ((j : ℕ) → first_place w xs ≡ suc j → suc j < length xs → before_from (Some v) w xs ≡ Some (get_or xs j d))
-      → (j : ℕ) → first_place w xs ≡ j → j < length xs → before_from (Some v) w xs ≡ Some (get_or (v ∷ xs) j d)
-  at_rest further zero rest room = before_first (Some v) w xs rest room
-  at_rest further (suc j) rest room = further j rest room
+    at_rest : ((j : ℕ) → first_place w xs ≡ suc j → suc j < length xs → before_from (Some v) w xs ≡ Some (get_or xs j d))
+        → (j : ℕ) → first_place w xs ≡ j → j < length xs → before_from (Some v) w xs ≡ Some (get_or (v ∷ xs) j d)
+    at_rest further zero rest room = before_first (Some v) w xs rest room
+    at_rest further (suc j) rest room = further j rest room
 
 pub before_none : (last : Option SymbolicWeight) (w : SymbolicWeight) (xs : List SymbolicWeight)
     → length xs ≤ first_place w xs → before_from last w xs ≡ None
@@ -190,11 +190,11 @@ unfolding before_from
 before_none last w [] most = refl
 before_none last w (v ∷ xs) most = elim (cases_Bool (is_same_weight v w)) [
   | inl same ↦
-    let here : first_place w (v ∷ xs) ≡ zero = rw same refl in
-    absurd (omega arith)
+      let here : first_place w (v ∷ xs) ≡ zero = rw same refl in
+      absurd (omega arith)
   | inr other ↦
-    let further : first_place w (v ∷ xs) ≡ suc (first_place w xs) = rw other refl in
-    rw other (before_none (Some v) w xs (omega arith))
+      let further : first_place w (v ∷ xs) ≡ suc (first_place w xs) = rw other refl in
+      rw other (before_none (Some v) w xs (omega arith))
 ]
 
 -- nothing stands before the first
@@ -219,7 +219,7 @@ fresh_place greatest k [] all less = omega arith
 fresh_place greatest k (v ∷ xs) all less =
     let rest = fresh_place greatest k xs (λ j d small. all (suc j) d (omega arith)) less in
     rw (other v (all 0 (Rooted 0) (omega arith))) (omega arith)
-    where
+  where
     other : (w : SymbolicWeight) → number_in w ≤ greatest → ends_search (Tailored k) w ≡ false
     other (Rooted n) most = refl
     other (Tailored j) most = ne_eqb j k (λ e. omega arith)
@@ -229,9 +229,10 @@ pub up_to_inserted : (greatest more : ℕ) (x : SymbolicWeight) (xs : List Symbo
 up_to_inserted greatest more x xs i all grows most =
     All-append P (take i xs) (x ∷ drop i xs) (All-take P i xs raised)
     (All-cons P x (drop i xs) most (All-drop P i xs raised))
-    where
+  where
     P : SymbolicWeight → Type 0
     P w = number_in w ≤ more
+
     raised : All P xs
     raised j d small = let before = all j d small in omega arith
 

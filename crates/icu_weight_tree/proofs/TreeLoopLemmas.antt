@@ -1,6 +1,6 @@
 -- Weights put into a tree one after another.
-use Rattle.std.proofs.Common.{◌≡◌, ℕ, suc, ◌+◌, ◌-◌, ◌<◌, ◌≤◌, List, [], ◌∷◌, ◌++◌, length, take, drop, get_or, refl, ap, sym, ◌∙◌, arith, drop-cons}
-use Rattle.std.proofs.lemmas.List.{take_more, take_all, drop_all}
+use Rattle.std.proofs.Common.{◌≡◌, ℕ, suc, ◌+◌, ◌-◌, ◌<◌, ◌≤◌, List, [], ◌∷◌, ◌++◌, length, take, drop, get_or, ap, sym, ◌∙◌, arith, drop-cons}
+use Rattle.std.proofs.lemmas.List.{take_more, drop_all}
 use Rattle.icu_tailoring.specs.declared.symbolic.SymbolicWeight.{SymbolicWeight}
 use Rattle.icu_tailoring.specs.declared.symbolic.SymbolicWeight.TheVariants.{Rooted, Tailored}
 use Rattle.icu_tailoring.specs.WeightTrees.{WeightTree, with_siblings, with_behind, with_weight, with_weights, with_new_weight}

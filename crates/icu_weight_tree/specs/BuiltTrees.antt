@@ -1,5 +1,5 @@
 -- The tree of weights, as lists of siblings that were begun.
-use Rattle.std.specs.Prelude.{ℕ, Bool, List, [], ◌∷◌, Option, Some, None}
+use Rattle.std.specs.Prelude.{Bool, List, [], ◌∷◌, Option, Some, None}
 use Rattle.std.specs.Map.{lookup}
 use Rattle.icu_tailoring.specs.declared.symbolic.SymbolicWeight.{SymbolicWeight}
 use Rattle.icu_tailoring.specs.SymbolicElements.{are_same_weights}
@@ -20,10 +20,10 @@ abbrev pub are_parents : List SymbolicWeight → Parents → Bool
 are_parents above parents = are_same_weights above (parent_weights parents)
 
 -- the siblings of a list, if it was begun; else the common weight alone
-abbrev pub listed : List SymbolicWeight → Option Siblings → List SymbolicWeight
-listed above None = first_tree above
-listed above (Some siblings) = siblings.weights.items
+abbrev pub begun_siblings : List SymbolicWeight → Option Siblings → List SymbolicWeight
+begun_siblings above None = first_tree above
+begun_siblings above (Some siblings) = siblings.weights.items
 
 -- the tree that lists of siblings are of
 abbrev pub tree_in : List (Parents × Siblings) → WeightTree
-tree_in lists above = listed above (lookup (are_parents above) lists)
+tree_in lists above = begun_siblings above (lookup (are_parents above) lists)

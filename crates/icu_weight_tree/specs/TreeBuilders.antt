@@ -1,5 +1,5 @@
 -- The tree of weights that a builder holds, and what `[before n]` asks of it.
-use Rattle.std.specs.Prelude.{ℕ, [], List, Option, Some, None, take, unwrap_or, vec_len}
+use Rattle.std.specs.Prelude.{ℕ, [], List, take, unwrap_or, vec_len}
 use Rattle.icu_tailoring.specs.declared.symbolic.SymbolicWeight.{SymbolicWeight}
 use Rattle.icu_tailoring.specs.WeightTrees.{WeightTree, with_weights, directly_before, above_level, weight_at_level}
 use Rattle.icu_tailoring.specs.TailoredRoots.{Root}
@@ -22,7 +22,7 @@ tree_before root tree level weights =
     with_lesser root (with_weights tree [] (take level weights)) (above_level level weights) (weight_at_level level weights)
 
 -- the weight directly before that of a level in this tree; itself where there is none
-abbrev pub weight_before : Root → WeightTree → ℕ → List SymbolicWeight → SymbolicWeight
-weight_before root tree level weights =
+abbrev pub weight_in_front : Root → WeightTree → ℕ → List SymbolicWeight → SymbolicWeight
+weight_in_front root tree level weights =
     let w = weight_at_level level weights in
     unwrap_or (directly_before w (tree_before root tree level weights (above_level level weights))) w

@@ -2,7 +2,7 @@
 #![tactic(auto)]
 
 mod change;
-mod elements;
+mod counting_elements;
 mod lists;
 mod parents;
 pub mod root_weights;

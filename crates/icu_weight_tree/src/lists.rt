@@ -8,13 +8,15 @@ ghost use Rattle.icu_weight_tree.specs.inner.SiblingChanges.{changed};
 use crate::change::Change;
 use crate::parents::{Parents, parents_of};
 use crate::siblings::Siblings;
-use icu_entries::element::COMMON_WEIGHT16;
 use icu_tailoring::SymbolicWeight;
 use std::alloc::{AllocError, Global};
 use std::collections::BTreeMap;
 
 /// The lists that were begun.
 pub(crate) type Lists = BTreeMap<Parents, Siblings>;
+
+/// The common weight of a level.
+const COMMON: u32 = 0x0500;
 
 /// The weight that stands below others before any rule (UTS #10, "Collation Weights, Elements, and Keys").
 pub(crate) fn common_weight(above: &[SymbolicWeight]) -> SymbolicWeight
@@ -28,7 +30,7 @@ pub(crate) fn common_weight(above: &[SymbolicWeight]) -> SymbolicWeight
     if below_zero || above.len() == 3 {
         return SymbolicWeight::Rooted(0);
     }
-    SymbolicWeight::Rooted(u32::from(COMMON_WEIGHT16))
+    SymbolicWeight::Rooted(COMMON)
 }
 
 /// The list that a tree has before any rule.
@@ -67,12 +69,41 @@ pub(crate) fn change_list(
 }
 
 /// The weight directly before another one below others.
-pub(crate) fn before_in(lists: &Lists, above: &[SymbolicWeight], w: SymbolicWeight) -> Option<SymbolicWeight>
+pub(crate) fn before_in(
+    lists: &Lists,
+    above: &[SymbolicWeight],
+    w: SymbolicWeight,
+) -> Option<SymbolicWeight>
     requires { length above.now ≤ 3 }
     ensures { result ≡ directly_before w (tree_in lists.now.entries above.now) }
 {
     match lists.get(&parents_of(above)) {
         Some(siblings) => siblings.before(w),
         None => None,
+    }
+}
+
+/// The list that a tree has before any rule.
+fn first_list(above: &[SymbolicWeight]) -> &'static [SymbolicWeight]
+    requires { length above.now ≤ 3 }
+    ensures { result.now ≡ first_tree above.now }
+{
+    if above.is_empty() {
+        return &[];
+    }
+    match common_weight(above) {
+        SymbolicWeight::Rooted(0) => &[SymbolicWeight::Rooted(0)],
+        _ => &[SymbolicWeight::Rooted(COMMON)],
+    }
+}
+
+/// The weights below others.
+pub(crate) fn siblings_in<'a>(lists: &'a Lists, above: &[SymbolicWeight]) -> &'a [SymbolicWeight]
+    requires { length above.now ≤ 3 }
+    ensures { result.now ≡ tree_in lists.now.entries above.now }
+{
+    match lists.get(&parents_of(above)) {
+        Some(siblings) => siblings.as_slice(),
+        None => first_list(above),
     }
 }

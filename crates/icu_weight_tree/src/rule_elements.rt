@@ -1,5 +1,5 @@
 //! What resets and relations do to the elements of a rule and to the tree of weights.
-use crate::elements::{keep_counting, last_or_ignorable, make_element, set_last};
+use crate::counting_elements::{keep_counting, last_or_ignorable, make_element, set_last};
 use crate::root_weights::RootWeights;
 use crate::tree::WeightTreeBuilder;
 use icu_options::Strength;
@@ -82,7 +82,11 @@ impl RuleElements {
     }
 
     /// Goes before the last element that counts at a level, which is one of the first three.
-    pub fn go_before_by<R: RootWeights>(&mut self, root: &R, strength: Strength) -> Result<(), AllocError>
+    pub fn go_before_by<R: RootWeights>(
+        &mut self,
+        root: &R,
+        strength: Strength,
+    ) -> Result<(), AllocError>
         ensures { OnOk result ((mappings : SymbolicMappings) (settings : List RuleSetting)
             → state_with mappings settings self.new
             ≡ before_step (R.root root.now) (before_level strength)

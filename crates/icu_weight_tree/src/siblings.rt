@@ -120,7 +120,8 @@ impl Siblings {
     /// Whether a weight of the root stands at a place.
     fn stands_at(&self, place: usize, w: u32) -> bool
         ensures { result ≡ is_same_weight
-            (slice_index_or self.now.weights.items place (SymbolicWeight.Tailored 0)) (SymbolicWeight.Rooted w) }
+            (slice_index_or self.now.weights.items place (SymbolicWeight.Tailored 0))
+            (SymbolicWeight.Rooted w) }
     {
         match self.weights.get(place) {
             Some(v) => is_same(*v, SymbolicWeight::Rooted(w)),
@@ -175,7 +176,11 @@ impl Siblings {
         ensures err { OnErr result (self.new.weights.items ≡ self.old.weights.items) }
     {
         self.weights.insert(place, SymbolicWeight::Tailored(new))?;
-        self.last = if self.greatest < new { place } else { self.weights.len() };
+        self.last = if self.greatest < new {
+            place
+        } else {
+            self.weights.len()
+        };
         self.greatest = self.greatest.max(new);
         Ok(())
     }
@@ -186,7 +191,8 @@ impl Siblings {
             ≡ self.old.weights.items ++ w ∷ SymbolicWeight.Tailored new ∷ []) }
         ensures err { OnErr result (self.new.weights.items ≡ self.old.weights.items) }
     {
-        self.weights.extend_from_slice(&[w, SymbolicWeight::Tailored(new)])?;
+        self.weights
+            .extend_from_slice(&[w, SymbolicWeight::Tailored(new)])?;
         self.last = self.weights.len();
         self.greatest = self.greatest.max(number(w)).max(new);
         Ok(())

@@ -1,6 +1,6 @@
 //! The tree of weights while rules are read.
 use crate::change::Change;
-use crate::lists::{Lists, before_in, change_list};
+use crate::lists::{Lists, before_in, change_list, siblings_in};
 use crate::root_weights::RootWeights;
 use icu_tailoring::SymbolicWeight;
 use std::alloc::{AllocError, Global};
@@ -19,7 +19,7 @@ impl WeightTreeBuilder {
     ghost use Rattle.std.specs.Prelude.{◌≡◌, ◌≤◌, suc, [], length, OnOk, IfOk};
     ghost use Rattle.icu_tailoring.specs.WeightTrees.{first_tree, directly_before, with_weight, with_weights, with_new_weight};
     ghost use Rattle.icu_tailoring.specs.Steps.{with_lesser};
-    ghost use Rattle.icu_weight_tree.specs.TreeBuilders.{tree_of, made_of, tree_before, weight_before};
+    ghost use Rattle.icu_weight_tree.specs.TreeBuilders.{tree_of, made_of, tree_before, weight_in_front};
 
     /// The tree before any rule.
     pub fn new(alloc: Global) -> Self
@@ -40,8 +40,20 @@ impl WeightTreeBuilder {
         self.levels.len()
     }
 
+    /// The weights below those of the levels before, ascending.
+    pub fn siblings(&self, above: &[SymbolicWeight]) -> &[SymbolicWeight]
+        requires { length above.now ≤ 3 }
+        ensures { result.now ≡ tree_of self.now above.now }
+    {
+        siblings_in(&self.lists, above)
+    }
+
     /// The weight directly before another one, below the weights of the levels before.
-    pub fn directly_before(&self, above: &[SymbolicWeight], w: SymbolicWeight) -> Option<SymbolicWeight>
+    pub fn directly_before(
+        &self,
+        above: &[SymbolicWeight],
+        w: SymbolicWeight,
+    ) -> Option<SymbolicWeight>
         requires { length above.now ≤ 3 }
         ensures { result ≡ directly_before w (tree_of self.now above.now) }
     {
@@ -63,7 +75,8 @@ impl WeightTreeBuilder {
     /// Puts weights of levels one below another in their places, where they are of the root.
     pub fn put_weights(&mut self, weights: &[SymbolicWeight]) -> Result<(), AllocError>
         requires { length weights.now ≤ 4 }
-        ensures tree { OnOk result (tree_of self.new ≡ with_weights (tree_of self.old) [] weights.now) }
+        ensures tree { OnOk result
+            (tree_of self.new ≡ with_weights (tree_of self.old) [] weights.now) }
         ensures made { made_of self.new ≡ made_of self.old }
     {
         for (i, w) in weights.iter().enumerate() {
@@ -72,8 +85,12 @@ impl WeightTreeBuilder {
         Ok(())
     }
 
-    /// Makes a new weight of a level, and puts it directly behind the one that stands there in the weights of an element.
-    pub fn put_new_weight(&mut self, level: u8, weights: &[SymbolicWeight]) -> Result<SymbolicWeight, AllocError>
+    /// Makes a new weight of a level, and puts it directly behind the one that stands there in an element's weights.
+    pub fn put_new_weight(
+        &mut self,
+        level: u8,
+        weights: &[SymbolicWeight],
+    ) -> Result<SymbolicWeight, AllocError>
         requires first { 1 ≤ level }
         requires last { level ≤ 4 }
         requires weights { level ≤ length weights.now }
@@ -92,7 +109,12 @@ impl WeightTreeBuilder {
     }
 
     /// Puts the next lesser weight of the root in its place, where the weight is of the root.
-    fn put_lesser<R: RootWeights>(&mut self, root: &R, above: &[SymbolicWeight], w: SymbolicWeight) -> Result<(), AllocError>
+    fn put_lesser<R: RootWeights>(
+        &mut self,
+        root: &R,
+        above: &[SymbolicWeight],
+        w: SymbolicWeight,
+    ) -> Result<(), AllocError>
         requires { length above.now ≤ 3 }
         ensures tree { OnOk result (tree_of self.new
             ≡ with_lesser (R.root root.now) (tree_of self.old) above.now w) }
@@ -105,13 +127,18 @@ impl WeightTreeBuilder {
         Ok(())
     }
 
-    /// The weight before the one that stands at a level in the weights of an element, after both were put in their places.
-    pub fn put_before<R: RootWeights>(&mut self, root: &R, level: u8, weights: &[SymbolicWeight]) -> Result<SymbolicWeight, AllocError>
+    /// The weight before the one that stands at a level in an element's weights, once both are in their places.
+    pub fn put_before<R: RootWeights>(
+        &mut self,
+        root: &R,
+        level: u8,
+        weights: &[SymbolicWeight],
+    ) -> Result<SymbolicWeight, AllocError>
         requires first { 1 ≤ level }
         requires last { level ≤ 4 }
         requires weights { level ≤ length weights.now }
         ensures found { IfOk result (λ v. v
-            ≡ weight_before (R.root root.now) (tree_of self.old) level weights.now) }
+            ≡ weight_in_front (R.root root.now) (tree_of self.old) level weights.now) }
         ensures tree { OnOk result (tree_of self.new
             ≡ tree_before (R.root root.now) (tree_of self.old) level weights.now) }
         ensures made { made_of self.new ≡ made_of self.old }

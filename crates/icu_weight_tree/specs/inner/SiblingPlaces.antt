@@ -15,11 +15,11 @@ ends_search (Rooted w) (Rooted v) = nat_le w v
 ends_search (Rooted w) (Tailored k) = false
 ends_search (Tailored k) v = is_same_weight v (Tailored k)
 
--- where a weight stands among siblings, or is put if it is of the root; how many there are, where there is no such place
+-- where a weight stands among siblings, or is put if it is of the root; their number where there is no such place
 abbrev pub place_among : SymbolicWeight → List SymbolicWeight → ℕ
 place_among w siblings = place_by (ends_search w) siblings
 
--- where a weight stands first among siblings; how many there are, where it isn't among them
+-- where a weight stands first among siblings; their number where it isn't among them
 abbrev pub first_place : SymbolicWeight → List SymbolicWeight → ℕ
 first_place w siblings = place_by (λ v. is_same_weight v w) siblings
 

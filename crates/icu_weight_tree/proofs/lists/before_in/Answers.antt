@@ -1,7 +1,7 @@
 -- The list that is found is that of the tree.
 use Rattle.std.proofs.Common.{ap, sym, ◌∙◌, Some, None}
 use Rattle.icu_tailoring.specs.WeightTrees.{directly_before}
-use Rattle.icu_weight_tree.proofs.ListLemmas.{found_in_tree, first_has_none}
+use Rattle.icu_weight_tree.proofs.ListedTreeLemmas.{found_in_tree, first_has_none}
 use Rattle.icu_weight_tree.proofs.lists.before_in.Goals as goal
 
 pub returns-in-Some : goal.returns-in-Some

@@ -3,8 +3,8 @@ use Rattle.std.proofs.Common.{◌≡◌, ap, sym, ◌∙◌, rules}
 use Rattle.std.specs.BTreeMap.{insert_entry}
 use Rattle.icu_weight_tree.specs.BuiltTrees.{tree_in}
 use Rattle.icu_weight_tree.specs.inner.SiblingChanges.{changed}
-use Rattle.icu_weight_tree.proofs.ParentLemmas.{parents_order}
-use Rattle.icu_weight_tree.proofs.ListLemmas.{tree_written, tree_begun}
+use Rattle.icu_weight_tree.proofs.ParentOrderLemmas.{parents_order}
+use Rattle.icu_weight_tree.proofs.ListedTreeLemmas.{tree_written, tree_begun}
 use Rattle.icu_weight_tree.proofs.lists.change_list.Goals as goal
 
 pub returns-in-Some : goal.returns-in-Some

@@ -1,5 +1,5 @@
 -- The search ends at the place.
-use Rattle.std.proofs.Common.{◌≡◌, ◌<◌, ◌≤◌, length, get_or, sym, ◌∙◌, arith}
+use Rattle.std.proofs.Common.{length, sym, ◌∙◌, arith}
 use Rattle.icu_tailoring.specs.declared.symbolic.SymbolicWeight.TheVariants.{Rooted}
 use Rattle.icu_tailoring.specs.SymbolicElements.{is_same_weight}
 use Rattle.icu_weight_tree.proofs.SiblingLemmas.{place_is}

@@ -1,13 +1,13 @@
 -- The search ends at the place.
-use Rattle.std.proofs.Common.{◌≡◌, ◌<◌, ◌≤◌, length, get_or, sym, ◌∙◌, arith}
+use Rattle.std.proofs.Common.{length, sym, ◌∙◌, arith}
 use Rattle.icu_tailoring.specs.declared.symbolic.SymbolicWeight.TheVariants.{Rooted}
-use Rattle.icu_weight_tree.specs.inner.SiblingPlaces.{ends_search, place_among}
+use Rattle.icu_weight_tree.specs.inner.SiblingPlaces.{ends_search}
 use Rattle.icu_weight_tree.proofs.SiblingLemmas.{place_is}
 use Rattle.icu_weight_tree.proofs.siblings.search_place.Goals as goal
 
 pub returns-then-ends : goal.returns-then-ends
 returns-then-ends c =
-    sym (place_is (ends_search c.args.w) c.args.weights.now c.loop-i.i (Rooted 0) (omega arith) c.loop-i.invariant.1 
+    sym (place_is (ends_search c.args.w) c.args.weights.now c.loop-i.i (Rooted 0) (omega arith) c.loop-i.invariant.1
     (λ small. sym c.ends.ensures ∙ c.if-ends.true))
 
 pub returns : goal.returns

@@ -1,6 +1,5 @@
 use Rattle.std.proofs.Common.{◌≡◌, ℕ, ◌<◌, ◌≤◌, false, length, slice_index_or}
 use Rattle.icu_tailoring.specs.declared.symbolic.SymbolicWeight.TheVariants.{Rooted}
-use Rattle.icu_tailoring.specs.SymbolicElements.{is_same_weight}
 use Rattle.icu_weight_tree.specs.inner.SiblingPlaces.{ends_search}
 use Rattle.icu_weight_tree.proofs.siblings.search_place.Given as goal
 

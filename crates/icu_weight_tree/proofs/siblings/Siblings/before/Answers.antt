@@ -8,7 +8,7 @@ pub returns-then-place-eq0 : goal.returns-then-place-eq0
 returns-then-place-eq0 c = elim c.then-place-eq0.branch [
   | then-place-eq0-via-then-place-eq0 w ↦ sym (nothing_before c.args.w c.args.self.now.weights.items (omega arith))
   | then-place-eq0-via-else-place-eq0+then-len-place w ↦
-    sym (before_none None c.args.w c.args.self.now.weights.items (omega arith))
+      sym (before_none None c.args.w c.args.self.now.weights.items (omega arith))
 ]
 
 pub returns : goal.returns

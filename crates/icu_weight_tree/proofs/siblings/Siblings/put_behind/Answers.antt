@@ -1,5 +1,5 @@
 -- A new weight is put where the definition has it.
-use Rattle.std.proofs.Common.{◌≡◌, ◌+◌, suc, ◌++◌, ◌∷◌, [], ap, sym, ◌∙◌, subst, OnOk, arith}
+use Rattle.std.proofs.Common.{◌≡◌, ◌+◌, suc, ap, sym, ◌∙◌, subst, OnOk, arith}
 use Rattle.icu_tailoring.specs.declared.symbolic.SymbolicWeight.TheVariants.{Tailored}
 use Rattle.std.specs.List.{insert}
 use Rattle.icu_tailoring.specs.WeightTrees.{with_behind}

@@ -1,5 +1,5 @@
 -- A weight of the root is put where the definition has it, and found there.
-use Rattle.std.proofs.Common.{◌≡◌, ◌∙◌, arith}
+use Rattle.std.proofs.Common.{◌∙◌, arith}
 use Rattle.icu_tailoring.specs.declared.symbolic.SymbolicWeight.TheVariants.{Rooted}
 use Rattle.icu_weight_tree.specs.inner.SiblingPlaces.{ends_search}
 use Rattle.icu_weight_tree.proofs.SiblingLemmas.{rooted_stays, rooted_put, place_le, found_inserted, up_to_inserted}

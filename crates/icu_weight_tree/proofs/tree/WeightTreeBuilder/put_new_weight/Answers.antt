@@ -1,5 +1,5 @@
 -- The new weight is put where the definition has it.
-use Rattle.std.proofs.Common.{◌≡◌, ap, ◌∙◌}
+use Rattle.std.proofs.Common.{ap, ◌∙◌}
 use Rattle.icu_tailoring.specs.declared.symbolic.SymbolicWeight.TheVariants.{Tailored}
 use Rattle.icu_tailoring.specs.WeightTrees.{with_new_weight}
 use Rattle.icu_weight_tree.specs.BuiltTrees.{tree_in}

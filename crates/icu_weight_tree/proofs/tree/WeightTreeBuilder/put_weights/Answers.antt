@@ -1,5 +1,5 @@
 -- Weights are put where the definition has them, one after another.
-use Rattle.std.proofs.Common.{◌≡◌, get_or, sym, ◌∙◌, arith}
+use Rattle.std.proofs.Common.{get_or, sym, ◌∙◌, arith}
 use Rattle.std.proofs.lemmas.List.{get_or_default}
 use Rattle.icu_tailoring.specs.declared.symbolic.SymbolicWeight.TheVariants.{Rooted}
 use Rattle.icu_weight_tree.specs.TreeBuilders.{tree_of}
@@ -13,9 +13,9 @@ loop-i-preserved c =
     record {
       few = omega arith;
       tree =
-        put_further (tree_of c.loop-i.self) (tree_of c.put_weight.new.self) weights c.loop-i.i w c.loop-i-test.true
-        (get_or_default weights c.loop-i.i (Rooted 0) w c.loop-i-test.true) c.in_ok-put_weight.ensures.tree
-        ∙ c.loop-i.invariant.tree;
+          put_further (tree_of c.loop-i.self) (tree_of c.put_weight.new.self) weights c.loop-i.i w c.loop-i-test.true
+          (get_or_default weights c.loop-i.i (Rooted 0) w c.loop-i-test.true) c.in_ok-put_weight.ensures.tree
+          ∙ c.loop-i.invariant.tree;
       made = c.put_weight.ensures.made ∙ c.loop-i.invariant.made;
     }
 

@@ -1,5 +1,4 @@
-use Rattle.std.proofs.Common.{◌≡◌, ◌≤◌, [], length}
-use Rattle.icu_tailoring.specs.WeightTrees.{with_weights}
+use Rattle.std.proofs.Common.{◌≡◌, ◌≤◌, length}
 use Rattle.icu_weight_tree.specs.TreeBuilders.{tree_of, made_of}
 use Rattle.icu_weight_tree.proofs.TreeLoopLemmas.{put_from}
 use Rattle.icu_weight_tree.proofs.tree.WeightTreeBuilder.put_weights.Given as goal

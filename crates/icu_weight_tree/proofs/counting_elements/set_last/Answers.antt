@@ -1,8 +1,8 @@
 -- All elements but the last stay.
 use Rattle.std.proofs.Common.{◌≡◌, ◌-◌, ◌++◌, ◌∷◌, [], length, take, ap, sym, ◌∙◌, rules}
 use Rattle.std.specs.Vec.{vec_len}
-use Rattle.icu_weight_tree.proofs.ElementLemmas.{front_is}
-use Rattle.icu_weight_tree.proofs.elements.set_last.Goals as goal
+use Rattle.icu_weight_tree.proofs.CountingLemmas.{front_is}
+use Rattle.icu_weight_tree.proofs.counting_elements.set_last.Goals as goal
 
 pub returns : goal.returns
 returns c =

@@ -26,7 +26,11 @@ fn to_four(above: &[SymbolicWeight], w: SymbolicWeight) -> [SymbolicWeight; 4]
 }
 
 /// The element of a weight below others, with common ones below it.
-pub(crate) fn make_element(above: &[SymbolicWeight], w: SymbolicWeight, strength: u8) -> SymbolicElement
+pub(crate) fn make_element(
+    above: &[SymbolicWeight],
+    w: SymbolicWeight,
+    strength: u8,
+) -> SymbolicElement
     requires { length above.now ≤ 3 }
     ensures { result ≡ element_with (above.now ++ w ∷ []) strength }
 {
@@ -60,7 +64,10 @@ pub(crate) fn keep_counting(elements: &mut Vec<SymbolicElement>, level: u8)
 }
 
 /// Puts another element in the place of the last.
-pub(crate) fn set_last(elements: &mut Vec<SymbolicElement>, last: SymbolicElement) -> Result<(), AllocError>
+pub(crate) fn set_last(
+    elements: &mut Vec<SymbolicElement>,
+    last: SymbolicElement,
+) -> Result<(), AllocError>
     ensures { OnOk result (elements.new.items ≡ with_last_element elements.old.items last) }
 {
     let _ = elements.pop();

@@ -1,5 +1,5 @@
 -- Parents that a map takes as the same are the same.
-use Rattle.std.proofs.Common.{◌≡◌, ℕ, Bool, true, false, ◌&&◌, List, [], ◌∷◌, refl, ap, sym, ◌∙◌}
+use Rattle.std.proofs.Common.{◌≡◌, ℕ, true, List, refl, ap, sym, ◌∙◌}
 use Rattle.std.specs.Ordering.{is_eq, ordering_then, nat_cmp}
 use Rattle.std.specs.Cmp.{unsigned_tied}
 use Rattle.std.proofs.lemmas.Bool.{eqb-true}
@@ -13,7 +13,6 @@ use Rattle.icu_weight_tree.specs.declared.parents.Parents.{Parents}
 use Rattle.icu_weight_tree.specs.declared.parents.Parents.TheVariants.{Nothing, Primary, Secondary, Tertiary}
 use Rattle.icu_weight_tree.specs.contracts.parents.ParentsOrd.TheImpl as parents_ord
 use Rattle.icu_weight_tree.specs.contracts.parents.ParentsOrd.TheImpl.Laws.{total-law}
-use Rattle.icu_tailoring.specs.SymbolicElements.{are_same_weights}
 use Rattle.icu_tailoring.proofs.TreeLemmas.{same_weights_are}
 use Rattle.icu_weight_tree.specs.BuiltTrees.{parent_weights, are_parents}
 

@@ -1,5 +1,5 @@
 -- What lists of siblings are of a tree, after one of them was written or begun.
-use Rattle.std.proofs.Common.{◌≡◌, ℕ, Bool, true, false, List, [], ◌∷◌, Option, Some, None, if◌then◌else◌, inl, inr, refl, ap, sym, ◌∙◌, subst}
+use Rattle.std.proofs.Common.{◌≡◌, Bool, true, false, List, [], ◌∷◌, Option, Some, None, if◌then◌else◌, inl, inr, refl, ap, sym, ◌∙◌}
 use Rattle.std.proofs.Math.Path.{fun_ext}
 use Rattle.std.proofs.lemmas.Bool.{cases_Bool, both_ways}
 use Rattle.std.specs.BTreeMap.{insert_entry, is_at}
@@ -13,8 +13,8 @@ use Rattle.icu_tailoring.specs.WeightTrees.{first_tree, with_siblings, directly_
 use Rattle.icu_tailoring.proofs.TreeLemmas.{are_themselves, either}
 use Rattle.icu_weight_tree.specs.declared.parents.Parents.{Parents}
 use Rattle.icu_weight_tree.specs.declared.siblings.Siblings.{Siblings}
-use Rattle.icu_weight_tree.specs.BuiltTrees.{parent_weights, are_parents, listed, tree_in}
-use Rattle.icu_weight_tree.proofs.ParentLemmas.{parents_order, parents_tie, parents_tie_themselves, one_parent}
+use Rattle.icu_weight_tree.specs.BuiltTrees.{parent_weights, are_parents, begun_siblings, tree_in}
+use Rattle.icu_weight_tree.proofs.ParentOrderLemmas.{parents_order, parents_tie, parents_tie_themselves, one_parent}
 
 -- ---- look-ups by another test
 
@@ -37,10 +37,10 @@ lookup_written same here key [] w ties itself one v found = cc
 lookup_written same here key (e ∷ es) w ties itself one v found = elim (cases_Bool (same e.0)) [
   | inl t ↦ rw (t, ap here (ties e.0 t)) (once (here key) (Some w) (Some e.1) (lookup here es))
   | inr f ↦
-    let rest : lookup same es ≡ Some v = ap (λ b. if b then Some e.1 else lookup same es) (sym f) ∙ found in
-    rw (f, lookup_written same here key es w ties itself one v rest)
-    (exchanged (here e.0) (here key) (Some e.1) (Some w) (lookup here es)
-    (λ a b. both_ways (same e.0) f (ap same (one e.0 a b) ∙ itself)))
+      let rest : lookup same es ≡ Some v = ap (λ b. if b then Some e.1 else lookup same es) (sym f) ∙ found in
+      rw (f, lookup_written same here key es w ties itself one v rest)
+      (exchanged (here e.0) (here key) (Some e.1) (Some w) (lookup here es)
+      (λ a b. both_ways (same e.0) f (ap same (one e.0 a b) ∙ itself)))
 ]
 
 begun_before : {K X : Type 0} (cmp : K → K → Ordering) (here : K → Bool) (key : K) (w : X) (e : K × X) (es : List (K × X)) (r : Ordering)
@@ -73,24 +73,24 @@ same_test key above is = fun_ext (λ q. elim (cases_Bool (is_eq (parents_order k
   | inl t ↦ ap (are_parents above) (parents_tie key q t) ∙ (here ∙ sym t)
   | inr f ↦ elim (cases_Bool (are_parents above q)) [
     | inl a ↦
-      absurd (both_ways (is_eq (parents_order key q)) f
-      (ap (λ p. is_eq (parents_order key p)) (one_parent above key q a here) ∙ parents_tie_themselves key))
+        absurd (both_ways (is_eq (parents_order key q)) f
+        (ap (λ p. is_eq (parents_order key p)) (one_parent above key q a here) ∙ parents_tie_themselves key))
     | inr a ↦ a ∙ sym f
   ]
 ])
   where
-  here : are_parents above key ≡ true
-  here = ap (are_same_weights above) is ∙ are_themselves above
+    here : are_parents above key ≡ true
+    here = ap (are_same_weights above) is ∙ are_themselves above
 
 -- what a map has at parents is what the tree has below them
 pub found_in_tree : (es : List (Parents × Siblings)) (key : Parents) (above : List SymbolicWeight) (found : Option Siblings)
-    → parent_weights key ≡ above → lookup (is_at (parents_order key)) es ≡ found → tree_in es above ≡ listed above found
-found_in_tree es key above found is at = ap (listed above) (ap (λ test. lookup test es) (same_test key above is) ∙ at)
+    → parent_weights key ≡ above → lookup (is_at (parents_order key)) es ≡ found → tree_in es above ≡ begun_siblings above found
+found_in_tree es key above found is at = ap (begun_siblings above) (ap (λ test. lookup test es) (same_test key above is) ∙ at)
 
-listed_if : (b : Bool) (above : List SymbolicWeight) (s : Siblings) (o : Option Siblings)
-    → listed above (if b then Some s else o) ≡ (if b then s.weights.items else listed above o)
-listed_if true above s o = refl
-listed_if false above s o = refl
+begun_siblings_if : (b : Bool) (above : List SymbolicWeight) (s : Siblings) (o : Option Siblings)
+    → begun_siblings above (if b then Some s else o) ≡ (if b then s.weights.items else begun_siblings above o)
+begun_siblings_if true above s o = refl
+begun_siblings_if false above s o = refl
 
 -- a tree where the list at parents is another one
 replaced : (es fs : List (Parents × Siblings)) (key : Parents) (above siblings : List SymbolicWeight) (s : Siblings)
@@ -99,7 +99,7 @@ replaced : (es fs : List (Parents × Siblings)) (key : Parents) (above siblings 
     ≡ (if are_parents other key then Some s else lookup (are_parents other) es))
     → tree_in fs ≡ with_siblings (tree_in es) above siblings
 replaced es fs key above siblings s is items looks = fun_ext (λ other.
-    ap (listed other) (looks other) ∙ (listed_if (are_parents other key) other s (lookup (are_parents other) es)
+    ap (begun_siblings other) (looks other) ∙ (begun_siblings_if (are_parents other key) other s (lookup (are_parents other) es)
     ∙ (ap (λ ws. if are_same_weights other ws then s.weights.items else tree_in es other) is
     ∙ ap (λ ws. if are_same_weights other above then ws else tree_in es other) items)))
 

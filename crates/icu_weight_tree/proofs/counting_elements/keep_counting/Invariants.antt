@@ -1,6 +1,6 @@
 use Rattle.std.proofs.Common.{◌≡◌, ◌≤◌, length, take}
 use Rattle.icu_tailoring.specs.Steps.{counting_at}
-use Rattle.icu_weight_tree.proofs.elements.keep_counting.Given as goal
+use Rattle.icu_weight_tree.proofs.counting_elements.keep_counting.Given as goal
 
 abbrev pub decreases-loop-kept : goal.decreases-loop-kept
 decreases-loop-kept l = l.kept
