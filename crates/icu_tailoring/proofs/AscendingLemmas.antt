@@ -7,7 +7,10 @@ use Rattle.icu_options.specs.declared.settings.Strength.TheVariants.{Primary, Se
 use Rattle.unicode_normalization.specs.Forms.{nfd}
 use Rattle.icu_entries.specs.Elements.{common}
 use Rattle.icu_tailoring.specs.Rules.{ResetPlace, Rule, reset, relation, suppression, setting}
-use Rattle.icu_tailoring.specs.SymbolicElements.{SymbolicWeight, rooted, tailored, SymbolicElement, is_same_weight, are_same_weights, ends_with_zero}
+use Rattle.icu_tailoring.specs.declared.symbolic.SymbolicWeight.{SymbolicWeight}
+use Rattle.icu_tailoring.specs.declared.symbolic.SymbolicWeight.TheVariants.{Rooted, Tailored}
+use Rattle.icu_tailoring.specs.declared.symbolic.SymbolicElement.{SymbolicElement}
+use Rattle.icu_tailoring.specs.SymbolicElements.{is_same_weight, are_same_weights, ends_with_zero}
 use Rattle.icu_tailoring.specs.WeightTrees.{WeightTree, first_tree, with_siblings, with_rooted, with_behind, with_weight, with_weights, above_level, weight_at_level}
 use Rattle.icu_tailoring.specs.TailoredRoots.{Root, lesser_weight}
 use Rattle.icu_tailoring.specs.Steps.{TailoringState, first_state, counting_at, last_element, with_lesser, place_elements, before_level, before_step, reset_step, difference_step, strength_step, case_step, relation_step, suppression_step, rule_step, state_after, tailoring_of}
@@ -20,23 +23,23 @@ use Rattle.icu_tailoring.proofs.BetweenLemmas.{rooted_is_among, with_rooted_sibl
 
 -- all weights of the root among the siblings are greater
 abbrev AreGreater : ℕ → List SymbolicWeight → Type 0
-AreGreater v siblings = (u : ℕ) → IsAmongWeights (rooted u) siblings → v < u
+AreGreater v siblings = (u : ℕ) → IsAmongWeights (Rooted u) siblings → v < u
 
 -- the weights of the root ascend
 abbrev Ascends : List SymbolicWeight → Type 0
 Ascends [] = Unit {0}
-Ascends (tailored k ∷ siblings) = Ascends siblings
-Ascends (rooted v ∷ siblings) = AreGreater v siblings × Ascends siblings
+Ascends (Tailored k ∷ siblings) = Ascends siblings
+Ascends (Rooted v ∷ siblings) = AreGreater v siblings × Ascends siblings
 
 number : SymbolicWeight → ℕ
-number (rooted w) = w
-number (tailored k) = k
+number (Rooted w) = w
+number (Tailored k) = k
 
-same_number : (v w : ℕ) → rooted v ≡ rooted w → v ≡ w
+same_number : (v w : ℕ) → Rooted v ≡ Rooted w → v ≡ w
 unfolding number
 same_number v w e = ap number e
 
-not_rooted : (k w : ℕ) → tailored k ≡ rooted w → ⊥
+not_rooted : (k w : ℕ) → Tailored k ≡ Rooted w → ⊥
 not_rooted k w e = cc
 
 less_from : (n u : ℕ) → nat_lt n u ≡ true → n < u
@@ -48,81 +51,81 @@ greater_from n u e f = grind (arith, nat_tests)
 -- ---- among siblings
 
 among_or : (n : ℕ) (w : SymbolicWeight) (xs : List SymbolicWeight) → IsAmongWeights w (with_rooted n xs)
-    → (rooted n ≡ w) ⊎ IsAmongWeights w xs
+    → (Rooted n ≡ w) ⊎ IsAmongWeights w xs
 unfolding with_rooted
 among_or n w [] (inl e) = inl e
 among_or n w [] (inr a) = absurd a
-among_or n w (tailored k ∷ xs) (inl e) = inr (inl e)
-among_or n w (tailored k ∷ xs) (inr a) = elim (among_or n w xs a) [ inl e ↦ inl e | inr b ↦ inr (inr b) ]
-among_or n w (rooted u ∷ xs) a =
-    let Says : List SymbolicWeight → Type 0 = λ ys. IsAmongWeights w ys → (rooted n ≡ w) ⊎ IsAmongWeights w (rooted u ∷ xs) in
-    let later : List SymbolicWeight = if nat_lt n u then rooted n ∷ rooted u ∷ xs else rooted u ∷ with_rooted n xs in
-    let put : IsAmongWeights w (rooted n ∷ rooted u ∷ xs) → (rooted n ≡ w) ⊎ IsAmongWeights w (rooted u ∷ xs) = λ b. b in
-    let further : IsAmongWeights w (rooted u ∷ with_rooted n xs) → (rooted n ≡ w) ⊎ IsAmongWeights w (rooted u ∷ xs) = λ b. elim b [
+among_or n w (Tailored k ∷ xs) (inl e) = inr (inl e)
+among_or n w (Tailored k ∷ xs) (inr a) = elim (among_or n w xs a) [ inl e ↦ inl e | inr b ↦ inr (inr b) ]
+among_or n w (Rooted u ∷ xs) a =
+    let Says : List SymbolicWeight → Type 0 = λ ys. IsAmongWeights w ys → (Rooted n ≡ w) ⊎ IsAmongWeights w (Rooted u ∷ xs) in
+    let later : List SymbolicWeight = if nat_lt n u then Rooted n ∷ Rooted u ∷ xs else Rooted u ∷ with_rooted n xs in
+    let put : IsAmongWeights w (Rooted n ∷ Rooted u ∷ xs) → (Rooted n ≡ w) ⊎ IsAmongWeights w (Rooted u ∷ xs) = λ b. b in
+    let further : IsAmongWeights w (Rooted u ∷ with_rooted n xs) → (Rooted n ≡ w) ⊎ IsAmongWeights w (Rooted u ∷ xs) = λ b. elim b [
       | inl e ↦ inr (inl e)
       | inr c ↦ (elim (among_or n w xs c) [ inl e ↦ inl e | inr d ↦ inr (inr d) ])
     ] in
-    either Says (n == u) (rooted u ∷ xs) later (λ _. λ b. inr b)
-    (λ _. either Says (nat_lt n u) (rooted n ∷ rooted u ∷ xs) (rooted u ∷ with_rooted n xs) (λ _. put) (λ _. further)) a
+    either Says (n == u) (Rooted u ∷ xs) later (λ _. λ b. inr b)
+    (λ _. either Says (nat_lt n u) (Rooted n ∷ Rooted u ∷ xs) (Rooted u ∷ with_rooted n xs) (λ _. put) (λ _. further)) a
 
 ascends_rooted : (n : ℕ) (xs : List SymbolicWeight) → Ascends xs → Ascends (with_rooted n xs)
 unfolding with_rooted
 ascends_rooted n [] s = (λ u a. absurd a, tt)
-ascends_rooted n (tailored k ∷ xs) s = ascends_rooted n xs s
-ascends_rooted n (rooted u ∷ xs) (greater, s) =
-    let later : List SymbolicWeight = if nat_lt n u then rooted n ∷ rooted u ∷ xs else rooted u ∷ with_rooted n xs in
-    either Ascends (n == u) (rooted u ∷ xs) later (λ _. (greater, s))
-    (λ other. either Ascends (nat_lt n u) (rooted n ∷ rooted u ∷ xs) (rooted u ∷ with_rooted n xs)
+ascends_rooted n (Tailored k ∷ xs) s = ascends_rooted n xs s
+ascends_rooted n (Rooted u ∷ xs) (greater, s) =
+    let later : List SymbolicWeight = if nat_lt n u then Rooted n ∷ Rooted u ∷ xs else Rooted u ∷ with_rooted n xs in
+    either Ascends (n == u) (Rooted u ∷ xs) later (λ _. (greater, s))
+    (λ other. either Ascends (nat_lt n u) (Rooted n ∷ Rooted u ∷ xs) (Rooted u ∷ with_rooted n xs)
     (λ less. (λ t a. above_new (less_from n u less) t a, (greater, s)))
     (λ no. (λ t a. above_old (greater_from n u other no) t a, ascends_rooted n xs s))) where
-      above_new : n < u → (t : ℕ) → IsAmongWeights (rooted t) (rooted u ∷ xs) → n < t
+      above_new : n < u → (t : ℕ) → IsAmongWeights (Rooted t) (Rooted u ∷ xs) → n < t
       above_new less t (inl e) = let same = same_number u t e in omega (arith, less, same)
       above_new less t (inr a) = let more = greater t a in omega (arith, less, more)
 
-      above_old : u < n → (t : ℕ) → IsAmongWeights (rooted t) (with_rooted n xs) → u < t
-      above_old more t a = elim (among_or n (rooted t) xs a) [
+      above_old : u < n → (t : ℕ) → IsAmongWeights (Rooted t) (with_rooted n xs) → u < t
+      above_old more t a = elim (among_or n (Rooted t) xs a) [
         | inl e ↦ (let same = same_number n t e in omega (arith, more, same))
         | inr b ↦ greater t b
       ]
 
 -- a weight of the root is among the siblings
 abbrev IsPut : SymbolicWeight → List SymbolicWeight → Type 0
-IsPut (rooted n) siblings = IsAmongWeights (rooted n) siblings
-IsPut (tailored k) siblings = Unit {0}
+IsPut (Rooted n) siblings = IsAmongWeights (Rooted n) siblings
+IsPut (Tailored k) siblings = Unit {0}
 
 put_further : (w u : SymbolicWeight) (xs : List SymbolicWeight) → is_same_weight u w ≡ false → IsPut w (u ∷ xs) → IsPut w xs
-put_further (rooted n) u xs other (inl e) = absurd (true≢false (sym (subst (λ v. is_same_weight v (rooted n) ≡ true) (sym e) (is_itself (rooted n))) ∙ other))
-put_further (rooted n) u xs other (inr a) = a
-put_further (tailored k) u xs other p = tt
+put_further (Rooted n) u xs other (inl e) = absurd (true≢false (sym (subst (λ v. is_same_weight v (Rooted n) ≡ true) (sym e) (is_itself (Rooted n))) ∙ other))
+put_further (Rooted n) u xs other (inr a) = a
+put_further (Tailored k) u xs other p = tt
 
 among_behind : (w : SymbolicWeight) (k t : ℕ) (xs : List SymbolicWeight) → IsPut w xs
-    → IsAmongWeights (rooted t) (with_behind w (tailored k) xs) → IsAmongWeights (rooted t) xs
+    → IsAmongWeights (Rooted t) (with_behind w (Tailored k) xs) → IsAmongWeights (Rooted t) xs
 unfolding with_behind
-among_behind (rooted n) k t [] p a = absurd p
-among_behind (tailored j) k t [] p (inl e) = absurd (not_rooted j t e)
-among_behind (tailored j) k t [] p (inr (inl e)) = absurd (not_rooted k t e)
-among_behind (tailored j) k t [] p (inr (inr a)) = absurd a
+among_behind (Rooted n) k t [] p a = absurd p
+among_behind (Tailored j) k t [] p (inl e) = absurd (not_rooted j t e)
+among_behind (Tailored j) k t [] p (inr (inl e)) = absurd (not_rooted k t e)
+among_behind (Tailored j) k t [] p (inr (inr a)) = absurd a
 among_behind w k t (u ∷ xs) p a =
-    let Says : List SymbolicWeight → Type 0 = λ ys. IsAmongWeights (rooted t) ys → IsAmongWeights (rooted t) (u ∷ xs) in
-    let near : IsAmongWeights (rooted t) (u ∷ tailored k ∷ xs) → IsAmongWeights (rooted t) (u ∷ xs) = λ b. elim b [
+    let Says : List SymbolicWeight → Type 0 = λ ys. IsAmongWeights (Rooted t) ys → IsAmongWeights (Rooted t) (u ∷ xs) in
+    let near : IsAmongWeights (Rooted t) (u ∷ Tailored k ∷ xs) → IsAmongWeights (Rooted t) (u ∷ xs) = λ b. elim b [
       | inl e ↦ inl e
       | inr c ↦ (elim c [ inl e ↦ absurd (not_rooted k t e) | inr d ↦ inr d ])
     ] in
-    either Says (is_same_weight u w) (u ∷ tailored k ∷ xs) (u ∷ with_behind w (tailored k) xs) (λ _. near)
+    either Says (is_same_weight u w) (u ∷ Tailored k ∷ xs) (u ∷ with_behind w (Tailored k) xs) (λ _. near)
     (λ other. λ b. elim b [ inl e ↦ inl e | inr c ↦ inr (among_behind w k t xs (put_further w u xs other p) c) ]) a
 
 ascends_behind : (w : SymbolicWeight) (k : ℕ) (xs : List SymbolicWeight) → IsPut w xs → Ascends xs
-    → Ascends (with_behind w (tailored k) xs)
+    → Ascends (with_behind w (Tailored k) xs)
 unfolding with_behind
-ascends_behind (rooted n) k [] p s = absurd p
-ascends_behind (tailored j) k [] p s = tt
-ascends_behind w k (tailored j ∷ xs) p s =
-    either Ascends (is_same_weight (tailored j) w) (tailored j ∷ tailored k ∷ xs) (tailored j ∷ with_behind w (tailored k) xs)
-    (λ _. s) (λ other. ascends_behind w k xs (put_further w (tailored j) xs other p) s)
-ascends_behind w k (rooted u ∷ xs) p (greater, s) =
-    either Ascends (is_same_weight (rooted u) w) (rooted u ∷ tailored k ∷ xs) (rooted u ∷ with_behind w (tailored k) xs)
+ascends_behind (Rooted n) k [] p s = absurd p
+ascends_behind (Tailored j) k [] p s = tt
+ascends_behind w k (Tailored j ∷ xs) p s =
+    either Ascends (is_same_weight (Tailored j) w) (Tailored j ∷ Tailored k ∷ xs) (Tailored j ∷ with_behind w (Tailored k) xs)
+    (λ _. s) (λ other. ascends_behind w k xs (put_further w (Tailored j) xs other p) s)
+ascends_behind w k (Rooted u ∷ xs) p (greater, s) =
+    either Ascends (is_same_weight (Rooted u) w) (Rooted u ∷ Tailored k ∷ xs) (Rooted u ∷ with_behind w (Tailored k) xs)
     (λ _. (λ t a. elim a [ inl e ↦ absurd (not_rooted k t e) | inr b ↦ greater t b ], s))
-    (λ other. let put = put_further w (rooted u) xs other p in
+    (λ other. let put = put_further w (Rooted u) xs other p in
     (λ t a. greater t (among_behind w k t xs put a), ascends_behind w k xs put s))
 
 -- ---- in the tree
@@ -133,7 +136,7 @@ TreeAscends tree = (above : List SymbolicWeight) → Ascends (tree above)
 first_ascends : TreeAscends first_tree
 first_ascends [] = tt
 first_ascends (w ∷ ws) =
-    either (λ c. Ascends (c ∷ [])) (length (w ∷ ws) == 3 || ends_with_zero (w ∷ ws)) (rooted 0) (rooted common)
+    either (λ c. Ascends (c ∷ [])) (length (w ∷ ws) == 3 || ends_with_zero (w ∷ ws)) (Rooted 0) (Rooted common)
     (λ _. (λ u a. absurd a, tt)) (λ _. (λ u a. absurd a, tt))
 
 siblings_ascend : (tree : WeightTree) (above siblings : List SymbolicWeight) → TreeAscends tree → Ascends siblings
@@ -143,8 +146,8 @@ siblings_ascend tree above siblings t s other =
 
 weight_ascends : (tree : WeightTree) (above : List SymbolicWeight) (w : SymbolicWeight) → TreeAscends tree
     → TreeAscends (with_weight tree above w)
-weight_ascends tree above (rooted n) t = siblings_ascend tree above (with_rooted n (tree above)) t (ascends_rooted n (tree above) (t above))
-weight_ascends tree above (tailored k) t = t
+weight_ascends tree above (Rooted n) t = siblings_ascend tree above (with_rooted n (tree above)) t (ascends_rooted n (tree above) (t above))
+weight_ascends tree above (Tailored k) t = t
 
 weights_ascend : (tree : WeightTree) (above ws : List SymbolicWeight) → TreeAscends tree → TreeAscends (with_weights tree above ws)
 unfolding with_weights
@@ -152,8 +155,8 @@ weights_ascend tree above [] t = t
 weights_ascend tree above (x ∷ ws) t = weights_ascend (with_weight tree above x) (above ++ x ∷ []) ws (weight_ascends tree above x t)
 
 is_put : (tree : WeightTree) (above : List SymbolicWeight) (w : SymbolicWeight) → IsPut w (with_weight tree above w above)
-is_put tree above (rooted n) = subst (IsAmongWeights (rooted n)) (sym (with_rooted_siblings tree above n)) (rooted_is_among n (tree above))
-is_put tree above (tailored k) = tt
+is_put tree above (Rooted n) = subst (IsAmongWeights (Rooted n)) (sym (with_rooted_siblings tree above n)) (rooted_is_among n (tree above))
+is_put tree above (Tailored k) = tt
 
 abbrev IsPutAt : WeightTree → ℕ → List SymbolicWeight → Type 0
 IsPutAt tree level ws = IsPut (weight_at_level level ws) (with_weights tree [] (take level ws) (above_level level ws))
@@ -177,8 +180,8 @@ level_is_put tree (suc (suc (suc (suc (suc level))))) e p q w = absurd (omega ar
 
 lesser_ascends : (root : Root) (tree : WeightTree) (above : List SymbolicWeight) (w : SymbolicWeight) → TreeAscends tree
     → TreeAscends (with_lesser root tree above w)
-lesser_ascends root tree above (rooted n) t = weight_ascends tree above (rooted (lesser_weight root above n)) t
-lesser_ascends root tree above (tailored k) t = t
+lesser_ascends root tree above (Rooted n) t = weight_ascends tree above (Rooted (lesser_weight root above n)) t
+lesser_ascends root tree above (Tailored k) t = t
 
 before_ascends : (root : Root) (level : ℕ) (state : TailoringState) → TreeAscends state.tree
     → TreeAscends (before_step root level state).tree
@@ -204,7 +207,7 @@ difference_ascends level state p q whole t =
     let placed = with_weights state.tree [] (take level e.weights) in
     let v = weight_at_level level e.weights in
     let ascends = weights_ascend state.tree [] (take level e.weights) t in
-    siblings_ascend placed above (with_behind v (tailored state.made) (placed above)) ascends
+    siblings_ascend placed above (with_behind v (Tailored state.made) (placed above)) ascends
     (ascends_behind v state.made (placed above)
     (level_is_put state.tree level e p q (last_whole (counting_at level state.elements) (counting_whole level state.elements whole.elements)))
     (ascends above))
@@ -234,13 +237,13 @@ state_ascends root state [] w t = t
 state_ascends root state (rule ∷ rules) w t =
     state_ascends root (rule_step root state rule) rules (rule_whole root state rule w) (rule_ascends root state rule w t)
 
-stands_less : (xs : List SymbolicWeight) (v w : ℕ) → Ascends xs → IsOrderedBefore (rooted v) (rooted w) xs → v < w
+stands_less : (xs : List SymbolicWeight) (v w : ℕ) → Ascends xs → IsOrderedBefore (Rooted v) (Rooted w) xs → v < w
 stands_less [] v w s b = absurd b
-stands_less (tailored k ∷ xs) v w s (inl e) = absurd (not_rooted k v e.0)
-stands_less (tailored k ∷ xs) v w s (inr b) = stands_less xs v w s b
-stands_less (rooted u ∷ xs) v w (greater, s) (inl e) =
+stands_less (Tailored k ∷ xs) v w s (inl e) = absurd (not_rooted k v e.0)
+stands_less (Tailored k ∷ xs) v w s (inr b) = stands_less xs v w s b
+stands_less (Rooted u ∷ xs) v w (greater, s) (inl e) =
     let same = same_number u v e.0 in let more = greater w e.1 in omega (arith, same, more)
-stands_less (rooted u ∷ xs) v w (greater, s) (inr b) = stands_less xs v w s b
+stands_less (Rooted u ∷ xs) v w (greater, s) (inr b) = stands_less xs v w s b
 
 pub root_ascends : WeightsOfTheRootAscend
 root_ascends root rules above v w b =

@@ -5,7 +5,9 @@ use Rattle.icu_options.specs.declared.settings.Strength.{Strength}
 use Rattle.icu_options.specs.declared.settings.Strength.TheVariants.{Primary, Secondary, Tertiary, Quaternary, Identical}
 use Rattle.unicode_normalization.specs.Forms.{nfd}
 use Rattle.icu_tailoring.specs.Rules.{ResetPlace, Rule, reset, relation, suppression, setting, level_of}
-use Rattle.icu_tailoring.specs.SymbolicElements.{SymbolicWeight, rooted, tailored, is_same_weight, are_same_weights}
+use Rattle.icu_tailoring.specs.declared.symbolic.SymbolicWeight.{SymbolicWeight}
+use Rattle.icu_tailoring.specs.declared.symbolic.SymbolicWeight.TheVariants.{Rooted, Tailored}
+use Rattle.icu_tailoring.specs.SymbolicElements.{is_same_weight, are_same_weights}
 use Rattle.icu_tailoring.specs.WeightTrees.{WeightTree, with_siblings, with_rooted, with_behind, with_weight, with_weights, with_new_weight, above_level, weight_at_level}
 use Rattle.icu_tailoring.specs.TailoredRoots.{Root, lesser_weight}
 use Rattle.icu_tailoring.specs.Steps.{TailoringState, first_state, counting_at, last_element, with_lesser, place_elements, before_level, before_step, reset_step, difference_step, strength_step, case_step, relation_step, suppression_step, rule_step, state_after, tailoring_of}
@@ -18,8 +20,8 @@ use Rattle.icu_tailoring.proofs.RelationLemmas.{state_after-append}
 -- the siblings come to a tailored weight past tailored ones alone
 abbrev LeadsTo : ℕ → List SymbolicWeight → Type 0
 LeadsTo k [] = ⊥
-LeadsTo k (rooted v ∷ siblings) = ⊥
-LeadsTo k (tailored j ∷ siblings) = (j ≡ k) ⊎ LeadsTo k siblings
+LeadsTo k (Rooted v ∷ siblings) = ⊥
+LeadsTo k (Tailored j ∷ siblings) = (j ≡ k) ⊎ LeadsTo k siblings
 
 -- behind a weight the siblings come to a tailored one past tailored ones alone
 abbrev IsCloseBehind : ℕ → SymbolicWeight → List SymbolicWeight → Type 0
@@ -31,58 +33,58 @@ IsCloseBehind k w (x ∷ siblings) = ((x ≡ w) × LeadsTo k siblings) ⊎ IsClo
 leads_rooted : (n k : ℕ) (xs : List SymbolicWeight) → LeadsTo k xs → LeadsTo k (with_rooted n xs)
 unfolding with_rooted
 leads_rooted n k [] l = l
-leads_rooted n k (rooted v ∷ xs) l = absurd l
-leads_rooted n k (tailored j ∷ xs) (inl e) = inl e
-leads_rooted n k (tailored j ∷ xs) (inr l) = inr (leads_rooted n k xs l)
+leads_rooted n k (Rooted v ∷ xs) l = absurd l
+leads_rooted n k (Tailored j ∷ xs) (inl e) = inl e
+leads_rooted n k (Tailored j ∷ xs) (inr l) = inr (leads_rooted n k xs l)
 
 close_rooted : (n k : ℕ) (w : SymbolicWeight) (xs : List SymbolicWeight) → IsCloseBehind k w xs
     → IsCloseBehind k w (with_rooted n xs)
 unfolding with_rooted
 close_rooted n k w [] c = absurd c
-close_rooted n k w (tailored j ∷ xs) (inl e) = inl (e.0, leads_rooted n k xs e.1)
-close_rooted n k w (tailored j ∷ xs) (inr c) = inr (close_rooted n k w xs c)
-close_rooted n k w (rooted u ∷ xs) c =
-    let further : IsCloseBehind k w (rooted u ∷ with_rooted n xs) = elim c [
+close_rooted n k w (Tailored j ∷ xs) (inl e) = inl (e.0, leads_rooted n k xs e.1)
+close_rooted n k w (Tailored j ∷ xs) (inr c) = inr (close_rooted n k w xs c)
+close_rooted n k w (Rooted u ∷ xs) c =
+    let further : IsCloseBehind k w (Rooted u ∷ with_rooted n xs) = elim c [
       | inl e ↦ inl (e.0, leads_rooted n k xs e.1)
       | inr d ↦ inr (close_rooted n k w xs d)
     ] in
-    let later : List SymbolicWeight = if nat_lt n u then rooted n ∷ rooted u ∷ xs else rooted u ∷ with_rooted n xs in
-    either (IsCloseBehind k w) (n == u) (rooted u ∷ xs) later (λ _. c)
-    (λ _. either (IsCloseBehind k w) (nat_lt n u) (rooted n ∷ rooted u ∷ xs) (rooted u ∷ with_rooted n xs)
+    let later : List SymbolicWeight = if nat_lt n u then Rooted n ∷ Rooted u ∷ xs else Rooted u ∷ with_rooted n xs in
+    either (IsCloseBehind k w) (n == u) (Rooted u ∷ xs) later (λ _. c)
+    (λ _. either (IsCloseBehind k w) (nat_lt n u) (Rooted n ∷ Rooted u ∷ xs) (Rooted u ∷ with_rooted n xs)
     (λ _. inr c) (λ _. further))
 
 leads_behind : (v : SymbolicWeight) (made k : ℕ) (xs : List SymbolicWeight) → LeadsTo k xs
-    → LeadsTo k (with_behind v (tailored made) xs)
+    → LeadsTo k (with_behind v (Tailored made) xs)
 unfolding with_behind
 leads_behind v made k [] l = absurd l
-leads_behind v made k (rooted u ∷ xs) l = absurd l
-leads_behind v made k (tailored j ∷ xs) l =
-    let near : LeadsTo k (tailored j ∷ tailored made ∷ xs) = elim l [ inl e ↦ inl e | inr m ↦ inr (inr m) ] in
-    let further : LeadsTo k (tailored j ∷ with_behind v (tailored made) xs) = elim l [
+leads_behind v made k (Rooted u ∷ xs) l = absurd l
+leads_behind v made k (Tailored j ∷ xs) l =
+    let near : LeadsTo k (Tailored j ∷ Tailored made ∷ xs) = elim l [ inl e ↦ inl e | inr m ↦ inr (inr m) ] in
+    let further : LeadsTo k (Tailored j ∷ with_behind v (Tailored made) xs) = elim l [
       | inl e ↦ inl e
       | inr m ↦ inr (leads_behind v made k xs m)
     ] in
-    either (LeadsTo k) (is_same_weight (tailored j) v) (tailored j ∷ tailored made ∷ xs)
-    (tailored j ∷ with_behind v (tailored made) xs) (λ _. near) (λ _. further)
+    either (LeadsTo k) (is_same_weight (Tailored j) v) (Tailored j ∷ Tailored made ∷ xs)
+    (Tailored j ∷ with_behind v (Tailored made) xs) (λ _. near) (λ _. further)
 
 close_behind : (v : SymbolicWeight) (made k : ℕ) (w : SymbolicWeight) (xs : List SymbolicWeight) → IsCloseBehind k w xs
-    → IsCloseBehind k w (with_behind v (tailored made) xs)
+    → IsCloseBehind k w (with_behind v (Tailored made) xs)
 unfolding with_behind
 close_behind v made k w [] c = absurd c
 close_behind v made k w (x ∷ xs) c =
-    let near : IsCloseBehind k w (x ∷ tailored made ∷ xs) = elim c [ inl e ↦ inl (e.0, inr e.1) | inr d ↦ inr (inr d) ] in
-    let further : IsCloseBehind k w (x ∷ with_behind v (tailored made) xs) = elim c [
+    let near : IsCloseBehind k w (x ∷ Tailored made ∷ xs) = elim c [ inl e ↦ inl (e.0, inr e.1) | inr d ↦ inr (inr d) ] in
+    let further : IsCloseBehind k w (x ∷ with_behind v (Tailored made) xs) = elim c [
       | inl e ↦ inl (e.0, leads_behind v made k xs e.1)
       | inr d ↦ inr (close_behind v made k w xs d)
     ] in
-    either (IsCloseBehind k w) (is_same_weight x v) (x ∷ tailored made ∷ xs) (x ∷ with_behind v (tailored made) xs)
+    either (IsCloseBehind k w) (is_same_weight x v) (x ∷ Tailored made ∷ xs) (x ∷ with_behind v (Tailored made) xs)
     (λ _. near) (λ _. further)
 
-new_is_close : (w : SymbolicWeight) (k : ℕ) (xs : List SymbolicWeight) → IsCloseBehind k w (with_behind w (tailored k) xs)
+new_is_close : (w : SymbolicWeight) (k : ℕ) (xs : List SymbolicWeight) → IsCloseBehind k w (with_behind w (Tailored k) xs)
 unfolding with_behind
 new_is_close w k [] = inl (refl, inl refl)
 new_is_close w k (u ∷ xs) =
-    either (IsCloseBehind k w) (is_same_weight u w) (u ∷ tailored k ∷ xs) (u ∷ with_behind w (tailored k) xs)
+    either (IsCloseBehind k w) (is_same_weight u w) (u ∷ Tailored k ∷ xs) (u ∷ with_behind w (Tailored k) xs)
     (λ e. inl (same_weight_is u w e, inl refl)) (λ _. inr (new_is_close w k xs))
 
 -- ---- in the tree
@@ -100,9 +102,9 @@ siblings_keep tree above siblings keeps other k w c =
 
 weight_keeps : (tree : WeightTree) (above : List SymbolicWeight) (w : SymbolicWeight)
     → KeepsClose tree (with_weight tree above w)
-weight_keeps tree above (rooted n) =
+weight_keeps tree above (Rooted n) =
     siblings_keep tree above (with_rooted n (tree above)) (λ k w. close_rooted n k w (tree above))
-weight_keeps tree above (tailored j) = λ other k w c. c
+weight_keeps tree above (Tailored j) = λ other k w c. c
 
 weights_keep : (tree : WeightTree) (above ws : List SymbolicWeight) → KeepsClose tree (with_weights tree above ws)
 unfolding with_weights
@@ -111,18 +113,18 @@ weights_keep tree above (x ∷ ws) = λ other k w c.
     weights_keep (with_weight tree above x) (above ++ x ∷ []) ws other k w (weight_keeps tree above x other k w c)
 
 new_weight_keeps : (tree : WeightTree) (level : ℕ) (ws : List SymbolicWeight) (made : ℕ)
-    → KeepsClose tree (with_new_weight tree level ws (tailored made))
+    → KeepsClose tree (with_new_weight tree level ws (Tailored made))
 new_weight_keeps tree level ws made = λ other k w c.
     let above = above_level level ws in
     let placed = with_weights tree [] (take level ws) in
-    siblings_keep placed above (with_behind (weight_at_level level ws) (tailored made) (placed above))
+    siblings_keep placed above (with_behind (weight_at_level level ws) (Tailored made) (placed above))
     (λ j x. close_behind (weight_at_level level ws) made j x (placed above)) other k w
     (weights_keep tree [] (take level ws) other k w c)
 
 lesser_keeps : (root : Root) (tree : WeightTree) (above : List SymbolicWeight) (w : SymbolicWeight)
     → KeepsClose tree (with_lesser root tree above w)
-lesser_keeps root tree above (rooted n) = weight_keeps tree above (rooted (lesser_weight root above n))
-lesser_keeps root tree above (tailored j) = λ other k w c. c
+lesser_keeps root tree above (Rooted n) = weight_keeps tree above (Rooted (lesser_weight root above n))
+lesser_keeps root tree above (Tailored j) = λ other k w c. c
 
 before_keeps : (root : Root) (level : ℕ) (state : TailoringState) → KeepsClose state.tree (before_step root level state).tree
 unfolding before_step
@@ -179,7 +181,7 @@ difference_is_close level state =
     let above = above_level level ws in
     let placed = with_weights state.tree [] (take level ws) in
     let w = weight_at_level level ws in
-    either (IsCloseBehind state.made w) (are_same_weights above above) (with_behind w (tailored state.made) (placed above)) (placed above)
+    either (IsCloseBehind state.made w) (are_same_weights above above) (with_behind w (Tailored state.made) (placed above)) (placed above)
     (λ _. new_is_close w state.made (placed above)) (λ e. absurd (true≢false (sym (are_themselves above) ∙ e)))
 
 strength_is_close : (strength : Strength) (state : TailoringState) → (strength ≡ Identical → ⊥)
@@ -203,15 +205,15 @@ relation_is_close root strength prefix string extension state other =
 
 -- ---- a weight of the root beside it
 
-pub rooted_is_among : (n : ℕ) (xs : List SymbolicWeight) → IsAmongWeights (rooted n) (with_rooted n xs)
+pub rooted_is_among : (n : ℕ) (xs : List SymbolicWeight) → IsAmongWeights (Rooted n) (with_rooted n xs)
 unfolding with_rooted
 rooted_is_among n [] = inl refl
-rooted_is_among n (tailored j ∷ xs) = inr (rooted_is_among n xs)
-rooted_is_among n (rooted u ∷ xs) =
-    let later : List SymbolicWeight = if nat_lt n u then rooted n ∷ rooted u ∷ xs else rooted u ∷ with_rooted n xs in
-    either (IsAmongWeights (rooted n)) (n == u) (rooted u ∷ xs) later
-    (λ e. inl (sym (same_weight_is (rooted n) (rooted u) e)))
-    (λ _. either (IsAmongWeights (rooted n)) (nat_lt n u) (rooted n ∷ rooted u ∷ xs) (rooted u ∷ with_rooted n xs)
+rooted_is_among n (Tailored j ∷ xs) = inr (rooted_is_among n xs)
+rooted_is_among n (Rooted u ∷ xs) =
+    let later : List SymbolicWeight = if nat_lt n u then Rooted n ∷ Rooted u ∷ xs else Rooted u ∷ with_rooted n xs in
+    either (IsAmongWeights (Rooted n)) (n == u) (Rooted u ∷ xs) later
+    (λ e. inl (sym (same_weight_is (Rooted n) (Rooted u) e)))
+    (λ _. either (IsAmongWeights (Rooted n)) (nat_lt n u) (Rooted n ∷ Rooted u ∷ xs) (Rooted u ∷ with_rooted n xs)
     (λ _. inl refl) (λ _. inr (rooted_is_among n xs)))
 
 close_is_among : (k : ℕ) (w : SymbolicWeight) (xs : List SymbolicWeight) → IsCloseBehind k w xs → IsAmongWeights w xs
@@ -220,18 +222,18 @@ close_is_among k w (x ∷ xs) (inl e) = inl e.0
 close_is_among k w (x ∷ xs) (inr c) = inr (close_is_among k w xs c)
 
 -- of a list that leads to a tailored weight, a weight of the root stands behind that one
-stands_past : (k n : ℕ) (xs : List SymbolicWeight) → LeadsTo k xs → IsAmongWeights (rooted n) xs → IsOrderedBefore (tailored k) (rooted n) xs
+stands_past : (k n : ℕ) (xs : List SymbolicWeight) → LeadsTo k xs → IsAmongWeights (Rooted n) xs → IsOrderedBefore (Tailored k) (Rooted n) xs
 stands_past k n [] l a = absurd l
-stands_past k n (rooted v ∷ xs) l a = absurd l
-stands_past k n (tailored j ∷ xs) l (inl e) = absurd (apart e) where
-  apart : tailored j ≡ rooted n → ⊥
+stands_past k n (Rooted v ∷ xs) l a = absurd l
+stands_past k n (Tailored j ∷ xs) l (inl e) = absurd (apart e) where
+  apart : Tailored j ≡ Rooted n → ⊥
   apart e = cc
-stands_past k n (tailored j ∷ xs) (inl e) (inr a) = inl (ap tailored e, a)
-stands_past k n (tailored j ∷ xs) (inr l) (inr a) = inr (stands_past k n xs l a)
+stands_past k n (Tailored j ∷ xs) (inl e) (inr a) = inl (ap Tailored e, a)
+stands_past k n (Tailored j ∷ xs) (inr l) (inr a) = inr (stands_past k n xs l a)
 
 -- a weight of the root is the first one, stands before it, or stands behind the tailored one
-stands_apart : (k n : ℕ) (w : SymbolicWeight) (xs : List SymbolicWeight) → IsCloseBehind k w xs → IsAmongWeights (rooted n) xs
-    → (rooted n ≡ w) ⊎ (IsOrderedBefore (rooted n) w xs ⊎ IsOrderedBefore (tailored k) (rooted n) xs)
+stands_apart : (k n : ℕ) (w : SymbolicWeight) (xs : List SymbolicWeight) → IsCloseBehind k w xs → IsAmongWeights (Rooted n) xs
+    → (Rooted n ≡ w) ⊎ (IsOrderedBefore (Rooted n) w xs ⊎ IsOrderedBefore (Tailored k) (Rooted n) xs)
 stands_apart k n w [] c a = absurd c
 stands_apart k n w (x ∷ xs) (inl e) (inl f) = inl (sym f ∙ e.0)
 stands_apart k n w (x ∷ xs) (inl e) (inr a) = inr (inr (inr (stands_past k n xs e.1 a)))
@@ -242,24 +244,24 @@ stands_apart k n w (x ∷ xs) (inr c) (inr a) = elim (stands_apart k n w xs c a)
 ]
 
 pub with_rooted_siblings : (tree : WeightTree) (above : List SymbolicWeight) (n : ℕ)
-    → with_weight tree above (rooted n) above ≡ with_rooted n (tree above)
+    → with_weight tree above (Rooted n) above ≡ with_rooted n (tree above)
 with_rooted_siblings tree above n = ap (λ (b : Bool). if b then with_rooted n (tree above) else tree above) (are_themselves above)
 
 close_is_not_between : (tree : WeightTree) (level : ℕ) (ws : List SymbolicWeight) (k n : ℕ) (numbering : Numbering)
-    → IsCloseIn tree level ws k → NumbersTree (with_weight tree (above_level level ws) (rooted n)) numbering
-    → IsNotBetween numbering level ws (tailored k) n
+    → IsCloseIn tree level ws k → NumbersTree (with_weight tree (above_level level ws) (Rooted n)) numbering
+    → IsNotBetween numbering level ws (Tailored k) n
 close_is_not_between tree level ws k n numbering c g below put_behind =
     let above = above_level level ws in
     let w = weight_at_level level ws in
-    let siblings = with_weight tree above (rooted n) above in
-    let among : IsAmongWeights (rooted n) siblings =
-    subst (IsAmongWeights (rooted n)) (sym (with_rooted_siblings tree above n)) (rooted_is_among n (tree above)) in
-    let close : IsCloseBehind k w siblings = weight_keeps tree above (rooted n) above k w c in
+    let siblings = with_weight tree above (Rooted n) above in
+    let among : IsAmongWeights (Rooted n) siblings =
+    subst (IsAmongWeights (Rooted n)) (sym (with_rooted_siblings tree above n)) (rooted_is_among n (tree above)) in
+    let close : IsCloseBehind k w siblings = weight_keeps tree above (Rooted n) above k w c in
     elim (stands_apart k n w siblings close among) [
       | inl e ↦ (let same = ap (λ v. numbering (above ++ v ∷ [])) e in absurd (omega (arith, same, below)))
       | inr s ↦ (elim s [
-        | inl b ↦ (let less = g.ascends above (rooted n) w b in absurd (omega (arith, less, below)))
-        | inr b ↦ (let less = g.ascends above (tailored k) (rooted n) b in absurd (omega (arith, less, put_behind)))
+        | inl b ↦ (let less = g.ascends above (Rooted n) w b in absurd (omega (arith, less, below)))
+        | inr b ↦ (let less = g.ascends above (Tailored k) (Rooted n) b in absurd (omega (arith, less, put_behind)))
       ])
     ]
 
@@ -271,8 +273,8 @@ nothing_between root earlier later strength prefix string extension n numbering 
     let before = tailoring_of root earlier in
     let after = rule_step root before rule in
     let last = state_after root after later in
-    let numbers : NumbersTree (with_weight last.tree (above_level level ws) (rooted n)) numbering =
-    subst (λ (s : TailoringState). NumbersTree (with_weight s.tree (above_level level ws) (rooted n)) numbering)
+    let numbers : NumbersTree (with_weight last.tree (above_level level ws) (Rooted n)) numbering =
+    subst (λ (s : TailoringState). NumbersTree (with_weight s.tree (above_level level ws) (Rooted n)) numbering)
     (state_after-append root (first_state root) earlier (rule ∷ later)) g in
     close_is_not_between last.tree level ws before.made n numbering
     (state_keeps root after later (above_level level ws) before.made (weight_at_level level ws)

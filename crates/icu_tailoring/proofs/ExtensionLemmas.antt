@@ -9,7 +9,9 @@ use Rattle.icu_options.specs.declared.settings.Strength.{Strength}
 use Rattle.icu_options.specs.declared.settings.Strength.TheVariants.{Primary, Secondary, Tertiary, Quaternary, Identical}
 use Rattle.unicode_normalization.specs.Forms.{nfd}
 use Rattle.icu_tailoring.specs.Rules.{relation, level_of}
-use Rattle.icu_tailoring.specs.SymbolicElements.{SymbolicWeight, SymbolicElement, ignorable}
+use Rattle.icu_tailoring.specs.declared.symbolic.SymbolicWeight.{SymbolicWeight}
+use Rattle.icu_tailoring.specs.declared.symbolic.SymbolicElement.{SymbolicElement}
+use Rattle.icu_tailoring.specs.SymbolicElements.{ignorable}
 use Rattle.icu_tailoring.specs.WeightTrees.{WeightTree}
 use Rattle.icu_tailoring.specs.TailoredRoots.{Root}
 use Rattle.icu_tailoring.specs.TailoredMappings.{root_mappings, symbolic_elements}

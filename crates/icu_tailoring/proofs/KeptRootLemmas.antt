@@ -6,7 +6,7 @@ use Rattle.unicode_normalization.specs.Order.{is_starter}
 use Rattle.icu_options.specs.declared.settings.Strength.{Strength}
 use Rattle.icu_options.specs.declared.settings.Strength.TheVariants.{Primary, Secondary, Tertiary, Quaternary, Identical}
 use Rattle.icu_tailoring.specs.Rules.{ResetPlace, Rule, reset, relation, suppression, setting, have_character}
-use Rattle.icu_tailoring.specs.SymbolicElements.{SymbolicElement}
+use Rattle.icu_tailoring.specs.declared.symbolic.SymbolicElement.{SymbolicElement}
 use Rattle.icu_tailoring.specs.TailoredRoots.{Root}
 use Rattle.icu_tailoring.specs.TailoredMappings.{SymbolicMapping, SymbolicMappings, SymbolicMatch, root_mappings, beginnings, mappings_behind, mapping_with, is_blocked_by, joined_marks, longest_suffix, match_by, symbolic_match, context_behind, symbolic_along, symbolic_elements}
 use Rattle.icu_tailoring.specs.Steps.{TailoringState, first_state, difference_step, strength_step, case_step, mapping_step, reset_step, before_step, relation_step, suppression_step, rule_step, state_after, tailoring_of}

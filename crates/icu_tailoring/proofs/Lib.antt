@@ -3,7 +3,7 @@ mod SmallRoot
 mod WorkedDifferences
 mod WorkedTailorings
 mod KeptRootLemmas
-mod TreeLemmas
+pub mod TreeLemmas
 mod WholeElements
 mod WholeStates
 mod RelationLemmas

@@ -8,7 +8,10 @@ use Rattle.icu_options.specs.declared.settings.Strength.{Strength}
 use Rattle.icu_options.specs.declared.settings.Strength.TheVariants.{Primary, Secondary, Tertiary, Quaternary, Identical}
 use Rattle.unicode_normalization.specs.Forms.{nfd}
 use Rattle.icu_tailoring.specs.Rules.{Rule, relation}
-use Rattle.icu_tailoring.specs.SymbolicElements.{SymbolicWeight, tailored, SymbolicElement, are_same_weights, element_with, ignorable}
+use Rattle.icu_tailoring.specs.declared.symbolic.SymbolicWeight.{SymbolicWeight}
+use Rattle.icu_tailoring.specs.declared.symbolic.SymbolicWeight.TheVariants.{Tailored}
+use Rattle.icu_tailoring.specs.declared.symbolic.SymbolicElement.{SymbolicElement}
+use Rattle.icu_tailoring.specs.SymbolicElements.{are_same_weights, element_with, ignorable}
 use Rattle.icu_tailoring.specs.WeightTrees.{WeightTree, with_behind, with_weights, with_new_weight, above_level, weight_at_level}
 use Rattle.icu_tailoring.specs.TailoredRoots.{Root}
 use Rattle.icu_tailoring.specs.TailoredMappings.{root_mappings, symbolic_elements}
@@ -124,7 +127,7 @@ new_stands tree level ws new =
 
 -- the element that a difference of a level puts in the place of another one
 abbrev pub new_element : ℕ → SymbolicElement → ℕ → SymbolicElement
-new_element n e made = element_with (above_level n e.weights ++ tailored made ∷ []) (min n e.strength)
+new_element n e made = element_with (above_level n e.weights ++ Tailored made ∷ []) (min n e.strength)
 
 -- the last element that counts at a level
 abbrev pub last_at : ℕ → TailoringState → SymbolicElement
@@ -138,7 +141,7 @@ unfolding difference_step
 new_is_greater tree numbering g n p q state ws keeps =
     let e = last_at n state in
     let w = last_whole (counting_at n state.elements) (counting_whole n state.elements ws) in
-    let x = tailored state.made in
+    let x = Tailored state.made in
     let above = above_level n e.weights in
     let v = weight_at_level n e.weights in
     let ascends = g.ascends above v x (keeps above v x (new_stands state.tree n e.weights x)) in
@@ -161,7 +164,7 @@ difference_less tree numbering g n p q state ws keeps =
           sym (counting_numbers tree numbering g n level a (omega (arith, b)) q state.elements ws)
           ∙ last_same numbering level counting new
           (zero_before tree numbering g level ignorable a (omega (arith, b, q)) (omega (arith, b, q)) ignorable_is_whole)
-          (same_before numbering n level e (tailored state.made) (min n e.strength) a b q w);
+          (same_before numbering n level e (Tailored state.made) (min n e.strength) a b q w);
       less =
           ap (λ z. list_order z (level_numbers numbering n (with_last_element counting new)))
           (sym (counting_numbers tree numbering g n n p (omega arith) q state.elements ws))

@@ -5,7 +5,10 @@ use Rattle.icu_options.specs.declared.settings.Strength.{Strength}
 use Rattle.icu_options.specs.declared.settings.Strength.TheVariants.{Primary, Secondary, Tertiary, Quaternary, Identical}
 use Rattle.unicode_normalization.specs.Forms.{nfd}
 use Rattle.icu_tailoring.specs.Rules.{ResetPlace, Rule, reset, relation, suppression, setting}
-use Rattle.icu_tailoring.specs.SymbolicElements.{SymbolicWeight, rooted, tailored, SymbolicElement, is_same_weight, are_same_weights}
+use Rattle.icu_tailoring.specs.declared.symbolic.SymbolicWeight.{SymbolicWeight}
+use Rattle.icu_tailoring.specs.declared.symbolic.SymbolicWeight.TheVariants.{Rooted, Tailored}
+use Rattle.icu_tailoring.specs.declared.symbolic.SymbolicElement.{SymbolicElement}
+use Rattle.icu_tailoring.specs.SymbolicElements.{is_same_weight, are_same_weights}
 use Rattle.icu_tailoring.specs.WeightTrees.{WeightTree, with_siblings, with_rooted, with_behind, with_weight, with_weights, with_new_weight, above_level, weight_at_level}
 use Rattle.icu_tailoring.specs.TailoredRoots.{Root, lesser_weight}
 use Rattle.icu_tailoring.specs.Steps.{TailoringState, counting_at, last_element, with_lesser, place_elements, before_level, before_step, reset_step, difference_step, strength_step, case_step, mapping_step, relation_step, suppression_step, rule_step, state_after}
@@ -18,14 +21,14 @@ either P false x y p q = q refl
 -- ---- the same weights
 
 pub same_weight_is : (v w : SymbolicWeight) → is_same_weight v w ≡ true → v ≡ w
-same_weight_is (rooted v) (rooted w) e = ap rooted (eqb-true v w e)
-same_weight_is (tailored v) (tailored w) e = ap tailored (eqb-true v w e)
-same_weight_is (rooted v) (tailored w) e = cc
-same_weight_is (tailored v) (rooted w) e = cc
+same_weight_is (Rooted v) (Rooted w) e = ap Rooted (eqb-true v w e)
+same_weight_is (Tailored v) (Tailored w) e = ap Tailored (eqb-true v w e)
+same_weight_is (Rooted v) (Tailored w) e = cc
+same_weight_is (Tailored v) (Rooted w) e = cc
 
 pub is_itself : (w : SymbolicWeight) → is_same_weight w w ≡ true
-is_itself (rooted w) = eq-eqb w w refl
-is_itself (tailored k) = eq-eqb k k refl
+is_itself (Rooted w) = eq-eqb w w refl
+is_itself (Tailored k) = eq-eqb k k refl
 
 both_are : (a b : Bool) → (a && b) ≡ true → (a ≡ true) × (b ≡ true)
 both_are true b e = (refl, e)
@@ -48,28 +51,28 @@ are_themselves (w ∷ ws) = rw (is_itself w, are_themselves ws) refl
 among_rooted : (n : ℕ) (w : SymbolicWeight) (xs : List SymbolicWeight) → IsAmongWeights w xs → IsAmongWeights w (with_rooted n xs)
 unfolding with_rooted
 among_rooted n w [] a = absurd a
-among_rooted n w (tailored k ∷ xs) (inl e) = inl e
-among_rooted n w (tailored k ∷ xs) (inr a) = inr (among_rooted n w xs a)
-among_rooted n w (rooted u ∷ xs) a =
-    let further : IsAmongWeights w (rooted u ∷ with_rooted n xs) = elim a [ inl e ↦ inl e | inr b ↦ inr (among_rooted n w xs b) ] in
-    let later : List SymbolicWeight = if nat_lt n u then rooted n ∷ rooted u ∷ xs else rooted u ∷ with_rooted n xs in
-    either (IsAmongWeights w) (n == u) (rooted u ∷ xs) later (λ _. a)
-    (λ _. either (IsAmongWeights w) (nat_lt n u) (rooted n ∷ rooted u ∷ xs) (rooted u ∷ with_rooted n xs) (λ _. inr a) (λ _. further))
+among_rooted n w (Tailored k ∷ xs) (inl e) = inl e
+among_rooted n w (Tailored k ∷ xs) (inr a) = inr (among_rooted n w xs a)
+among_rooted n w (Rooted u ∷ xs) a =
+    let further : IsAmongWeights w (Rooted u ∷ with_rooted n xs) = elim a [ inl e ↦ inl e | inr b ↦ inr (among_rooted n w xs b) ] in
+    let later : List SymbolicWeight = if nat_lt n u then Rooted n ∷ Rooted u ∷ xs else Rooted u ∷ with_rooted n xs in
+    either (IsAmongWeights w) (n == u) (Rooted u ∷ xs) later (λ _. a)
+    (λ _. either (IsAmongWeights w) (nat_lt n u) (Rooted n ∷ Rooted u ∷ xs) (Rooted u ∷ with_rooted n xs) (λ _. inr a) (λ _. further))
 
 keeps_rooted : (n : ℕ) (v w : SymbolicWeight) (xs : List SymbolicWeight) → IsOrderedBefore v w xs
     → IsOrderedBefore v w (with_rooted n xs)
 unfolding with_rooted
 keeps_rooted n v w [] s = absurd s
-keeps_rooted n v w (tailored k ∷ xs) (inl e) = inl (e.0, among_rooted n w xs e.1)
-keeps_rooted n v w (tailored k ∷ xs) (inr s) = inr (keeps_rooted n v w xs s)
-keeps_rooted n v w (rooted u ∷ xs) s =
-    let further : IsOrderedBefore v w (rooted u ∷ with_rooted n xs) = elim s [
+keeps_rooted n v w (Tailored k ∷ xs) (inl e) = inl (e.0, among_rooted n w xs e.1)
+keeps_rooted n v w (Tailored k ∷ xs) (inr s) = inr (keeps_rooted n v w xs s)
+keeps_rooted n v w (Rooted u ∷ xs) s =
+    let further : IsOrderedBefore v w (Rooted u ∷ with_rooted n xs) = elim s [
       | inl e ↦ inl (e.0, among_rooted n w xs e.1)
       | inr t ↦ inr (keeps_rooted n v w xs t)
     ] in
-    let later : List SymbolicWeight = if nat_lt n u then rooted n ∷ rooted u ∷ xs else rooted u ∷ with_rooted n xs in
-    either (IsOrderedBefore v w) (n == u) (rooted u ∷ xs) later (λ _. s)
-    (λ _. either (IsOrderedBefore v w) (nat_lt n u) (rooted n ∷ rooted u ∷ xs) (rooted u ∷ with_rooted n xs) (λ _. inr s) (λ _. further))
+    let later : List SymbolicWeight = if nat_lt n u then Rooted n ∷ Rooted u ∷ xs else Rooted u ∷ with_rooted n xs in
+    either (IsOrderedBefore v w) (n == u) (Rooted u ∷ xs) later (λ _. s)
+    (λ _. either (IsOrderedBefore v w) (nat_lt n u) (Rooted n ∷ Rooted u ∷ xs) (Rooted u ∷ with_rooted n xs) (λ _. inr s) (λ _. further))
 
 among_behind : (x new w : SymbolicWeight) (xs : List SymbolicWeight) → IsAmongWeights w xs → IsAmongWeights w (with_behind x new xs)
 unfolding with_behind
@@ -110,9 +113,9 @@ siblings_keep tree above siblings keeps other v w s =
 
 weight_keeps : (tree : WeightTree) (above : List SymbolicWeight) (w : SymbolicWeight)
     → KeepsOrder tree (with_weight tree above w)
-weight_keeps tree above (rooted n) =
+weight_keeps tree above (Rooted n) =
     siblings_keep tree above (with_rooted n (tree above)) (λ v w. keeps_rooted n v w (tree above))
-weight_keeps tree above (tailored k) = λ other v w s. s
+weight_keeps tree above (Tailored k) = λ other v w s. s
 
 weights_keep : (tree : WeightTree) (above ws : List SymbolicWeight) → KeepsOrder tree (with_weights tree above ws)
 unfolding with_weights
@@ -131,8 +134,8 @@ new_weight_keeps tree level ws new = λ other v w s.
 
 lesser_keeps : (root : Root) (tree : WeightTree) (above : List SymbolicWeight) (w : SymbolicWeight)
     → KeepsOrder tree (with_lesser root tree above w)
-lesser_keeps root tree above (rooted n) = weight_keeps tree above (rooted (lesser_weight root above n))
-lesser_keeps root tree above (tailored k) = λ other v w s. s
+lesser_keeps root tree above (Rooted n) = weight_keeps tree above (Rooted (lesser_weight root above n))
+lesser_keeps root tree above (Tailored k) = λ other v w s. s
 
 before_keeps : (root : Root) (level : ℕ) (state : TailoringState) → KeepsOrder state.tree (before_step root level state).tree
 unfolding before_step
@@ -151,7 +154,7 @@ reset_keeps root (Some strength) place state =
 difference_keeps : (level : ℕ) (state : TailoringState) → KeepsOrder state.tree (difference_step level state).tree
 unfolding difference_step
 difference_keeps level state =
-    new_weight_keeps state.tree level (last_element (counting_at level state.elements)).weights (tailored state.made)
+    new_weight_keeps state.tree level (last_element (counting_at level state.elements)).weights (Tailored state.made)
 
 strength_keeps : (strength : Strength) (state : TailoringState) → KeepsOrder state.tree (strength_step strength state).tree
 strength_keeps Primary state = difference_keeps 1 state

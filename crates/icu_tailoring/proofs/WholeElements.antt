@@ -2,7 +2,10 @@
 use Rattle.std.proofs.Common.{◌≡◌, ℕ, zero, suc, ◌<◌, ◌≤◌, min, nat_le, List, [], ◌∷◌, ◌++◌, take, if◌then◌else◌, refl, ap, sym, ◌∙◌, arith}
 use Rattle.std.proofs.Math.Nat.{min-le_left, min-le_right}
 use Rattle.std.specs.List.{AllByRecursion}
-use Rattle.icu_tailoring.specs.SymbolicElements.{SymbolicWeight, rooted, SymbolicElement, common_below, to_all_levels, element_with, ignorable}
+use Rattle.icu_tailoring.specs.declared.symbolic.SymbolicWeight.{SymbolicWeight}
+use Rattle.icu_tailoring.specs.declared.symbolic.SymbolicWeight.TheVariants.{Rooted}
+use Rattle.icu_tailoring.specs.declared.symbolic.SymbolicElement.{SymbolicElement}
+use Rattle.icu_tailoring.specs.SymbolicElements.{common_below, to_all_levels, element_with, ignorable}
 use Rattle.icu_tailoring.specs.WeightTrees.{WeightTree, above_level, weight_at_level}
 use Rattle.icu_tailoring.specs.Steps.{counting_at, last_element, with_last_element}
 use Rattle.icu_tailoring.specs.SymbolicOrders.{Numbering, NumbersTree}
@@ -14,20 +17,20 @@ pub record IsWhole (e : SymbolicElement) : Type 0 where
   pub tertiary : SymbolicWeight
   pub quaternary : SymbolicWeight
   pub weights : e.weights ≡ primary ∷ secondary ∷ tertiary ∷ quaternary ∷ []
-  pub no_primary : 1 < e.strength → primary ≡ rooted 0
-  pub no_secondary : 2 < e.strength → secondary ≡ rooted 0
-  pub no_tertiary : 3 < e.strength → tertiary ≡ rooted 0
-  pub no_quaternary : 4 < e.strength → quaternary ≡ rooted 0
+  pub no_primary : 1 < e.strength → primary ≡ Rooted 0
+  pub no_secondary : 2 < e.strength → secondary ≡ Rooted 0
+  pub no_tertiary : 3 < e.strength → tertiary ≡ Rooted 0
+  pub no_quaternary : 4 < e.strength → quaternary ≡ Rooted 0
 
 abbrev pub AreWhole : List SymbolicElement → Type 0
 AreWhole = AllByRecursion IsWhole
 
 pub ignorable_is_whole : IsWhole ignorable
 ignorable_is_whole = record {
-  primary = rooted 0;
-  secondary = rooted 0;
-  tertiary = rooted 0;
-  quaternary = rooted 0;
+  primary = Rooted 0;
+  secondary = Rooted 0;
+  tertiary = Rooted 0;
+  quaternary = Rooted 0;
   weights = refl;
   no_primary = λ _. refl;
   no_secondary = λ _. refl;
@@ -73,7 +76,7 @@ new_whole (suc zero) e x p q w = record {
   primary = x;
   secondary = common_below (x ∷ []);
   tertiary = common_below (x ∷ common_below (x ∷ []) ∷ []);
-  quaternary = rooted 0;
+  quaternary = Rooted 0;
   weights = refl;
   no_primary = λ h. absurd (not_left 1 1 e.strength (omega arith) h);
   no_secondary = λ h. absurd (not_left 2 1 e.strength (omega arith) h);
@@ -84,7 +87,7 @@ new_whole (suc (suc zero)) e x p q w = record {
   primary = w.primary;
   secondary = x;
   tertiary = common_below (w.primary ∷ x ∷ []);
-  quaternary = rooted 0;
+  quaternary = Rooted 0;
   weights = ap (λ ws. to_all_levels (above_level 2 ws ++ x ∷ [])) w.weights;
   no_primary = λ h. w.no_primary (less_right 1 2 e.strength h);
   no_secondary = λ h. absurd (not_left 2 2 e.strength (omega arith) h);
@@ -95,7 +98,7 @@ new_whole (suc (suc (suc zero))) e x p q w = record {
   primary = w.primary;
   secondary = w.secondary;
   tertiary = x;
-  quaternary = rooted 0;
+  quaternary = Rooted 0;
   weights = ap (λ ws. to_all_levels (above_level 3 ws ++ x ∷ [])) w.weights;
   no_primary = λ h. w.no_primary (less_right 1 3 e.strength h);
   no_secondary = λ h. w.no_secondary (less_right 2 3 e.strength h);

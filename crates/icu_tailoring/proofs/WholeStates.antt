@@ -10,7 +10,10 @@ use Rattle.unicode_normalization.specs.Forms.{nfd}
 use Rattle.unicode_normalization.specs.Order.{is_starter}
 use Rattle.icu_entries.specs.Elements.{Element}
 use Rattle.icu_tailoring.specs.Rules.{ResetPlace, at_string, at_position, Rule, reset, relation, suppression, setting, have_character}
-use Rattle.icu_tailoring.specs.SymbolicElements.{SymbolicWeight, rooted, tailored, SymbolicElement, has_tailored_weight, to_all_levels, element_with, first_level, tertiary_of, quaternary_of, of_root}
+use Rattle.icu_tailoring.specs.declared.symbolic.SymbolicWeight.{SymbolicWeight}
+use Rattle.icu_tailoring.specs.declared.symbolic.SymbolicWeight.TheVariants.{Rooted, Tailored}
+use Rattle.icu_tailoring.specs.declared.symbolic.SymbolicElement.{SymbolicElement}
+use Rattle.icu_tailoring.specs.SymbolicElements.{has_tailored_weight, to_all_levels, element_with, first_level, tertiary_of, quaternary_of, of_root}
 use Rattle.icu_tailoring.specs.WeightTrees.{WeightTree}
 use Rattle.icu_tailoring.specs.TailoredRoots.{RootMapping, Root, first_above}
 use Rattle.icu_tailoring.specs.TailoredMappings.{SymbolicMapping, SymbolicMappings, SymbolicMatch, stands_after_prefix, has_no_context, begin_suffix, beginnings, mappings_behind, longer_mapping, longest_suffix, mapping_with, is_blocked_by, joined_marks, match_by, symbolic_match, context_behind, symbolic_along, symbolic_elements}
@@ -42,16 +45,16 @@ root_whole e =
     let t = tertiary_of e in
     let q = quaternary_of e in
     record {
-      primary = rooted p;
-      secondary = rooted s;
-      tertiary = rooted t;
-      quaternary = rooted q;
+      primary = Rooted p;
+      secondary = Rooted s;
+      tertiary = Rooted t;
+      quaternary = Rooted q;
       weights = refl;
-      no_primary = λ h. ap rooted (first_zero p (s ∷ t ∷ q ∷ []) 1 h);
-      no_secondary = λ h. ap rooted (first_zero s (t ∷ q ∷ []) 2 (later_level p (s ∷ t ∷ q ∷ []) 1 2 (omega arith) h));
-      no_tertiary = λ h. ap rooted (first_zero t (q ∷ []) 3
+      no_primary = λ h. ap Rooted (first_zero p (s ∷ t ∷ q ∷ []) 1 h);
+      no_secondary = λ h. ap Rooted (first_zero s (t ∷ q ∷ []) 2 (later_level p (s ∷ t ∷ q ∷ []) 1 2 (omega arith) h));
+      no_tertiary = λ h. ap Rooted (first_zero t (q ∷ []) 3
           (later_level s (t ∷ q ∷ []) 2 3 (omega arith) (later_level p (s ∷ t ∷ q ∷ []) 1 3 (omega arith) h)));
-      no_quaternary = λ h. ap rooted (first_zero q [] 4 (later_level t (q ∷ []) 3 4 (omega arith)
+      no_quaternary = λ h. ap Rooted (first_zero q [] 4 (later_level t (q ∷ []) 3 4 (omega arith)
           (later_level s (t ∷ q ∷ []) 2 4 (omega arith) (later_level p (s ∷ t ∷ q ∷ []) 1 4 (omega arith) h))));
     }
 
@@ -178,9 +181,9 @@ primary_whole p s t q = record {
   no_quaternary = λ h. absurd (omega arith);
 }
 
-secondary_whole : (s t q : SymbolicWeight) → IsWhole (record { weights = rooted 0 ∷ s ∷ t ∷ q ∷ []; strength = 2; case_bits = 0 })
+secondary_whole : (s t q : SymbolicWeight) → IsWhole (record { weights = Rooted 0 ∷ s ∷ t ∷ q ∷ []; strength = 2; case_bits = 0 })
 secondary_whole s t q = record {
-  primary = rooted 0;
+  primary = Rooted 0;
   secondary = s;
   tertiary = t;
   quaternary = q;
@@ -192,10 +195,10 @@ secondary_whole s t q = record {
 }
 
 tertiary_whole : (t q : SymbolicWeight)
-    → IsWhole (record { weights = rooted 0 ∷ rooted 0 ∷ t ∷ q ∷ []; strength = 3; case_bits = 0 })
+    → IsWhole (record { weights = Rooted 0 ∷ Rooted 0 ∷ t ∷ q ∷ []; strength = 3; case_bits = 0 })
 tertiary_whole t q = record {
-  primary = rooted 0;
-  secondary = rooted 0;
+  primary = Rooted 0;
+  secondary = Rooted 0;
   tertiary = t;
   quaternary = q;
   weights = refl;
@@ -220,16 +223,16 @@ primary_last_whole tree p =
     either (MakesWhole 1) (list_any has_tailored_weight (drop 1 last)) last (to_all_levels (p ∷ []))
     (λ _. primary_whole p _ _ _) (λ _. primary_whole p _ _ _)
 
-secondary_last_whole : (tree : WeightTree) (s : SymbolicWeight) → MakesWhole 2 (last_of tree (rooted 0 ∷ s ∷ []))
+secondary_last_whole : (tree : WeightTree) (s : SymbolicWeight) → MakesWhole 2 (last_of tree (Rooted 0 ∷ s ∷ []))
 secondary_last_whole tree s =
-    let last = with_last 2 tree (rooted 0 ∷ s ∷ []) in
-    either (MakesWhole 2) (list_any has_tailored_weight (drop 2 last)) last (to_all_levels (rooted 0 ∷ s ∷ []))
+    let last = with_last 2 tree (Rooted 0 ∷ s ∷ []) in
+    either (MakesWhole 2) (list_any has_tailored_weight (drop 2 last)) last (to_all_levels (Rooted 0 ∷ s ∷ []))
     (λ _. secondary_whole s _ _) (λ _. secondary_whole s _ _)
 
-tertiary_last_whole : (tree : WeightTree) (t : SymbolicWeight) → MakesWhole 3 (last_of tree (rooted 0 ∷ rooted 0 ∷ t ∷ []))
+tertiary_last_whole : (tree : WeightTree) (t : SymbolicWeight) → MakesWhole 3 (last_of tree (Rooted 0 ∷ Rooted 0 ∷ t ∷ []))
 tertiary_last_whole tree t =
-    let last = with_last 1 tree (rooted 0 ∷ rooted 0 ∷ t ∷ []) in
-    either (MakesWhole 3) (list_any has_tailored_weight (drop 3 last)) last (to_all_levels (rooted 0 ∷ rooted 0 ∷ t ∷ []))
+    let last = with_last 1 tree (Rooted 0 ∷ Rooted 0 ∷ t ∷ []) in
+    either (MakesWhole 3) (list_any has_tailored_weight (drop 3 last)) last (to_all_levels (Rooted 0 ∷ Rooted 0 ∷ t ∷ []))
     (λ _. tertiary_whole t _) (λ _. tertiary_whole t _)
 
 run_or : (tree : WeightTree) (run : List SymbolicWeight) (next : SymbolicWeight)
@@ -239,11 +242,11 @@ run_or tree (w ∷ ws) next = lone_whole w
 
 group_whole : (root : Root) (tree : WeightTree) (p : ℕ) → MakesWhole 1 (first_of_group root tree p)
 group_whole root tree p =
-    let next : SymbolicWeight = elim (first_above (root.weights []) p) [ Some w ↦ rooted w | None ↦ rooted p ] in
-    let below = first_of_primary tree (rooted p) in
-    let run = tailored_behind tree [] (rooted p) in
+    let next : SymbolicWeight = elim (first_above (root.weights []) p) [ Some w ↦ Rooted w | None ↦ Rooted p ] in
+    let below = first_of_primary tree (Rooted p) in
+    let run = tailored_behind tree [] (Rooted p) in
     let other : List SymbolicWeight = elim run [ [] ↦ first_of_primary tree next | w ∷ _ ↦ w ∷ [] ] in
-    either (MakesWhole 1) (list_any has_tailored_weight below) below other (λ _. first_whole tree (rooted p)) (λ _. run_or tree run next)
+    either (MakesWhole 1) (list_any has_tailored_weight below) below other (λ _. first_whole tree (Rooted p)) (λ _. run_or tree run next)
 
 position_whole : (root : Root) (tree : WeightTree) (position : LogicalPosition) → IsWhole (position_element root tree position)
 position_whole root tree positions.FirstSecondaryIgnorable = tertiary_whole _ _
@@ -254,7 +257,7 @@ position_whole root tree positions.FirstVariable = group_whole root tree _
 position_whole root tree positions.LastVariable = primary_last_whole tree _
 position_whole root tree positions.FirstRegular = group_whole root tree _
 position_whole root tree positions.LastRegular = primary_last_whole tree _
-position_whole root tree positions.FirstImplicit = first_whole tree (rooted root.first_implicit)
+position_whole root tree positions.FirstImplicit = first_whole tree (Rooted root.first_implicit)
 position_whole root tree positions.FirstTertiaryIgnorable = last_whole [] tt
 position_whole root tree positions.LastTertiaryIgnorable = last_whole [] tt
 position_whole root tree positions.LastImplicit = last_whole [] tt
@@ -330,7 +333,7 @@ difference_whole level state p q w =
     let counting_is = counting_whole level state.elements w.elements in
     record {
       elements = with_last_whole counting _ counting_is
-          (new_whole level (last_element counting) (tailored state.made) p q (last_whole counting counting_is));
+          (new_whole level (last_element counting) (Tailored state.made) p q (last_whole counting counting_is));
       mappings = w.mappings;
     }
 

@@ -4,7 +4,10 @@ use Rattle.unicode_normalization.specs.Forms.{nfd}
 use Rattle.icu_options.specs.declared.settings.Strength.{Strength}
 use Rattle.icu_rules.specs.declared.statement.LogicalPosition.{LogicalPosition}
 use Rattle.icu_tailoring.specs.Rules.{at_string, at_position, Rule, reset, relation}
-use Rattle.icu_tailoring.specs.SymbolicElements.{SymbolicWeight, rooted, tailored, SymbolicElement, is_same_weight}
+use Rattle.icu_tailoring.specs.declared.symbolic.SymbolicWeight.{SymbolicWeight}
+use Rattle.icu_tailoring.specs.declared.symbolic.SymbolicWeight.TheVariants.{Rooted, Tailored}
+use Rattle.icu_tailoring.specs.declared.symbolic.SymbolicElement.{SymbolicElement}
+use Rattle.icu_tailoring.specs.SymbolicElements.{is_same_weight}
 use Rattle.icu_tailoring.specs.WeightTrees.{WeightTree}
 use Rattle.icu_tailoring.specs.TailoredMappings.{symbolic_elements}
 use Rattle.icu_tailoring.specs.Steps.{TailoringState, tailoring_of}
@@ -34,15 +37,15 @@ differs strength s = relation strength [] s []
 -- the last weight of the root up to one of the siblings, with room for 1000 behind it, and how many stand between
 abbrev number_from : ℕ → SymbolicWeight → List SymbolicWeight → ℕ
 number_from n w [] = n
-number_from n w (rooted v ∷ siblings) =
-    if is_same_weight (rooted v) w then 1000 * v else number_from (1000 * v) w siblings
-number_from n w (tailored k ∷ siblings) =
-    if is_same_weight (tailored k) w then n + 1 else number_from (n + 1) w siblings
+number_from n w (Rooted v ∷ siblings) =
+    if is_same_weight (Rooted v) w then 1000 * v else number_from (1000 * v) w siblings
+number_from n w (Tailored k ∷ siblings) =
+    if is_same_weight (Tailored k) w then n + 1 else number_from (n + 1) w siblings
 
 abbrev number_of : WeightTree → List SymbolicWeight → List SymbolicWeight → ℕ
 number_of tree above [] = 0
-number_of tree above (rooted w ∷ []) = 1000 * w
-number_of tree above (tailored k ∷ []) = number_from 0 (tailored k) (tree above)
+number_of tree above (Rooted w ∷ []) = 1000 * w
+number_of tree above (Tailored k ∷ []) = number_from 0 (Tailored k) (tree above)
 number_of tree above (w ∷ v ∷ ws) = number_of tree (above ++ w ∷ []) (v ∷ ws)
 
 abbrev numbers : WeightTree → Numbering

@@ -1,7 +1,8 @@
 -- Weights of the root keep their order.
 use Rattle.std.specs.Prelude.{ℕ, ◌<◌, List}
 use Rattle.icu_tailoring.specs.Rules.{Rule}
-use Rattle.icu_tailoring.specs.SymbolicElements.{SymbolicWeight, rooted}
+use Rattle.icu_tailoring.specs.declared.symbolic.SymbolicWeight.{SymbolicWeight}
+use Rattle.icu_tailoring.specs.declared.symbolic.SymbolicWeight.TheVariants.{Rooted}
 use Rattle.icu_tailoring.specs.TailoredRoots.{Root}
 use Rattle.icu_tailoring.specs.Steps.{tailoring_of}
 use Rattle.icu_tailoring.specs.SymbolicOrders.{IsOrderedBefore}
@@ -9,4 +10,4 @@ use Rattle.icu_tailoring.specs.SymbolicOrders.{IsOrderedBefore}
 -- among siblings the weights of the root ascend, whatever the rules are
 abbrev pub WeightsOfTheRootAscend : Type 0
 WeightsOfTheRootAscend = (root : Root) (rules : List Rule) (above : List SymbolicWeight) (v w : ℕ)
-    → IsOrderedBefore (rooted v) (rooted w) ((tailoring_of root rules).tree above) → v < w
+    → IsOrderedBefore (Rooted v) (Rooted w) ((tailoring_of root rules).tree above) → v < w

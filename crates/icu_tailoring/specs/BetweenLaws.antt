@@ -3,7 +3,8 @@ use Rattle.std.specs.Prelude.{ℕ, ◌≡◌, ◌<◌, List, [], ◌∷◌, ◌+
 use Rattle.icu_options.specs.declared.settings.Strength.{Strength}
 use Rattle.icu_options.specs.declared.settings.Strength.TheVariants.{Identical}
 use Rattle.icu_tailoring.specs.Rules.{Rule, relation, level_of}
-use Rattle.icu_tailoring.specs.SymbolicElements.{SymbolicWeight, rooted, tailored}
+use Rattle.icu_tailoring.specs.declared.symbolic.SymbolicWeight.{SymbolicWeight}
+use Rattle.icu_tailoring.specs.declared.symbolic.SymbolicWeight.TheVariants.{Rooted, Tailored}
 use Rattle.icu_tailoring.specs.WeightTrees.{above_level, weight_at_level, with_weight}
 use Rattle.icu_tailoring.specs.TailoredRoots.{Root}
 use Rattle.icu_tailoring.specs.RelationLaws.{weights_before}
@@ -18,7 +19,7 @@ number_below numbering level weights w = numbering (above_level level weights ++
 abbrev pub IsNotBetween : Numbering → ℕ → List SymbolicWeight → SymbolicWeight → ℕ → Type 0
 IsNotBetween numbering level weights new w =
     let number = number_below numbering level weights in
-    number (weight_at_level level weights) < number (rooted w) → number (rooted w) < number new → ⊥
+    number (weight_at_level level weights) < number (Rooted w) → number (Rooted w) < number new → ⊥
 
 -- No weight of the root lies between the weight that a relation makes and the one that it differs from, whatever rules
 -- follow, and whatever numbers they and that weight of the root get in their order.
@@ -29,5 +30,5 @@ NothingOfTheRootIsBetween = (root : Root) (earlier later : List Rule) (strength 
     → let level = level_of strength in
     let weights = weights_before root earlier level in
     let last = tailoring_of root (earlier ++ relation strength prefix string extension ∷ later) in
-    NumbersTree (with_weight last.tree (above_level level weights) (rooted w)) numbering
-    → IsNotBetween numbering level weights (tailored (tailoring_of root earlier).made) w
+    NumbersTree (with_weight last.tree (above_level level weights) (Rooted w)) numbering
+    → IsNotBetween numbering level weights (Tailored (tailoring_of root earlier).made) w

@@ -4,7 +4,8 @@ use Rattle.unicode_normalization.specs.Forms.{nfd}
 use Rattle.icu_options.specs.declared.settings.Strength.{Strength}
 use Rattle.icu_options.specs.declared.settings.Strength.TheVariants.{Identical}
 use Rattle.icu_tailoring.specs.Rules.{Rule, relation, level_of}
-use Rattle.icu_tailoring.specs.SymbolicElements.{SymbolicWeight, SymbolicElement}
+use Rattle.icu_tailoring.specs.declared.symbolic.SymbolicWeight.{SymbolicWeight}
+use Rattle.icu_tailoring.specs.declared.symbolic.SymbolicElement.{SymbolicElement}
 use Rattle.icu_tailoring.specs.TailoredRoots.{Root}
 use Rattle.icu_tailoring.specs.TailoredMappings.{symbolic_elements}
 use Rattle.icu_tailoring.specs.Steps.{counting_at, last_element, tailoring_of}

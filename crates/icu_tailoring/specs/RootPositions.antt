@@ -3,7 +3,10 @@ use Rattle.std.specs.Prelude.{ℕ, zero, suc, not, ◌==◌, ◌-◌, if◌then�
 use Rattle.std.specs.List.{list_any}
 use Rattle.icu_rules.specs.declared.statement.LogicalPosition.{LogicalPosition}
 use Rattle.icu_rules.specs.declared.statement.LogicalPosition.TheVariants as positions
-use Rattle.icu_tailoring.specs.SymbolicElements.{SymbolicWeight, rooted, SymbolicElement, has_tailored_weight, is_same_weight, common_below, to_all_levels, element_with, ignorable}
+use Rattle.icu_tailoring.specs.declared.symbolic.SymbolicWeight.{SymbolicWeight}
+use Rattle.icu_tailoring.specs.declared.symbolic.SymbolicWeight.TheVariants.{Rooted}
+use Rattle.icu_tailoring.specs.declared.symbolic.SymbolicElement.{SymbolicElement}
+use Rattle.icu_tailoring.specs.SymbolicElements.{has_tailored_weight, is_same_weight, common_below, to_all_levels, element_with, ignorable}
 use Rattle.icu_tailoring.specs.WeightTrees.{WeightTree, put_behind}
 use Rattle.icu_tailoring.specs.TailoredRoots.{Root, first_above}
 
@@ -67,38 +70,38 @@ last_of tree above =
 -- the last of what was tailored behind a weight of the root, at its level and below
 abbrev pub last_from : WeightTree → List SymbolicWeight → ℕ → List SymbolicWeight
 last_from tree above w =
-    last_of tree (above ++ last_weight (rooted w) (tailored_behind tree above (rooted w)) ∷ [])
+    last_of tree (above ++ last_weight (Rooted w) (tailored_behind tree above (Rooted w)) ∷ [])
 
 -- What was tailored first behind or below the weight that begins a group, or the next primary weight of the root: the
 -- first weight of a group is of no text.
 abbrev pub first_of_group : Root → WeightTree → ℕ → List SymbolicWeight
 first_of_group root tree p =
-    let next : SymbolicWeight = elim (first_above (root.weights []) p) [ Some w ↦ rooted w | None ↦ rooted p ] in
-    let below = first_of_primary tree (rooted p) in
+    let next : SymbolicWeight = elim (first_above (root.weights []) p) [ Some w ↦ Rooted w | None ↦ Rooted p ] in
+    let below = first_of_primary tree (Rooted p) in
     if list_any has_tailored_weight below then below
-    else (elim (tailored_behind tree [] (rooted p)) [
+    else (elim (tailored_behind tree [] (Rooted p)) [
       | [] ↦ first_of_primary tree next
       | w ∷ _ ↦ w ∷ []
     ])
 
 -- the first tailored weight behind 0 below these, or else a weight of the root
 abbrev pub first_ignored : WeightTree → List SymbolicWeight → ℕ → SymbolicWeight
-first_ignored tree above w = first_weight_or (rooted w) (tailored_behind tree above (rooted 0))
+first_ignored tree above w = first_weight_or (Rooted w) (tailored_behind tree above (Rooted 0))
 
 -- the element of a logical position; of those that no rule may name, the one that is ignorable
 abbrev pub position_element : Root → WeightTree → LogicalPosition → SymbolicElement
 position_element root tree positions.FirstSecondaryIgnorable =
-    let above : List SymbolicWeight = rooted 0 ∷ rooted 0 ∷ [] in
+    let above : List SymbolicWeight = Rooted 0 ∷ Rooted 0 ∷ [] in
     let first = first_number (nonzero_weights (root.weights (0 ∷ 0 ∷ []))) in
     element_with (above ++ first_ignored tree above first ∷ []) 3
 position_element root tree positions.LastSecondaryIgnorable =
-    element_with (last_from tree (rooted 0 ∷ rooted 0 ∷ []) (last_number 0 (root.weights (0 ∷ 0 ∷ [])))) 3
+    element_with (last_from tree (Rooted 0 ∷ Rooted 0 ∷ []) (last_number 0 (root.weights (0 ∷ 0 ∷ [])))) 3
 position_element root tree positions.FirstPrimaryIgnorable =
-    let above : List SymbolicWeight = rooted 0 ∷ [] in
+    let above : List SymbolicWeight = Rooted 0 ∷ [] in
     let first = first_number (nonzero_weights (root.weights (0 ∷ []))) in
     element_with (above ++ first_ignored tree above first ∷ []) 2
 position_element root tree positions.LastPrimaryIgnorable =
-    element_with (last_from tree (rooted 0 ∷ []) (last_number 0 (root.weights (0 ∷ [])))) 2
+    element_with (last_from tree (Rooted 0 ∷ []) (last_number 0 (root.weights (0 ∷ [])))) 2
 position_element root tree positions.FirstVariable =
     element_with (first_of_group root tree (first_number (root.weights []))) 1
 position_element root tree positions.LastVariable = element_with (last_from tree [] root.last_variable) 1
@@ -106,5 +109,5 @@ position_element root tree positions.FirstRegular =
     let first : ℕ = elim (first_above (root.weights []) root.last_variable) [ Some w ↦ w | None ↦ 0 ] in
     element_with (first_of_group root tree first) 1
 position_element root tree positions.LastRegular = element_with (last_from tree [] root.last_regular) 1
-position_element root tree positions.FirstImplicit = element_with (first_of_primary tree (rooted root.first_implicit)) 1
+position_element root tree positions.FirstImplicit = element_with (first_of_primary tree (Rooted root.first_implicit)) 1
 position_element root tree _ = ignorable

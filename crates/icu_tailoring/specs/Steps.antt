@@ -6,7 +6,10 @@ use Rattle.icu_options.specs.declared.settings.Strength.TheVariants.{Primary, Se
 use Rattle.icu_rules.specs.declared.statement.CharacterRange.{CharacterRange}
 use Rattle.icu_rules.specs.declared.statement.RuleSetting.{RuleSetting}
 use Rattle.icu_tailoring.specs.Rules.{ResetPlace, at_string, at_position, Rule, reset, relation, suppression, setting, level_of, have_character}
-use Rattle.icu_tailoring.specs.SymbolicElements.{SymbolicWeight, rooted, tailored, SymbolicElement, element_with, ignorable}
+use Rattle.icu_tailoring.specs.declared.symbolic.SymbolicWeight.{SymbolicWeight}
+use Rattle.icu_tailoring.specs.declared.symbolic.SymbolicWeight.TheVariants.{Rooted, Tailored}
+use Rattle.icu_tailoring.specs.declared.symbolic.SymbolicElement.{SymbolicElement}
+use Rattle.icu_tailoring.specs.SymbolicElements.{element_with, ignorable}
 use Rattle.icu_tailoring.specs.WeightTrees.{WeightTree, first_tree, with_weight, with_weights, with_new_weight, directly_before, above_level, weight_at_level}
 use Rattle.icu_tailoring.specs.TailoredRoots.{Root, lesser_weight}
 use Rattle.icu_tailoring.specs.TailoredMappings.{SymbolicMapping, SymbolicMappings, root_mappings, has_no_context, with_mapping, with_mappings, symbolic_elements}
@@ -58,8 +61,8 @@ place_elements root state (at_position position) = position_element root state.t
 
 -- a tree where the next lesser weight of the root stands before one of the root
 abbrev pub with_lesser : Root → WeightTree → List SymbolicWeight → SymbolicWeight → WeightTree
-with_lesser root tree above (rooted w) = with_weight tree above (rooted (lesser_weight root above w))
-with_lesser root tree above (tailored k) = tree
+with_lesser root tree above (Rooted w) = with_weight tree above (Rooted (lesser_weight root above w))
+with_lesser root tree above (Tailored k) = tree
 
 -- `[before n]`: the last element that counts at the level has there the weight before its own
 unfoldable pub before_step : Root → ℕ → TailoringState → TailoringState
@@ -92,7 +95,7 @@ unfoldable pub difference_step : ℕ → TailoringState → TailoringState
 difference_step level state =
     let counting = counting_at level state.elements in
     let e = last_element counting in
-    let new = tailored state.made in
+    let new = Tailored state.made in
     let different = element_with (above_level level e.weights ++ new ∷ []) (min level e.strength) in
     record state {
       tree = with_new_weight state.tree level e.weights new;

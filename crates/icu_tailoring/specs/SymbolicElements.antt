@@ -1,23 +1,14 @@
 -- Elements while rules are read, when tailored weights have no numbers yet (UTS #35 part 5, "Collation Tailorings").
 use Rattle.std.specs.Prelude.{ℕ, zero, suc, Bool, true, false, ◌||◌, ◌&&◌, ◌==◌, ◌+◌, ◌-◌, ◌/◌, ◌%◌, ◌^◌, bit_and, if◌then◌else◌, List, [], ◌∷◌, ◌++◌, length, map}
 use Rattle.icu_entries.specs.Elements.{Element, common, tertiary_mask}
-
--- a weight of the root by its number, or a tailored one by how many were made before it
-pub data SymbolicWeight : Type 0 where
-  rooted : ℕ → SymbolicWeight
-  tailored : ℕ → SymbolicWeight
-
--- A weight of each of the four levels; the first level at which the element counts, or 5 where it counts at none; and
--- its case bits.
-pub record SymbolicElement : Type 0 where
-  pub weights : List SymbolicWeight
-  pub strength : ℕ
-  pub case_bits : ℕ
+use Rattle.icu_tailoring.specs.declared.symbolic.SymbolicWeight.{SymbolicWeight}
+use Rattle.icu_tailoring.specs.declared.symbolic.SymbolicWeight.TheVariants.{Rooted, Tailored}
+use Rattle.icu_tailoring.specs.declared.symbolic.SymbolicElement.{SymbolicElement}
 
 -- two weights are the same
 abbrev pub is_same_weight : SymbolicWeight → SymbolicWeight → Bool
-is_same_weight (rooted v) (rooted w) = v == w
-is_same_weight (tailored i) (tailored j) = i == j
+is_same_weight (Rooted v) (Rooted w) = v == w
+is_same_weight (Tailored i) (Tailored j) = i == j
 is_same_weight _ _ = false
 
 -- two lists of weights are the same
@@ -28,19 +19,19 @@ are_same_weights _ _ = false
 
 -- the weight is tailored
 abbrev pub has_tailored_weight : SymbolicWeight → Bool
-has_tailored_weight (rooted w) = false
-has_tailored_weight (tailored k) = true
+has_tailored_weight (Rooted w) = false
+has_tailored_weight (Tailored k) = true
 
 -- the last weight is 0
 abbrev pub ends_with_zero : List SymbolicWeight → Bool
 ends_with_zero [] = false
-ends_with_zero (w ∷ []) = is_same_weight w (rooted 0)
+ends_with_zero (w ∷ []) = is_same_weight w (Rooted 0)
 ends_with_zero (w ∷ v ∷ ws) = ends_with_zero (v ∷ ws)
 
 -- The common weight below the weights of the levels before: 0 below 0, and at the quaternary level (UTS #10,
 -- "Collation Weights, Elements, and Keys").
 abbrev pub common_below : List SymbolicWeight → SymbolicWeight
-common_below above = if length above == 3 || ends_with_zero above then rooted 0 else rooted common
+common_below above = if length above == 3 || ends_with_zero above then Rooted 0 else Rooted common
 
 -- weights with common weights on so many levels below
 abbrev pub with_common : ℕ → List SymbolicWeight → List SymbolicWeight
@@ -75,11 +66,11 @@ weights_of e = e.primary ∷ e.secondary ∷ tertiary_of e ∷ quaternary_of e �
 -- an element of the root
 abbrev pub of_root : Element → SymbolicElement
 of_root e = record {
-  weights = map rooted (weights_of e);
+  weights = map Rooted (weights_of e);
   strength = first_level 1 (weights_of e);
   case_bits = e.lower / 2 ^ 14;
 }
 
 -- the element that counts at no level
 abbrev pub ignorable : SymbolicElement
-ignorable = element_with (rooted 0 ∷ []) 5
+ignorable = element_with (Rooted 0 ∷ []) 5

@@ -3,7 +3,9 @@ use Rattle.std.specs.Prelude.{ℕ, ◌≡◌, ◌<◌, ◌≤◌, ◌⊎◌, ◌
 use Rattle.std.specs.declared.cmp.Ordering.{Ordering}
 use Rattle.std.specs.declared.cmp.Ordering.TheVariants.{Less}
 use Rattle.icu_levels.specs.ListOrder.{list_order}
-use Rattle.icu_tailoring.specs.SymbolicElements.{SymbolicWeight, rooted, SymbolicElement}
+use Rattle.icu_tailoring.specs.declared.symbolic.SymbolicWeight.{SymbolicWeight}
+use Rattle.icu_tailoring.specs.declared.symbolic.SymbolicWeight.TheVariants.{Rooted}
+use Rattle.icu_tailoring.specs.declared.symbolic.SymbolicElement.{SymbolicElement}
 use Rattle.icu_tailoring.specs.WeightTrees.{WeightTree}
 
 -- a number for each weight, which is given with the weights of the levels before it
@@ -22,7 +24,7 @@ IsOrderedBefore v w (x ∷ siblings) = ((x ≡ v) × IsAmongWeights w siblings) 
 
 -- the weight 0 has the number 0, and numbers ascend among siblings
 pub record NumbersTree (tree : WeightTree) (numbering : Numbering) : Type 0 where
-  pub zero : (above : List SymbolicWeight) → numbering (above ++ rooted 0 ∷ []) ≡ 0
+  pub zero : (above : List SymbolicWeight) → numbering (above ++ Rooted 0 ∷ []) ≡ 0
   pub ascends : (above : List SymbolicWeight) (v w : SymbolicWeight) → IsOrderedBefore v w (tree above)
       → numbering (above ++ v ∷ []) < numbering (above ++ w ∷ [])
 

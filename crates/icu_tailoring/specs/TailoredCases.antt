@@ -1,7 +1,7 @@
 -- Case bits of tailored elements (UTS #35 part 5, "Case Parameters").
 use Rattle.std.specs.Prelude.{ℕ, zero, suc, Bool, ◌==◌, if◌then◌else◌, List, [], ◌∷◌, map, filter, length}
 use Rattle.std.specs.List.{list_all}
-use Rattle.icu_tailoring.specs.SymbolicElements.{SymbolicElement}
+use Rattle.icu_tailoring.specs.declared.symbolic.SymbolicElement.{SymbolicElement}
 
 -- the element counts at this level first
 abbrev pub counts_first_at : ℕ → SymbolicElement → Bool

@@ -4,7 +4,8 @@ use Rattle.std.specs.Prelude.{ℕ, Bool, not, ◌&&◌, ◌==◌, nat_le, nat_lt
 use Rattle.std.specs.List.{list_any, starts_with}
 use Rattle.ucd_normal.specs.CanonicalCombiningClass.{canonical_combining_class as class_of}
 use Rattle.unicode_normalization.specs.Order.{is_starter}
-use Rattle.icu_tailoring.specs.SymbolicElements.{SymbolicElement, of_root}
+use Rattle.icu_tailoring.specs.declared.symbolic.SymbolicElement.{SymbolicElement}
+use Rattle.icu_tailoring.specs.SymbolicElements.{of_root}
 use Rattle.icu_tailoring.specs.TailoredRoots.{RootMapping, Root}
 
 -- the elements of a character behind a prefix, nearest character first, with the suffix after it

@@ -1,7 +1,9 @@
 -- What rules ask of the root (UTS #35 part 5, "Root Collation").
 use Rattle.std.specs.Prelude.{ℕ, nat_lt, if◌then◌else◌, List, [], ◌∷◌, Option, Some, None}
 use Rattle.icu_entries.specs.Elements.{Element}
-use Rattle.icu_tailoring.specs.SymbolicElements.{SymbolicWeight, rooted, tailored, ends_with_zero}
+use Rattle.icu_tailoring.specs.declared.symbolic.SymbolicWeight.{SymbolicWeight}
+use Rattle.icu_tailoring.specs.declared.symbolic.SymbolicWeight.TheVariants.{Rooted, Tailored}
+use Rattle.icu_tailoring.specs.SymbolicElements.{ends_with_zero}
 
 -- the elements of a character behind a prefix, nearest character first, with the suffix after it
 pub record RootMapping : Type 0 where
@@ -33,8 +35,8 @@ first_above (v ∷ vs) w = if nat_lt w v then Some v else first_above vs w
 -- the weights of the root, where none is tailored
 abbrev pub numbers_of : List SymbolicWeight → Option (List ℕ)
 numbers_of [] = Some []
-numbers_of (tailored k ∷ ws) = None
-numbers_of (rooted w ∷ ws) = elim (numbers_of ws) [ None ↦ None | Some rest ↦ Some (w ∷ rest) ]
+numbers_of (Tailored k ∷ ws) = None
+numbers_of (Rooted w ∷ ws) = elim (numbers_of ws) [ None ↦ None | Some rest ↦ Some (w ∷ rest) ]
 
 -- below all weights of a level
 abbrev pub lowest : ℕ

@@ -1,7 +1,9 @@
 -- The order of weights while rules are read (UTS #35 part 5, "Collation Tailorings"): below the weights of the levels
 -- before stand weights of the next level, ascending, those of the root that were asked for and the tailored ones.
 use Rattle.std.specs.Prelude.{ℕ, ◌==◌, ◌-◌, nat_lt, if◌then◌else◌, List, [], ◌∷◌, ◌++◌, Option, Some, None, take, slice_index_or}
-use Rattle.icu_tailoring.specs.SymbolicElements.{SymbolicWeight, rooted, tailored, is_same_weight, are_same_weights, common_below}
+use Rattle.icu_tailoring.specs.declared.symbolic.SymbolicWeight.{SymbolicWeight}
+use Rattle.icu_tailoring.specs.declared.symbolic.SymbolicWeight.TheVariants.{Rooted, Tailored}
+use Rattle.icu_tailoring.specs.SymbolicElements.{is_same_weight, are_same_weights, common_below}
 
 -- the weights below those of the levels before, ascending
 abbrev pub WeightTree : Type 0
@@ -19,12 +21,12 @@ with_siblings tree above siblings = λ other. if are_same_weights other above th
 -- siblings with a weight of the root in its place: before the first greater one of the root, behind what was tailored
 -- after lesser ones
 unfoldable pub with_rooted : ℕ → List SymbolicWeight → List SymbolicWeight
-with_rooted w [] = rooted w ∷ []
-with_rooted w (tailored k ∷ siblings) = tailored k ∷ with_rooted w siblings
-with_rooted w (rooted v ∷ siblings) =
-    if w == v then rooted v ∷ siblings
-    else if nat_lt w v then rooted w ∷ rooted v ∷ siblings
-    else rooted v ∷ with_rooted w siblings
+with_rooted w [] = Rooted w ∷ []
+with_rooted w (Tailored k ∷ siblings) = Tailored k ∷ with_rooted w siblings
+with_rooted w (Rooted v ∷ siblings) =
+    if w == v then Rooted v ∷ siblings
+    else if nat_lt w v then Rooted w ∷ Rooted v ∷ siblings
+    else Rooted v ∷ with_rooted w siblings
 
 -- siblings with a new weight directly behind one of them, or both at the end where that one isn't among them
 unfoldable pub with_behind : SymbolicWeight → SymbolicWeight → List SymbolicWeight → List SymbolicWeight
@@ -52,12 +54,12 @@ above_level level weights = take (level - 1) weights
 
 -- the weight of a level
 abbrev pub weight_at_level : ℕ → List SymbolicWeight → SymbolicWeight
-weight_at_level level weights = slice_index_or weights (level - 1) (rooted 0)
+weight_at_level level weights = slice_index_or weights (level - 1) (Rooted 0)
 
 -- a tree with a weight of the root in its place below others
 abbrev pub with_weight : WeightTree → List SymbolicWeight → SymbolicWeight → WeightTree
-with_weight tree above (rooted w) = with_siblings tree above (with_rooted w (tree above))
-with_weight tree above (tailored k) = tree
+with_weight tree above (Rooted w) = with_siblings tree above (with_rooted w (tree above))
+with_weight tree above (Tailored k) = tree
 
 -- a tree with weights of levels one below another in their places, where they are of the root
 unfoldable pub with_weights : WeightTree → List SymbolicWeight → List SymbolicWeight → WeightTree

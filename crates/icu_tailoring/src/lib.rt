@@ -7,6 +7,10 @@ ghost use Rattle.icu_tailoring.specs.BetweenLaws.{NothingOfTheRootIsBetween};
 ghost use Rattle.icu_tailoring.specs.RelationLaws.{ExtendedRelationsHold, RelationsHold, UnmovedStringsAreRelated};
 ghost use Rattle.icu_tailoring.specs.RootLaws.{UntouchedTextsKeepElements};
 
+pub mod symbolic;
+
+pub use symbolic::{SymbolicElement, SymbolicWeight};
+
 /// A text none of whose decomposed characters is touched by a rule has the elements that it has in the root.
 pub fn untouched_texts_keep_elements()
     ensures { UntouchedTextsKeepElements }

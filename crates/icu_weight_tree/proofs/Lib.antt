@@ -1,0 +1,6 @@
+mod SiblingLemmas
+mod ParentOrderLemmas
+mod ListedTreeLemmas
+mod TreeLoopLemmas
+mod CountingLemmas
+mod RuleStateLemmas

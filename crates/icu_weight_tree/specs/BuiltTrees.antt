@@ -1,0 +1,29 @@
+-- The tree of weights, as lists of siblings that were begun.
+use Rattle.std.specs.Prelude.{Bool, List, [], ◌∷◌, Option, Some, None}
+use Rattle.std.specs.Map.{lookup}
+use Rattle.icu_tailoring.specs.declared.symbolic.SymbolicWeight.{SymbolicWeight}
+use Rattle.icu_tailoring.specs.SymbolicElements.{are_same_weights}
+use Rattle.icu_tailoring.specs.WeightTrees.{WeightTree, first_tree}
+use Rattle.icu_weight_tree.specs.declared.parents.Parents.{Parents}
+use Rattle.icu_weight_tree.specs.declared.parents.Parents.TheVariants.{Nothing, Primary, Secondary, Tertiary}
+use Rattle.icu_weight_tree.specs.declared.siblings.Siblings.{Siblings}
+
+-- weights one below another
+abbrev pub parent_weights : Parents → List SymbolicWeight
+parent_weights Nothing = []
+parent_weights (Primary p) = p ∷ []
+parent_weights (Secondary p s) = p ∷ s ∷ []
+parent_weights (Tertiary p s t) = p ∷ s ∷ t ∷ []
+
+-- these are the weights of the parents
+abbrev pub are_parents : List SymbolicWeight → Parents → Bool
+are_parents above parents = are_same_weights above (parent_weights parents)
+
+-- the siblings of a list, if it was begun; else the common weight alone
+abbrev pub begun_siblings : List SymbolicWeight → Option Siblings → List SymbolicWeight
+begun_siblings above None = first_tree above
+begun_siblings above (Some siblings) = siblings.weights.items
+
+-- the tree that lists of siblings are of
+abbrev pub tree_in : List (Parents × Siblings) → WeightTree
+tree_in lists above = begun_siblings above (lookup (are_parents above) lists)

@@ -1,0 +1,4 @@
+pub mod BuiltTrees
+pub mod TreeBuilders
+pub mod RuleStates
+pub mod inner

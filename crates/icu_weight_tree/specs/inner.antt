@@ -1,0 +1,2 @@
+pub mod SiblingPlaces
+pub mod SiblingChanges

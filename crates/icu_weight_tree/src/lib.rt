@@ -1,0 +1,15 @@
+//! The order of weights while rules are read.
+#![tactic(auto)]
+
+mod change;
+mod counting_elements;
+mod lists;
+mod parents;
+pub mod root_weights;
+pub mod rule_elements;
+mod siblings;
+pub mod tree;
+
+pub use root_weights::RootWeights;
+pub use rule_elements::RuleElements;
+pub use tree::WeightTreeBuilder;
