@@ -1,0 +1,6 @@
+pub mod TierLemmas
+pub mod SuffixLemmas
+pub mod JoinLemmas
+pub mod AlongLemmas
+pub mod KeptMappingLemmas
+pub mod ReadLemmas
