@@ -4,3 +4,4 @@ pub mod JoinLemmas
 pub mod AlongLemmas
 pub mod KeptMappingLemmas
 pub mod ReadLemmas
+pub mod StringCaseLemmas

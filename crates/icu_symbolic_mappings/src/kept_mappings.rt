@@ -128,7 +128,7 @@ impl<'r, R: RootMappings> Mappings<'r, R> {
     fn put(&mut self, alloc: Global, c: char, new: SymbolicMapping) -> Result<(), AllocError>
         ensures { OnOk result (mappings_in R.mappings_of self.new
             ≡ with_mappings (mappings_in R.mappings_of self.old) c
-                (with_mapping (symbolic_mapping new) (mappings_in R.mappings_of self.old c))) }
+            (with_mapping (symbolic_mapping new) (mappings_in R.mappings_of self.old c))) }
     {
         let mut own = match self.touched.remove(&c) {
             Some(own) => own,

@@ -9,7 +9,9 @@ mod mark_joining;
 mod matching;
 mod reading;
 pub mod roots;
+pub mod string_cases;
 
 pub use character_mapping::{CharacterMapping, SymbolicMapping};
 pub use kept_mappings::Mappings;
 pub use roots::{RootMappings, of_root};
+pub use string_cases::cased_elements;

@@ -50,7 +50,7 @@ pub(crate) fn join_marks<'m>(
 ) -> &'m SymbolicMapping
     ensures { match_left_by (Some (symbolic_mapping result.now)) text.new
         ≡ joined_marks (lent_mappings mappings.now) (symbolic_mapping begun.now)
-            [] (unread text.old) }
+        [] (unread text.old) }
 {
     let mut found = begun;
     let mut passed = 0;

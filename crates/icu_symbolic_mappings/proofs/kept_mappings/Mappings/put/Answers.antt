@@ -27,10 +27,10 @@ returns g c =
     let stored : symbolic_mappings own.items ≡ with_mapping (symbolic_mapping c.args.new) (mappings_in root held c.args.c) =
     c.in_ok-put_mapping.ensures ∙ ap (with_mapping (symbolic_mapping c.args.new)) was in
     fun_ext (λ (q : ℕ).
-      let d : List SymbolicMapping = untouched_mappings root held q in
-      let before : Option Own = get nat_cmp held.touched q in
-      let now_at : get nat_cmp c.insert.new.self q ≡ cond (is_at (nat_cmp c.args.c) q) (Some own) (get nat_cmp c.remove.new.self q) = c.in_ok-insert.ensures.updates.0 q in
-      let gone_at : get nat_cmp c.remove.new.self q ≡ cond (is_at (nat_cmp c.args.c) q) None before = c.remove.ensures.updates.0 q in
-      ap (λ o. own_or o d) (now_at ∙ ap (λ o. cond (is_at (nat_cmp c.args.c) q) (Some own) o) gone_at)
-      ∙ put_at c.args.c q own before d
-      ∙ ap (λ (ms : List SymbolicMapping). if q == c.args.c then ms else own_or before d) stored)
+    let d : List SymbolicMapping = untouched_mappings root held q in
+    let before : Option Own = get nat_cmp held.touched q in
+    let now_at : get nat_cmp c.insert.new.self q ≡ cond (is_at (nat_cmp c.args.c) q) (Some own) (get nat_cmp c.remove.new.self q) = c.in_ok-insert.ensures.updates.0 q in
+    let gone_at : get nat_cmp c.remove.new.self q ≡ cond (is_at (nat_cmp c.args.c) q) None before = c.remove.ensures.updates.0 q in
+    ap (λ o. own_or o d) (now_at ∙ ap (λ o. cond (is_at (nat_cmp c.args.c) q) (Some own) o) gone_at)
+    ∙ put_at c.args.c q own before d
+    ∙ ap (λ (ms : List SymbolicMapping). if q == c.args.c then ms else own_or before d) stored)

@@ -19,7 +19,7 @@ returns g c = λ state same.
     let ranges : List CharacterRange = c.args.ranges.now in
     let more : c.extend_from_slice.new.self.items ≡ held.suppressed.items ++ ranges = c.in_ok-extend_from_slice.ensures.items in
     let each : (q : ℕ) → suppressed_at ranges q (mappings_in root held q) ≡ own_or (get nat_cmp c.retain.new.self q) (suppressed_at c.extend_from_slice.new.self.items q (map mapping_of_root (root held.root.now q))) = λ q.
-      let all : List SymbolicMapping = map mapping_of_root (root held.root.now q) in
-      sym (retained_at _ _ ranges (λ k v b w h t. search rules) held.touched.entries c.retain.new.self.entries c.retain.ensures.filtered q (untouched_mappings root held q))
-      ∙ ap (own_or (get nat_cmp c.retain.new.self q)) (suppressed_more held.suppressed.items ranges q all ∙ ap (λ rs. suppressed_at rs q all) (sym more)) in
+    let all : List SymbolicMapping = map mapping_of_root (root held.root.now q) in
+    sym (retained_at _ _ ranges (λ k v b w h t. search rules) held.touched.entries c.retain.new.self.entries c.retain.ensures.filtered q (untouched_mappings root held q))
+    ∙ ap (own_or (get nat_cmp c.retain.new.self q)) (suppressed_more held.suppressed.items ranges q all ∙ ap (λ rs. suppressed_at rs q all) (sym more)) in
     ap (λ (ms : SymbolicMappings). λ (q : ℕ). suppressed_at ranges q (ms q)) same ∙ fun_ext each
