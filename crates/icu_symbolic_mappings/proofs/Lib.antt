@@ -1,0 +1,7 @@
+pub mod TierLemmas
+pub mod SuffixLemmas
+pub mod JoinLemmas
+pub mod AlongLemmas
+pub mod KeptMappingLemmas
+pub mod ReadLemmas
+pub mod StringCaseLemmas

@@ -1,0 +1,36 @@
+use Rattle.std.proofs.Common.{◌≡◌, ◌==◌, ℕ, List, Option, Some, None, cond, if◌then◌else◌, rules, sym, ap, ◌∙◌}
+use mathlib.Core.Path.{fun_ext}
+use Rattle.std.specs.Ordering.{nat_cmp}
+use Rattle.std.specs.BTreeMap.{get, is_at}
+use Rattle.icu_tailoring.specs.TailoredMappings.{SymbolicMapping, with_mapping}
+use Rattle.icu_symbolic_mappings.specs.StoredMappings.{symbolic_mapping, symbolic_mappings}
+use Rattle.icu_symbolic_mappings.specs.KeptMappings.{mappings_in, own_or, untouched_mappings}
+use Rattle.icu_symbolic_mappings.proofs.KeptMappingLemmas.{Own, put_at, own_there, own_absent}
+use Rattle.icu_symbolic_mappings.proofs.kept_mappings.Mappings.put.Goals as goal
+use Rattle.icu_symbolic_mappings.proofs.kept_mappings.Mappings.put.Goals.{in-Some, in-None+in_ok-own-in-None}
+
+pub returns : goal.returns
+unfolding mappings_in
+returns g c =
+    let held = c.args.self.now in
+    let root = g.R.RootMappings.mappings_of in
+    let was : symbolic_mappings c.match-remove.own.items ≡ mappings_in root held c.args.c = elim c.match-remove.branch [
+      | in-Some w ↦
+          let there : get nat_cmp held.touched c.args.c ≡ Some c.match-remove.own = search rules in
+          sym (own_there root held c.args.c c.match-remove.own there)
+      | in-None+in_ok-own-in-None w ↦
+          let absent : get nat_cmp held.touched c.args.c ≡ None = search rules in
+          let made : symbolic_mappings c.match-remove.own.items ≡ untouched_mappings root held c.args.c = search rules in
+          made ∙ sym (own_absent root held c.args.c absent)
+    ] in
+    let own : Own = c.put_mapping.new.mappings in
+    let stored : symbolic_mappings own.items ≡ with_mapping (symbolic_mapping c.args.new) (mappings_in root held c.args.c) =
+    c.in_ok-put_mapping.ensures ∙ ap (with_mapping (symbolic_mapping c.args.new)) was in
+    fun_ext (λ (q : ℕ).
+    let d : List SymbolicMapping = untouched_mappings root held q in
+    let before : Option Own = get nat_cmp held.touched q in
+    let now_at : get nat_cmp c.insert.new.self q ≡ cond (is_at (nat_cmp c.args.c) q) (Some own) (get nat_cmp c.remove.new.self q) = c.in_ok-insert.ensures.updates.0 q in
+    let gone_at : get nat_cmp c.remove.new.self q ≡ cond (is_at (nat_cmp c.args.c) q) None before = c.remove.ensures.updates.0 q in
+    ap (λ o. own_or o d) (now_at ∙ ap (λ o. cond (is_at (nat_cmp c.args.c) q) (Some own) o) gone_at)
+    ∙ put_at c.args.c q own before d
+    ∙ ap (λ (ms : List SymbolicMapping). if q == c.args.c then ms else own_or before d) stored)

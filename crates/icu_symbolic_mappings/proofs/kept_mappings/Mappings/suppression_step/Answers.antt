@@ -1,0 +1,25 @@
+use Rattle.std.proofs.Common.{◌≡◌, ◌++◌, ℕ, List, Option, rules, sym, ap, ◌∙◌}
+use mathlib.Core.Path.{fun_ext}
+use Rattle.std.specs.Prelude.{map}
+use Rattle.std.specs.Ordering.{nat_cmp}
+use Rattle.std.specs.BTreeMap.{get}
+use Rattle.icu_rules.specs.declared.statement.CharacterRange.{CharacterRange}
+use Rattle.icu_tailoring.specs.Steps.{suppression_step}
+use Rattle.icu_tailoring.specs.TailoredMappings.{SymbolicMapping, SymbolicMappings, mapping_of_root}
+use Rattle.icu_symbolic_mappings.specs.StoredMappings.{suppressed_at}
+use Rattle.icu_symbolic_mappings.specs.KeptMappings.{mappings_in, own_or, untouched_mappings}
+use Rattle.icu_symbolic_mappings.proofs.KeptMappingLemmas.{retained_at, suppressed_more}
+use Rattle.icu_symbolic_mappings.proofs.kept_mappings.Mappings.suppression_step.Goals as goal
+
+pub returns : goal.returns
+unfolding mappings_in suppression_step
+returns g c = λ state same.
+    let held = c.args.self.now in
+    let root = g.R.RootMappings.mappings_of in
+    let ranges : List CharacterRange = c.args.ranges.now in
+    let more : c.extend_from_slice.new.self.items ≡ held.suppressed.items ++ ranges = c.in_ok-extend_from_slice.ensures.items in
+    let each : (q : ℕ) → suppressed_at ranges q (mappings_in root held q) ≡ own_or (get nat_cmp c.retain.new.self q) (suppressed_at c.extend_from_slice.new.self.items q (map mapping_of_root (root held.root.now q))) = λ q.
+    let all : List SymbolicMapping = map mapping_of_root (root held.root.now q) in
+    sym (retained_at _ _ ranges (λ k v b w h t. search rules) held.touched.entries c.retain.new.self.entries c.retain.ensures.filtered q (untouched_mappings root held q))
+    ∙ ap (own_or (get nat_cmp c.retain.new.self q)) (suppressed_more held.suppressed.items ranges q all ∙ ap (λ rs. suppressed_at rs q all) (sym more)) in
+    ap (λ (ms : SymbolicMappings). λ (q : ℕ). suppressed_at ranges q (ms q)) same ∙ fun_ext each

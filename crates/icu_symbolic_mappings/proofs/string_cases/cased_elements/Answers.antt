@@ -1,0 +1,16 @@
+use Rattle.std.proofs.Common.{ℕ}
+use Rattle.icu_tailoring.specs.TailoredCases.{cased_elements}
+use Rattle.icu_symbolic_mappings.specs.inner.TakenCases.{case_bits_left}
+use Rattle.icu_symbolic_mappings.proofs.StringCaseLemmas.{cased_turn, cased_end}
+use Rattle.icu_symbolic_mappings.proofs.string_cases.cased_elements.Goals as goal
+
+pub loop-element-preserved : goal.loop-element-preserved
+loop-element-preserved c =
+    cased_turn (case_bits_left c.loop-element.left) (case_bits_left c.take_case-case_bits.new.cases) c.args.elements.now c.loop-element.element-index _ c.take_case-case_bits.result
+    c.loop-element.cased.items c.push.new.self.items (cased_elements c.args.of_string.now c.args.elements.now) c.loop-element-test.true
+    c.take_case-case_bits.ensures c.in_ok-push.ensures.items c.loop-element.invariant
+
+pub returns : goal.returns
+returns c =
+    cased_end (case_bits_left c.loop-element.left) c.args.elements.now c.loop-element.element-index c.loop-element.cased.items (cased_elements c.args.of_string.now c.args.elements.now)
+    c.loop-element-test.false c.loop-element.invariant

@@ -1,0 +1,3 @@
+pub mod StoredMappings
+pub mod KeptMappings
+pub mod inner

@@ -1,0 +1,213 @@
+//! The mappings of characters as they are while rules are read.
+
+ghost use Rattle.std.specs.Prelude.{◌≡◌, IfOk, OnOk, filter, true};
+ghost use Rattle.icu_tailoring.specs.Rules.{have_character};
+ghost use Rattle.icu_tailoring.specs.Steps.{mapping_step, suppression_step};
+ghost use Rattle.icu_tailoring.specs.TailoredMappings.{has_no_context, is_mapping_of, with_mapping};
+ghost use Rattle.icu_matches.specs.Texts.{unread};
+ghost use Rattle.icu_symbolic_mappings.specs.StoredMappings.{mapping_between, suppressed_at, symbolic_mapping, symbolic_mappings};
+ghost use Rattle.icu_symbolic_mappings.specs.inner.ReadByMappings.{ReadsCharacter};
+
+use crate::character_mapping::{CharacterMapping, SymbolicMapping};
+use crate::reading::read_character;
+use crate::roots::{RootMappings, mappings_of_root};
+use icu_matches::Text;
+use icu_rules::CharacterRange;
+use icu_tailoring::SymbolicElement;
+use std::alloc::{AllocError, Global};
+use std::collections::BTreeMap;
+
+/// The mappings of characters: those of a root, but for the characters that rules touched (UTS #35 part 5, "Collation
+/// Tailorings").
+#[derive(Drop)]
+pub struct Mappings<'r, R> {
+    root: &'r R,
+    suppressed: Vec<CharacterRange>,
+    touched: BTreeMap<char, Vec<SymbolicMapping>>,
+}
+
+/// Whether the mapping is of this prefix and this suffix.
+fn is_mapping_of(mapping: &SymbolicMapping, prefix: &[char], suffix: &[char]) -> bool
+    ensures { result ≡ is_mapping_of prefix.now suffix.now (symbolic_mapping mapping.now) }
+{
+    mapping.prefix.as_slice() == prefix && mapping.suffix.as_slice() == suffix
+}
+
+/// One of the ranges has the character.
+fn have_character(ranges: &[CharacterRange], c: char) -> bool
+    ensures { result ≡ have_character ranges.now c }
+{
+    for range in ranges {
+        if range.first <= c && c <= range.last {
+            return true;
+        }
+    }
+    false
+}
+
+/// Puts a mapping in the place of that of its prefix and suffix.
+fn put_mapping(mappings: &mut Vec<SymbolicMapping>, new: SymbolicMapping) -> Result<(), AllocError>
+    ensures { OnOk result (symbolic_mappings mappings.new.items
+        ≡ with_mapping (symbolic_mapping new) (symbolic_mappings mappings.old.items)) }
+{
+    mappings.retain(|m| !is_mapping_of(m, new.prefix.as_slice(), new.suffix.as_slice()));
+    mappings.insert(0, new)?;
+    Ok(())
+}
+
+/// Keeps the mappings without a context alone.
+fn keep_plain(mappings: &mut Vec<SymbolicMapping>)
+    ensures { symbolic_mappings mappings.new.items
+        ≡ filter has_no_context (symbolic_mappings mappings.old.items) }
+{
+    mappings.retain(|m| is_mapping_of(m, &[], &[]));
+}
+
+/// Keeps the mappings of a character without a context alone, where one of the ranges has it. Returns `true`.
+fn suppress(ranges: &[CharacterRange], c: char, mappings: &mut Vec<SymbolicMapping>) -> bool
+    ensures kept { result ≡ true }
+    ensures left { symbolic_mappings mappings.new.items
+        ≡ suppressed_at ranges.now c (symbolic_mappings mappings.old.items) }
+{
+    if have_character(ranges, c) {
+        keep_plain(mappings);
+    }
+    true
+}
+
+/// A mapping of a character with this suffix, behind a prefix.
+fn new_mapping(
+    alloc: Global,
+    prefix: &[char],
+    suffix: &[char],
+    elements: Vec<SymbolicElement>,
+) -> Result<SymbolicMapping, AllocError>
+    ensures { IfOk result (λ m.
+        symbolic_mapping m ≡ mapping_between prefix.now suffix.now elements.items) }
+{
+    let prefix = prefix.iter().rev().copied().collect(alloc)?;
+    let suffix = Vec::from_slice(alloc, suffix)?;
+    Ok(CharacterMapping {
+        prefix,
+        suffix,
+        elements,
+    })
+}
+
+impl<'r, R: RootMappings> Mappings<'r, R> {
+    ghost use Rattle.icu_tailoring.specs.TailoredMappings.{root_mappings, symbolic_elements, with_mappings};
+    ghost use Rattle.icu_tailoring.specs.TailoredRoots.{Root};
+    ghost use Rattle.icu_symbolic_mappings.specs.KeptMappings.{MakesMappings, mappings_in, untouched_mappings};
+
+    /// The mappings of a root.
+    #[tactic(auto, unfolding(crate::specs::KeptMappings::mappings_in))]
+    pub fn new(alloc: Global, root: &'r R) -> Self
+        ensures { (r : Root) → r.mappings ≡ R.mappings_of root.now
+            → mappings_in R.mappings_of result ≡ root_mappings r }
+    {
+        Mappings {
+            root,
+            suppressed: Vec::new(alloc),
+            touched: BTreeMap::new(alloc),
+        }
+    }
+
+    /// The mappings of a character that no relation touched.
+    fn untouched(&self, alloc: Global, c: char) -> Result<Vec<SymbolicMapping>, AllocError>
+        ensures { IfOk result (λ found.
+            symbolic_mappings found.items ≡ untouched_mappings R.mappings_of self.now c) }
+    {
+        let mut found = mappings_of_root(alloc, self.root.mappings(alloc, c)?)?;
+        if have_character(self.suppressed.as_slice(), c) {
+            keep_plain(&mut found);
+        }
+        Ok(found)
+    }
+
+    /// Puts a mapping of a character in the place of that of its prefix and suffix.
+    fn put(&mut self, alloc: Global, c: char, new: SymbolicMapping) -> Result<(), AllocError>
+        ensures { OnOk result (mappings_in R.mappings_of self.new
+            ≡ with_mappings (mappings_in R.mappings_of self.old) c
+            (with_mapping (symbolic_mapping new) (mappings_in R.mappings_of self.old c))) }
+    {
+        let mut own = match self.touched.remove(&c) {
+            Some(own) => own,
+            None => self.untouched(alloc, c)?,
+        };
+        put_mapping(&mut own, new)?;
+        self.touched.insert(c, own)?;
+        Ok(())
+    }
+
+    /// A decomposed string behind a decomposed prefix has these elements from here on. If an allocation fails, nothing
+    /// is said of the mappings.
+    pub fn mapping_step(
+        &mut self,
+        alloc: Global,
+        prefix: &[char],
+        string: &[char],
+        elements: Vec<SymbolicElement>,
+    ) -> Result<(), AllocError>
+        ensures { OnOk result (MakesMappings (mapping_step prefix.now string.now elements.items)
+            (mappings_in R.mappings_of self.old) (mappings_in R.mappings_of self.new)) }
+    {
+        match string.split_first() {
+            Some((first, suffix)) => {
+                let new = new_mapping(alloc, prefix, suffix, elements)?;
+                self.put(alloc, *first, new)
+            }
+            None => Ok(()),
+        }
+    }
+
+    /// Characters of the ranges keep their mappings without a context alone. If an allocation fails, nothing is said of
+    /// the mappings.
+    pub fn suppression_step(&mut self, ranges: &[CharacterRange]) -> Result<(), AllocError>
+        ensures { OnOk result (MakesMappings (suppression_step ranges.now)
+            (mappings_in R.mappings_of self.old) (mappings_in R.mappings_of self.new)) }
+    {
+        self.suppressed.extend_from_slice(ranges)?;
+        self.touched.retain(|c, own| suppress(ranges, *c, own));
+        Ok(())
+    }
+
+    /// Reads a character by its mappings.
+    fn read(
+        &self,
+        alloc: Global,
+        c: char,
+        before: &mut Vec<char>,
+        text: &mut Text,
+        elements: &mut Vec<SymbolicElement>,
+    ) -> Result<(), AllocError>
+        ensures { OnOk result (ReadsCharacter (mappings_in R.mappings_of self.now c) c
+            before.old.items before.new.items (unread text.old) (unread text.new)
+            elements.old.items elements.new.items) }
+    {
+        match self.touched.get(&c) {
+            Some(own) => read_character(alloc, own.as_slice(), c, before, text, elements),
+            None => {
+                let own = self.untouched(alloc, c)?;
+                read_character(alloc, own.as_slice(), c, before, text, elements)
+            }
+        }
+    }
+
+    /// The elements of a decomposed text.
+    pub fn symbolic_elements(
+        &self,
+        alloc: Global,
+        text: Vec<char>,
+    ) -> Result<Vec<SymbolicElement>, AllocError>
+        ensures { IfOk result (λ es.
+            es.items ≡ symbolic_elements (mappings_in R.mappings_of self.now) text.items) }
+    {
+        let mut left = Text::new(text);
+        let mut before = Vec::new(alloc);
+        let mut elements = Vec::new(alloc);
+        'reading: while let Some(c) = left.take_first() {
+            self.read(alloc, c, &mut before, &mut left, &mut elements)?;
+        }
+        Ok(elements)
+    }
+}
