@@ -14,7 +14,7 @@ use Rattle.icu_elements.specs.declared.collation_elements.CollationElements.{Col
 use Rattle.icu_elements.specs.TextElements.{Reading, elements_after}
 use Rattle.icu_elements.specs.CollationElements.{HasSource, IsLeftAt, StillGives, IsReadyAt, CanGive, first_of, rest_of}
 use Rattle.icu_elements.specs.ElementReaders.{elements_to_come}
-use Rattle.icu_elements.specs.inner.Positions.{consumed_last, unread_at, elements_at_position}
+use Rattle.icu_elements.specs.inner.Positions.{consumed_last, unread_at, left_elements}
 use Rattle.icu_elements.specs.Reading.{reading_of}
 use Rattle.icu_elements.specs.inner.ReadyElements.{ready_elements, IsFilled}
 use Rattle.icu_elements.proofs.StepLemmas.{elements_after_nil}
@@ -66,10 +66,10 @@ none_read r reading before text same none last left =
 
 -- what a step appends and leaves, after all that stood ready was taken, is what there was
 pub one_step : (r : ElementReader) (es fs : List Element) (p : Position) → length r.ready.elements.items ≤ r.next → es ≡ []
-    → fs ++ elements_at_position r.reading p ≡ es ++ elements_at_position r.reading r.position → fs ++ elements_at_position r.reading p ≡ elements_to_come r
+    → fs ++ left_elements r.reading p ≡ es ++ left_elements r.reading r.position → fs ++ left_elements r.reading p ≡ elements_to_come r
 unfolding elements_to_come
 one_step r es fs p past none h =
-    h ∙ ap (λ (l : List Element). l ++ elements_at_position r.reading r.position) (none ∙ sym (drop_of_length-le r.ready.elements.items past))
+    h ∙ ap (λ (l : List Element). l ++ left_elements r.reading r.position) (none ∙ sym (drop_of_length-le r.ready.elements.items past))
 
 -- where one stands ready, it is the first
 pub first_ready : (r : ElementReader) (e : Element) → r.next < length r.ready.elements.items → e ≡ get_or r.ready.elements.items r.next e
@@ -87,9 +87,9 @@ none_left r filled none =
 pub others_left : (r s : ElementReader) (es : List Element) → ready_elements r ≡ es ++ ready_elements s → s.position ≡ r.position → s.reading ≡ r.reading → elements_to_come r ≡ es ++ elements_to_come s
 unfolding elements_to_come
 others_left r s es is same same_reading =
-    ap₂ (λ (l : List Element) (p : Position). l ++ elements_at_position r.reading p) is (sym same)
-    ∙ ap (λ (t : TextReading). (es ++ ready_elements s) ++ elements_at_position t s.position) (sym same_reading)
-    ∙ append_assoc es (ready_elements s) (elements_at_position s.reading s.position)
+    ap₂ (λ (l : List Element) (p : Position). l ++ left_elements r.reading p) is (sym same)
+    ∙ ap (λ (t : TextReading). (es ++ ready_elements s) ++ left_elements t s.position) (sym same_reading)
+    ∙ append_assoc es (ready_elements s) (left_elements s.reading s.position)
 
 pub filled_ready : (r : ElementReader) → r.next < length r.ready.elements.items → IsFilled r
 filled_ready r inside = λ none.

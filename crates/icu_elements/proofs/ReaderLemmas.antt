@@ -8,7 +8,7 @@ use Rattle.icu_elements.specs.declared.reader.position.Position.{Position}
 use Rattle.icu_elements.specs.declared.text_reading.TextReading.{TextReading}
 use Rattle.icu_elements.specs.TextElements.{Reading, step, last_two, elements_after}
 use Rattle.icu_elements.proofs.StepLemmas.{Rests-step, elements_after_cons, elements_after_nil}
-use Rattle.icu_elements.specs.inner.Positions.{consumed_last, unread_at, elements_at_position, IsStep}
+use Rattle.icu_elements.specs.inner.Positions.{consumed_last, unread_at, left_elements, IsStep}
 use Rattle.icu_elements.specs.LastChars.{recent_chars}
 use Rattle.icu_elements.specs.Reading.{reading_of}
 
@@ -65,7 +65,7 @@ step_elements reading before c text whole es fs p is h =
     ∙ ap (elements_after reading before) (sym is))
 
 -- nothing has no elements
-pub none_unread : (reading : TextReading) (p : Position) → unread_at p ≡ [] → elements_at_position reading p ≡ []
+pub none_unread : (reading : TextReading) (p : Position) → unread_at p ≡ [] → left_elements reading p ≡ []
 none_unread reading p none =
     ap (elements_after (reading_of reading) (consumed_last p)) none ∙ elements_after_nil (reading_of reading) (consumed_last p)
 

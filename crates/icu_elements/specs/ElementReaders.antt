@@ -2,10 +2,10 @@
 use Rattle.std.specs.Prelude.{List, ◌++◌}
 use Rattle.icu_entries.specs.Elements.{Element}
 use Rattle.icu_elements.specs.declared.element_reader.ElementReader.{ElementReader}
-use Rattle.icu_elements.specs.inner.Positions.{elements_at_position}
+use Rattle.icu_elements.specs.inner.Positions.{left_elements}
 use Rattle.icu_elements.specs.inner.ReadyElements.{ready_elements}
 
 -- the elements that it still gives, unless an allocation fails: those that stand ready, and those of the text that is
 -- left
 unfoldable pub elements_to_come : ElementReader → List Element
-elements_to_come r = ready_elements r ++ elements_at_position r.reading r.position
+elements_to_come r = ready_elements r ++ left_elements r.reading r.position

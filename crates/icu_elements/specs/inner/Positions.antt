@@ -17,8 +17,8 @@ abbrev pub unread_at : Position → List ℕ
 unread_at p = unread p.text
 
 -- the elements of the text that is left
-abbrev pub elements_at_position : TextReading → Position → List Element
-elements_at_position reading p = elements_after (reading_of reading) (consumed_last p) (unread_at p)
+abbrev pub left_elements : TextReading → Position → List Element
+left_elements reading p = elements_after (reading_of reading) (consumed_last p) (unread_at p)
 
 -- A step at a character was taken: its elements came after those that there were, what it consumes was consumed, and
 -- what it leaves is left.

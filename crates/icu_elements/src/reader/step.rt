@@ -2,7 +2,7 @@
 
 ghost use Rattle.std.specs.Prelude.{◌≡◌, ◌<◌, ◌++◌, [], length, IfOk, OnOk, MatchBool};
 ghost use Rattle.icu_elements.specs.TextElements.{is_silent_dot, diacritic_step, step};
-ghost use Rattle.icu_elements.specs.inner.Positions.{IsStep, consumed_last, unread_at, elements_at_position};
+ghost use Rattle.icu_elements.specs.inner.Positions.{IsStep, consumed_last, unread_at, left_elements};
 ghost use Rattle.icu_elements.specs.Reading.{reading_of};
 ghost use Rattle.icu_matches.specs.Texts.{unread};
 
@@ -79,8 +79,8 @@ pub(crate) fn read_step(
     at: &mut Position,
     list: &mut ElementList,
 ) -> Result<bool, AllocError>
-    ensures elements { OnOk result (list.new.elements.items ++ elements_at_position reading.entry at.new
-        ≡ list.old.elements.items ++ elements_at_position reading.entry at.old) }
+    ensures elements { OnOk result (list.new.elements.items ++ left_elements reading.entry at.new
+        ≡ list.old.elements.items ++ left_elements reading.entry at.old) }
     ensures shorter { IfOk result (λ more. MatchBool more
         (length (unread_at at.new) < length (unread_at at.old)) (unread_at at.new ≡ [])) }
 {
