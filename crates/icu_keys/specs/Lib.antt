@@ -6,6 +6,7 @@ pub mod ListSinkLaws
 pub mod CaseRanks
 pub mod QuaternaryWeights
 pub mod WriterRests
+pub mod HeldByteLists
 pub mod HeldRests
 pub mod HeldWeights
 pub mod Accumulated

@@ -28,3 +28,12 @@ pub record TakesBeginning (took : List ℕ → Type 0) (bytes : List ℕ) : Type
   pub rest : List ℕ
   pub splits : bytes ≡ front ++ rest
   pub taken : took front
+
+-- Effects of a list that appends bytes one after another: a refused write appended a beginning of its bytes
+abbrev pub appending_effects : {X St O E : Type 0} → (X → List ℕ) → SinkEffects X St O E
+appending_effects items = record {
+  took = λ x _ b y _. items y ≡ items x ++ b;
+  refused = λ x _ b _ y _. TakesBeginning (λ front. items y ≡ items x ++ front) b;
+  finished = λ x _ r y. IsOk r × (y ≡ x);
+  begins = λ _. Unit {0};
+}

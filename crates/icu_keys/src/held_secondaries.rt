@@ -5,12 +5,11 @@ ghost use Rattle.icu_levels.specs.Secondaries.{secondary_level};
 ghost use Rattle.icu_levels.specs.Keys.{part_bytes, opened, closed};
 ghost use Rattle.icu_keys.specs.Writes.{Writes};
 
-use crate::held::{INLINE, write_held};
+use crate::held_bytes::HeldBytes;
 use crate::parts::LEVEL;
 use crate::secondaries::SecondaryWriter;
 use crate::sink::CollationKeySink;
 use icu_levels::run_bytes::SECONDARY_RUNS;
-use smallvec::SmallVec;
 use std::alloc::{AllocError, Global};
 
 /// The secondary level of a text. Common weights are counted, and written with the weight that comes after them.
@@ -18,7 +17,7 @@ use std::alloc::{AllocError, Global};
 pub struct HeldSecondaries {
     writer: SecondaryWriter,
     commons: u32,
-    bytes: SmallVec<u8, INLINE>,
+    bytes: HeldBytes,
 }
 
 impl HeldSecondaries {
@@ -31,7 +30,7 @@ impl HeldSecondaries {
         HeldSecondaries {
             writer: SecondaryWriter::new(),
             commons: 0,
-            bytes: SmallVec::new(alloc),
+            bytes: HeldBytes::new(alloc),
         }
     }
 
@@ -85,7 +84,7 @@ impl HeldSecondaries {
         ensures bytes { Writes S.effects sink.old state.old (held_secondaries self.now [])
             result sink.new state.new }
     {
-        write_held(sink, state, &self.bytes)?;
+        self.bytes.write_to(sink, state)?;
         self.writer.close_after(sink, state, self.commons)
     }
 

@@ -5,12 +5,11 @@ ghost use Rattle.icu_levels.specs.Tertiaries.{moved_tertiary, tertiary_level, te
 ghost use Rattle.icu_levels.specs.Keys.{part_bytes, opened, closed};
 ghost use Rattle.icu_keys.specs.Writes.{Writes};
 
-use crate::held::{INLINE, write_held};
+use crate::held_bytes::HeldBytes;
 use crate::parts::LEVEL;
 use crate::sink::CollationKeySink;
 use crate::tertiaries::{TertiaryWriter, common_of};
 use icu_levels::forms::TertiaryForm;
-use smallvec::SmallVec;
 use std::alloc::{AllocError, Global};
 
 /// The tertiary level of a text. Common weights are counted, and written with the weight that comes after them.
@@ -18,7 +17,7 @@ use std::alloc::{AllocError, Global};
 pub struct HeldTertiaries {
     writer: TertiaryWriter,
     commons: u32,
-    bytes: SmallVec<u8, INLINE>,
+    bytes: HeldBytes,
 }
 
 impl HeldTertiaries {
@@ -32,7 +31,7 @@ impl HeldTertiaries {
         HeldTertiaries {
             writer: TertiaryWriter::new(form),
             commons: 0,
-            bytes: SmallVec::new(alloc),
+            bytes: HeldBytes::new(alloc),
         }
     }
 
@@ -111,7 +110,7 @@ impl HeldTertiaries {
         ensures bytes { Writes S.effects sink.old state.old (held_tertiaries self.now [])
             result sink.new state.new }
     {
-        write_held(sink, state, &self.bytes)?;
+        self.bytes.write_to(sink, state)?;
         self.writer.close_after(sink, state, self.commons)
     }
 

@@ -12,6 +12,7 @@ pub mod cases;
 mod differences;
 pub mod error;
 pub mod held;
+mod held_bytes;
 pub mod held_cases;
 pub mod held_quaternaries;
 pub mod held_secondaries;

@@ -1,6 +1,6 @@
 //! The primary level, compressed and reordered, written as it is fed.
 
-ghost use Rattle.std.specs.Prelude.{◌≡◌, ℕ, List, ◌∷◌, ◌++◌, option_to_list};
+ghost use Rattle.std.specs.Prelude.{◌≡◌, ◌/◌, ℕ, List, [], ◌∷◌, ◌++◌, IsTrue, option_to_list};
 ghost use Rattle.icu_levels.specs.Primaries.{Compression, lead, below_lead, lead_change, dropped_after, primary_bytes, primary_level};
 ghost use Rattle.icu_levels.specs.WeightBytes.{weight_bytes};
 ghost use Rattle.icu_keys.specs.Writes.{Writes, Feeds};
@@ -88,6 +88,15 @@ fn write_lead<S: CollationKeySink>(
     )
 }
 
+/// Whether a reordered primary after weights whose lead is dropped is written as its lead alone, as those of Latin
+/// letters are, which have one byte. False says nothing.
+#[inline(always)]
+fn is_lead_alone(dropped: u8, primary: u32) -> bool
+    ensures { IsTrue result → primary_bytes dropped primary ≡ primary / 0x1000000 ∷ [] }
+{
+    dropped == 0 && primary != 0 && primary % 0x100_0000 == 0
+}
+
 /// Writes a reordered primary after weights whose lead is dropped.
 #[inline(always)]
 fn write_primary<S: CollationKeySink>(
@@ -101,6 +110,9 @@ fn write_primary<S: CollationKeySink>(
     ensures bytes { Writes S.effects sink.old state.old (primary_bytes dropped primary)
         result sink.new state.new }
 {
+    if is_lead_alone(dropped, primary) {
+        return sink.write_byte(state, (primary / 0x100_0000) as u8);
+    }
     write_lead(sink, state, dropped, primary)?;
     write_three(sink, state, primary % 0x100_0000)
 }

@@ -1,3 +1,4 @@
 pub mod KeyPartLemmas
 pub mod KeySourceLemmas
 pub mod CaseLemmas
+pub mod CompressionLemmas

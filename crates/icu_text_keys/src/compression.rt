@@ -1,32 +1,59 @@
 //! How the primaries of a collator are written.
 
-ghost use Rattle.std.specs.Prelude.{◌≡◌};
+ghost use Rattle.std.specs.Prelude.{◌≡◌, ◌<◌, ℕ, false};
 ghost use Rattle.icu_checks.specs.Checked.{checked_tables};
+ghost use Rattle.icu_provider.specs.SpecialPrimaries.{is_compressible};
+ghost use Rattle.icu_provider.specs.StoredTables.{special_of};
 ghost use Rattle.icu_weighting.specs.Forms.{compression_of};
 
 use icu_checks::CheckedTables;
 use icu_keys::primaries::PrimaryCompression;
-use icu_provider::{CollationReordering, CollationSpecialPrimaries};
+use icu_provider::CollationSpecialPrimaries;
 use icu_weighting::element_weights::reordered;
 
-/// How the primaries of a collator are written: by its reordering, if it has one, and by the leads that its special
+/// The first lead that six of the numbers with bits for leads say nothing of. Those below it are the leads of spaces,
+/// signs, digits and Latin letters.
+const FIRST_AFTER_LATIN: u8 = 0x60;
+
+/// A lead below which none is compressible: that after Latin, or 0 where there is one among those before it.
+#[tactic(auto, using(crate::proofs::CompressionLemmas::none_below, crate::proofs::CompressionLemmas::none_without_bits))]
+fn first_asked(special: CollationSpecialPrimaries<'_>) -> u8
+    ensures { (lead : ℕ) → lead < result → is_compressible (special_of special.entry) lead ≡ false }
+{
+    let numbers = special.last_primaries();
+    if numbers.len() != 20 {
+        return FIRST_AFTER_LATIN;
+    }
+    for index in 4..10usize {
+        if numbers[index] != 0 {
+            return 0;
+        }
+    }
+    FIRST_AFTER_LATIN
+}
+
+/// How primaries are written: by the reordering of the tables, if they have one, and by the leads that their special
 /// primaries name compressible (UTS #35 part 5, "Collation Reordering").
 #[derive(Clone, Copy)]
 pub struct TableCompression<'d> {
-    special: CollationSpecialPrimaries<'d>,
-    reordering: Option<CollationReordering<'d>>,
+    tables: &'d CheckedTables,
+    /// No lead below it is compressible, so that this isn't asked of Latin letters and digits.
+    first_asked: u8,
+    ghost none_below: { (lead : ℕ) → lead < first_asked
+        → is_compressible (checked_tables tables.now).special lead ≡ false },
 }
 
 impl<'d> TableCompression<'d> {
     ghost use Rattle.icu_text_keys.specs.Compressions.{table_compression};
 
     /// That of checked tables. It copies nothing.
+    #[inline(always)]
     pub fn new(tables: &'d CheckedTables) -> TableCompression<'d>
         ensures { table_compression result ≡ compression_of (checked_tables tables.now) }
     {
         TableCompression {
-            special: tables.special_primaries(),
-            reordering: tables.reordering(),
+            tables,
+            first_asked: first_asked(tables.special_primaries()),
         }
     }
 }
@@ -36,11 +63,13 @@ impl<'d> PrimaryCompression for TableCompression<'d> {
 
     ghost compression = { table_compression };
 
+    #[inline(always)]
     fn reorder(&self, primary: u32) -> u32 {
-        reordered(self.reordering, primary)
+        reordered(self.tables.reordering(), primary)
     }
 
+    #[inline(always)]
     fn is_compressible(&self, lead: u8) -> bool {
-        self.special.is_compressible(lead)
+        lead >= self.first_asked && self.tables.special_primaries().is_compressible(lead)
     }
 }
