@@ -1,6 +1,5 @@
 -- A suffix with one more mark.
 use Rattle.std.proofs.Common.{◌≡◌, ℕ, Bool, true, false, ◌&&◌, ◌==◌, List, [], ◌∷◌, ◌++◌, bytes_eq, refl, sym, ap, ◌∙◌}
-use Rattle.std.proofs.lemmas.Bool.Decides.{Decides-eqb}
 
 never : (a : Bool) → (a && false) ≡ false
 never true = refl

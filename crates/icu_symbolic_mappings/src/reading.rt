@@ -4,7 +4,7 @@ ghost use Rattle.std.specs.Prelude.{◌≡◌, ◌∷◌, ◌++◌, OnOk, revers
 ghost use Rattle.icu_matches.specs.Texts.{unread};
 ghost use Rattle.icu_symbolic_mappings.specs.StoredMappings.{symbolic_mappings};
 ghost use Rattle.icu_symbolic_mappings.specs.inner.ReadByMappings.{AddsMatch, ReadsCharacter};
-ghost use Rattle.icu_symbolic_mappings.specs.inner.Tiers.{maybe_lent, match_left_by};
+ghost use Rattle.icu_symbolic_mappings.specs.inner.Tiers.{maybe_lent};
 
 use crate::behind::mappings_behind;
 use crate::character_mapping::SymbolicMapping;

@@ -1,7 +1,7 @@
 -- What reading a character changes.
 use Rattle.std.specs.Prelude.{◌≡◌, ℕ, List, [], ◌∷◌, ◌++◌, Option, Some, None, reverse, take}
 use Rattle.icu_tailoring.specs.declared.symbolic.SymbolicElement.{SymbolicElement}
-use Rattle.icu_tailoring.specs.TailoredMappings.{SymbolicMapping, SymbolicMatch, beginnings, context_behind, mappings_behind, match_by}
+use Rattle.icu_tailoring.specs.TailoredMappings.{SymbolicMapping, beginnings, context_behind, mappings_behind, match_by}
 
 -- the characters that a match consumes after its first
 abbrev pub suffix_of : Option SymbolicMapping → List ℕ

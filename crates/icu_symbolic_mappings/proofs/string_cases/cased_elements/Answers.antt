@@ -1,4 +1,3 @@
-use Rattle.std.proofs.Common.{ℕ}
 use Rattle.icu_tailoring.specs.TailoredCases.{cased_elements}
 use Rattle.icu_symbolic_mappings.specs.inner.TakenCases.{case_bits_left}
 use Rattle.icu_symbolic_mappings.proofs.StringCaseLemmas.{cased_turn, cased_end}
