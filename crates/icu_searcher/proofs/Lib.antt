@@ -1,0 +1,4 @@
+pub mod ReadOnLemmas
+pub mod GatheredLemmas
+pub mod PlaceLemmas
+pub mod PlaceMarkLemmas

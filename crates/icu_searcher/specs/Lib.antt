@@ -1,0 +1,3 @@
+pub mod PlaceReaders
+pub mod PlaceMarks
+pub mod inner
