@@ -1,6 +1,6 @@
 -- The entries of ideographs give their weights.
-use Rattle.std.proofs.Common.{◌≡◌, ◌≢◌, ℕ, ◌+◌, ◌-◌, ◌*◌, ◌/◌, ◌<◌, ◌≤◌, Bool, true, false, List, [], ◌∷◌, ◌++◌, Option, Some, None, refl, sym, ap, subst, ◌∙◌, inl, inr, if◌then◌else◌, length, length-append, arith}
-use Rattle.std.specs.Prelude.{◌==◌, ◌&&◌, ◌%◌, MatchBool, nat_le, nat_lt, slice_index_or}
+use Rattle.std.proofs.Common.{◌≡◌, ℕ, ◌+◌, ◌-◌, ◌*◌, ◌/◌, ◌<◌, ◌≤◌, Bool, true, false, List, [], ◌∷◌, ◌++◌, Option, Some, None, refl, sym, ap, subst, ◌∙◌, inl, inr, if◌then◌else◌, length, length-append, arith}
+use Rattle.std.specs.Prelude.{◌==◌, ◌&&◌, MatchBool, nat_le, nat_lt, slice_index_or}
 use Rattle.std.specs.Char.{IsScalar}
 use Rattle.std.proofs.Math.ListN.{get_or-append}
 use Rattle.std.proofs.Math.Seq.{get_or-append_seam}
@@ -16,7 +16,7 @@ use Rattle.icu_collation_data.specs.Data.{Data, data_element}
 use Rattle.icu_entries.specs.EncodedEntries.{implicit_entry}
 use Rattle.icu_table_builder.specs.Building.{and_elements, empty_data, set_in}
 use Rattle.icu_cldr.specs.Ideographs.{HasNoIdeographs, ideograph_weight_in, primary_among, primary_in}
-use Rattle.icu_cldr.specs.Unmapped.{ComputesWeight, GivesUnmapped, GivesWeight}
+use Rattle.icu_cldr.specs.Unmapped.{GivesUnmapped, GivesWeight}
 use Rattle.icu_cldr.specs.inner.IdeographValues.{GivesOrKeeps, SetsBelow, SetsRange}
 use Rattle.icu_cldr.specs.inner.Surroundings.{Extends, HasMoreLists}
 use Rattle.icu_cldr.specs.declared.ideograph_weights.IdeographWeights.{IdeographWeights}

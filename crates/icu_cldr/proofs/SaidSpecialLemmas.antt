@@ -1,6 +1,6 @@
 -- The special primary weights that lines say, line by line, and those of the table.
-use Rattle.std.proofs.Common.{◌≡◌, ℕ, ◌+◌, ◌/◌, ◌%◌, ◌<◌, Bool, true, false, List, [], ◌∷◌, ◌++◌, Option, Some, None, refl, sym, ap, subst, ◌∙◌, length, if◌then◌else◌, zero, suc, arith}
-use Rattle.std.specs.Prelude.{◌==◌, ◌&&◌, ◌||◌, IfSome, slice_index, fold}
+use Rattle.std.proofs.Common.{◌≡◌, ℕ, ◌<◌, Bool, true, false, List, [], ◌∷◌, ◌++◌, Option, Some, None, refl, sym, ap, subst, ◌∙◌, if◌then◌else◌, zero, suc, arith}
+use Rattle.std.specs.Prelude.{◌==◌, ◌&&◌, ◌||◌, slice_index}
 use Rattle.std.specs.List.{flat_map, list_any}
 use Rattle.std.specs.Option.{option_or}
 use Rattle.std.proofs.lemmas.Bool.Decides.{nat_tests}
@@ -15,7 +15,6 @@ use Rattle.icu_cldr.specs.SaidSpecials.{SaysSpecials, group_end_by, group_end_sa
 use Rattle.icu_cldr.specs.inner.CompressedLeads.{has_lead}
 use Rattle.icu_cldr.specs.inner.LeadWords.{lead_words}
 use Rattle.icu_cldr.specs.inner.SpecialParts.{AddsSpecial, HasSpecials, IsOnlyLead, MakesSpecials, end_of, ends_with}
-use Rattle.icu_cldr.specs.declared.line.LeadByte.{LeadByte}
 use Rattle.icu_cldr.specs.declared.line.Line.{Line}
 use Rattle.icu_cldr.specs.declared.line.Line.TheVariants as says
 use Rattle.icu_cldr.specs.declared.mapping.Mapping.{Mapping}
