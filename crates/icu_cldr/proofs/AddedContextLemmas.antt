@@ -13,12 +13,13 @@ use Rattle.std.proofs.Math.ListN.{get_or-append}
 use Rattle.std.proofs.Math.Seq.{get_or-append_seam}
 use Rattle.std.proofs.lemmas.List.{append-nil, map-append}
 use Rattle.icu_entries.specs.declared.entry.EntryKind.{EntryKind}
+use Rattle.icu_entries.specs.Elements.{Element}
 use Rattle.icu_entries.specs.Entries.{kind_of, entry_index}
 use Rattle.icu_collation_data.specs.Data.{Mapping, Context, Data, context_in, mapping_entry, no_context}
-use Rattle.icu_table_builder.specs.Building.{and_context, and_entries}
+use Rattle.icu_table_builder.specs.Building.{and_context, and_elements, and_entries}
 use Rattle.icu_table_builder.specs.AddedContexts.{given_mapping}
 use Rattle.icu_cldr.specs.Given.{Leads, entry_in}
-use Rattle.icu_cldr.specs.inner.Surroundings.{AddsContext, Extends, Suffixes, Surroundings, entry_at, entry_between, mappings_by, nearest_of, value_among}
+use Rattle.icu_cldr.specs.inner.Surroundings.{AddsContext, Extends, HasMoreLists, Suffixes, Surroundings, entry_at, entry_between, mappings_by, nearest_of, value_among}
 use Rattle.icu_cldr.proofs.SurroundingLemmas.{found_among}
 
 -- ---- look-ups
@@ -154,8 +155,8 @@ no_context_added d new (m ∷ ms) entries same none chars f h = absurd (omega ar
 
 -- ---- tables that grow
 
-pub extends_itself : (d : Data) → Extends d d
-extends_itself d = record {
+pub lists_itself : (d : Data) → HasMoreLists d d
+lists_itself d = record {
   more_elements = [];
   more_entries = [];
   more_contexts = [];
@@ -164,8 +165,8 @@ extends_itself d = record {
   contexts = sym (append-nil d.contexts);
 }
 
-pub extends_further : (a b c : Data) → Extends a b → Extends b c → Extends a c
-extends_further a b c p q = record {
+pub lists_further : (a b c : Data) → HasMoreLists a b → HasMoreLists b c → HasMoreLists a c
+lists_further a b c p q = record {
   more_elements = p.more_elements ++ q.more_elements;
   more_entries = p.more_entries ++ q.more_entries;
   more_contexts = p.more_contexts ++ q.more_contexts;
@@ -174,31 +175,56 @@ extends_further a b c p q = record {
   contexts = q.contexts ∙ ap (λ xs. xs ++ q.more_contexts) p.contexts ∙ append_assoc a.contexts p.more_contexts q.more_contexts;
 }
 
+pub extends_itself : (d : Data) → Extends d d
+extends_itself d = record { lists = lists_itself d; value = refl }
+
+pub extends_further : (a b c : Data) → Extends a b → Extends b c → Extends a c
+extends_further a b c p q = record { lists = lists_further a b c p.lists q.lists; value = q.value ∙ p.value }
+
 pub extends_by_context : (d new : Data) (x : Context) → new ≡ and_context d x → Extends d new
 extends_by_context d new x e = record {
-  more_elements = [];
-  more_entries = [];
-  more_contexts = x ∷ [];
-  elements = ap (λ (n : Data). n.elements) e ∙ sym (append-nil d.elements);
-  entries = ap (λ (n : Data). n.entries) e ∙ sym (append-nil d.entries);
-  contexts = ap (λ (n : Data). n.contexts) e;
+  lists = record {
+    more_elements = [];
+    more_entries = [];
+    more_contexts = x ∷ [];
+    elements = ap (λ (n : Data). n.elements) e ∙ sym (append-nil d.elements);
+    entries = ap (λ (n : Data). n.entries) e ∙ sym (append-nil d.entries);
+    contexts = ap (λ (n : Data). n.contexts) e;
+  };
+  value = ap (λ (n : Data). n.value) e;
 }
 
 pub extends_by_entries : (d new : Data) (es : List ℕ) → new ≡ and_entries d es → Extends d new
 extends_by_entries d new es e = record {
-  more_elements = [];
-  more_entries = es;
-  more_contexts = [];
-  elements = ap (λ (n : Data). n.elements) e ∙ sym (append-nil d.elements);
-  entries = ap (λ (n : Data). n.entries) e;
-  contexts = ap (λ (n : Data). n.contexts) e ∙ sym (append-nil d.contexts);
+  lists = record {
+    more_elements = [];
+    more_entries = es;
+    more_contexts = [];
+    elements = ap (λ (n : Data). n.elements) e ∙ sym (append-nil d.elements);
+    entries = ap (λ (n : Data). n.entries) e;
+    contexts = ap (λ (n : Data). n.contexts) e ∙ sym (append-nil d.contexts);
+  };
+  value = ap (λ (n : Data). n.value) e;
+}
+
+pub extends_by_elements : (d new : Data) (es : List Element) → new ≡ and_elements d es → Extends d new
+extends_by_elements d new es e = record {
+  lists = record {
+    more_elements = es;
+    more_entries = [];
+    more_contexts = [];
+    elements = ap (λ (n : Data). n.elements) e;
+    entries = ap (λ (n : Data). n.entries) e ∙ sym (append-nil d.entries);
+    contexts = ap (λ (n : Data). n.contexts) e ∙ sym (append-nil d.contexts);
+  };
+  value = ap (λ (n : Data). n.value) e;
 }
 
 pub extends_from : (a b d : Data) → a ≡ b → Extends a d → Extends b d
 extends_from a b d e grows = subst (λ x. Extends x d) e grows
 
 -- what an entry leads to stays
-pub leads_further : (kind : EntryKind) (d new : Data) (e : ℕ) (chars : List ℕ) (f : ℕ) → Extends d new → Leads kind d e chars f → Leads kind new e chars f
+pub leads_further : (kind : EntryKind) (d new : Data) (e : ℕ) (chars : List ℕ) (f : ℕ) → HasMoreLists d new → Leads kind d e chars f → Leads kind new e chars f
 leads_further kind d new e chars f grows (inl r) =
     let i : ℕ = entry_index e in
     let size : length new.contexts ≡ length d.contexts + length grows.more_contexts = ap length grows.contexts ∙ length-append d.contexts grows.more_contexts in

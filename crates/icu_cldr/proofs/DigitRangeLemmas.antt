@@ -11,10 +11,10 @@ use Rattle.icu_entries.specs.Entries.{entry_index}
 use Rattle.icu_cldr.specs.CharacterEntries.{IsDigitEntry}
 use Rattle.icu_cldr.specs.inner.Digits.{IsDigitOrAbsent, MakesDigits}
 use Rattle.icu_cldr.specs.inner.LineEntries.{Plain}
-use Rattle.icu_cldr.specs.inner.Surroundings.{Extends}
+use Rattle.icu_cldr.specs.inner.Surroundings.{Extends, HasMoreLists}
 
 -- a digit's entry stays one
-pub digit_further : (d new : Data) (value plain e : ℕ) → Extends d new → IsDigitEntry d value plain e → IsDigitEntry new value plain e
+pub digit_further : (d new : Data) (value plain e : ℕ) → HasMoreLists d new → IsDigitEntry d value plain e → IsDigitEntry new value plain e
 digit_further d new value plain e grows digit =
     let size : length new.entries ≡ length d.entries + length grows.more_entries = ap length grows.entries ∙ length-append d.entries grows.more_entries in
     let here : plain_of new e ≡ plain_of d e = ap (λ xs. plain_of (record d { entries = xs }) e) grows.entries ∙ get_or-append d.entries grows.more_entries 0 (entry_index e) digit.inside in
@@ -27,7 +27,7 @@ digit_further d new value plain e grows digit =
 
 pub or_absent_further : (d new : Data) (value : ℕ) (was is : Option ℕ) → Extends d new → IsDigitOrAbsent d value was is → IsDigitOrAbsent new value was is
 or_absent_further d new value None is grows digit = digit
-or_absent_further d new value (Some plain) is grows (e, has, digit) = (e, has, digit_further d new value plain e grows digit)
+or_absent_further d new value (Some plain) is grows (e, has, digit) = (e, has, digit_further d new value plain e grows.lists digit)
 
 same_number : (m n : ℕ) → (m == n) ≡ true → m ≡ n
 same_number m n h = grind (arith, nat_tests)

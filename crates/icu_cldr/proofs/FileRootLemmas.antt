@@ -11,14 +11,18 @@ use Rattle.icu_cldr.specs.HexDigits.{number_written, scalar_from}
 use Rattle.icu_cldr.specs.IdeographOrder.{ideograph_weight, ideographs_of}
 use Rattle.icu_cldr.specs.Ideographs.{primary_in}
 use Rattle.icu_cldr.specs.LineParts.{text_of}
+use Rattle.icu_cldr.specs.Unmapped.{GivesUnmapped}
 use Rattle.icu_cldr.specs.Words.{WordsWrite, WriteCharacters}
 use Rattle.icu_cldr.specs.WrittenLines.{LineSays}
 use Rattle.icu_cldr.specs.WrittenMappings.{WriteContext, WritesMapping}
+use Rattle.icu_cldr.specs.inner.SpecialParts.{MakesSpecials}
+use Rattle.icu_cldr.specs.inner.TakenCharacters.{HasUnmapped, LeavesUnmapped}
 use Rattle.icu_cldr.specs.inner.Taken.{HasNothing, HasSaid, KeepsMappings, TakesFile}
 use Rattle.icu_cldr.specs.declared.collected.Collected.{Collected}
 use Rattle.icu_cldr.specs.declared.line.Line.{Line}
 use Rattle.icu_cldr.specs.declared.line.Line.TheVariants as says
 use Rattle.icu_cldr.specs.declared.mapping.Mapping.{Mapping}
+use Rattle.icu_cldr.proofs.SaidSpecialLemmas.{specials_said}
 use Rattle.icu_cldr.proofs.TakenLemmas.{said_further}
 use Rattle.icu_cldr.proofs.WeightedRangeLemmas.{weights_are}
 
@@ -82,14 +86,17 @@ module _ (c : Collected) (all : CollatorTables) (nothing : HasNothing c) (keeps 
   all_stand (l ∷ ls) (x ∷ xs) are has = (one_stands l x are.0 has.0, all_stand ls xs are.1 has.1)
 
 -- all lines of known bytes stand in the tables
-pub file_stands : (c : Collected) (all : CollatorTables) → HasNothing c → KeepsMappings c all → (known : Option (List ℕ)) → IfSome known (TakesFile c)
+pub file_stands : (c : Collected) (all : CollatorTables) → HasNothing c → KeepsMappings c all → MakesSpecials c.special all.special → HasUnmapped c → LeavesUnmapped c all → (known : Option (List ℕ)) → IfSome known (TakesFile c)
     → IfSome known (λ bytes. SaysFile bytes all)
-file_stands c all nothing keeps None takes = tt
-file_stands c all nothing keeps (Some bytes) (lines, said, are, takes) = record {
+file_stands c all nothing keeps makes has leaves None takes = tt
+file_stands c all nothing keeps makes has leaves (Some bytes) (lines, said, are, takes) = record {
   lines = lines;
   said = said;
   are_lines = are;
   say = takes.0;
   stand = all_stand c all nothing keeps (ideograph_weight (ideographs_of said))
       (λ x p h. sym (weights_are c.ideographs (ideographs_of said) x takes.2) ∙ h) lines said takes.0 takes.1;
+  specials = specials_said c.special all.special said takes.3 makes;
+  unmapped = λ x scalar none. subst (GivesUnmapped all.tables.root x) (weights_are c.ideographs (ideographs_of said) x takes.2)
+      (leaves has x scalar (takes.4 x none));
 }

@@ -1,6 +1,6 @@
 -- What a root says of the mappings that were taken in.
 use Rattle.std.proofs.Common.{◌≡◌, ℕ, Bool, true, false, List, [], ◌∷◌, Option, Some, None, refl, sym, ap, subst, ◌∙◌, inl, inr, length, take, arith}
-use Rattle.std.specs.Prelude.{◌==◌, ◌&&◌, MatchBool, OnOk, Result, Ok, Err, is_ok, reverse, is_some, unwrap_or, option_and_then}
+use Rattle.std.specs.Prelude.{◌==◌, ◌&&◌, MatchBool, IfOk, OnOk, Result, Ok, Err, is_ok, reverse, is_some, unwrap_or, option_and_then}
 use Rattle.std.specs.BTreeMap.{get}
 use Rattle.std.specs.Char.{IsScalar}
 use Rattle.std.specs.Option.{option_or}
@@ -22,12 +22,15 @@ use Rattle.icu_cldr.specs.inner.Digits.{IsDigitOrAbsent, MakesAllDigits}
 use Rattle.icu_cldr.specs.inner.LineEntries.{Around, HasEntry, Plain, entry_around}
 use Rattle.icu_cldr.specs.inner.Resolved.{IsResolved}
 use Rattle.icu_cldr.specs.inner.RootValues.{HasEntries, SameLists}
-use Rattle.icu_cldr.specs.inner.Surroundings.{Extends, IsBehind, Surroundings, entry_between, nearest, nearest_of, own_entry, value_among}
+use Rattle.icu_cldr.specs.inner.Surroundings.{Extends, HasMoreLists, IsBehind, Surroundings, entry_between, nearest, nearest_of, own_entry, value_among}
+use Rattle.icu_cldr.specs.Unmapped.{GivesUnmapped}
 use Rattle.icu_cldr.specs.inner.Taken.{HasMapping, HasNothing}
+use Rattle.icu_cldr.specs.inner.TakenCharacters.{HasNoEntry, HasUnmapped}
 use Rattle.icu_cldr.specs.declared.collected.Collected.{Collected}
 use Rattle.icu_cldr.specs.declared.mapping.Mapping.{Mapping}
-use Rattle.icu_cldr.proofs.AddedContextLemmas.{extends_further, leads_further}
+use Rattle.icu_cldr.proofs.AddedContextLemmas.{lists_further, leads_further}
 use Rattle.icu_cldr.proofs.DigitRangeLemmas.{by_test, digit_further}
+use Rattle.icu_cldr.proofs.IdeographValueLemmas.{unmapped_further}
 use Rattle.icu_cldr.proofs.TakenLemmas.{spells_further}
 
 -- what holds where a call didn't fail, and its error became another one where it did
@@ -35,9 +38,14 @@ pub on_ok_kept : {T E D P : Type 0} (r : Result T E) (s : Result T D) (x : T) �
 on_ok_kept (Ok y) s x h same is = h
 on_ok_kept (Err e) s x h same is = let no : true ≡ false = sym (ap is_ok is) ∙ same in cc
 
+-- what holds of a result by three facts
+pub ok_by_three : {T E : Type 0} (r : Result T E) (P Q S R : T → Type 0) → ((x : T) → P x → Q x → S x → R x) → IfOk r P → IfOk r Q → IfOk r S → IfOk r R
+ok_by_three (Ok x) P Q S R f p q s = f x p q s
+ok_by_three (Err e) P Q S R f p q s = tt
+
 -- the same lists are no fewer
-pub extends_same : (d e : Data) → SameLists d e → Extends d e
-extends_same d e same = record {
+pub lists_same : (d e : Data) → SameLists d e → HasMoreLists d e
+lists_same d e same = record {
   more_elements = [];
   more_entries = [];
   more_contexts = [];
@@ -46,7 +54,7 @@ extends_same d e same = record {
   contexts = same.contexts ∙ sym (append-nil d.contexts);
 }
 
-gives_further : (d new : Data) (e : ℕ) (before after : List ℕ) (f : ℕ) → Extends d new → Gives d e before after f → Gives new e before after f
+gives_further : (d new : Data) (e : ℕ) (before after : List ℕ) (f : ℕ) → HasMoreLists d new → Gives d e before after f → Gives new e before after f
 gives_further d new e before after f grows g = record {
   behind = g.behind;
   prefix = leads_further _ d new e before g.behind grows g.prefix;
@@ -105,7 +113,7 @@ module _ (d2 d : Data) (contexts : Around) (entries2 entries3 : Plain) (c : ℕ)
   alone_in (Some all) e is none (v, at, gives) h =
       let own : entry_of_char entries2 c ≡ e = ap (λ o. unwrap_or o implicit_entry) h in
       let near : nearest all (entry_of_char entries2 c) [] [] ≡ Some e = nearest_own all (entry_of_char entries2 c) none ∙ ap Some own in
-      subst (λ x. Gives d x [] [] e) (sym (value_is v at)) (gives_further d2 d v [] [] e (extends_same d2 d same) (gives [] [] e (inl refl) near))
+      subst (λ x. Gives d x [] [] e) (sym (value_is v at)) (gives_further d2 d v [] [] e (lists_same d2 d same) (gives [] [] e (inl refl) near))
 
   -- the entry of a character that is mapped by itself
   pub gives_alone : (e : ℕ) → entry_around contexts c [] [] ≡ None → get nat_cmp entries2 c ≡ Some e → Gives d (d.value c) [] [] e
@@ -116,7 +124,7 @@ module _ (d2 d : Data) (contexts : Around) (entries2 entries3 : Plain) (c : ℕ)
   between_in None before after e h r = cc
   between_in (Some all) before after e h (v, at, gives) =
       subst (λ x. Gives d x before after e) (sym (value_is v at))
-      (gives_further d2 d v before after e (extends_same d2 d same)
+      (gives_further d2 d v before after e (lists_same d2 d same)
       (gives before after e (is_behind all before after e h) (nearest_is all (entry_of_char entries2 c) before after e h)))
 
   -- the entry of one that is mapped between others
@@ -153,8 +161,8 @@ module _ (from : Collected) (d1 d2 d : Data) (entries2 entries3 : Plain)
     (made : MakesAllDigits d1 from.entries entries2) (first : Extends (built_data from.builder) d1) (second : Extends d1 d2)
     (resolved : (c : ℕ) → IsResolved d2 (get nat_cmp from.contexts c) (entry_of_char entries2 c) (get nat_cmp entries2 c) (get nat_cmp entries3 c))
     (same : SameLists d2 d) (has : HasEntries entries3 d2 d) (nothing : HasNothing from) where
-  grows : Extends d1 d
-  grows = extends_further d1 d2 d second (extends_same d2 d same)
+  grows : HasMoreLists d1 d
+  grows = lists_further d1 d2 d second.lists (lists_same d2 d same)
 
   further_digit : (c letter e : ℕ) → MatchBool (is_digit_char c) (IsDigitEntry d1 (decimal_value c) letter e) (e ≡ letter)
       → MatchBool (is_digit_char c) (IsDigitEntry d (decimal_value c) letter e) (e ≡ letter)
@@ -202,7 +210,35 @@ module _ (from : Collected) (d1 d2 d : Data) (entries2 entries3 : Plain)
         letter = e;
         entry = to.entry;
         said = said;
-        spells = spells_further (built_data from.builder) d e elements (extends_further (built_data from.builder) d1 d first grows) spells;
+        spells = spells_further (built_data from.builder) d e elements (lists_further (built_data from.builder) d1 d first.lists grows) spells;
         digit = to.digit;
         gives = to.gives;
       }
+
+-- ---- characters that no line maps
+
+none_made : (d : Data) (value : ℕ) (b : Bool) (was is : Option ℕ) → was ≡ None → MatchBool b (IsDigitOrAbsent d value was is) (is ≡ was) → is ≡ None
+none_made d value true None is none h = h
+none_made d value true (Some e) is none h = cc
+none_made d value false was is none h = h ∙ none
+
+none_given : (d : Data) (found : Option Surroundings) (own : ℕ) (was is : Option ℕ) → found ≡ None → IsResolved d found own was is → is ≡ was
+none_given d None own was is none h = h
+none_given d (Some all) own was is none h = cc
+
+-- what was put in for a character without an entry is in the root
+pub unmapped_left : (from : Collected) (d1 d2 d : Data) (entries2 entries3 : Plain)
+    → MakesAllDigits d1 from.entries entries2 → Extends (built_data from.builder) d1 → Extends d1 d2
+    → ((c : ℕ) → IsResolved d2 (get nat_cmp from.contexts c) (entry_of_char entries2 c) (get nat_cmp entries2 c) (get nat_cmp entries3 c))
+    → SameLists d2 d → HasEntries entries3 d2 d → HasUnmapped from
+    → (x : ℕ) → IsScalar x → HasNoEntry from.entries from.contexts x → GivesUnmapped d x (primary_in from.ideographs x)
+unmapped_left from d1 d2 d entries2 entries3 made first second resolved same has unmapped x scalar none =
+    let alone : get nat_cmp entries2 x ≡ None =
+    none_made d1 (decimal_value x) (is_digit_char x) (get nat_cmp from.entries x) (get nat_cmp entries2 x) none.alone (made x scalar) in
+    let last : get nat_cmp entries3 x ≡ None =
+    none_given d2 (get nat_cmp from.contexts x) (entry_of_char entries2 x) (get nat_cmp entries2 x) (get nat_cmp entries3 x) none.between (resolved x) ∙ alone in
+    let value : d.value x ≡ (built_data from.builder).value x =
+    has x (scalar_below x scalar) ∙ ap (λ o. unwrap_or o (d2.value x)) last ∙ ap (λ f. f x) (second.value ∙ first.value) in
+    unmapped_further (built_data from.builder) d x (primary_in from.ideographs x)
+    (lists_further (built_data from.builder) d2 d (lists_further (built_data from.builder) d1 d2 first.lists second.lists) (lists_same d2 d same))
+    value (unmapped x scalar)

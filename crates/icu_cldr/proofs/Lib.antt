@@ -13,6 +13,8 @@ pub mod IdeographLemmas
 pub mod WeightedRangeLemmas
 pub mod DigitRangeLemmas
 pub mod CountedDigitLemmas
+pub mod SaidSpecialLemmas
+pub mod IdeographValueLemmas
 pub mod RootValueLemmas
 pub mod ResolvedLemmas
 pub mod FinishedLemmas

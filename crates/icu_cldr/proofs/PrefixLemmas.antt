@@ -92,7 +92,7 @@ pub leads_turn : (all : Surroundings) (own : ℕ) (d more : Data) (k : List ℕ)
     → (before : List ℕ) (e : ℕ) → entry_at new before ≡ Some e → LeadsNearest all own more before e
 leads_turn all own d more k v old new i grows here kept before e h =
     leads_here all own more k before v e (entry_at old before) (bytes_eq k before) (λ same. same_from_true k before same) here
-    (λ was after f n. leads_further Contraction d more e after f grows (kept before e was after f n))
+    (λ was after f n. leads_further Contraction d more e after f grows.lists (kept before e was after f n))
     (sym (inserted_at old new k v i before) ∙ h)
 
 -- at first no prefix alone has an entry
@@ -132,7 +132,7 @@ gives_nearest all own d new entries default result grows leads covers alone pref
     record {
       behind = found.0;
       prefix = prefix before found.0 found.1;
-      contraction = leads_further Contraction d new found.0 after f grows (leads before found.0 found.1 after f h);
+      contraction = leads_further Contraction d new found.0 after f grows.lists (leads before found.0 found.1 after f h);
     } where
       there_is : IsBehind all before → is_some (entry_at entries before) ≡ true
       there_is (inl none) = ap (λ cs. is_some (entry_at entries cs)) none ∙ ap is_some alone

@@ -52,7 +52,7 @@ resolved_further d new (Some all) own old is grows (e, has, gives) = (
   has,
   λ before after f behind near.
       let g : Gives d e before after f = gives before after f behind near in
-      record { behind = g.behind; prefix = leads_further _ d new e before g.behind grows g.prefix; contraction = leads_further _ d new g.behind after f grows g.contraction },
+      record { behind = g.behind; prefix = leads_further _ d new e before g.behind grows.lists g.prefix; contraction = leads_further _ d new g.behind after f grows.lists g.contraction },
 )
 
 -- how far the contexts of characters are resolved

@@ -1,10 +1,13 @@
 -- What was taken in stays.
-use Rattle.std.proofs.Common.{◌≡◌, ℕ, ◌+◌, ◌-◌, ◌≤◌, Bool, true, false, List, [], ◌∷◌, ◌++◌, Option, Some, None, refl, sym, ap, ◌∙◌, inl, inr, length, length-append, map, take, drop, arith, option_map, zero, suc}
-use Rattle.std.specs.Prelude.{IfSome, OnOk, Result, Ok, Err, ◌==◌, ◌&&◌, nat_lt, nat_le, bytes_eq, reverse, if◌then◌else◌}
+use Rattle.std.proofs.Common.{◌≡◌, ℕ, ◌+◌, ◌-◌, ◌≤◌, Bool, true, false, List, [], ◌∷◌, ◌++◌, Option, Some, None, refl, sym, ap, subst, ◌∙◌, inl, inr, length, length-append, map, take, drop, arith, option_map, zero, suc}
+use Rattle.std.specs.Prelude.{IfSome, OnOk, Result, Ok, Err, ◌==◌, ◌&&◌, ◌||◌, nat_lt, nat_le, bytes_eq, reverse, if◌then◌else◌}
 use Rattle.std.proofs.lemmas.Bool.Decides.{nat_tests}
 use Rattle.icu_table_builder.specs.Building.{built_data}
 use Rattle.icu_cldr.specs.FileLines.{AreLines}
-use Rattle.std.specs.List.{AllByRecursion, AllZip, flat_map}
+use Rattle.std.specs.BTreeMap.{get}
+use Rattle.std.specs.List.{AllByRecursion, AllZip, flat_map, list_any}
+use Rattle.std.specs.Ordering.{nat_cmp}
+use Rattle.std.proofs.lemmas.List.Folds.{list_any-append}
 use Rattle.std.proofs.lemmas.List.{take-append-le, drop-append-le, length-drop, length-reverse}
 use Rattle.icu_collation_data.specs.Data.{Data}
 use Rattle.icu_collation_data.specs.Final.{listed}
@@ -13,11 +16,14 @@ use Rattle.icu_entries.specs.Entries.{entry_index, list_length, self_contained}
 use Rattle.icu_entries.specs.EncodedEntries.{of_weights}
 use Rattle.icu_cldr.specs.Given.{Spells}
 use Rattle.icu_cldr.specs.Ideographs.{primary_in}
+use Rattle.icu_cldr.specs.Unmapped.{maps_first}
 use Rattle.icu_cldr.specs.LineElements.{primary_said, element_said, AreSaid}
 use Rattle.icu_cldr.specs.WrittenLines.{LineSays}
 use Rattle.icu_cldr.specs.WrittenMappings.{is_without_context}
-use Rattle.icu_cldr.specs.inner.LineEntries.{EntriesGrow, HasEntry}
-use Rattle.icu_cldr.specs.inner.Surroundings.{Extends}
+use Rattle.icu_cldr.specs.inner.LineEntries.{Around, EntriesGrow, HasEntry, Plain}
+use Rattle.icu_cldr.specs.inner.SpecialParts.{AddsSpecial}
+use Rattle.icu_cldr.specs.inner.Surroundings.{HasMoreLists}
+use Rattle.icu_cldr.specs.inner.TakenCharacters.{HasNoEntry, KeepsOthers, KeepsUnmapped, MapsOnly}
 use Rattle.icu_cldr.specs.inner.WeightedRanges.{AddsIdeographs}
 use Rattle.icu_cldr.specs.inner.Taken.{Grows, HasMapping, HasSaid, TakesFile, TakesLines}
 use Rattle.icu_cldr.specs.declared.collected.Collected.{Collected}
@@ -27,7 +33,8 @@ use Rattle.icu_cldr.specs.declared.fractional_element.Primary.TheVariants.{Weigh
 use Rattle.icu_cldr.specs.declared.line.Line.{Line}
 use Rattle.icu_cldr.specs.declared.line.Line.TheVariants as says
 use Rattle.icu_cldr.specs.declared.mapping.Mapping.{Mapping}
-use Rattle.icu_cldr.proofs.AddedContextLemmas.{extends_further, extends_itself}
+use Rattle.icu_cldr.proofs.AddedContextLemmas.{lists_further, lists_itself}
+use Rattle.icu_cldr.proofs.SaidSpecialLemmas.{specials_more}
 use Rattle.icu_cldr.proofs.WeightedRangeLemmas.{ideographs_more}
 
 -- ---- lists of a table that grows
@@ -61,7 +68,7 @@ listed_further e xs more ys same inside =
     ∙ sym (listed_inside e xs inside)
 
 -- an entry spells what it spelt
-pub spells_further : (d new : Data) (e : ℕ) (es : List Element) → Extends d new → Spells d e es → Spells new e es
+pub spells_further : (d new : Data) (e : ℕ) (es : List Element) → HasMoreLists d new → Spells d e es → Spells new e es
 spells_further d new e es grows (inl s) = inl s
 spells_further d new e es grows (inr (inl s)) =
     inr (inl (record {
@@ -128,7 +135,7 @@ said_stays old new (says.NumericLead n) grows has = has
 -- growing on
 pub grows_further : (a b c : Collected) → Grows a b → Grows b c → Grows a c
 grows_further a b c p q = record {
-  builder = extends_further _ _ _ p.builder q.builder;
+  builder = lists_further _ _ _ p.builder q.builder;
   entries = record {
     alone = λ x e h. q.entries.alone x e (p.entries.alone x e h);
     between = λ x before after e h. q.entries.between x before after e (p.entries.between x before after e h);
@@ -149,14 +156,44 @@ has_more : (old new : Collected) (said : List Line) (one : Line) → Grows old n
 has_more old new [] one grows all has = (has, tt)
 has_more old new (x ∷ xs) one grows all has = (said_stays old new x grows all.0, has_more old new xs one grows all.1 has)
 
+neither : (a b : Bool) → (a || (b || false)) ≡ false → (a ≡ false) × (b ≡ false)
+neither true b h = cc
+neither false true h = cc
+neither false false h = (refl, refl)
+
+-- characters that no line maps, and not one more
+maps_more : (old new : Collected) (said : List Line) (one : Line) → MapsOnly old said → KeepsUnmapped old new one → MapsOnly new (said ++ one ∷ [])
+maps_more old new said one only kept x none =
+    let both = neither (list_any (maps_first x) said) (maps_first x one) (sym (list_any-append (maps_first x) said (one ∷ [])) ∙ none) in
+    kept x both.1 (only x both.0)
+
+-- one mapping keeps the entries of other characters
+pub kept_by_mapping : (plain new_plain : Plain) (around new_around : Around) (m : Mapping) (said : Line) → said ≡ says.Mapping m
+    → KeepsOthers plain around new_plain new_around m.first
+    → (x : ℕ) → maps_first x said ≡ false → HasNoEntry plain around x → HasNoEntry new_plain new_around x
+kept_by_mapping plain new_plain around new_around m said is others x none h =
+    let other : (m.first == x) ≡ false = subst (λ s. maps_first x s ≡ false) is none in
+    record { alone = others.alone x other ∙ h.alone; between = others.between x other ∙ h.between }
+
+-- the ideographs keep all
+pub kept_by_ideographs : (plain new_plain : Plain) (around new_around : Around) (said : Line) → (new_plain ≡ plain) × (new_around ≡ around)
+    → (x : ℕ) → maps_first x said ≡ false → HasNoEntry plain around x → HasNoEntry new_plain new_around x
+kept_by_ideographs plain new_plain around new_around said same x none h = record {
+  alone = ap (λ (e : Plain). get nat_cmp e x) same.0 ∙ h.alone;
+  between = ap (λ (e : Around). get nat_cmp e x) same.1 ∙ h.between;
+}
+
 -- the lines that were taken in, and one more
 pub lines_stay : (old new : Collected) (lines : List (List ℕ)) (said : List Line) (line : List ℕ) (one : Line) → Grows old new
     → TakesLines old lines said → LineSays line one → HasSaid new one → AddsIdeographs old.ideographs new.ideographs one
+    → AddsSpecial old.special new.special one → KeepsUnmapped old new one
     → TakesLines new (lines ++ line ∷ []) (said ++ one ∷ [])
-lines_stay old new lines said line one grows all is has adds = (
+lines_stay old new lines said line one grows all is has adds specials kept = (
   says_more lines said line one all.0 is,
   has_more old new said one grows all.1 has,
   ideographs_more old.ideographs new.ideographs said all.2 one adds,
+  specials_more old.special new.special said all.3 one specials,
+  maps_more old new said one all.4 kept,
 )
 
 -- all lines of known bytes
@@ -168,7 +205,7 @@ takes_file c (Some bytes) lines said are all = (lines, said, are, all)
 -- nothing was taken in
 pub grows_not : (c : Collected) → Grows c c
 grows_not c = record {
-  builder = extends_itself (built_data c.builder);
+  builder = lists_itself (built_data c.builder);
   entries = record { alone = λ x e h. h; between = λ x b a e h. h; no_empty = λ x h. h };
   ideographs = λ x p h. h;
 }

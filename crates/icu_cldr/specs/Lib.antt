@@ -14,5 +14,7 @@ pub mod Ideographs
 pub mod IdeographOrder
 pub mod CharacterEntries
 pub mod DecimalValues
+pub mod SaidSpecials
+pub mod Unmapped
 pub mod FileRoots
 pub mod inner

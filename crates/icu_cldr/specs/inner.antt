@@ -5,6 +5,9 @@ pub mod LineEntries
 pub mod Taken
 pub mod CompressedLeads
 pub mod LeadWords
+pub mod SpecialParts
+pub mod IdeographValues
+pub mod TakenCharacters
 pub mod Digits
 pub mod RootValues
 pub mod Resolved

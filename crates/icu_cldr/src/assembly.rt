@@ -11,7 +11,9 @@ ghost use Rattle.icu_cldr.specs.Roots.{IsRoot};
 ghost use Rattle.icu_cldr.specs.inner.Resolved.{IsResolved};
 ghost use Rattle.icu_cldr.specs.inner.Surroundings.{Extends};
 ghost use Rattle.icu_cldr.specs.inner.RootValues.{SameLists, HasEntries};
+ghost use Rattle.icu_cldr.specs.inner.SpecialParts.{MakesSpecials};
 ghost use Rattle.icu_cldr.specs.inner.Taken.{KeepsMappings};
+ghost use Rattle.icu_cldr.specs.inner.TakenCharacters.{LeavesUnmapped};
 
 use crate::collected::Collected;
 use crate::contexts::{Contexts, entry_in_contexts};
@@ -132,6 +134,8 @@ impl Collected {
     pub(crate) fn finish(self) -> Result<OwnedTables, ReadError>
         ensures root { IfOk result (λ o. IsRoot (owned_tables o)) }
         ensures mappings { IfOk result (λ o. KeepsMappings self (owned_tables o)) }
+        ensures unmapped { IfOk result (λ o. LeavesUnmapped self (owned_tables o)) }
+        ensures specials { IfOk result (λ o. MakesSpecials self.special (owned_tables o).special) }
         ensures numbered { IfErr result IsNumbered }
     {
         let Collected {

@@ -1,6 +1,7 @@
 //! The entries of characters, by themselves and between others.
 ghost use Rattle.std.specs.Prelude.{◌≡◌, OnOk, reverse};
 ghost use Rattle.icu_cldr.specs.inner.LineEntries.{HasEntry, PutsPlain, PutsBetween, EntriesGrow};
+ghost use Rattle.icu_cldr.specs.inner.TakenCharacters.{KeepsOthers};
 
 use crate::Mapping;
 use crate::contexts::{Contexts, put_between};
@@ -73,6 +74,8 @@ pub(crate) fn add_entry(
 ) -> Result<(), UnnumberedError>
     ensures has { OnOk result (HasEntry entries.new contexts.new mapping entry) }
     ensures grow { OnOk result (EntriesGrow entries.old contexts.old entries.new contexts.new) }
+    ensures others { OnOk result (KeepsOthers entries.old contexts.old
+        entries.new contexts.new mapping.first) }
 {
     if mapping.is_plain() {
         return add_plain(entries, mapping.first, entry);

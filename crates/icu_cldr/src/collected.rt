@@ -1,5 +1,5 @@
 //! What the lines said so far.
-ghost use Rattle.std.specs.Prelude.{◌≡◌, ◌+◌, ◌<◌, IfSome, IfOk, OnOk};
+ghost use Rattle.std.specs.Prelude.{◌≡◌, ◌+◌, ◌<◌, [], IfSome, IfOk, OnOk};
 ghost use Rattle.icu_cldr.specs.inner.Diacritics.{SaysOfMark};
 
 use crate::character_entries::{CharacterContexts, CharacterEntries, add_entry};
@@ -16,9 +16,6 @@ use icu_provider::diacritics::{OPTIMIZED_DIACRITICS_MAX_COUNT, is_replaced_index
 use icu_table_builder::DataBuilder;
 use std::alloc::{AllocError, Global};
 use std::collections::BTreeMap;
-
-/// A character of no text, with which the least primary weights of scripts and groups begin.
-const BOUNDARY: char = '\u{FDD1}';
 
 /// The first of the combining marks whose secondary weights have a table of their own.
 const FIRST_DIACRITIC: u32 = 0x300;
@@ -83,25 +80,21 @@ fn set_diacritic(
     Ok(())
 }
 
-/// Takes in the first primary weight of a script or of a group of variable elements, where a mapping is of that.
-fn set_boundary(special: &mut Special, mapping: &Mapping, elements: &[CollationElement]) {
-    if mapping.first != BOUNDARY {
-        return;
-    }
-    if let ([sample], [element]) = (mapping.suffix.as_slice(), elements) {
-        special.set_first_primary(*sample, element.primary());
-    }
-}
-
 impl Collected {
     ghost use Rattle.icu_cldr.specs.Ideographs.{HasNoIdeographs};
-    ghost use Rattle.icu_cldr.specs.inner.Taken.{HasMapping, Grows, IsTaken, HasNothing};
-    ghost use Rattle.icu_cldr.specs.inner.WeightedRanges.{HasIdeographs};
+    ghost use Rattle.icu_cldr.specs.inner.Taken.{HasMapping, HasSaid, Grows, IsTaken, HasNothing};
+    ghost use Rattle.icu_cldr.specs.inner.WeightedRanges.{AddsIdeographs, HasIdeographs};
+    ghost use Rattle.icu_cldr.specs.inner.SpecialParts.{AddsSpecial, HasSpecials};
+    ghost use Rattle.icu_cldr.specs.inner.TakenCharacters.{HasUnmapped, KeepsOthers, KeepsUnmapped, MapsOnly};
 
     /// Nothing is said.
+    #[tactic(auto, using(crate::proofs::IdeographValueLemmas::unmapped_first))]
     pub(crate) fn new(alloc: Global) -> Result<Collected, AllocError>
         ensures nothing { IfOk result HasNothing }
         ensures none { IfOk result (λ c. HasNoIdeographs c.ideographs) }
+        ensures specials { IfOk result (λ c. HasSpecials c.special []) }
+        ensures no_entry { IfOk result (λ c. MapsOnly c []) }
+        ensures unmapped { IfOk result HasUnmapped }
     {
         Ok(Collected {
             alloc,
@@ -118,15 +111,29 @@ impl Collected {
     pub(crate) fn read_line(&mut self, line: &str) -> Result<(), UnnumberedError>
         ensures taken { OnOk result (IsTaken self.old self.new line.now) }
         ensures grows { OnOk result (Grows self.old self.new) }
+        ensures unmapped { OnOk result (HasUnmapped self.old → HasUnmapped self.new) }
     {
-        match Line::parse(self.alloc, line)? {
+        let said = Line::parse(self.alloc, line)?;
+        self.take_in(said)?;
+        Ok(())
+    }
+
+    /// Takes in what a line said.
+    fn take_in(&mut self, said: Line) -> Result<(), UnnumberedError>
+        ensures has { OnOk result (HasSaid self.new said) }
+        ensures ideographs { OnOk result
+            (AddsIdeographs self.old.ideographs self.new.ideographs said) }
+        ensures special { OnOk result (AddsSpecial self.old.special self.new.special said) }
+        ensures others { OnOk result (KeepsUnmapped self.old self.new said) }
+        ensures grows { OnOk result (Grows self.old self.new) }
+        ensures unmapped { OnOk result (HasUnmapped self.old → HasUnmapped self.new) }
+    {
+        self.special.take_in(&said)?;
+        match said {
             Line::Nothing => Ok(()),
+            Line::LeadByte(_) => Ok(()),
+            Line::NumericLead(_) => Ok(()),
             Line::Ideographs(ranges) => self.add_ideographs(ranges.as_slice()),
-            Line::LeadByte(lead) => {
-                self.special.set_lead(lead);
-                Ok(())
-            }
-            Line::NumericLead(lead) => self.special.set_numeric_lead(lead),
             Line::Mapping(mapping) => self.add_mapping(mapping),
         }
     }
@@ -135,7 +142,11 @@ impl Collected {
     fn add_ideographs(&mut self, ranges: &[CharRange]) -> Result<(), UnnumberedError>
         ensures none { OnOk result (HasNoIdeographs self.old.ideographs) }
         ensures has { OnOk result (HasIdeographs self.new.ideographs ranges.now) }
+        ensures special { OnOk result (self.new.special ≡ self.old.special) }
+        ensures kept { OnOk result ((self.new.entries ≡ self.old.entries)
+            × (self.new.contexts ≡ self.old.contexts)) }
         ensures grows { OnOk result (Grows self.old self.new) }
+        ensures unmapped { OnOk result (HasUnmapped self.old → HasUnmapped self.new) }
     {
         if !self.ideographs.is_empty() {
             return Err(UnnumberedError::Refused(LineErrorKind::Repeated));
@@ -150,11 +161,14 @@ impl Collected {
     fn add_mapping(&mut self, mapping: Mapping) -> Result<(), UnnumberedError>
         ensures has { OnOk result (HasMapping self.new mapping) }
         ensures ideographs { OnOk result (self.new.ideographs ≡ self.old.ideographs) }
+        ensures special { OnOk result (self.new.special ≡ self.old.special) }
+        ensures others { OnOk result (KeepsOthers self.old.entries self.old.contexts
+            self.new.entries self.new.contexts mapping.first) }
         ensures grows { OnOk result (Grows self.old self.new) }
+        ensures unmapped { OnOk result (HasUnmapped self.old → HasUnmapped self.new) }
     {
         let elements = elements_said(self.alloc, &self.ideographs, mapping.elements.as_slice())?;
         set_diacritic(&mut self.diacritics, &mapping, elements.as_slice())?;
-        set_boundary(&mut self.special, &mapping, elements.as_slice());
         let entry = add_elements(self.alloc, &mut self.builder, elements.as_slice())?;
         add_entry(
             self.alloc,

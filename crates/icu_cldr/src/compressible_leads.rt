@@ -2,6 +2,8 @@
 ghost use Rattle.std.specs.Prelude.{◌≡◌, ◌==◌, ◌||◌, ◌<◌, ℕ, true, length};
 ghost use Rattle.icu_cldr.specs.inner.CompressedLeads.{has_lead};
 
+use crate::LeadByte;
+
 /// A bit for each lead byte whose weights are written shorter where they follow one another: among them that of
 /// implicit weights, FE.
 #[derive(Debug, Clone, Copy, PartialEq)]
@@ -12,16 +14,28 @@ pub(crate) struct CompressibleLeads {
 
 impl CompressibleLeads {
     ghost use Rattle.icu_cldr.specs.inner.LeadWords.{lead_words};
+    ghost use Rattle.icu_cldr.specs.inner.SpecialParts.{AddsLead};
 
     /// Only the lead byte of implicit weights.
-    pub(crate) fn new() -> CompressibleLeads {
+    pub(crate) fn new() -> CompressibleLeads
+        ensures { (b : ℕ) → b < 256 → has_lead (lead_words result) b ≡ (b == 0xFE) }
+    {
         CompressibleLeads {
             words: [0, 0, 0, 0, 0, 0, 0, 0, 0, 0, 0, 0, 0, 0, 0, 0x4000],
         }
     }
 
+    /// Adds a lead byte that is said to compress.
+    pub(crate) fn take_in(&mut self, lead: LeadByte)
+        ensures { AddsLead self.old self.new lead }
+    {
+        if lead.is_compressible {
+            self.add(lead.lead);
+        }
+    }
+
     /// Adds a lead byte.
-    pub(crate) fn add(&mut self, lead: u8)
+    fn add(&mut self, lead: u8)
         ensures { (b : ℕ) → b < 256 → has_lead (lead_words self.new) b
             ≡ (b == lead || has_lead (lead_words self.old) b) }
     {

@@ -1,5 +1,5 @@
 //! The primary weights of ideographs, which the file leaves to its reader.
-ghost use Rattle.std.specs.Prelude.{◌≡◌, ◌+◌, ◌*◌, ◌%◌, ◌<◌, ◌≤◌, false, Some, IfSome, IfOk};
+ghost use Rattle.std.specs.Prelude.{◌≡◌, ◌+◌, ◌-◌, ◌*◌, ◌%◌, ◌<◌, ◌≤◌, false, Some, IfSome, IfOk};
 ghost use Rattle.std.specs.Bool.{OnTrue};
 ghost use Rattle.icu_entries.specs.Weights.{weight_at};
 ghost use Rattle.icu_cldr.specs.IdeographOrder.{first_ideograph_lead, first_ordinal, ideograph_count};
@@ -129,7 +129,9 @@ impl IdeographWeights {
     }
 
     /// The ranges.
-    pub(crate) fn ranges(&self) -> &[WeightedRange] {
+    pub(crate) fn ranges(&self) -> &[WeightedRange]
+        ensures { result.now ≡ self.now.ranges.items }
+    {
         self.ranges.as_slice()
     }
 
@@ -152,6 +154,8 @@ impl WeightedRange {
     /// The primary weight of a character of the range.
     pub(crate) fn primary(self, c: char) -> Option<u32>
         ensures weight { IfSome result (λ p. p ≡ ideograph_weight_in self c) }
+        ensures room { IfSome result (λ _.
+            self.ordinal + 2 * (c - self.range.first) < 0xFE * 64516) }
         ensures bound { IfSome result (λ p. p < 0xFE000000) }
         ensures three_bytes { IfSome result (λ p. p % 256 ≡ 0) }
     {

@@ -11,7 +11,7 @@ use std::alloc::Global;
 
 /// Weights with lead byte EF stand behind all others, and are spelt with FF, since implicit weights have FE here. The
 /// first weight behind those of assigned characters, E4, is the implicit weight before that of U+0000.
-fn respelt(primary: u32) -> u32
+pub(crate) fn respelt(primary: u32) -> u32
     ensures { result ≡ respelt primary }
 {
     if primary == 0xE400_0000 {

@@ -5,6 +5,7 @@ ghost use Rattle.icu_cldr.specs.Errors.{IsNumbered};
 ghost use Rattle.icu_cldr.specs.FileRoots.{SaysFile};
 ghost use Rattle.icu_cldr.specs.Roots.{IsRoot};
 ghost use Rattle.icu_cldr.specs.inner.Taken.{TakesFile, HasNothing};
+ghost use Rattle.icu_cldr.specs.inner.TakenCharacters.{HasUnmapped};
 
 use crate::collected::Collected;
 use crate::error::{LineErrorKind, ReadError, UnnumberedError};
@@ -28,6 +29,7 @@ fn failed(kind: ErrorKind, line: u64) -> ReadError
 fn collect_lines<R: BufRead + Drop>(alloc: Global, reader: R) -> Result<Collected, ReadError>
     ensures taken { IfOk result (λ c. IfSome (R.remaining reader) (TakesFile c)) }
     ensures nothing { IfOk result HasNothing }
+    ensures unmapped { IfOk result HasUnmapped }
     ensures numbered { IfErr result IsNumbered }
 {
     let mut collected = Collected::new(alloc)?;

@@ -61,13 +61,18 @@ abbrev pub nearest : Surroundings → ℕ → List ℕ → List ℕ → Option �
 nearest all own before after = nearest_of all own (length before) before after
 
 -- a table with more elements, entries and contexts than another one, and what that has
-pub record Extends (d e : Data) : Type 0 where
+pub record HasMoreLists (d e : Data) : Type 0 where
   pub more_elements : List Element
   pub more_entries : List ℕ
   pub more_contexts : List Context
   pub elements : e.elements ≡ d.elements ++ more_elements
   pub entries : e.entries ≡ d.entries ++ more_entries
   pub contexts : e.contexts ≡ d.contexts ++ more_contexts
+
+-- such a table whose characters have the same entries
+pub record Extends (d e : Data) : Type 0 where
+  pub lists : HasMoreLists d e
+  pub value : e.value ≡ d.value
 
 -- behind these characters there is an entry of the character, if only its own: they are none, or those before a mapping
 abbrev pub IsBehind : Surroundings → List ℕ → Type 0

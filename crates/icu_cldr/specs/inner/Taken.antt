@@ -13,7 +13,9 @@ use Rattle.icu_cldr.specs.FileRoots.{GivesMapping}
 use Rattle.icu_cldr.specs.FileLines.{AreLines}
 use Rattle.icu_cldr.specs.WrittenLines.{LineSays}
 use Rattle.icu_cldr.specs.inner.LineEntries.{HasEntry, EntriesGrow, entry_around}
-use Rattle.icu_cldr.specs.inner.Surroundings.{Extends}
+use Rattle.icu_cldr.specs.inner.SpecialParts.{AddsSpecial, HasSpecials}
+use Rattle.icu_cldr.specs.inner.Surroundings.{HasMoreLists}
+use Rattle.icu_cldr.specs.inner.TakenCharacters.{KeepsUnmapped, MapsOnly}
 use Rattle.icu_cldr.specs.inner.WeightedRanges.{AddsIdeographs, HasIdeographs}
 use Rattle.icu_cldr.specs.declared.collected.Collected.{Collected}
 use Rattle.icu_cldr.specs.declared.line.Line.{Line}
@@ -34,10 +36,11 @@ HasSaid c _ = Unit {0}
 -- a line was taken in: what it says
 abbrev pub IsTaken : Collected → Collected → List ℕ → Type 0
 IsTaken old new line = (said : Line) × LineSays line said × HasSaid new said × AddsIdeographs old.ideographs new.ideographs said
+    × AddsSpecial old.special new.special said × KeepsUnmapped old new said
 
 -- what was taken in stays
 pub record Grows (old new : Collected) : Type 0 where
-  pub builder : Extends (built_data old.builder) (built_data new.builder)
+  pub builder : HasMoreLists (built_data old.builder) (built_data new.builder)
   pub entries : EntriesGrow old.entries old.contexts new.entries new.contexts
   pub ideographs : (c p : ℕ) → primary_in old.ideographs c ≡ Some p → primary_in new.ideographs c ≡ Some p
 
@@ -49,6 +52,7 @@ HasNothing c = (x : ℕ) → entry_around c.contexts x [] [] ≡ None
 abbrev pub TakesLines : Collected → List (List ℕ) → List Line → Type 0
 TakesLines c lines said =
     AllZip LineSays lines said × AllByRecursion (HasSaid c) said × HasIdeographs c.ideographs (ideographs_of said)
+    × HasSpecials c.special said × MapsOnly c said
 
 -- what each line of a file says was taken in
 abbrev pub TakesFile : Collected → List ℕ → Type 0

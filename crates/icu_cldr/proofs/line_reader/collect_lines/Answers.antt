@@ -15,7 +15,8 @@ loop-line-init g c =
     let same = ap (lines_known_bytes g.R.Read.remaining) c.into_iter-line-iterator.ensures.into_iter_gives ∙ c.lines-line-items.ensures in
     record {
       nothing = c.in_ok-collected.ensures.nothing;
-      taken = ([], [], subst (λ (left : Option (List ℕ)). LinesRead known [] left) (sym same) (none_read known), (tt, tt, none_said c.in_ok-collected.collected.ideographs c.in_ok-collected.ensures.none));
+      unmapped = c.in_ok-collected.ensures.unmapped;
+      taken = ([], [], subst (λ (left : Option (List ℕ)). LinesRead known [] left) (sym same) (none_read known), (tt, tt, none_said c.in_ok-collected.collected.ideographs c.in_ok-collected.ensures.none, c.in_ok-collected.ensures.specials, c.in_ok-collected.ensures.no_entry));
     }
 
 pub loop-line-preserved : goal.loop-line-preserved
@@ -29,11 +30,12 @@ loop-line-preserved g c =
     let one = subst (λ (l : List ℕ). IsTaken c.loop-line.collected c.read_line.new.self l) c.as_str.ensures.value c.in_default.ensures.taken in
     record {
       nothing = λ x. c.in_default.ensures.grows.entries.no_empty x (c.loop-line.invariant.nothing x);
+      unmapped = c.in_default.ensures.unmapped c.loop-line.invariant.unmapped;
       taken = (
         lines ++ line ∷ [],
         said ++ one.0 ∷ [],
         more_read (g.R.Read.remaining c.args.reader) old new lines line read.0 read.1 c.loop-line.invariant.taken.2,
-        lines_stay c.loop-line.collected c.read_line.new.self lines said line one.0 c.in_default.ensures.grows c.loop-line.invariant.taken.3 one.1 one.2 one.3,
+        lines_stay c.loop-line.collected c.read_line.new.self lines said line one.0 c.in_default.ensures.grows c.loop-line.invariant.taken.3 one.1 one.2 one.3 one.4 one.5,
       );
     }
 

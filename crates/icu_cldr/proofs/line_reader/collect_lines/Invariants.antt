@@ -3,12 +3,14 @@ use Rattle.std.specs.Io.Iter.{lines_known_bytes}
 use Rattle.icu_cldr.specs.FileLines.{LinesRead}
 use Rattle.icu_cldr.specs.declared.line.Line.{Line}
 use Rattle.icu_cldr.specs.inner.Taken.{HasNothing, TakesLines}
+use Rattle.icu_cldr.specs.inner.TakenCharacters.{HasUnmapped}
 use Rattle.icu_cldr.proofs.line_reader.collect_lines.Given as goal
 
 -- the lines so far are taken in
 abbrev pub invariant-loop-line : goal.invariant-loop-line
 invariant-loop-line g l = record {
   nothing : HasNothing l.collected;
+  unmapped : HasUnmapped l.collected;
   taken : (lines : List (List ℕ)) × (said : List Line)
       × LinesRead (g.R.Read.remaining l.fn.reader) lines (lines_known_bytes g.R.Read.remaining l.line-iterator)
       × TakesLines l.collected lines said;

@@ -10,7 +10,7 @@ use Rattle.icu_cldr.specs.inner.Digits.{MakesAllDigits}
 use Rattle.icu_cldr.specs.inner.LineEntries.{Plain}
 use Rattle.icu_cldr.specs.inner.Resolved.{IsResolved}
 use Rattle.icu_cldr.specs.inner.Surroundings.{Extends}
-use Rattle.icu_cldr.proofs.FinishedLemmas.{mapping_given, on_ok_kept}
+use Rattle.icu_cldr.proofs.FinishedLemmas.{mapping_given, on_ok_kept, unmapped_left}
 use Rattle.icu_cldr.proofs.collected.Collected.finish.Goals as goal
 
 pub returns-clause-mappings : goal.returns-clause-mappings
@@ -33,3 +33,24 @@ returns-clause-mappings c = λ nothing m scalar has.
     c.map_err-2.ensures.variant c.in_ok-map_err-2.was in
     mapping_given from d1 d2 (owned_data c.in_ok-root.field-0) old new made first second resolved
     c.in_ok-root.ensures.lists c.in_ok-root.ensures.entries nothing m scalar has
+
+pub returns-clause-unmapped : goal.returns-clause-unmapped
+unfolding owned_tables
+returns-clause-unmapped c = λ has x scalar none.
+    let from = c.args.self in
+    let d0 : Data = built_data from.builder in
+    let d1 : Data = built_data c.make_digits.new.builder in
+    let d2 : Data = built_data c.resolve_contexts.new.builder in
+    let old : Plain = c.make_digits.new.entries in
+    let new : Plain = c.resolve_contexts.new.entries in
+    let first : Extends d0 d1 = on_ok_kept c.make_digits.result c.map_err.result c.in_ok-map_err.field-0 c.make_digits.ensures.extends
+    c.map_err.ensures.variant c.in_ok-map_err.was in
+    let made : MakesAllDigits d1 from.entries old = on_ok_kept c.make_digits.result c.map_err.result c.in_ok-map_err.field-0
+    c.make_digits.ensures.digits c.map_err.ensures.variant c.in_ok-map_err.was in
+    let second : Extends d1 d2 = on_ok_kept c.resolve_contexts.result c.map_err-2.result c.in_ok-map_err-2.field-0 c.resolve_contexts.ensures.extends
+    c.map_err-2.ensures.variant c.in_ok-map_err-2.was in
+    let resolved : (x : ℕ) → IsResolved d2 (get nat_cmp from.contexts x) (entry_of_char old x) (get nat_cmp old x) (get nat_cmp new x) =
+    on_ok_kept c.resolve_contexts.result c.map_err-2.result c.in_ok-map_err-2.field-0 c.resolve_contexts.ensures.resolved
+    c.map_err-2.ensures.variant c.in_ok-map_err-2.was in
+    unmapped_left from d1 d2 (owned_data c.in_ok-root.field-0) old new made first second resolved
+    c.in_ok-root.ensures.lists c.in_ok-root.ensures.entries has x scalar none

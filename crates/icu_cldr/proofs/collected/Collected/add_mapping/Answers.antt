@@ -1,0 +1,10 @@
+use Rattle.icu_table_builder.specs.Building.{built_data}
+use Rattle.icu_cldr.proofs.IdeographValueLemmas.{unmapped_kept}
+use Rattle.icu_cldr.proofs.TakenLemmas.{ok_always}
+use Rattle.icu_cldr.proofs.collected.Collected.add_mapping.Goals as goal
+
+pub returns-clause-unmapped : goal.returns-clause-unmapped
+returns-clause-unmapped c =
+    ok_always c.add_entry.result
+    (λ has. unmapped_kept (built_data c.args.self.now.builder) (built_data c.add_elements.new.builder) c.args.self.now.ideographs
+    c.in_ok-entry.ensures.extends has)
