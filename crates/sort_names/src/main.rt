@@ -1,22 +1,17 @@
 //! Lists a few names in order: a program over `icu_collator`, with the tables of `icu_mini`.
 #![tactic(auto)]
 
-ghost use Rattle.std.specs.Prelude.{◌≡◌, chars, map, IfOk};
-ghost use Rattle.std.specs.List.Sorted.{IsPermutation, IsSortedBy};
-ghost use Rattle.std.specs.Ordering.{is_lt};
-ghost use Rattle.icu_collator.specs.Collators.{collation_borrowed, collation_kept};
+ghost use Rattle.std.specs.Prelude.{◌≡◌, map, IfOk};
+ghost use Rattle.icu_collator.specs.Collators.{collation_kept};
 ghost use Rattle.icu_index.specs.Listings.{listing_of, name_order};
 ghost use Rattle.icu_index.specs.NameIndexes.{index_collation, listing};
-ghost use Rattle.icu_collator.specs.TextOrder.{text_order};
 
-use icu_collator::laws::text_order_is_total;
 use icu_collator::options::{CollatorOptions, Strength};
 use icu_collator::provider::{DataError, DataErrorKind};
-use icu_collator::{Collator, CollatorBorrowed, CollatorPreferences};
+use icu_collator::{Collator, CollatorPreferences};
 use icu_index::NameIndex;
 use icu_mini::mini::Mini;
 use std::alloc::{AllocError, Global};
-use std::cmp::Ordering;
 use std::io;
 use std::io::Write;
 use std::process::ExitCode;
@@ -95,43 +90,8 @@ fn print_names(rt: &HostRuntime) -> Result<(), Error> {
     Ok(output.flush()?)
 }
 
-/// Sorts names where they stand, by the order of a collator. Never fails.
-fn sort(collator: &CollatorBorrowed<'_>, names: &mut [&str])
-    ensures permutation { IsPermutation names.old names.new }
-    ensures sorted { let collation = collation_borrowed collator.now in IsSortedBy
-        (λ one other. is_lt (text_order collation (chars one.now) (chars other.now))) names.new }
-{
-    text_order_is_total();
-    names.sort_unstable_by(
-        |one, other| -> Ordering
-            ensures { result ≡ text_order (collation_borrowed collator.now)
-                (chars one.now.now) (chars other.now.now) }
-        { collator.order(*one, *other) },
-    );
-}
-
-/// Prints names in order once more, in one line.
-fn print_sorted(rt: &HostRuntime) -> Result<(), Error> {
-    let collator = collator(rt.alloc())?;
-    let mut names = ["Zoë", "Émile", "emil", "Zoe", "Bo", "Emil"];
-    sort(&collator.as_borrowed(), &mut names);
-    let mut output = rt.stdout();
-    for name in names {
-        output.write_all(name.as_bytes())?;
-        output.write_all(b" ")?;
-    }
-    output.write_all(b"\n")?;
-    Ok(output.flush()?)
-}
-
-/// Both listings.
-fn print_both(rt: &HostRuntime) -> Result<(), Error> {
-    print_names(rt)?;
-    print_sorted(rt)
-}
-
 fn main(rt: HostRuntime) -> ExitCode {
-    match print_both(&rt) {
+    match print_names(&rt) {
         Ok(()) => ExitCode::SUCCESS,
         Err(error) => {
             let _ = eprintln!(rt; "sort_names: {error:?}");
