@@ -29,7 +29,7 @@ KEY, CHECK, FILE, READ, LINE = "`key`", "`check`", "`root`", "`next` and `whole`
 # Calls to which no question comes: each request of this program, or of this crate, is refused or tested by itself; some are run by
 # the tests of their own crates alone, without a refusal.
 PROGRAM, TYPES, TESTS = "the program `collate-cldr`", "`test_types`", "the crate's own tests, where no allocation is refused"
-# Calls that nothing makes: those over a trait that no crate implements yet, those of the reader of steps, and one that hands tables
+# Calls that nothing makes: those on which no program stands yet (searching, tailorings, the reader of steps), and one that hands tables
 # which come one by one to `from_set`.
 NOTHING = "nothing"
 # The crate and the name of a call, behind its type where it has one, and the question of the driver that comes to it, or what else
@@ -52,7 +52,20 @@ LEFT_OUT = {
     ("icu_small_tables", "checked_small_tables"): TYPES,
     ("icu_search", "FoundSpans::next"): NOTHING,
     ("icu_search", "first_least"): NOTHING,
+    ("icu_searcher", "PlaceReader::next"): NOTHING,
+    ("icu_searcher", "place_marks"): NOTHING,
+    ("icu_symbolic_mappings", "Mappings::mapping_step"): NOTHING,
+    ("icu_symbolic_mappings", "Mappings::suppression_step"): NOTHING,
+    ("icu_symbolic_mappings", "Mappings::symbolic_elements"): NOTHING,
+    ("icu_symbolic_mappings", "cased_elements"): NOTHING,
     ("icu_weight_gaps", "weights_between"): TESTS,
+    ("icu_weight_tree", "RuleElements::differ_at"): NOTHING,
+    ("icu_weight_tree", "RuleElements::differ_by"): NOTHING,
+    ("icu_weight_tree", "RuleElements::go_before_at"): NOTHING,
+    ("icu_weight_tree", "RuleElements::go_before_by"): NOTHING,
+    ("icu_weight_tree", "WeightTreeBuilder::put_before"): NOTHING,
+    ("icu_weight_tree", "WeightTreeBuilder::put_new_weight"): NOTHING,
+    ("icu_weight_tree", "WeightTreeBuilder::put_weights"): NOTHING,
     ("icu_xml", "read_document"): TESTS,
     ("icu_weights", "first_overlap"): CHECK,
     ("icu_weights", "first_common_overlap"): CHECK,
