@@ -2,7 +2,7 @@
 there before it must not be printed as if they were all."""
 from sweeps import built, faults_of, is_beginning, losses_missed, run, sweep
 
-NAMES = "Bo\nemil\nEmil\nÉmile\nZoe\nZoë\n".encode()
+NAMES = "Bo\nemil\nEmil\nÉmile\nZoe\nZoë\nBo 4, emil 2, Emil 5, Émile 1, Zoe 3, Zoë 0, each once\n".encode()
 NO_MEMORY, WRITE_FAILED = b"sort_names: NoMemory\n", b"sort_names: Output("
 
 

@@ -1,1 +1,1 @@
-pub mod NumberOrders
+pub mod TextIndices

@@ -19,14 +19,12 @@ pub fn sort_texts(collator: &CollatorBorrowed<'_>, texts: &mut [&str])
         (λ one other. is_lt (text_order collation (chars one.now) (chars other.now))) texts.new }
 {
     text_order_is_total();
-    texts.sort_unstable_by(|one, other| -> Ordering
-        ensures order { result ≡ text_order (collation_borrowed collator.entry.now)
-            (chars one.now.now) (chars other.now.now) }
-        ensures kept { collation_borrowed collator.exit.now
-            ≡ collation_borrowed collator.entry.now }
-    {
-        collator.order(*one, *other)
-    });
+    texts.sort_unstable_by(
+        |one, other| -> Ordering
+            ensures { result ≡ text_order (collation_borrowed collator.entry.now)
+                (chars one.now.now) (chars other.now.now) }
+        { collator.order(*one, *other) },
+    );
 }
 
 /// Sorts names where they stand, as `sort_texts` does. A name is bytes in UTF-8 that may be damaged: each maximal
@@ -39,12 +37,10 @@ pub fn sort_utf8(collator: &CollatorBorrowed<'_>, names: &mut [&[u8]])
         names.new }
 {
     text_order_is_total();
-    names.sort_unstable_by(|one, other| -> Ordering
-        ensures order { result ≡ text_order (collation_borrowed collator.entry.now)
-            (utf8_text one.now.now) (utf8_text other.now.now) }
-        ensures kept { collation_borrowed collator.exit.now
-            ≡ collation_borrowed collator.entry.now }
-    {
-        collator.order_utf8(*one, *other)
-    });
+    names.sort_unstable_by(
+        |one, other| -> Ordering
+            ensures { result ≡ text_order (collation_borrowed collator.entry.now)
+                (utf8_text one.now.now) (utf8_text other.now.now) }
+        { collator.order_utf8(*one, *other) },
+    );
 }

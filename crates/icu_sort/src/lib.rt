@@ -1,8 +1,8 @@
-//! Texts sorted by a collator: in place, with no memory and no error, or by their numbers and stable.
+//! Texts sorted by a collator: in place, with no memory and no error, or by their indices and stable.
 #![tactic(auto)]
 
 pub mod in_place;
-pub mod numbers;
+pub mod text_indices;
 
 pub use in_place::{sort_texts, sort_utf8};
-pub use numbers::stable_order;
+pub use text_indices::stable_order;

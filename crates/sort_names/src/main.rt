@@ -11,6 +11,7 @@ use icu_collator::provider::{DataError, DataErrorKind};
 use icu_collator::{Collator, CollatorPreferences};
 use icu_index::NameIndex;
 use icu_mini::mini::Mini;
+use icu_sort::{sort_texts, stable_order};
 use std::alloc::{AllocError, Global};
 use std::io;
 use std::io::Write;
@@ -90,8 +91,26 @@ fn print_names(rt: &HostRuntime) -> Result<(), Error> {
     Ok(output.flush()?)
 }
 
+/// Prints names in one line, sorted where they stand, each with its index among those that were handed in.
+fn print_sorted(rt: &HostRuntime) -> Result<(), Error> {
+    let collator = collator(rt.alloc())?;
+    let names = ["Zoë", "Émile", "emil", "Zoe", "Bo", "Emil"];
+    let indices = stable_order(rt.alloc(), &collator.as_borrowed(), &names)?;
+    let mut sorted = names;
+    sort_texts(&collator.as_borrowed(), &mut sorted);
+    for (name, index) in sorted.iter().zip(indices.iter()) {
+        print!(rt; "{name} {index}, ")?;
+    }
+    Ok(println!(rt; "each once")?)
+}
+
+fn print_all(rt: &HostRuntime) -> Result<(), Error> {
+    print_names(rt)?;
+    print_sorted(rt)
+}
+
 fn main(rt: HostRuntime) -> ExitCode {
-    match print_names(&rt) {
+    match print_all(&rt) {
         Ok(()) => ExitCode::SUCCESS,
         Err(error) => {
             let _ = eprintln!(rt; "sort_names: {error:?}");

@@ -1,11 +1,11 @@
-//! The numbers of texts, sorted.
+//! The indices of texts, sorted.
 
-ghost use Rattle.std.specs.Prelude.{◌≡◌, IfOk, length};
-ghost use Rattle.std.specs.List.{range};
+ghost use Rattle.std.specs.Prelude.{◌≡◌, IfOk, chars, length};
+ghost use Rattle.std.specs.List.{range_with_len};
 ghost use Rattle.std.specs.List.Sorted.{IsPermutation, IsSortedBy};
 ghost use Rattle.std.specs.Ordering.{is_lt};
 ghost use Rattle.icu_collator.specs.Collators.{collation_borrowed};
-ghost use Rattle.icu_sort.specs.NumberOrders.{number_order, text_at};
+ghost use Rattle.icu_sort.specs.TextIndices.{indices_order, text_at};
 
 use icu_collator::CollatorBorrowed;
 use icu_collator::laws::text_order_is_total;
@@ -34,25 +34,24 @@ pub fn stable_order(
     texts: &[&str],
 ) -> Result<Vec<usize>, AllocError>
     ensures permutation { IfOk result (λ indices.
-        IsPermutation (range 0 (length texts.now)) indices.items) }
+        IsPermutation (range_with_len 0 (length texts.now)) indices.items) }
     ensures sorted { let collation = collation_borrowed collator.now in
         IfOk result (λ indices. IsSortedBy
-        (λ i j. is_lt (number_order collation (text_at texts.now) i j)) indices.items) }
+        (λ i j. is_lt (indices_order collation (text_at texts.now) i j)) indices.items) }
 {
     text_order_is_total();
     let mut indices = Vec::with_capacity(alloc, texts.len())?;
     for index in 0..texts.len() {
         indices.push(index)?;
     }
-    indices.sort_unstable_by(|one, other| -> Ordering
-        ensures order { result ≡ number_order (collation_borrowed collator.entry.now)
-            (text_at texts.entry.now) one.now other.now }
-        ensures kept { collation_borrowed collator.exit.now
-            ≡ collation_borrowed collator.entry.now }
-        ensures texts { texts.exit.now ≡ texts.entry.now }
-    {
-        let order = collator.order(text_at(texts, *one), text_at(texts, *other));
-        order.then(one.cmp(other))
-    });
+    indices.sort_unstable_by(
+        |one, other| -> Ordering
+            ensures { result ≡ indices_order (collation_borrowed collator.entry.now)
+                (text_at texts.entry.now) one.now other.now }
+        {
+            let order = collator.order(text_at(texts, *one), text_at(texts, *other));
+            order.then(one.cmp(other))
+        },
+    );
     Ok(indices)
 }

@@ -7,9 +7,9 @@ use Rattle.icu_text_order.specs.Collations.{Collation}
 use Rattle.icu_text_order.specs.TextOrder.{text_order}
 
 -- the order of two indices of texts: that of the texts, and where these are Equal that of the indices
-abbrev pub number_order : Collation → (ℕ → List ℕ) → ℕ → ℕ → Ordering
-number_order c text i j = ordering_then (text_order c (text i) (text j)) (nat_cmp i j)
+abbrev pub indices_order : Collation → (ℕ → List ℕ) → ℕ → ℕ → Ordering
+indices_order c text i j = ordering_then (text_order c (text i) (text j)) (nat_cmp i j)
 
--- the characters of the text at an index; none behind the last
+-- the characters of the text at an index; behind the last text, those of the empty one
 abbrev pub text_at : List (Bor (List ℕ)) → ℕ → List ℕ
-text_at texts i = elim (slice_get texts i) [ None ↦ [] | Some text ↦ chars text.now ]
+text_at texts i = elim (slice_get texts i) [ None ↦ chars [] | Some text ↦ chars text.now ]
