@@ -1,6 +1,6 @@
 use Rattle.icu_collation_data.specs.StoredData.{data_of}
 use Rattle.icu_collation_data.specs.inner.BlockWalks.{WalkedTo}
-use Rattle.icu_collation_data.proofs.block_walk.visit_codes.Given as goal
+use Rattle.icu_collation_data.proofs.character_walk.visit_codes.Given as goal
 
 -- the code points so far were walked
 abbrev pub invariant-loop-code : goal.invariant-loop-code
