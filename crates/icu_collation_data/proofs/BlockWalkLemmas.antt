@@ -1,5 +1,5 @@
 -- The states of blocks, and what a walk of all parts comes to.
-use Rattle.std.proofs.Common.{◌≡◌, ℕ, zero, suc, ◌+◌, ◌-◌, ◌*◌, ◌/◌, ◌%◌, ◌<◌, ◌≤◌, Bool, true, false, List, ◌++◌, ◌⊎◌, inl, inr, refl, sym, ap, ◌∙◌, subst, arith}
+use Rattle.std.proofs.Common.{◌≡◌, ℕ, ◌+◌, ◌-◌, ◌*◌, ◌/◌, ◌%◌, ◌<◌, ◌≤◌, Bool, true, false, List, ◌++◌, inl, inr, refl, sym, ap, ◌∙◌, subst, arith}
 use Rattle.std.specs.Prelude.{slice_index_or, set, replicate, length}
 use Rattle.std.specs.Char.{IsScalar}
 use Rattle.std.specs.List.{Contains}
@@ -19,8 +19,8 @@ use Rattle.icu_collation_data.specs.declared.data.CollationData.{CollationData}
 use Rattle.icu_collation_data.specs.Data.{Data}
 use Rattle.icu_collation_data.specs.Reachable.{goes_by_character}
 use Rattle.icu_collation_data.specs.StoredData.{data_of, block_in}
-use Rattle.icu_collation_data.specs.Walks.{CharVisit, visit_of, after_visits, IsReachableVisit, IsSharedVisit, IsCovered, Walked}
-use Rattle.icu_collation_data.specs.inner.BlockWalks.{is_wanted, leads_to, IsShared, WalkedTo, WalkedOnce, IsState, IsRead, HasState, AreStates}
+use Rattle.icu_collation_data.specs.Walks.{CharVisit, visit_of, IsReachableVisit, IsSharedVisit, IsCovered, Walked}
+use Rattle.icu_collation_data.specs.inner.BlockWalks.{leads_to, IsShared, WalkedTo, WalkedOnce, IsState, IsRead, HasState, AreStates}
 use Rattle.icu_collation_data.proofs.ListLemmas.{all_append}
 use Rattle.icu_collation_data.proofs.CharLemmas.{scalar_below}
 use Rattle.icu_collation_data.proofs.ReachLemmas.{class_of, implicit_wanted}

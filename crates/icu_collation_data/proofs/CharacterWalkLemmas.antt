@@ -1,9 +1,8 @@
 -- A walk over the entries of a part goes on: each is visited with each character.
-use Rattle.std.proofs.Common.{◌≡◌, ℕ, zero, suc, ◌+◌, ◌*◌, ◌<◌, ◌≤◌, Bool, true, false, not, ◌==◌, ◌&&◌, if◌then◌else◌, List, [], ◌∷◌, ◌++◌, ◌⊎◌, inl, inr, length, take, get_or, refl, sym, ap, ◌∙◌, subst, arith, map, fold}
-use Rattle.std.specs.Prelude.{flat_map, nat_lt}
+use Rattle.std.proofs.Common.{◌≡◌, ℕ, zero, suc, ◌+◌, ◌<◌, ◌≤◌, Bool, true, false, not, ◌==◌, ◌&&◌, if◌then◌else◌, List, [], ◌∷◌, ◌++◌, ◌⊎◌, inl, inr, length, take, get_or, refl, sym, ap, ◌∙◌, subst, arith, map, fold}
+use Rattle.std.specs.Prelude.{nat_lt}
 use Rattle.std.specs.Char.{IsScalar}
-use Rattle.std.specs.List.{AllByRecursion, Contains, list_any}
-use Rattle.std.proofs.lemmas.Bool.{cases_Bool}
+use Rattle.std.specs.List.{AllByRecursion, Contains}
 use Rattle.std.proofs.lemmas.List.Sums.{fold-append, fold_more}
 use Rattle.std.proofs.lemmas.List.Elements.{Contains-append_left, Contains-append_right, Contains-push, Contains-push_cases}
 use Rattle.icu_collation_data.specs.declared.character_walk.Part.{Part}
@@ -163,9 +162,9 @@ module _ {V : Type 0} (after : V → Data → ℕ → ℕ → V) (falls_back : B
   walked_over part v c none =
       walked_past part v c (c + 1)
       (λ d e low high s has wanted.
-          let same : d ≡ c = omega (arith, low, high) in
-          let clear : leads_to part home (home.value d) ≡ false = subst (λ d. IsScalar d → leads_to part home (home.value d) ≡ false) (sym same) none s in
-          none_led part home (home.value d) e clear (at_within falls_back home d (home.value d) e refl has) wanted)
+      let same : d ≡ c = omega (arith, low, high) in
+      let clear : leads_to part home (home.value d) ≡ false = subst (λ d. IsScalar d → leads_to part home (home.value d) ≡ false) (sym same) none s in
+      none_led part home (home.value d) e clear (at_within falls_back home d (home.value d) e refl has) wanted)
 
   pub walked_char : (part : Part) (s t : V) (c : ℕ) → IsScalar c → t ≡ after_all after s home c (reachable_at falls_back home c) → To part s t c (c + 1)
   walked_char part s t c scalar is = record {

@@ -1,14 +1,14 @@
 -- What is reachable from an entry by its kind, and from entries that refer to one context.
-use Rattle.std.proofs.Common.{◌≡◌, ℕ, Bool, true, false, List, [], ◌∷◌, ◌++◌, ◌⊎◌, inl, inr, refl, sym, ap, ◌∙◌, subst, arith, fold}
-use Rattle.std.specs.Prelude.{◌||◌, ◌&&◌, ◌==◌, if◌then◌else◌, map, flat_map}
+use Rattle.std.proofs.Common.{◌≡◌, ℕ, Bool, true, false, List, [], ◌∷◌, ◌⊎◌, inl, inr, refl, sym, ap, ◌∙◌, subst, fold}
+use Rattle.std.specs.Prelude.{◌||◌, ◌&&◌, ◌==◌, if◌then◌else◌, flat_map}
 use Rattle.std.specs.List.{Contains, list_any}
 use Rattle.icu_entries.specs.declared.entry.EntryKind.{EntryKind}
-use Rattle.icu_entries.specs.declared.entry.EntryKind.TheVariants.{Fallback, Prefix, Contraction, Digit, Offset, Implicit as ImplicitKind}
+use Rattle.icu_entries.specs.declared.entry.EntryKind.TheVariants.{Prefix, Contraction, Digit, Offset, Implicit as ImplicitKind}
 use Rattle.icu_entries.specs.Entries.{kind_of, entry_index}
 use Rattle.icu_collation_data.specs.declared.character_walk.Part.{Part}
 use Rattle.icu_collation_data.specs.declared.character_walk.Part.TheVariants.{Counted, Implicit}
 use Rattle.icu_collation_data.specs.Data.{Data, context_in}
-use Rattle.icu_collation_data.specs.Reachable.{goes_by_character, context_entries, named_entries, reachable_digit, reachable_contraction, reachable_from, reachable_at, names_context, SameContext, ReferAlike, AreAlike}
+use Rattle.icu_collation_data.specs.Reachable.{goes_by_character, context_entries, reachable_digit, reachable_contraction, reachable_from, reachable_at, names_context, SameContext, ReferAlike}
 use Rattle.icu_collation_data.specs.inner.BlockWalks.{is_wanted, leads_to, leads_further, IsReachedAlike}
 use Rattle.icu_collation_data.proofs.ListLemmas.{nothing_in, in_first, at_first, at_rest}
 

@@ -6,10 +6,10 @@ use Rattle.std.proofs.lemmas.List.Sums.{fold-append}
 use Rattle.std.proofs.lemmas.List.Elements.{Contains-append_left, Contains-append_right}
 use Rattle.icu_collation_data.specs.declared.visited_entries.VisitedEntries.{VisitedEntries}
 use Rattle.icu_collation_data.specs.Data.{Data}
-use Rattle.icu_collation_data.specs.Reachable.{goes_by_character, reachable_from, reachable_at, ReferAlike, AreAlike}
+use Rattle.icu_collation_data.specs.Reachable.{goes_by_character, reachable_from, reachable_at, ReferAlike}
 use Rattle.icu_collation_data.specs.Walks.{CharVisit, visit_of, after_all, after_visits, IsReachableVisit, IsSharedVisit}
 use Rattle.icu_collation_data.specs.inner.VisitedEntries.{IsRemembered}
-use Rattle.icu_collation_data.specs.inner.BlockWalks.{IsReachedAlike, IsKnown, AreSpent, Spends, IsReachableIn, AreLedTo, IsSpent, HasWalked, WalkedOnce}
+use Rattle.icu_collation_data.specs.inner.BlockWalks.{IsReachedAlike, IsKnown, Spends, IsReachableIn, AreLedTo, HasWalked, WalkedOnce}
 use Rattle.icu_collation_data.proofs.ListLemmas.{all_append, all_where, map_all, in_map, nothing_in, in_first}
 use Rattle.icu_collation_data.proofs.ReachLemmas.{refer_trans, refer_shared, refer_reaches, goes_alone, at_within}
 use Rattle.icu_collation_data.proofs.CharLemmas.{scalar_below}
@@ -252,15 +252,15 @@ module _ {V : Type 0} (after : V → Data → ℕ → ℕ → V) (falls_back : B
   no_char seen v c none =
       spent_none seen v _
       (λ f r shared.
-          let same : r.char ≡ c = omega (arith, r.low, r.high) in
-          absurd (none (subst IsScalar same r.scalar)))
+      let same : r.char ≡ c = omega (arith, r.low, r.high) in
+      absurd (none (subst IsScalar same r.scalar)))
 
   -- a character whose entry goes by it
   pub char_goes : (seen : VisitedEntries) (v : V) (c : ℕ) → goes_by_character (home.value c) ≡ true → Spent seen seen v v (IsReachableIn falls_back home c (c + 1))
   char_goes seen v c goes =
       spent_none seen v _
       (λ f r shared. absurd (by_cases f shared
-          (in_first (home.value c) f [] (subst (λ es. Contains es f) (goes_alone home (home.value c) goes) (at_within falls_back home c (home.value c) f refl (one_in c f r))))))
+      (in_first (home.value c) f [] (subst (λ es. Contains es f) (goes_alone home (home.value c) goes) (at_within falls_back home c (home.value c) f refl (one_in c f r))))))
     where
       clash : (b : Bool) → b ≡ true → b ≡ false → ⊥
       clash true p q = cc

@@ -136,7 +136,9 @@ impl SoughtEntries {
     fn has(&self, bits: u32) -> bool
         ensures { result ≡ holds (take self.now.count self.now.entries) bits }
     {
-        self.entries[..self.count].iter().any(|found| *found == bits)
+        self.entries[..self.count]
+            .iter()
+            .any(|found| *found == bits)
     }
 
     /// Lists an entry, if there is room.
@@ -179,11 +181,7 @@ impl Visit for SoughtEntries {
 }
 
 /// The entries of a part that are reachable from one entry.
-fn sought_entries(
-    part: Part,
-    home: CollationData<'_>,
-    entry: CollationElement32,
-) -> SoughtEntries
+fn sought_entries(part: Part, home: CollationData<'_>, entry: CollationElement32) -> SoughtEntries
     ensures { AreSought part (data_of home.entry) entry (take result.count result.entries)
         result.whole }
 {
@@ -335,12 +333,7 @@ fn visit_marked<V: Visit>(
 }
 
 /// Whether a character leads to no entry of the part. Entries that lead to none are remembered.
-fn is_clear(
-    part: Part,
-    home: CollationData<'_>,
-    c: char,
-    clear: &mut VisitedEntries,
-) -> bool
+fn is_clear(part: Part, home: CollationData<'_>, c: char, clear: &mut VisitedEntries) -> bool
     requires { AreClear part (data_of home) clear.old }
     ensures clear { AreClear part (data_of home.entry) clear.new }
     ensures none { result ≡ true
@@ -448,7 +441,15 @@ pub(crate) fn visit_by_character<V: Visit>(
     let mut clear = VisitedEntries::new();
     let mut states = [BlockState::Unread; 0x10000];
     for index in 0..17408u32 {
-        visit_index(visitor, home, index, falls_back, part, &mut clear, &mut states)?;
+        visit_index(
+            visitor,
+            home,
+            index,
+            falls_back,
+            part,
+            &mut clear,
+            &mut states,
+        )?;
     }
     Ok(())
 }

@@ -1,4 +1,4 @@
-use Rattle.std.proofs.Common.{◌≡◌, ◌*◌, ◌+◌, ◌∙◌, sym, subst, arith}
+use Rattle.std.proofs.Common.{◌*◌, ◌∙◌, sym, subst, arith}
 use Rattle.std.specs.Prelude.{◌<◌}
 use Rattle.icu_collation_data.specs.StoredData.{data_of}
 use Rattle.icu_collation_data.specs.declared.character_walk.Part.TheVariants.{Counted}

@@ -1,4 +1,4 @@
-use Rattle.std.proofs.Common.{◌≡◌, ◌∙◌, ap, subst, rules}
+use Rattle.std.proofs.Common.{◌∙◌, ap, rules}
 use Rattle.std.specs.Char.{IsScalar}
 use Rattle.icu_collation_data.specs.Reachable.{reachable_from}
 use Rattle.icu_collation_data.specs.StoredData.{data_of}

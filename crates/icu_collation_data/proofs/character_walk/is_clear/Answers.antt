@@ -1,4 +1,4 @@
-use Rattle.std.proofs.Common.{◌≡◌, sym, ap, ◌∙◌}
+use Rattle.std.proofs.Common.{sym, ap, ◌∙◌}
 use Rattle.icu_collation_data.specs.StoredData.{data_of}
 use Rattle.icu_collation_data.specs.inner.BlockWalks.{leads_to}
 use Rattle.icu_collation_data.proofs.CharacterWalkLemmas.{still_clear}

@@ -1,4 +1,4 @@
-use Rattle.std.proofs.Common.{◌≡◌, ◌∙◌, sym, subst}
+use Rattle.std.proofs.Common.{◌∙◌, sym, subst}
 use Rattle.std.specs.Prelude.{◌<◌}
 use Rattle.icu_collation_data.specs.declared.block_walk.BlockState.TheVariants.{Shared}
 use Rattle.icu_collation_data.proofs.BlockWalkLemmas.{state_at, shared_twins}

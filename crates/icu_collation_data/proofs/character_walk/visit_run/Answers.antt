@@ -1,4 +1,4 @@
-use Rattle.std.proofs.Common.{◌≡◌, ◌+◌, ◌-◌, false, arith, sym, ◌∙◌}
+use Rattle.std.proofs.Common.{◌-◌, false, arith, sym, ◌∙◌}
 use Rattle.icu_collation_data.specs.StoredData.{data_of}
 use Rattle.icu_collation_data.proofs.CharacterWalkLemmas.{same_run, run_none, run_more}
 use Rattle.icu_collation_data.proofs.character_walk.visit_run.Goals as goal

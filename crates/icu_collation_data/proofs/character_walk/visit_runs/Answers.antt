@@ -1,4 +1,4 @@
-use Rattle.std.proofs.Common.{◌≡◌, ◌<◌, false, length, rules}
+use Rattle.std.proofs.Common.{◌<◌, false, length, rules}
 use Rattle.icu_collation_data.specs.StoredData.{data_of}
 use Rattle.icu_collation_data.proofs.CharacterWalkLemmas.{runs_more}
 use Rattle.icu_collation_data.proofs.character_walk.visit_runs.Goals as goal
