@@ -8,8 +8,8 @@ use Rattle.icu_entries.specs.Entries.{kind_of, entry_index}
 use Rattle.icu_collation_data.specs.declared.character_walk.Part.{Part}
 use Rattle.icu_collation_data.specs.declared.character_walk.Part.TheVariants.{Counted, Implicit}
 use Rattle.icu_collation_data.specs.Data.{Data, context_in}
-use Rattle.icu_collation_data.specs.Reachable.{goes_by_character, context_entries, reachable_digit, reachable_contraction, reachable_from, reachable_at, names_context, SameContext, ReferAlike}
-use Rattle.icu_collation_data.specs.inner.BlockWalks.{is_wanted, leads_to, leads_further, IsReachedAlike}
+use Rattle.icu_collation_data.specs.Reachable.{goes_by_character, context_entries, named_entries, reachable_digit, reachable_contraction, reachable_from, reachable_at, names_context, SameContext, ReferAlike}
+use Rattle.icu_collation_data.specs.inner.BlockWalks.{is_wanted, leads_to, is_prefix, leads_further, IsReachedAlike}
 use Rattle.icu_collation_data.proofs.ListLemmas.{nothing_in, in_first, at_first, at_rest}
 
 -- ---- an entry that leads to no other
@@ -172,6 +172,46 @@ refer_reaches home e g f (inr same) has =
 
     at : (x : ℕ) → Contains (e ∷ rest) x → Contains (reachable_from home e) x
     at x has = subst (λ es. Contains es x) (sym (context_from e home same.context ∙ ap (λ es. e ∷ es) (rest_same home e g same))) has
+
+-- ---- what a prefix leads to
+
+prefix_or_not : (k : EntryKind) → (k ≡ Prefix) ⊎ (k ≡ Prefix → ⊥)
+prefix_or_not Prefix = inl refl
+prefix_or_not _ = inr (λ same. cc)
+
+pub isnt_prefix : (k : EntryKind) → is_prefix k ≡ false → k ≡ Prefix → ⊥
+isnt_prefix Prefix h same = cc
+isnt_prefix _ h same = cc
+
+unopened : (k : EntryKind) (a b : List ℕ) → (k ≡ Prefix → ⊥) → (elim k as (λ _. List ℕ) [ Prefix ↦ a | _ ↦ b ]) ≡ b
+unopened Prefix a b other = absurd (other refl)
+unopened _ a b other = refl
+
+-- an entry that a prefix leads to opens no more than one of a character
+pub contraction_is : (home : Data) (e : ℕ) → (kind_of e ≡ Prefix → ⊥) → reachable_contraction home e ≡ reachable_from home e
+unfolding reachable_from
+contraction_is home e other = sym (unopened (kind_of e) _ _ other)
+
+prefix_alone : (home : Data) (e : ℕ) → kind_of e ≡ Prefix → reachable_contraction home e ≡ e ∷ []
+unfolding reachable_contraction reachable_digit
+prefix_alone home e is = rw (is, reachable_contraction, is, reachable_digit) refl
+
+pub prefix_from : (home : Data) (e : ℕ) → kind_of e ≡ Prefix → reachable_from home e ≡ e ∷ flat_map (reachable_contraction home) (named_entries home e)
+unfolding reachable_from
+prefix_from home e is = rw (is, reachable_from) refl
+
+pub contraction_within : (home : Data) (e f : ℕ) → Contains (reachable_contraction home e) f → Contains (reachable_from home e) f
+contraction_within home e f has =
+    elim (prefix_or_not (kind_of e)) [
+      | inl is ↦ by_cases is (in_first e f [] (subst (λ es. Contains es f) (prefix_alone home e is) has))
+      | inr other ↦ subst (λ es. Contains es f) (contraction_is home e other) has
+    ]
+  where
+    by_cases : kind_of e ≡ Prefix → (e ≡ f) ⊎ Contains [] f → Contains (reachable_from home e) f
+    by_cases is (inl same) =
+        subst (Contains (reachable_from home e)) same
+        (subst (λ es. Contains es e) (sym (prefix_from home e is)) (at_first e (flat_map (reachable_contraction home) (named_entries home e))))
+    by_cases is (inr none) = absurd (nothing_in f none)
 
 -- ---- a character whose entry isn't fallback
 

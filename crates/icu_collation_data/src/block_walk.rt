@@ -4,16 +4,17 @@ ghost use Rattle.std.specs.Prelude.{◌≡◌, ◌+◌, ◌*◌, ◌<◌, ◌⊎
 ghost use Rattle.std.specs.Char.{IsScalar};
 ghost use Rattle.std.specs.List.{Contains};
 ghost use Rattle.icu_entries.specs.Entries.{kind_of};
-ghost use Rattle.icu_collation_data.specs.Reachable.{goes_by_character, reachable_from, ReferAlike};
+ghost use Rattle.icu_collation_data.specs.Reachable.{goes_by_character, reachable_contraction, reachable_from, ReferAlike};
 ghost use Rattle.icu_collation_data.specs.StoredData.{data_of, block_in};
 ghost use Rattle.icu_collation_data.specs.Walks.{Walked, after_char};
 ghost use Rattle.icu_collation_data.specs.inner.VisitedEntries.{IsRemembered};
-ghost use Rattle.icu_collation_data.specs.inner.BlockWalks.{AreLedTo, IsReachableIn, Spends, WalksOn, WalkedOnce, AreStates};
+ghost use Rattle.icu_collation_data.specs.inner.BlockWalks.{is_prefix, contraction_entries, AreLedTo, IsReachableIn, Spends, WalksOn, WalkedOnce, AreStates};
 
 use crate::character_walk::{Part, visit_by_character};
+use crate::context::ContextMapping;
 use crate::data::CollationData;
 use crate::visited_entries::VisitedEntries;
-use crate::walk::{Visit, visit_from};
+use crate::walk::{Visit, visit_contraction, visit_from};
 use icu_entries::{CollationElement32, EntryKind};
 
 /// What is known of the values of a block.
@@ -73,6 +74,88 @@ pub(crate) fn remember(bits: u32, seen: &mut VisitedEntries)
     }
 }
 
+/// Whether an entry is a prefix.
+fn is_prefix(entry: CollationElement32) -> bool
+    ensures { result ≡ is_prefix (kind_of entry) }
+{
+    match entry.kind() {
+        EntryKind::Prefix => true,
+        _ => false,
+    }
+}
+
+/// Visits what is reachable from an entry that a prefix leads to, unless the entry is remembered.
+fn visit_new_contraction<V: Visit>(
+    visitor: &mut V,
+    home: CollationData<'_>,
+    c: char,
+    bits: u32,
+    falls_back: bool,
+    seen: &mut VisitedEntries,
+) -> Result<(), V::Error>
+    requires { AreLedTo falls_back (data_of home) c (reachable_contraction (data_of home) bits) }
+    ensures { OnOk result (Spends V.after falls_back (data_of home.entry) seen.old seen.new
+        (V.seen visitor.old) (V.seen visitor.new)
+        (Contains (reachable_contraction (data_of home.entry) bits))) }
+{
+    if seen.has(bits) {
+        return Ok(());
+    }
+    let entry = CollationElement32::new(bits);
+    if is_prefix(entry) {
+        // a prefix that another one leads to opens nothing, so it is no news of its context
+        return visit_contraction(visitor, home, c, entry);
+    }
+    visit_contraction(visitor, home, c, entry)?;
+    remember(bits, seen);
+    Ok(())
+}
+
+/// Visits what is reachable from the entries of a prefix's mappings, as far as they aren't remembered.
+fn visit_new_mappings<V: Visit>(
+    visitor: &mut V,
+    home: CollationData<'_>,
+    c: char,
+    mappings: &[ContextMapping],
+    falls_back: bool,
+    seen: &mut VisitedEntries,
+) -> Result<(), V::Error>
+    requires { AreLedTo falls_back (data_of home) c
+        (contraction_entries (data_of home) mappings.now) }
+    ensures { OnOk result (Spends V.after falls_back (data_of home.entry) seen.old seen.new
+        (V.seen visitor.old) (V.seen visitor.new)
+        (Contains (contraction_entries (data_of home.entry) mappings.now))) }
+{
+    for mapping in mappings {
+        visit_new_contraction(visitor, home, c, mapping.entry, falls_back, seen)?;
+    }
+    Ok(())
+}
+
+/// Visits what is reachable from a prefix: each contraction that it leads to once.
+fn visit_new_prefix<V: Visit>(
+    visitor: &mut V,
+    home: CollationData<'_>,
+    c: char,
+    bits: u32,
+    falls_back: bool,
+    seen: &mut VisitedEntries,
+) -> Result<(), V::Error>
+    requires prefix { kind_of bits ≡ EntryKind.Prefix }
+    requires led { AreLedTo falls_back (data_of home) c (reachable_from (data_of home) bits) }
+    ensures { OnOk result (Spends V.after falls_back (data_of home.entry) seen.old seen.new
+        (V.seen visitor.old) (V.seen visitor.new)
+        (Contains (reachable_from (data_of home.entry) bits))) }
+{
+    let entry = CollationElement32::new(bits);
+    visitor.visit(home, c, entry)?;
+    let context = home.context_of(entry);
+    visit_new_contraction(visitor, home, c, context.default, falls_back, seen)?;
+    visit_new_mappings(visitor, home, c, context.mappings, falls_back, seen)?;
+    remember(bits, seen);
+    Ok(())
+}
+
 /// Visits what is reachable from an entry, unless the entry is remembered.
 fn visit_new<V: Visit>(
     visitor: &mut V,
@@ -90,7 +173,11 @@ fn visit_new<V: Visit>(
     if seen.has(bits) {
         return Ok(());
     }
-    visit_from(visitor, home, c, CollationElement32::new(bits))?;
+    let entry = CollationElement32::new(bits);
+    if entry.kind() == EntryKind::Prefix {
+        return visit_new_prefix(visitor, home, c, bits, falls_back, seen);
+    }
+    visit_from(visitor, home, c, entry)?;
     remember(bits, seen);
     Ok(())
 }

@@ -1,6 +1,6 @@
 -- How a walk goes on from block to block. It has parts: one for what says the same with each character, and one for
 -- each kind of entry that goes by its character.
-use Rattle.std.specs.Prelude.{ℕ, ◌≡◌, ◌*◌, ◌<◌, ◌≤◌, ◌⊎◌, nat_lt, Bool, true, false, not, ◌&&◌, if◌then◌else◌, List, [], ◌∷◌, ◌++◌, length, fold, slice_index_or, ⊤}
+use Rattle.std.specs.Prelude.{ℕ, ◌≡◌, ◌*◌, ◌<◌, ◌≤◌, ◌⊎◌, nat_lt, Bool, true, false, not, ◌&&◌, if◌then◌else◌, List, [], ◌∷◌, ◌++◌, length, fold, flat_map, slice_index_or, ⊤}
 use Rattle.std.specs.Char.{IsScalar}
 use Rattle.std.specs.List.{AllByRecursion, Contains, list_any}
 use Rattle.icu_entries.specs.declared.entry.EntryKind.{EntryKind}
@@ -11,9 +11,10 @@ use Rattle.icu_collation_data.specs.declared.block_walk.BlockState.TheVariants.{
 use Rattle.icu_collation_data.specs.declared.character_walk.Part.{Part}
 use Rattle.icu_collation_data.specs.declared.character_walk.Part.TheVariants.{Counted, Implicit}
 use Rattle.icu_collation_data.specs.declared.visited_entries.VisitedEntries.{VisitedEntries}
+use Rattle.icu_collation_data.specs.declared.context.ContextMapping.{ContextMapping}
 use Rattle.icu_collation_data.specs.declared.data.CollationData.{CollationData}
 use Rattle.icu_collation_data.specs.Data.{Data}
-use Rattle.icu_collation_data.specs.Reachable.{goes_by_character, reachable_from, reachable_at, ReferAlike}
+use Rattle.icu_collation_data.specs.Reachable.{goes_by_character, reachable_contraction, reachable_from, reachable_at, ReferAlike}
 use Rattle.icu_collation_data.specs.StoredData.{data_of, block_in}
 use Rattle.icu_collation_data.specs.Walks.{CharVisit, visit_of, after_run, after_visits, EachOfBlock, IsReachableVisit, IsSharedVisit}
 use Rattle.icu_collation_data.specs.inner.VisitedEntries.{IsRemembered}
@@ -49,6 +50,11 @@ pub record AreSought (part : Part) (home : Data) (e : ℕ) (es : List ℕ) (whol
 -- what a visitor is after visits of entries, each with 64 characters in a row
 abbrev pub after_runs : {V : Type 0} → (V → Data → ℕ → ℕ → V) → V → Data → ℕ → List ℕ → V
 after_runs after v home first es = fold (λ v e. after_run after v home first e 64) v es
+
+-- the kind of a prefix
+abbrev pub is_prefix : EntryKind → Bool
+is_prefix Prefix = true
+is_prefix _ = false
 
 -- an entry of this kind may lead to others
 abbrev pub leads_further : EntryKind → Bool
@@ -106,6 +112,10 @@ pub record IsReachableIn (falls_back : Bool) (home : Data) (from end e : ℕ) : 
   pub high : char < end
   pub scalar : IsScalar char
   pub reachable : Contains (reachable_at falls_back home char) e
+
+-- what the entries of a prefix's mappings lead to
+abbrev pub contraction_entries : Data → List ContextMapping → List ℕ
+contraction_entries home mappings = flat_map (λ (mapping : ContextMapping). reachable_contraction home mapping.entry) mappings
 
 -- each of these entries is reachable with the character
 abbrev pub AreLedTo : Bool → Data → ℕ → List ℕ → Type 0

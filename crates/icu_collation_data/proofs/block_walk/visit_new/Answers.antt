@@ -15,4 +15,4 @@ returns g c =
     let scalar : IsScalar c.args.c = search rules in
     spent_remembered g.V.Visit.after c.args.falls_back (data_of c.args.home) _ _ _ _ _ c.args.bits c.remember.ensures
     (spent_all g.V.Visit.after c.args.falls_back (data_of c.args.home) _ _ _ c.args.c (reachable_from (data_of c.args.home) c.args.bits) scalar c.requires
-    (c.in_ok-visit_from.ensures ∙ ap (λ e. after_all g.V.Visit.after (g.V.Visit.seen c.args.visitor.now) (data_of c.args.home) c.args.c (reachable_from (data_of c.args.home) e)) c.new.ensures))
+    (c.in_ok-visit_from.ensures ∙ ap (λ e. after_all g.V.Visit.after (g.V.Visit.seen c.args.visitor.now) (data_of c.args.home) c.args.c (reachable_from (data_of c.args.home) e)) c.new-entry.ensures))
