@@ -1,4 +1,4 @@
-use Rattle.std.proofs.Common.{◌≡◌, ◌<◌, length, refl, rules}
+use Rattle.std.proofs.Common.{◌<◌, length, refl, rules}
 use Rattle.icu_collation_data.specs.StoredData.{data_of}
 use Rattle.icu_collation_data.proofs.SpentLemmas.{spent_no_mappings, spent_mapping, among_mappings}
 use Rattle.icu_collation_data.proofs.block_walk.visit_new_mappings.Goals as goal
