@@ -1,12 +1,12 @@
 //! A walk over the entries that go by their character: each is visited with each character.
-ghost use Rattle.std.specs.Prelude.{◌≡◌, ◌+◌, ◌*◌, ◌<◌, ◌≤◌, ◌==◌, ◌||◌, ℕ, Bool, true, false, List, [], take, slice_index, IfSome, OnOk};
+ghost use Rattle.std.specs.Prelude.{◌≡◌, ◌+◌, ◌*◌, ◌<◌, ◌≤◌, ◌==◌, ◌||◌, ℕ, Bool, true, false, List, [], take, slice_index, None, IfSome, OnOk};
 ghost use Rattle.std.specs.Char.{IsScalar};
 ghost use Rattle.icu_entries.specs.Entries.{kind_of};
 ghost use Rattle.icu_collation_data.specs.Data.{Data};
 ghost use Rattle.icu_collation_data.specs.StoredData.{data_of};
 ghost use Rattle.icu_collation_data.specs.Walks.{after_run, EachOfBlock};
 ghost use Rattle.icu_collation_data.specs.inner.Visitors.{holds};
-ghost use Rattle.icu_collation_data.specs.inner.BlockWalks.{is_wanted, leads_to, leads_further, with_room, with_sought, AreSought, after_runs, WalkedTo, AreClear, IsRun, IsState, AreStates};
+ghost use Rattle.icu_collation_data.specs.inner.BlockWalks.{is_wanted, leads_to, leads_further, with_room, with_sought, AreSought, IsLast, after_runs, WalkedTo, AreClear, IsRun, IsState, AreStates};
 
 use crate::block_walk::{BlockState, remember, visit_char};
 use crate::data::CollationData;
@@ -310,6 +310,67 @@ fn visit_runs<V: Visit>(
     Ok(())
 }
 
+/// The entries that were sought last, and from which entry: blocks with one entry mostly follow others with it.
+#[derive(Drop)]
+struct LastSought {
+    of: Option<u32>,
+    sought: SoughtEntries,
+}
+
+impl LastSought {
+    /// None so far.
+    fn new(part: Part) -> LastSought
+        ensures { result.of ≡ None }
+    {
+        LastSought {
+            of: None,
+            sought: SoughtEntries::new(part),
+        }
+    }
+
+    /// Seeks the entries of a part that are reachable from an entry, unless they were sought last.
+    fn seek(&mut self, part: Part, home: CollationData<'_>, entry: CollationElement32)
+        requires { IsLast part (data_of home) self.old.of
+            (take self.old.sought.count self.old.sought.entries) self.old.sought.whole }
+        ensures last { IsLast part (data_of home.entry) self.new.of
+            (take self.new.sought.count self.new.sought.entries) self.new.sought.whole }
+        ensures sought { AreSought part (data_of home.entry) entry
+            (take self.new.sought.count self.new.sought.entries) self.new.sought.whole }
+    {
+        if let Some(of) = self.of {
+            if of == entry.bits() {
+                return;
+            }
+        }
+        self.sought = sought_entries(part, home, entry);
+        self.of = Some(entry.bits());
+    }
+}
+
+/// Visits the entries of the part that are reachable with the 64 characters from this one on, which all have one entry:
+/// each at once with all of them, if all were found.
+fn visit_sought<V: Visit>(
+    visitor: &mut V,
+    home: CollationData<'_>,
+    first: char,
+    falls_back: bool,
+    part: Part,
+    entry: CollationElement32,
+    sought: &SoughtEntries,
+) -> Result<(), V::Error>
+    requires scalars { EachOfBlock first IsScalar }
+    requires run { IsRun (data_of home) first entry }
+    requires sought { AreSought part (data_of home) entry
+        (take sought.now.count sought.now.entries) sought.now.whole }
+    ensures { OnOk result (WalkedTo V.after falls_back part (data_of home.entry)
+        (V.seen visitor.old) (V.seen visitor.new) first (first + 64)) }
+{
+    if sought.whole && !entry.is_fallback() {
+        return visit_runs(visitor, home, first, sought);
+    }
+    visit_codes(visitor, home, first as u32, falls_back, part)
+}
+
 /// Visits the entries of the part that are reachable with the 64 characters from this one on: where they all have one
 /// entry, each at once with all of them.
 fn visit_marked<V: Visit>(
@@ -318,16 +379,19 @@ fn visit_marked<V: Visit>(
     first: char,
     falls_back: bool,
     part: Part,
+    last: &mut LastSought,
 ) -> Result<(), V::Error>
-    requires { EachOfBlock first IsScalar }
-    ensures { OnOk result (WalkedTo V.after falls_back part (data_of home.entry)
+    requires scalars { EachOfBlock first IsScalar }
+    requires last { IsLast part (data_of home) last.old.of
+        (take last.old.sought.count last.old.sought.entries) last.old.sought.whole }
+    ensures last { IsLast part (data_of home.entry) last.new.of
+        (take last.new.sought.count last.new.sought.entries) last.new.sought.whole }
+    ensures visits { OnOk result (WalkedTo V.after falls_back part (data_of home.entry)
         (V.seen visitor.old) (V.seen visitor.new) first (first + 64)) }
 {
     if let Some(entry) = run_entry(home, first) {
-        let sought = sought_entries(part, home, entry);
-        if sought.whole && !entry.is_fallback() {
-            return visit_runs(visitor, home, first, &sought);
-        }
+        last.seek(part, home, entry);
+        return visit_sought(visitor, home, first, falls_back, part, entry, &last.sought);
     }
     visit_codes(visitor, home, first as u32, falls_back, part)
 }
@@ -410,10 +474,15 @@ fn visit_index<V: Visit>(
     part: Part,
     clear: &mut VisitedEntries,
     states: &mut [BlockState; 0x10000],
+    last: &mut LastSought,
 ) -> Result<(), V::Error>
     requires index { index < 17408 }
+    requires last { IsLast part (data_of home) last.old.of
+        (take last.old.sought.count last.old.sought.entries) last.old.sought.whole }
     requires clear { AreClear part (data_of home) clear.old }
     requires states { AreStates part home index states.old }
+    ensures last { OnOk result (IsLast part (data_of home.entry) last.new.of
+        (take last.new.sought.count last.new.sought.entries) last.new.sought.whole) }
     ensures clear { OnOk result (AreClear part (data_of home.entry) clear.new) }
     ensures states { OnOk result (AreStates part home.entry (index + 1) states.new) }
     ensures visits { OnOk result (WalkedTo V.after falls_back part (data_of home.entry)
@@ -424,7 +493,7 @@ fn visit_index<V: Visit>(
     };
     match known_state(part, home, index, clear, states) {
         BlockState::Shared => Ok(()),
-        _ => visit_marked(visitor, home, first, falls_back, part),
+        _ => visit_marked(visitor, home, first, falls_back, part, last),
     }
 }
 
@@ -440,6 +509,7 @@ pub(crate) fn visit_by_character<V: Visit>(
 {
     let mut clear = VisitedEntries::new();
     let mut states = [BlockState::Unread; 0x10000];
+    let mut last = LastSought::new(part);
     for index in 0..17408u32 {
         visit_index(
             visitor,
@@ -449,6 +519,7 @@ pub(crate) fn visit_by_character<V: Visit>(
             part,
             &mut clear,
             &mut states,
+            &mut last,
         )?;
     }
     Ok(())

@@ -1,6 +1,6 @@
 -- How a walk goes on from block to block. It has parts: one for what says the same with each character, and one for
 -- each kind of entry that goes by its character.
-use Rattle.std.specs.Prelude.{ℕ, ◌≡◌, ◌*◌, ◌<◌, ◌≤◌, ◌⊎◌, nat_lt, Bool, true, false, not, ◌&&◌, if◌then◌else◌, List, [], ◌∷◌, ◌++◌, length, fold, flat_map, slice_index_or, ⊤}
+use Rattle.std.specs.Prelude.{ℕ, ◌≡◌, ◌*◌, ◌<◌, ◌≤◌, ◌⊎◌, nat_lt, Bool, true, false, not, ◌&&◌, if◌then◌else◌, List, [], ◌∷◌, ◌++◌, length, fold, flat_map, slice_index_or, ⊤, Some, Option}
 use Rattle.std.specs.Char.{IsScalar}
 use Rattle.std.specs.List.{AllByRecursion, Contains, list_any}
 use Rattle.icu_entries.specs.declared.entry.EntryKind.{EntryKind}
@@ -46,6 +46,10 @@ pub record AreSought (part : Part) (home : Data) (e : ℕ) (es : List ℕ) (whol
   pub wanted : (f : ℕ) → Contains es f → is_wanted part f ≡ true
   pub reachable : (f : ℕ) → Contains es f → Contains (reachable_from home e) f
   pub all : whole ≡ true → (f : ℕ) → Contains (reachable_from home e) f → is_wanted part f ≡ true → Contains es f
+
+-- these are the entries that were sought last, if any were
+abbrev pub IsLast : Part → Data → Option ℕ → List ℕ → Bool → Type 0
+IsLast part home of es whole = (e : ℕ) → of ≡ Some e → AreSought part home e es whole
 
 -- what a visitor is after visits of entries, each with 64 characters in a row
 abbrev pub after_runs : {V : Type 0} → (V → Data → ℕ → ℕ → V) → V → Data → ℕ → List ℕ → V
