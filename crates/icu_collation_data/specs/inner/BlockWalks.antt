@@ -37,7 +37,7 @@ sought_count = 16
 abbrev pub with_room : List ℕ → Bool → ℕ → List ℕ × Bool
 with_room es whole e = if nat_lt (length es) sought_count then (es ++ e ∷ [], whole) else (es, false)
 
--- the same where the entry is of the part and not in the list, and the old ones where it isn't
+-- a list of entries of a part, and whether it has them all, after one more entry, if that is of the part and not listed
 abbrev pub with_sought : Part → List ℕ × Bool → ℕ → List ℕ × Bool
 with_sought part s e = if is_wanted part e && not (holds s.0 e) then with_room s.0 s.1 e else s
 
