@@ -55,7 +55,7 @@ class Builder:
 
 # ---- hostile tables
 
-LISTED, PREFIXED, MAPPED = 0x1FC6, 0xC8, 0xC9
+LISTED, MAPPED = 0x1FC6, 0xC9
 
 
 def unlike_primary(lead, number):
@@ -148,10 +148,6 @@ def of_random_contexts(seed, size):
     return builder
 
 
-# What offset entries count from: U+0000 has the weight with this lead byte, and each character after it the next one.
-COUNTED_ENTRY, COUNTED_ELEMENT = 0xCE, 0x0002_0200_0000_0001
-
-
 def with_rows(entries, count):
     """A root in which all characters have one contraction of so many mappings, with these entries beyond them."""
     builder = Builder(MAPPED)
@@ -166,26 +162,8 @@ def of_implicit_rows(size):
     return with_rows([0xCF], 500 * size)
 
 
-def of_counted_rows(size):
-    """A root in which all characters have one contraction of 500 mappings a size, and one that counts its weight by the character."""
-    builder = with_rows([COUNTED_ENTRY], 500 * size)
-    builder.ces = [0xA0 << 56 | COUNTED_ELEMENT]
-    return builder
-
-
-def of_prefixes(size):
-    """A root in which a prefix has 750 mappings a size, each to one contraction of as many."""
-    builder = Builder(0xCF)
-    index = add_mapped(builder, 0x30, 750 * size)
-    mappings = [([0x20000 + number], context_entry(index, 0)) for number in range(750 * size)]
-    prefix = builder.add_context(unlike_entry(0x31, 1), mappings)
-    builder.set_entry(0x4000, prefix << 13 | PREFIXED)
-    return builder
-
-
 # What makes a root by its size, by name.
-GROWING = {"spellings": of_spellings, "far-contexts": of_far_contexts, "prefixes": of_prefixes}
-GROWING |= {"implicit-rows": of_implicit_rows, "counted-rows": of_counted_rows}
+GROWING = {"spellings": of_spellings, "far-contexts": of_far_contexts, "implicit-rows": of_implicit_rows}
 GROWING |= {f"random-contexts-{seed}": functools.partial(of_random_contexts, seed) for seed in range(3)}
 SIZES = (1, 2, 4)
 
