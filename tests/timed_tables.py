@@ -148,8 +148,22 @@ def of_random_contexts(seed, size):
     return builder
 
 
+def with_rows(entries, count):
+    """A root in which all characters have one contraction of so many mappings, with these entries beyond them."""
+    builder = Builder(MAPPED)
+    mappings = [([0x20000 + number], unlike_entry(0x30, number)) for number in range(count)]
+    mappings += [([0x30000 + number], entry) for number, entry in enumerate(entries)]
+    builder.add_context(unlike_entry(0x31, 0), mappings)
+    return builder
+
+
+def of_implicit_rows(size):
+    """A root in which all characters have one contraction of 500 mappings a size, and one that is an implicit weight."""
+    return with_rows([0xCF], 500 * size)
+
+
 # What makes a root by its size, by name.
-GROWING = {"spellings": of_spellings, "far-contexts": of_far_contexts}
+GROWING = {"spellings": of_spellings, "far-contexts": of_far_contexts, "implicit-rows": of_implicit_rows}
 GROWING |= {f"random-contexts-{seed}": functools.partial(of_random_contexts, seed) for seed in range(3)}
 SIZES = (1, 2, 4)
 

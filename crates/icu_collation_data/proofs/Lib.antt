@@ -5,6 +5,9 @@ pub mod ElementLemmas
 pub mod ContextLemmas
 pub mod SameEntryLemmas
 pub mod WalkLemmas
+mod ReachLemmas
+mod SpentLemmas
+mod CharacterWalkLemmas
 mod BlockWalkLemmas
 mod VisitedLemmas
 pub mod ViolationLemmas

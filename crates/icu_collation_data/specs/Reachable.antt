@@ -4,7 +4,7 @@
 -- texts are read.
 use Rattle.std.specs.Prelude.{ℕ, ◌≡◌, ◌⊎◌, Bool, true, false, ◌&&◌, ◌==◌, List, [], ◌∷◌, map, flat_map, if◌then◌else◌}
 use Rattle.std.specs.Char.{IsScalar}
-use Rattle.std.specs.List.{AllByRecursion, list_any}
+use Rattle.std.specs.List.{AllByRecursion}
 use Rattle.icu_entries.specs.declared.entry.EntryKind.{EntryKind}
 use Rattle.icu_entries.specs.declared.entry.EntryKind.TheVariants.{Prefix, Contraction, Digit, Offset, Implicit}
 use Rattle.icu_entries.specs.Entries.{fallback_entry, kind_of, entry_index}
@@ -41,10 +41,6 @@ reachable_at falls_back home c = if falls_back && home.value c == fallback_entry
 -- #10, "Implicit Weights"). Any other entry gives the same with each character.
 unfoldable pub goes_by_character : ℕ → Bool
 goes_by_character e = elim (kind_of e) [ Offset ↦ true | Implicit ↦ true | _ ↦ false ]
-
--- an entry that gives what goes by its character is reachable from this one
-unfoldable pub leads_to_character : Data → ℕ → Bool
-leads_to_character home e = list_any goes_by_character (reachable_from home e)
 
 -- what holds of each pair of a character and an entry that is reachable with it
 abbrev pub EachReachable : (ℕ → ℕ → Type 0) → Bool → Data → Type 0

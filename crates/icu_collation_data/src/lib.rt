@@ -4,6 +4,7 @@
 
 pub mod block_walk;
 pub mod both;
+mod character_walk;
 pub mod code_point_table;
 pub mod context;
 mod context_conditions;

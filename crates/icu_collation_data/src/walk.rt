@@ -105,8 +105,9 @@ fn visit_digit_mappings<V: Visit>(
     Ok(())
 }
 
+/// Visits each entry that is reachable from this one where a prefix leads to it.
 #[tactic(auto, unfolding(crate::specs::Reachable::reachable_contraction))]
-fn visit_contraction<V: Visit>(
+pub(crate) fn visit_contraction<V: Visit>(
     visitor: &mut V,
     home: CollationData<'_>,
     c: char,

@@ -1,6 +1,8 @@
 use Rattle.std.proofs.Common.{◌*◌, ◌+◌}
 use Rattle.icu_collation_data.specs.StoredData.{data_of}
-use Rattle.icu_collation_data.proofs.BlockWalkLemmas.{held_gap, block_scalar, later_states}
+use Rattle.icu_collation_data.specs.declared.character_walk.Part.TheVariants.{Counted}
+use Rattle.icu_collation_data.proofs.BlockWalkLemmas.{block_scalar, later_states}
+use Rattle.icu_collation_data.proofs.SpentLemmas.{held_gap}
 use Rattle.icu_collation_data.proofs.block_walk.visit_index.Goals as goal
 
 pub returns-in-None-clause-visits : goal.returns-in-None-clause-visits
@@ -9,4 +11,4 @@ returns-in-None-clause-visits g c = λ start.
     (λ d low high is. c.in-None.ensures.value (block_scalar c.args.index d is low high)) start
 
 pub returns-in-None-clause-states : goal.returns-in-None-clause-states
-returns-in-None-clause-states g c = later_states c.args.home c.args.index _ c.requires.states
+returns-in-None-clause-states g c = later_states Counted c.args.home c.args.index _ c.requires.states

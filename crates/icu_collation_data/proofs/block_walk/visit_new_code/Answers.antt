@@ -1,35 +1,27 @@
-use Rattle.std.proofs.Common.{◌≡◌, inl, inr, subst, ap, ◌∙◌}
-use Rattle.icu_entries.specs.declared.entry.EntryKind.TheVariants.{Implicit}
-use Rattle.icu_entries.specs.Entries.{kind_of}
-use Rattle.icu_collation_data.specs.Reachable.{reachable_at, ReferAlike}
+use Rattle.std.proofs.Common.{sym, ap, ◌∙◌}
+use Rattle.std.specs.Prelude.{◌&&◌, ◌==◌}
+use Rattle.icu_collation_data.specs.Reachable.{goes_by_character}
 use Rattle.icu_collation_data.specs.StoredData.{data_of}
-use Rattle.icu_collation_data.specs.Walks.{after_all}
-use Rattle.icu_collation_data.specs.inner.VisitedEntries.{IsRemembered}
-use Rattle.icu_collation_data.proofs.BlockWalkLemmas.{still_shared, held_past, held_known, held_char}
+use Rattle.icu_collation_data.proofs.SpentLemmas.{no_char, char_goes, char_falls, char_spent}
+use Rattle.icu_collation_data.proofs.WalkLemmas.{on_ok}
 use Rattle.icu_collation_data.proofs.block_walk.visit_new_code.Goals as goal
 
-pub returns-then-is_implicit-clause-walks : goal.returns-then-is_implicit-clause-walks
-returns-then-is_implicit-clause-walks g c =
+pub returns-in_default : goal.returns-in_default
+returns-in_default g c = no_char g.V.Visit.after c.args.falls_back (data_of c.args.home) _ _ c.args.code c.in_default.ensures.value
+
+pub returns-then-goes_by_character : goal.returns-then-goes_by_character
+returns-then-goes_by_character g c =
     let value = c.bits_for_char-bits.ensures ∙ ap (data_of c.args.home).value c.in-Some.ensures.value.1 in
-    held_past g.V.Visit.after c.args.falls_back (data_of c.args.home) _ _ c.args.code
-    (λ is. subst (λ e. kind_of e ≡ Implicit) (c.new-entry.ensures ∙ value) (c.is_implicit.ensures.0 c.if-is_implicit.true))
+    char_goes g.V.Visit.after c.args.falls_back (data_of c.args.home) _ _ c.args.code
+    (ap goes_by_character (sym (c.new-entry.ensures ∙ value)) ∙ sym c.goes_by_character.ensures ∙ c.if-goes_by_character.true)
 
-pub returns-then-has-clause-walks : goal.returns-then-has-clause-walks
-returns-then-has-clause-walks g c =
+pub returns-then-is_fallback : goal.returns-then-is_fallback
+returns-then-is_fallback g c =
     let value = c.bits_for_char-bits.ensures ∙ ap (data_of c.args.home).value c.in-Some.ensures.value.1 in
-    held_known g.V.Visit.after c.args.falls_back (data_of c.args.home) _ _ c.args.code c.requires (subst (IsRemembered c.args.seen.now) value (c.has.ensures c.if-has.true))
+    char_falls g.V.Visit.after c.args.falls_back (data_of c.args.home) _ _ c.args.code
+    (ap (λ b. b && (data_of c.args.home).value c.args.code == 0xC0) c.if-falls_back.true ∙ ap (λ e. e == 0xC0) (sym (c.new-entry.ensures ∙ value)) ∙ sym c.is_fallback.ensures ∙ c.if-is_fallback.true)
 
-pub returns-clause-shared : goal.returns-clause-shared
-returns-clause-shared g c = still_shared (data_of c.args.home) _ _ _ c.remember.ensures c.requires
-
-pub returns-clause-walks : goal.returns-clause-walks
-returns-clause-walks g c =
-    let at = c.in-Some.ensures.value.1 in
-    let value = c.bits_for_char-bits.ensures ∙ ap (data_of c.args.home).value at in
-    held_char g.V.Visit.after c.args.falls_back (data_of c.args.home) _ _ _ _ c.args.code c.in-Some.ensures.value.0
-    (λ e has. elim (c.remember.ensures e has) [ inl before ↦ inl before | inr alike ↦ inr (subst (λ n. ReferAlike n e) value alike.0, alike.1) ])
-    (c.in_ok-visit_char.ensures ∙ ap (λ d. after_all g.V.Visit.after (g.V.Visit.seen c.args.visitor.now) (data_of c.args.home) d (reachable_at c.args.falls_back (data_of c.args.home) d)) at)
-
-pub returns-in_default-clause-walks : goal.returns-in_default-clause-walks
-returns-in_default-clause-walks g c =
-    held_past g.V.Visit.after c.args.falls_back (data_of c.args.home) _ _ c.args.code (λ is. absurd (c.in_default.ensures.value is))
+pub returns : goal.returns
+returns g c =
+    let value = c.bits_for_char-bits.ensures ∙ ap (data_of c.args.home).value c.in-Some.ensures.value.1 in
+    on_ok _ _ (char_spent g.V.Visit.after c.args.falls_back (data_of c.args.home) _ _ _ _ c.args.code _ (sym value)) _ c.visit_new.ensures
