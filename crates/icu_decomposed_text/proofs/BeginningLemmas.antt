@@ -47,7 +47,7 @@ unfolding BeginsAbove
 above-append k [] ys p q = q
 above-append k (x ∷ xs) ys p q = p
 
-above-nil : (k : ℕ) → BeginsAbove k []
+pub above-nil : (k : ℕ) → BeginsAbove k []
 unfolding BeginsAbove
 above-nil k = tt
 

@@ -36,4 +36,4 @@ returns-then-has_places-clause-passed g c =
 
 pub returns-else-goes_on-clause-passed : goal.returns-else-goes_on-clause-passed
 returns-else-goes_on-clause-passed g c =
-    marks_parted c.args.class _ _ _ c.requires.taking.behind c.requires.marks (c.if-goes_on.ensures c.if-goes_on.false)
+    marks_parted c.args.class _ _ _ c.requires.taking.behind c.requires.marks (c.if-goes_on.ensures refl)
