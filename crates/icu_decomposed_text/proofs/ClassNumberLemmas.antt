@@ -1,13 +1,13 @@
 -- Each class that a character has has a number of its own.
-use Rattle.std.proofs.Common.{◌≡◌, ◌≢◌, ◌≤◌, ◌<◌, ◌⊎◌, ◌||◌, ℕ, Bool, true, false, not, nat_eq, nat_lt, nat_le, List, [], ◌∷◌, length, get_or, refl, sym, ap, ◌∙◌, arith, inl, inr}
-use Rattle.std.proofs.lemmas.Bool.{cond-false}
+use Rattle.std.proofs.Common.{◌≡◌, ◌≤◌, ◌<◌, ◌+◌, ◌-◌, ◌⊎◌, ◌||◌, ◌&&◌, ℕ, suc, Bool, true, false, nat_eq, nat_lt, nat_le, List, [], ◌∷◌, get_or, refl, sym, ap, ◌∙◌, arith, inl, inr, ltb-true, leb-true}
+use Rattle.std.proofs.lemmas.Bool.{cond-false, and_parts}
 use Rattle.std.proofs.lemmas.Bool.Decides.{nat_tests}
 use Rattle.ucd_table.proofs.Computing.{tables}
 use Rattle.ucd_table.proofs.RangedFacts.{values_ok, Stepped-at_values}
 use Rattle.ucd_table.proofs.TrieCheck.{all_below, all_below-at}
 use Rattle.ucd_normal.specs.CanonicalCombiningClass.{canonical_combining_class as class_of}
 use Rattle.ucd_normal.proofs.CanonicalCombiningClassLemmas.{canonical_combining_class_stepped}
-use Rattle.icu_decomposed_text.specs.inner.ClassNumbers.{class_number, IsUsedClass}
+use Rattle.icu_decomposed_text.specs.inner.ClassNumbers.{class_number, next_used_class, IsUsedClass}
 
 -- the class is 0, or has a number
 has_number : ℕ → Bool
@@ -65,3 +65,33 @@ pub same_class : (j k : ℕ) → IsUsedClass j → class_number k ≡ class_numb
 same_class j k used e =
     let used' : class_number k < 55 = omega arith in
     sym (numbered k used') ∙ ap (λ n. get_or classes n 0) e ∙ numbered j used
+
+-- ---- the next class
+
+-- it is above the class, and no character has a class between
+has_next : ℕ → Bool
+has_next k = nat_lt k (next_used_class k) && (nat_le (next_used_class k) 256 && all_below (λ d. nat_le 55 (class_number (suc k + d))) (next_used_class k - suc k))
+
+each_has_next : all_below has_next 256 ≡ true
+unfolding all_below has_next next_used_class class_number
+each_has_next = refl
+
+module _ (k : ℕ) (small : k < 256) where
+  next_parts : (nat_lt k (next_used_class k) ≡ true) × ((nat_le (next_used_class k) 256 && all_below (λ d. nat_le 55 (class_number (suc k + d))) (next_used_class k - suc k)) ≡ true)
+  unfolding has_next
+  next_parts = and_parts (nat_lt k (next_used_class k)) (nat_le (next_used_class k) 256 && all_below (λ d. nat_le 55 (class_number (suc k + d))) (next_used_class k - suc k)) (all_below-at has_next 256 k each_has_next small)
+
+  limit_parts : (nat_le (next_used_class k) 256 ≡ true) × (all_below (λ d. nat_le 55 (class_number (suc k + d))) (next_used_class k - suc k) ≡ true)
+  limit_parts = and_parts (nat_le (next_used_class k) 256) (all_below (λ d. nat_le 55 (class_number (suc k + d))) (next_used_class k - suc k)) next_parts.1
+
+  pub next_above : k < next_used_class k
+  next_above = ltb-true k (next_used_class k) next_parts.0
+
+  pub next_limit : next_used_class k ≤ 256
+  next_limit = leb-true (next_used_class k) 256 limit_parts.0
+
+  pub unused_between : (i : ℕ) → k < i → i < next_used_class k → 55 ≤ class_number i
+  unused_between i low high =
+      let e : suc k + (i - suc k) ≡ i = omega arith in
+      let at = all_below-at (λ d. nat_le 55 (class_number (suc k + d))) (next_used_class k - suc k) (i - suc k) limit_parts.1 (omega arith) in
+      leb-true 55 (class_number i) (ap (λ n. nat_le 55 (class_number n)) (sym e) ∙ at)

@@ -6,14 +6,14 @@ use Rattle.ucd_normal.specs.CanonicalCombiningClass.{canonical_combining_class a
 use Rattle.icu_decomposed_text.specs.declared.char_parts.Parts.{Parts}
 use Rattle.icu_decomposed_text.specs.declared.class_places.ClassPlaces.{ClassPlaces}
 use Rattle.icu_decomposed_text.specs.MarkClasses.{of_class}
-use Rattle.icu_decomposed_text.specs.inner.ClassNumbers.{class_number, IsUsedClass}
+use Rattle.icu_decomposed_text.specs.inner.ClassNumbers.{class_number, next_used_class, IsUsedClass}
 use Rattle.icu_decomposed_text.specs.inner.ClassPlaces.{slots_at, places_of, class_left, found_left, place_left, marks_from}
 use Rattle.icu_decomposed_text.specs.inner.FrontMarks.{front_marks}
 use Rattle.icu_decomposed_text.specs.inner.Parts.{parts_left}
 use Rattle.icu_decomposed_text.proofs.BeginningLemmas.{AllOf, all-of_class, cases_lt, lists-first, lists-none, lists-same}
-use Rattle.icu_decomposed_text.proofs.ClassNumberLemmas.{same_class}
+use Rattle.icu_decomposed_text.proofs.ClassNumberLemmas.{same_class, next_above, next_limit, unused_between}
 use Rattle.icu_decomposed_text.proofs.FrontMarkLemmas.{front-nil, front-starter, front_marks-are_marks}
-use Rattle.icu_decomposed_text.proofs.PassLemmas.{given_other}
+use Rattle.icu_decomposed_text.proofs.PassLemmas.{given_other, skip_classes}
 
 -- ---- marks of a class
 
@@ -83,10 +83,15 @@ module _ {T : Type 0} (text : T → List ℕ) (p : ClassPlaces T) where
   pub class_all : (k : ℕ) → AllOf k (class_left text p k)
   class_all k = place_all text k (places_of p k)
 
-  pub from_none : (k : ℕ) → k < 256 → class_left text p k ≡ [] → marks_from text p k ≡ marks_from text p (k + 1)
+  -- from a class of which nothing is left to the next one that a character has
+  pub from_none : (k : ℕ) → k < 256 → class_left text p k ≡ [] → marks_from text p k ≡ marks_from text p (next_used_class k)
   from_none k small none =
-      let e : suc k ≡ k + 1 = omega arith in
-      lists-first (class_left text p) k small ∙ ap (λ l. l ++ marks_from text p (suc k)) none ∙ ap (marks_from text p) e
+      let above = next_above k small in
+      skip_classes (class_left text p) k (next_used_class k) (omega arith) (next_limit k small)
+      (λ i low high. elim (cases_eq i k) [
+        | inl same ↦ ap (class_left text p) same ∙ none
+        | inr other ↦ ap (place_left text i) (unused_place p i (unused_between k small i (omega arith) high))
+      ])
 
   pub from_some : (k m : ℕ) (more : List ℕ) → k < 256 → class_left text p k ≡ m ∷ more → marks_from text p k ≡ m ∷ (more ++ marks_from text p (k + 1))
   from_some k m more small some =

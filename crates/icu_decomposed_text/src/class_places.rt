@@ -8,7 +8,7 @@ ghost use Rattle.icu_decomposed_text.specs.inner.FrontMarks.{front_marks, past_m
 ghost use Rattle.icu_decomposed_text.specs.inner.Parts.{parts_left};
 
 use crate::char_parts::Parts;
-use crate::class_numbers::{CLASS_COUNT, class_number};
+use crate::class_numbers::{CLASS_COUNT, class_number, next_used_class};
 use crate::found_mark::{FoundMark, find_mark};
 use crate::slot_tree::{Slot, SlotPair, Slots};
 use icu_encodings::EncodedText;
@@ -133,10 +133,12 @@ impl<T: EncodedText> ClassPlaces<T> {
             ++ marks_from T.text self.now (f.class + 1))) }
         ensures none { result ≡ None → marks_from T.text self.now from ≡ [] }
     {
-        for class in from..256 {
+        let mut class = from;
+        'classes: while class < 256 {
             if let Some(found) = self.first_of(class) {
                 return Some(found);
             }
+            class = next_used_class(class);
         }
         None
     }
