@@ -1,10 +1,10 @@
 pub mod ClassOrderLemmas
 pub mod FrontMarkLemmas
 pub mod PassLemmas
-pub mod BeginningLemmas
-pub mod RunLemmas
+pub mod BeginningMarkLemmas
+pub mod TakenMarkLemmas
 pub mod ClassNumberLemmas
-pub mod PlaceLemmas
+pub mod ClassPlaceLemmas
 pub mod RunTextLemmas
 pub mod LookLemmas
 pub mod TakingLemmas

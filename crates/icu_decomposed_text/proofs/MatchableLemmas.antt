@@ -6,7 +6,7 @@ use Rattle.icu_decomposed_text.specs.declared.taking.Taking.{Taking}
 use Rattle.icu_decomposed_text.specs.UnreadTexts.{IsUnblocked, without_last}
 use Rattle.icu_decomposed_text.specs.inner.Taking.{IsTaking, EndsInList, unread_of, ahead_of, passed_of}
 use Rattle.icu_decomposed_text.proofs.LookLemmas.{one_fewer, without_last-is}
-use Rattle.icu_decomposed_text.proofs.BeginningLemmas.{drop_one_more}
+use Rattle.icu_decomposed_text.proofs.BeginningMarkLemmas.{drop_one_more}
 
 -- what was not passed over is all that is still to be read, so nothing was
 pub none_over : {T : Type 0} (text : T → List ℕ) (t : Taking T) → ahead_of text t ≡ unread_of text t → passed_of text t ≡ 0

@@ -15,9 +15,9 @@ use Rattle.icu_decomposed_text.specs.inner.MarksLeft.{lists_from, left_of_pass}
 use Rattle.icu_decomposed_text.specs.inner.OrderedParts.{left_at, order_left}
 use Rattle.icu_decomposed_text.specs.inner.Parts.{parts_left}
 use Rattle.icu_decomposed_text.specs.inner.RunTexts.{run_text_left, EndsRun, IsRunText}
-use Rattle.icu_decomposed_text.proofs.BeginningLemmas.{behind-above, lists-same}
-use Rattle.icu_decomposed_text.proofs.PlaceLemmas.{class_all, from_end}
-use Rattle.icu_decomposed_text.proofs.RunLemmas.{StandsAt, stands_at, taken_left, taken_ahead}
+use Rattle.icu_decomposed_text.proofs.BeginningMarkLemmas.{behind-above, lists-same}
+use Rattle.icu_decomposed_text.proofs.ClassPlaceLemmas.{class_all, from_end}
+use Rattle.icu_decomposed_text.proofs.TakenMarkLemmas.{StandsAt, stands_at, taken_left, taken_ahead}
 
 -- a list at an unblocked mark
 unblocked_parts : (xs : List ℕ) (passed mark : ℕ) → IsUnblocked xs passed mark → xs ≡ take (passed - 1) xs ++ mark ∷ drop passed xs

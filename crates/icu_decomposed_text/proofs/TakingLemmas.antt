@@ -16,10 +16,10 @@ use Rattle.icu_decomposed_text.specs.inner.MarksLeft.{lists_from}
 use Rattle.icu_decomposed_text.specs.inner.OrderedParts.{order_left}
 use Rattle.icu_decomposed_text.specs.inner.RunTexts.{run_text_left, EndsRun}
 use Rattle.icu_decomposed_text.specs.inner.Taking.{left_behind, EndsInList, IsLook}
-use Rattle.icu_decomposed_text.proofs.BeginningLemmas.{cases_lt, lists-at, lists-below, lists-above, above-append}
+use Rattle.icu_decomposed_text.proofs.BeginningMarkLemmas.{cases_lt, lists-at, lists-below, lists-above, above-append}
 use Rattle.icu_decomposed_text.proofs.FrontMarkLemmas.{no_starter}
 use Rattle.icu_decomposed_text.proofs.LookLemmas.{end_from}
-use Rattle.icu_decomposed_text.proofs.PlaceLemmas.{class_all}
+use Rattle.icu_decomposed_text.proofs.ClassPlaceLemmas.{class_all}
 use Rattle.icu_decomposed_text.proofs.RunTextLemmas.{rest_above}
 
 -- ---- marks up to a class

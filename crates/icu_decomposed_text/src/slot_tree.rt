@@ -10,7 +10,7 @@ pub(crate) trait Slots<P: Copy>: Copy {
     /// What stands in the slot with a number.
     ghost at: { Self → ℕ → P };
 
-    /// The same in each slot.
+    /// Slots that all hold one item.
     fn filled(item: P) -> Self
         ensures { (k : ℕ) → at result k ≡ item };
 

@@ -30,8 +30,8 @@ pub trait TextForMatches {
         ensures next { result ≡ slice_get (unread self.old) (passed self.old) }
         ensures passed { passed self.new ≡ passed self.old + length (option_to_list result) };
 
-    /// Passes over the marks that come next and have this class or a lower one, all at once. What was passed over before
-    /// has to be such marks too.
+    /// Passes over the marks that come next and have this class or a lower one, all at once. What was passed over
+    /// before has to be such marks too.
     fn pass_up_to(&mut self, class: u8)
         requires { AreMarks (class + 1) (take (passed self.old) (unread self.old)) }
         ensures unread { unread self.new ≡ unread self.old }

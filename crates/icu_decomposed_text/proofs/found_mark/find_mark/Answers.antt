@@ -1,7 +1,7 @@
 use Rattle.std.proofs.Common.{◌≡◌, ◌≢◌, ◌≤◌, ◌<◌, refl, sym, ◌∙◌, arith}
 use Rattle.ucd_normal.specs.CanonicalCombiningClass.{canonical_combining_class as class_of}
 use Rattle.icu_decomposed_text.proofs.PassLemmas.{given_first, given_other}
-use Rattle.icu_decomposed_text.proofs.PlaceLemmas.{none_at_end, none_at_starter}
+use Rattle.icu_decomposed_text.proofs.ClassPlaceLemmas.{none_at_end, none_at_starter}
 use Rattle.icu_decomposed_text.proofs.found_mark.find_mark.Goals as goal
 
 pub returns-in_err-mark-clause-none : goal.returns-in_err-mark-clause-none

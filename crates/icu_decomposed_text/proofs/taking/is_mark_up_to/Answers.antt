@@ -1,7 +1,7 @@
 use Rattle.std.proofs.Common.{◌≡◌, ◌≤◌, ◌<◌, ◌+◌, nat_eq, nat_le, arith}
 use Rattle.std.proofs.lemmas.Bool.Decides.{nat_tests}
 use Rattle.ucd_normal.specs.CanonicalCombiningClass.{canonical_combining_class as class_of}
-use Rattle.icu_decomposed_text.proofs.BeginningLemmas.{above-starter, above-higher}
+use Rattle.icu_decomposed_text.proofs.BeginningMarkLemmas.{above-starter, above-higher}
 use Rattle.icu_decomposed_text.proofs.taking.is_mark_up_to.Goals as goal
 
 pub returns-then-own-ne0 : goal.returns-then-own-ne0

@@ -4,7 +4,7 @@ use Rattle.icu_decomposed_text.specs.inner.ClassNumbers.{IsUsedClass}
 use Rattle.icu_decomposed_text.specs.inner.ClassPlaces.{places_of, found_left}
 use Rattle.icu_decomposed_text.specs.inner.Parts.{parts_left}
 use Rattle.icu_decomposed_text.proofs.ClassNumberLemmas.{mark_class-is_used}
-use Rattle.icu_decomposed_text.proofs.PlaceLemmas.{cases_eq, found_other, found_before, found_first}
+use Rattle.icu_decomposed_text.proofs.ClassPlaceLemmas.{cases_eq, found_other, found_before, found_first}
 use Rattle.icu_decomposed_text.proofs.class_places.ClassPlaces.add.Goals as goal
 
 pub returns-then-class-above : goal.returns-then-class-above

@@ -4,7 +4,7 @@ use Rattle.icu_decomposed_text.specs.inner.ClassPlaces.{places_of, found_left}
 use Rattle.icu_decomposed_text.specs.inner.FrontMarks.{front_marks, past_marks}
 use Rattle.icu_decomposed_text.specs.inner.Parts.{parts_left}
 use Rattle.icu_decomposed_text.proofs.FrontMarkLemmas.{front-nil, front-starter, front_none, past-mark}
-use Rattle.icu_decomposed_text.proofs.PlaceLemmas.{place_found}
+use Rattle.icu_decomposed_text.proofs.ClassPlaceLemmas.{place_found}
 use Rattle.icu_decomposed_text.proofs.class_places.ClassPlaces.find.Goals as goal
 
 pub marks-init : goal.marks-init

@@ -5,7 +5,7 @@ use Rattle.icu_decomposed_text.specs.inner.ClassPlaces.{marks_from}
 use Rattle.icu_decomposed_text.specs.inner.FrontMarks.{front_marks}
 use Rattle.icu_decomposed_text.specs.inner.Parts.{parts_left}
 use Rattle.icu_decomposed_text.proofs.ClassNumberLemmas.{next_above, next_limit}
-use Rattle.icu_decomposed_text.proofs.PlaceLemmas.{from_none, from_some, from_end}
+use Rattle.icu_decomposed_text.proofs.ClassPlaceLemmas.{from_none, from_some, from_end}
 use Rattle.icu_decomposed_text.proofs.class_places.ClassPlaces.first_from.Goals as goal
 
 pub returns-in-Some-clause-some : goal.returns-in-Some-clause-some

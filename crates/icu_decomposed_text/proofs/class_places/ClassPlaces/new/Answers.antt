@@ -1,7 +1,7 @@
 use Rattle.std.proofs.Common.{◌∙◌, inl, inr}
 use Rattle.icu_decomposed_text.specs.inner.ClassNumbers.{class_number}
-use Rattle.icu_decomposed_text.proofs.BeginningLemmas.{cases_lt}
-use Rattle.icu_decomposed_text.proofs.PlaceLemmas.{used_place, unused_place}
+use Rattle.icu_decomposed_text.proofs.BeginningMarkLemmas.{cases_lt}
+use Rattle.icu_decomposed_text.proofs.ClassPlaceLemmas.{used_place, unused_place}
 use Rattle.icu_decomposed_text.proofs.class_places.ClassPlaces.new.Goals as goal
 
 pub returns : goal.returns

@@ -1,6 +1,6 @@
 use Rattle.std.proofs.Common.{◌<◌, ap, sym, ◌∙◌, arith}
 use Rattle.icu_decomposed_text.specs.inner.ClassNumbers.{class_number}
-use Rattle.icu_decomposed_text.proofs.PlaceLemmas.{used_place, other_places}
+use Rattle.icu_decomposed_text.proofs.ClassPlaceLemmas.{used_place, other_places}
 use Rattle.icu_decomposed_text.proofs.class_places.ClassPlaces.set.Goals as goal
 
 pub returns-then-number-lt-CLASS_COUNT-clause-others :

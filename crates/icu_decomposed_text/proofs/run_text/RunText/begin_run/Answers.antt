@@ -5,7 +5,7 @@ use Rattle.icu_decomposed_text.specs.inner.ClassPlaces.{marks_from}
 use Rattle.icu_decomposed_text.specs.inner.FrontMarks.{front_marks}
 use Rattle.icu_decomposed_text.specs.inner.MarksLeft.{left_of_pass}
 use Rattle.icu_decomposed_text.specs.inner.Parts.{parts_left}
-use Rattle.icu_decomposed_text.proofs.PlaceLemmas.{went_on}
+use Rattle.icu_decomposed_text.proofs.ClassPlaceLemmas.{went_on}
 use Rattle.icu_decomposed_text.proofs.RunTextLemmas.{rest_only, begun}
 use Rattle.icu_decomposed_text.proofs.run_text.RunText.begin_run.Goals as goal
 

@@ -1,6 +1,6 @@
 use Rattle.std.proofs.Common.{◌<◌, refl, sym, ap, ◌++◌, ◌∙◌, arith}
 use Rattle.icu_decomposed_text.specs.inner.OrderedParts.{order_left}
-use Rattle.icu_decomposed_text.proofs.PlaceLemmas.{went_on}
+use Rattle.icu_decomposed_text.proofs.ClassPlaceLemmas.{went_on}
 use Rattle.icu_decomposed_text.proofs.RunTextLemmas.{rest_only, reads_mark}
 use Rattle.icu_decomposed_text.proofs.run_text.RunText.next_of_run.Goals as goal
 

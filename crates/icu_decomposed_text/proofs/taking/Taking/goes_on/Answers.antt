@@ -1,6 +1,6 @@
 use Rattle.std.proofs.Common.{◌+◌, refl, sym, subst}
 use Rattle.icu_decomposed_text.specs.inner.BeginningMarks.{BeginsAbove}
-use Rattle.icu_decomposed_text.proofs.BeginningLemmas.{above-nil}
+use Rattle.icu_decomposed_text.proofs.BeginningMarkLemmas.{above-nil}
 use Rattle.icu_decomposed_text.proofs.taking.Taking.goes_on.Goals as goal
 
 pub returns-in-None : goal.returns-in-None

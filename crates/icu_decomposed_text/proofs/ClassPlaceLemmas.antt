@@ -10,7 +10,7 @@ use Rattle.icu_decomposed_text.specs.inner.ClassNumbers.{class_number, next_used
 use Rattle.icu_decomposed_text.specs.inner.ClassPlaces.{slots_at, places_of, class_left, found_left, place_left, marks_from}
 use Rattle.icu_decomposed_text.specs.inner.FrontMarks.{front_marks}
 use Rattle.icu_decomposed_text.specs.inner.Parts.{parts_left}
-use Rattle.icu_decomposed_text.proofs.BeginningLemmas.{AllOf, all-of_class, cases_lt, lists-first, lists-none, lists-same}
+use Rattle.icu_decomposed_text.proofs.BeginningMarkLemmas.{AllOf, all-of_class, cases_lt, lists-first, lists-none, lists-same}
 use Rattle.icu_decomposed_text.proofs.ClassNumberLemmas.{same_class, next_above, next_limit, unused_between}
 use Rattle.icu_decomposed_text.proofs.FrontMarkLemmas.{front-nil, front-starter, front_marks-are_marks}
 use Rattle.icu_decomposed_text.proofs.PassLemmas.{given_other, skip_classes}

@@ -7,7 +7,7 @@ use Rattle.icu_decomposed_text.specs.MarkClasses.{AreMarks}
 use Rattle.icu_decomposed_text.specs.UnreadTexts.{IsUnblocked, without_last}
 use Rattle.icu_decomposed_text.specs.inner.BeginningMarks.{BeginsAbove}
 use Rattle.icu_decomposed_text.specs.inner.MarksLeft.{lists_from}
-use Rattle.icu_decomposed_text.proofs.BeginningLemmas.{AllOf, lists-below, lists-above, above-append, parts_alike, first_of_class, class_low, lists-same, lists-first, lists-at, above-higher}
+use Rattle.icu_decomposed_text.proofs.BeginningMarkLemmas.{AllOf, lists-below, lists-above, above-append, parts_alike, first_of_class, class_low, lists-same, lists-first, lists-at, above-higher}
 
 -- what is left of the classes from one on, and what stands behind the run
 abbrev pub left_and_rest : (ℕ → List ℕ) → ℕ → List ℕ → List ℕ
