@@ -1,9 +1,11 @@
 pub mod ClassOrderLemmas
-pub mod ZeroCountLemmas
 pub mod FrontMarkLemmas
-pub mod LookLemmas
-pub mod MatchableLemmas
-pub mod CharPartLemmas
 pub mod PassLemmas
-pub mod TakeLemmas
+pub mod BeginningMarkLemmas
+pub mod TakenMarkLemmas
+pub mod ClassNumberLemmas
+pub mod ClassPlaceLemmas
+pub mod RunTextLemmas
+pub mod LookLemmas
 pub mod TakingLemmas
+pub mod MatchableLemmas

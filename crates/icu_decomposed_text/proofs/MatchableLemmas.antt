@@ -2,30 +2,20 @@
 use Rattle.std.proofs.Common.{◌≡◌, ◌≤◌, ◌<◌, ◌+◌, ◌-◌, ℕ, zero, suc, List, [], ◌∷◌, ◌++◌, take, drop, length, length-append, get_or, slice_get, option_to_list, Option, Some, None, refl, sym, ap, ◌∙◌, arith}
 use Rattle.std.proofs.Math.Seq.{get_or-append_seam}
 use Rattle.std.proofs.lemmas.Option.{slice_get_past, slice_get-get_or}
-use Rattle.std.specs.Option.{ForSome}
-use Rattle.icu_decomposed_text.specs.declared.ordered_parts.OrderedParts.{OrderedParts}
 use Rattle.icu_decomposed_text.specs.declared.taking.Taking.{Taking}
 use Rattle.icu_decomposed_text.specs.UnreadTexts.{IsUnblocked, without_last}
-use Rattle.icu_decomposed_text.specs.inner.Counts.{counts_of}
-use Rattle.icu_decomposed_text.specs.inner.OrderedParts.{order_left}
-use Rattle.icu_decomposed_text.specs.inner.Taking.{IsTaking, IsLook, EndsInList, unread_of, ahead_of, passed_of, left_behind}
-use Rattle.icu_decomposed_text.proofs.LookLemmas.{end_itself, one_fewer, without_last-is}
-use Rattle.icu_decomposed_text.proofs.TakeLemmas.{drop_one_more}
+use Rattle.icu_decomposed_text.specs.inner.Taking.{IsTaking, EndsInList, unread_of, ahead_of, passed_of}
+use Rattle.icu_decomposed_text.proofs.LookLemmas.{one_fewer, without_last-is}
+use Rattle.icu_decomposed_text.proofs.BeginningMarkLemmas.{drop_one_more}
 
-ends_of : {T : Type 0} (text : T → List ℕ) (taken : ℕ → ℕ) (place : OrderedParts T) (o : Option (OrderedParts T)) → ForSome o (IsLook text taken place)
-    → EndsInList (order_left text taken place) (left_behind text taken place o)
-ends_of text taken place None h = end_itself _
-ends_of text taken place (Some look) h = (h look refl).behind
+-- what was not passed over is all that is still to be read, so nothing was
+pub none_over : {T : Type 0} (text : T → List ℕ) (t : Taking T) → ahead_of text t ≡ unread_of text t → passed_of text t ≡ 0
+none_over text t same = let lengths = ap length same in omega arith
 
--- what was not passed over is an end of what is still to be read
-pub ahead_ends : {T : Type 0} (text : T → List ℕ) (t : Taking T) → IsTaking text t → EndsInList (unread_of text t) (ahead_of text t)
-ahead_ends text t taking = ends_of text (counts_of t.taken) t.place t.look taking.look
-
--- where no place is kept, nothing was passed over
-pub none_over : {T : Type 0} (text : T → List ℕ) (t : Taking T) → t.look ≡ None → passed_of text t ≡ 0
-none_over text t none =
-    ap (λ o. length (unread_of text t) - length (left_behind text (counts_of t.taken) t.place o)) none
-    ∙ (let nothing : length (unread_of text t) - length (unread_of text t) ≡ 0 = omega arith in nothing)
+-- so many characters were passed over
+pub counts_over : {T : Type 0} (text : T → List ℕ) (new : Taking T) (unread over : List ℕ) → unread_of text new ≡ unread → unread ≡ over ++ ahead_of text new → passed_of text new ≡ length over
+counts_over text new unread over same parted =
+    let lengths = ap length (same ∙ parted) ∙ length-append over (ahead_of text new) in omega arith
 
 counted_front : (xs init ys : List ℕ) → xs ≡ init ++ ys → length xs - length ys ≡ length init
 counted_front xs init ys e = let lengths = ap length e ∙ length-append init ys in omega arith
@@ -56,7 +46,7 @@ passes_count xs ys zs new r e next same =
 pub takes_count : {T : Type 0} (text : T → List ℕ) (old new : Taking T) (mark : ℕ) → IsTaking text old → IsUnblocked (unread_of text old) (passed_of text old) mark
     → unread_of text new ≡ without_last (unread_of text old) (passed_of text old) → ahead_of text new ≡ ahead_of text old → passed_of text new ≡ passed_of text old - 1
 takes_count text old new mark taking free unread ahead =
-    let end = ahead_ends text old taking in
+    let end = taking.behind in
     ap (λ l. length (unread_of text new) - length l) ahead
     ∙ one_fewer (unread_of text old) (ahead_of text old) (unread_of text new) mark end free (unread ∙ without_last-is (unread_of text old) (ahead_of text old) end)
 

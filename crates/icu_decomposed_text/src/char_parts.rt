@@ -1,11 +1,10 @@
 //! The parts of the characters of a text, one by one.
 
-ghost use Rattle.std.specs.Prelude.{◌≡◌, ◌<◌, ◌^◌, ◌++◌, ◌∷◌, [], None, drop, length, option_to_list};
+ghost use Rattle.std.specs.Prelude.{◌≡◌, ◌++◌, ◌∷◌, [], None, drop, option_to_list};
 ghost use Rattle.ucd_normal.specs.declared.forms.Form.TheVariants.{Nfd};
 ghost use Rattle.unicode_normalization.specs.Decompose.{decompose};
 ghost use Rattle.icu_decomposed_text.specs.inner.CharParts.{begun_left, parts_of};
 
-use crate::counted_text::CountedText;
 use icu_encodings::EncodedText;
 use unicode_normalization::Form;
 use unicode_normalization::char::decomposition;
@@ -74,18 +73,6 @@ impl<T: EncodedText> Parts<T> {
         let (c, rest) = self.rest.split_first_char()?;
         self.rest = rest;
         Some(self.begin(c))
-    }
-}
-
-impl<T: CountedText> Parts<T> {
-    ghost use Rattle.icu_decomposed_text.specs.inner.Parts.{parts_left};
-
-    /// There are fewer than 2^70 parts.
-    #[tactic(auto, unfolding(crate::specs::inner::Parts::parts_left))]
-    pub(crate) fn has_countable_length(&self)
-        ensures { length (parts_left T.EncodedText.text self.now) < 2 ^ 70 }
-    {
-        self.rest.has_countable_length();
     }
 }
 

@@ -1,14 +1,13 @@
 //! Runs of marks that are read class by class.
 
-ghost use Rattle.std.specs.Prelude.{◌≡◌, ◌<◌, ◌++◌, ◌∷◌, [], ℕ, Some, None, false, IsTrue, IfSome, min, option_to_list};
+ghost use Rattle.std.specs.Prelude.{◌≡◌, ◌<◌, ◌++◌, ◌∷◌, [], Some, None, false, IsTrue, IfSome, min, option_to_list};
 ghost use Rattle.ucd_normal.specs.CanonicalCombiningClass.{canonical_combining_class as class_of};
 ghost use Rattle.unicode_normalization.specs.Order.{canonical_order};
 ghost use Rattle.icu_decomposed_text.specs.inner.FrontMarks.{front_marks, past_marks};
-ghost use Rattle.icu_decomposed_text.specs.inner.MarksLeft.{class_limit, counts_if};
+ghost use Rattle.icu_decomposed_text.specs.inner.MarksLeft.{class_limit};
 ghost use Rattle.icu_decomposed_text.specs.inner.Parts.{parts_left};
 
 use crate::char_parts::Parts;
-use crate::taken::TakenMarks;
 use icu_encodings::EncodedText;
 use unicode_normalization::char::canonical_combining_class;
 
@@ -24,10 +23,6 @@ pub(crate) struct ClassPass<T> {
     pub(crate) class: u8,
     /// The least class above it that stands before the place, if there is one.
     pub(crate) next: Option<u8>,
-    /// How many marks of the class are still to be skipped, since they were taken.
-    pub(crate) skip: u128,
-    /// Whether marks were taken from this run.
-    pub(crate) counted: bool,
 }
 
 /// The lesser of a class and the next one, if there is one.
@@ -41,25 +36,20 @@ fn lesser(next: Option<u8>, class: u8) -> Option<u8>
 }
 
 impl<T: EncodedText> ClassPass<T> {
-    ghost use Rattle.icu_decomposed_text.specs.inner.GivenMarks.{IsGiven};
     ghost use Rattle.icu_decomposed_text.specs.inner.Passes.{IsClassPass, pass_left};
 
-    /// The run with which the parts of a text begin, of which nothing was read and nothing taken. No mark has class 0,
-    /// so the first pass finds the least class.
+    /// The run with which the parts of a text begin, of which nothing was read. No mark has class 0, so the first pass
+    /// finds the least class.
     pub(crate) fn new(run: Parts<T>) -> ClassPass<T>
         ensures pass { IsClassPass T.text result }
         ensures run { result.run ≡ run }
-        ensures counted { result.counted ≡ false }
-        ensures left { (taken : ℕ → ℕ)
-            → pass_left T.text taken result ≡ canonical_order (parts_left T.text run) }
+        ensures left { pass_left T.text result ≡ canonical_order (parts_left T.text run) }
     {
         ClassPass {
             run,
             at: run,
             class: 0,
             next: None,
-            skip: 0,
-            counted: false,
         }
     }
 
@@ -73,20 +63,16 @@ impl<T: EncodedText> ClassPass<T> {
         ensures run { self.new.run ≡ self.old.run }
         ensures class { self.new.class ≡ self.old.class }
         ensures at { self.new.at ≡ after }
-        ensures counted { self.new.counted ≡ self.old.counted }
-        ensures own { IsTrue result → class_of mark ≡ self.new.class }
-        ensures given { IsTrue result → (taken : ℕ → ℕ)
-            → pass_left T.text taken self.old ≡ mark ∷ pass_left T.text taken self.new }
-        ensures passed { result ≡ false → (taken : ℕ → ℕ)
-            → pass_left T.text taken self.old ≡ pass_left T.text taken self.new }
+        ensures given { IsTrue result
+            → pass_left T.text self.old ≡ mark ∷ pass_left T.text self.new }
+        ensures passed { result ≡ false
+            → pass_left T.text self.old ≡ pass_left T.text self.new }
     {
         self.at = after;
         if class == self.class {
-            if self.skip == 0 {
-                return true;
-            }
-            self.skip -= 1;
-        } else if class > self.class {
+            return true;
+        }
+        if class > self.class {
             self.next = lesser(self.next, class);
         }
         false
@@ -98,11 +84,8 @@ impl<T: EncodedText> ClassPass<T> {
         ensures pass { IsClassPass T.text self.new }
         ensures run { self.new.run ≡ self.old.run }
         ensures class { self.new.class ≡ self.old.class }
-        ensures counted { self.new.counted ≡ self.old.counted }
-        ensures own { IfSome result (λ mark.
-            (0 < class_of mark) × (class_of mark ≡ self.new.class)) }
-        ensures next { (taken : ℕ → ℕ) → pass_left T.text taken self.old
-            ≡ option_to_list result ++ pass_left T.text taken self.new }
+        ensures next { pass_left T.text self.old
+            ≡ option_to_list result ++ pass_left T.text self.new }
         ensures end { result ≡ None → front_marks (parts_left T.text self.new.at) ≡ [] }
     {
         'marks: loop {
@@ -118,40 +101,29 @@ impl<T: EncodedText> ClassPass<T> {
         }
     }
 
-    /// How many marks of a class were taken from the run.
-    fn count<C: TakenMarks>(&self, class: u8, taken: &C) -> u128
-        ensures { result ≡ counts_if self.now.counted (C.taken taken.now) class }
-    {
-        if self.counted { taken.count(class) } else { 0 }
-    }
-
     /// Begins the pass of the next class.
-    fn begin<C: TakenMarks>(&mut self, class: u8, taken: &C)
+    fn begin(&mut self, class: u8)
         requires pass { IsClassPass T.text self.old }
         requires end { front_marks (parts_left T.text self.old.at) ≡ [] }
         requires next { self.old.next ≡ Some class }
         ensures pass { IsClassPass T.text self.new }
         ensures run { self.new.run ≡ self.old.run }
-        ensures counted { self.new.counted ≡ self.old.counted }
         ensures class { self.new.class ≡ class }
         ensures rises { self.old.class < class }
-        ensures left { pass_left T.text (C.taken taken.now) self.old
-            ≡ pass_left T.text (C.taken taken.now) self.new }
+        ensures left { pass_left T.text self.old ≡ pass_left T.text self.new }
     {
-        self.skip = self.count(class, taken);
         self.at = self.run;
         self.class = class;
         self.next = None;
     }
 
     /// The next mark of the run, or `None` after the last one.
-    pub(crate) fn next<C: TakenMarks>(&mut self, taken: &C) -> Option<char>
+    pub(crate) fn next(&mut self) -> Option<char>
         requires pass { IsClassPass T.text self.old }
         ensures pass { IsClassPass T.text self.new }
-        ensures some { IfSome result (λ mark. pass_left T.text (C.taken taken.now) self.old
-            ≡ mark ∷ pass_left T.text (C.taken taken.now) self.new) }
-        ensures given { IfSome result (IsGiven self.old self.new) }
-        ensures none { result ≡ None → pass_left T.text (C.taken taken.now) self.old
+        ensures some { IfSome result (λ mark. pass_left T.text self.old
+            ≡ mark ∷ pass_left T.text self.new) }
+        ensures none { result ≡ None → pass_left T.text self.old
             ≡ canonical_order (parts_left T.text self.new.at) }
         ensures past { result ≡ None
             → parts_left T.text self.new.at ≡ past_marks (parts_left T.text self.old.run) }
@@ -161,7 +133,7 @@ impl<T: EncodedText> ClassPass<T> {
                 return Some(mark);
             }
             let class = self.next?;
-            self.begin(class, taken);
+            self.begin(class);
         }
     }
 }

@@ -7,7 +7,6 @@ ghost use Rattle.unicode_normalization.specs.Forms.{nfd};
 ghost use Rattle.icu_decomposed_text.specs.inner.OrderedParts.{IsPlace, order_left};
 
 use crate::ordered_parts::OrderedParts;
-use crate::taken::NoneTaken;
 use icu_encodings::EncodedText;
 use std::marker::Model;
 
@@ -25,7 +24,7 @@ pub struct DecomposedText<T: EncodedText> {
 impl<T: EncodedText> Model for DecomposedText<T> {
     ghost Value = { List ℕ };
 
-    ghost view = { λ it. order_left T.text (λ _. 0) it.place };
+    ghost view = { λ it. order_left T.text it.place };
 
     ghost invariant = { λ it. IsPlace T.text it.place };
 }
@@ -52,6 +51,6 @@ impl<T: EncodedText> Iterator for DecomposedText<T> {
 
     #[inline]
     fn next(&mut self) -> Option<char> {
-        self.place.next(&NoneTaken)
+        self.place.next()
     }
 }

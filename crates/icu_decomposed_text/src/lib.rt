@@ -2,14 +2,18 @@
 #![tactic(auto)]
 
 mod char_parts;
+mod class_numbers;
 mod class_pass;
+mod class_places;
 mod counted_text;
 mod decomposed_text;
+mod found_mark;
 mod in_order;
 pub mod laws;
 mod matchable_text;
 mod ordered_parts;
-mod taken;
+mod run_text;
+mod slot_tree;
 mod taking;
 #[cfg(test)]
 mod tests;

@@ -10,7 +10,7 @@ use crate::text_for_matches::TextForMatches;
 use std::alloc::AllocError;
 
 /// A text in canonical decomposition from which marks are taken while it is read. It never allocates: what is left of a
-/// run of marks is in canonical order, so of each combining class those that come first were taken, and a count for
+/// run of marks is in canonical order, so of each combining class those that come first were taken, and a place for
 /// each class tells which.
 #[derive(Debug)]
 pub struct MatchableText<T: CountedText> {
@@ -60,6 +60,10 @@ impl<T: CountedText> TextForMatches for MatchableText<T> {
 
     fn pass(&mut self) -> Option<char> {
         self.taking.pass()
+    }
+
+    fn pass_up_to(&mut self, class: u8) {
+        self.taking.pass_up_to(class)
     }
 
     fn take(&mut self, mark: char) {

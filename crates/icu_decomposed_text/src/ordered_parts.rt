@@ -1,7 +1,6 @@
 //! The parts of the characters of a text, one by one in canonical order.
 
-ghost use Rattle.std.specs.Prelude.{◌≡◌, ◌<◌, ◌∷◌, ◌++◌, [], ℕ, None, true, false, IsTrue, IsSome, IfSome, option_to_list};
-ghost use Rattle.std.specs.Option.{ForSome};
+ghost use Rattle.std.specs.Prelude.{◌≡◌, ◌<◌, ◌∷◌, ◌++◌, [], None, true, false, IsTrue, IsSome, option_to_list};
 ghost use Rattle.ucd_normal.specs.CanonicalCombiningClass.{canonical_combining_class as class_of};
 ghost use Rattle.unicode_normalization.specs.Forms.{nfd};
 ghost use Rattle.unicode_normalization.specs.Order.{is_ordered, canonical_order};
@@ -11,7 +10,6 @@ ghost use Rattle.icu_decomposed_text.specs.inner.Parts.{parts_left};
 use crate::char_parts::Parts;
 use crate::class_pass::ClassPass;
 use crate::in_order::are_in_order;
-use crate::taken::TakenMarks;
 use icu_encodings::EncodedText;
 use unicode_normalization::char::canonical_combining_class;
 
@@ -28,13 +26,12 @@ pub(crate) struct OrderedParts<T> {
 }
 
 impl<T: EncodedText> OrderedParts<T> {
-    ghost use Rattle.icu_decomposed_text.specs.inner.GivenMarks.{GoesOnCounted};
     ghost use Rattle.icu_decomposed_text.specs.inner.OrderedParts.{IsPlace, order_left};
 
     /// The beginning of a text.
     pub(crate) fn new(text: T) -> OrderedParts<T>
         ensures place { IsPlace T.text result }
-        ensures left { (taken : ℕ → ℕ) → order_left T.text taken result ≡ nfd (T.text text) }
+        ensures left { order_left T.text result ≡ nfd (T.text text) }
     {
         OrderedParts {
             parts: Parts::new(text),
@@ -44,17 +41,15 @@ impl<T: EncodedText> OrderedParts<T> {
     }
 
     /// The next mark of the run that is read class by class, or `None` where there is no such run, or it ends.
-    fn next_of_run<C: TakenMarks>(&mut self, taken: &C) -> Option<char>
+    fn next_of_run(&mut self) -> Option<char>
         requires { IsPlace T.text self.old }
         ensures place { IsPlace T.text self.new }
-        ensures next { order_left T.text (C.taken taken.now) self.old
-            ≡ option_to_list result ++ order_left T.text (C.taken taken.now) self.new }
+        ensures next { order_left T.text self.old
+            ≡ option_to_list result ++ order_left T.text self.new }
         ensures end { result ≡ None → self.new.pass ≡ None }
-        ensures counted { IfSome result (λ c. ForSome self.new.pass
-            (λ p. p.counted ≡ true → GoesOnCounted self.old.pass p c)) }
     {
         let mut pass = self.pass?;
-        if let Some(mark) = pass.next(taken) {
+        if let Some(mark) = pass.next() {
             self.pass = Some(pass);
             return Some(mark);
         }
@@ -65,18 +60,17 @@ impl<T: EncodedText> OrderedParts<T> {
     }
 
     /// The first mark of a run that is read class by class from now on.
-    fn begin_run<C: TakenMarks>(&mut self, c: char, after: Parts<T>, taken: &C) -> Option<char>
+    fn begin_run(&mut self, c: char, after: Parts<T>) -> Option<char>
         requires place { IsPlace T.text self.old }
         requires at { parts_left T.text self.old.parts ≡ c ∷ parts_left T.text after }
         requires is_mark { 0 < class_of c }
         ensures place { IsPlace T.text self.new }
         ensures next { canonical_order (parts_left T.text self.old.parts)
-            ≡ option_to_list result ++ order_left T.text (C.taken taken.now) self.new }
+            ≡ option_to_list result ++ order_left T.text self.new }
         ensures some { IsSome result }
-        ensures counted { ForSome self.new.pass (λ p. p.counted ≡ false) }
     {
         let mut pass = ClassPass::new(self.parts);
-        let mark = pass.next(taken)?;
+        let mark = pass.next()?;
         self.pass = Some(pass);
         Some(mark)
     }
@@ -93,14 +87,13 @@ impl<T: EncodedText> OrderedParts<T> {
     }
 
     /// The next character where no run is read class by class, or `None` after the last one.
-    fn next_in_place<C: TakenMarks>(&mut self, taken: &C) -> Option<char>
+    fn next_in_place(&mut self) -> Option<char>
         requires place { IsPlace T.text self.old }
         requires pass { self.old.pass ≡ None }
         ensures place { IsPlace T.text self.new }
-        ensures next { order_left T.text (C.taken taken.now) self.old
-            ≡ option_to_list result ++ order_left T.text (C.taken taken.now) self.new }
-        ensures end { result ≡ None → order_left T.text (C.taken taken.now) self.old ≡ [] }
-        ensures counted { ForSome self.new.pass (λ p. p.counted ≡ false) }
+        ensures next { order_left T.text self.old
+            ≡ option_to_list result ++ order_left T.text self.new }
+        ensures end { result ≡ None → order_left T.text self.old ≡ [] }
     {
         let mut after = self.parts;
         let c = after.next()?;
@@ -114,22 +107,20 @@ impl<T: EncodedText> OrderedParts<T> {
             self.in_order = true;
             return Some(c);
         }
-        self.begin_run(c, after, taken)
+        self.begin_run(c, after)
     }
 
-    /// The next character of the decomposed text without the marks that were taken, or `None` after the last one.
-    pub(crate) fn next<C: TakenMarks>(&mut self, taken: &C) -> Option<char>
+    /// The next character of the decomposed text, or `None` after the last one.
+    pub(crate) fn next(&mut self) -> Option<char>
         requires { IsPlace T.text self.old }
         ensures place { IsPlace T.text self.new }
-        ensures next { order_left T.text (C.taken taken.now) self.old
-            ≡ option_to_list result ++ order_left T.text (C.taken taken.now) self.new }
-        ensures end { result ≡ None → order_left T.text (C.taken taken.now) self.old ≡ [] }
-        ensures counted { IfSome result (λ c. ForSome self.new.pass
-            (λ p. p.counted ≡ true → GoesOnCounted self.old.pass p c)) }
+        ensures next { order_left T.text self.old
+            ≡ option_to_list result ++ order_left T.text self.new }
+        ensures end { result ≡ None → order_left T.text self.old ≡ [] }
     {
-        if let Some(mark) = self.next_of_run(taken) {
+        if let Some(mark) = self.next_of_run() {
             return Some(mark);
         }
-        self.next_in_place(taken)
+        self.next_in_place()
     }
 }

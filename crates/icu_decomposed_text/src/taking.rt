@@ -1,157 +1,186 @@
-//! Marks that are taken from a text while it is read.
+//! A place ahead of the text that is still to be read, up to which characters were passed over.
 
-ghost use Rattle.std.specs.Prelude.{◌≡◌, ◌<◌, ◌+◌, ◌-◌, ◌^◌, ◌++◌, [], ℕ, None, Some, true, length, slice_get, option_to_list};
-ghost use Rattle.std.specs.Option.{ForSome};
+ghost use Rattle.std.specs.Prelude.{◌≡◌, ◌≤◌, ◌+◌, ◌∷◌, ◌++◌, [], ℕ, List, None, false, IfSome, take, option_to_list};
 ghost use Rattle.unicode_normalization.specs.Forms.{nfd};
-ghost use Rattle.icu_decomposed_text.specs.UnreadTexts.{IsUnblocked, without_last};
-ghost use Rattle.icu_decomposed_text.specs.inner.Counts.{counts_of};
+ghost use Rattle.icu_decomposed_text.specs.MarkClasses.{AreMarks};
+ghost use Rattle.icu_decomposed_text.specs.UnreadTexts.{IsUnblocked, without_last, marks_up_to};
+ghost use Rattle.icu_decomposed_text.specs.inner.BeginningMarks.{BeginsAbove};
+ghost use Rattle.icu_decomposed_text.specs.declared.run_text.RunText.{RunText};
 ghost use Rattle.icu_decomposed_text.specs.inner.OrderedParts.{IsPlace, order_left};
+ghost use Rattle.icu_decomposed_text.specs.inner.RunTexts.{IsRunText};
+ghost use Rattle.icu_decomposed_text.specs.inner.Taking.{IsTaking, IsLook, unread_of, ahead_of, passed_of, left_behind};
 
-use crate::class_pass::ClassPass;
-use crate::counted_text::CountedText;
+use crate::char_parts::Parts;
+use crate::found_mark::find_mark;
 use crate::ordered_parts::OrderedParts;
-use crate::taken::MarkCounts;
+use crate::run_text::RunText;
+use icu_encodings::EncodedText;
 use unicode_normalization::char::canonical_combining_class;
 
-/// A place in a decomposed text, a place further ahead up to which characters were passed over, and how many marks of
-/// each class were taken from the run at the first place.
-#[derive(Debug, Clone, Copy)]
-pub(crate) struct Taking<T> {
-    pub(crate) place: OrderedParts<T>,
-    pub(crate) look: Option<OrderedParts<T>>,
-    pub(crate) taken: MarkCounts,
+/// A place ahead.
+#[derive(Clone, Copy, Debug)]
+pub(crate) enum Look<T> {
+    /// The marks of the run that have classes below this one were passed over.
+    Class(usize),
+    /// Those marks were passed over, and of this class those up to a place.
+    Mark(usize, Parts<T>),
+    /// The run was passed over, and what stands up to a place behind it.
+    Rest(OrderedParts<T>),
 }
 
-impl<T: CountedText> Taking<T> {
-    ghost use Rattle.icu_decomposed_text.specs.inner.Passes.{IsClassPass, pass_left};
-    ghost use Rattle.icu_decomposed_text.specs.inner.Taking.{IsTaking, IsLook, unread_of, ahead_of, passed_of, is_counted};
+/// A text that is still to be read, and a place ahead.
+#[derive(Clone, Copy, Debug)]
+pub(crate) struct Taking<T> {
+    pub(crate) text: RunText<T>,
+    pub(crate) look: Look<T>,
+}
 
+impl<T: EncodedText> Taking<T> {
     /// A text of which nothing was read.
     pub(crate) fn new(text: T) -> Taking<T>
-        ensures taking { IsTaking T.EncodedText.text result }
-        ensures unread { unread_of T.EncodedText.text result ≡ nfd (T.EncodedText.text text) }
-        ensures look { result.look ≡ None }
+        ensures taking { IsTaking T.text result }
+        ensures unread { unread_of T.text result ≡ nfd (T.text text) }
+        ensures look { ahead_of T.text result ≡ unread_of T.text result }
     {
+        let text = RunText::new(text);
         Taking {
-            place: OrderedParts::new(text),
-            look: None,
-            taken: MarkCounts::new(),
+            text,
+            look: Look::Class(text.class),
         }
     }
 
     /// Reads the next character. None is passed over any more.
     pub(crate) fn next(&mut self) -> Option<char>
-        requires { IsTaking T.EncodedText.text self.old }
-        ensures taking { IsTaking T.EncodedText.text self.new }
-        ensures next { unread_of T.EncodedText.text self.old
-            ≡ option_to_list result ++ unread_of T.EncodedText.text self.new }
-        ensures end { result ≡ None → unread_of T.EncodedText.text self.old ≡ [] }
-        ensures look { self.new.look ≡ None }
+        requires { IsTaking T.text self.old }
+        ensures taking { IsTaking T.text self.new }
+        ensures next { unread_of T.text self.old
+            ≡ option_to_list result ++ unread_of T.text self.new }
+        ensures end { result ≡ None → unread_of T.text self.old ≡ [] }
+        ensures look { ahead_of T.text self.new ≡ unread_of T.text self.new }
     {
-        self.look = None;
-        self.place.next(&self.taken)
+        let next = self.text.next();
+        self.look_back();
+        next
     }
 
     /// Goes back to the next character: none is passed over any more.
     pub(crate) fn look_back(&mut self)
-        requires { IsTaking T.EncodedText.text self.old }
-        ensures taking { IsTaking T.EncodedText.text self.new }
-        ensures unread { unread_of T.EncodedText.text self.new
-            ≡ unread_of T.EncodedText.text self.old }
-        ensures look { self.new.look ≡ None }
+        requires { IsRunText T.text self.old.text }
+        ensures taking { IsTaking T.text self.new }
+        ensures unread { unread_of T.text self.new ≡ unread_of T.text self.old }
+        ensures look { ahead_of T.text self.new ≡ unread_of T.text self.new }
     {
-        self.look = None;
+        self.look = Look::Class(self.text.class);
     }
 
-    /// The place up to which characters were passed over.
-    fn looking(&self) -> OrderedParts<T>
-        requires { IsTaking T.EncodedText.text self.now }
-        ensures look { IsLook T.EncodedText.text (counts_of self.now.taken) self.now.place result }
-        ensures ahead { order_left T.EncodedText.text (counts_of self.now.taken) result
-            ≡ ahead_of T.EncodedText.text self.now }
+    /// The next character from a class of the run on, and the place behind it.
+    fn ahead_of_class(&self, class: usize) -> Option<(char, Look<T>)>
+        requires text { IsRunText T.text self.now.text }
+        requires class { class ≤ 256 }
+        ensures look { IfSome result (λ p. IsLook T.text p.1) }
+        ensures next { IfSome result (λ p. left_behind T.text self.now.text (Look.Class class)
+            ≡ p.0 ∷ left_behind T.text self.now.text p.1) }
+        ensures none { result ≡ None
+            → left_behind T.text self.now.text (Look.Class class) ≡ [] }
+    {
+        match self.text.places.first_from(class) {
+            Some(found) => Some((found.mark, Look::Mark(found.class, found.after))),
+            None => behind_run(self.text.rest),
+        }
+    }
+
+    /// The next character that wasn't passed over, and the place behind it.
+    fn ahead(&self) -> Option<(char, Look<T>)>
+        requires { IsTaking T.text self.now }
+        ensures look { IfSome result (λ p. IsLook T.text p.1) }
+        ensures next { IfSome result (λ p. ahead_of T.text self.now
+            ≡ p.0 ∷ left_behind T.text self.now.text p.1) }
+        ensures none { result ≡ None → ahead_of T.text self.now ≡ [] }
     {
         match self.look {
-            Some(look) => look,
-            None => self.place,
+            Look::Class(class) => self.ahead_of_class(class),
+            Look::Mark(class, at) => match find_mark(class, at) {
+                Some(found) => Some((found.mark, Look::Mark(class, found.after))),
+                None => self.ahead_of_class(class + 1),
+            },
+            Look::Rest(place) => behind_run(place),
         }
     }
 
     /// Passes over the next character that wasn't passed over, and returns it; `None` after the last one.
     pub(crate) fn pass(&mut self) -> Option<char>
-        requires { IsTaking T.EncodedText.text self.old }
-        ensures taking { IsTaking T.EncodedText.text self.new }
-        ensures unread { unread_of T.EncodedText.text self.new
-            ≡ unread_of T.EncodedText.text self.old }
-        ensures next { ahead_of T.EncodedText.text self.old
-            ≡ option_to_list result ++ ahead_of T.EncodedText.text self.new }
-        ensures end { result ≡ None → ahead_of T.EncodedText.text self.old ≡ [] }
+        requires { IsTaking T.text self.old }
+        ensures taking { IsTaking T.text self.new }
+        ensures unread { unread_of T.text self.new ≡ unread_of T.text self.old }
+        ensures next { ahead_of T.text self.old
+            ≡ option_to_list result ++ ahead_of T.text self.new }
+        ensures end { result ≡ None → ahead_of T.text self.old ≡ [] }
     {
-        let mut look = self.looking();
-        let c = look.next(&self.taken)?;
-        self.look = Some(look);
+        let (c, look) = self.ahead()?;
+        self.look = look;
         Some(c)
     }
 
-    /// The run at the place, whether it is read class by class so far or not.
-    fn run(&self) -> ClassPass<T>
-        requires { IsTaking T.EncodedText.text self.now }
-        ensures pass { IsClassPass T.EncodedText.text result }
-        ensures left { pass_left T.EncodedText.text (counts_of self.now.taken) result
-            ≡ unread_of T.EncodedText.text self.now }
-        ensures counted { result.counted ≡ is_counted self.now.place.pass }
-        ensures same { result.counted ≡ true → self.now.place.pass ≡ Some result }
+    /// Whether a mark of this class or a lower one comes next.
+    fn goes_on(&self, class: u8) -> bool
+        requires { IsTaking T.text self.now }
+        ensures { result ≡ false → BeginsAbove (class + 1) (ahead_of T.text self.now) }
     {
-        match self.place.pass {
-            Some(pass) => pass,
-            None => ClassPass::new(self.place.parts),
+        match self.ahead() {
+            Some((c, _)) => is_mark_up_to(c, class),
+            None => false,
         }
     }
 
-    /// The run at the place, from which marks are taken from now on.
-    fn begin_taking(&mut self) -> ClassPass<T>
-        requires { IsTaking T.EncodedText.text self.old }
-        ensures taking { IsTaking T.EncodedText.text self.new }
-        ensures unread { unread_of T.EncodedText.text self.new
-            ≡ unread_of T.EncodedText.text self.old }
-        ensures ahead { ahead_of T.EncodedText.text self.new
-            ≡ ahead_of T.EncodedText.text self.old }
-        ensures look { self.new.look ≡ self.old.look }
-        ensures pass { self.new.place.pass ≡ Some result }
-        ensures counted { result.counted ≡ true }
+    /// Passes over the marks that come next and have this class or a lower one. Where there are any, the run is read by
+    /// places from now on, so that no mark between is looked at.
+    pub(crate) fn pass_up_to(&mut self, class: u8)
+        requires taking { IsTaking T.text self.old }
+        requires marks { AreMarks (class + 1)
+            (take (passed_of T.text self.old) (unread_of T.text self.old)) }
+        ensures taking { IsTaking T.text self.new }
+        ensures unread { unread_of T.text self.new ≡ unread_of T.text self.old }
+        ensures passed { unread_of T.text self.old
+            ≡ marks_up_to class (unread_of T.text self.old) ++ ahead_of T.text self.new }
     {
-        let mut pass = self.run();
-        if pass.counted {
-            return pass;
+        if self.text.has_places() || self.goes_on(class) {
+            self.text.begin_run();
+            self.look = Look::Class(self.text.class.max(usize::from(class) + 1));
         }
-        pass.counted = true;
-        self.taken.clear();
-        self.place.pass = Some(pass);
-        pass
     }
 
     /// Takes the mark that was passed over last.
     pub(crate) fn take(&mut self, mark: char)
-        requires taking { IsTaking T.EncodedText.text self.old }
-        requires unblocked { IsUnblocked (unread_of T.EncodedText.text self.old)
-            (passed_of T.EncodedText.text self.old) mark }
-        ensures taking { IsTaking T.EncodedText.text self.new }
-        ensures unread { unread_of T.EncodedText.text self.new
-            ≡ without_last (unread_of T.EncodedText.text self.old)
-            (passed_of T.EncodedText.text self.old) }
-        ensures ahead { ahead_of T.EncodedText.text self.new
-            ≡ ahead_of T.EncodedText.text self.old }
+        requires taking { IsTaking T.text self.old }
+        requires unblocked { IsUnblocked (unread_of T.text self.old)
+            (passed_of T.text self.old) mark }
+        ensures taking { IsTaking T.text self.new }
+        ensures unread { unread_of T.text self.new
+            ≡ without_last (unread_of T.text self.old) (passed_of T.text self.old) }
+        ensures ahead { ahead_of T.text self.new ≡ ahead_of T.text self.old }
     {
-        let Some(look) = self.look else {
-            return;
-        };
-        let class = canonical_combining_class(mark);
-        let pass = self.begin_taking();
-        if pass.class == class {
-            self.place = look;
-            self.look = None;
-            return;
-        }
-        pass.run.has_countable_length();
-        self.taken.add(class);
+        self.text.take(mark);
+        self.look = Look::Class(usize::from(canonical_combining_class(mark)));
     }
+}
+
+/// Whether a character is a mark of this class or a lower one.
+fn is_mark_up_to(c: char, class: u8) -> bool
+    ensures { result ≡ false → (cs : List ℕ) → BeginsAbove (class + 1) (c ∷ cs) }
+{
+    let own = canonical_combining_class(c);
+    own != 0 && own <= class
+}
+
+/// The next character at a place behind the run, and the place behind it.
+fn behind_run<T: EncodedText>(place: OrderedParts<T>) -> Option<(char, Look<T>)>
+    requires { IsPlace T.text place }
+    ensures look { IfSome result (λ p. IsLook T.text p.1) }
+    ensures next { IfSome result (λ p. (t : RunText T)
+        → order_left T.text place ≡ p.0 ∷ left_behind T.text t p.1) }
+    ensures none { result ≡ None → order_left T.text place ≡ [] }
+{
+    let mut after = place;
+    let c = after.next()?;
+    Some((c, Look::Rest(after)))
 }

@@ -1,7 +1,8 @@
 //! What a match asks of the text that it reads.
 
-ghost use Rattle.std.specs.Prelude.{◌≡◌, ◌+◌, ◌-◌, ◌++◌, [], ℕ, List, None, drop, length, slice_get, option_to_list};
-ghost use Rattle.icu_decomposed_text.specs.UnreadTexts.{IsUnblocked, without_last};
+ghost use Rattle.std.specs.Prelude.{◌≡◌, ◌+◌, ◌-◌, ◌++◌, [], ℕ, List, None, take, drop, length, slice_get, option_to_list};
+ghost use Rattle.icu_decomposed_text.specs.MarkClasses.{AreMarks};
+ghost use Rattle.icu_decomposed_text.specs.UnreadTexts.{IsUnblocked, without_last, marks_up_to};
 
 /// A decomposed text that is read from its front, as matches ask for it (UTS #10, "Produce Collation Element Arrays"):
 /// they look at what follows, and take marks that don't follow directly.
@@ -28,6 +29,13 @@ pub trait TextForMatches {
         ensures unread { unread self.new ≡ unread self.old }
         ensures next { result ≡ slice_get (unread self.old) (passed self.old) }
         ensures passed { passed self.new ≡ passed self.old + length (option_to_list result) };
+
+    /// Passes over the marks that come next and have this class or a lower one, all at once. What was passed over
+    /// before has to be such marks too.
+    fn pass_up_to(&mut self, class: u8)
+        requires { AreMarks (class + 1) (take (passed self.old) (unread self.old)) }
+        ensures unread { unread self.new ≡ unread self.old }
+        ensures passed { passed self.new ≡ length (marks_up_to class (unread self.old)) };
 
     /// Takes the mark that was passed over last, which none of those before it blocks: the others stay in order.
     fn take(&mut self, mark: char)

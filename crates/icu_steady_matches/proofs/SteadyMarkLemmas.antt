@@ -1,14 +1,15 @@
 -- Marks that join a match one by one, while a text is looked at.
-use Rattle.std.proofs.Common.{◌≡◌, ℕ, ◌+◌, ◌-◌, ◌<◌, ◌≤◌, false, List, [], ◌∷◌, ◌++◌, length, take, drop, Some, None, refl, sym, ap, ap₂, subst, ◌∙◌, arith, length-append, length-drop}
+use Rattle.std.proofs.Common.{◌≡◌, ℕ, zero, suc, ◌+◌, ◌-◌, ◌<◌, ◌≤◌, true, false, List, [], ◌∷◌, ◌++◌, length, take, drop, Some, None, refl, sym, ap, ap₂, subst, ◌∙◌, arith, inl, inr, leb-true, length-append, length-drop}
 use Rattle.std.specs.Prelude.{slice_get, nat_le, max}
-use Rattle.std.proofs.lemmas.Bool.{eq-eqb, ne_eqb, lt-leb, le-leb}
+use Rattle.std.proofs.lemmas.Bool.{cases_Bool, cond-true, cond-false, eq-eqb, ne_eqb, lt-leb, le-leb}
+use Rattle.std.proofs.lemmas.Bool.Decides.{nat_tests}
 use Rattle.std.proofs.lemmas.List.{take-append-drop, take_all, length-take-le}
 use Rattle.std.proofs.lemmas.Option.{slice_get_within}
 use Rattle.ucd_normal.specs.CanonicalCombiningClass.{canonical_combining_class as class_of}
 use Rattle.unicode_normalization.specs.Order.{is_starter}
 use Rattle.icu_collation_data.specs.Data.{Mapping, mapping_entry}
 use Rattle.icu_decomposed_text.specs.MarkClasses.{AreMarks}
-use Rattle.icu_decomposed_text.specs.UnreadTexts.{IsUnblocked, without_last}
+use Rattle.icu_decomposed_text.specs.UnreadTexts.{IsUnblocked, without_last, marks_up_to}
 use Rattle.icu_matches.specs.Matches.{Match, with_marks, is_blocked}
 use Rattle.icu_matches.specs.inner.Joining.{greatest_class}
 use Rattle.icu_matches.proofs.MarkLemmas.{one_more, blocked_by_greatest, greatest_more, at_starter, at_blocked, at_joining, at_other, at_end, removed_after, removed_before, nothing_there}
@@ -153,3 +154,67 @@ module _ (mappings : List Mapping) (entry : ℕ) (suffix : List ℕ) (greatest p
     -- fewer are left once one more was passed over
     pub fewer_ahead : (new : List ℕ) (more : ℕ) → new ≡ text → more ≡ passed + 1 → length new - more < length text - passed
     fewer_ahead new more same next = let long : length new ≡ length text = ap length same in omega (arith, long, within, next)
+
+-- ---- the marks up to a class at once
+
+-- a list of which a mark is among those up to a class begins with such a mark
+kept : (k c : ℕ) (cs : List ℕ) → 0 < length (marks_up_to k (c ∷ cs)) → (0 < class_of c) × (class_of c ≤ k) × (marks_up_to k (c ∷ cs) ≡ c ∷ marks_up_to k cs)
+unfolding marks_up_to
+kept k c cs some = elim (cases_Bool (is_starter c)) [
+  | inl start ↦ let none : marks_up_to k (c ∷ cs) ≡ [] = cond-true _ _ _ start in absurd (omega (arith, ap length none))
+  | inr mark ↦ elim (cases_Bool (nat_le (class_of c) k)) [
+    | inl low ↦ (grind (arith, nat_tests), leb-true (class_of c) k low, cond-false _ _ _ mark ∙ cond-true _ _ _ low)
+    | inr high ↦ let none : marks_up_to k (c ∷ cs) ≡ [] = cond-false _ _ _ mark ∙ cond-false _ _ _ high in absurd (omega (arith, ap length none))
+  ]
+]
+
+marks_up_to-nil : (k : ℕ) → marks_up_to k [] ≡ []
+unfolding marks_up_to
+marks_up_to-nil k = refl
+
+up_to_within : (k : ℕ) (text : List ℕ) (i : ℕ) → i < length (marks_up_to k text) → (m : ℕ) × (slice_get text i ≡ Some m) × (0 < class_of m) × (class_of m ≤ k)
+up_to_within k [] i lt = absurd (omega (arith, ap length (marks_up_to-nil k)))
+up_to_within k (c ∷ cs) zero lt = let h = kept k c cs lt in (c, refl, h.0, h.1)
+up_to_within k (c ∷ cs) (suc i) lt = let h = kept k c cs (omega arith) in let longer = ap length h.2 in up_to_within k cs i (omega arith)
+
+-- marks up to the class that were passed over are among them
+pub up_to_least : (k p : ℕ) (text : List ℕ) → p ≤ length text → AreMarks (k + 1) (take p text) → p ≤ length (marks_up_to k text)
+unfolding marks_up_to
+up_to_least k zero text le marks = omega arith
+up_to_least k (suc p) [] le marks = absurd (omega arith)
+up_to_least k (suc p) (c ∷ cs) le marks =
+    let low = marks.1 in
+    let mark : is_starter c ≡ false = ne_eqb (class_of c) 0 (λ e. absurd (omega (arith, marks.0))) in
+    let under : nat_le (class_of c) k ≡ true = le-leb (class_of c) k (omega arith) in
+    let e : marks_up_to k (c ∷ cs) ≡ c ∷ marks_up_to k cs = cond-false _ _ _ mark ∙ cond-true _ _ _ under in
+    let rest = up_to_least k p cs (omega arith) marks.2 in
+    omega (arith, ap length e)
+
+passes_more : (mappings : List Mapping) (entry : ℕ) (suffix : List ℕ) (greatest passed n : ℕ) (text : List ℕ) (all : Match) → IsJoining mappings entry suffix greatest passed text all → passed + n ≤ length (marks_up_to greatest text)
+    → IsJoining mappings entry suffix greatest (passed + n) text all
+passes_more mappings entry suffix greatest passed zero text all is le = let e : passed ≡ passed + 0 = omega arith in subst (λ p. IsJoining mappings entry suffix greatest p text all) e is
+passes_more mappings entry suffix greatest passed (suc n) text all is le =
+    let e : (passed + n) + 1 ≡ passed + suc n = omega arith in
+    let found = up_to_within greatest text (passed + n) (omega arith) in
+    subst (λ p. IsJoining mappings entry suffix greatest p text all) e
+    (passes_blocked mappings entry suffix greatest (passed + n) text all (passes_more mappings entry suffix greatest passed n text all is (omega arith)) found.0 found.1 found.2 found.3)
+
+-- all marks up to the greatest class are passed over
+pub passes_up_to : (mappings : List Mapping) (entry : ℕ) (suffix : List ℕ) (greatest passed : ℕ) (text : List ℕ) (all : Match) → IsJoining mappings entry suffix greatest passed text all
+    → (new : List ℕ) (more : ℕ) → new ≡ text → more ≡ length (marks_up_to greatest text) → IsJoining mappings entry suffix greatest more new all
+passes_up_to mappings entry suffix greatest passed text all is new more same count =
+    let least = up_to_least greatest passed text is.inside is.marks in
+    let n = length (marks_up_to greatest text) - passed in
+    let sum : passed + n ≡ length (marks_up_to greatest text) = omega arith in
+    let within : passed + n ≤ length (marks_up_to greatest text) = omega arith in
+    in_other_words mappings entry suffix greatest (passed + n) text all greatest more new (passes_more mappings entry suffix greatest passed n text all is within) refl (count ∙ sym sum) same
+
+-- fewer are left by then
+pub fewer_past : (mappings : List Mapping) (entry : ℕ) (suffix : List ℕ) (greatest passed : ℕ) (text : List ℕ) (all : Match) → IsJoining mappings entry suffix greatest passed text all
+    → (old new : List ℕ) (before more : ℕ) → before < passed → text ≡ old → new ≡ text → more ≡ length (marks_up_to greatest text) → length new - more < length old - before
+fewer_past mappings entry suffix greatest passed text all is old new before more later was same count =
+    let least = up_to_least greatest passed text is.inside is.marks in
+    let inside = is.inside in
+    let long = ap length same in
+    let longer = ap length was in
+    omega arith

@@ -14,7 +14,7 @@ use unicode_normalization::char::canonical_combining_class;
 
 /// The marks up to the next starter join the match one by one, and leave the text, where they aren't blocked and the
 /// suffix with them is a mapping. A mark is blocked if its class isn't above the greatest class of those that were
-/// passed over.
+/// passed over, so those of classes up to that one are passed over at once.
 pub(crate) fn join_marks<'d, X: TextForMatches>(
     context: FoundContext<'d>,
     text: &mut X,
@@ -38,6 +38,7 @@ pub(crate) fn join_marks<'d, X: TextForMatches>(
                 matched.suffix = joined.chars;
                 continue;
             }
+            text.pass_up_to(class);
             greatest = class;
         }
     }

@@ -1,18 +1,13 @@
 -- What is left of the marks that a text begins with, while they are read class by class.
-use Rattle.std.specs.Prelude.{◌≡◌, ◌<◌, ◌-◌, ℕ, zero, suc, Bool, true, false, List, [], ◌++◌, drop, Option, Some, None}
+use Rattle.std.specs.Prelude.{◌≡◌, ◌<◌, ◌-◌, ℕ, zero, suc, List, [], ◌++◌, Option, Some, None}
 use Rattle.unicode_normalization.specs.Order.{canonical_order}
 use Rattle.icu_decomposed_text.specs.MarkClasses.{of_class}
 use Rattle.icu_decomposed_text.specs.inner.FrontMarks.{front_marks, past_marks}
 
--- of so many classes from this one on, one after another: the marks of the class after those that were taken
-unfoldable pub left_from : (ℕ → ℕ) → ℕ → ℕ → List ℕ → List ℕ
-left_from taken zero k ms = []
-left_from taken (suc j) k ms = drop (taken k) (of_class k ms) ++ left_from taken j (suc k) ms
-
--- the counts where marks were taken, and no marks elsewhere
-abbrev pub counts_if : Bool → (ℕ → ℕ) → ℕ → ℕ
-counts_if true taken = taken
-counts_if false taken = λ _. 0
+-- the marks of so many classes from this one on, class by class
+unfoldable pub lists_from : (ℕ → List ℕ) → ℕ → ℕ → List ℕ
+lists_from left zero k = []
+lists_from left (suc j) k = left k ++ lists_from left j (suc k)
 
 -- a class that comes next, or the number of all classes where none does
 abbrev pub class_limit : Option ℕ → ℕ
@@ -26,8 +21,8 @@ pub record IsPass (text at : List ℕ) (class : ℕ) (next : Option ℕ) : Type 
   pub above : class < class_limit next
   pub passed : (k : ℕ) → class < k → k < class_limit next → of_class k (front_marks text) ≡ of_class k (front_marks at)
 
--- what is left: of this class after those that are skipped, then of the classes above it, and then what stands after
+-- what is left: of this class those from the place on, then those of the classes above it, and then what stands after
 -- the run
-unfoldable pub left_of_pass : (ℕ → ℕ) → List ℕ → List ℕ → ℕ → ℕ → List ℕ
-left_of_pass taken text at class skip =
-    drop skip (of_class class (front_marks at)) ++ (left_from taken (255 - class) (suc class) (front_marks text) ++ canonical_order (past_marks text))
+unfoldable pub left_of_pass : List ℕ → List ℕ → ℕ → List ℕ
+left_of_pass text at class =
+    of_class class (front_marks at) ++ (lists_from (λ k. of_class k (front_marks text)) (255 - class) (suc class) ++ canonical_order (past_marks text))

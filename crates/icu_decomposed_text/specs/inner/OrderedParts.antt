@@ -14,10 +14,10 @@ pub record IsPlace {T : Type 0} (text : T → List ℕ) (r : OrderedParts T) : T
   pub pass : ForSome r.pass (IsClassPass text)
 
 -- what is left of the run and after it, or of the text in canonical order where no run is read
-abbrev pub left_at : {T : Type 0} → (T → List ℕ) → (ℕ → ℕ) → List ℕ → Option (ClassPass T) → List ℕ
-left_at text taken parts None = canonical_order parts
-left_at text taken parts (Some pass) = pass_left text taken pass
+abbrev pub left_at : {T : Type 0} → (T → List ℕ) → List ℕ → Option (ClassPass T) → List ℕ
+left_at text parts None = canonical_order parts
+left_at text parts (Some pass) = pass_left text pass
 
 -- what is still to be read in canonical order
-abbrev pub order_left : {T : Type 0} → (T → List ℕ) → (ℕ → ℕ) → OrderedParts T → List ℕ
-order_left text taken r = left_at text taken (parts_left text r.parts) r.pass
+abbrev pub order_left : {T : Type 0} → (T → List ℕ) → OrderedParts T → List ℕ
+order_left text r = left_at text (parts_left text r.parts) r.pass

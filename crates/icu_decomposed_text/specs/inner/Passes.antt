@@ -1,7 +1,7 @@
 -- A run of marks that is read class by class.
-use Rattle.std.specs.Prelude.{ℕ, List}
+use Rattle.std.specs.Prelude.{List, ℕ}
 use Rattle.icu_decomposed_text.specs.declared.class_pass.ClassPass.{ClassPass}
-use Rattle.icu_decomposed_text.specs.inner.MarksLeft.{IsPass, left_of_pass, counts_if}
+use Rattle.icu_decomposed_text.specs.inner.MarksLeft.{IsPass, left_of_pass}
 use Rattle.icu_decomposed_text.specs.inner.Parts.{parts_left}
 
 -- the next class is the least one above the class that is read which stands before the place
@@ -9,5 +9,5 @@ abbrev pub IsClassPass : {T : Type 0} → (T → List ℕ) → ClassPass T → T
 IsClassPass text p = IsPass (parts_left text p.run) (parts_left text p.at) p.class p.next
 
 -- what is left of the text that begins with the run
-abbrev pub pass_left : {T : Type 0} → (T → List ℕ) → (ℕ → ℕ) → ClassPass T → List ℕ
-pass_left text taken p = left_of_pass (counts_if p.counted taken) (parts_left text p.run) (parts_left text p.at) p.class p.skip
+abbrev pub pass_left : {T : Type 0} → (T → List ℕ) → ClassPass T → List ℕ
+pass_left text p = left_of_pass (parts_left text p.run) (parts_left text p.at) p.class

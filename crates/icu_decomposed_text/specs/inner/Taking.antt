@@ -1,53 +1,59 @@
--- A text from which marks are taken.
-use Rattle.std.specs.Prelude.{◌≡◌, ◌≤◌, ◌<◌, ◌-◌, ℕ, Bool, true, false, List, ◌++◌, take, length, Option, Some, None}
-use Rattle.std.specs.List.{All}
+-- A text that is still to be read, and a place ahead.
+use Rattle.std.specs.Prelude.{◌≡◌, ◌≤◌, ◌-◌, ℕ, suc, List, ◌++◌, take, length, Option, Some, None}
 use Rattle.std.specs.Option.{ForSome}
-use Rattle.ucd_normal.specs.CanonicalCombiningClass.{canonical_combining_class as class_of}
-use Rattle.icu_decomposed_text.specs.declared.class_pass.ClassPass.{ClassPass}
 use Rattle.icu_decomposed_text.specs.declared.ordered_parts.OrderedParts.{OrderedParts}
+use Rattle.icu_decomposed_text.specs.declared.run_text.RunText.{RunText}
+use Rattle.icu_decomposed_text.specs.declared.taking.Look.{Look}
+use Rattle.icu_decomposed_text.specs.declared.taking.Look.TheVariants.{Class, Mark, Rest}
 use Rattle.icu_decomposed_text.specs.declared.taking.Taking.{Taking}
-use Rattle.icu_decomposed_text.specs.inner.Counts.{counts_of}
+use Rattle.icu_decomposed_text.specs.MarkClasses.{of_class}
+use Rattle.icu_decomposed_text.specs.inner.ClassPlaces.{marks_from}
+use Rattle.icu_decomposed_text.specs.inner.FrontMarks.{front_marks}
 use Rattle.icu_decomposed_text.specs.inner.OrderedParts.{IsPlace, order_left}
+use Rattle.icu_decomposed_text.specs.inner.Parts.{parts_left}
+use Rattle.icu_decomposed_text.specs.inner.RunTexts.{IsRunText, run_text_left}
 
 -- the characters that are still to be read
 abbrev pub unread_of : {T : Type 0} → (T → List ℕ) → Taking T → List ℕ
-unread_of text t = order_left text (counts_of t.taken) t.place
+unread_of text t = run_text_left text t.text
 
--- those that follow a place up to which some were passed over, or all where none was
-abbrev pub left_behind : {T : Type 0} → (T → List ℕ) → (ℕ → ℕ) → OrderedParts T → Option (OrderedParts T) → List ℕ
-left_behind text taken place None = order_left text taken place
-left_behind text taken place (Some look) = order_left text taken look
+-- those that follow a place
+abbrev pub left_behind : {T : Type 0} → (T → List ℕ) → RunText T → Look T → List ℕ
+left_behind text t (Class k) = marks_from text t.places k ++ order_left text t.rest
+left_behind text t (Mark k at) = of_class k (front_marks (parts_left text at)) ++ (marks_from text t.places (suc k) ++ order_left text t.rest)
+left_behind text t (Rest place) = order_left text place
 
 -- the characters that were not passed over
 abbrev pub ahead_of : {T : Type 0} → (T → List ℕ) → Taking T → List ℕ
-ahead_of text t = left_behind text (counts_of t.taken) t.place t.look
+ahead_of text t = left_behind text t.text t.look
 
 -- how many characters were passed over
 abbrev pub passed_of : {T : Type 0} → (T → List ℕ) → Taking T → ℕ
 passed_of text t = length (unread_of text t) - length (ahead_of text t)
 
--- marks were taken from the run
-abbrev pub is_counted : {T : Type 0} → Option (ClassPass T) → Bool
-is_counted None = false
-is_counted (Some pass) = pass.counted
+-- the class from which on all marks of the run follow the place
+abbrev pub look_class : {T : Type 0} → Look T → ℕ
+look_class (Class k) = k
+look_class (Mark k at) = suc k
+look_class (Rest place) = 256
 
--- all are marks, of classes up to this one
-abbrev pub AreMarksUpTo : ℕ → List ℕ → Type 0
-AreMarksUpTo k cs = All (λ c. (0 < class_of c) × (class_of c ≤ k)) cs
+-- the place behind the run, where it is one
+abbrev pub look_rest : {T : Type 0} → Look T → Option (OrderedParts T)
+look_rest (Class k) = None
+look_rest (Mark k at) = None
+look_rest (Rest place) = Some place
+
+-- the place is as it should be
+pub record IsLook {T : Type 0} (text : T → List ℕ) (look : Look T) : Type 0 where
+  pub class : look_class look ≤ 256
+  pub rest : ForSome (look_rest look) (IsPlace text)
 
 -- the second list is an end of the first
 abbrev pub EndsInList : List ℕ → List ℕ → Type 0
 EndsInList xs ys = xs ≡ take (length xs - length ys) xs ++ ys
 
--- Up to this place, from another one on, some characters were passed over. Where counts matter at this place, they are
--- those of the run at the other one, and all that was passed over is marks of this run.
-pub record IsLook {T : Type 0} (text : T → List ℕ) (taken : ℕ → ℕ) (place look : OrderedParts T) : Type 0 where
-  pub is_place : IsPlace text look
-  pub behind : EndsInList (order_left text taken place) (order_left text taken look)
-  pub counted : is_counted look.pass ≡ true → is_counted place.pass ≡ true
-  pub passed : ForSome look.pass (λ p. p.counted ≡ true → AreMarksUpTo p.class (take (length (order_left text taken place) - length (order_left text taken look)) (order_left text taken place)))
-
--- both places are as they should be
+-- both places are as they should be, and what follows the one ahead is an end of what is still to be read
 pub record IsTaking {T : Type 0} (text : T → List ℕ) (t : Taking T) : Type 0 where
-  pub place : IsPlace text t.place
-  pub look : ForSome t.look (IsLook text (counts_of t.taken) t.place)
+  pub text_is : IsRunText text t.text
+  pub look_is : IsLook text t.look
+  pub behind : EndsInList (unread_of text t) (ahead_of text t)

@@ -7,8 +7,8 @@ use Rattle.icu_decomposed_text.proofs.class_pass.ClassPass.next.Goals as goal
 
 pub returns-in_err-class-clause-none : goal.returns-in_err-class-clause-none
 returns-in_err-class-clause-none g c = λ _.
-    c.classes.invariant.left ∙ c.in_default.ensures.next (g.C.TakenMarks.taken c.args.taken.now)
-    ∙ no_class _ _ _ _ _ _ c.in_default.ensures.pass (c.in_default.ensures.end refl) c.in_err-class.was
+    c.classes.invariant.left ∙ c.in_default.ensures.next
+    ∙ no_class _ _ _ _ c.in_default.ensures.pass (c.in_default.ensures.end refl) c.in_err-class.was
 
 pub returns-in_err-class-clause-past : goal.returns-in_err-class-clause-past
 returns-in_err-class-clause-past g c = λ _.

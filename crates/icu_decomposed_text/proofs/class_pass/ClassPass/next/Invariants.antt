@@ -1,4 +1,4 @@
-use Rattle.std.proofs.Common.{◌≡◌, ◌≤◌, ◌-◌}
+use Rattle.std.proofs.Common.{◌≡◌, ◌-◌}
 use Rattle.icu_decomposed_text.specs.inner.Passes.{IsClassPass, pass_left}
 use Rattle.icu_decomposed_text.proofs.class_pass.ClassPass.next.Given as goal
 
@@ -7,9 +7,7 @@ abbrev pub invariant-classes : goal.invariant-classes
 invariant-classes g l = record {
   pass : IsClassPass g.T.EncodedText.text l.self;
   run : l.self.run ≡ l.fn.self.run;
-  counted : l.self.counted ≡ l.fn.self.counted;
-  rises : l.fn.self.class ≤ l.self.class;
-  left : pass_left g.T.EncodedText.text (g.C.TakenMarks.taken l.taken) l.fn.self ≡ pass_left g.T.EncodedText.text (g.C.TakenMarks.taken l.taken) l.self;
+  left : pass_left g.T.EncodedText.text l.fn.self ≡ pass_left g.T.EncodedText.text l.self;
 }
 
 abbrev pub decreases-classes : goal.decreases-classes

@@ -1,4 +1,4 @@
-use Rattle.std.proofs.Common.{◌≡◌, ℕ, length}
+use Rattle.std.proofs.Common.{◌≡◌, length}
 use Rattle.icu_decomposed_text.specs.inner.Parts.{parts_left}
 use Rattle.icu_decomposed_text.specs.inner.Passes.{IsClassPass, pass_left}
 use Rattle.icu_decomposed_text.proofs.class_pass.ClassPass.next_of_class.Given as goal
@@ -9,8 +9,7 @@ invariant-marks g l = record {
   pass : IsClassPass g.T.EncodedText.text l.self;
   run : l.self.run ≡ l.fn.self.run;
   class : l.self.class ≡ l.fn.self.class;
-  counted : l.self.counted ≡ l.fn.self.counted;
-  left : (taken : ℕ → ℕ) → pass_left g.T.EncodedText.text taken l.fn.self ≡ pass_left g.T.EncodedText.text taken l.self;
+  left : pass_left g.T.EncodedText.text l.fn.self ≡ pass_left g.T.EncodedText.text l.self;
 }
 
 abbrev pub decreases-marks : goal.decreases-marks

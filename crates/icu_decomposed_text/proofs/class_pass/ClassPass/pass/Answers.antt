@@ -1,33 +1,20 @@
 use Rattle.std.proofs.Common.{◌≡◌, ◌≢◌, ◌<◌, ◌≤◌, [], ◌∷◌, min, ap, ◌∙◌, arith}
 use Rattle.ucd_normal.specs.CanonicalCombiningClass.{canonical_combining_class as class_of}
 use Rattle.icu_decomposed_text.specs.inner.MarksLeft.{class_limit}
-use Rattle.icu_decomposed_text.proofs.PassLemmas.{pass_same, pass_lower, given_first, given_skipped, given_other, given_of_class}
+use Rattle.icu_decomposed_text.proofs.PassLemmas.{pass_same, pass_lower, given_first, given_other, given_of_class}
 use Rattle.icu_decomposed_text.proofs.class_pass.ClassPass.pass.Goals as goal
 
-pub returns-then-self-eq0-clause-pass : goal.returns-then-self-eq0-clause-pass
-returns-then-self-eq0-clause-pass g c =
+pub returns-then-class-self-clause-pass : goal.returns-then-class-self-clause-pass
+returns-then-class-self-clause-pass g c =
     let is = c.requires.class in let positive = c.requires.is_mark in let same = c.if-class-self.true in
     let mark : 0 < class_of c.args.mark = omega arith in let low : class_of c.args.mark ≤ c.args.self.now.class = omega arith in
     pass_same _ _ _ c.args.mark _ _ c.requires.at c.requires.pass mark low
 
-pub returns-then-self-eq0-clause-given : goal.returns-then-self-eq0-clause-given
-returns-then-self-eq0-clause-given g c =
+pub returns-then-class-self-clause-given : goal.returns-then-class-self-clause-given
+returns-then-class-self-clause-given g c =
     let is = c.requires.class in let positive = c.requires.is_mark in let same = c.if-class-self.true in
     let mark : 0 < class_of c.args.mark = omega arith in let equal : class_of c.args.mark ≡ c.args.self.now.class = omega arith in
-    λ _ taken. given_of_class _ (c.args.mark ∷ []) _ _ _ _ _ _ (given_first _ _ c.args.mark _ _ c.requires.at mark equal c.if-self-eq0.true)
-
-pub returns-else-self-eq0-clause-pass : goal.returns-else-self-eq0-clause-pass
-returns-else-self-eq0-clause-pass g c =
-    let is = c.requires.class in let positive = c.requires.is_mark in let same = c.if-class-self.true in
-    let mark : 0 < class_of c.args.mark = omega arith in let low : class_of c.args.mark ≤ c.args.self.now.class = omega arith in
-    pass_same _ _ _ c.args.mark _ _ c.requires.at c.requires.pass mark low
-
-pub returns-else-self-eq0-clause-passed : goal.returns-else-self-eq0-clause-passed
-returns-else-self-eq0-clause-passed g c =
-    let is = c.requires.class in let positive = c.requires.is_mark in let same = c.if-class-self.true in
-    let mark : 0 < class_of c.args.mark = omega arith in let equal : class_of c.args.mark ≡ c.args.self.now.class = omega arith in
-    let some : 0 < c.args.self.now.skip = omega arith in
-    λ _ taken. given_of_class _ [] _ _ _ _ _ _ (given_skipped _ _ c.args.mark _ _ c.requires.at mark equal some)
+    λ _. given_of_class (c.args.mark ∷ []) _ _ _ _ (given_first _ _ c.args.mark _ c.requires.at mark equal)
 
 pub returns-then-class-self-2-clause-pass : goal.returns-then-class-self-2-clause-pass
 returns-then-class-self-2-clause-pass g c =
@@ -39,7 +26,7 @@ pub returns-then-class-self-2-clause-passed : goal.returns-then-class-self-2-cla
 returns-then-class-self-2-clause-passed g c =
     let is = c.requires.class in let positive = c.requires.is_mark in let unlike = c.if-class-self.false in
     let mark : 0 < class_of c.args.mark = omega arith in let other : class_of c.args.mark ≢ c.args.self.now.class = λ e. unlike (is ∙ e) in
-    λ _ taken. given_of_class _ [] _ _ _ _ _ _ (given_other _ _ c.args.mark _ _ c.requires.at mark other)
+    λ _. given_of_class [] _ _ _ _ (given_other _ _ c.args.mark _ c.requires.at mark other)
 
 pub returns-else-class-self-2-clause-pass : goal.returns-else-class-self-2-clause-pass
 returns-else-class-self-2-clause-pass g c =
@@ -51,4 +38,4 @@ pub returns-else-class-self-2-clause-passed : goal.returns-else-class-self-2-cla
 returns-else-class-self-2-clause-passed g c =
     let is = c.requires.class in let positive = c.requires.is_mark in let unlike = c.if-class-self.false in
     let mark : 0 < class_of c.args.mark = omega arith in let other : class_of c.args.mark ≢ c.args.self.now.class = λ e. unlike (is ∙ e) in
-    λ _ taken. given_of_class _ [] _ _ _ _ _ _ (given_other _ _ c.args.mark _ _ c.requires.at mark other)
+    λ _. given_of_class [] _ _ _ _ (given_other _ _ c.args.mark _ c.requires.at mark other)

@@ -7,17 +7,11 @@ use Rattle.icu_decomposed_text.proofs.ordered_parts.OrderedParts.begin_run.Goals
 pub returns-in_err-mark-clause-next : goal.returns-in_err-mark-clause-next
 returns-in_err-mark-clause-next g c = absurd (
     never_past _ _ c.args.c _ c.requires.at c.requires.is_mark
-    (sym (c.new-pass.ensures.left (g.C.TakenMarks.taken c.args.taken.now)) ∙ c.in_err-mark.ensures.none refl)
+    (sym c.new-pass.ensures.left ∙ c.in_err-mark.ensures.none refl)
     (c.in_err-mark.ensures.past refl ∙ ap (λ r. past_marks (parts_left g.T.EncodedText.text r)) c.new-pass.ensures.run))
 
 pub returns-in_err-mark-clause-some : goal.returns-in_err-mark-clause-some
 returns-in_err-mark-clause-some g c = absurd (
     never_past _ _ c.args.c _ c.requires.at c.requires.is_mark
-    (sym (c.new-pass.ensures.left (g.C.TakenMarks.taken c.args.taken.now)) ∙ c.in_err-mark.ensures.none refl)
-    (c.in_err-mark.ensures.past refl ∙ ap (λ r. past_marks (parts_left g.T.EncodedText.text r)) c.new-pass.ensures.run))
-
-pub returns-in_err-mark-clause-counted : goal.returns-in_err-mark-clause-counted
-returns-in_err-mark-clause-counted g c = absurd (
-    never_past _ _ c.args.c _ c.requires.at c.requires.is_mark
-    (sym (c.new-pass.ensures.left (g.C.TakenMarks.taken c.args.taken.now)) ∙ c.in_err-mark.ensures.none refl)
+    (sym c.new-pass.ensures.left ∙ c.in_err-mark.ensures.none refl)
     (c.in_err-mark.ensures.past refl ∙ ap (λ r. past_marks (parts_left g.T.EncodedText.text r)) c.new-pass.ensures.run))

@@ -4,4 +4,4 @@ use Rattle.icu_decomposed_text.proofs.FrontMarkLemmas.{nfd_is}
 use Rattle.icu_decomposed_text.proofs.ordered_parts.OrderedParts.new.Goals as goal
 
 pub returns-clause-left : goal.returns-clause-left
-returns-clause-left g c = λ taken. ap canonical_order c.new.ensures ∙ nfd_is _
+returns-clause-left g c = ap canonical_order c.new.ensures ∙ nfd_is _

@@ -10,7 +10,7 @@ use Rattle.icu_decomposed_text.proofs.ordered_parts.OrderedParts.next_in_place.G
 
 pub returns-in_err-c-clause-end : goal.returns-in_err-c-clause-end
 returns-in_err-c-clause-end g c = λ _.
-    ap (left_at g.T.EncodedText.text (g.C.TakenMarks.taken c.args.taken.now) (parts_left g.T.EncodedText.text c.args.self.now.parts)) c.requires.pass
+    ap (left_at g.T.EncodedText.text (parts_left g.T.EncodedText.text c.args.self.now.parts)) c.requires.pass
     ∙ ap canonical_order (c.in_err-c.ensures.end refl) ∙ canonical_order-nil
 
 pub returns-then-canonical_combining_class-eq0-clause-next :
@@ -18,7 +18,7 @@ pub returns-then-canonical_combining_class-eq0-clause-next :
 returns-then-canonical_combining_class-eq0-clause-next g c =
     let is = c.canonical_combining_class.ensures in let none = c.if-canonical_combining_class-eq0.true in
     let start : class_of c.in_ok-c.c ≤ 0 = omega arith in
-    let left = left_at g.T.EncodedText.text (g.C.TakenMarks.taken c.args.taken.now) in
+    let left = left_at g.T.EncodedText.text in
     let rest = parts_left g.T.EncodedText.text c.next.new.self in
     ap (left (parts_left g.T.EncodedText.text c.args.self.now.parts)) c.requires.pass
     ∙ ap canonical_order c.in_ok-c.ensures.next ∙ order-starter c.in_ok-c.c rest start
@@ -39,7 +39,7 @@ returns-then-stays-clause-next g c =
     let is = c.canonical_combining_class.ensures in let some = c.if-canonical_combining_class-eq0.false in
     let mark : 0 < class_of c.in_ok-c.c = omega arith in
     let stays = c.if-stays.ensures refl in
-    let left = left_at g.T.EncodedText.text (g.C.TakenMarks.taken c.args.taken.now) in
+    let left = left_at g.T.EncodedText.text in
     let rest = parts_left g.T.EncodedText.text c.next.new.self in
     ap (left (parts_left g.T.EncodedText.text c.args.self.now.parts)) c.requires.pass
     ∙ ap canonical_order c.in_ok-c.ensures.next
