@@ -9,6 +9,8 @@ use Rattle.icu_tailoring.specs.TailoredMappings.{symbolic_elements}
 use Rattle.icu_rule_steps.specs.RuleFaults.{rule_fault, first_fault}
 use Rattle.icu_rule_steps.specs.declared.rule_step_error.RuleStepError.{RuleStepError}
 use Rattle.icu_rule_steps.specs.declared.rule_step_error.RuleStepError.TheVariants.{NoMemory, Refused}
+use Rattle.icu_rule_steps.specs.declared.tailoring_error.TailoringError.{TailoringError}
+use Rattle.icu_rule_steps.specs.declared.tailoring_error.TailoringError.TheVariants as errors
 use Rattle.icu_rule_steps.specs.declared.tailoring_error.TailoringErrorKind.{TailoringErrorKind}
 
 -- the rule that a relation of strings is
@@ -40,3 +42,8 @@ pub record ReadsRules (root : Root) (rules : List Rule) (old new : TailoringStat
 abbrev pub IsReason : Option TailoringErrorKind → RuleStepError → Type 0
 IsReason fault NoMemory = Unit {0}
 IsReason fault (Refused kind) = fault ≡ Some kind
+
+-- out of memory, or this is the error
+abbrev pub IsError : Option TailoringError → TailoringError → Type 0
+IsError found errors.NoMemory = Unit {0}
+IsError found (errors.Refused place led kind) = found ≡ Some (errors.Refused place led kind)

@@ -1,5 +1,5 @@
 -- Which rules are refused, and why (UTS #35 part 5, "Collation Tailorings").
-use Rattle.std.specs.Prelude.{ℕ, Bool, true, false, ◌+◌, ◌==◌, ◌&&◌, ◌||◌, nat_le, nat_lt, if◌then◌else◌, List, [], ◌∷◌, length, is_empty, Option, Some, None}
+use Rattle.std.specs.Prelude.{ℕ, Bool, true, false, ◌+◌, ◌==◌, ◌&&◌, ◌||◌, nat_le, nat_lt, if◌then◌else◌, List, [], ◌∷◌, length, Option, Some, None}
 use Rattle.unicode_normalization.specs.Forms.{nfd}
 use Rattle.icu_options.specs.declared.settings.Strength.{Strength}
 use Rattle.icu_options.specs.declared.settings.Strength.TheVariants.{Identical}
@@ -90,7 +90,7 @@ abbrev pub level_fault : ℕ → List SymbolicElement → Option TailoringErrorK
 level_fault level es =
     let counting = counting_at level es in
     if has_no_weight (last_element counting) then Some NoWeight
-    else if (level == 1 || level == 4) && is_empty counting then Some AfterIgnorable
+    else if (level == 1 || level == 4) && length counting == 0 then Some AfterIgnorable
     else None
 
 -- why a difference of a strength from elements is refused; none is identical

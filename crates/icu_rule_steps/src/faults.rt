@@ -1,7 +1,8 @@
 //! Rules that have no step.
-ghost use Rattle.std.specs.Prelude.{◌≡◌, ◌+◌, nat_lt, length};
+ghost use Rattle.std.specs.Prelude.{◌≡◌, ◌+◌, ◌<◌, true, false, nat_lt, length, MatchOption};
+ghost use Rattle.icu_tailoring.specs.Rules.{is_scalar};
 ghost use Rattle.icu_tailoring.specs.Steps.{before_level};
-ghost use Rattle.icu_rule_steps.specs.RuleFaults.{before_fault, begins_in_syllable, difference_fault, ends_in_syllable, has_no_weight, is_leading_jamo, is_reserved_position, is_vowel_jamo, most_elements, string_fault, weight_fault};
+ghost use Rattle.icu_rule_steps.specs.RuleFaults.{before_fault, begins_in_syllable, difference_fault, ends_in_syllable, has_no_weight, is_leading_jamo, is_reserved_position, is_vowel_jamo, level_fault, most_elements, string_fault, weight_fault};
 
 use crate::tailoring_error::TailoringErrorKind;
 use icu_options::Strength;
@@ -164,4 +165,13 @@ pub(crate) fn string_fault(prefix: &[char], string: &[char]) -> Option<Tailoring
         return Some(TailoringErrorKind::LongPrefix);
     }
     None
+}
+
+/// The character of a code, if it is one.
+pub(crate) fn scalar_of(code: u32) -> Option<char>
+    requires { code < 0x110000 }
+    ensures { MatchOption result (is_scalar code ≡ false)
+        (λ c. (c ≡ code) × (is_scalar code ≡ true)) }
+{
+    char::from_u32(code)
 }

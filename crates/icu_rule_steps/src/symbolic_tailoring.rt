@@ -1,7 +1,7 @@
 //! What rules say, while tailored weights have no numbers.
 use crate::decomposing::decomposed;
 use crate::faults::{
-    are_too_many, before_fault, difference_fault, is_reserved_position, string_fault,
+    are_too_many, before_fault, difference_fault, is_reserved_position, scalar_of, string_fault,
 };
 use crate::rule_step_error::RuleStepError;
 use crate::tailoring_error::{TailoringError, TailoringErrorKind};
@@ -27,12 +27,14 @@ pub struct SymbolicTailoring<'r, R> {
 impl<'r, R: RootWeights + RootMappings> SymbolicTailoring<'r, R> {
     ghost use Rattle.std.specs.Prelude.{◌≡◌, ◌++◌, ◌⊎◌, [], ◌∷◌, None, Some, map, reverse, IfOk, IfErr, OnOk};
     ghost use Rattle.icu_tailoring.specs.Rules.{at_position, at_string, characters_of, lone_relation, place_of_anchor, relation, reset, rules_of, setting_rules, starred_rules, statement_rules};
-    ghost use Rattle.icu_tailoring.specs.Steps.{before_level, before_step, case_step, first_state, mapping_step, place_elements, strength_step, tailoring_of};
+    ghost use Rattle.icu_tailoring.specs.Steps.{before_level, before_step, case_step, first_state, mapping_step, place_elements, strength_step, suppression_step, tailoring_of};
     ghost use Rattle.icu_weight_tree.specs.RuleStates.{with_elements};
     ghost use Rattle.icu_weight_tree.specs.TreeBuilders.{tree_of};
     ghost use Rattle.icu_symbolic_mappings.specs.KeptMappings.{mappings_in};
     ghost use Rattle.icu_tailoring.specs.TailoredRoots.{Root};
-    ghost use Rattle.icu_rule_steps.specs.ReadRules.{IsReason, ReadsRule, ReadsRules, decomposed_step, maybe_before, rule_of_relation};
+    ghost use Rattle.icu_tailoring.specs.TailoredMappings.{symbolic_elements};
+    ghost use Rattle.unicode_normalization.specs.Forms.{nfd};
+    ghost use Rattle.icu_rule_steps.specs.ReadRules.{IsError, IsReason, ReadsRule, ReadsRules, decomposed_step, maybe_before, rule_of_relation};
     ghost use Rattle.icu_rule_steps.specs.RuleFaults.{decomposed_fault, first_error, first_fault, maybe_before_fault, place_fault, rule_fault};
     ghost use Rattle.icu_rule_steps.specs.SymbolicTailorings.{root_in, state_in};
 
@@ -53,8 +55,8 @@ impl<'r, R: RootWeights + RootMappings> SymbolicTailoring<'r, R> {
         alloc: Global,
         string: &[char],
     ) -> Result<Vec<SymbolicElement>, RuleStepError>
-        ensures ok { IfOk result (λ es. (root : Root)
-            → es.items ≡ place_elements root (state_in R.mappings_of self.now) (at_string string.now)) }
+        ensures ok { IfOk result (λ es. es.items
+            ≡ symbolic_elements (state_in R.mappings_of self.now).mappings (nfd string.now)) }
         ensures sound { IfOk result (λ _.
             place_fault (state_in R.mappings_of self.now) (at_string string.now) ≡ None) }
         ensures err { IfErr result (IsReason
@@ -152,16 +154,16 @@ impl<'r, R: RootWeights + RootMappings> SymbolicTailoring<'r, R> {
     {
         let elements = self.anchor_elements(alloc, root, &said.anchor)?;
         self.set_elements(elements);
-        self.go_before(root, said.before)
+        self.go_before(root, said.before)?;
+        Ok(())
     }
 
     /// Makes a difference.
-    fn differ(&mut self, strength: Strength) -> Result<(), RuleStepError>
+    fn differ(&mut self, strength: Strength) -> Result<(), AllocError>
         ensures { OnOk result (state_in R.mappings_of self.new
             ≡ strength_step strength (state_in R.mappings_of self.old)) }
     {
-        self.rule.differ_by(strength)?;
-        Ok(())
+        self.rule.differ_by(strength)
     }
 
     /// Gives the elements the case of a decomposed string.
@@ -194,7 +196,8 @@ impl<'r, R: RootWeights + RootMappings> SymbolicTailoring<'r, R> {
     {
         let mut whole = Vec::from_slice(alloc, self.rule.elements())?;
         whole.extend_from_slice(extension)?;
-        self.mappings.mapping_step(alloc, prefix, string, whole)
+        self.mappings.mapping_step(alloc, prefix, string, whole)?;
+        Ok(())
     }
 
     /// Relates a string, decomposed, to the rule before.
@@ -258,7 +261,8 @@ impl<'r, R: RootWeights + RootMappings> SymbolicTailoring<'r, R> {
             prefix.as_slice(),
             string.as_slice(),
             extension,
-        )
+        )?;
+        Ok(())
     }
 
     /// Reads a relation of strings.
@@ -299,7 +303,7 @@ impl<'r, R: RootWeights + RootMappings> SymbolicTailoring<'r, R> {
             (state_in R.mappings_of self.old) (map (lone_relation strength) (characters_of range)))) }
     {
         for code in u32::from(range.first)..u32::from(range.last) + 1 {
-            if let Some(c) = char::from_u32(code) {
+            if let Some(c) = scalar_of(code) {
                 self.relate(alloc, root, strength, &[], &[c], &[])?;
             }
         }
@@ -325,15 +329,22 @@ impl<'r, R: RootWeights + RootMappings> SymbolicTailoring<'r, R> {
         Ok(())
     }
 
+    /// Characters of the ranges keep their mappings without a context alone.
+    fn suppress(&mut self, ranges: &[CharacterRange]) -> Result<(), AllocError>
+        ensures { OnOk result (state_in R.mappings_of self.new
+            ≡ suppression_step ranges.now (state_in R.mappings_of self.old)) }
+    {
+        self.mappings.suppression_step(ranges)?;
+        Ok(())
+    }
+
     /// Reads a setting.
     fn read_setting(&mut self, said: &'r RuleSetting) -> Result<(), AllocError>
         ensures { (root : Root) → OnOk result (ReadsRules root (setting_rules said.now)
             (state_in R.mappings_of self.old) (state_in R.mappings_of self.new)) }
     {
         match said {
-            RuleSetting::SuppressContractions(ranges) => {
-                self.mappings.suppression_step(ranges.as_slice())
-            }
+            RuleSetting::SuppressContractions(ranges) => self.suppress(ranges.as_slice()),
             RuleSetting::Optimize(_)
             | RuleSetting::Normalization(_)
             | RuleSetting::HiraganaQuaternaryOff
@@ -381,6 +392,12 @@ impl<'r, R: RootWeights + RootMappings> SymbolicTailoring<'r, R> {
         ensures says { IfOk result (λ t. state_in R.mappings_of t
             ≡ tailoring_of (root_in R.root R.mappings_of root.now)
             (rules_of rules.now.statements.items)) }
+        ensures sound { IfOk result (λ _.
+            let root = root_in R.root R.mappings_of root.now in
+            first_error root (first_state root) rules.now.statements.items ≡ None) }
+        ensures err { IfErr result (
+            let root = root_in R.root R.mappings_of root.now in
+            IsError (first_error root (first_state root) rules.now.statements.items)) }
     {
         let mut tailoring = SymbolicTailoring::new(alloc, root);
         for placed in &rules.statements {
