@@ -1,3 +1,3 @@
 mod StateLemmas
 mod RuleLoopLemmas
-mod SyllableLemmas
+mod ContractionEnds

@@ -40,7 +40,8 @@ impl<'r, R: RootWeights + RootMappings> SymbolicTailoring<'r, R> {
 
     /// What no rules say: nothing but the root.
     fn new(alloc: Global, root: &'r R) -> Self
-        ensures { state_in R.mappings_of result ≡ first_state (root_in R.root R.mappings_of root.now) }
+        ensures { state_in R.mappings_of result
+            ≡ first_state (root_in R.root R.mappings_of root.now) }
     {
         SymbolicTailoring {
             rule: RuleElements::new(alloc),
@@ -127,7 +128,8 @@ impl<'r, R: RootWeights + RootMappings> SymbolicTailoring<'r, R> {
         ensures ok { OnOk result (state_in R.mappings_of self.new
             ≡ maybe_before (root_in R.root R.mappings_of root.now) before
             (state_in R.mappings_of self.old)) }
-        ensures sound { OnOk result (maybe_before_fault (root_in R.root R.mappings_of root.now) before
+        ensures sound { OnOk result (maybe_before_fault
+            (root_in R.root R.mappings_of root.now) before
             (state_in R.mappings_of self.old).elements ≡ None) }
         ensures err { IfErr result (IsReason (maybe_before_fault
             (root_in R.root R.mappings_of root.now) before
@@ -300,7 +302,8 @@ impl<'r, R: RootWeights + RootMappings> SymbolicTailoring<'r, R> {
             (map (lone_relation strength) (characters_of range))
             (state_in R.mappings_of self.old) (state_in R.mappings_of self.new)) }
         ensures err { IfErr result (IsReason (first_fault (root_in R.root R.mappings_of root.now)
-            (state_in R.mappings_of self.old) (map (lone_relation strength) (characters_of range)))) }
+            (state_in R.mappings_of self.old)
+            (map (lone_relation strength) (characters_of range)))) }
     {
         for code in u32::from(range.first)..u32::from(range.last) + 1 {
             if let Some(c) = scalar_of(code) {
@@ -417,14 +420,16 @@ impl<'r, R: RootWeights + RootMappings> SymbolicTailoring<'r, R> {
 
     /// The mappings of characters.
     pub fn mappings(&self) -> &Mappings<'r, R>
-        ensures { mappings_in R.mappings_of result.now ≡ (state_in R.mappings_of self.now).mappings }
+        ensures { mappings_in R.mappings_of result.now
+            ≡ (state_in R.mappings_of self.now).mappings }
     {
         &self.mappings
     }
 
     /// The settings, in turn.
     pub fn settings(&self) -> &[&'r RuleSetting]
-        ensures { reverse (map (λ s. s.now) result.now) ≡ (state_in R.mappings_of self.now).settings }
+        ensures { reverse (map (λ s. s.now) result.now)
+            ≡ (state_in R.mappings_of self.now).settings }
     {
         self.settings.as_slice()
     }

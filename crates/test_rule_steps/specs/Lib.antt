@@ -1,1 +1,1 @@
-pub mod SmallRoots
+pub mod LetterRoots

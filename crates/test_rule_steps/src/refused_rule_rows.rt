@@ -1,5 +1,5 @@
 //! Rules that are read, and refused over a small root, each with the place of the statement and the reason.
-use crate::SmallRoot;
+use crate::LetterRoot;
 use icu_rule_steps::{SymbolicTailoring, TailoringError, TailoringErrorKind};
 use icu_rules::Rules;
 use std::test::Fail;
@@ -12,10 +12,26 @@ const REFUSED: [(&str, usize, TailoringErrorKind); 19] = [
     ("&\\u0301<b", 7, TailoringErrorKind::AfterIgnorable),
     ("&\\u0000<b", 7, TailoringErrorKind::AfterIgnorable),
     ("&\\u0000<<<<b", 7, TailoringErrorKind::AfterIgnorable),
-    ("&[before 1]\\u0000<b", 0, TailoringErrorKind::BeforeIgnorable),
-    ("&[before 1]\\u0301<b", 0, TailoringErrorKind::BeforeIgnorable),
-    ("&[before 2]\\u0000<<b", 0, TailoringErrorKind::BeforeIgnorable),
-    ("&[before 3]\\u0000<<<b", 0, TailoringErrorKind::BeforeIgnorable),
+    (
+        "&[before 1]\\u0000<b",
+        0,
+        TailoringErrorKind::BeforeIgnorable,
+    ),
+    (
+        "&[before 1]\\u0301<b",
+        0,
+        TailoringErrorKind::BeforeIgnorable,
+    ),
+    (
+        "&[before 2]\\u0000<<b",
+        0,
+        TailoringErrorKind::BeforeIgnorable,
+    ),
+    (
+        "&[before 3]\\u0000<<<b",
+        0,
+        TailoringErrorKind::BeforeIgnorable,
+    ),
     ("&\\u0378<b", 7, TailoringErrorKind::NoWeight),
     ("&[before 1]\\u0378<b", 0, TailoringErrorKind::NoWeight),
     ("&a<\\u1100b", 2, TailoringErrorKind::JamoContraction),
@@ -32,7 +48,11 @@ const REFUSED: [(&str, usize, TailoringErrorKind); 19] = [
         0,
         TailoringErrorKind::TooManyElements,
     ),
-    ("&a<b # <c\n&\\u0301\n<*de", 18, TailoringErrorKind::AfterIgnorable),
+    (
+        "&a<b # <c\n&\\u0301\n<*de",
+        18,
+        TailoringErrorKind::AfterIgnorable,
+    ),
 ];
 
 /// Rules that are taken, though rules near them are refused.
@@ -43,13 +63,13 @@ const TAKEN: [&str; 8] = [
     "&a<\\u1100",
     "&a<b\\u1161",
     "&a<ab|d",
-    "&a<b/ccccccccccccccccccccccccccccccc",
+    "&a<b/cccccccccccccccccccccccccccccc",
     "&aaaaaaaaaaaaaaaaaaaaaaaaaaaaaaa<b",
 ];
 
 #[test]
 fn refused_by_a_root(rt: HostRuntime) -> Result<(), Fail> {
-    let root = SmallRoot;
+    let root = LetterRoot;
     for (text, place, kind) in REFUSED {
         let rules = Rules::parse(rt.alloc(), text)?;
         let expected = TailoringError::Refused {
@@ -65,7 +85,7 @@ fn refused_by_a_root(rt: HostRuntime) -> Result<(), Fail> {
 
 #[test]
 fn taken_by_a_root(rt: HostRuntime) -> Result<(), Fail> {
-    let root = SmallRoot;
+    let root = LetterRoot;
     for text in TAKEN {
         let rules = Rules::parse(rt.alloc(), text)?;
         let error = SymbolicTailoring::of_rules(rt.alloc(), &root, &rules).err();
