@@ -1,5 +1,5 @@
 -- What is left of the weights decides.
-use Rattle.std.proofs.Common.{◌≡◌, ◌+◌, drop, get_or, ap, sym, ◌∙◌}
+use Rattle.std.proofs.Common.{◌+◌, drop, get_or, ap, sym, ◌∙◌}
 use Rattle.std.proofs.lemmas.List.{at_drop_more, drop_all}
 use Rattle.icu_tailoring.specs.TailoredRoots.{first_above}
 use Rattle.test_rule_steps.proofs.LetterRootLemmas.{above_more, above_found, above_none}

@@ -1,5 +1,5 @@
 -- What is left of the weights decides.
-use Rattle.std.proofs.Common.{◌≡◌, ◌+◌, None, drop, get_or, ap, sym, ◌∙◌}
+use Rattle.std.proofs.Common.{◌+◌, drop, get_or, ap, sym, ◌∙◌}
 use Rattle.std.proofs.lemmas.List.{at_drop_more, drop_all}
 use Rattle.icu_tailoring.specs.TailoredRoots.{last_below}
 use Rattle.test_rule_steps.proofs.LetterRootLemmas.{below_more, below_ended, below_none}

@@ -1,5 +1,5 @@
 -- The last of the weights.
-use Rattle.std.proofs.Common.{◌≡◌, ◌<◌, ◌-◌, length, get_or, rules, arith, ◌∙◌}
+use Rattle.std.proofs.Common.{◌≡◌, ◌<◌, ◌-◌, length, get_or, rules, ◌∙◌}
 use Rattle.test_rule_steps.proofs.LetterRootLemmas.{last_number_is}
 use Rattle.test_rule_steps.proofs.letter_root.last_number.Goals as goal
 

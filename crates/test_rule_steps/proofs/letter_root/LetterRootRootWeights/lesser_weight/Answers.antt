@@ -1,6 +1,5 @@
 -- The next lesser weight, or what stands below all.
 use Rattle.std.proofs.Common.{unwrap_or, ap, ◌∙◌}
-use Rattle.icu_tailoring.specs.TailoredRoots.{lowest_below}
 use Rattle.test_rule_steps.specs.LetterRoots.{letter_below}
 use Rattle.test_rule_steps.proofs.LetterRootLemmas.{lesser_is}
 use Rattle.test_rule_steps.proofs.letter_root.LetterRootRootWeights.lesser_weight.Goals as goal
