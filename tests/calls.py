@@ -11,9 +11,10 @@ import crates
 
 DRIVER = "test_driver"
 # What says that a call may fail so, in the type that it returns.
-FAILURES = {"AllocError", "DataError", "LdmlError", "LineError", "ReadError", "RulesError", "SortKeyError", "TagError", "XmlError"}
+FAILURES = {"AllocError", "DataError", "LdmlError", "LineError", "ReadError", "RulesError", "SortKeyError", "TagError", "TailoringError",
+            "XmlError"}
 # Errors that say so within another one, and such as no public call returns.
-WITHIN = {"DataErrorKind", "UnplacedError"}
+WITHIN = {"DataErrorKind", "RuleStepError", "UnplacedError"}
 # A public error, of which one kind is that an allocation failed.
 ERROR = re.compile(r"^pub enum (\w+)[^{;]*\{(?:(?!^\}).)*^ *NoMemory,", re.M | re.S)
 # The head of an `impl`, or a public call: its indentation, its name, and what stands between that and its contract or body.
@@ -24,12 +25,13 @@ METHOD = re.compile(r"(?:<[^(]*>)?\(\s*(?:&(?:'\w+ )?)?(?:mut )?self\b")
 # How the driver comes to a value of a type that it doesn't name.
 VALUES = {"CollatorBorrowed": "as_borrowed"}
 # Programs, and crates of tests: what the driver asks about are libraries.
-OTHERS = {"collate", "collate_cldr", "collate_commands", "sort_names", "test_contracts", DRIVER, "test_types"}
+OTHERS = {"collate", "collate_cldr", "collate_commands", "sort_names", "test_contracts", DRIVER, "test_rule_steps", "test_types"}
 KEY, CHECK, FILE, READ, LINE = "`key`", "`check`", "`root`", "`next` and `whole`", "`line`"
 # Calls to which no question comes: each request of this program, or of this crate, is refused or tested by itself; some are run by
 # the tests of their own crates alone, without a refusal.
 PROGRAM, TYPES, TESTS = "the program `collate-cldr`", "`test_types`", "the crate's own tests, where no allocation is refused"
-# Calls that nothing makes: those on which no program stands yet (searching, tailorings, the reader of steps), and one that hands tables
+RULES = "`test_rule_steps`, where no allocation is refused"
+# Calls that nothing makes: those on which no program stands yet (searching, the reader of steps), and one that hands tables
 # which come one by one to `from_set`.
 NOTHING = "nothing"
 # The crate and the name of a call, behind its type where it has one, and the question of the driver that comes to it, or what else
@@ -47,6 +49,7 @@ LEFT_OUT = {
     ("icu_locale", "LanguageTag::locale"): TESTS,
     ("icu_locale", "LanguageTag::parse"): TESTS,
     ("icu_locale", "LanguageTag::written"): TESTS,
+    ("icu_rule_steps", "SymbolicTailoring::of_rules"): RULES,
     ("icu_rules", "Rules::parse"): TESTS,
     ("icu_rules", "Rules::resolve"): TESTS,
     ("icu_small_tables", "checked_small_tables"): TYPES,
@@ -54,18 +57,18 @@ LEFT_OUT = {
     ("icu_search", "first_least"): NOTHING,
     ("icu_searcher", "PlaceReader::next"): NOTHING,
     ("icu_searcher", "place_marks"): NOTHING,
-    ("icu_symbolic_mappings", "Mappings::mapping_step"): NOTHING,
-    ("icu_symbolic_mappings", "Mappings::suppression_step"): NOTHING,
-    ("icu_symbolic_mappings", "Mappings::symbolic_elements"): NOTHING,
-    ("icu_symbolic_mappings", "cased_elements"): NOTHING,
+    ("icu_symbolic_mappings", "Mappings::mapping_step"): RULES,
+    ("icu_symbolic_mappings", "Mappings::suppression_step"): RULES,
+    ("icu_symbolic_mappings", "Mappings::symbolic_elements"): RULES,
+    ("icu_symbolic_mappings", "cased_elements"): RULES,
     ("icu_weight_gaps", "weights_between"): TESTS,
-    ("icu_weight_tree", "RuleElements::differ_at"): NOTHING,
-    ("icu_weight_tree", "RuleElements::differ_by"): NOTHING,
-    ("icu_weight_tree", "RuleElements::go_before_at"): NOTHING,
-    ("icu_weight_tree", "RuleElements::go_before_by"): NOTHING,
-    ("icu_weight_tree", "WeightTreeBuilder::put_before"): NOTHING,
-    ("icu_weight_tree", "WeightTreeBuilder::put_new_weight"): NOTHING,
-    ("icu_weight_tree", "WeightTreeBuilder::put_weights"): NOTHING,
+    ("icu_weight_tree", "RuleElements::differ_at"): RULES,
+    ("icu_weight_tree", "RuleElements::differ_by"): RULES,
+    ("icu_weight_tree", "RuleElements::go_before_at"): RULES,
+    ("icu_weight_tree", "RuleElements::go_before_by"): RULES,
+    ("icu_weight_tree", "WeightTreeBuilder::put_before"): RULES,
+    ("icu_weight_tree", "WeightTreeBuilder::put_new_weight"): RULES,
+    ("icu_weight_tree", "WeightTreeBuilder::put_weights"): RULES,
     ("icu_xml", "read_document"): TESTS,
     ("icu_weights", "first_overlap"): CHECK,
     ("icu_weights", "first_common_overlap"): CHECK,

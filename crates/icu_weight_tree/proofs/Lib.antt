@@ -4,3 +4,4 @@ mod ListedTreeLemmas
 mod TreeLoopLemmas
 mod CountingLemmas
 mod RuleStateLemmas
+mod PositionLemmas

@@ -1,2 +1,3 @@
 pub mod SiblingPlaces
 pub mod SiblingChanges
+pub mod TailoredSiblings

@@ -1,5 +1,5 @@
 //! What relations do to the elements of a rule.
-ghost use Rattle.std.specs.Prelude.{◌≡◌, ◌≤◌, ◌++◌, ◌∷◌, [], length, OnOk};
+ghost use Rattle.std.specs.Prelude.{◌≡◌, ◌≤◌, ◌++◌, ◌∷◌, [], length, take, OnOk};
 ghost use Rattle.icu_tailoring.specs.SymbolicElements.{element_with, to_all_levels};
 ghost use Rattle.icu_tailoring.specs.Steps.{counting_at, last_element, with_last_element};
 
@@ -42,7 +42,7 @@ pub(crate) fn make_element(
 }
 
 /// The last of the elements; of none, the one that is ignorable.
-pub(crate) fn last_or_ignorable(elements: &[SymbolicElement]) -> SymbolicElement
+pub fn last_or_ignorable(elements: &[SymbolicElement]) -> SymbolicElement
     ensures { result ≡ last_element elements.now }
 {
     let count = elements.len();
@@ -52,15 +52,30 @@ pub(crate) fn last_or_ignorable(elements: &[SymbolicElement]) -> SymbolicElement
     elements[count - 1]
 }
 
-/// Drops the last elements that don't count at a level.
-pub(crate) fn keep_counting(elements: &mut Vec<SymbolicElement>, level: u8)
-    ensures { elements.new.items ≡ counting_at level elements.old.items }
+/// How many elements there are up to the last one that counts at a level.
+fn counting_len(elements: &[SymbolicElement], level: u8) -> usize
+    ensures most { result ≤ length elements.now }
+    ensures taken { take result elements.now ≡ counting_at level elements.now }
 {
     let mut kept = elements.len();
     while 0 < kept && elements[kept - 1].strength > level {
         kept -= 1;
     }
-    elements.truncate(kept);
+    kept
+}
+
+/// The elements up to the last one that counts at a level.
+pub fn counting_at(elements: &[SymbolicElement], level: u8) -> &[SymbolicElement]
+    ensures { result.now ≡ counting_at level elements.now }
+{
+    &elements[..counting_len(elements, level)]
+}
+
+/// Drops the last elements that don't count at a level.
+pub(crate) fn keep_counting(elements: &mut Vec<SymbolicElement>, level: u8)
+    ensures { elements.new.items ≡ counting_at level elements.old.items }
+{
+    elements.truncate(counting_len(elements.as_slice(), level));
 }
 
 /// Puts another element in the place of the last.

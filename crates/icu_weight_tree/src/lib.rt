@@ -2,14 +2,18 @@
 #![tactic(auto)]
 
 mod change;
-mod counting_elements;
+pub mod counting_elements;
 mod lists;
 mod parents;
+pub mod positions;
 pub mod root_weights;
 pub mod rule_elements;
 mod siblings;
+mod tailored_siblings;
 pub mod tree;
 
+pub use counting_elements::{counting_at, last_or_ignorable};
+pub use positions::position_element;
 pub use root_weights::RootWeights;
 pub use rule_elements::RuleElements;
 pub use tree::WeightTreeBuilder;

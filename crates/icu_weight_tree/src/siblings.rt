@@ -23,7 +23,7 @@ pub(crate) struct Siblings {
 }
 
 /// Whether two weights are the same.
-fn is_same(v: SymbolicWeight, w: SymbolicWeight) -> bool
+pub(crate) fn is_same(v: SymbolicWeight, w: SymbolicWeight) -> bool
     ensures { result ≡ is_same_weight v w }
 {
     v == w
@@ -63,7 +63,7 @@ fn search_place(weights: &[SymbolicWeight], w: SymbolicWeight) -> usize
 }
 
 /// Where a weight stands first among siblings, by a search from the first.
-fn search_first(weights: &[SymbolicWeight], w: SymbolicWeight) -> usize
+pub(crate) fn search_first(weights: &[SymbolicWeight], w: SymbolicWeight) -> usize
     ensures { result ≡ first_place w weights.now }
 {
     for (i, v) in weights.iter().enumerate() {

@@ -1,12 +1,12 @@
 use Rattle.std.proofs.Common.{◌≡◌, ◌≤◌, length, take}
 use Rattle.icu_tailoring.specs.Steps.{counting_at}
-use Rattle.icu_weight_tree.proofs.counting_elements.keep_counting.Given as goal
+use Rattle.icu_weight_tree.proofs.counting_elements.counting_len.Given as goal
 
 abbrev pub decreases-loop-kept : goal.decreases-loop-kept
 decreases-loop-kept l = l.kept
 
 abbrev pub invariant-loop-kept : goal.invariant-loop-kept
 invariant-loop-kept l = record {
-  few : l.kept ≤ length l.elements.items;
-  counting : counting_at l.level (take l.kept l.elements.items) ≡ counting_at l.level l.elements.items;
+  few : l.kept ≤ length l.elements;
+  counting : counting_at l.level (take l.kept l.elements) ≡ counting_at l.level l.elements;
 }

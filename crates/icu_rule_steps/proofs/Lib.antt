@@ -1,0 +1,3 @@
+mod StateLemmas
+mod RuleLoopLemmas
+mod ContractionEnds

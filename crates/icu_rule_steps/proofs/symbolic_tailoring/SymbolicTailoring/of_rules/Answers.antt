@@ -1,0 +1,19 @@
+-- Each statement is read in turn.
+use Rattle.std.proofs.Common.{◌+◌, ◌∷◌, ℕ, List, drop, ap, sym, ◌∙◌}
+use Rattle.std.proofs.lemmas.List.{drop_more}
+use Rattle.icu_rules.specs.declared.rules.PlacedStatement.{PlacedStatement}
+use Rattle.icu_tailoring.specs.TailoredRoots.{Root}
+use Rattle.icu_rule_steps.specs.SymbolicTailorings.{root_in, state_in}
+use Rattle.icu_rule_steps.proofs.RuleLoopLemmas.{one_placed}
+use Rattle.icu_rule_steps.proofs.symbolic_tailoring.SymbolicTailoring.of_rules.Goals as goal
+
+pub loop-placed-preserved : goal.loop-placed-preserved
+loop-placed-preserved g c =
+    let mappings_of = g.R.RootMappings.mappings_of in
+    let root : Root = root_in g.R.RootWeights.root mappings_of c.args.root.now in
+    let placed : List PlacedStatement = c.deref-placed-items.result.now in
+    let i : ℕ = c.loop-placed.placed-index in
+    let p : PlacedStatement = c.placed-item.result in
+    one_placed root placed (state_in mappings_of c.loop-placed.tailoring) (state_in mappings_of c.read_statement.new.self) (drop i placed)
+    (drop (i + 1) placed) p (drop_more placed i p c.loop-placed-test.true ∙ ap (λ y. y ∷ drop (i + 1) placed) (sym c.placed-item.is))
+    c.loop-placed.invariant c.in_default.ensures.ok

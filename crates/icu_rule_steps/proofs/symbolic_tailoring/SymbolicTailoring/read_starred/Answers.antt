@@ -1,0 +1,55 @@
+-- Each range is related in turn.
+use Rattle.std.proofs.Common.{◌+◌, ℕ, List, drop, get_or, map, ap}
+use Rattle.std.specs.List.{flat_map}
+use Rattle.icu_options.specs.declared.settings.Strength.{Strength}
+use Rattle.icu_rules.specs.declared.statement.CharacterRange.{CharacterRange}
+use Rattle.icu_tailoring.specs.Rules.{Rule, characters_of, lone_relation, starred_rules}
+use Rattle.icu_tailoring.specs.TailoredRoots.{Root}
+use Rattle.icu_tailoring.specs.Steps.{TailoringState}
+use Rattle.icu_rule_steps.specs.RuleFaults.{first_fault}
+use Rattle.icu_rule_steps.specs.ReadRules.{IsReason}
+use Rattle.icu_rule_steps.specs.SymbolicTailorings.{root_in, state_in}
+use Rattle.icu_rule_steps.proofs.RuleLoopLemmas.{read_none, read_more, more_refused, handed_on, range_next}
+use Rattle.icu_rule_steps.proofs.symbolic_tailoring.SymbolicTailoring.read_starred.Goals as goal
+
+abbrev no_range : CharacterRange
+no_range = record { first = 0; last = 0 }
+
+abbrev related : Strength → List CharacterRange → ℕ → List Rule
+related strength ranges i = map (lone_relation strength) (flat_map characters_of (drop i ranges))
+
+pub loop-range-init : goal.loop-range-init
+loop-range-init g c =
+    let mappings_of = g.R.RootMappings.mappings_of in
+    let root : Root = root_in g.R.RootWeights.root mappings_of c.args.root.now in
+    let strength = c.args.said.now.strength in
+    read_none root (state_in mappings_of c.args.self.now) (starred_rules c.args.said.now) (related strength c.deref-range-items.result.now 0)
+    (ap (λ rs. map (lone_relation strength) (flat_map characters_of rs)) c.deref-range-items.ensures.value)
+
+pub returns-in_err-relate_range-clause-err : goal.returns-in_err-relate_range-clause-err
+returns-in_err-relate_range-clause-err g c =
+    let mappings_of = g.R.RootMappings.mappings_of in
+    let root : Root = root_in g.R.RootWeights.root mappings_of c.args.root.now in
+    let old : TailoringState = state_in mappings_of c.args.self.now in
+    let rules : List Rule = starred_rules c.args.said.now in
+    let strength = c.args.said.now.strength in
+    let ranges : List CharacterRange = c.deref-range-items.result.now in
+    let i : ℕ = c.loop-range.range-index in
+    let error = c.in_err-relate_range.field-0.0 in
+    handed_on c.from_residual.result error (IsReason (first_fault root old rules)) c.from_residual.ensures.1
+    (more_refused root old (state_in mappings_of c.loop-range.self) rules (related strength ranges i)
+    (map (lone_relation strength) (characters_of (get_or ranges i no_range))) (related strength ranges (i + 1)) error
+    (range_next strength ranges i no_range c.loop-range-test.true) c.loop-range.invariant c.in_err-relate_range.ensures.err)
+
+pub loop-range-preserved : goal.loop-range-preserved
+loop-range-preserved g c =
+    let mappings_of = g.R.RootMappings.mappings_of in
+    let root : Root = root_in g.R.RootWeights.root mappings_of c.args.root.now in
+    let old : TailoringState = state_in mappings_of c.args.self.now in
+    let rules : List Rule = starred_rules c.args.said.now in
+    let strength = c.args.said.now.strength in
+    let ranges : List CharacterRange = c.deref-range-items.result.now in
+    let i : ℕ = c.loop-range.range-index in
+    read_more root old (state_in mappings_of c.loop-range.self) (state_in mappings_of c.relate_range.new.self) rules (related strength ranges i)
+    (map (lone_relation strength) (characters_of (get_or ranges i no_range))) (related strength ranges (i + 1))
+    (range_next strength ranges i no_range c.loop-range-test.true) c.loop-range.invariant c.in_ok-relate_range.ensures.ok

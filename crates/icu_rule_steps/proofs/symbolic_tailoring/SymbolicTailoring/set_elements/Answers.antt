@@ -1,0 +1,8 @@
+-- The state with these elements.
+use Rattle.icu_symbolic_mappings.specs.KeptMappings.{mappings_in}
+use Rattle.icu_rule_steps.specs.SymbolicTailorings.{settings_in}
+use Rattle.icu_rule_steps.proofs.symbolic_tailoring.SymbolicTailoring.set_elements.Goals as goal
+
+pub returns : goal.returns
+returns g c =
+    c.set_elements.ensures (mappings_in g.R.RootMappings.mappings_of c.args.self.now.mappings) (settings_in c.args.self.now)

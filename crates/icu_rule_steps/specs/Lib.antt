@@ -1,0 +1,3 @@
+pub mod RuleFaults
+pub mod SymbolicTailorings
+pub mod ReadRules

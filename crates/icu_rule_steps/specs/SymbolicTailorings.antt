@@ -1,0 +1,20 @@
+-- What rules have said, as it is kept.
+use Rattle.std.specs.Prelude.{ℕ, List, map, reverse}
+use Rattle.icu_rules.specs.declared.statement.RuleSetting.{RuleSetting}
+use Rattle.icu_tailoring.specs.TailoredRoots.{RootMapping, Root}
+use Rattle.icu_tailoring.specs.Steps.{TailoringState}
+use Rattle.icu_weight_tree.specs.RuleStates.{state_with}
+use Rattle.icu_symbolic_mappings.specs.KeptMappings.{mappings_in}
+use Rattle.icu_rule_steps.specs.declared.symbolic_tailoring.SymbolicTailoring.{SymbolicTailoring}
+
+-- the root of which weights and mappings are asked
+abbrev pub root_in : {R : Type 0} → (R → Root) → (R → ℕ → List RootMapping) → R → Root
+root_in root_of mappings_of r = record (root_of r) { mappings = mappings_of r }
+
+-- the settings, the last one first
+abbrev pub settings_in : {R : Type 0} → SymbolicTailoring R → List RuleSetting
+settings_in t = reverse (map (λ s. s.now) t.settings.items)
+
+-- the state
+abbrev pub state_in : {R : Type 0} → (R → ℕ → List RootMapping) → SymbolicTailoring R → TailoringState
+state_in mappings_of t = state_with (mappings_in mappings_of t.mappings) (settings_in t) t.rule

@@ -1,0 +1,11 @@
+//! What the rules of a tailoring say, one after another (UTS #35 part 5, "Collation Tailorings").
+#![tactic(auto)]
+
+mod decomposing;
+mod faults;
+mod rule_step_error;
+pub mod symbolic_tailoring;
+pub mod tailoring_error;
+
+pub use symbolic_tailoring::SymbolicTailoring;
+pub use tailoring_error::{TailoringError, TailoringErrorKind};
