@@ -1,0 +1,2 @@
+pub mod LeadUseLemmas
+pub mod LevelGapLemmas

@@ -1,0 +1,49 @@
+-- Weights for the gaps of a level of two bytes (UTS #35 part 5, "Collation Tailorings").
+use Rattle.std.specs.Prelude.{ℕ, ◌≡◌, ◌≢◌, ◌⊎◌, ◌<◌, ◌≤◌, ◌/◌, ◌%◌, List, [], ◌∷◌, length, map, All, AllPairs, Any, Contains, slice_index_or}
+use Rattle.std.specs.Global.{Vec}
+use Rattle.icu_levels.specs.Premises.{IsPrefixFree}
+use Rattle.icu_levels.specs.WeightBytes.{weight_bytes}
+use Rattle.icu_weight_numbers.specs.declared.lead_use.LeadUse.{LeadUse}
+use Rattle.icu_weight_numbers.specs.declared.level_gap.LevelGap.{LevelGap}
+use Rattle.icu_weight_numbers.specs.LeadUses.{FitsUse, IsWrittenBy, AreLevelWeights}
+
+-- a weight of one byte, or with a second byte from 02 on: 00 and 01 part the levels of a sort key
+abbrev pub HasSecondByte : ℕ → Type 0
+HasSecondByte w = (w % 256 ≡ 0) ⊎ (2 ≤ w % 256)
+
+-- a weight with a lead byte, above a number
+pub record IsNextOfLead (used : LeadUse) (lead last w : ℕ) : Type 0 where
+  pub above : last < w
+  pub leads : w / 256 ≡ lead
+  pub fits : FitsUse used w
+  pub second : HasSecondByte w
+
+-- a weight between two numbers, written as lead bytes are used
+pub record IsNextWeight (uses : List LeadUse) (last high w : ℕ) : Type 0 where
+  pub above : last < w
+  pub below : w < high
+  pub written : IsWrittenBy uses w
+  pub second : HasSecondByte w
+
+-- the weights of a gap: so many, ascending, between its ends
+pub record FillsLevelGap (gap : LevelGap) (ws : List ℕ) : Type 0 where
+  pub so_many : length ws ≡ gap.count
+  pub above : All (λ w. gap.low < w) ws
+  pub ascending : AllPairs (λ v w. v < w) ws
+  pub below : All (λ w. w < gap.high) ws
+  pub seconds : All HasSecondByte ws
+
+-- each of gaps has its weights, in turn
+abbrev pub FillEach : List LevelGap → List (Vec ℕ) → Type 0
+FillEach [] [] = Unit {0}
+FillEach [] (ws ∷ lists) = ⊥
+FillEach (gap ∷ gaps) [] = ⊥
+FillEach (gap ∷ gaps) (ws ∷ lists) = FillsLevelGap gap ws.items × FillEach gaps lists
+
+-- one of the lists has the weight
+abbrev pub IsOfLists : List (Vec ℕ) → ℕ → Type 0
+IsOfLists lists w = Any (λ (ws : Vec ℕ). Contains ws.items w) lists
+
+-- no weight of the root or of the lists is written as a beginning of another one
+abbrev pub AreApartAtLevel : List ℕ → List (Vec ℕ) → Type 0
+AreApartAtLevel root lists = AreLevelWeights root → IsPrefixFree (weight_bytes 2) (λ w. Contains root w ⊎ IsOfLists lists w)

@@ -1,0 +1,3 @@
+pub mod LeadUses
+pub mod LevelGaps
+pub mod GapOutcomes

@@ -1,0 +1,47 @@
+//! Weights for all gaps of a level.
+ghost use Rattle.std.specs.Prelude.{◌≡◌, ◌<◌, All, IfOk, length};
+ghost use Rattle.icu_weight_numbers.specs.GapOutcomes.{IfFilled, IfNoRoom};
+ghost use Rattle.icu_weight_numbers.specs.LeadUses.{IsWrittenBy, AreLevelWeights};
+ghost use Rattle.icu_weight_numbers.specs.LevelGaps.{FillEach, AreApartAtLevel};
+
+use crate::gap_numbers::GapNumbers;
+use crate::lead_room::make_room;
+use crate::lead_use::{LeadUse, lead_uses};
+use crate::level_gap::{LevelGap, level_weights};
+use std::alloc::{AllocError, Global};
+
+/// What lead bytes are used for by the weights of a root, and so that gaps have room for theirs.
+fn uses_with_room(root: &[u16], gaps: &[LevelGap]) -> [LeadUse; 256]
+    ensures { AreLevelWeights root.now → All (IsWrittenBy result) root.now }
+{
+    let mut uses = lead_uses(root);
+    for gap in gaps {
+        make_room(&mut uses, *gap);
+    }
+    uses
+}
+
+/// Weights for all gaps of a level other than the primary one, where the root has others: first each lead byte that the
+/// root has not is one weight, and where a gap has too few, its highest free lead bytes lead weights of two bytes.
+pub fn number_level(
+    alloc: Global,
+    root: &[u16],
+    gaps: &[LevelGap],
+) -> Result<GapNumbers, AllocError>
+    // Each gap has as many weights as it asks for, ascending, between its ends.
+    ensures fills { IfOk result (λ found. IfFilled found (FillEach gaps.now)) }
+
+    // No weight of the level, those of the root among them, is written as a beginning of another one.
+    ensures apart { IfOk result (λ found. IfFilled found (AreApartAtLevel root.now)) }
+    ensures place { IfOk result (λ found. IfNoRoom found (λ k. k < length gaps.now)) }
+{
+    let uses = uses_with_room(root, gaps);
+    let mut lists = Vec::new(alloc);
+    for (place, gap) in gaps.iter().enumerate() {
+        match level_weights(alloc, &uses, *gap)? {
+            Some(weights) => lists.push(weights)?,
+            None => return Ok(GapNumbers::NoRoom(place)),
+        }
+    }
+    Ok(GapNumbers::Filled(lists))
+}

@@ -1,0 +1,12 @@
+//! Numbers for tailored weights: of all gaps of a level at once.
+#![tactic(auto)]
+
+pub mod gap_numbers;
+mod lead_room;
+mod lead_use;
+pub mod level_gap;
+pub mod level_numbers;
+
+pub use gap_numbers::GapNumbers;
+pub use level_gap::LevelGap;
+pub use level_numbers::number_level;
