@@ -1,2 +1,3 @@
 pub mod LeadUseLemmas
 pub mod LevelGapLemmas
+pub mod PrimaryGapLemmas

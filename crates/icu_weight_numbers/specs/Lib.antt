@@ -1,3 +1,4 @@
 pub mod LeadUses
 pub mod LevelGaps
+pub mod PrimaryGaps
 pub mod GapOutcomes

@@ -6,7 +6,11 @@ mod lead_room;
 mod lead_use;
 pub mod level_gap;
 pub mod level_numbers;
+#[cfg(test)]
+mod number_rows;
+pub mod primary_gaps;
 
 pub use gap_numbers::GapNumbers;
 pub use level_gap::LevelGap;
 pub use level_numbers::number_level;
+pub use primary_gaps::{PrimaryGap, number_primaries};
