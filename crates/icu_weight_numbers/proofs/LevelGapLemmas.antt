@@ -11,12 +11,12 @@ use Rattle.icu_weight_numbers.specs.LeadUses.{IsWrittenBy}
 use Rattle.icu_weight_numbers.specs.LevelGaps.{FillsLevelGap, FillEach, IsOfLists}
 use Rattle.icu_weight_numbers.proofs.LeadUseLemmas.{written_apart}
 
-pub fill_more : (gs : List LevelGap) (ls : List (Vec ℕ)) (g : LevelGap) (l : Vec ℕ) → FillEach gs ls → FillsLevelGap g l.items
-    → FillEach (gs ++ g ∷ []) (ls ++ l ∷ [])
-fill_more [] [] g l each fills = (fills, tt)
-fill_more [] (x ∷ ls) g l each fills = absurd each
-fill_more (x ∷ gs) [] g l each fills = absurd each
-fill_more (x ∷ gs) (y ∷ ls) g l each fills = (each.0, fill_more gs ls g l each.1 fills)
+pub fill_more : (greatest : ℕ) (gs : List LevelGap) (ls : List (Vec ℕ)) (g : LevelGap) (l : Vec ℕ) → FillEach greatest gs ls → FillsLevelGap greatest g l.items
+    → FillEach greatest (gs ++ g ∷ []) (ls ++ l ∷ [])
+fill_more greatest [] [] g l each fills = (fills, tt)
+fill_more greatest [] (x ∷ ls) g l each fills = absurd each
+fill_more greatest (x ∷ gs) [] g l each fills = absurd each
+fill_more greatest (x ∷ gs) (y ∷ ls) g l each fills = (each.0, fill_more greatest gs ls g l each.1 fills)
 
 -- what holds of each weight of all lists
 pub of_lists : (P : ℕ → Type 0) (ls : List (Vec ℕ)) (w : ℕ) → All (λ (l : Vec ℕ). All P l.items) ls → IsOfLists ls w → P w

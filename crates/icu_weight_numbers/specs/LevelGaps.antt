@@ -3,42 +3,49 @@ use Rattle.std.specs.Prelude.{ℕ, ◌≡◌, ◌≢◌, ◌⊎◌, ◌<◌, ◌
 use Rattle.std.specs.Global.{Vec}
 use Rattle.icu_levels.specs.Premises.{IsPrefixFree}
 use Rattle.icu_levels.specs.WeightBytes.{weight_bytes}
+use Rattle.icu_weight_numbers.specs.declared.gap_level.GapLevel.{GapLevel}
+use Rattle.icu_weight_numbers.specs.declared.gap_level.GapLevel.TheVariants.{Secondary, Tertiary}
 use Rattle.icu_weight_numbers.specs.declared.lead_use.LeadUse.{LeadUse}
 use Rattle.icu_weight_numbers.specs.declared.level_gap.LevelGap.{LevelGap}
 use Rattle.icu_weight_numbers.specs.LeadUses.{FitsUse, IsWrittenBy, AreLevelWeights}
 
--- a weight of one byte, or with a second byte from 02 on: 00 and 01 part the levels of a sort key
-abbrev pub HasSecondByte : ℕ → Type 0
-HasSecondByte w = (w % 256 ≡ 0) ⊎ (2 ≤ w % 256)
+-- the greatest second byte of the weights of a level; of a tertiary weight the two high bits mean something else
+abbrev pub greatest_second : GapLevel → ℕ
+greatest_second Secondary = 0xFF
+greatest_second Tertiary = 0x3F
+
+-- a weight of one byte, or with a second byte from 02 up to the greatest one: 00 and 01 part the levels of a sort key
+abbrev pub HasSecondByte : ℕ → ℕ → Type 0
+HasSecondByte greatest w = (w % 256 ≡ 0) ⊎ ((2 ≤ w % 256) × (w % 256 ≤ greatest))
 
 -- a weight with a lead byte, above a number
-pub record IsNextOfLead (used : LeadUse) (lead last w : ℕ) : Type 0 where
+pub record IsNextOfLead (greatest : ℕ) (used : LeadUse) (lead last w : ℕ) : Type 0 where
   pub above : last < w
   pub leads : w / 256 ≡ lead
   pub fits : FitsUse used w
-  pub second : HasSecondByte w
+  pub second : HasSecondByte greatest w
 
 -- a weight between two numbers, written as lead bytes are used
-pub record IsNextWeight (uses : List LeadUse) (last high w : ℕ) : Type 0 where
+pub record IsNextWeight (greatest : ℕ) (uses : List LeadUse) (last high w : ℕ) : Type 0 where
   pub above : last < w
   pub below : w < high
   pub written : IsWrittenBy uses w
-  pub second : HasSecondByte w
+  pub second : HasSecondByte greatest w
 
 -- the weights of a gap: so many, ascending, between its ends
-pub record FillsLevelGap (gap : LevelGap) (ws : List ℕ) : Type 0 where
+pub record FillsLevelGap (greatest : ℕ) (gap : LevelGap) (ws : List ℕ) : Type 0 where
   pub so_many : length ws ≡ gap.count
   pub above : All (λ w. gap.low < w) ws
   pub ascending : AllPairs (λ v w. v < w) ws
   pub below : All (λ w. w < gap.high) ws
-  pub seconds : All HasSecondByte ws
+  pub seconds : All (HasSecondByte greatest) ws
 
 -- each of gaps has its weights, in turn
-abbrev pub FillEach : List LevelGap → List (Vec ℕ) → Type 0
-FillEach [] [] = Unit {0}
-FillEach [] (ws ∷ lists) = ⊥
-FillEach (gap ∷ gaps) [] = ⊥
-FillEach (gap ∷ gaps) (ws ∷ lists) = FillsLevelGap gap ws.items × FillEach gaps lists
+abbrev pub FillEach : ℕ → List LevelGap → List (Vec ℕ) → Type 0
+FillEach greatest [] [] = Unit {0}
+FillEach greatest [] (ws ∷ lists) = ⊥
+FillEach greatest (gap ∷ gaps) [] = ⊥
+FillEach greatest (gap ∷ gaps) (ws ∷ lists) = FillsLevelGap greatest gap ws.items × FillEach greatest gaps lists
 
 -- one of the lists has the weight
 abbrev pub IsOfLists : List (Vec ℕ) → ℕ → Type 0

@@ -2,3 +2,4 @@ pub mod LeadUses
 pub mod LevelGaps
 pub mod PrimaryGaps
 pub mod GapOutcomes
+pub mod GapEnds

@@ -28,13 +28,13 @@ fn second_above(lead: u32, last: u32) -> u32
 }
 
 /// The least weight with this lead byte above another number, as the lead byte is used.
-fn next_of_lead(used: LeadUse, lead: u32, last: u32) -> Option<u32>
+fn next_of_lead(used: LeadUse, lead: u32, last: u32, greatest: u8) -> Option<u32>
     requires { lead < 256 }
-    ensures { IfSome result (IsNextOfLead used lead last) }
+    ensures { IfSome result (IsNextOfLead greatest used lead last) }
 {
     if used == LeadUse::Long {
         let second = second_above(lead, last);
-        if second > 255 {
+        if second > u32::from(greatest) {
             return None;
         }
         return Some(lead * 256 + second);
@@ -47,33 +47,34 @@ fn next_of_lead(used: LeadUse, lead: u32, last: u32) -> Option<u32>
 }
 
 /// The least weight above one number and below another, as lead bytes are used.
-fn next_weight(uses: &[LeadUse], last: u32, high: u32) -> Option<u32>
+fn next_weight(uses: &[LeadUse], last: u32, high: u32, greatest: u8) -> Option<u32>
     requires { length uses.now ≡ 256 }
-    ensures { IfSome result (IsNextWeight uses.now last high) }
+    ensures { IfSome result (IsNextWeight greatest uses.now last high) }
 {
     for lead in last / 256..256 {
-        if let Some(weight) = next_of_lead(uses[lead as usize], lead, last) {
+        if let Some(weight) = next_of_lead(uses[lead as usize], lead, last, greatest) {
             return if weight < high { Some(weight) } else { None };
         }
     }
     None
 }
 
-/// The first weights of a gap, as lead bytes are used. `None` where there are too few.
+/// The first weights of a gap, as lead bytes are used, with second bytes up to the greatest one. `None` where there are too few.
 pub(crate) fn level_weights(
     alloc: Global,
     uses: &[LeadUse],
     gap: LevelGap,
+    greatest: u8,
 ) -> Result<Option<Vec<u32>>, AllocError>
     requires { length uses.now ≡ 256 }
-    ensures fills { IfOk result (λ found. IfSome found (λ ws. FillsLevelGap gap ws.items)) }
+    ensures fills { IfOk result (λ found. IfSome found (λ ws. FillsLevelGap greatest gap ws.items)) }
     ensures written { IfOk result (λ found. IfSome found (λ ws.
         All (IsWrittenBy uses.now) ws.items)) }
 {
     let mut weights = Vec::new(alloc);
     let mut last = gap.low;
     for have in 0..gap.count {
-        let Some(next) = next_weight(uses, last, gap.high) else {
+        let Some(next) = next_weight(uses, last, gap.high, greatest) else {
             return Ok(None);
         };
         weights.push(next)?;

@@ -2,8 +2,9 @@
 ghost use Rattle.std.specs.Prelude.{◌≡◌, ◌<◌, All, IfOk, length};
 ghost use Rattle.icu_weight_numbers.specs.GapOutcomes.{IfFilled, IfNoRoom};
 ghost use Rattle.icu_weight_numbers.specs.LeadUses.{IsWrittenBy, AreLevelWeights};
-ghost use Rattle.icu_weight_numbers.specs.LevelGaps.{FillEach, AreApartAtLevel};
+ghost use Rattle.icu_weight_numbers.specs.LevelGaps.{greatest_second, FillEach, AreApartAtLevel};
 
+use crate::gap_level::GapLevel;
 use crate::gap_numbers::GapNumbers;
 use crate::lead_room::make_room;
 use crate::lead_use::{LeadUse, lead_uses};
@@ -11,12 +12,12 @@ use crate::level_gap::{LevelGap, level_weights};
 use std::alloc::{AllocError, Global};
 
 /// What lead bytes are used for by the weights of a root, and so that gaps have room for theirs.
-fn uses_with_room(root: &[u16], gaps: &[LevelGap]) -> [LeadUse; 256]
+fn uses_with_room(root: &[u16], gaps: &[LevelGap], greatest: u8) -> [LeadUse; 256]
     ensures { AreLevelWeights root.now → All (IsWrittenBy result) root.now }
 {
     let mut uses = lead_uses(root);
     for gap in gaps {
-        make_room(&mut uses, *gap);
+        make_room(&mut uses, *gap, greatest);
     }
     uses
 }
@@ -25,20 +26,22 @@ fn uses_with_room(root: &[u16], gaps: &[LevelGap]) -> [LeadUse; 256]
 /// root has not is one weight, and where a gap has too few, its highest free lead bytes lead weights of two bytes.
 pub fn number_level(
     alloc: Global,
+    level: GapLevel,
     root: &[u16],
     gaps: &[LevelGap],
 ) -> Result<GapNumbers, AllocError>
     // Each gap has as many weights as it asks for, ascending, between its ends.
-    ensures fills { IfOk result (λ found. IfFilled found (FillEach gaps.now)) }
+    ensures fills { IfOk result (λ found. IfFilled found (FillEach (greatest_second level) gaps.now)) }
 
     // No weight of the level, those of the root among them, is written as a beginning of another one.
     ensures apart { IfOk result (λ found. IfFilled found (AreApartAtLevel root.now)) }
     ensures place { IfOk result (λ found. IfNoRoom found (λ k. k < length gaps.now)) }
 {
-    let uses = uses_with_room(root, gaps);
+    let greatest = level.greatest_second();
+    let uses = uses_with_room(root, gaps, greatest);
     let mut lists = Vec::new(alloc);
     for (place, gap) in gaps.iter().enumerate() {
-        match level_weights(alloc, &uses, *gap)? {
+        match level_weights(alloc, &uses, *gap, greatest)? {
             Some(weights) => lists.push(weights)?,
             None => return Ok(GapNumbers::NoRoom(place)),
         }

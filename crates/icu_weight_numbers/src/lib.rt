@@ -1,6 +1,8 @@
 //! Numbers for tailored weights: of all gaps of a level at once.
 #![tactic(auto)]
 
+mod gap_ends;
+pub mod gap_level;
 pub mod gap_numbers;
 mod lead_room;
 mod lead_use;
@@ -10,6 +12,7 @@ pub mod level_numbers;
 mod number_rows;
 pub mod primary_gaps;
 
+pub use gap_level::GapLevel;
 pub use gap_numbers::GapNumbers;
 pub use level_gap::LevelGap;
 pub use level_numbers::number_level;

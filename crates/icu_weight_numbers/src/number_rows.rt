@@ -1,5 +1,5 @@
 //! Weights for all gaps of a level, as a reader of CLDR's rules in Python that was written apart gives them.
-use crate::{GapNumbers, LevelGap, PrimaryGap, number_level, number_primaries};
+use crate::{GapLevel, GapNumbers, LevelGap, PrimaryGap, number_level, number_primaries};
 use icu_weight_gaps::{ByteRange, WeightForm, WeightGap};
 use std::alloc::{AllocError, Global};
 use std::test::Fail;
@@ -26,7 +26,7 @@ fn gap(low: u32, high: u32, count: usize) -> LevelGap {
 
 /// The number of weights for one gap, with the last one; 0 where it has no room.
 fn last_of_gap(alloc: Global, root: &[u16], gap: LevelGap) -> Result<(usize, u32), AllocError> {
-    match number_level(alloc, root, &[gap])? {
+    match number_level(alloc, GapLevel::Secondary, root, &[gap])? {
         GapNumbers::Filled(lists) => {
             let Some(weights) = lists.first() else {
                 return Ok((0, 0));
@@ -43,7 +43,7 @@ fn gaps_of_a_level_are_filled(rt: HostRuntime) -> Result<(), Fail> {
     for (low, high, expected) in FILLED {
         gaps.push(gap(low, high, expected.len()))?;
     }
-    match number_level(rt.alloc(), &ROOT, gaps.as_slice())? {
+    match number_level(rt.alloc(), GapLevel::Secondary, &ROOT, gaps.as_slice())? {
         GapNumbers::Filled(lists) => {
             assert_eq!(rt; lists.len(), FILLED.len());
             for ((_, _, expected), weights) in FILLED.iter().zip(lists.iter()) {
@@ -69,7 +69,7 @@ fn many_weights_have_long_leads(rt: HostRuntime) -> Result<(), Fail> {
 #[test]
 fn a_gap_without_room_is_named(rt: HostRuntime) -> Result<(), Fail> {
     let gaps = [gap(0x8B00, 0x9000, 2), gap(0x8A00, 0x8B00, 1)];
-    match number_level(rt.alloc(), &ROOT, &gaps)? {
+    match number_level(rt.alloc(), GapLevel::Secondary, &ROOT, &gaps)? {
         GapNumbers::Filled(_) => assert!(rt; false),
         GapNumbers::NoRoom(place) => assert_eq!(rt; place, 1),
     }

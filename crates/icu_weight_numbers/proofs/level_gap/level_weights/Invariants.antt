@@ -12,6 +12,6 @@ invariant-loop-have l = record {
   ascending : AllPairs (λ v w. v < w) l.weights.items;
   up_to : All (λ w. w ≤ l.last) l.weights.items;
   below : All (λ w. w < l.gap.high) l.weights.items;
-  seconds : All HasSecondByte l.weights.items;
+  seconds : All (HasSecondByte l.greatest) l.weights.items;
   written : All (IsWrittenBy l.uses) l.weights.items;
 }
