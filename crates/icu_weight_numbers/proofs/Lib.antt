@@ -1,3 +1,5 @@
 pub mod LeadUseLemmas
 pub mod LevelGapLemmas
 pub mod PrimaryGapLemmas
+pub mod SiblingRunLemmas
+pub mod NumberedRunLemmas

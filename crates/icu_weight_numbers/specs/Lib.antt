@@ -3,3 +3,5 @@ pub mod LevelGaps
 pub mod PrimaryGaps
 pub mod GapOutcomes
 pub mod GapEnds
+pub mod SiblingRuns
+pub mod NumberedRuns

@@ -11,9 +11,13 @@ pub mod level_numbers;
 #[cfg(test)]
 mod number_rows;
 pub mod primary_gaps;
+pub mod run_gaps;
+pub mod sibling_run;
 
 pub use gap_level::GapLevel;
 pub use gap_numbers::GapNumbers;
 pub use level_gap::LevelGap;
 pub use level_numbers::number_level;
 pub use primary_gaps::{PrimaryGap, number_primaries};
+pub use run_gaps::number_runs;
+pub use sibling_run::{SiblingRun, sibling_runs};
