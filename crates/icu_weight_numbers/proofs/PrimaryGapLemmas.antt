@@ -12,6 +12,9 @@ use Rattle.icu_weights.proofs.BeginningLemmas.{beginning_le}
 use Rattle.icu_weight_gaps.specs.GapWeights.{IsClearBelow, FillsGap}
 use Rattle.icu_weight_gaps.proofs.GapLemmas.{clear_further, filled_free}
 use Rattle.icu_weight_numbers.specs.declared.primary_gaps.PrimaryGap.{PrimaryGap}
+use Rattle.icu_provider.specs.SpecialPrimaries.{SpecialPrimaries}
+use Rattle.icu_weight_numbers.specs.declared.sibling_run.SiblingRun.{SiblingRun}
+use Rattle.icu_weight_numbers.specs.PrimaryRuns.{IsPrimaryGapOf, ArePrimaryGapsOf}
 use Rattle.icu_weight_numbers.specs.LevelGaps.{IsOfLists}
 use Rattle.icu_weight_numbers.specs.PrimaryGaps.{FillsPrimaryGap, FillPrimaryGaps, IsGapOf, HasGaps, PrimaryGapsAreApart}
 
@@ -157,3 +160,14 @@ apart root gs ls gaps each v w p q other b = by p q
         root_last root gs ls gaps at.gap.gap.low at.gap.gap.high v w (in_gap root gs ls gaps k v at) s b
     by (inr (k, x, inside, is, has)) (inr (j, y, within, at, member)) =
         listed root gs ls gaps k j v w (list_at gs ls v k x each inside is has) (list_at gs ls w j y each within at member) other b
+
+-- ---- gaps of runs
+
+pub primary_gaps_more : (special : SpecialPrimaries) (limit : ℕ) (runs : List SiblingRun) (gaps : List PrimaryGap) (run : SiblingRun)
+    (wanted : PrimaryGap) → ArePrimaryGapsOf special limit runs gaps → IsPrimaryGapOf special limit run wanted
+    → ArePrimaryGapsOf special limit (runs ++ run ∷ []) (gaps ++ wanted ∷ [])
+primary_gaps_more special limit [] [] run wanted are is = (is, tt)
+primary_gaps_more special limit [] (x ∷ gaps) run wanted are is = absurd are
+primary_gaps_more special limit (x ∷ runs) [] run wanted are is = absurd are
+primary_gaps_more special limit (x ∷ runs) (y ∷ gaps) run wanted are is =
+    (are.0, primary_gaps_more special limit runs gaps run wanted are.1 is)

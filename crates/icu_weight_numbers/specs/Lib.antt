@@ -5,3 +5,4 @@ pub mod GapOutcomes
 pub mod GapEnds
 pub mod SiblingRuns
 pub mod NumberedRuns
+pub mod PrimaryRuns

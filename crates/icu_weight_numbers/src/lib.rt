@@ -11,6 +11,7 @@ pub mod level_numbers;
 #[cfg(test)]
 mod number_rows;
 pub mod primary_gaps;
+pub mod primary_runs;
 pub mod run_gaps;
 pub mod sibling_run;
 
@@ -19,5 +20,6 @@ pub use gap_numbers::GapNumbers;
 pub use level_gap::LevelGap;
 pub use level_numbers::number_level;
 pub use primary_gaps::{PrimaryGap, number_primaries};
+pub use primary_runs::{primary_form, primary_gaps_of_runs};
 pub use run_gaps::number_runs;
 pub use sibling_run::{SiblingRun, sibling_runs};
