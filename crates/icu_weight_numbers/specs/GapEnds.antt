@@ -25,9 +25,9 @@ abbrev pub IsBesideWeight : GapLevel → ℕ → Type 0
 IsBesideWeight level x = ((0x0200 ≤ x) × (x < common)) ⊎ ((last_common level < x) × (x < first_alone level))
 
 -- weights of a level of elements without one of the level before, or of others
-abbrev pub IsLevelWeight : GapLevel → Bool → ℕ → Type 0
-IsLevelWeight level true x = (first_alone level ≤ x) × (x < last_alone level)
-IsLevelWeight level false x = IsBesideWeight level x
+abbrev pub IsGapWeight : GapLevel → Bool → ℕ → Type 0
+IsGapWeight level true x = (first_alone level ≤ x) × (x < last_alone level)
+IsGapWeight level false x = IsBesideWeight level x
 
 -- a number is below the next weight, if there is one
 abbrev pub IsBelowNext : Option ℕ → ℕ → Type 0
@@ -38,5 +38,5 @@ IsBelowNext (Some n) x = x < n
 pub record IsInGap (level : GapLevel) (alone : Bool) (w : ℕ) (next : Option ℕ) (x : ℕ) : Type 0 where
   pub above : w < x
   pub below : IsBelowNext next x
-  pub kind : IsLevelWeight level alone x
+  pub kind : IsGapWeight level alone x
   pub side : alone ≡ false → w < common → x < common

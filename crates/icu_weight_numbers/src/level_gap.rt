@@ -59,7 +59,8 @@ fn next_weight(uses: &[LeadUse], last: u32, high: u32, greatest: u8) -> Option<u
     None
 }
 
-/// The first weights of a gap, as lead bytes are used, with second bytes up to the greatest one. `None` where there are too few.
+/// The first weights of a gap, as lead bytes are used, with second bytes up to the greatest one. `None` where there are
+/// too few.
 pub(crate) fn level_weights(
     alloc: Global,
     uses: &[LeadUse],
@@ -67,7 +68,8 @@ pub(crate) fn level_weights(
     greatest: u8,
 ) -> Result<Option<Vec<u32>>, AllocError>
     requires { length uses.now ≡ 256 }
-    ensures fills { IfOk result (λ found. IfSome found (λ ws. FillsLevelGap greatest gap ws.items)) }
+    ensures fills { IfOk result (λ found. IfSome found (λ ws.
+        FillsLevelGap greatest gap ws.items)) }
     ensures written { IfOk result (λ found. IfSome found (λ ws.
         All (IsWrittenBy uses.now) ws.items)) }
 {

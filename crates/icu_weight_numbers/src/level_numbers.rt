@@ -31,7 +31,8 @@ pub fn number_level(
     gaps: &[LevelGap],
 ) -> Result<GapNumbers, AllocError>
     // Each gap has as many weights as it asks for, ascending, between its ends.
-    ensures fills { IfOk result (λ found. IfFilled found (FillEach (greatest_second level) gaps.now)) }
+    ensures fills { IfOk result (λ found.
+        IfFilled found (FillEach (greatest_second level) gaps.now)) }
 
     // No weight of the level, those of the root among them, is written as a beginning of another one.
     ensures apart { IfOk result (λ found. IfFilled found (AreApartAtLevel root.now)) }

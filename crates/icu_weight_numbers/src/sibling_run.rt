@@ -1,5 +1,6 @@
 //! Tailored weights behind weights of the root, among siblings.
-ghost use Rattle.std.specs.Prelude.{◌≡◌, ◌≤◌, All, length, take, drop, MatchOption, IfOk};
+ghost use Rattle.std.specs.Prelude.{ℕ, ◌≡◌, ◌↔◌, ◌≤◌, All, length, take, drop, MatchOption, IfOk};
+ghost use Rattle.icu_weight_numbers.specs.GapEnds.{IsBelowNext};
 ghost use Rattle.icu_weight_numbers.specs.SiblingRuns.{AreTailored, IsRootedFirst, IsFirstRun, HasNoRun, AreRunsOf, first_rooted};
 
 use icu_tailoring::SymbolicWeight;
@@ -16,6 +17,27 @@ pub struct SiblingRun<'t> {
     pub next: Option<u32>,
     /// The tailored weights, ascending.
     pub tailored: &'t [SymbolicWeight],
+}
+
+impl<'t> SiblingRun<'t> {
+    /// The run with its tailored weights below another weight as well, if there is one.
+    pub fn limited_by(self, next: Option<u32>) -> SiblingRun<'t>
+        ensures next { (x : ℕ) → IsBelowNext result.next x
+            ↔ (IsBelowNext self.entry.next x × IsBelowNext next x) }
+        ensures others { result ≡ record self.entry { next = result.next } }
+    {
+        let next = match (self.next, next) {
+            (Some(first), Some(second)) => Some(first.min(second)),
+            (Some(first), None) => Some(first),
+            (None, second) => second,
+        };
+        SiblingRun {
+            alone: self.alone,
+            rooted: self.rooted,
+            next,
+            tailored: self.tailored,
+        }
+    }
 }
 
 /// How many siblings are tailored before the first one of the root.
