@@ -13,6 +13,8 @@ mod number_rows;
 pub mod primary_gaps;
 pub mod primary_runs;
 pub mod run_gaps;
+#[cfg(test)]
+mod run_rows;
 pub mod sibling_run;
 
 pub use gap_level::GapLevel;

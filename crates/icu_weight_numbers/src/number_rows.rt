@@ -67,6 +67,26 @@ fn many_weights_have_long_leads(rt: HostRuntime) -> Result<(), Fail> {
 }
 
 #[test]
+fn second_bytes_of_tertiaries_are_small(rt: HostRuntime) -> Result<(), Fail> {
+    for (count, last) in [(2, 0x0403), (62, 0x043F)] {
+        let gaps = [gap(0x0300, 0x0500, count)];
+        match number_level(rt.alloc(), GapLevel::Tertiary, &[0x0300, 0x0500], &gaps)? {
+            GapNumbers::Filled(lists) => {
+                let weights = lists.first().ok_or("no list")?;
+                assert_eq!(rt; weights.last().copied(), Some(last));
+            }
+            GapNumbers::NoRoom(place) => assert!(rt; false, "{place}"),
+        }
+    }
+    let gaps = [gap(0x0300, 0x0500, 63)];
+    match number_level(rt.alloc(), GapLevel::Tertiary, &[0x0300, 0x0500], &gaps)? {
+        GapNumbers::Filled(_) => assert!(rt; false),
+        GapNumbers::NoRoom(place) => assert_eq!(rt; place, 0),
+    }
+    Ok(())
+}
+
+#[test]
 fn a_gap_without_room_is_named(rt: HostRuntime) -> Result<(), Fail> {
     let gaps = [gap(0x8B00, 0x9000, 2), gap(0x8A00, 0x8B00, 1)];
     match number_level(rt.alloc(), GapLevel::Secondary, &ROOT, &gaps)? {
