@@ -3,3 +3,4 @@ pub mod LevelGapLemmas
 pub mod PrimaryGapLemmas
 pub mod SiblingRunLemmas
 pub mod NumberedRunLemmas
+pub mod SiblingNumberLemmas

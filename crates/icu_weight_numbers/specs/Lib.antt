@@ -6,3 +6,4 @@ pub mod GapEnds
 pub mod SiblingRuns
 pub mod NumberedRuns
 pub mod PrimaryRuns
+pub mod SiblingNumberLaws

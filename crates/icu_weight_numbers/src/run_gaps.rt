@@ -3,12 +3,14 @@ ghost use Rattle.std.specs.Prelude.{◌<◌, IfOk, length};
 ghost use Rattle.icu_weight_numbers.specs.GapOutcomes.{IfFilled, IfNoRoom};
 ghost use Rattle.icu_weight_numbers.specs.LevelGaps.{AreApartAtLevel};
 ghost use Rattle.icu_weight_numbers.specs.NumberedRuns.{IsGapOfRun, AreGapsOfRuns, FillRuns, NumbersAscend};
+ghost use Rattle.icu_weight_numbers.specs.SiblingNumberLaws.{NumbersOfTreesAscend};
 
 use crate::gap_level::GapLevel;
 use crate::gap_numbers::GapNumbers;
 use crate::level_gap::LevelGap;
 use crate::level_numbers::number_level;
 use crate::sibling_run::SiblingRun;
+use icu_tailoring::weights_of_the_root_ascend;
 use std::alloc::{AllocError, Global};
 
 /// The gap for the tailored weights of a run.
@@ -58,3 +60,10 @@ pub fn number_runs(
 pub fn numbers_ascend_among_siblings()
     ensures { NumbersAscend }
 {}
+
+/// The numbers of siblings ascend, whatever the rules are that made their tree.
+pub fn numbers_of_trees_ascend()
+    ensures { NumbersOfTreesAscend }
+{
+    weights_of_the_root_ascend();
+}
