@@ -10,7 +10,8 @@ use Rattle.icu_levels.specs.WeightBytes.{weight_bytes}
 use Rattle.icu_weights.proofs.BeginningLemmas.{Begins, digits_begin, bytes_begin}
 use Rattle.icu_weight_numbers.specs.declared.lead_use.LeadUse.{LeadUse}
 use Rattle.icu_weight_numbers.specs.declared.lead_use.LeadUse.TheVariants.{Free, Alone, Long}
-use Rattle.icu_weight_numbers.specs.LeadUses.{AreLevelWeights, use_of, FitsUse, IsWrittenBy, IsUsedBy, KeepUses}
+use Rattle.icu_weight_numbers.specs.LevelGaps.{AreLevelWeights}
+use Rattle.icu_weight_numbers.specs.inner.LeadUses.{use_of, FitsUse, IsWrittenBy, IsUsedBy, KeepUses}
 
 pub use_alone : (w : ℕ) → w % 256 ≡ 0 → use_of w ≡ Alone
 unfolding use_of

@@ -1,14 +1,14 @@
 -- Weights of gaps, one after another.
-use Rattle.std.proofs.Common.{ℕ, ◌≡◌, ◌+◌, ◌<◌, ◌≤◌, ◌⊎◌, inl, inr, List, [], ◌∷◌, ◌++◌, length, get_or, sym, subst, arith}
-use Rattle.std.specs.List.{All, AllPairs, Any, Contains}
+use Rattle.std.proofs.Common.{ℕ, ◌⊎◌, inl, inr, List, [], ◌∷◌, ◌++◌, subst}
+use Rattle.std.specs.List.{All, Contains}
 use Rattle.std.specs.Global.{Vec}
-use Rattle.std.proofs.lemmas.List.Elements.{All-contains, All-weaker}
+use Rattle.std.proofs.lemmas.List.Elements.{All-contains}
 use Rattle.icu_levels.specs.Premises.{IsPrefixFree}
 use Rattle.icu_levels.specs.WeightBytes.{weight_bytes}
 use Rattle.icu_weight_numbers.specs.declared.lead_use.LeadUse.{LeadUse}
 use Rattle.icu_weight_numbers.specs.declared.level_gap.LevelGap.{LevelGap}
-use Rattle.icu_weight_numbers.specs.LeadUses.{IsWrittenBy}
 use Rattle.icu_weight_numbers.specs.LevelGaps.{FillsLevelGap, FillEach, IsOfLists}
+use Rattle.icu_weight_numbers.specs.inner.LeadUses.{IsWrittenBy}
 use Rattle.icu_weight_numbers.proofs.LeadUseLemmas.{written_apart}
 
 pub fill_more : (greatest : ℕ) (gs : List LevelGap) (ls : List (Vec ℕ)) (g : LevelGap) (l : Vec ℕ) → FillEach greatest gs ls → FillsLevelGap greatest g l.items

@@ -1,5 +1,5 @@
 -- Numbers of runs: those of their gaps, and that all of them ascend among siblings.
-use Rattle.std.proofs.Common.{ℕ, zero, suc, ◌≡◌, ◌<◌, ◌∙◌, List, [], ◌∷◌, ◌++◌, length, get_or, sym, ap, arith}
+use Rattle.std.proofs.Common.{ℕ, zero, suc, ◌≡◌, ◌<◌, ◌∙◌, List, [], ◌∷◌, ◌++◌, length, get_or, ap, arith}
 use Rattle.std.specs.List.{All, AllPairs}
 use Rattle.std.specs.Global.{Vec}
 use Rattle.std.proofs.lemmas.List.Elements.{All-nil, All-cons, All-head, All-tail, All-append, All-weaker}
@@ -7,9 +7,10 @@ use Rattle.std.proofs.lemmas.List.Kept.{AllPairs-cons}
 use Rattle.icu_weight_numbers.specs.declared.gap_level.GapLevel.{GapLevel}
 use Rattle.icu_weight_numbers.specs.declared.level_gap.LevelGap.{LevelGap}
 use Rattle.icu_weight_numbers.specs.declared.sibling_run.SiblingRun.{SiblingRun}
-use Rattle.icu_weight_numbers.specs.GapEnds.{IsBelowNext, IsInGap}
+use Rattle.icu_weight_numbers.specs.GapEnds.{IsBelowNext}
 use Rattle.icu_weight_numbers.specs.LevelGaps.{greatest_second, FillsLevelGap, FillEach}
-use Rattle.icu_weight_numbers.specs.NumberedRuns.{IsGapOfRun, AreGapsOfRuns, FillsRun, FillRuns, AscendInRuns, numbers_of_runs, NumbersAscend}
+use Rattle.icu_weight_numbers.specs.NumberedRuns.{FillsRun, FillRuns, numbers_of_runs, NumbersAscend}
+use Rattle.icu_weight_numbers.specs.inner.RunGaps.{IsGapOfRun, AreGapsOfRuns}
 
 pub gaps_more : (level : GapLevel) (runs : List SiblingRun) (gaps : List LevelGap) (run : SiblingRun) (gap : LevelGap)
     → AreGapsOfRuns level runs gaps → IsGapOfRun level run gap → AreGapsOfRuns level (runs ++ run ∷ []) (gaps ++ gap ∷ [])

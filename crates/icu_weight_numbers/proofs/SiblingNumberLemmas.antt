@@ -1,14 +1,13 @@
 -- The weights of the root ascend from run to run, so that numbers ascend among siblings.
-use Rattle.std.proofs.Common.{ℕ, ◌≡◌, ◌<◌, ◌⊎◌, inl, inr, List, [], ◌∷◌, ◌++◌, Option, Some, None, refl, sym, subst}
+use Rattle.std.proofs.Common.{ℕ, ◌<◌, inl, inr, List, [], ◌∷◌, ◌++◌, Option, None, refl, sym, subst}
 use Rattle.icu_tailoring.specs.declared.symbolic.SymbolicWeight.{SymbolicWeight}
 use Rattle.icu_tailoring.specs.declared.symbolic.SymbolicWeight.TheVariants.{Rooted}
-use Rattle.icu_tailoring.specs.Steps.{tailoring_of}
 use Rattle.icu_tailoring.specs.SymbolicOrders.{IsAmongWeights, IsOrderedBefore}
 use Rattle.icu_tailoring.specs.AscendingLaws.{WeightsOfTheRootAscend}
 use Rattle.icu_weight_numbers.specs.declared.sibling_run.SiblingRun.{SiblingRun}
 use Rattle.icu_weight_numbers.specs.GapEnds.{IsBelowNext}
-use Rattle.icu_weight_numbers.specs.SiblingRuns.{joined_runs, HaveNexts}
 use Rattle.icu_weight_numbers.specs.NumberedRuns.{AscendInRuns}
+use Rattle.icu_weight_numbers.specs.SiblingRuns.{joined_runs, HaveNexts}
 use Rattle.icu_weight_numbers.specs.SiblingNumberLaws.{AreLimited, NumbersOfTreesAscend}
 use Rattle.icu_weight_numbers.proofs.NumberedRunLemmas.{ascend}
 

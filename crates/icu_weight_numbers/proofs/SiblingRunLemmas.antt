@@ -1,11 +1,12 @@
 -- Siblings in runs, one run after another.
-use Rattle.std.proofs.Common.{ℕ, Bool, ◌≡◌, ◌+◌, ◌<◌, List, [], ◌∷◌, ◌++◌, length, get_or, Option, Some, None, refl, sym, ap, ◌∙◌, subst, append_assoc, append-nil, arith}
+use Rattle.std.proofs.Common.{ℕ, Bool, ◌≡◌, List, [], ◌∷◌, ◌++◌, Option, Some, refl, sym, ap, ◌∙◌, subst, append_assoc, append-nil}
 use Rattle.std.specs.List.{All}
 use Rattle.std.proofs.lemmas.List.Elements.{All-push, All-nil}
 use Rattle.icu_tailoring.specs.declared.symbolic.SymbolicWeight.{SymbolicWeight}
 use Rattle.icu_tailoring.specs.declared.symbolic.SymbolicWeight.TheVariants.{Rooted, Tailored}
 use Rattle.icu_weight_numbers.specs.declared.sibling_run.SiblingRun.{SiblingRun}
-use Rattle.icu_weight_numbers.specs.SiblingRuns.{IsRootedFirst, HasNoRun, AreTailored, first_rooted, IsFirstRun, joined_runs, HaveNexts, AreRunsOf}
+use Rattle.icu_weight_numbers.specs.SiblingRuns.{IsRootedFirst, AreTailored, joined_runs, HaveNexts, AreRunsOf}
+use Rattle.icu_weight_numbers.specs.inner.FirstRuns.{HasNoRun, first_rooted, IsFirstRun}
 
 -- siblings in runs up to what is left of them
 pub record IsSplit (alone : Bool) (siblings : List SymbolicWeight) (runs : List SiblingRun) (rest : List SymbolicWeight) : Type 0 where
@@ -65,7 +66,3 @@ split_all alone siblings rest runs split none =
       nexts = subst (λ ws. HaveNexts runs (first_rooted ws)) empty split.nexts;
       kind = split.kind;
     }
-
--- the siblings from one of the root on
-pub rooted_at : (ws : List SymbolicWeight) (w : ℕ) (others : List SymbolicWeight) → ws ≡ Rooted w ∷ others → IsRootedFirst ws
-rooted_at ws w others e = subst IsRootedFirst (sym e) tt

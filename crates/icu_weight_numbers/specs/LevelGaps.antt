@@ -1,13 +1,16 @@
 -- Weights for the gaps of a level of two bytes (UTS #35 part 5, "Collation Tailorings").
-use Rattle.std.specs.Prelude.{ℕ, ◌≡◌, ◌≢◌, ◌⊎◌, ◌<◌, ◌≤◌, ◌/◌, ◌%◌, List, [], ◌∷◌, length, map, All, AllPairs, Any, Contains, slice_index_or}
+use Rattle.std.specs.Prelude.{ℕ, ◌≡◌, ◌⊎◌, ◌<◌, ◌≤◌, ◌%◌, List, [], ◌∷◌, length, All, AllPairs, Any, Contains}
 use Rattle.std.specs.Global.{Vec}
 use Rattle.icu_levels.specs.Premises.{IsPrefixFree}
 use Rattle.icu_levels.specs.WeightBytes.{weight_bytes}
 use Rattle.icu_weight_numbers.specs.declared.gap_level.GapLevel.{GapLevel}
 use Rattle.icu_weight_numbers.specs.declared.gap_level.GapLevel.TheVariants.{Secondary, Tertiary}
-use Rattle.icu_weight_numbers.specs.declared.lead_use.LeadUse.{LeadUse}
 use Rattle.icu_weight_numbers.specs.declared.level_gap.LevelGap.{LevelGap}
-use Rattle.icu_weight_numbers.specs.LeadUses.{FitsUse, IsWrittenBy, AreLevelWeights}
+
+-- weights of the root at a level: none is 0, and none is written as a beginning of another
+pub record AreLevelWeights (ws : List ℕ) : Type 0 where
+  pub some : All (λ w. 0 < w) ws
+  pub prefix_free : IsPrefixFree (weight_bytes 2) (Contains ws)
 
 -- the greatest second byte of the weights of a level; of a tertiary weight the two high bits mean something else
 abbrev pub greatest_second : GapLevel → ℕ
@@ -17,20 +20,6 @@ greatest_second Tertiary = 0x3F
 -- a weight of one byte, or with a second byte from 02 up to the greatest one: 00 and 01 part the levels of a sort key
 abbrev pub HasSecondByte : ℕ → ℕ → Type 0
 HasSecondByte greatest w = (w % 256 ≡ 0) ⊎ ((2 ≤ w % 256) × (w % 256 ≤ greatest))
-
--- a weight with a lead byte, above a number
-pub record IsNextOfLead (greatest : ℕ) (used : LeadUse) (lead last w : ℕ) : Type 0 where
-  pub above : last < w
-  pub leads : w / 256 ≡ lead
-  pub fits : FitsUse used w
-  pub second : HasSecondByte greatest w
-
--- a weight between two numbers, written as lead bytes are used
-pub record IsNextWeight (greatest : ℕ) (uses : List LeadUse) (last high w : ℕ) : Type 0 where
-  pub above : last < w
-  pub below : w < high
-  pub written : IsWrittenBy uses w
-  pub second : HasSecondByte greatest w
 
 -- the weights of a gap: so many, ascending, between its ends
 pub record FillsLevelGap (greatest : ℕ) (gap : LevelGap) (ws : List ℕ) : Type 0 where

@@ -1,4 +1,3 @@
-pub mod LeadUses
 pub mod LevelGaps
 pub mod PrimaryGaps
 pub mod GapOutcomes
@@ -7,3 +6,4 @@ pub mod SiblingRuns
 pub mod NumberedRuns
 pub mod PrimaryRuns
 pub mod SiblingNumberLaws
+pub mod inner

@@ -1,5 +1,5 @@
 -- Gaps for the tailored primary weights of runs (UTS #35 part 5, "Collation Tailorings").
-use Rattle.std.specs.Prelude.{ℕ, true, ◌≡◌, ◌/◌, ◌^◌, ◌<◌, ◌≤◌, List, [], ◌∷◌, length, unwrap_or}
+use Rattle.std.specs.Prelude.{ℕ, true, ◌≡◌, ◌/◌, ◌^◌, ◌≤◌, List, [], ◌∷◌, length, unwrap_or}
 use Rattle.icu_provider.specs.SpecialPrimaries.{SpecialPrimaries, is_compressible}
 use Rattle.icu_weight_gaps.specs.declared.byte_range.WeightForm.{WeightForm}
 use Rattle.icu_weight_numbers.specs.declared.primary_gaps.PrimaryGap.{PrimaryGap}

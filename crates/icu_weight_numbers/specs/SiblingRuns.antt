@@ -12,29 +12,9 @@ IsRootedFirst [] = Unit {0}
 IsRootedFirst (Rooted w ∷ ws) = Unit {0}
 IsRootedFirst (Tailored k ∷ ws) = ⊥
 
--- the first of siblings, if it is of the root
-abbrev pub first_rooted : List SymbolicWeight → Option ℕ
-first_rooted [] = None
-first_rooted (Rooted w ∷ ws) = Some w
-first_rooted (Tailored k ∷ ws) = None
-
--- the first of siblings isn't of the root
-abbrev pub HasNoRun : List SymbolicWeight → Type 0
-HasNoRun [] = Unit {0}
-HasNoRun (Rooted w ∷ ws) = ⊥
-HasNoRun (Tailored k ∷ ws) = Unit {0}
-
 -- tailored weights alone
 abbrev pub AreTailored : List SymbolicWeight → Type 0
 AreTailored ws = All (λ w. has_tailored_weight w ≡ true) ws
-
--- the first weight of the root among siblings with the tailored ones behind it, and what follows
-pub record IsFirstRun (alone : Bool) (siblings : List SymbolicWeight) (run : SiblingRun) (rest : List SymbolicWeight) : Type 0 where
-  pub whole : siblings ≡ Rooted run.rooted ∷ (run.tailored.now ++ rest)
-  pub tailored : AreTailored run.tailored.now
-  pub next : run.next ≡ first_rooted rest
-  pub others : IsRootedFirst rest
-  pub kind : run.alone ≡ alone
 
 -- siblings in their order
 abbrev pub joined_runs : List SiblingRun → List SymbolicWeight

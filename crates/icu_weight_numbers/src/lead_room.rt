@@ -1,6 +1,6 @@
 //! Room for the weights of a gap, by longer weights.
 ghost use Rattle.std.specs.Prelude.{◌≡◌, ◌<◌, length};
-ghost use Rattle.icu_weight_numbers.specs.LeadUses.{KeepUses};
+ghost use Rattle.icu_weight_numbers.specs.inner.LeadUses.{KeepUses};
 
 use crate::lead_use::LeadUse;
 use crate::level_gap::LevelGap;

@@ -1,6 +1,7 @@
 //! What each lead byte of the weights of a level is used for.
 ghost use Rattle.std.specs.Prelude.{◌≡◌, ◌<◌, All, length};
-ghost use Rattle.icu_weight_numbers.specs.LeadUses.{use_of, IsUsedBy, AreLevelWeights};
+ghost use Rattle.icu_weight_numbers.specs.LevelGaps.{AreLevelWeights};
+ghost use Rattle.icu_weight_numbers.specs.inner.LeadUses.{use_of, IsUsedBy};
 
 /// What a lead byte of the weights of a level is used for.
 #[derive(Debug, Clone, Copy, PartialEq)]
@@ -14,7 +15,7 @@ pub(crate) enum LeadUse {
 }
 
 /// What the lead byte of a weight of the root is used for.
-#[tactic(auto, unfolding(crate::specs::LeadUses::use_of))]
+#[tactic(auto, unfolding(crate::specs::inner::LeadUses::use_of))]
 fn use_of(weight: u16) -> LeadUse
     ensures { result ≡ use_of weight }
 {

@@ -1,8 +1,8 @@
 //! Weights of a level for one gap.
 ghost use Rattle.std.specs.Prelude.{◌≡◌, ◌<◌, ◌≤◌, ◌*◌, ◌/◌, ◌+◌, ◌^◌, All, length, IfSome, IfOk, slice_index_or};
 ghost use Rattle.icu_weight_numbers.specs.declared.lead_use.LeadUse.TheVariants.{Free};
-ghost use Rattle.icu_weight_numbers.specs.LeadUses.{IsWrittenBy};
-ghost use Rattle.icu_weight_numbers.specs.LevelGaps.{IsNextOfLead, IsNextWeight, FillsLevelGap};
+ghost use Rattle.icu_weight_numbers.specs.LevelGaps.{FillsLevelGap};
+ghost use Rattle.icu_weight_numbers.specs.inner.LeadUses.{IsWrittenBy, IsNextOfLead, IsNextWeight};
 
 use crate::lead_use::LeadUse;
 use std::alloc::{AllocError, Global};

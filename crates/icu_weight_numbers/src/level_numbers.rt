@@ -1,8 +1,8 @@
 //! Weights for all gaps of a level.
 ghost use Rattle.std.specs.Prelude.{◌≡◌, ◌<◌, All, IfOk, length};
 ghost use Rattle.icu_weight_numbers.specs.GapOutcomes.{IfFilled, IfNoRoom};
-ghost use Rattle.icu_weight_numbers.specs.LeadUses.{IsWrittenBy, AreLevelWeights};
-ghost use Rattle.icu_weight_numbers.specs.LevelGaps.{greatest_second, FillEach, AreApartAtLevel};
+ghost use Rattle.icu_weight_numbers.specs.LevelGaps.{AreLevelWeights, greatest_second, FillEach, AreApartAtLevel};
+ghost use Rattle.icu_weight_numbers.specs.inner.LeadUses.{IsWrittenBy};
 
 use crate::gap_level::GapLevel;
 use crate::gap_numbers::GapNumbers;

@@ -2,7 +2,8 @@
 ghost use Rattle.std.specs.Prelude.{◌<◌, IfOk, length};
 ghost use Rattle.icu_weight_numbers.specs.GapOutcomes.{IfFilled, IfNoRoom};
 ghost use Rattle.icu_weight_numbers.specs.LevelGaps.{AreApartAtLevel};
-ghost use Rattle.icu_weight_numbers.specs.NumberedRuns.{IsGapOfRun, AreGapsOfRuns, FillRuns, NumbersAscend};
+ghost use Rattle.icu_weight_numbers.specs.NumberedRuns.{FillRuns, NumbersAscend};
+ghost use Rattle.icu_weight_numbers.specs.inner.RunGaps.{IsGapOfRun, AreGapsOfRuns};
 ghost use Rattle.icu_weight_numbers.specs.SiblingNumberLaws.{NumbersOfTreesAscend};
 
 use crate::gap_level::GapLevel;

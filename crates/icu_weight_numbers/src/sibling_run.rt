@@ -1,7 +1,8 @@
 //! Tailored weights behind weights of the root, among siblings.
 ghost use Rattle.std.specs.Prelude.{ℕ, ◌≡◌, ◌↔◌, ◌≤◌, All, length, take, drop, MatchOption, IfOk};
 ghost use Rattle.icu_weight_numbers.specs.GapEnds.{IsBelowNext};
-ghost use Rattle.icu_weight_numbers.specs.SiblingRuns.{AreTailored, IsRootedFirst, IsFirstRun, HasNoRun, AreRunsOf, first_rooted};
+ghost use Rattle.icu_weight_numbers.specs.SiblingRuns.{AreTailored, IsRootedFirst, AreRunsOf};
+ghost use Rattle.icu_weight_numbers.specs.inner.FirstRuns.{IsFirstRun, HasNoRun, first_rooted};
 
 use icu_tailoring::SymbolicWeight;
 use std::alloc::{AllocError, Global};

@@ -1,4 +1,4 @@
-use Rattle.icu_weight_numbers.specs.LeadUses.{KeepUses}
+use Rattle.icu_weight_numbers.specs.inner.LeadUses.{KeepUses}
 use Rattle.icu_weight_numbers.proofs.lead_room.make_room.Given as goal
 
 abbrev pub invariant-loop-lead : goal.invariant-loop-lead

@@ -1,8 +1,8 @@
-use Rattle.std.proofs.Common.{ℕ, ◌≡◌, ◌+◌, ◌/◌, ◌^◌, ◌<◌, List, length, get_or, set, refl, sym, ap, ◌∙◌, rules, arith}
+use Rattle.std.proofs.Common.{ℕ, ◌≡◌, ◌/◌, ◌^◌, ◌<◌, List, get_or, refl, ◌∙◌, rules, arith}
 use Rattle.std.proofs.lemmas.List.{length-set}
 use Rattle.std.proofs.lemmas.List.Elements.{All-from_get_or}
 use Rattle.icu_weight_numbers.specs.declared.lead_use.LeadUse.{LeadUse}
-use Rattle.icu_weight_numbers.specs.LeadUses.{use_of, IsUsedBy}
+use Rattle.icu_weight_numbers.specs.inner.LeadUses.{use_of, IsUsedBy}
 use Rattle.icu_weight_numbers.proofs.LeadUseLemmas.{used_more}
 use Rattle.icu_weight_numbers.proofs.lead_use.lead_uses.Goals as goal
 

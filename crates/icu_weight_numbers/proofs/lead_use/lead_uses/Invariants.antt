@@ -1,5 +1,6 @@
 use Rattle.std.proofs.Common.{ℕ, ◌≡◌, ◌<◌, length, get_or}
-use Rattle.icu_weight_numbers.specs.LeadUses.{IsUsedBy, AreLevelWeights}
+use Rattle.icu_weight_numbers.specs.LevelGaps.{AreLevelWeights}
+use Rattle.icu_weight_numbers.specs.inner.LeadUses.{IsUsedBy}
 use Rattle.icu_weight_numbers.proofs.lead_use.lead_uses.Given as goal
 
 abbrev pub invariant-loop-weight : goal.invariant-loop-weight

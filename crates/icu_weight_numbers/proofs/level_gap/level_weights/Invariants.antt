@@ -1,7 +1,7 @@
-use Rattle.std.proofs.Common.{ℕ, ◌≡◌, ◌<◌, ◌≤◌, vec_len}
+use Rattle.std.proofs.Common.{◌≡◌, ◌<◌, ◌≤◌, vec_len}
 use Rattle.std.specs.List.{All, AllPairs}
-use Rattle.icu_weight_numbers.specs.LeadUses.{IsWrittenBy}
 use Rattle.icu_weight_numbers.specs.LevelGaps.{HasSecondByte}
+use Rattle.icu_weight_numbers.specs.inner.LeadUses.{IsWrittenBy}
 use Rattle.icu_weight_numbers.proofs.level_gap.level_weights.Given as goal
 
 abbrev pub invariant-loop-have : goal.invariant-loop-have

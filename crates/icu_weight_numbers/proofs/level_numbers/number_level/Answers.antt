@@ -4,8 +4,8 @@ use Rattle.std.specs.Global.{Vec}
 use Rattle.std.proofs.lemmas.List.{take_more}
 use Rattle.std.proofs.lemmas.List.Elements.{All-push}
 use Rattle.icu_weight_numbers.specs.declared.level_gap.LevelGap.{LevelGap}
-use Rattle.icu_weight_numbers.specs.LeadUses.{IsWrittenBy}
 use Rattle.icu_weight_numbers.specs.LevelGaps.{greatest_second, FillsLevelGap, FillEach}
+use Rattle.icu_weight_numbers.specs.inner.LeadUses.{IsWrittenBy}
 use Rattle.icu_weight_numbers.proofs.LevelGapLemmas.{fill_more, lists_apart}
 use Rattle.icu_weight_numbers.proofs.level_numbers.number_level.Goals as goal
 

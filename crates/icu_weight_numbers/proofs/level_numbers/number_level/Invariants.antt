@@ -1,8 +1,8 @@
 use Rattle.std.proofs.Common.{ℕ, take}
 use Rattle.std.specs.List.{All}
 use Rattle.std.specs.Global.{Vec}
-use Rattle.icu_weight_numbers.specs.LeadUses.{IsWrittenBy}
 use Rattle.icu_weight_numbers.specs.LevelGaps.{greatest_second, FillEach}
+use Rattle.icu_weight_numbers.specs.inner.LeadUses.{IsWrittenBy}
 use Rattle.icu_weight_numbers.proofs.level_numbers.number_level.Given as goal
 
 abbrev pub invariant-loop-place : goal.invariant-loop-place

@@ -1,6 +1,6 @@
-use Rattle.std.proofs.Common.{ℕ, ◌^◌, ◌<◌, List, get_or, subst, rules, arith}
+use Rattle.std.proofs.Common.{ℕ, ◌^◌, ◌<◌, List, get_or, rules}
 use Rattle.std.proofs.lemmas.List.Elements.{All-weaker, All-from_get_or}
-use Rattle.icu_weight_numbers.specs.LeadUses.{IsUsedBy, IsWrittenBy}
+use Rattle.icu_weight_numbers.specs.inner.LeadUses.{IsUsedBy, IsWrittenBy}
 use Rattle.icu_weight_numbers.proofs.LeadUseLemmas.{used_kept, written_from_used}
 use Rattle.icu_weight_numbers.proofs.level_numbers.uses_with_room.Goals as goal
 

@@ -1,5 +1,6 @@
 use Rattle.std.specs.List.{All}
-use Rattle.icu_weight_numbers.specs.LeadUses.{IsUsedBy, AreLevelWeights}
+use Rattle.icu_weight_numbers.specs.LevelGaps.{AreLevelWeights}
+use Rattle.icu_weight_numbers.specs.inner.LeadUses.{IsUsedBy}
 use Rattle.icu_weight_numbers.proofs.level_numbers.uses_with_room.Given as goal
 
 abbrev pub invariant-loop-gap : goal.invariant-loop-gap

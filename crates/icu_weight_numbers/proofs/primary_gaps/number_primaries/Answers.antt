@@ -1,8 +1,8 @@
-use Rattle.std.proofs.Common.{ℕ, refl, ◌≡◌, ◌+◌, ◌∷◌, [], ◌++◌, List, get_or, take, sym, ap, ◌∙◌, subst, length, arith}
+use Rattle.std.proofs.Common.{ℕ, refl, ◌≡◌, ◌+◌, ◌∷◌, [], ◌++◌, List, take, sym, ap, ◌∙◌, subst, length, arith}
 use Rattle.std.specs.Global.{Vec}
 use Rattle.std.proofs.lemmas.List.{take_more}
 use Rattle.icu_weight_numbers.specs.declared.primary_gaps.PrimaryGap.{PrimaryGap}
-use Rattle.icu_weight_numbers.specs.PrimaryGaps.{FillPrimaryGaps, FillsPrimaryGap}
+use Rattle.icu_weight_numbers.specs.PrimaryGaps.{FillPrimaryGaps}
 use Rattle.icu_weight_numbers.proofs.PrimaryGapLemmas.{fill_primary_more}
 use Rattle.icu_weight_numbers.proofs.primary_gaps.number_primaries.Goals as goal
 

@@ -1,4 +1,4 @@
-use Rattle.std.proofs.Common.{ℕ, take}
+use Rattle.std.proofs.Common.{take}
 use Rattle.icu_weight_numbers.specs.PrimaryGaps.{FillPrimaryGaps}
 use Rattle.icu_weight_numbers.proofs.primary_gaps.number_primaries.Given as goal
 

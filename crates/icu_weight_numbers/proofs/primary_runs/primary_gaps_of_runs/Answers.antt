@@ -1,4 +1,4 @@
-use Rattle.std.proofs.Common.{ℕ, false, ◌≡◌, ◌+◌, ◌∷◌, [], ◌++◌, List, None, get_or, take, sym, subst}
+use Rattle.std.proofs.Common.{ℕ, false, ◌+◌, ◌∷◌, [], ◌++◌, List, None, get_or, take, sym, subst}
 use Rattle.std.proofs.lemmas.List.{take_more}
 use Rattle.icu_provider.specs.SpecialPrimaries.{SpecialPrimaries}
 use Rattle.icu_provider.specs.StoredTables.{special_of}

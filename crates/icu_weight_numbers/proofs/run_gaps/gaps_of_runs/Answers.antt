@@ -1,8 +1,8 @@
-use Rattle.std.proofs.Common.{ℕ, false, ◌≡◌, ◌+◌, ◌∷◌, [], ◌++◌, List, None, get_or, take, sym, subst}
+use Rattle.std.proofs.Common.{ℕ, false, ◌+◌, ◌∷◌, [], ◌++◌, List, None, get_or, take, sym, subst}
 use Rattle.std.proofs.lemmas.List.{take_more}
 use Rattle.icu_weight_numbers.specs.declared.level_gap.LevelGap.{LevelGap}
 use Rattle.icu_weight_numbers.specs.declared.sibling_run.SiblingRun.{SiblingRun}
-use Rattle.icu_weight_numbers.specs.NumberedRuns.{AreGapsOfRuns}
+use Rattle.icu_weight_numbers.specs.inner.RunGaps.{AreGapsOfRuns}
 use Rattle.icu_weight_numbers.proofs.NumberedRunLemmas.{gaps_more}
 use Rattle.icu_weight_numbers.proofs.run_gaps.gaps_of_runs.Goals as goal
 

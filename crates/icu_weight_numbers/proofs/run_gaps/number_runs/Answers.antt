@@ -1,4 +1,4 @@
-use Rattle.std.proofs.Common.{ℕ, ◌≡◌, ◌<◌, List, length, Result, Ok, Err, IfOk, ap, subst, sym}
+use Rattle.std.proofs.Common.{ℕ, ◌≡◌, ◌<◌, List, length, Result, Ok, Err, IfOk, subst, sym}
 use Rattle.icu_weight_numbers.specs.declared.gap_level.GapLevel.{GapLevel}
 use Rattle.icu_weight_numbers.specs.declared.gap_numbers.GapNumbers.{GapNumbers}
 use Rattle.icu_weight_numbers.specs.declared.gap_numbers.GapNumbers.TheVariants.{Filled, NoRoom}
@@ -6,7 +6,8 @@ use Rattle.icu_weight_numbers.specs.declared.level_gap.LevelGap.{LevelGap}
 use Rattle.icu_weight_numbers.specs.declared.sibling_run.SiblingRun.{SiblingRun}
 use Rattle.icu_weight_numbers.specs.GapOutcomes.{IfFilled, IfNoRoom}
 use Rattle.icu_weight_numbers.specs.LevelGaps.{greatest_second, FillEach}
-use Rattle.icu_weight_numbers.specs.NumberedRuns.{AreGapsOfRuns, FillRuns}
+use Rattle.icu_weight_numbers.specs.NumberedRuns.{FillRuns}
+use Rattle.icu_weight_numbers.specs.inner.RunGaps.{AreGapsOfRuns}
 use Rattle.icu_weight_numbers.proofs.NumberedRunLemmas.{fill_runs, gaps_as_many}
 use Rattle.icu_weight_numbers.proofs.run_gaps.number_runs.Goals as goal
 

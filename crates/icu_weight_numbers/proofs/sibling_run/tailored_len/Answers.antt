@@ -1,4 +1,4 @@
-use Rattle.std.proofs.Common.{ℕ, Bool, true, ◌≡◌, List, get_or, sym, ap, ◌∙◌, refl}
+use Rattle.std.proofs.Common.{ℕ, true, ◌≡◌, List, ap}
 use Rattle.std.proofs.lemmas.List.Elements.{All-more}
 use Rattle.icu_tailoring.specs.declared.symbolic.SymbolicWeight.{SymbolicWeight}
 use Rattle.icu_tailoring.specs.declared.symbolic.SymbolicWeight.TheVariants.{Rooted}

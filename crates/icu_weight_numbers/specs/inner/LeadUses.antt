@@ -1,14 +1,8 @@
 -- How the weights of a level of two bytes are written, by their lead bytes (UTS #10, "Large Weight Values").
-use Rattle.std.specs.Prelude.{ℕ, ◌≡◌, ◌≢◌, ◌<◌, ◌/◌, ◌%◌, ◌^◌, ◌==◌, if◌then◌else◌, List, All, Contains, slice_index_or}
-use Rattle.icu_levels.specs.Premises.{IsPrefixFree}
-use Rattle.icu_levels.specs.WeightBytes.{weight_bytes}
+use Rattle.std.specs.Prelude.{ℕ, ◌≡◌, ◌≢◌, ◌<◌, ◌/◌, ◌%◌, ◌^◌, ◌==◌, if◌then◌else◌, List, slice_index_or}
 use Rattle.icu_weight_numbers.specs.declared.lead_use.LeadUse.{LeadUse}
 use Rattle.icu_weight_numbers.specs.declared.lead_use.LeadUse.TheVariants.{Free, Alone, Long}
-
--- weights of the root at a level: none is 0, and none is written as a beginning of another
-pub record AreLevelWeights (ws : List ℕ) : Type 0 where
-  pub some : All (λ w. 0 < w) ws
-  pub prefix_free : IsPrefixFree (weight_bytes 2) (Contains ws)
+use Rattle.icu_weight_numbers.specs.LevelGaps.{HasSecondByte}
 
 -- what the lead byte of a weight of the root is used for
 unfoldable pub use_of : ℕ → LeadUse
@@ -34,3 +28,17 @@ pub record IsUsedBy (uses : List LeadUse) (w : ℕ) : Type 0 where
 -- lead bytes that weights of the root have keep their use
 abbrev pub KeepUses : List LeadUse → List LeadUse → Type 0
 KeepUses old new = (b : ℕ) → slice_index_or old b Free ≢ Free → slice_index_or new b Free ≡ slice_index_or old b Free
+
+-- a weight with a lead byte, above a number
+pub record IsNextOfLead (greatest : ℕ) (used : LeadUse) (lead last w : ℕ) : Type 0 where
+  pub above : last < w
+  pub leads : w / 256 ≡ lead
+  pub fits : FitsUse used w
+  pub second : HasSecondByte greatest w
+
+-- a weight between two numbers, written as lead bytes are used
+pub record IsNextWeight (greatest : ℕ) (uses : List LeadUse) (last high w : ℕ) : Type 0 where
+  pub above : last < w
+  pub below : w < high
+  pub written : IsWrittenBy uses w
+  pub second : HasSecondByte greatest w
