@@ -1,0 +1,4 @@
+pub mod OffsetLemmas
+pub mod ShortestLemmas
+pub mod CountLemmas
+pub mod WalkLemmas

@@ -1,0 +1,2 @@
+pub mod ByteOffsets
+pub mod IndexedTexts
