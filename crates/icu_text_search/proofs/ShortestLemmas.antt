@@ -1,5 +1,6 @@
 -- The shortest match from a start, by the ends that are tried in turn.
-use Rattle.std.proofs.Common.{◌≡◌, ℕ, zero, suc, ◌+◌, ◌-◌, ◌<◌, ◌≤◌, Bool, true, false, Option, Some, None, refl, sym, ap, ◌∙◌, arith}
+use Rattle.std.proofs.Common.{◌≡◌, ℕ, zero, suc, ◌+◌, ◌-◌, ◌<◌, ◌≤◌, Bool, true, false, Option, Some, None, refl, sym, ap, ◌∙◌, arith, inl, inr}
+use Rattle.std.proofs.lemmas.Bool.{cases_eq}
 use Rattle.icu_search.specs.LeastMatches.{Span, span, shortest_from}
 
 -- no match from a start ends at one of these offsets
@@ -20,7 +21,11 @@ one_ends : (matches : ℕ → ℕ → Bool) (start low n at : ℕ) → low ≤ a
     → shortest_from matches start low n ≡ Some (span start at)
 unfolding shortest_from
 one_ends matches start low zero at from to is none = let here : low ≡ at = omega (arith, from, to) in let e : matches start low ≡ true = ap (matches start) here ∙ is in rw e (ap (λ s. Some (span start s)) here)
-one_ends matches start low (suc n) at from to is none = ?
+one_ends matches start low (suc n) at from to is none =
+    elim (cases_eq low at) [
+      | inl here ↦ let e : matches start low ≡ true = ap (matches start) here ∙ is in rw e (ap (λ s. Some (span start s)) here)
+      | inr later ↦ rw (none low (omega arith) (omega (arith, later, from))) (one_ends matches start (low + 1) n at (omega (arith, later, from)) (omega (arith, to)) is (λ s after before. none s (omega (arith, after)) before))
+    ]
 
 pub one_found : (matches : ℕ → ℕ → Bool) (start high at : ℕ) → start ≤ at → at ≤ high → matches start at ≡ true → ((s : ℕ) → start ≤ s → s < at → matches start s ≡ false)
     → shortest_from matches start start (high - start) ≡ Some (span start at)
@@ -28,7 +33,10 @@ one_found matches start high at from to is none = one_ends matches start start (
 
 -- one more offset is tried
 pub none_more : (matches : ℕ → ℕ → Bool) (start stop : ℕ) → NoneTo matches start stop → matches start (stop + 1) ≡ false → NoneTo matches start (stop + 1)
-none_more matches start stop none not = λ s from to. ?
+none_more matches start stop none not = λ s from to. elim (cases_eq s (stop + 1)) as (λ _. matches start s ≡ false) [
+  | inl here ↦ ap (matches start) here ∙ not
+  | inr other ↦ none s from (omega (arith, to, other))
+]
 
 pub none_at_start : (matches : ℕ → ℕ → Bool) (start : ℕ) → matches start start ≡ false → NoneTo matches start start
 none_at_start matches start not = λ s from to. let here : start ≡ s = omega (arith, from, to) in ap (matches start) (sym here) ∙ not

@@ -1,2 +1,2 @@
 pub mod ByteOffsets
-pub mod IndexedTexts
+pub mod inner

@@ -18,7 +18,7 @@ pub(crate) struct IndexedText<'t> {
 }
 
 impl<'t> IndexedText<'t> {
-    ghost use Rattle.icu_text_search.specs.IndexedTexts.{text_of};
+    ghost use Rattle.icu_text_search.specs.inner.IndexedTexts.{text_of};
 
     /// Reads a text once.
     pub(crate) fn new(alloc: Global, text: &'t str) -> Result<IndexedText<'t>, AllocError>
