@@ -1,11 +1,12 @@
 -- How many primary weights of a text count, by its elements: those that are surely no variable ones at least, and all
 -- of them at most.
-use Rattle.std.proofs.Common.{◌≡◌, ℕ, ◌+◌, ◌<◌, ◌≤◌, Bool, true, false, ◌&&◌, ◌==◌, nat_le, cond, List, [], ◌∷◌, ◌++◌, length, refl, sym, ap, ◌∙◌, arith, inl, inr}
+use Rattle.std.proofs.Common.{◌≡◌, ℕ, ◌+◌, ◌<◌, ◌≤◌, Bool, true, false, ◌&&◌, ◌==◌, nat_le, nat_lt, cond, List, [], ◌∷◌, ◌++◌, length, refl, sym, ap, ◌∙◌, arith, inl, inr}
 use Rattle.std.specs.Prelude.{if◌then◌else◌, filter}
 use Rattle.std.proofs.lemmas.Bool.{cases_Bool, cases_lt, and_parts, leb-true, le-leb, lt-leb, eqb-true, eqb-false}
 use Rattle.icu_options.specs.declared.settings.AlternateHandling.{AlternateHandling}
 use Rattle.icu_options.specs.declared.settings.AlternateHandling.TheVariants.{NonIgnorable, Shifted, Blanked}
 use Rattle.icu_entries.specs.Elements.{Element}
+use Rattle.icu_entries.specs.ElementConditions.{separator_primary}
 use Rattle.icu_weighting.specs.Handled.{HandledElement, stayed, is_variable, handled_variable, handled, stayed_elements}
 use Rattle.icu_weighting.specs.Levels.{weights, primary_of, primaries}
 use Rattle.icu_text_search.specs.inner.PrimaryCounts.{primaries_from}
@@ -75,11 +76,11 @@ module _ (handling : AlternateHandling) (last : ℕ) where
   sure_ones least above some after (x ∷ xs) =
       elim (cases_Bool (is_variable last x)) [
         | inl is ↦
-            let low : x.primary ≤ last = leb-true x.primary last (and_parts _ _ is).1 in
+            let low : x.primary ≤ last = leb-true x.primary last (and_parts (nat_lt separator_primary x.primary) (nat_le x.primary last) is).1 in
             omega (arith, from-none least x xs (omega (arith, low, above)), variable_first after x xs is, sure_ones least above some true xs)
         | inr is ↦ elim (cases_Bool (after && x.primary == 0)) [
           | inl goes ↦
-              let none : x.primary ≡ 0 = eqb-true x.primary 0 (and_parts _ _ goes).1 in
+              let none : x.primary ≡ 0 = eqb-true x.primary 0 (and_parts after (x.primary == 0) goes).1 in
               omega (arith, from-none least x xs (omega (arith, none, some)), vanished_first after x xs is goes, sure_ones least above some true xs)
           | inr stays ↦ elim (cases_Bool (x.primary == 0)) [
             | inl none ↦

@@ -2,3 +2,4 @@ pub mod OffsetLemmas
 pub mod ShortestLemmas
 pub mod CountLemmas
 pub mod WalkLemmas
+pub mod PartWalks

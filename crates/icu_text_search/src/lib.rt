@@ -4,3 +4,5 @@
 
 mod byte_offsets;
 mod indexed_text;
+mod part_match;
+mod part_outcome;
