@@ -23,7 +23,7 @@ primaries-none : (x : Element) (xs : List Element) → (x.primary == 0) ≡ true
 unfolding weights
 primaries-none x xs none = ap (λ b. length (if b then primaries xs else x.primary ∷ primaries xs)) none
 
-primaries-some : (x : Element) (xs : List Element) → (x.primary == 0) ≡ false → length (primaries (x ∷ xs)) ≡ length (primaries xs) + 1
+pub primaries-some : (x : Element) (xs : List Element) → (x.primary == 0) ≡ false → length (primaries (x ∷ xs)) ≡ length (primaries xs) + 1
 unfolding weights
 primaries-some x xs some = ap (λ b. length (if b then primaries xs else x.primary ∷ primaries xs)) some ∙ omega arith
 
@@ -51,7 +51,7 @@ module _ (handling : AlternateHandling) (last : ℕ) where
   staying x xs = stayed x ∷ handled handling last false xs
 
   -- an element is variable, or vanishes after one, or stays
-  variable_first : (after : Bool) (x : Element) (xs : List Element) → is_variable last x ≡ true → counted after (x ∷ xs) ≡ counted true xs
+  pub variable_first : (after : Bool) (x : Element) (xs : List Element) → is_variable last x ≡ true → counted after (x ∷ xs) ≡ counted true xs
   unfolding handled
   variable_first after x xs is =
       ap (λ b. length (primaries (stayed_elements (if b then handled_variable handling x.primary ++ handled handling last true xs else if after && x.primary == 0 then handled handling last true xs else staying x xs)))) is
@@ -63,7 +63,7 @@ module _ (handling : AlternateHandling) (last : ℕ) where
       ap (λ b. length (primaries (stayed_elements (if b then handled_variable handling x.primary ++ handled handling last true xs else if after && x.primary == 0 then handled handling last true xs else staying x xs)))) is
       ∙ ap (λ b. length (primaries (stayed_elements (if b then handled handling last true xs else staying x xs)))) goes
 
-  stays_first : (after : Bool) (x : Element) (xs : List Element) → is_variable last x ≡ false → (after && x.primary == 0) ≡ false → counted after (x ∷ xs) ≡ length (primaries (x ∷ stayed_elements (handled handling last false xs)))
+  pub stays_first : (after : Bool) (x : Element) (xs : List Element) → is_variable last x ≡ false → (after && x.primary == 0) ≡ false → counted after (x ∷ xs) ≡ length (primaries (x ∷ stayed_elements (handled handling last false xs)))
   unfolding handled
   stays_first after x xs is stays =
       ap (λ b. length (primaries (stayed_elements (if b then handled_variable handling x.primary ++ handled handling last true xs else if after && x.primary == 0 then handled handling last true xs else staying x xs)))) is

@@ -3,3 +3,4 @@ pub mod ShortestLemmas
 pub mod CountLemmas
 pub mod WalkLemmas
 pub mod PartWalks
+pub mod SureLemmas

@@ -2,3 +2,4 @@
 pub mod IndexedTexts
 pub mod PrimaryCounts
 pub mod PartOutcomes
+pub mod OnePrimaries
