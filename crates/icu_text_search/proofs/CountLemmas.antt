@@ -1,6 +1,6 @@
 -- How many primary weights of a text count, by its elements: those that are surely no variable ones at least, and all
 -- of them at most.
-use Rattle.std.proofs.Common.{◌≡◌, ℕ, ◌+◌, ◌<◌, ◌≤◌, Bool, true, false, ◌&&◌, ◌==◌, nat_le, nat_lt, cond, List, [], ◌∷◌, ◌++◌, length, refl, sym, ap, ◌∙◌, arith, inl, inr}
+use Rattle.std.proofs.Common.{◌≡◌, ℕ, ◌+◌, ◌<◌, ◌≤◌, Bool, true, false, ◌&&◌, ◌==◌, nat_le, nat_lt, cond, List, [], ◌∷◌, ◌++◌, length, refl, sym, ap, ◌∙◌, subst, arith, inl, inr}
 use Rattle.std.specs.Prelude.{if◌then◌else◌, filter}
 use Rattle.std.proofs.lemmas.Bool.{cases_Bool, cases_lt, and_parts, leb-true, le-leb, lt-leb, eqb-true, eqb-false}
 use Rattle.icu_options.specs.declared.settings.AlternateHandling.{AlternateHandling}
@@ -9,6 +9,11 @@ use Rattle.icu_entries.specs.Elements.{Element}
 use Rattle.icu_entries.specs.ElementConditions.{separator_primary}
 use Rattle.icu_weighting.specs.Handled.{HandledElement, stayed, is_variable, handled_variable, handled, stayed_elements}
 use Rattle.icu_weighting.specs.Levels.{weights, primary_of, primaries}
+use Rattle.unicode_normalization.specs.Forms.{nfd}
+use Rattle.icu_elements.specs.TextElements.{elements_of}
+use Rattle.icu_weighting.specs.Collations.{Collation}
+use Rattle.icu_weighting.specs.Forms.{last_variable_by}
+use Rattle.icu_text_order.specs.TextOrder.{reading_by, handled_elements, lists_by}
 use Rattle.icu_text_search.specs.inner.PrimaryCounts.{primaries_from}
 
 -- a variable element doesn't stay
@@ -113,3 +118,20 @@ module _ (handling : AlternateHandling) (last : ℕ) where
           ]
         ]
       ]
+
+-- ---- texts
+
+-- no more primary weights of a text count than its elements have
+pub no_more : (c : Collation) (text : List ℕ) (es : List Element) → es ≡ elements_of (reading_by c) (nfd text) → length (lists_by c (nfd text)).primaries ≤ primaries_from 1 es
+unfolding lists_by
+no_more c text es is =
+    let all = all_ones c.settings.alternate_handling (last_variable_by c) false es in
+    subst (λ (l : List Element). length (primaries (stayed_elements (handled_elements c false l))) ≤ primaries_from 1 es) is all
+
+-- those from a weight on that is above all variable ones count
+pub no_less : (c : Collation) (text : List ℕ) (es : List Element) (least : ℕ) → last_variable_by c < least → es ≡ elements_of (reading_by c) (nfd text)
+    → primaries_from least es ≤ length (lists_by c (nfd text)).primaries
+unfolding lists_by
+no_less c text es least above is =
+    let sure = sure_ones c.settings.alternate_handling (last_variable_by c) least above (omega (arith, above)) false es in
+    subst (λ (l : List Element). primaries_from least es ≤ length (primaries (stayed_elements (handled_elements c false l)))) is sure
