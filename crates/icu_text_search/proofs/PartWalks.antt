@@ -24,6 +24,10 @@ never : (a e : Bool) → (a && false && e) ≡ false
 never true e = refl
 never false e = refl
 
+never_first : (a p e : Bool) → (a && false && p && e) ≡ false
+never_first true p e = refl
+never_first false p e = refl
+
 never_last : (a : Bool) → (a && false) ≡ false
 never_last true = refl
 never_last false = refl
@@ -52,6 +56,24 @@ module _ (c : Collation) (pattern text : List ℕ) (start : ℕ) where
       → equals_pattern s (slice_range text start stop) ≡ true → matches start stop ≡ true
   matches_there stop ordered first last equal =
       and_from _ _ (and_from _ _ (and_from _ _ (le-leb start stop ordered) first) last) equal
+
+  -- where no place is no match begins
+  pub no_start : is_place (reading_by c) text start ≡ false → start ≤ length text → option_map (span start) None ≡ shortest_from matches start start (length text - start)
+  no_start not ordered = sym (none_found matches start (length text) ordered (λ t from to. begins_not t))
+    where
+      begins_not : (t : ℕ) → matches start t ≡ false
+      begins_not t =
+          ap (λ b. nat_le start t && b && is_place (reading_by c) rest (t - start) && equals_pattern s (slice_range text start t)) not
+          ∙ never_first (nat_le start t) (is_place (reading_by c) rest (t - start)) (equals_pattern s (slice_range text start t))
+
+  -- the empty part is the shortest one
+  empty_place : is_place (reading_by c) rest (start - start) ≡ true
+  empty_place = let none : start - start ≡ 0 = omega arith in ap (is_place (reading_by c) rest) none
+
+  pub empty_matches : is_place (reading_by c) text start ≡ true → equals_pattern s (slice_range text start start) ≡ true → start ≤ length text
+      → option_map (span start) (Some start) ≡ shortest_from matches start start (length text - start)
+  empty_matches first equal ordered =
+      sym (one_found matches start (length text) start (omega arith) ordered (matches_there start (omega arith) first empty_place equal) (λ t from before. absurd (omega (arith, from, before))))
 
   -- ---- the walk
 

@@ -1,9 +1,10 @@
 //! Texts that are searched.
 
-ghost use Rattle.std.specs.Prelude.{◌≡◌, ◌-◌, ◌≤◌, [], IfOk, chars, length};
+ghost use Rattle.std.specs.Prelude.{◌≡◌, ◌-◌, ◌≤◌, [], IfOk, chars, length, map};
 ghost use Rattle.std.specs.Option.{option_map};
 ghost use Rattle.icu_search.specs.LeastMatches.{shortest_from, span};
 ghost use Rattle.icu_search.specs.Searches.{found, is_match};
+ghost use Rattle.icu_search.specs.Selections.{first_span};
 ghost use Rattle.icu_searcher.specs.PlaceMarks.{MarksPlaces};
 ghost use Rattle.icu_text_order.specs.TextOrder.{reading_by};
 ghost use Rattle.icu_text_search.specs.Searchers.{search_of};
@@ -13,7 +14,7 @@ use crate::found_matches::FoundMatches;
 use crate::indexed_text::IndexedText;
 use crate::part_match::Match;
 use crate::searcher::Searcher;
-use icu_search::{CharSpan, MatchEnds};
+use icu_search::{CharSpan, MatchEnds, first_least};
 use icu_searcher::place_marks;
 use std::alloc::AllocError;
 
@@ -28,6 +29,7 @@ pub struct SearchedText<'s, 'c, 't> {
 }
 
 impl<'s, 'c, 't> SearchedText<'s, 'c, 't> {
+    ghost use Rattle.icu_text_search.specs.MatchesLeft.{matches_left};
     ghost use Rattle.icu_text_search.specs.SearchedTexts.{char_len_in, match_in_bytes, matches_in, searched_in, text_searched};
 
     /// Reads a text, and finds where its parts may begin.
@@ -45,6 +47,37 @@ impl<'s, 'c, 't> SearchedText<'s, 'c, 't> {
             text,
             starts,
         })
+    }
+
+    /// The first match that is found in it, if there is one. Fails only where an allocation does.
+    pub fn find(&self) -> Result<Option<Match>, AllocError>
+        ensures { let s = searched_in self.now in let t = text_searched self.now in IfOk result
+            (λ m. m ≡ option_map (match_in_bytes t) (first_span (found s t))) }
+    {
+        match first_least(self, 0)? {
+            Some(m) => Ok(Some(self.in_bytes(m))),
+            None => Ok(None),
+        }
+    }
+
+    /// All that are found in it, one by one.
+    pub fn find_iter(&self) -> FoundMatches<'_, 's, 'c, 't>
+        ensures { let t = self.entry.now in matches_left result
+            ≡ map (match_in_bytes (text_searched t)) (found (searched_in t) (text_searched t)) }
+    {
+        FoundMatches::new(self)
+    }
+
+    /// The shortest match with which it begins, if it begins with one. Fails only where an allocation does.
+    pub fn prefix_match(&self) -> Result<Option<Match>, AllocError>
+        ensures { let s = searched_in self.now in let t = text_searched self.now in IfOk result
+            (λ m. m ≡ option_map (match_in_bytes t)
+            (shortest_from (is_match s t) 0 0 (length t))) }
+    {
+        match self.shortest_stop(0)? {
+            Some(stop) => Ok(Some(self.in_bytes(CharSpan::new(0, stop)))),
+            None => Ok(None),
+        }
     }
 
     /// A part of the text, by the bytes at which it begins and ends.
