@@ -83,6 +83,21 @@ impl<'s, 'c, 't> SearchedText<'s, 'c, 't> {
         Ok(None)
     }
 
+    /// Where the first match behind an offset ends that begins there, where the empty part doesn't match: a walk along
+    /// the characters from there on. A place is there.
+    fn walk_along(&self, start: usize, rest: &[char]) -> Result<Option<usize>, AllocError>
+        requires within { start ≤ char_len_in self.now }
+        requires rest { rest.now ≡ drop start (text_searched self.now) }
+        ensures { let s = searched_in self.now in
+            is_place (reading_by s.collation) (text_searched self.now) start ≡ true
+            → matches_in self.now start start ≡ false
+            → IfOk result (λ stop. option_map (span start) stop
+            ≡ shortest_from (matches_in self.now) start start (char_len_in self.now - start)) }
+    {
+        let places = PlaceReader::new(rest, rest.iter().copied(), self.searcher.reading());
+        self.walk(start, places)
+    }
+
     /// Where the match ends that begins at an offset and ends first, or `None` where no match begins there.
     pub(crate) fn shortest_stop(&self, start: usize) -> Result<Option<usize>, AllocError>
         requires { start ≤ char_len_in self.now }
@@ -95,8 +110,6 @@ impl<'s, 'c, 't> SearchedText<'s, 'c, 't> {
         if self.part_equals(start, start) {
             return Ok(Some(start));
         }
-        let rest = &self.text.characters()[start..];
-        let places = PlaceReader::new(rest, rest.iter().copied(), self.searcher.reading());
-        self.walk(start, places)
+        self.walk_along(start, &self.text.characters()[start..])
     }
 }
