@@ -14,6 +14,8 @@ mod part_walk;
 mod search_calls;
 mod searched_text;
 mod searcher;
+#[cfg(test)]
+mod tests;
 
 pub use found_matches::FoundMatches;
 pub use part_match::Match;
