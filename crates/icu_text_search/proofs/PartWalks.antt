@@ -144,7 +144,7 @@ module _ (c : Collation) (pattern text : List ℕ) (start : ℕ) where
           (λ t from before. w.none t from (omega (arith, before))))
 
       -- the elements of the part
-      part_elements : here ≡ true → elements_read new ≡ elements_of (reading_by c) (nfd (slice_range text start (stop + 1)))
+      pub part_elements : here ≡ true → elements_read new ≡ elements_of (reading_by c) (nfd (slice_range text start (stop + 1)))
       part_elements is =
           p.elements is ∙ ap (λ (r : Reading). elements_of r (nfd passed_now)) reads ∙ ap (λ (l : List ℕ). elements_of (reading_by c) (nfd l)) (sym part_is)
 

@@ -71,24 +71,36 @@ lists_grow c text i j some rises within first last =
     let grown = lists_begin c front (d ∷ mid) alone in
     (grown.0, subst (λ (t : List ℕ). HasFront (lists_by c (nfd front)) (lists_by c (nfd t)) grown.0) (sym part) grown.1)
 
--- ---- a part with more primary weights than the pattern
+-- ---- parts with another number of primary weights than the pattern
 
--- a longer part isn't equal to the pattern either
-pub too_many : (c : Collation) (text pattern : List ℕ) (i j : ℕ) → 0 < i → i < j → j ≤ length text → is_place (reading_by c) text i ≡ true → is_place (reading_by c) text j ≡ true
-    → length (lists_by c (nfd pattern)).primaries < length (lists_by c (nfd (take i text))).primaries
-    → is_eq (text_order c (take j text) pattern) ≡ false
+-- equal texts have as many
+as_many : (c : Collation) (text pattern : List ℕ) → is_eq (text_order c text pattern) ≡ true → length (lists_by c (nfd text)).primaries ≡ length (lists_by c (nfd pattern)).primaries
 unfolding text_order
-too_many c text pattern i j some rises within first last many =
-    let grown = lists_grow c text i j some rises within first last in
+as_many c text pattern equal =
+    let t = lists_by c (nfd text) in
     let p = lists_by c (nfd pattern) in
-    let t = lists_by c (nfd (take j text)) in
     let reorder = (compression_of c.tables).reorder in
-    let longer : length p.primaries < length t.primaries = omega (arith, many, ap length grown.1.primaries, length-append (lists_by c (nfd (take i text))).primaries grown.0.primaries) in
-    elim (cases_Bool (is_eq (text_order c (take j text) pattern))) [
-      | inl equal ↦
-          let tied : primaries_order (compression_of c.tables) t p ≡ Equal = first_tied (primaries_order (compression_of c.tables) t p) _ (eq_is _ equal) in
-          let same : map reorder t.primaries ≡ map reorder p.primaries = tied_lists (map reorder t.primaries) (map reorder p.primaries) tied in
-          absurd (omega (arith, longer, ap length same, length-map t.primaries reorder, length-map p.primaries reorder))
+    let tied : primaries_order (compression_of c.tables) t p ≡ Equal = first_tied (primaries_order (compression_of c.tables) t p) _ (eq_is _ equal) in
+    let same : map reorder t.primaries ≡ map reorder p.primaries = tied_lists (map reorder t.primaries) (map reorder p.primaries) tied in
+    sym (length-map t.primaries reorder) ∙ ap length same ∙ length-map p.primaries reorder
+
+-- a part with fewer isn't equal to the pattern
+pub too_few : (c : Collation) (text pattern : List ℕ) → length (lists_by c (nfd text)).primaries < length (lists_by c (nfd pattern)).primaries → is_eq (text_order c text pattern) ≡ false
+too_few c text pattern few =
+    elim (cases_Bool (is_eq (text_order c text pattern))) [
+      | inl equal ↦ absurd (omega (arith, few, as_many c text pattern equal))
       | inr not ↦ not
     ]
 
+-- where a part has more, no longer one is equal to the pattern
+pub too_many : (c : Collation) (text pattern : List ℕ) (i j : ℕ) → 0 < i → i < j → j ≤ length text → is_place (reading_by c) text i ≡ true → is_place (reading_by c) text j ≡ true
+    → length (lists_by c (nfd pattern)).primaries < length (lists_by c (nfd (take i text))).primaries
+    → is_eq (text_order c (take j text) pattern) ≡ false
+too_many c text pattern i j some rises within first last many =
+    let grown = lists_grow c text i j some rises within first last in
+    let longer : length (lists_by c (nfd pattern)).primaries < length (lists_by c (nfd (take j text))).primaries =
+    omega (arith, many, ap length grown.1.primaries, length-append (lists_by c (nfd (take i text))).primaries grown.0.primaries) in
+    elim (cases_Bool (is_eq (text_order c (take j text) pattern))) [
+      | inl equal ↦ absurd (omega (arith, longer, as_many c (take j text) pattern equal))
+      | inr not ↦ not
+    ]

@@ -44,6 +44,9 @@ impl<'s, 'c, 't> SearchedText<'s, 'c, 't> {
         if !here {
             return PartOutcome::GoesOn;
         }
+        if self.searcher.is_too_short(elements) {
+            return PartOutcome::GoesOn;
+        }
         if self.part_equals(start, stop) {
             return PartOutcome::Matches;
         }

@@ -13,12 +13,15 @@ ghost use Rattle.icu_search.specs.Selections.{first_span};
 ghost use Rattle.icu_search.specs.LeastMatches.{shortest_from};
 ghost use Rattle.icu_search.specs.Searches.{found, is_match};
 ghost use Rattle.unicode_normalization.specs.Forms.{nfd};
+ghost use Rattle.icu_text_search.specs.inner.OnePrimaries.{HasOnePrimary};
 ghost use Rattle.icu_text_search.specs.inner.PrimaryCounts.{primaries_from};
 
 use icu_collator::{Collator, CollatorBorrowed};
 use icu_collator::options::AlternateHandling;
 use icu_elements::{CollationElement, TextReading, all_elements};
+use icu_entries::element::MERGE_SEPARATOR_PRIMARY;
 use std::alloc::{AllocError, Global};
+use std::cmp::Ordering;
 
 /// How many of these elements have a primary weight from this one on.
 fn primaries_from(elements: &[CollationElement], least: u32) -> usize
@@ -43,13 +46,74 @@ fn most_primaries(collator: &CollatorBorrowed<'_>, text: &str) -> Result<usize, 
     Ok(primaries_from(elements.as_slice(), 1))
 }
 
-/// A primary weight from which on none is that of a variable element, if one is known.
-fn first_sure(collator: &CollatorBorrowed<'_>) -> Option<u32>
-    ensures { IfSome result (λ p. last_variable_by (collation_borrowed collator.now) < p) }
+/// How many primary weights of a text surely count, by a weight from which on none is that of a variable element.
+fn fewest_primaries(
+    collator: &CollatorBorrowed<'_>,
+    text: &str,
+    sure: Option<u32>,
+) -> Result<usize, AllocError>
+    requires { ForSome sure (λ p. last_variable_by (collation_borrowed collator.now) < p) }
+    ensures { IfOk result (λ n. n ≤ length (lists_by (collation_borrowed collator.now)
+        (nfd (chars text.now))).primaries) }
+{
+    let Some(least) = sure else {
+        return Ok(0);
+    };
+    let elements = all_elements(reading_of_collator(collator), text.chars())?;
+    Ok(primaries_from(elements.as_slice(), least))
+}
+
+/// The primary weight of a text that has one element.
+fn only_primary(
+    collator: &CollatorBorrowed<'_>,
+    text: &str,
+) -> Result<Option<u32>, AllocError>
+    ensures { let reading = reading_by (collation_borrowed collator.now) in
+        IfOk result (λ o. IfSome o (HasOnePrimary reading (chars text.now))) }
+{
+    let elements = all_elements(reading_of_collator(collator), text.chars())?;
+    match elements.as_slice() {
+        [only] => Ok(Some(only.primary())),
+        _ => Ok(None),
+    }
+}
+
+/// The primary weight of a text with one element that comes after the merge separator: the element isn't variable, and
+/// none with a greater weight is.
+fn counted_primary(
+    collator: &CollatorBorrowed<'_>,
+    text: &str,
+    separator: &str,
+) -> Result<Option<u32>, AllocError>
+    ensures { IfOk result (λ o. IfSome o
+        (λ p. last_variable_by (collation_borrowed collator.now) < p)) }
+{
+    let Some(least) = only_primary(collator, separator)? else {
+        return Ok(None);
+    };
+    let Some(primary) = only_primary(collator, text)? else {
+        return Ok(None);
+    };
+    if least != MERGE_SEPARATOR_PRIMARY || primary <= least {
+        return Ok(None);
+    }
+    match collator.order(text, separator) {
+        Ordering::Greater => Ok(Some(primary)),
+        Ordering::Less | Ordering::Equal => Ok(None),
+    }
+}
+
+/// A primary weight from which on none is that of a variable element, if one is known: where variable elements are
+/// shifted or blanked, that of a digit.
+fn first_sure(collator: &CollatorBorrowed<'_>) -> Result<Option<u32>, AllocError>
+    ensures { IfOk result (λ o. IfSome o
+        (λ p. last_variable_by (collation_borrowed collator.now) < p)) }
 {
     match collator.resolved_options().alternate_handling {
-        AlternateHandling::NonIgnorable => Some(1),
-        AlternateHandling::Shifted | AlternateHandling::Blanked => None,
+        AlternateHandling::NonIgnorable => Ok(Some(1)),
+        AlternateHandling::Shifted | AlternateHandling::Blanked => {
+            counted_primary(collator, "0", "\u{FFFE}")
+        }
     }
 }
 
@@ -61,9 +125,13 @@ pub struct Searcher<'c> {
     pattern: String,
     /// From this primary weight on none is that of a variable element.
     sure: Option<u32>,
-    /// No more primary weights of the pattern count.
+    /// So many primary weights of the pattern count at least.
+    fewest: usize,
+    /// So many of them count at most.
     most: usize,
     ghost sure_is: { ForSome sure (λ p. last_variable_by (collation_borrowed collator) < p) },
+    ghost fewest_is: { fewest ≤ length (lists_by (collation_borrowed collator)
+        (nfd (chars (string_bytes pattern)))).primaries },
     ghost most_is: { length (lists_by (collation_borrowed collator)
         (nfd (chars (string_bytes pattern)))).primaries ≤ most },
 }
@@ -82,13 +150,15 @@ impl<'c> Searcher<'c> {
             ≡ search_for (collation_kept collator.entry.now) (chars pattern.now)) }
     {
         let most = most_primaries(&collator.as_borrowed(), pattern)?;
-        let sure = first_sure(&collator.as_borrowed());
+        let sure = first_sure(&collator.as_borrowed())?;
+        let fewest = fewest_primaries(&collator.as_borrowed(), pattern, sure)?;
         let pattern = String::from_str(alloc, pattern)?;
         Ok(Searcher {
             alloc,
             collator: collator.as_borrowed(),
             pattern,
             sure,
+            fewest,
             most,
         })
     }
@@ -120,6 +190,17 @@ impl<'c> Searcher<'c> {
     {
         let pattern = self.pattern.as_bytes();
         self.collator.order_utf8(part, pattern).is_eq()
+    }
+
+    /// Whether a part of a text with these elements has fewer primary weights than the pattern. It may have fewer where
+    /// this returns false.
+    pub(crate) fn is_too_short(&self, elements: &[CollationElement]) -> bool
+        ensures { let s = search_of self.now in (text : List ℕ)
+            → elements.now ≡ elements_of (reading_by s.collation) (nfd text)
+            → result ≡ true → length (lists_by s.collation (nfd text)).primaries
+            < length (lists_by s.collation (nfd s.pattern)).primaries }
+    {
+        primaries_from(elements, 1) < self.fewest
     }
 
     /// Whether a part of a text with these elements has more primary weights than the pattern. It may have more where

@@ -17,10 +17,14 @@ equals_pattern s part = is_eq (text_order s.collation part s.pattern)
 abbrev pub HasMorePrimaries : Search → List ℕ → Type 0
 HasMorePrimaries s part = length (lists_by s.collation (nfd s.pattern)).primaries < length (lists_by s.collation (nfd part)).primaries
 
--- A place ends the part or not, and if one does these are its elements. It matches, or it doesn't; a longer one may
--- match, or the part has more primary weights than the pattern.
+-- Where a place ends the part, these are its elements.
+abbrev pub AreItsElements : Search → List ℕ → Bool → List Element → Type 0
+AreItsElements s part here elements = (here ≡ true) × (elements ≡ elements_of (reading_by s.collation) (nfd part))
+
+-- It matches, and a place ends it, or it doesn't match: a longer one may, or the part has more primary weights than the
+-- pattern.
 abbrev pub TellsOfPart : Search → List ℕ → Bool → List Element → PartOutcome → Type 0
 TellsOfPart s part here elements Matches = (here ≡ true) × (equals_pattern s part ≡ true)
-TellsOfPart s part here elements GoesOn = here ≡ true → equals_pattern s part ≡ false
+TellsOfPart s part here elements GoesOn = AreItsElements s part here elements → equals_pattern s part ≡ false
 TellsOfPart s part here elements TooLong =
-    (here ≡ true) × (equals_pattern s part ≡ false) × (elements ≡ elements_of (reading_by s.collation) (nfd part) → HasMorePrimaries s part)
+    (here ≡ true) × (equals_pattern s part ≡ false) × (AreItsElements s part here elements → HasMorePrimaries s part)

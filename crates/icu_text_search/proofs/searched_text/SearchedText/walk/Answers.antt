@@ -2,7 +2,7 @@ use Rattle.std.proofs.Common.{◌≡◌, ◌+◌, ◌-◌, ◌<◌, ◌≤◌, [
 use Rattle.std.proofs.lemmas.List.{length-drop}
 use Rattle.icu_searcher.specs.PlaceReaders.{chars_left}
 use Rattle.icu_text_search.specs.SearchedTexts.{searched_in, text_searched}
-use Rattle.icu_text_search.proofs.PartWalks.{walk_begins, walk_on, walk_matches, walk_too_long, walk_ends}
+use Rattle.icu_text_search.proofs.PartWalks.{walk_begins, walk_on, walk_matches, walk_too_long, walk_ends, part_elements}
 use Rattle.icu_text_search.proofs.searched_text.SearchedText.walk.Goals as goal
 
 pub places-init : goal.places-init
@@ -33,7 +33,7 @@ returns-in-TooLong g c = λ h first not.
     let passed = rw c.in-Some.is at (c.in_ok-here.ensures.step w.front w.passed) in
     let told = c.in-TooLong.ensures in
     walk_too_long s.collation s.pattern (text_searched c.args.self.now) c.args.start g.I.Iterator.next_gives c.places.places c.next.new.self c.places.stop c.in-Some.here w c.places.invariant.reading passed
-    told.0 told.1 (λ e. told.2 (c.elements.ensures ∙ e))
+    told.0 told.1 (λ e. told.2 (told.0, c.elements.ensures ∙ e))
 
 pub places-preserved : goal.places-preserved
 places-preserved g c =
@@ -48,7 +48,7 @@ places-preserved g c =
           let w = c.places.invariant.walked h not in
           let passed = rw c.in-Some.is at (c.in_ok-here.ensures.step w.front w.passed) in
           walk_on s.collation s.pattern (text_searched c.args.self.now) c.args.start g.I.Iterator.next_gives c.places.places c.next.new.self c.places.stop c.in-Some.here w c.places.invariant.reading passed
-          c.in-GoesOn.ensures;
+          (λ is. c.in-GoesOn.ensures (is, c.elements.ensures ∙ part_elements s.collation s.pattern (text_searched c.args.self.now) c.args.start g.I.Iterator.next_gives c.places.places c.next.new.self c.places.stop c.in-Some.here w c.places.invariant.reading passed is));
     }
 
 pub returns : goal.returns
