@@ -1,6 +1,6 @@
-pub mod OffsetLemmas
+pub mod ByteOffsetLemmas
 pub mod ShortestLemmas
-pub mod CountLemmas
-pub mod WalkLemmas
+pub mod PrimaryCountLemmas
+pub mod LongerPartLemmas
 pub mod PartWalks
 pub mod SureLemmas

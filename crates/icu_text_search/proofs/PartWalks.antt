@@ -1,22 +1,21 @@
 -- A walk along a text from a place of it: what it has passed, and what the part behind it tells.
-use Rattle.std.proofs.Common.{◌≡◌, ℕ, suc, ◌+◌, ◌-◌, ◌<◌, ◌≤◌, Bool, true, false, ◌&&◌, nat_le, List, [], ◌∷◌, ◌++◌, Option, Some, None, length, take, drop, refl, sym, ap, ◌∙◌, subst, arith, inl, inr, append_assoc, length-append}
+use Rattle.std.proofs.Common.{◌≡◌, ℕ, ◌+◌, ◌-◌, ◌<◌, ◌≤◌, Bool, true, false, ◌&&◌, nat_le, List, [], ◌∷◌, ◌++◌, Option, Some, None, length, take, drop, refl, sym, ap, ◌∙◌, arith, inl, inr, append_assoc, length-append}
 use Rattle.std.specs.Prelude.{slice_range}
 use Rattle.std.specs.Option.{option_map}
 use Rattle.std.proofs.lemmas.Bool.{cases_Bool, cases_lt, and_from, le-leb}
 use Rattle.std.proofs.lemmas.List.{length-drop, take_at, append-nil}
 use Rattle.unicode_normalization.specs.Forms.{nfd}
-use Rattle.icu_entries.specs.Elements.{Element}
 use Rattle.icu_elements.specs.TextElements.{Reading, elements_of}
 use Rattle.icu_weighting.specs.Collations.{Collation}
-use Rattle.icu_text_order.specs.TextOrder.{reading_by, text_order}
-use Rattle.icu_search.specs.LeastMatches.{Span, span, shortest_from}
+use Rattle.icu_text_order.specs.TextOrder.{reading_by}
+use Rattle.icu_search.specs.LeastMatches.{span, shortest_from}
 use Rattle.icu_search.specs.SearchPlaces.{is_place}
 use Rattle.icu_search.specs.Searches.{Search, is_match}
 use Rattle.icu_searcher.specs.declared.place_reader.PlaceReader.{PlaceReader}
 use Rattle.icu_searcher.specs.PlaceReaders.{HasPassed, PassesChar, chars_left, elements_read, places_reading}
 use Rattle.icu_text_search.specs.inner.PartOutcomes.{equals_pattern, HasMorePrimaries}
 use Rattle.icu_text_search.proofs.ShortestLemmas.{NoneTo, none_found, one_found, none_more, none_at_start}
-use Rattle.icu_text_search.proofs.WalkLemmas.{too_many}
+use Rattle.icu_text_search.proofs.LongerPartLemmas.{too_many}
 
 -- ---- the test of a match, where any place is allowed
 

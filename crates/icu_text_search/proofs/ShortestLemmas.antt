@@ -1,7 +1,7 @@
 -- The shortest match from a start, by the ends that are tried in turn.
-use Rattle.std.proofs.Common.{◌≡◌, ℕ, zero, suc, ◌+◌, ◌-◌, ◌<◌, ◌≤◌, Bool, true, false, Option, Some, None, refl, sym, ap, ◌∙◌, arith, inl, inr}
+use Rattle.std.proofs.Common.{◌≡◌, ℕ, zero, suc, ◌+◌, ◌-◌, ◌<◌, ◌≤◌, Bool, true, false, Some, None, sym, ap, ◌∙◌, arith, inl, inr}
 use Rattle.std.proofs.lemmas.Bool.{cases_eq}
-use Rattle.icu_search.specs.LeastMatches.{Span, span, shortest_from}
+use Rattle.icu_search.specs.LeastMatches.{span, shortest_from}
 
 -- no match from a start ends at one of these offsets
 abbrev pub NoneTo : (ℕ → ℕ → Bool) → ℕ → ℕ → Type 0

@@ -1,24 +1,22 @@
 -- Which primary weights are surely none of a variable element: a text that comes after the merge separator has one that
 -- counts.
-use Rattle.std.proofs.Common.{◌≡◌, ℕ, suc, ◌<◌, ◌≤◌, Bool, true, false, ◌&&◌, ◌==◌, nat_le, nat_lt, List, [], ◌∷◌, ◌++◌, length, map, refl, sym, ap, ◌∙◌, arith, inl, inr}
-use Rattle.std.specs.Prelude.{if◌then◌else◌}
+use Rattle.std.proofs.Common.{◌≡◌, ℕ, suc, ◌<◌, true, false, ◌&&◌, ◌==◌, nat_le, nat_lt, List, [], ◌∷◌, length, map, refl, sym, ap, ◌∙◌, arith, inl, inr}
 use Rattle.std.specs.declared.cmp.Ordering.{Ordering}
-use Rattle.std.specs.declared.cmp.Ordering.TheVariants.{Less, Equal, Greater}
+use Rattle.std.specs.declared.cmp.Ordering.TheVariants.{Less, Greater}
 use Rattle.std.specs.Ordering.{ordering_then}
 use Rattle.std.proofs.lemmas.Bool.{cases_lt, and_from, lt-ltb, le-leb, lt-leb, ne_eqb}
 use Rattle.unicode_normalization.specs.Forms.{nfd}
 use Rattle.icu_entries.specs.Elements.{Element}
 use Rattle.icu_entries.specs.ElementConditions.{separator_primary}
 use Rattle.icu_levels.specs.ListOrder.{list_order}
-use Rattle.icu_levels.specs.Keys.{primaries_order, levels_order, in_turn}
-use Rattle.icu_elements.specs.TextElements.{Reading, elements_of}
+use Rattle.icu_levels.specs.Keys.{primaries_order}
 use Rattle.icu_weighting.specs.Collations.{Collation}
-use Rattle.icu_weighting.specs.Forms.{compression_of, form_by, last_variable_by}
-use Rattle.icu_weighting.specs.Handled.{HandledElement, stayed, is_variable, handled_variable, handled, stayed_elements}
+use Rattle.icu_weighting.specs.Forms.{compression_of, last_variable_by}
+use Rattle.icu_weighting.specs.Handled.{is_variable, handled, stayed_elements}
 use Rattle.icu_weighting.specs.Levels.{weights, primaries}
 use Rattle.icu_text_order.specs.TextOrder.{reading_by, handled_elements, lists_by, text_order}
 use Rattle.icu_text_search.specs.inner.OnePrimaries.{HasOnePrimary}
-use Rattle.icu_text_search.proofs.CountLemmas.{variable_first, stays_first, primaries-some}
+use Rattle.icu_text_search.proofs.PrimaryCountLemmas.{variable_first, stays_first, primaries-some}
 
 -- the primary weights of a text with one element
 abbrev primaries_of : Collation → Element → List ℕ

@@ -1,5 +1,5 @@
 -- What an iterator of matches still gives.
-use Rattle.std.specs.Prelude.{ℕ, List, map}
+use Rattle.std.specs.Prelude.{List, map}
 use Rattle.icu_search.specs.LeastMatches.{Span}
 use Rattle.icu_search.specs.SpansLeft.{spans_left}
 use Rattle.icu_text_search.specs.declared.found_matches.FoundMatches.{FoundMatches}

@@ -5,7 +5,7 @@ use Rattle.icu_search.specs.Searches.{Search, is_match}
 use Rattle.icu_text_search.specs.declared.searched_text.SearchedText.{SearchedText}
 use Rattle.icu_text_search.specs.ByteOffsets.{byte_offset}
 use Rattle.icu_text_search.specs.Searchers.{search_of}
-use Rattle.icu_text_search.specs.inner.IndexedTexts.{text_of}
+use Rattle.icu_text_search.specs.inner.IndexedTexts.{indexed_chars}
 
 -- what is searched for
 abbrev pub searched_in : SearchedText → Search
@@ -13,7 +13,7 @@ searched_in t = search_of t.searcher.now
 
 -- the characters of the text
 abbrev pub text_searched : SearchedText → List ℕ
-text_searched t = text_of t.text
+text_searched t = indexed_chars t.text
 
 -- which of its parts match
 abbrev pub matches_in : SearchedText → ℕ → ℕ → Bool

@@ -1,6 +1,6 @@
 //! The matches of a text, one after another.
 
-ghost use Rattle.std.specs.Prelude.{◌≡◌, ◌++◌, [], map, option_to_list, IfOk, IfSome, OnErr};
+ghost use Rattle.std.specs.Prelude.{◌≡◌, ◌++◌, [], map, option_to_list, IfOk, OnErr};
 ghost use Rattle.icu_search.specs.Searches.{found};
 
 use crate::part_match::Match;

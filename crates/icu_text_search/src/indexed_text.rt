@@ -18,11 +18,11 @@ pub(crate) struct IndexedText<'t> {
 }
 
 impl<'t> IndexedText<'t> {
-    ghost use Rattle.icu_text_search.specs.inner.IndexedTexts.{text_of};
+    ghost use Rattle.icu_text_search.specs.inner.IndexedTexts.{indexed_chars};
 
     /// Reads a text once.
     pub(crate) fn new(alloc: Global, text: &'t str) -> Result<IndexedText<'t>, AllocError>
-        ensures { IfOk result (λ t. text_of t ≡ chars text.entry.now) }
+        ensures { IfOk result (λ t. indexed_chars t ≡ chars text.entry.now) }
     {
         let characters = text_characters(alloc, text)?;
         let offsets = byte_offsets(alloc, text, characters.as_slice())?;
@@ -35,14 +35,14 @@ impl<'t> IndexedText<'t> {
 
     /// Its characters.
     pub(crate) fn characters(&self) -> &[char]
-        ensures { result.now ≡ text_of self.now }
+        ensures { result.now ≡ indexed_chars self.now }
     {
         self.characters.as_slice()
     }
 
     /// How many characters it has.
     pub(crate) fn char_count(&self) -> usize
-        ensures count { result ≡ length (text_of self.now) }
+        ensures count { result ≡ length (indexed_chars self.now) }
         ensures bound { result < usize.MAX }
     {
         self.characters.len()
@@ -50,7 +50,7 @@ impl<'t> IndexedText<'t> {
 
     /// How many bytes stand before the character with this offset, or before the end.
     pub(crate) fn byte_offset(&self, offset: usize) -> usize
-        ensures { result ≡ byte_offset (text_of self.now) offset }
+        ensures { result ≡ byte_offset (indexed_chars self.now) offset }
     {
         let bytes = self.text.as_bytes();
         if offset < self.offsets.len() {
@@ -63,8 +63,8 @@ impl<'t> IndexedText<'t> {
     /// The bytes of a part of it.
     pub(crate) fn part(&self, start: usize, stop: usize) -> &[u8]
         requires ordered { start ≤ stop }
-        requires within { stop ≤ length (text_of self.now) }
-        ensures { utf8_text result.now ≡ slice_range (text_of self.now) start stop }
+        requires within { stop ≤ length (indexed_chars self.now) }
+        ensures { utf8_text result.now ≡ slice_range (indexed_chars self.now) start stop }
     {
         let bytes = self.text.as_bytes();
         let from = self.byte_offset(start);

@@ -1,8 +1,8 @@
 //! Search by collation (UTS #10, "Searching and Matching"): the parts of a text that are equal to a pattern by a
 //! collator.
 //!
-//! A `Searcher` keeps a pattern. `find` gives the first match of a text. `read` reads a text once, and `find_iter` gives
-//! all that are found in it, one by one.
+//! A `Searcher` keeps a pattern. `find` gives the first match of a text. `read` reads a text once, and `find_iter`
+//! gives all that are found in it, one by one.
 #![tactic(auto)]
 
 mod byte_offsets;

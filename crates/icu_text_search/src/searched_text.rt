@@ -1,14 +1,14 @@
 //! Texts that are searched.
 
-ghost use Rattle.std.specs.Prelude.{◌≡◌, ◌-◌, ◌≤◌, [], IfOk, chars, length, map};
+ghost use Rattle.std.specs.Prelude.{◌≡◌, ◌-◌, IfOk, chars, length, map};
 ghost use Rattle.std.specs.Option.{option_map};
-ghost use Rattle.icu_search.specs.LeastMatches.{shortest_from, span};
+ghost use Rattle.icu_search.specs.LeastMatches.{shortest_from};
 ghost use Rattle.icu_search.specs.Searches.{found, is_match};
 ghost use Rattle.icu_search.specs.Selections.{first_span};
 ghost use Rattle.icu_searcher.specs.PlaceMarks.{MarksPlaces};
 ghost use Rattle.icu_text_order.specs.TextOrder.{reading_by};
 ghost use Rattle.icu_text_search.specs.Searchers.{search_of};
-ghost use Rattle.icu_text_search.specs.inner.IndexedTexts.{text_of};
+ghost use Rattle.icu_text_search.specs.inner.IndexedTexts.{indexed_chars};
 
 use crate::found_matches::FoundMatches;
 use crate::indexed_text::IndexedText;
@@ -25,7 +25,7 @@ pub struct SearchedText<'s, 'c, 't> {
     pub(crate) text: IndexedText<'t>,
     pub(crate) starts: Vec<bool>,
     ghost marked: { MarksPlaces (reading_by (search_of searcher.now).collation)
-        (text_of text) starts.items },
+        (indexed_chars text) starts.items },
 }
 
 impl<'s, 'c, 't> SearchedText<'s, 'c, 't> {

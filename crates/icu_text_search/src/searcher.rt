@@ -9,15 +9,13 @@ ghost use Rattle.icu_elements.specs.Reading.{reading_of};
 ghost use Rattle.icu_elements.specs.TextElements.{elements_of};
 ghost use Rattle.icu_text_order.specs.TextOrder.{reading_by, lists_by, text_order};
 ghost use Rattle.icu_text_order.specs.Forms.{last_variable_by};
-ghost use Rattle.icu_search.specs.Selections.{first_span};
-ghost use Rattle.icu_search.specs.LeastMatches.{shortest_from};
-ghost use Rattle.icu_search.specs.Searches.{found, is_match};
+ghost use Rattle.icu_search.specs.Searches.{found};
 ghost use Rattle.unicode_normalization.specs.Forms.{nfd};
 ghost use Rattle.icu_text_search.specs.inner.OnePrimaries.{HasOnePrimary};
 ghost use Rattle.icu_text_search.specs.inner.PrimaryCounts.{primaries_from};
 
-use icu_collator::{Collator, CollatorBorrowed};
 use icu_collator::options::AlternateHandling;
+use icu_collator::{Collator, CollatorBorrowed};
 use icu_elements::{CollationElement, TextReading, all_elements};
 use icu_entries::element::MERGE_SEPARATOR_PRIMARY;
 use std::alloc::{AllocError, Global};
@@ -64,10 +62,7 @@ fn fewest_primaries(
 }
 
 /// The primary weight of a text that has one element.
-fn only_primary(
-    collator: &CollatorBorrowed<'_>,
-    text: &str,
-) -> Result<Option<u32>, AllocError>
+fn only_primary(collator: &CollatorBorrowed<'_>, text: &str) -> Result<Option<u32>, AllocError>
     ensures { let reading = reading_by (collation_borrowed collator.now) in
         IfOk result (λ o. IfSome o (HasOnePrimary reading (chars text.now))) }
 {

@@ -26,8 +26,10 @@ fn collator_by(
         numeric_ordering: Some(numeric),
         ..CollatorPreferences::default()
     };
-    Collator::try_new_unstable(rt.alloc(), &mini.provider(), preferences, options)
-        .expect(rt, "the tables are well-formed")
+    Collator::try_new_unstable(rt.alloc(), &mini.provider(), preferences, options).expect(
+        rt,
+        "the tables are well-formed",
+    )
 }
 
 /// A collator by Mini that compares so many levels, and takes hyphens as they stand.
@@ -85,7 +87,11 @@ fn levels(rt: HostRuntime) -> Result<(), Fail> {
         (&one, "\u{AC00}", "\u{AC01}", ""),
         (&one, "\u{AC00}\u{11A8}", "\u{AC01}", "0..3 "),
     ] {
-        assert_eq!(rt; found(rt.alloc(), collator, pattern, text)?.as_str(), wanted, "{pattern} in {text}");
+        assert_eq!(rt;
+            found(rt.alloc(), collator, pattern, text)?.as_str(),
+            wanted,
+            "{pattern} in {text}"
+        );
     }
     Ok(())
 }
@@ -94,8 +100,20 @@ fn levels(rt: HostRuntime) -> Result<(), Fail> {
 fn variable_elements(rt: HostRuntime) -> Result<(), Fail> {
     let mini = Mini::new(rt.alloc())?;
     let off = CollationNumericOrdering::False;
-    let one = collator_by(&rt, &mini, Strength::Primary, AlternateHandling::Shifted, off);
-    let four = collator_by(&rt, &mini, Strength::Quaternary, AlternateHandling::Shifted, off);
+    let one = collator_by(
+        &rt,
+        &mini,
+        Strength::Primary,
+        AlternateHandling::Shifted,
+        off,
+    );
+    let four = collator_by(
+        &rt,
+        &mini,
+        Strength::Quaternary,
+        AlternateHandling::Shifted,
+        off,
+    );
     for (collator, pattern, text, wanted) in [
         (&one, "ab", "a-b", "0..3 "),
         (&one, "a", "--a--", "2..3 "),
@@ -104,7 +122,11 @@ fn variable_elements(rt: HostRuntime) -> Result<(), Fail> {
         (&four, "ab", "a-b ab", "4..6 "),
         (&four, "a-b", "ab a-b a b", "3..6 "),
     ] {
-        assert_eq!(rt; found(rt.alloc(), collator, pattern, text)?.as_str(), wanted, "{pattern} in {text}");
+        assert_eq!(rt;
+            found(rt.alloc(), collator, pattern, text)?.as_str(),
+            wanted,
+            "{pattern} in {text}"
+        );
     }
     Ok(())
 }
@@ -117,7 +139,13 @@ fn contractions_and_numbers(rt: HostRuntime) -> Result<(), Fail> {
     let ss = plain(&rt, &sharp_s, Strength::Primary);
     let mini = Mini::new(rt.alloc())?;
     let on = CollationNumericOrdering::True;
-    let numeric = collator_by(&rt, &mini, Strength::Primary, AlternateHandling::NonIgnorable, on);
+    let numeric = collator_by(
+        &rt,
+        &mini,
+        Strength::Primary,
+        AlternateHandling::NonIgnorable,
+        on,
+    );
     for (collator, pattern, text, wanted) in [
         (&ll, "l", "all", ""),
         (&ll, "al", "all", ""),
@@ -128,7 +156,11 @@ fn contractions_and_numbers(rt: HostRuntime) -> Result<(), Fail> {
         (&numeric, "1", "10 1", "3..4 "),
         (&numeric, "7", "a007", "1..4 "),
     ] {
-        assert_eq!(rt; found(rt.alloc(), collator, pattern, text)?.as_str(), wanted, "{pattern} in {text}");
+        assert_eq!(rt;
+            found(rt.alloc(), collator, pattern, text)?.as_str(),
+            wanted,
+            "{pattern} in {text}"
+        );
     }
     Ok(())
 }
@@ -143,7 +175,9 @@ fn calls(rt: HostRuntime) -> Result<(), Fail> {
     assert!(rt; searcher.find("aaa")?.is_none());
     assert!(rt; searcher.is_match("ab")?);
     assert!(rt; !searcher.is_match("aaa")?);
-    let prefix = searcher.prefix_match("b\u{301}b")?.expect(&rt, "it begins so");
+    let prefix = searcher
+        .prefix_match("b\u{301}b")?
+        .expect(&rt, "it begins so");
     assert_eq!(rt; (prefix.start(), prefix.end()), (0, 3));
     assert!(rt; searcher.prefix_match("ab")?.is_none());
     assert!(rt; !searcher.is_ignorable());

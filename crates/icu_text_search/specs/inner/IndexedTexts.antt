@@ -3,5 +3,5 @@ use Rattle.std.specs.Prelude.{ℕ, List, chars}
 use Rattle.icu_text_search.specs.declared.indexed_text.IndexedText.{IndexedText}
 
 -- those that its bytes spell
-abbrev pub text_of : IndexedText → List ℕ
-text_of t = chars t.text.now
+abbrev pub indexed_chars : IndexedText → List ℕ
+indexed_chars t = chars t.text.now

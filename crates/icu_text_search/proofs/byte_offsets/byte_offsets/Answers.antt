@@ -1,10 +1,10 @@
 use Rattle.std.proofs.Common.{◌≡◌, ◌+◌, ◌≤◌, ◌++◌, List, [], ◌∷◌, length, drop, get_or, ℕ, sym, ap, ◌∙◌, arith, append_assoc}
-use Rattle.std.specs.Prelude.{chars, encode_utf8_all}
+use Rattle.std.specs.Prelude.{encode_utf8_all}
 use Rattle.std.specs.Char.{len_utf8}
 use Rattle.std.proofs.lemmas.List.{get_or_read}
 use Rattle.std.proofs.lemmas.Str.{encodes-chars}
-use Rattle.icu_text_search.specs.ByteOffsets.{byte_offset, offsets_along}
-use Rattle.icu_text_search.proofs.OffsetLemmas.{offsets-more, offsets-end, offsets-last, byte_offset-more, byte_offset-within}
+use Rattle.icu_text_search.specs.ByteOffsets.{offsets_along}
+use Rattle.icu_text_search.proofs.ByteOffsetLemmas.{offsets-more, offsets-end, offsets-last, byte_offset-more, byte_offset-within}
 use Rattle.icu_text_search.proofs.byte_offsets.byte_offsets.Goals as goal
 
 pub overflow_add-offset : goal.overflow_add-offset

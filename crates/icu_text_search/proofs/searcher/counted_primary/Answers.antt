@@ -1,4 +1,4 @@
-use Rattle.std.proofs.Common.{◌≡◌, ◌<◌, ℕ, sym, subst, arith}
+use Rattle.std.proofs.Common.{◌≡◌, ◌<◌, sym, subst, arith}
 use Rattle.std.specs.Prelude.{chars}
 use Rattle.icu_entries.specs.ElementConditions.{separator_primary}
 use Rattle.icu_collator.specs.Collators.{collation_borrowed}

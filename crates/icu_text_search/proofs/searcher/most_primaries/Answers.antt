@@ -1,13 +1,11 @@
-use Rattle.std.proofs.Common.{◌≡◌, ◌∙◌, List, length, ap, arith}
+use Rattle.std.proofs.Common.{◌≡◌, ◌∙◌, ap, arith}
 use Rattle.std.specs.Prelude.{chars}
 use Rattle.unicode_normalization.specs.Forms.{nfd}
 use Rattle.unicode_normalization.proofs.IterLemmas.{Spells-chars}
-use Rattle.icu_entries.specs.Elements.{Element}
 use Rattle.icu_collator.specs.Collators.{collation_borrowed}
 use Rattle.icu_elements.specs.TextElements.{Reading, elements_of}
 use Rattle.icu_text_order.specs.TextOrder.{reading_by}
-use Rattle.icu_text_search.specs.inner.PrimaryCounts.{primaries_from}
-use Rattle.icu_text_search.proofs.CountLemmas.{no_more}
+use Rattle.icu_text_search.proofs.PrimaryCountLemmas.{no_more}
 use Rattle.icu_text_search.proofs.searcher.most_primaries.Goals as goal
 
 pub returns : goal.returns

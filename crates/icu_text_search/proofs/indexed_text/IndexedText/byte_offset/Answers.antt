@@ -1,8 +1,8 @@
-use Rattle.std.proofs.Common.{◌≡◌, ℕ, ◌≤◌, List, get_or, length, sym, ap, ◌∙◌, arith}
+use Rattle.std.proofs.Common.{◌≡◌, ℕ, List, length, sym, ap, ◌∙◌, arith}
 use Rattle.std.specs.Prelude.{chars}
 use Rattle.std.proofs.lemmas.List.{get_or_past, get_or_read}
 use Rattle.icu_text_search.specs.ByteOffsets.{byte_offset, offsets_along}
-use Rattle.icu_text_search.proofs.OffsetLemmas.{offset_at}
+use Rattle.icu_text_search.proofs.ByteOffsetLemmas.{offset_at}
 use Rattle.icu_text_search.proofs.indexed_text.IndexedText.byte_offset.Goals as goal
 
 pub returns-then-offset-len : goal.returns-then-offset-len

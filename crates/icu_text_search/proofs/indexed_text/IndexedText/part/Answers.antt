@@ -1,9 +1,9 @@
-use Rattle.std.proofs.Common.{◌≡◌, ℕ, ◌-◌, ◌≤◌, List, length, take, drop, sym, ap, ◌∙◌, arith}
+use Rattle.std.proofs.Common.{◌≡◌, ℕ, ◌-◌, List, length, take, drop, sym, ap, ◌∙◌, arith}
 use Rattle.std.specs.Prelude.{chars, encode_utf8_all}
 use Rattle.std.proofs.lemmas.Str.{encodes-chars}
 use Rattle.icu_encodings.specs.DecodedTexts.{utf8_text}
 use Rattle.icu_text_search.specs.ByteOffsets.{byte_offset}
-use Rattle.icu_text_search.proofs.OffsetLemmas.{offsets_rise, byte_offset-within, decoded_part}
+use Rattle.icu_text_search.proofs.ByteOffsetLemmas.{offsets_rise, byte_offset-within, decoded_part}
 use Rattle.icu_text_search.proofs.indexed_text.IndexedText.part.Goals as goal
 
 pub slice_bounds-result-count : goal.slice_bounds-result-count

@@ -1,6 +1,6 @@
 use Rattle.std.specs.Prelude.{slice_range}
 use Rattle.icu_text_search.specs.SearchedTexts.{searched_in, text_searched}
-use Rattle.icu_text_search.proofs.WalkLemmas.{too_few}
+use Rattle.icu_text_search.proofs.LongerPartLemmas.{too_few}
 use Rattle.icu_text_search.proofs.searched_text.SearchedText.outcome.Goals as goal
 
 pub returns-then-is_too_short : goal.returns-then-is_too_short

@@ -1,7 +1,7 @@
 use Rattle.std.proofs.Common.{arith}
 use Rattle.std.proofs.lemmas.Bool.{ltb-true}
 use Rattle.icu_collator.specs.Collators.{collation_borrowed}
-use Rattle.icu_text_search.proofs.CountLemmas.{no_more}
+use Rattle.icu_text_search.proofs.PrimaryCountLemmas.{no_more}
 use Rattle.icu_text_search.proofs.searcher.Searcher.is_too_short.Goals as goal
 
 pub returns : goal.returns

@@ -1,6 +1,6 @@
 -- How many primary weights of a text count, by its elements: those that are surely no variable ones at least, and all
 -- of them at most.
-use Rattle.std.proofs.Common.{◌≡◌, ℕ, ◌+◌, ◌<◌, ◌≤◌, Bool, true, false, ◌&&◌, ◌==◌, nat_le, nat_lt, cond, List, [], ◌∷◌, ◌++◌, length, refl, sym, ap, ◌∙◌, subst, arith, inl, inr}
+use Rattle.std.proofs.Common.{◌≡◌, ℕ, ◌+◌, ◌<◌, ◌≤◌, Bool, true, false, ◌&&◌, ◌==◌, nat_le, nat_lt, cond, List, [], ◌∷◌, ◌++◌, length, refl, ap, ◌∙◌, subst, arith, inl, inr}
 use Rattle.std.specs.Prelude.{if◌then◌else◌, filter}
 use Rattle.std.proofs.lemmas.Bool.{cases_Bool, cases_lt, and_parts, leb-true, le-leb, lt-leb, eqb-true, eqb-false}
 use Rattle.icu_options.specs.declared.settings.AlternateHandling.{AlternateHandling}
@@ -8,7 +8,7 @@ use Rattle.icu_options.specs.declared.settings.AlternateHandling.TheVariants.{No
 use Rattle.icu_entries.specs.Elements.{Element}
 use Rattle.icu_entries.specs.ElementConditions.{separator_primary}
 use Rattle.icu_weighting.specs.Handled.{HandledElement, stayed, is_variable, handled_variable, handled, stayed_elements}
-use Rattle.icu_weighting.specs.Levels.{weights, primary_of, primaries}
+use Rattle.icu_weighting.specs.Levels.{weights, primaries}
 use Rattle.unicode_normalization.specs.Forms.{nfd}
 use Rattle.icu_elements.specs.TextElements.{elements_of}
 use Rattle.icu_weighting.specs.Collations.{Collation}

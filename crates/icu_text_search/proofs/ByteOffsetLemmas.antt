@@ -39,7 +39,7 @@ offset_there (c ∷ cs) n (suc k) =
     ∙ offset_there cs (n + len_utf8 c) k
     ∙ omega (arith, encoded-cons c (take k cs))
 
--- the same by the bytes of the text
+-- so the list of offsets says it of each character of a text in UTF-8
 pub offset_at : (bytes offsets : List ℕ) (k : ℕ) → IsUtf8 bytes → offsets ≡ offsets_along 0 (chars bytes) → get_or offsets k (length bytes) ≡ byte_offset (chars bytes) k
 offset_at bytes offsets k sound is =
     let all : length bytes ≡ length (encode_utf8_all (chars bytes)) = ap length (sym (encodes-chars bytes sound)) in

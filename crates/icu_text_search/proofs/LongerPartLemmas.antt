@@ -1,5 +1,5 @@
 -- What a walk from a place of a text comes to.
-use Rattle.std.proofs.Common.{◌≡◌, ℕ, zero, suc, ◌+◌, ◌-◌, ◌<◌, ◌≤◌, Bool, true, false, ◌||◌, ◌==◌, List, [], ◌∷◌, ◌++◌, length, map, take, drop, get_or, refl, sym, ap, ◌∙◌, subst, arith, inl, inr, append_assoc, length-append}
+use Rattle.std.proofs.Common.{◌≡◌, ℕ, suc, ◌+◌, ◌-◌, ◌<◌, ◌≤◌, true, false, ◌||◌, ◌==◌, List, [], ◌∷◌, ◌++◌, length, map, take, drop, get_or, refl, sym, ap, ◌∙◌, subst, arith, inl, inr, length-append}
 use Rattle.std.specs.declared.cmp.Ordering.{Ordering}
 use Rattle.std.specs.declared.cmp.Ordering.TheVariants.{Less, Equal, Greater}
 use Rattle.std.specs.Ordering.{is_eq, ordering_then}
@@ -12,7 +12,7 @@ use Rattle.icu_levels.proofs.Order.{tied_lists}
 use Rattle.icu_levels.specs.CommonBeginnings.{HasFront}
 use Rattle.icu_elements.specs.TextElements.{Reading}
 use Rattle.icu_weighting.specs.Collations.{Collation}
-use Rattle.icu_weighting.specs.Forms.{compression_of, form_by}
+use Rattle.icu_weighting.specs.Forms.{compression_of}
 use Rattle.icu_text_order.specs.TextOrder.{reading_by, lists_by, text_order}
 use Rattle.icu_search.specs.SearchPlaces.{is_place, is_place_before}
 use Rattle.icu_search.proofs.SearchPartLemmas.{lists_begin, part_has_places}
