@@ -1,0 +1,30 @@
+-- What a walk is told of the part behind it.
+use Rattle.std.specs.Prelude.{◌≡◌, ◌<◌, ℕ, Bool, true, false, List, length}
+use Rattle.std.specs.Ordering.{is_eq}
+use Rattle.unicode_normalization.specs.Forms.{nfd}
+use Rattle.icu_entries.specs.Elements.{Element}
+use Rattle.icu_elements.specs.TextElements.{elements_of}
+use Rattle.icu_text_order.specs.TextOrder.{reading_by, lists_by, text_order}
+use Rattle.icu_search.specs.Searches.{Search}
+use Rattle.icu_text_search.specs.declared.part_outcome.PartOutcome.{PartOutcome}
+use Rattle.icu_text_search.specs.declared.part_outcome.PartOutcome.TheVariants.{Matches, GoesOn, TooLong}
+
+-- the part is equal to the pattern
+abbrev pub equals_pattern : Search → List ℕ → Bool
+equals_pattern s part = is_eq (text_order s.collation part s.pattern)
+
+-- it has more primary weights than the pattern
+abbrev pub HasMorePrimaries : Search → List ℕ → Type 0
+HasMorePrimaries s part = length (lists_by s.collation (nfd s.pattern)).primaries < length (lists_by s.collation (nfd part)).primaries
+
+-- Where a place ends the part, these are its elements.
+abbrev pub AreItsElements : Search → List ℕ → Bool → List Element → Type 0
+AreItsElements s part here elements = (here ≡ true) × (elements ≡ elements_of (reading_by s.collation) (nfd part))
+
+-- It matches, and a place ends it, or it doesn't match: a longer one may, or the part has more primary weights than the
+-- pattern.
+abbrev pub TellsOfPart : Search → List ℕ → Bool → List Element → PartOutcome → Type 0
+TellsOfPart s part here elements Matches = (here ≡ true) × (equals_pattern s part ≡ true)
+TellsOfPart s part here elements GoesOn = AreItsElements s part here elements → equals_pattern s part ≡ false
+TellsOfPart s part here elements TooLong =
+    (here ≡ true) × (equals_pattern s part ≡ false) × (AreItsElements s part here elements → HasMorePrimaries s part)

@@ -1,0 +1,118 @@
+//! The first end of a match that begins at a place: a walk along the text from there.
+
+ghost use Rattle.std.specs.Prelude.{◌≡◌, ◌+◌, ◌-◌, ◌≤◌, [], false, true, drop, slice_range, IfOk};
+ghost use Rattle.std.specs.Option.{option_map};
+ghost use Rattle.std.specs.Ordering.{is_eq};
+ghost use Rattle.icu_search.specs.LeastMatches.{shortest_from, span};
+ghost use Rattle.icu_search.specs.SearchPlaces.{is_place};
+ghost use Rattle.icu_searcher.specs.PlaceReaders.{CanPass, HasPassed, chars_left, places_reading};
+ghost use Rattle.icu_text_order.specs.TextOrder.{reading_by, text_order};
+
+use crate::part_outcome::PartOutcome;
+use crate::searched_text::SearchedText;
+use icu_elements::CollationElement;
+use icu_searcher::PlaceReader;
+use std::alloc::AllocError;
+
+impl<'s, 'c, 't> SearchedText<'s, 'c, 't> {
+    ghost use Rattle.icu_text_search.specs.SearchedTexts.{char_len_in, matches_in, searched_in, text_searched};
+    ghost use Rattle.icu_text_search.specs.inner.PartOutcomes.{TellsOfPart};
+
+    /// Whether the part between two offsets is equal to the pattern.
+    fn part_equals(&self, start: usize, stop: usize) -> bool
+        requires ordered { start ≤ stop }
+        requires within { stop ≤ char_len_in self.now }
+        ensures { let s = searched_in self.now in result ≡ is_eq (text_order s.collation
+            (slice_range (text_searched self.now) start stop) s.pattern) }
+    {
+        self.searcher.equals(self.text.part(start, stop))
+    }
+
+    /// What is told of the part between two offsets, whose elements are these if a place is at its end.
+    fn outcome(
+        &self,
+        here: bool,
+        start: usize,
+        stop: usize,
+        elements: &[CollationElement],
+    ) -> PartOutcome
+        requires ordered { start ≤ stop }
+        requires within { stop ≤ char_len_in self.now }
+        ensures { TellsOfPart (searched_in self.now)
+            (slice_range (text_searched self.now) start stop) here elements.now result }
+    {
+        if !here {
+            return PartOutcome::GoesOn;
+        }
+        if self.searcher.is_too_short(elements) {
+            return PartOutcome::GoesOn;
+        }
+        if self.part_equals(start, stop) {
+            return PartOutcome::Matches;
+        }
+        if self.searcher.is_too_long(elements) {
+            return PartOutcome::TooLong;
+        }
+        PartOutcome::GoesOn
+    }
+
+    /// Where the first match behind an offset ends that begins there, where the empty part doesn't match. A place is
+    /// there, and the reader stands before what follows it.
+    fn walk<I: Iterator<Item = char> + Drop>(
+        &self,
+        start: usize,
+        mut places: PlaceReader<'_, '_, I>,
+    ) -> Result<Option<usize>, AllocError>
+        requires can { CanPass I.can_next I.remaining places }
+        requires within { start ≤ char_len_in self.now }
+        requires left { chars_left places ≡ drop start (text_searched self.now) }
+        requires reading { places_reading places ≡ reading_by (searched_in self.now).collation }
+        ensures { let s = searched_in self.now in let text = text_searched self.now in
+            HasPassed I.next_gives places.entry []
+            → is_place (reading_by s.collation) text start ≡ true
+            → matches_in self.now start start ≡ false
+            → IfOk result (λ stop. option_map (span start) stop
+            ≡ shortest_from (matches_in self.now) start start (char_len_in self.now - start)) }
+    {
+        let mut stop = start;
+        'places: while let Some(here) = places.next()? {
+            stop += 1;
+            match self.outcome(here, start, stop, places.elements()) {
+                PartOutcome::Matches => return Ok(Some(stop)),
+                PartOutcome::TooLong => return Ok(None),
+                PartOutcome::GoesOn => {}
+            }
+        }
+        Ok(None)
+    }
+
+    /// Where the first match behind an offset ends that begins there, where the empty part doesn't match: a walk along
+    /// the characters from there on. A place is there.
+    fn walk_along(&self, start: usize, rest: &[char]) -> Result<Option<usize>, AllocError>
+        requires within { start ≤ char_len_in self.now }
+        requires rest { rest.now ≡ drop start (text_searched self.now) }
+        ensures { let s = searched_in self.now in
+            is_place (reading_by s.collation) (text_searched self.now) start ≡ true
+            → matches_in self.now start start ≡ false
+            → IfOk result (λ stop. option_map (span start) stop
+            ≡ shortest_from (matches_in self.now) start start (char_len_in self.now - start)) }
+    {
+        let places = PlaceReader::new(rest, rest.iter().copied(), self.searcher.reading());
+        self.walk(start, places)
+    }
+
+    /// Where the match ends that begins at an offset and ends first, or `None` where no match begins there.
+    pub(crate) fn shortest_stop(&self, start: usize) -> Result<Option<usize>, AllocError>
+        requires { start ≤ char_len_in self.now }
+        ensures { IfOk result (λ stop. option_map (span start) stop
+            ≡ shortest_from (matches_in self.now) start start (char_len_in self.now - start)) }
+    {
+        if !self.starts[start] {
+            return Ok(None);
+        }
+        if self.part_equals(start, start) {
+            return Ok(Some(start));
+        }
+        self.walk_along(start, &self.text.characters()[start..])
+    }
+}
