@@ -31,6 +31,8 @@ KEY, CHECK, FILE, READ, LINE = "`key`", "`check`", "`root`", "`next` and `whole`
 # the tests of their own crates alone, without a refusal.
 PROGRAM, TYPES, TESTS = "the program `collate-cldr`", "`test_types`", "the crate's own tests, where no allocation is refused"
 RULES = "`test_rule_steps`, where no allocation is refused"
+NAMES = "the program `sort_names`, each of whose requests is refused"
+SEARCHES = "the tests of `icu_text_search`, where no allocation is refused"
 # Calls that nothing makes: those on which no program stands yet (searching, the reader of steps), and one that hands tables
 # which come one by one to `from_set`.
 NOTHING = "nothing"
@@ -54,13 +56,22 @@ LEFT_OUT = {
     ("icu_rules", "Rules::resolve"): TESTS,
     ("icu_small_tables", "checked_small_tables"): TYPES,
     ("icu_search", "FoundSpans::next"): NOTHING,
-    ("icu_search", "first_least"): NOTHING,
-    ("icu_searcher", "PlaceReader::next"): NOTHING,
+    ("icu_search", "first_least"): SEARCHES,
+    ("icu_searcher", "PlaceReader::next"): SEARCHES,
     ("icu_searcher", "place_marks"): NOTHING,
+    ("icu_sort", "stable_order"): NAMES,
     ("icu_symbolic_mappings", "Mappings::mapping_step"): RULES,
     ("icu_symbolic_mappings", "Mappings::suppression_step"): RULES,
     ("icu_symbolic_mappings", "Mappings::symbolic_elements"): RULES,
     ("icu_symbolic_mappings", "cased_elements"): RULES,
+    ("icu_text_search", "FoundMatches::next"): TESTS,
+    ("icu_text_search", "SearchedText::find"): TESTS,
+    ("icu_text_search", "SearchedText::prefix_match"): TESTS,
+    ("icu_text_search", "Searcher::find"): TESTS,
+    ("icu_text_search", "Searcher::is_match"): TESTS,
+    ("icu_text_search", "Searcher::new"): TESTS,
+    ("icu_text_search", "Searcher::prefix_match"): TESTS,
+    ("icu_text_search", "Searcher::read"): TESTS,
     ("icu_weight_gaps", "weights_between"): TESTS,
     ("icu_weight_numbers", "number_level"): TESTS,
     ("icu_weight_numbers", "number_primaries"): TESTS,
