@@ -3,225 +3,101 @@ use crate::LetterRoot;
 use icu_rule_steps::SymbolicTailoring;
 use icu_rules::Rules;
 use icu_tailoring::SymbolicWeight::{self, Rooted, Tailored};
+use std::alloc::{AllocError, Global};
+use std::fmt::Write;
 use std::test::Fail;
 
-/// Rules, weights of the levels before, and the weights below them, ascending.
-const ORDERS: [(&str, &[SymbolicWeight], &[SymbolicWeight]); 28] = [
-    ("&a<b", &[], &[Rooted(0x61), Tailored(0)]),
-    ("&a<b", &[Rooted(0x61)], &[Rooted(0x500)]),
-    ("&a<x&a<y", &[], &[Rooted(0x61), Tailored(1), Tailored(0)]),
-    (
-        "&a<x<y&x<z",
-        &[],
-        &[Rooted(0x61), Tailored(0), Tailored(2), Tailored(1)],
-    ),
-    (
-        "&b<x&a<y",
-        &[],
-        &[Rooted(0x61), Tailored(1), Rooted(0x62), Tailored(0)],
-    ),
-    ("&a<<b<<<c", &[Rooted(0x61)], &[Rooted(0x500), Tailored(0)]),
-    (
-        "&a<<b<<<c",
-        &[Rooted(0x61), Tailored(0)],
-        &[Rooted(0x500), Tailored(1)],
-    ),
-    (
-        "&a<<<<b",
-        &[Rooted(0x61), Rooted(0x500), Rooted(0x500)],
-        &[Rooted(0), Tailored(0)],
-    ),
-    (
-        "&A<<<b",
-        &[Rooted(0x61), Rooted(0x500)],
-        &[Rooted(0x500), Rooted(0x1C00), Tailored(0)],
-    ),
-    ("&a=b", &[], &[]),
-    (
-        "&[before 1]b<x",
-        &[],
-        &[Rooted(0x61), Tailored(0), Rooted(0x62)],
-    ),
-    (
-        "&[before 2]a<<b",
-        &[Rooted(0x61)],
-        &[Rooted(0x100), Tailored(0), Rooted(0x500)],
-    ),
-    (
-        "&[before 3]A<<<b",
-        &[Rooted(0x61), Rooted(0x500)],
-        &[Rooted(0x500), Tailored(0), Rooted(0x1C00)],
-    ),
-    (
-        "&a<x&[before 1]x<y",
-        &[],
-        &[Rooted(0x61), Tailored(1), Tailored(0)],
-    ),
-    (
-        "&[before 2]\\u0301<<x",
-        &[Rooted(0)],
-        &[Rooted(0), Rooted(0x8300), Tailored(0), Rooted(0x8301)],
-    ),
-    (
-        "&[last regular]<x<y",
-        &[],
-        &[Rooted(0x4DFF), Tailored(0), Tailored(1)],
-    ),
-    (
-        "&[last regular]<x&[last regular]<y",
-        &[],
-        &[Rooted(0x4DFF), Tailored(0), Tailored(1)],
-    ),
-    ("&[first regular]<x", &[], &[Rooted(0x31), Tailored(0)]),
-    ("&[last variable]<x", &[], &[Rooted(0x2D), Tailored(0)]),
-    ("&[first variable]<x", &[], &[Rooted(0x2D), Tailored(0)]),
-    (
-        "&[before 1][first variable]<x",
-        &[],
-        &[Rooted(0x2C), Tailored(0), Rooted(0x2D)],
-    ),
-    ("&[first implicit]<x", &[], &[Rooted(0x4E00), Tailored(0)]),
-    (
-        "&[last primary ignorable]<<x",
-        &[Rooted(0)],
-        &[Rooted(0), Rooted(0x8301), Tailored(0)],
-    ),
-    (
-        "&[first primary ignorable]<<x",
-        &[Rooted(0)],
-        &[Rooted(0), Rooted(0x8300), Tailored(0)],
-    ),
-    (
-        "&[last secondary ignorable]<<<x",
-        &[Rooted(0), Rooted(0)],
-        &[Rooted(0), Rooted(0x3D00), Tailored(0)],
-    ),
-    (
-        "&[last tertiary ignorable]<<<x",
-        &[Rooted(0), Rooted(0)],
-        &[Rooted(0), Tailored(0)],
-    ),
-    (
-        "&a<*x-z",
-        &[],
-        &[Rooted(0x61), Tailored(0), Tailored(1), Tailored(2)],
-    ),
-    (
-        "&a<*\\uD7FF-\\uE001",
-        &[],
-        &[Rooted(0x61), Tailored(0), Tailored(1), Tailored(2)],
-    ),
+/// Rules, weights of the levels before, and the weights below them, ascending: those of the root in hexadecimal, tailored
+/// ones by their number behind "t".
+const ORDERS: [(&str, &str, &str); 28] = [
+    ("&a<b", "", "61 t0"),
+    ("&a<b", "61", "500"),
+    ("&a<x&a<y", "", "61 t1 t0"),
+    ("&a<x<y&x<z", "", "61 t0 t2 t1"),
+    ("&b<x&a<y", "", "61 t1 62 t0"),
+    ("&a<<b<<<c", "61", "500 t0"),
+    ("&a<<b<<<c", "61 t0", "500 t1"),
+    ("&a<<<<b", "61 500 500", "0 t0"),
+    ("&A<<<b", "61 500", "500 1C00 t0"),
+    ("&a=b", "", ""),
+    ("&[before 1]b<x", "", "61 t0 62"),
+    ("&[before 2]a<<b", "61", "100 t0 500"),
+    ("&[before 3]A<<<b", "61 500", "500 t0 1C00"),
+    ("&a<x&[before 1]x<y", "", "61 t1 t0"),
+    ("&[before 2]\\u0301<<x", "0", "0 8300 t0 8301"),
+    ("&[last regular]<x<y", "", "4DFF t0 t1"),
+    ("&[last regular]<x&[last regular]<y", "", "4DFF t0 t1"),
+    ("&[first regular]<x", "", "31 t0"),
+    ("&[last variable]<x", "", "2D t0"),
+    ("&[first variable]<x", "", "2D t0"),
+    ("&[before 1][first variable]<x", "", "2C t0 2D"),
+    ("&[first implicit]<x", "", "4E00 t0"),
+    ("&[last primary ignorable]<<x", "0", "0 8301 t0"),
+    ("&[first primary ignorable]<<x", "0", "0 8300 t0"),
+    ("&[last secondary ignorable]<<<x", "0 0", "0 3D00 t0"),
+    ("&[last tertiary ignorable]<<<x", "0 0", "0 t0"),
+    ("&a<*x-z", "", "61 t0 t1 t2"),
+    ("&a<*\\uD7FF-\\uE001", "", "61 t0 t1 t2"),
 ];
 
-/// Rules, a decomposed text, and the first weights of its elements that aren't common ones below a weight of the root.
-const ELEMENTS: [(&str, &[char], &[[SymbolicWeight; 4]]); 17] = [
-    (
-        "&a<b",
-        &['b'],
-        &[[Tailored(0), Rooted(0x500), Rooted(0x500), Rooted(0)]],
-    ),
-    (
-        "&a<b",
-        &['a'],
-        &[[Rooted(0x61), Rooted(0x500), Rooted(0x500), Rooted(0)]],
-    ),
-    (
-        "&a<<b<<<c",
-        &['b'],
-        &[[Rooted(0x61), Tailored(0), Rooted(0x500), Rooted(0)]],
-    ),
-    (
-        "&a<<b<<<c",
-        &['c'],
-        &[[Rooted(0x61), Tailored(0), Tailored(1), Rooted(0)]],
-    ),
-    (
-        "&a=b",
-        &['b'],
-        &[[Rooted(0x61), Rooted(0x500), Rooted(0x500), Rooted(0)]],
-    ),
-    (
-        "&a<b&b=c",
-        &['c'],
-        &[[Tailored(0), Rooted(0x500), Rooted(0x500), Rooted(0)]],
-    ),
-    (
-        "&c<ch",
-        &['c', 'h'],
-        &[[Tailored(0), Rooted(0x500), Rooted(0x500), Rooted(0)]],
-    ),
-    (
-        "&c<ch",
-        &['c', 'x'],
-        &[
-            [Rooted(0x63), Rooted(0x500), Rooted(0x500), Rooted(0)],
-            [Rooted(0x78), Rooted(0x500), Rooted(0x500), Rooted(0)],
-        ],
-    ),
-    (
-        "&b<a|c",
-        &['a', 'c'],
-        &[
-            [Rooted(0x61), Rooted(0x500), Rooted(0x500), Rooted(0)],
-            [Tailored(0), Rooted(0x500), Rooted(0x500), Rooted(0)],
-        ],
-    ),
-    (
-        "&b<a|c",
-        &['b', 'c'],
-        &[
-            [Rooted(0x62), Rooted(0x500), Rooted(0x500), Rooted(0)],
-            [Rooted(0x63), Rooted(0x500), Rooted(0x500), Rooted(0)],
-        ],
-    ),
-    (
-        "&ae<<x",
-        &['x'],
-        &[
-            [Rooted(0x61), Rooted(0x500), Rooted(0x500), Rooted(0)],
-            [Rooted(0x65), Tailored(0), Rooted(0x500), Rooted(0)],
-        ],
-    ),
-    (
-        "&a<x/y&a<y",
-        &['x'],
-        &[
-            [Tailored(0), Rooted(0x500), Rooted(0x500), Rooted(0)],
-            [Rooted(0x79), Rooted(0x500), Rooted(0x500), Rooted(0)],
-        ],
-    ),
-    (
-        "&a<y&a<x/y",
-        &['x'],
-        &[
-            [Tailored(1), Rooted(0x500), Rooted(0x500), Rooted(0)],
-            [Tailored(0), Rooted(0x500), Rooted(0x500), Rooted(0)],
-        ],
-    ),
-    (
-        "&z<a\u{300}",
-        &['a', '\u{300}'],
-        &[[Tailored(0), Rooted(0x500), Rooted(0x500), Rooted(0)]],
-    ),
-    (
-        "&a<b",
-        &['\u{438}', '\u{306}'],
-        &[[Rooted(0x439), Rooted(0x500), Rooted(0x500), Rooted(0)]],
-    ),
+/// Rules, a decomposed text, and the four weights of each of its elements.
+const ELEMENTS: [(&str, &str, &str); 17] = [
+    ("&a<b", "b", "t0 500 500 0"),
+    ("&a<b", "a", "61 500 500 0"),
+    ("&a<<b<<<c", "b", "61 t0 500 0"),
+    ("&a<<b<<<c", "c", "61 t0 t1 0"),
+    ("&a=b", "b", "61 500 500 0"),
+    ("&a<b&b=c", "c", "t0 500 500 0"),
+    ("&c<ch", "ch", "t0 500 500 0"),
+    ("&c<ch", "cx", "63 500 500 0; 78 500 500 0"),
+    ("&b<a|c", "ac", "61 500 500 0; t0 500 500 0"),
+    ("&b<a|c", "bc", "62 500 500 0; 63 500 500 0"),
+    ("&ae<<x", "x", "61 500 500 0; 65 t0 500 0"),
+    ("&a<x/y&a<y", "x", "t0 500 500 0; 79 500 500 0"),
+    ("&a<y&a<x/y", "x", "t1 500 500 0; t0 500 500 0"),
+    ("&z<a\u{300}", "a\u{300}", "t0 500 500 0"),
+    ("&a<b", "\u{438}\u{306}", "439 500 500 0"),
     (
         "[suppressContractions [\u{438}]]",
-        &['\u{438}', '\u{306}'],
-        &[
-            [Rooted(0x438), Rooted(0x500), Rooted(0x500), Rooted(0)],
-            [Rooted(0), Rooted(0), Rooted(0), Rooted(0)],
-        ],
+        "\u{438}\u{306}",
+        "438 500 500 0; 0 0 0 0",
     ),
-    (
-        "&b<*wx-z",
-        &['z'],
-        &[[Tailored(3), Rooted(0x500), Rooted(0x500), Rooted(0)]],
-    ),
+    ("&b<*wx-z", "z", "t3 500 500 0"),
 ];
+
+/// Weights as rows have them.
+fn written(alloc: Global, weights: &[SymbolicWeight]) -> Result<String, Fail> {
+    let mut text = String::new(alloc);
+    for (at, weight) in weights.iter().enumerate() {
+        if at > 0 {
+            text.push(' ')?;
+        }
+        match weight {
+            Rooted(number) => write!(text, "{number:X}")?,
+            Tailored(number) => write!(text, "t{number}")?,
+        }
+    }
+    Ok(text)
+}
+
+/// The weight that a word of a row has.
+fn weight_of(word: &str) -> Option<SymbolicWeight> {
+    match word.strip_prefix('t') {
+        Some(number) => number.parse().ok().map(Tailored),
+        None => u32::from_str_radix(word, 16).ok().map(Rooted),
+    }
+}
+
+/// The weights that a row has.
+fn weights_of(alloc: Global, text: &str) -> Result<Vec<SymbolicWeight>, AllocError> {
+    let mut weights = Vec::new(alloc);
+    for word in text.split_whitespace() {
+        if let Some(weight) = weight_of(word) {
+            weights.push(weight)?;
+        }
+    }
+    Ok(weights)
+}
 
 #[test]
 fn orders_of_weights(rt: HostRuntime) -> Result<(), Fail> {
@@ -229,10 +105,10 @@ fn orders_of_weights(rt: HostRuntime) -> Result<(), Fail> {
     for (text, above, wanted) in ORDERS {
         let rules = Rules::parse(rt.alloc(), text)?;
         let said = SymbolicTailoring::of_rules(rt.alloc(), &root, &rules)?;
-        if above.len() <= 3 {
-            let found = said.tree().siblings(above);
-            assert!(rt; found == wanted, "{text}: {found:?}");
-        }
+        let above = weights_of(rt.alloc(), above)?;
+        assert!(rt; above.len() <= 3, "{text}");
+        let found = written(rt.alloc(), said.tree().siblings(above.as_slice()))?;
+        assert_eq!(rt; found.as_str(), wanted, "{text}");
     }
     Ok(())
 }
@@ -243,12 +119,16 @@ fn elements_of_texts(rt: HostRuntime) -> Result<(), Fail> {
     for (text, string, wanted) in ELEMENTS {
         let rules = Rules::parse(rt.alloc(), text)?;
         let said = SymbolicTailoring::of_rules(rt.alloc(), &root, &rules)?;
-        let string = Vec::from_slice(rt.alloc(), string)?;
-        let found = said.mappings().symbolic_elements(rt.alloc(), string)?;
-        assert_eq!(rt; found.len(), wanted.len(), "{text}");
-        for (element, weights) in found.iter().zip(wanted) {
-            assert!(rt; element.weights == *weights, "{text}: {element:?}");
+        let string = string.chars().collect(rt.alloc())?;
+        let elements = said.mappings().symbolic_elements(rt.alloc(), string)?;
+        let mut found = String::new(rt.alloc());
+        for element in elements.iter() {
+            if !found.is_empty() {
+                found.push_str("; ")?;
+            }
+            found.push_str(written(rt.alloc(), &element.weights)?.as_str())?;
         }
+        assert_eq!(rt; found.as_str(), wanted, "{text}");
     }
     Ok(())
 }
