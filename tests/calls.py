@@ -25,12 +25,13 @@ METHOD = re.compile(r"(?:<[^(]*>)?\(\s*(?:&(?:'\w+ )?)?(?:mut )?self\b")
 # How the driver comes to a value of a type that it doesn't name.
 VALUES = {"CollatorBorrowed": "as_borrowed"}
 # Programs, and crates of tests: what the driver asks about are libraries.
-OTHERS = {"collate", "collate_cldr", "collate_commands", "sort_names", "test_contracts", DRIVER, "test_rule_steps", "test_types"}
+OTHERS = {"collate", "collate_cldr", "collate_commands", "sort_names", "test_contracts", DRIVER, "test_readers", "test_rule_steps",
+          "test_types"}
 KEY, CHECK, FILE, READ, LINE = "`key`", "`check`", "`root`", "`next` and `whole`", "`line`"
 # Calls to which no question comes: each request of this program, or of this crate, is refused or tested by itself; some are run by
 # the tests of their own crates alone, without a refusal.
 PROGRAM, TYPES, TESTS = "the program `collate-cldr`", "`test_types`", "the crate's own tests, where no allocation is refused"
-RULES = "`test_rule_steps`, where no allocation is refused"
+READERS, RULES = "`test_readers`, where no allocation is refused", "`test_rule_steps`, where no allocation is refused"
 NAMES = "the program `sort_names`, each of whose requests is refused"
 SEARCHES = "the tests of `icu_text_search`, where no allocation is refused"
 # Calls that nothing makes: those on which no program stands yet (searching, the reader of steps), and one that hands tables
@@ -46,14 +47,14 @@ LEFT_OUT = {
     ("icu_collator", "Collator::from_checked_tables"): TYPES,
     ("icu_collator", "Collator::try_from_tables"): PROGRAM,
     ("icu_collator", "Collator::with_options"): TYPES,
-    ("icu_ldml", "CollationFile::parse"): TESTS,
-    ("icu_locale", "LanguageTag::collation_type"): TESTS,
-    ("icu_locale", "LanguageTag::locale"): TESTS,
-    ("icu_locale", "LanguageTag::parse"): TESTS,
-    ("icu_locale", "LanguageTag::written"): TESTS,
+    ("icu_ldml", "CollationFile::parse"): READERS,
+    ("icu_locale", "LanguageTag::collation_type"): READERS,
+    ("icu_locale", "LanguageTag::locale"): READERS,
+    ("icu_locale", "LanguageTag::parse"): READERS,
+    ("icu_locale", "LanguageTag::written"): READERS,
     ("icu_rule_steps", "SymbolicTailoring::of_rules"): RULES,
-    ("icu_rules", "Rules::parse"): TESTS,
-    ("icu_rules", "Rules::resolve"): TESTS,
+    ("icu_rules", "Rules::parse"): READERS,
+    ("icu_rules", "Rules::resolve"): READERS,
     ("icu_small_tables", "checked_small_tables"): TYPES,
     ("icu_search", "FoundSpans::next"): NOTHING,
     ("icu_search", "first_least"): SEARCHES,
@@ -72,12 +73,12 @@ LEFT_OUT = {
     ("icu_text_search", "Searcher::new"): TESTS,
     ("icu_text_search", "Searcher::prefix_match"): TESTS,
     ("icu_text_search", "Searcher::read"): TESTS,
-    ("icu_weight_gaps", "weights_between"): TESTS,
-    ("icu_weight_numbers", "number_level"): TESTS,
-    ("icu_weight_numbers", "number_primaries"): TESTS,
-    ("icu_weight_numbers", "number_runs"): TESTS,
-    ("icu_weight_numbers", "primary_gaps_of_runs"): TESTS,
-    ("icu_weight_numbers", "sibling_runs"): TESTS,
+    ("icu_weight_gaps", "weights_between"): RULES,
+    ("icu_weight_numbers", "number_level"): RULES,
+    ("icu_weight_numbers", "number_primaries"): RULES,
+    ("icu_weight_numbers", "number_runs"): RULES,
+    ("icu_weight_numbers", "primary_gaps_of_runs"): RULES,
+    ("icu_weight_numbers", "sibling_runs"): RULES,
     ("icu_weight_tree", "RuleElements::differ_at"): RULES,
     ("icu_weight_tree", "RuleElements::differ_by"): RULES,
     ("icu_weight_tree", "RuleElements::go_before_at"): RULES,
@@ -85,7 +86,7 @@ LEFT_OUT = {
     ("icu_weight_tree", "WeightTreeBuilder::put_before"): RULES,
     ("icu_weight_tree", "WeightTreeBuilder::put_new_weight"): RULES,
     ("icu_weight_tree", "WeightTreeBuilder::put_weights"): RULES,
-    ("icu_xml", "read_document"): TESTS,
+    ("icu_xml", "read_document"): READERS,
     ("icu_weights", "first_overlap"): CHECK,
     ("icu_weights", "first_common_overlap"): CHECK,
     ("icu_elements", "ElementReader::next"): "`cursor`",

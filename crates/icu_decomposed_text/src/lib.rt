@@ -15,8 +15,6 @@ mod ordered_parts;
 mod run_text;
 mod slot_tree;
 mod taking;
-#[cfg(test)]
-mod tests;
 pub mod text_for_matches;
 
 pub use counted_text::CountedText;

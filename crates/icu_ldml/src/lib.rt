@@ -20,8 +20,3 @@ pub use collation_types::{collation_or_stand_in, type_named};
 pub use ldml_error::{LdmlError, LdmlReason};
 pub use locale_files::{FoundCollation, LocaleFile, collation_of, default_type_of};
 pub use locale_parents::parent_of;
-
-#[cfg(test)]
-mod locale_tests;
-#[cfg(test)]
-mod tests;

@@ -16,6 +16,3 @@ pub use language_tag::LanguageTag;
 pub use subtag::{Subtag, SubtagKind};
 pub use tag_error::{TagError, TagErrorKind};
 pub use tag_settings::{TagSettings, UnknownType};
-
-#[cfg(test)]
-mod tests;

@@ -8,15 +8,11 @@ mod brackets;
 mod chain;
 mod escapes;
 mod first;
-#[cfg(test)]
-mod import_rows;
 pub mod imports;
 pub mod laws;
 mod parsing;
 mod relations;
 mod resets;
-#[cfg(test)]
-mod rule_rows;
 pub mod rules;
 pub mod rules_error;
 mod starred;

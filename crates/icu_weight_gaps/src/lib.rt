@@ -3,8 +3,6 @@
 
 pub mod byte_range;
 pub mod gap;
-#[cfg(test)]
-mod gap_rows;
 mod last_begun;
 mod least_above;
 

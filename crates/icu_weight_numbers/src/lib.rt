@@ -8,13 +8,9 @@ mod lead_room;
 mod lead_use;
 pub mod level_gap;
 pub mod level_numbers;
-#[cfg(test)]
-mod number_rows;
 pub mod primary_gaps;
 pub mod primary_runs;
 pub mod run_gaps;
-#[cfg(test)]
-mod run_rows;
 pub mod sibling_run;
 
 pub use gap_level::GapLevel;

@@ -16,6 +16,3 @@ pub mod xml_error;
 pub use document::read_document;
 pub use event::{Attribute, Event, StartTag};
 pub use xml_error::{Reason, XmlError};
-
-#[cfg(test)]
-mod tests;

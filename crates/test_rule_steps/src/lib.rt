@@ -1,9 +1,15 @@
-//! Rules over a small root: rows of what they say, and of those that are refused.
+//! Rows of what rules say over a small root, of those that are refused, and of the weights that have room in gaps.
 #![tactic(auto)]
 
+#[cfg(test)]
+mod gap_rows;
 mod letter_root;
 #[cfg(test)]
+mod number_rows;
+#[cfg(test)]
 mod refused_rule_rows;
+#[cfg(test)]
+mod run_rows;
 #[cfg(test)]
 mod tailoring_rows;
 

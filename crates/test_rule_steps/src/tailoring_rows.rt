@@ -7,8 +7,8 @@ use std::alloc::{AllocError, Global};
 use std::fmt::Write;
 use std::test::Fail;
 
-/// Rules, weights of the levels before, and the weights below them, ascending: those of the root in hexadecimal, tailored
-/// ones by their number behind "t".
+/// Rules, weights of the levels before, and the weights below them, ascending: those of the root in hexadecimal, and
+/// tailored ones by their number behind "t".
 const ORDERS: [(&str, &str, &str); 28] = [
     ("&a<b", "", "61 t0"),
     ("&a<b", "61", "500"),

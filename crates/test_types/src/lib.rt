@@ -9,6 +9,8 @@ mod entries;
 #[cfg(test)]
 mod errors;
 #[cfg(test)]
+mod long_runs;
+#[cfg(test)]
 mod names;
 #[cfg(test)]
 mod other_settings;

@@ -1,6 +1,6 @@
 //! Small files, read and refused.
 
-use crate::{CollationFile, LdmlError, LdmlReason};
+use icu_ldml::{CollationFile, LdmlError, LdmlReason};
 use std::alloc::{AllocError, Global};
 use std::test::Fail;
 

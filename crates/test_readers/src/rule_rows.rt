@@ -1,5 +1,5 @@
 //! Rules that are refused, each with the place and the reason, and rules that are read.
-use crate::{Rules, RulesError, RulesErrorKind};
+use icu_rules::{Rules, RulesError, RulesErrorKind};
 use std::test::Fail;
 
 /// Rules that are refused, each with the place and the reason.

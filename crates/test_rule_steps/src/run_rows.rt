@@ -1,9 +1,9 @@
 //! Numbers of siblings, as a reader of CLDR's rules in Python that was written apart gives them.
-use crate::{
-    GapLevel, GapNumbers, number_primaries, number_runs, primary_gaps_of_runs, sibling_runs,
-};
 use icu_provider::CollationSpecialPrimaries;
 use icu_tailoring::SymbolicWeight;
+use icu_weight_numbers::{
+    GapLevel, GapNumbers, number_primaries, number_runs, primary_gaps_of_runs, sibling_runs,
+};
 use std::test::Fail;
 
 /// A weight of the root with two tailored ones, and another with one.

@@ -1,5 +1,5 @@
 //! Rules that import others: where the statements stand, and what is refused.
-use crate::{RuleSource, Rules, RulesError, RulesErrorKind};
+use icu_rules::{RuleSource, Rules, RulesError, RulesErrorKind};
 use std::alloc::{AllocError, Global};
 use std::test::Fail;
 

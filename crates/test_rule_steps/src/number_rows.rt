@@ -1,6 +1,8 @@
 //! Weights for all gaps of a level, as a reader of CLDR's rules in Python that was written apart gives them.
-use crate::{GapLevel, GapNumbers, LevelGap, PrimaryGap, number_level, number_primaries};
 use icu_weight_gaps::{ByteRange, WeightForm, WeightGap};
+use icu_weight_numbers::{
+    GapLevel, GapNumbers, LevelGap, PrimaryGap, number_level, number_primaries,
+};
 use std::alloc::{AllocError, Global};
 use std::test::Fail;
 

@@ -1,6 +1,6 @@
 //! Tags, read and refused.
 
-use crate::{LanguageTag, SubtagKind, TagError, TagErrorKind, UnknownType};
+use icu_locale::{LanguageTag, SubtagKind, TagError, TagErrorKind, UnknownType};
 use icu_options::{
     AlternateHandling, CaseLevel, CollationCaseFirst, CollationNumericOrdering, MaxVariable,
     Strength,

@@ -1,6 +1,6 @@
 //! Long runs, and a text in each encoding, read to their ends.
 
-use crate::DecomposedText;
+use icu_decomposed_text::DecomposedText;
 use icu_encodings::{EncodedText, Latin1Text, Utf8Text, Utf16Text};
 use std::alloc::{AllocError, Global};
 use std::test::Fail;

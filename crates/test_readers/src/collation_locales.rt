@@ -1,6 +1,6 @@
 //! In which files the rules of locales are found.
 
-use crate::{
+use icu_ldml::{
     CollationFile, LocaleFile, collation_of, collation_or_stand_in, default_type_of, parent_of,
     type_named,
 };

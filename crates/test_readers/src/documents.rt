@@ -1,6 +1,6 @@
 //! Small documents, read and refused.
 
-use crate::{Event, Reason, XmlError, read_document};
+use icu_xml::{Event, Reason, XmlError, read_document};
 use std::alloc::{AllocError, Global};
 use std::test::Fail;
 

@@ -1,5 +1,5 @@
 //! Weights in gaps, as a reader of CLDR's rules in Python that was written apart gives them.
-use crate::{ByteRange, WeightForm, WeightGap, weights_between};
+use icu_weight_gaps::{ByteRange, WeightForm, WeightGap, weights_between};
 use std::test::Fail;
 
 /// Primary weights, by whether their lead bytes are compressible.
