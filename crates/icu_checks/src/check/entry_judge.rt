@@ -233,8 +233,8 @@ fn has_ends_apart(tables: TableSet<'_>, high: u16) -> bool
     is_taken_apart(tables, first) && is_taken_apart(tables, first + 0xFFFF)
 }
 
-/// Whether reordering takes the first and the last weight apart that have the two highest bytes of the implicit weight of
-/// a character.
+/// Whether reordering takes the first and the last weight apart that have the two highest bytes of the implicit weight
+/// of a character.
 fn implicit_ends_apart(tables: TableSet<'_>, c: char) -> bool
     ensures { result ≡ true
         → HasEndsApart (tables_in tables.entry) (implicit_weight c / 65536) }
