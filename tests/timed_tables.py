@@ -55,7 +55,7 @@ class Builder:
 
 # ---- hostile tables
 
-LISTED, MAPPED = 0x1FC6, 0xC9
+LISTED, PREFIXED, MAPPED = 0x1FC6, 0xC8, 0xC9
 
 
 def unlike_primary(lead, number):
@@ -162,8 +162,19 @@ def of_implicit_rows(size):
     return with_rows([0xCF], 500 * size)
 
 
+def of_prefixes(size):
+    """A root in which a prefix has 750 mappings a size, each to one contraction of as many."""
+    builder = Builder(0xCF)
+    index = add_mapped(builder, 0x30, 750 * size)
+    mappings = [([0x20000 + number], context_entry(index, 0)) for number in range(750 * size)]
+    prefix = builder.add_context(unlike_entry(0x31, 1), mappings)
+    builder.set_entry(0x4000, prefix << 13 | PREFIXED)
+    return builder
+
+
 # What makes a root by its size, by name.
 GROWING = {"spellings": of_spellings, "far-contexts": of_far_contexts, "implicit-rows": of_implicit_rows}
+GROWING |= {"prefixes": of_prefixes}
 GROWING |= {f"random-contexts-{seed}": functools.partial(of_random_contexts, seed) for seed in range(3)}
 SIZES = (1, 2, 4)
 

@@ -1,7 +1,7 @@
 -- Implicit weights: none of them is collected, and they meet every condition where reordering takes the first and the
 -- last weight for each second byte to lead bytes from 03 to FE that aren't that of numbers.
-use Rattle.std.proofs.Common.{◌≡◌, ◌≢◌, ℕ, ◌+◌, ◌*◌, ◌/◌, ◌%◌, ◌^◌, ◌<◌, ◌≤◌, Bool, true, false, not, ◌==◌, ◌&&◌, ◌||◌, nat_eq, nat_le, nat_lt, Option, Some, None, IsTrue, if◌then◌else◌, refl, sym, ap, subst, arith}
-use Rattle.std.proofs.lemmas.Bool.{and_parts}
+use Rattle.std.proofs.Common.{◌≡◌, ◌≢◌, ℕ, ◌+◌, ◌*◌, ◌/◌, ◌%◌, ◌^◌, ◌<◌, ◌≤◌, Bool, true, false, not, ◌==◌, ◌&&◌, ◌||◌, nat_eq, nat_le, nat_lt, Option, Some, None, IsTrue, if◌then◌else◌, inl, inr, refl, sym, ap, ◌∙◌, subst, arith}
+use Rattle.std.proofs.lemmas.Bool.{and_parts, cases_eq}
 use Rattle.std.proofs.lemmas.Bool.Decides.{nat_tests}
 use Rattle.icu_entries.specs.declared.error.DataTable.{DataTable}
 use Rattle.icu_entries.specs.Elements.{of_primary}
@@ -107,14 +107,17 @@ where_ends : (P : ℕ → Type 0) (r : Option Reordering) (h p : ℕ) → 256 �
 where_ends P None h p high at first last = let same : lead_byte (h * 65536) ≡ lead_byte p = omega arith in subst P same first
 where_ends P (Some r) h p high at first last = block_where_ends P r h p high at first last
 
+block_apart : (all : CollatorTables) (h p : ℕ) → 256 ≤ h → p / 65536 ≡ h → HasEndsApart all h → IsTrue (is_taken_apart all p)
+block_apart all h p high at ends =
+    where_ends (λ to. IsTrue (is_middle to && not (to == new_lead all all.special.numeric))) all.reordering h p high at ends.0 ends.1
+
 taken_apart : (all : CollatorTables) → ((s : ℕ) → s < 256 → HasEndsApart all (0xFE00 + s)) → (p : ℕ) → lead_byte p ≡ 0xFE → IsTrue (is_taken_apart all p)
 taken_apart all ends p lead =
     let s : ℕ = p / 65536 % 256 in
     let at : p / 65536 ≡ 0xFE00 + s = omega (arith, lead) in
-    let of_block : HasEndsApart all (0xFE00 + s) = ends s (omega arith) in
-    where_ends (λ to. IsTrue (is_middle to && not (to == new_lead all all.special.numeric))) all.reordering (0xFE00 + s) p (omega arith) at of_block.0 of_block.1
+    block_apart all (0xFE00 + s) p (omega arith) at (ends s (omega arith))
 
-module _ (all : CollatorTables) (apart : (p : ℕ) → lead_byte p ≡ 0xFE → IsTrue (is_taken_apart all p)) (below : all.special.numeric ≤ 0xFD) where
+module _ (all : CollatorTables) (below : all.special.numeric ≤ 0xFD) where
   or_second : (a b : Bool) → IsTrue b → IsTrue (a || b)
   or_second true b h = refl
   or_second false b h = h
@@ -134,9 +137,9 @@ module _ (all : CollatorTables) (apart : (p : ℕ) → lead_byte p ≡ 0xFE → 
   same : (a b : ℕ) → a ≡ b → nat_eq a b ≡ true
   same a b h = grind (arith, nat_tests)
 
-  module _ (p : ℕ) (is : AreBytes p) where
+  module _ (p : ℕ) (is : AreBytes p) (apart : IsTrue (is_taken_apart all p)) where
     taken : IsTrue (is_middle (lead_byte (reorder all p))) × IsTrue (not (lead_byte (reorder all p) == new_lead all all.special.numeric))
-    taken = and_parts (is_middle (lead_byte (reorder all p))) _ (apart p is.lead)
+    taken = and_parts (is_middle (lead_byte (reorder all p))) _ apart
 
     not_numeric : lead_byte p ≢ all.special.numeric
     not_numeric h = omega (arith, is.lead, h, below)
@@ -170,7 +173,7 @@ module _ (all : CollatorTables) (apart : (p : ℕ) → lead_byte p ≡ 0xFE → 
     unfolding first_failing_element
     none_fails = none_found (λ condition. not (reachable_element_meets condition all (of_primary p))) (λ condition. negated (reachable_element_meets condition all (of_primary p)) (element condition)) element_conditions
 
-  pub implicit_meets : (c : ℕ) → first_failing_element all (of_primary (implicit_weight c)) ≡ None
+  pub implicit_meets : (c : ℕ) → IsTrue (is_taken_apart all (implicit_weight c)) → first_failing_element all (of_primary (implicit_weight c)) ≡ None
   implicit_meets c = none_fails (implicit_weight c) (implicit_bytes c)
 
 read_or_not : (b : Bool) (o : Option Violation) → o ≡ None → (if b then o else None) ≡ None
@@ -185,4 +188,31 @@ implicit_no_violation all table home c e is none =
 
 -- both from the ends of each block
 pub implicit_pass : (all : CollatorTables) → ((s : ℕ) → s < 256 → HasEndsApart all (0xFE00 + s)) → all.special.numeric ≤ 0xFD → ImplicitPasses all
-implicit_pass all ends below = implicit_meets all (taken_apart all ends) below
+implicit_pass all ends below c = implicit_meets all below c (taken_apart all ends (implicit_weight c) (implicit_bytes c).lead)
+
+-- ---- characters in a row
+
+high_sum : (b2 b3 b4 : ℕ) → b2 < 256 → b3 < 256 → b4 < 256 → weight 0xFE b2 b3 b4 / 65536 ≡ 0xFE00 + b2
+high_sum b2 b3 b4 low2 low3 low4 = omega arith
+
+implicit_high : (c : ℕ) → implicit_weight c / 65536 ≡ 0xFE00 + (4 + (c + 1) / 4572 % 251)
+unfolding implicit_weight
+implicit_high c =
+    high_sum (4 + (c + 1) / 4572 % 251) (2 + (c + 1) / 18 % 254) (2 + 14 * ((c + 1) % 18)) (omega arith) (omega arith) (omega arith)
+
+same_high : (a c : ℕ) → (c + 1) / 4572 ≡ (a + 1) / 4572 → implicit_weight c / 65536 ≡ implicit_weight a / 65536
+same_high a c same = implicit_high c ∙ ap (λ n. 0xFE00 + (4 + n % 251)) same ∙ sym (implicit_high a)
+
+high_enough : (c : ℕ) → 256 ≤ implicit_weight c / 65536
+high_enough c = let at = implicit_high c in omega (arith, at)
+
+-- the two highest bytes of the weights of 64 characters are those of the first one's or of the last one's
+pub run_passes : (all : CollatorTables) (first last : ℕ) → last ≡ first + 63 → HasEndsApart all (implicit_weight first / 65536) → HasEndsApart all (implicit_weight last / 65536)
+    → all.special.numeric ≤ 0xFD → (c : ℕ) → first ≤ c → c < first + 64 → first_failing_element all (of_primary (implicit_weight c)) ≡ None
+run_passes all first last end low high below c from to =
+    elim (cases_eq ((c + 1) / 4572) ((first + 1) / 4572)) [
+      | inl same ↦ implicit_meets all below c (block_apart all (implicit_weight first / 65536) (implicit_weight c) (high_enough first) (same_high first c same) low)
+      | inr other ↦
+          let same : (c + 1) / 4572 ≡ (last + 1) / 4572 = omega (arith, other, end, from, to) in
+          implicit_meets all below c (block_apart all (implicit_weight last / 65536) (implicit_weight c) (high_enough last) (same_high last c same) high)
+    ]

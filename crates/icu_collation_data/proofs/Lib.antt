@@ -7,6 +7,7 @@ pub mod SameEntryLemmas
 pub mod WalkLemmas
 mod ReachLemmas
 mod SpentLemmas
+mod ClearLemmas
 mod CharacterWalkLemmas
 mod BlockWalkLemmas
 mod VisitedLemmas

@@ -1,15 +1,18 @@
 -- What is reachable from an entry by its kind, and from entries that refer to one context.
-use Rattle.std.proofs.Common.{◌≡◌, ℕ, Bool, true, false, List, [], ◌∷◌, ◌⊎◌, inl, inr, refl, sym, ap, ◌∙◌, subst, fold}
+use Rattle.std.proofs.Common.{◌≡◌, ℕ, Bool, true, false, List, [], ◌∷◌, ◌⊎◌, inl, inr, ◌++◌, refl, sym, ap, ◌∙◌, subst, fold, map}
 use Rattle.std.specs.Prelude.{◌||◌, ◌&&◌, ◌==◌, if◌then◌else◌, flat_map}
 use Rattle.std.specs.List.{Contains, list_any}
+use Rattle.std.proofs.lemmas.List.Elements.{Contains-append_cases, Contains-append_left, Contains-append_right}
 use Rattle.icu_entries.specs.declared.entry.EntryKind.{EntryKind}
 use Rattle.icu_entries.specs.declared.entry.EntryKind.TheVariants.{Prefix, Contraction, Digit, Offset, Implicit as ImplicitKind}
 use Rattle.icu_entries.specs.Entries.{kind_of, entry_index}
 use Rattle.icu_collation_data.specs.declared.character_walk.Part.{Part}
 use Rattle.icu_collation_data.specs.declared.character_walk.Part.TheVariants.{Counted, Implicit}
-use Rattle.icu_collation_data.specs.Data.{Data, context_in}
+use Rattle.icu_collation_data.specs.declared.context.ContextMapping.{ContextMapping}
+use Rattle.icu_collation_data.specs.Contexts.{mappings_of}
+use Rattle.icu_collation_data.specs.Data.{Mapping, Context, Data, homed, context_of, context_in}
 use Rattle.icu_collation_data.specs.Reachable.{goes_by_character, context_entries, named_entries, reachable_digit, reachable_contraction, reachable_from, reachable_at, names_context, SameContext, ReferAlike}
-use Rattle.icu_collation_data.specs.inner.BlockWalks.{is_wanted, leads_to, is_prefix, leads_further, IsReachedAlike}
+use Rattle.icu_collation_data.specs.inner.BlockWalks.{is_wanted, leads_to, is_prefix, leads_further, contraction_entries, IsReachedAlike}
 use Rattle.icu_collation_data.proofs.ListLemmas.{nothing_in, in_first, at_first, at_rest}
 
 -- ---- an entry that leads to no other
@@ -128,7 +131,7 @@ context_itself Prefix e h is = rw (is, goes_by_character) refl
 context_itself Contraction e h is = rw (is, goes_by_character) refl
 context_itself _ e h is = cc
 
-context_unwanted : (part : Part) (e : ℕ) → names_context (kind_of e) ≡ true → is_wanted part e ≡ false
+pub context_unwanted : (part : Part) (e : ℕ) → names_context (kind_of e) ≡ true → is_wanted part e ≡ false
 context_unwanted part e h = by_test (is_wanted part e) refl
   where
     by_test : (b : Bool) → is_wanted part e ≡ b → b ≡ false
@@ -192,7 +195,7 @@ pub contraction_is : (home : Data) (e : ℕ) → (kind_of e ≡ Prefix → ⊥) 
 unfolding reachable_from
 contraction_is home e other = sym (unopened (kind_of e) _ _ other)
 
-prefix_alone : (home : Data) (e : ℕ) → kind_of e ≡ Prefix → reachable_contraction home e ≡ e ∷ []
+pub prefix_alone : (home : Data) (e : ℕ) → kind_of e ≡ Prefix → reachable_contraction home e ≡ e ∷ []
 unfolding reachable_contraction reachable_digit
 prefix_alone home e is = rw (is, reachable_contraction, is, reachable_digit) refl
 
@@ -212,6 +215,32 @@ contraction_within home e f has =
         subst (Contains (reachable_from home e)) same
         (subst (λ es. Contains es e) (sym (prefix_from home e is)) (at_first e (flat_map (reachable_contraction home) (named_entries home e))))
     by_cases is (inr none) = absurd (nothing_in f none)
+
+named_found : (home : Data) (chars : List ℕ) (mappings : List ContextMapping)
+    → flat_map (reachable_contraction home) (map (λ (mapping : Mapping). mapping.entry) (mappings_of chars mappings)) ≡ contraction_entries home mappings
+named_found home chars [] = refl
+named_found home chars (mapping ∷ mappings) = ap (λ es. reachable_contraction home mapping.entry ++ es) (named_found home chars mappings)
+
+-- the prefix itself, what its default leads to, and what its mappings lead to
+pub prefix_all : (home : Data) (e default : ℕ) (chars : List ℕ) (mappings : List ContextMapping) → kind_of e ≡ Prefix → record { default = default; mappings = mappings_of chars mappings } ≡ context_of (homed home e)
+    → reachable_from home e ≡ e ∷ (reachable_contraction home default ++ contraction_entries home mappings)
+prefix_all home e default chars mappings is found =
+    prefix_from home e is ∙ ap (λ (x : Context). e ∷ flat_map (reachable_contraction home) (context_entries x)) (sym found)
+    ∙ ap (λ es. e ∷ (reachable_contraction home default ++ es)) (named_found home chars mappings)
+
+-- what one more mapping leads to
+pub in_pushed : (home : Data) (mappings : List ContextMapping) (mapping : ContextMapping) (f : ℕ) → Contains (contraction_entries home (mappings ++ mapping ∷ [])) f
+    → Contains (contraction_entries home mappings) f ⊎ Contains (reachable_contraction home mapping.entry) f
+in_pushed home [] mapping f has =
+    elim (Contains-append_cases (reachable_contraction home mapping.entry) [] f has) [ inl here ↦ inr here | inr none ↦ absurd (nothing_in f none) ]
+in_pushed home (first ∷ mappings) mapping f has =
+    elim (Contains-append_cases (reachable_contraction home first.entry) (contraction_entries home (mappings ++ mapping ∷ [])) f has) [
+      | inl here ↦ inl (Contains-append_left (reachable_contraction home first.entry) (contraction_entries home mappings) f here)
+      | inr rest ↦ elim (in_pushed home mappings mapping f rest) [
+        | inl before ↦ inl (Contains-append_right (reachable_contraction home first.entry) (contraction_entries home mappings) f before)
+        | inr last ↦ inr last
+      ]
+    ]
 
 -- ---- a character whose entry isn't fallback
 

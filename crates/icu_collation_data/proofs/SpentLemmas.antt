@@ -1,6 +1,5 @@
 -- A walk that remembers entries goes on: what was visited, and what is remembered with it.
 use Rattle.std.proofs.Common.{◌≡◌, ℕ, zero, suc, ◌+◌, ◌-◌, ◌<◌, ◌≤◌, Bool, true, false, ◌==◌, ◌&&◌, if◌then◌else◌, List, [], ◌∷◌, ◌++◌, ◌⊎◌, inl, inr, refl, sym, ap, ◌∙◌, subst, arith, map, take, length, get_or}
-use Rattle.std.specs.Prelude.{flat_map}
 use Rattle.std.proofs.lemmas.List.{take_more}
 use Rattle.std.specs.Char.{IsScalar}
 use Rattle.std.specs.List.{AllByRecursion, Contains}
@@ -11,13 +10,13 @@ use Rattle.icu_entries.specs.Entries.{kind_of}
 use Rattle.icu_collation_data.specs.declared.context.ContextMapping.{ContextMapping}
 use Rattle.icu_collation_data.specs.Contexts.{mappings_of}
 use Rattle.icu_collation_data.specs.declared.visited_entries.VisitedEntries.{VisitedEntries}
-use Rattle.icu_collation_data.specs.Data.{Mapping, Context, Data, homed, context_of}
-use Rattle.icu_collation_data.specs.Reachable.{goes_by_character, context_entries, reachable_contraction, reachable_from, reachable_at, ReferAlike}
+use Rattle.icu_collation_data.specs.Data.{Data, homed, context_of}
+use Rattle.icu_collation_data.specs.Reachable.{goes_by_character, reachable_contraction, reachable_from, reachable_at, ReferAlike}
 use Rattle.icu_collation_data.specs.Walks.{CharVisit, visit_of, after_all, after_visits, IsReachableVisit, IsSharedVisit}
 use Rattle.icu_collation_data.specs.inner.VisitedEntries.{IsRemembered}
 use Rattle.icu_collation_data.specs.inner.BlockWalks.{IsReachedAlike, IsKnown, Spends, contraction_entries, IsReachableIn, AreLedTo, HasWalked, WalkedOnce}
 use Rattle.icu_collation_data.proofs.ListLemmas.{all_append, all_where, map_all, in_map, nothing_in, in_first}
-use Rattle.icu_collation_data.proofs.ReachLemmas.{refer_trans, refer_shared, refer_reaches, goes_alone, at_within, prefix_from}
+use Rattle.icu_collation_data.proofs.ReachLemmas.{refer_trans, refer_shared, refer_reaches, goes_alone, at_within, prefix_all, in_pushed}
 use Rattle.icu_collation_data.proofs.CharLemmas.{scalar_below}
 
 -- ---- visits
@@ -291,34 +290,16 @@ module _ {V : Type 0} (after : V → Data → ℕ → ℕ → V) (falls_back : B
   pub spent_same : (seen more : VisitedEntries) (s t : V) (xs ys : List ℕ) → xs ≡ ys → Spent seen more s t (Contains xs) → Spent seen more s t (Contains ys)
   spent_same seen more s t xs ys is = subst (λ es. Spent seen more s t (Contains es)) is
 
-  named_found : (chars : List ℕ) (mappings : List ContextMapping)
-      → flat_map (reachable_contraction home) (map (λ (mapping : Mapping). mapping.entry) (mappings_of chars mappings)) ≡ contraction_entries home mappings
-  named_found chars [] = refl
-  named_found chars (mapping ∷ mappings) = ap (λ es. reachable_contraction home mapping.entry ++ es) (named_found chars mappings)
-
   -- none of the mappings, and one more
   pub spent_no_mappings : (seen : VisitedEntries) (v : V) → Spent seen seen v v (Contains (contraction_entries home []))
   spent_no_mappings seen v = spent_none seen v _ (λ f has shared. absurd (nothing_in f has))
-
-  in_pushed : (mappings : List ContextMapping) (mapping : ContextMapping) (f : ℕ) → Contains (contraction_entries home (mappings ++ mapping ∷ [])) f
-      → Contains (contraction_entries home mappings) f ⊎ Contains (reachable_contraction home mapping.entry) f
-  in_pushed [] mapping f has =
-      elim (Contains-append_cases (reachable_contraction home mapping.entry) [] f has) [ inl here ↦ inr here | inr none ↦ absurd (nothing_in f none) ]
-  in_pushed (first ∷ mappings) mapping f has =
-      elim (Contains-append_cases (reachable_contraction home first.entry) (contraction_entries home (mappings ++ mapping ∷ [])) f has) [
-        | inl here ↦ inl (Contains-append_left (reachable_contraction home first.entry) (contraction_entries home mappings) f here)
-        | inr rest ↦ elim (in_pushed mappings mapping f rest) [
-          | inl before ↦ inl (Contains-append_right (reachable_contraction home first.entry) (contraction_entries home mappings) f before)
-          | inr last ↦ inr last
-        ]
-      ]
 
   pub spent_mapping : (seen mid more : VisitedEntries) (s t u : V) (mappings : List ContextMapping) (i : ℕ) (mapping d : ContextMapping) → i < length mappings → mapping ≡ get_or mappings i d
       → Spent seen mid s t (Contains (contraction_entries home (take i mappings))) → Spent mid more t u (Contains (reachable_contraction home mapping.entry))
       → Spent seen more s u (Contains (contraction_entries home (take (i + 1) mappings)))
   spent_mapping seen mid more s t u mappings i mapping d inside is a b =
       let more_is : take (i + 1) mappings ≡ take i mappings ++ mapping ∷ [] = take_more mappings i d inside ∙ ap (λ m. take i mappings ++ m ∷ []) (sym is) in
-      spent_on seen mid more s t u _ _ _ a b (λ f has. in_pushed (take i mappings) mapping f (subst (λ ms. Contains (contraction_entries home ms) f) more_is has))
+      spent_on seen mid more s t u _ _ _ a b (λ f has. in_pushed home (take i mappings) mapping f (subst (λ ms. Contains (contraction_entries home ms) f) more_is has))
 
   -- what a mapping of a list leads to is among what all of them lead to
   pub among_mappings : (mappings : List ContextMapping) (i : ℕ) (mapping d : ContextMapping) (f : ℕ) → i < length mappings → mapping ≡ get_or mappings i d
@@ -348,14 +329,9 @@ module _ {V : Type 0} (after : V → Data → ℕ → ℕ → V) (falls_back : B
       spent_on seen mid more s u v (λ f. Contains (bits ∷ []) f ⊎ Contains (reachable_contraction home default) f) _ _
       (spent_on seen seen mid s t u _ _ _ a b (λ f r. r)) d split
     where
-      all_is : reachable_from home bits ≡ bits ∷ (reachable_contraction home default ++ contraction_entries home mappings)
-      all_is =
-          prefix_from home bits is ∙ ap (λ (x : Context). bits ∷ flat_map (reachable_contraction home) (context_entries x)) (sym found)
-          ∙ ap (λ es. bits ∷ (reachable_contraction home default ++ es)) (named_found chars mappings)
-
       split : (f : ℕ) → Contains (reachable_from home bits) f → (Contains (bits ∷ []) f ⊎ Contains (reachable_contraction home default) f) ⊎ Contains (contraction_entries home mappings) f
       split f has =
-          elim (Contains-append_cases (bits ∷ []) (reachable_contraction home default ++ contraction_entries home mappings) f (subst (λ es. Contains es f) all_is has)) [
+          elim (Contains-append_cases (bits ∷ []) (reachable_contraction home default ++ contraction_entries home mappings) f (subst (λ es. Contains es f) (prefix_all home bits default chars mappings is found) has)) [
             | inl here ↦ inl (inl here)
             | inr rest ↦ elim (Contains-append_cases (reachable_contraction home default) (contraction_entries home mappings) f rest) [
               | inl first ↦ inl (inr first)
@@ -368,7 +344,4 @@ module _ {V : Type 0} (after : V → Data → ℕ → ℕ → V) (falls_back : B
       → record { default = default; mappings = mappings_of chars mappings } ≡ context_of (homed home bits) → (f : ℕ)
       → Contains (bits ∷ (reachable_contraction home default ++ contraction_entries home mappings)) f → Contains (reachable_from home bits) f
   prefix_leads bits default chars mappings is found f =
-      subst (λ es. Contains es f)
-      (sym
-      (prefix_from home bits is ∙ ap (λ (x : Context). bits ∷ flat_map (reachable_contraction home) (context_entries x)) (sym found)
-      ∙ ap (λ es. bits ∷ (reachable_contraction home default ++ es)) (named_found chars mappings)))
+      subst (λ es. Contains es f) (sym (prefix_all home bits default chars mappings is found))

@@ -8,7 +8,8 @@ ghost use Rattle.icu_collation_data.specs.Walks.{after_run, EachOfBlock};
 ghost use Rattle.icu_collation_data.specs.inner.Visitors.{holds};
 ghost use Rattle.icu_collation_data.specs.inner.BlockWalks.{is_wanted, leads_to, leads_further, with_room, with_sought, AreSought, IsLast, after_runs, WalkedTo, AreClear, IsRun, IsState, AreStates};
 
-use crate::block_walk::{BlockState, remember, visit_char};
+use crate::block_walk::{BlockState, visit_char};
+use crate::clear_entries::is_clear;
 use crate::data::CollationData;
 use crate::visited_entries::VisitedEntries;
 use crate::walk::{Visit, visit_from};
@@ -26,7 +27,7 @@ pub(crate) enum Part {
 
 /// Whether an entry is one of the part.
 #[tactic(auto, unfolding(crate::specs::inner::BlockWalks::is_wanted))]
-fn is_wanted(part: Part, entry: CollationElement32) -> bool
+pub(crate) fn is_wanted(part: Part, entry: CollationElement32) -> bool
     ensures { result ≡ is_wanted part entry }
 {
     match part {
@@ -42,7 +43,7 @@ fn is_wanted(part: Part, entry: CollationElement32) -> bool
 }
 
 /// Whether an entry may lead to others.
-fn leads_further(entry: CollationElement32) -> bool
+pub(crate) fn leads_further(entry: CollationElement32) -> bool
     ensures { result ≡ leads_further (kind_of entry) }
 {
     match entry.kind() {
@@ -82,7 +83,7 @@ impl Visit for PartSearch {
 
 /// Whether an entry of the part is reachable from this one.
 #[tactic(auto, using(crate::proofs::ReachLemmas::leaf_leads))]
-fn leads_to(part: Part, home: CollationData<'_>, entry: CollationElement32) -> bool
+pub(crate) fn leads_to(part: Part, home: CollationData<'_>, entry: CollationElement32) -> bool
     ensures { result ≡ leads_to part (data_of home.entry) entry }
 {
     if !leads_further(entry) {
@@ -394,24 +395,6 @@ fn visit_marked<V: Visit>(
         return visit_sought(visitor, home, first, falls_back, part, entry, &last.sought);
     }
     visit_codes(visitor, home, first as u32, falls_back, part)
-}
-
-/// Whether a character leads to no entry of the part. Entries that lead to none are remembered.
-fn is_clear(part: Part, home: CollationData<'_>, c: char, clear: &mut VisitedEntries) -> bool
-    requires { AreClear part (data_of home) clear.old }
-    ensures clear { AreClear part (data_of home.entry) clear.new }
-    ensures none { result ≡ true
-        → leads_to part (data_of home.entry) ((data_of home.entry).value c) ≡ false }
-{
-    let bits = home.bits_for_char(c);
-    if clear.has(bits) {
-        return true;
-    }
-    if leads_to(part, home, CollationElement32::new(bits)) {
-        return false;
-    }
-    remember(bits, clear);
-    true
 }
 
 /// What is to be done with the values of a block: whether a character of it leads to an entry of the part.

@@ -5,6 +5,7 @@
 pub mod block_walk;
 pub mod both;
 mod character_walk;
+mod clear_entries;
 pub mod code_point_table;
 pub mod context;
 mod context_conditions;

@@ -1,11 +1,13 @@
 //! The violations of what is reachable in one table.
-ghost use Rattle.std.specs.Prelude.{ℕ, ◌≡◌, ◌≤◌, true, Option, Some, None, IsTrue};
+ghost use Rattle.std.specs.Prelude.{ℕ, ◌≡◌, ◌+◌, ◌/◌, ◌≤◌, true, Option, Some, None, IsTrue};
 ghost use Rattle.icu_checks.specs.declared.violation.Violation.{Violation};
 ghost use Rattle.icu_entries.specs.declared.error.DataTable.{DataTable};
 ghost use Rattle.icu_entries.specs.Elements.{Element, of_primary};
+ghost use Rattle.icu_entries.specs.Weights.{implicit_weight};
 ghost use Rattle.icu_collation_data.specs.DataConditions.{is_readable};
 ghost use Rattle.icu_collation_data.specs.ReachableConditions.{first_failing};
 ghost use Rattle.icu_collation_data.specs.StoredData.{data_of};
+ghost use Rattle.icu_collation_data.specs.Walks.{EachOfBlock};
 ghost use Rattle.icu_provider.specs.CollatorTables.{CollatorTables};
 ghost use Rattle.icu_provider.specs.TableSets.{tables_in};
 ghost use Rattle.icu_checks.specs.inner.EntryViolations.{first_failing_element, element_violation, after_element, judged_element, elements_violation, mappings_violation, entry_violation, is_taken_apart, HasEndsApart, ImplicitPasses, KeepsLeadTogether};
@@ -231,6 +233,40 @@ fn has_ends_apart(tables: TableSet<'_>, high: u16) -> bool
     is_taken_apart(tables, first) && is_taken_apart(tables, first + 0xFFFF)
 }
 
+/// Whether reordering takes the first and the last weight apart that have the two highest bytes of the implicit weight
+/// of a character.
+fn implicit_ends_apart(tables: TableSet<'_>, c: char) -> bool
+    ensures { result ≡ true
+        → HasEndsApart (tables_in tables.entry) (implicit_weight c / 65536) }
+{
+    let weight = CollationElement::new_implicit_from_char(c).primary();
+    has_ends_apart(tables, (weight >> 16) as u16)
+}
+
+/// Whether the implicit weights of 64 characters, from one to another, meet every condition on elements. Their two
+/// highest bytes are those of the first one's or of the last one's.
+fn implicit_between_passes(tables: TableSet<'_>, first: char, last: char) -> bool
+    requires { last ≡ first + 63 }
+    ensures { result ≡ true → EachOfBlock first (λ c.
+        first_failing_element (tables_in tables.entry) (of_primary (implicit_weight c)) ≡ None) }
+{
+    numeric_lead(tables);
+    let low = implicit_ends_apart(tables, first);
+    let high = implicit_ends_apart(tables, last);
+    low && high
+}
+
+/// Whether the implicit weights of the 64 characters from one on meet every condition on elements.
+fn implicit_run_passes(tables: TableSet<'_>, first: char) -> bool
+    ensures { result ≡ true → EachOfBlock first (λ c.
+        first_failing_element (tables_in tables.entry) (of_primary (implicit_weight c)) ≡ None) }
+{
+    match char::from_u32(first as u32 + 63) {
+        Some(last) => implicit_between_passes(tables, first, last),
+        None => false,
+    }
+}
+
 /// Whether implicit weights meet every condition on elements: reordering takes none of them out of 03 to FE, or to the
 /// lead byte of numbers. That is asked of the first and the last weight for each second byte alone, as weights between
 /// them go with one or the other.
@@ -277,6 +313,9 @@ impl<'d> Judge for TablesJudge<'d> {
 
     /// The weights of the characters rise, so those of the first and the last show what holds of each.
     fn passes_run(&self, home: CollationData<'_>, first: char, entry: CollationElement32) -> bool {
+        if entry.kind() == EntryKind::Implicit {
+            return implicit_run_passes(self.tables, first);
+        }
         if !EntryJudge.passes_run(home, first, entry) {
             return false;
         }

@@ -41,6 +41,10 @@ with_room es whole e = if nat_lt (length es) sought_count then (es ++ e ∷ [], 
 abbrev pub with_sought : Part → List ℕ × Bool → ℕ → List ℕ × Bool
 with_sought part s e = if is_wanted part e && not (holds s.0 e) then with_room s.0 s.1 e else s
 
+-- none of these entries is of the part
+abbrev pub AreUnwanted : Part → List ℕ → Type 0
+AreUnwanted part es = (f : ℕ) → Contains es f → is_wanted part f ≡ false
+
 -- these are entries of the part that are reachable from an entry, or all of them
 pub record AreSought (part : Part) (home : Data) (e : ℕ) (es : List ℕ) (whole : Bool) : Type 0 where
   pub wanted : (f : ℕ) → Contains es f → is_wanted part f ≡ true

@@ -1,5 +1,5 @@
 use Rattle.std.proofs.Common.{rules, ◌≡◌, ◌≤◌, ◌+◌, true, None, arith, sym, subst}
-use Rattle.icu_entries.specs.declared.entry.EntryKind.TheVariants.{Offset}
+use Rattle.icu_entries.specs.declared.entry.EntryKind.TheVariants.{Offset, Implicit}
 use Rattle.icu_entries.specs.Elements.{of_primary}
 use Rattle.icu_entries.specs.Entries.{kind_of}
 use Rattle.icu_collation_data.specs.Data.{Data}
@@ -10,8 +10,14 @@ use Rattle.icu_collation_data.proofs.ViolationLemmas.{passes_meets}
 use Rattle.icu_provider.specs.CollatorTables.{CollatorTables}
 use Rattle.icu_provider.specs.TableSets.{tables_in}
 use Rattle.icu_checks.specs.inner.EntryViolations.{first_failing_element}
+use Rattle.icu_checks.proofs.ImplicitLemmas.{implicit_no_violation}
 use Rattle.icu_checks.proofs.RunLemmas.{GivesBetween, gives_between, offset_no_violation}
 use Rattle.icu_checks.proofs.check.entry_judge.TablesJudgeJudge.passes_run.Goals as goal
+
+pub returns-then-eq : goal.returns-then-eq
+returns-then-eq c passes char low below =
+    let is : kind_of c.args.entry ≡ Implicit = search rules in
+    implicit_no_violation (tables_in c.args.self.now.tables) c.args.self.now.table (data_of c.args.home) char c.args.entry is (c.implicit_run_passes.ensures passes char low below)
 
 pub ce_from_offset_ce32-requires-clause-inside : goal.ce_from_offset_ce32-requires-clause-inside
 ce_from_offset_ce32-requires-clause-inside c =
