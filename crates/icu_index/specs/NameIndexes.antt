@@ -6,8 +6,7 @@ use Rattle.icu_collator.specs.Collators.{collation_borrowed}
 use Rattle.icu_index.specs.declared.index.NameIndex.{NameIndex}
 use Rattle.icu_index.specs.declared.names.NameIter.{NameIter}
 use Rattle.icu_index.specs.Listings.{name_order}
-use Rattle.icu_keyed_names.specs.KeyedLists as KeyedLists
-use Rattle.icu_keyed_names.specs.KeyedLists.{keyed_names, names_in}
+use Rattle.icu_keyed_names.specs.KeyedLists.{keyed_names, names_in, names_to_come}
 
 -- the collation that names are ordered by
 abbrev pub index_collation : NameIndex → Collation
@@ -23,4 +22,4 @@ listing i = names_in (keyed_names i.names)
 
 -- the names that an iterator has left
 abbrev pub names_left : NameIter → List (List ℕ)
-names_left it = KeyedLists.names_left it.names
+names_left it = names_to_come it.names

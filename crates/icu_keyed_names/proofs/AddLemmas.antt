@@ -3,8 +3,8 @@ use Rattle.std.proofs.Common.{◌≡◌, ℕ, ◌<◌, ◌≤◌, Bool, not, Lis
 use Rattle.std.proofs.Math.ListN.{set}
 use Rattle.std.specs.Global.{Vec}
 use Rattle.icu_keyed_names.proofs.LeafLemmas.{entries_put, entries_same, entries_pushed, none_there}
-use Rattle.icu_keyed_names.proofs.PlaceLemmas.{leaf_got}
-use Rattle.icu_keyed_names.specs.declared.entries.Entry.{Entry}
+use Rattle.icu_keyed_names.proofs.LeafPlaceLemmas.{leaf_got}
+use Rattle.icu_keyed_names.specs.declared.name_entries.Entry.{Entry}
 use Rattle.icu_keyed_names.specs.inner.Leaves.{Parts, before, behind, entries_of, leaf_at}
 
 module _ (ls read : List (Vec Entry)) (i j : ℕ) (is : read ≡ ls) where

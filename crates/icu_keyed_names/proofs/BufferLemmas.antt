@@ -3,12 +3,12 @@ use Rattle.std.proofs.Common.{◌≡◌, ℕ, zero, suc, ◌+◌, ◌-◌, ◌�
 use Rattle.std.proofs.lemmas.Bool.Decides.{nat_tests}
 use Rattle.std.proofs.lemmas.List.{append-nil}
 use Rattle.std.specs.List.{AllByRecursion}
-use Rattle.icu_keyed_names.specs.declared.entries.Entry.{Entry}
-use Rattle.icu_keyed_names.specs.inner.Entries.{AreEntriesIn, IsEntryIn, IsEntryOf, key_in, keyed_in, name_in, part, prefix_of}
+use Rattle.icu_keyed_names.specs.declared.name_entries.Entry.{Entry}
+use Rattle.icu_keyed_names.specs.inner.NameEntries.{AreEntriesIn, IsEntryIn, IsEntryOf, key_in, keyed_in, name_in, buffer_part, prefix_of}
 
 -- ---- parts
 
-there : (bytes : List ℕ) (i j : ℕ) → i ≤ j → j ≤ length bytes → part bytes i j ≡ take (j - i) (drop i bytes)
+there : (bytes : List ℕ) (i j : ℕ) → i ≤ j → j ≤ length bytes → buffer_part bytes i j ≡ take (j - i) (drop i bytes)
 there bytes i j low high = at (nat_le i j) (nat_le j (length bytes)) (grind (arith, nat_tests)) (grind (arith, nat_tests)) where
   at : (a b : Bool) → a ≡ true → b ≡ true → (if a && b then take (j - i) (drop i bytes) else []) ≡ take (j - i) (drop i bytes)
   at a b e f = rw (e, f) refl
@@ -21,7 +21,7 @@ range_more (suc i) zero [] more low = refl
 range_more (suc i) (suc n) [] more low = absurd (omega arith)
 range_more (suc i) n (b ∷ bytes) more low = range_more i n bytes more (omega arith)
 
-part_more : (bytes more : List ℕ) (i j : ℕ) → i ≤ j → j ≤ length bytes → part (bytes ++ more) i j ≡ part bytes i j
+part_more : (bytes more : List ℕ) (i j : ℕ) → i ≤ j → j ≤ length bytes → buffer_part (bytes ++ more) i j ≡ buffer_part bytes i j
 part_more bytes more i j low high =
     there (bytes ++ more) i j low (omega (arith, length-append bytes more))
     ∙ (range_more i (j - i) bytes more (omega arith) ∙ sym (there bytes i j low high))

@@ -8,14 +8,14 @@ use Rattle.std.specs.Ordering.{is_gt, is_le, ordering_reverse}
 use Rattle.std.specs.declared.cmp.Ordering.{Ordering}
 use Rattle.std.specs.declared.cmp.Ordering.TheVariants.{Less, Equal, Greater}
 use Rattle.icu_collation_data.proofs.ListLemmas.{weaker}
-use Rattle.icu_keyed_names.proofs.PlaceLemmas.{none_pass}
-use Rattle.icu_keyed_names.proofs.PrefixLemmas.{less_stands}
+use Rattle.icu_keyed_names.proofs.LeafPlaceLemmas.{none_pass}
+use Rattle.icu_keyed_names.proofs.KeyPrefixLemmas.{less_stands}
 use Rattle.icu_keyed_names.specs.Borders.{border_key, lies_before, stands_before}
 use Rattle.icu_keyed_names.specs.KeyedLists.{Keyed, names_in, placed}
 use Rattle.icu_keyed_names.specs.declared.borders.Border.{Border}
 use Rattle.icu_keyed_names.specs.declared.borders.Border.TheVariants.{Before, Behind}
-use Rattle.icu_keyed_names.specs.inner.Entries.{keyed_in, name_in}
-use Rattle.icu_keyed_names.specs.declared.entries.Entry.{Entry}
+use Rattle.icu_keyed_names.specs.inner.NameEntries.{keyed_in, name_in}
+use Rattle.icu_keyed_names.specs.declared.name_entries.Entry.{Entry}
 use Rattle.icu_keyed_names.specs.inner.Leaves.{IsParted, Rise, entries_of}
 use Rattle.icu_levels.specs.ListOrder.{list_order}
 
@@ -44,7 +44,7 @@ greater_above k l Less e h = cc
 greater_above k l Equal e h = cc
 greater_above k l Greater e h = ap is_gt (nat_list_cmp_total.antisymm k l ∙ ap ordering_reverse e)
 
--- ---- borders part keys that rise
+-- ---- borders buffer_part keys that rise
 
 greater_stays : (b : Border) → stands_before b Greater ≡ false
 greater_stays (Before key) = refl

@@ -4,8 +4,8 @@ use Rattle.std.proofs.Math.ListN.{set}
 use Rattle.std.proofs.lemmas.List.{take-append-drop}
 use Rattle.std.specs.Global.{Vec}
 use Rattle.std.specs.List.{insert}
-use Rattle.icu_keyed_names.proofs.PlaceLemmas.{leaf_got}
-use Rattle.icu_keyed_names.specs.declared.entries.Entry.{Entry}
+use Rattle.icu_keyed_names.proofs.LeafPlaceLemmas.{leaf_got}
+use Rattle.icu_keyed_names.specs.declared.name_entries.Entry.{Entry}
 use Rattle.icu_keyed_names.specs.inner.Leaves.{AreFilled, before, behind, entries_cut, entries_of, leaf_at}
 
 -- ---- another leaf in the place of one

@@ -1,8 +1,8 @@
-pub mod PrefixLemmas
-pub mod PlaceLemmas
+pub mod KeyPrefixLemmas
+pub mod LeafPlaceLemmas
 pub mod LeafLemmas
 pub mod AddLemmas
 pub mod BufferLemmas
 pub mod KeyedLemmas
 pub mod PlacedLemmas
-pub mod BetweenLemmas
+pub mod BorderRangeLemmas

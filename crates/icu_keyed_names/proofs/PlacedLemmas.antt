@@ -6,16 +6,16 @@ use Rattle.std.specs.List.{AllByRecursion}
 use Rattle.std.specs.Ordering.{is_le}
 use Rattle.icu_collation_data.proofs.ListLemmas.{all_append, weaker}
 use Rattle.std.specs.Global.{Vec}
-use Rattle.icu_keyed_names.proofs.BetweenLemmas.{between_is}
+use Rattle.icu_keyed_names.proofs.BorderRangeLemmas.{between_is}
 use Rattle.icu_keyed_names.proofs.BufferLemmas.{both, entries_stay, keyed_stay}
 use Rattle.icu_keyed_names.proofs.KeyedLemmas.{all_filter, filter_along, keys_parted, length_placed, map_append, map_same, names_are, parted_along, placed_is, rise_placed}
-use Rattle.icu_keyed_names.proofs.PrefixLemmas.{before_is}
+use Rattle.icu_keyed_names.proofs.KeyPrefixLemmas.{before_is}
 use Rattle.icu_keyed_names.specs.Borders.{border_key, lies_before}
 use Rattle.icu_keyed_names.specs.KeyedLists.{Keyed, between, names_in, placed}
 use Rattle.icu_keyed_names.specs.declared.borders.Border.{Border}
 use Rattle.icu_keyed_names.specs.declared.borders.Border.TheVariants.{Behind}
-use Rattle.icu_keyed_names.specs.declared.entries.Entry.{Entry}
-use Rattle.icu_keyed_names.specs.inner.Entries.{AreBytes, AreEntriesIn, IsEntryIn, IsEntryOf, entry_before, key_in, keyed_in, name_in, part}
+use Rattle.icu_keyed_names.specs.declared.name_entries.Entry.{Entry}
+use Rattle.icu_keyed_names.specs.inner.NameEntries.{AreBytes, AreEntriesIn, IsEntryIn, IsEntryOf, entry_before, key_in, keyed_in, name_in, buffer_part}
 use Rattle.icu_keyed_names.specs.inner.Leaves.{IsParted, Parts, Rise, entries_between, entries_of}
 use Rattle.icu_levels.specs.ListOrder.{list_order}
 
@@ -43,7 +43,7 @@ bytes_if : (b : Bool) (xs : List ℕ) → AreBytes xs → AreBytes (cond b xs []
 bytes_if true xs h = h
 bytes_if false xs h = tt
 
-pub bytes_part : (bytes : List ℕ) (i j : ℕ) → AreBytes bytes → AreBytes (part bytes i j)
+pub bytes_part : (bytes : List ℕ) (i j : ℕ) → AreBytes bytes → AreBytes (buffer_part bytes i j)
 bytes_part bytes i j h = bytes_if (nat_le i j && nat_le j (length bytes)) (take (j - i) (drop i bytes)) (bytes_take (j - i) (drop i bytes) (bytes_drop i bytes h))
 
 -- ---- entries stand before a border as their keys do

@@ -6,7 +6,7 @@ use Rattle.icu_keyed_names.specs.Borders.{lies_before}
 use Rattle.icu_keyed_names.specs.declared.borders.Border.{Border}
 use Rattle.icu_keyed_names.specs.declared.keyed_names.KeyedNames.{KeyedNames}
 use Rattle.icu_keyed_names.specs.declared.names.Names.{Names}
-use Rattle.icu_keyed_names.specs.inner.Entries.{name_in, keyed_in}
+use Rattle.icu_keyed_names.specs.inner.NameEntries.{name_in, keyed_in}
 use Rattle.icu_keyed_names.specs.inner.Leaves.{entries_of}
 
 -- a key, and a name that has it
@@ -31,5 +31,5 @@ abbrev pub keyed_names : KeyedNames → List Keyed
 keyed_names k = map (keyed_in k.bytes.items) (entries_of k.leaves.items)
 
 -- the names that an iterator has left
-abbrev pub names_left : Names → List (List ℕ)
-names_left it = map (name_in it.bytes.now) (it.entries.now ++ entries_of it.leaves.now ++ it.last.now)
+abbrev pub names_to_come : Names → List (List ℕ)
+names_to_come it = map (name_in it.bytes.now) (it.entries.now ++ entries_of it.leaves.now ++ it.last.now)

@@ -1,11 +1,11 @@
 //! Parts of a buffer, and the numbers that keys begin with.
 
 ghost use Rattle.std.specs.Prelude.{◌≡◌, slice_index};
-ghost use Rattle.icu_keyed_names.specs.inner.Entries.{AreBytes, part, prefix_of};
+ghost use Rattle.icu_keyed_names.specs.inner.NameEntries.{AreBytes, buffer_part, prefix_of};
 
 /// The bytes of a buffer from a start up to an end, none where there are no such bytes.
 pub(crate) fn part(bytes: &[u8], start: usize, end: usize) -> &[u8]
-    ensures { result.now ≡ part bytes.now start end }
+    ensures { result.now ≡ buffer_part bytes.now start end }
 {
     if start <= end && end <= bytes.len() {
         &bytes[start..end]

@@ -2,15 +2,15 @@
 
 ghost use Rattle.std.specs.Prelude.{◌≡◌, [], ◌↔◌, ◌++◌, length, map, IfOk, IsErr, IsTrue, OnErr, OnOk};
 ghost use Rattle.std.proofs.Props.{props};
-ghost use Rattle.icu_keyed_names.specs.inner.Entries.{keyed_in, AreEntriesIn, IsEntryOf};
+ghost use Rattle.icu_keyed_names.specs.inner.NameEntries.{keyed_in, AreEntriesIn, IsEntryOf};
 ghost use Rattle.icu_keyed_names.specs.inner.Leaves.{entries_of, AreFilled, Rise, Rise-prop};
 
 use crate::borders::Border;
 use crate::bytes::{all, prefix};
-use crate::entries::{Entry, Sought};
+use crate::leaf_places::find_place;
 use crate::leaves::add;
+use crate::name_entries::{Entry, Sought};
 use crate::names::{Names, names_between};
-use crate::places::find_place;
 use std::alloc::{AllocError, Global};
 
 /// Makes room for more bytes, an eighth of those that there are or more.
@@ -64,7 +64,7 @@ pub struct KeyedNames {
 }
 
 impl KeyedNames {
-    ghost use Rattle.icu_keyed_names.specs.KeyedLists.{between, keyed_names, names_in, names_left, placed};
+    ghost use Rattle.icu_keyed_names.specs.KeyedLists.{between, keyed_names, names_in, names_to_come, placed};
 
     /// No names. Does not allocate.
     pub fn new(alloc: Global) -> KeyedNames
@@ -119,7 +119,7 @@ impl KeyedNames {
 
     /// All names, in order. Does not allocate.
     pub fn iter(&self) -> Names<'_>
-        ensures { names_left result ≡ names_in (keyed_names self.now) }
+        ensures { names_to_come result ≡ names_in (keyed_names self.now) }
     {
         Names {
             bytes: self.bytes.as_slice(),
@@ -131,7 +131,8 @@ impl KeyedNames {
 
     /// The names whose keys stand behind one border and before another, in order. Does not allocate.
     pub fn between(&self, from: Border<'_>, to: Border<'_>) -> Names<'_>
-        ensures { names_left result ≡ names_in (between from.entry to.entry (keyed_names self.now)) }
+        ensures { names_to_come result
+            ≡ names_in (between from.entry to.entry (keyed_names self.now)) }
     {
         let bytes = all(&self.bytes);
         let leaves = self.leaves.as_slice();

@@ -1,11 +1,11 @@
 //! Leaves: entries in the order of their keys, some hundred together.
 
 ghost use Rattle.std.specs.Prelude.{◌≡◌, ◌<◌, ◌≤◌, ◌∷◌, ◌++◌, drop, filter, length, not, take, OnErr, OnOk};
-ghost use Rattle.icu_keyed_names.specs.inner.Entries.{entry_before};
+ghost use Rattle.icu_keyed_names.specs.inner.NameEntries.{entry_before};
 ghost use Rattle.icu_keyed_names.specs.inner.Leaves.{AreFilled, IsParted, entries_cut, entries_of};
 
-use crate::entries::{Entry, Sought};
-use crate::places::{find_place, leaf_at};
+use crate::leaf_places::{find_place, leaf_at};
+use crate::name_entries::{Entry, Sought};
 use std::alloc::{AllocError, Global};
 
 /// How many entries a leaf has at most.
@@ -81,7 +81,8 @@ pub(crate) fn add(
     entry: Entry,
 ) -> Result<(), AllocError>
     requires filled { AreFilled leaves.old.items }
-    requires parted { IsParted (entry_before bytes.now sought.now.border) (entries_of leaves.old.items) }
+    requires parted { let test = entry_before bytes.now sought.now.border in
+        IsParted test (entries_of leaves.old.items) }
     ensures ok { let test = entry_before bytes.now sought.now.border in
         let entries = entries_of leaves.old.items in OnOk result (entries_of leaves.new.items
         ≡ filter test entries ++ entry ∷ filter (λ e. not (test e)) entries) }

@@ -4,11 +4,11 @@
 
 pub mod borders;
 mod bytes;
-mod entries;
 pub mod keyed_names;
+mod leaf_places;
 mod leaves;
+mod name_entries;
 pub mod names;
-mod places;
 
 pub use borders::Border;
 pub use keyed_names::KeyedNames;

@@ -1,12 +1,12 @@
 //! Names one by one.
 
 ghost use Rattle.std.specs.Prelude.{◌≡◌, ◌≤◌, length, map, slice_range};
-ghost use Rattle.icu_keyed_names.specs.KeyedLists.{names_left};
-ghost use Rattle.icu_keyed_names.specs.inner.Entries.{name_in};
+ghost use Rattle.icu_keyed_names.specs.KeyedLists.{names_to_come};
+ghost use Rattle.icu_keyed_names.specs.inner.NameEntries.{name_in};
 ghost use Rattle.icu_keyed_names.specs.inner.Leaves.{entries_between, leaf_at};
 
-use crate::entries::Entry;
-use crate::places::{Place, leaf_at};
+use crate::leaf_places::{Place, leaf_at};
+use crate::name_entries::Entry;
 
 /// Entries of a slice, none where there are no such.
 fn some_entries(entries: &[Entry], start: usize, end: usize) -> &[Entry]
@@ -35,13 +35,13 @@ pub struct Names<'i> {
 
 impl<'i> Iterator for Names<'i> {
     ghost use Rattle.std.specs.Iterator.{YieldsFirstRef, item_count};
-    ghost use Rattle.icu_keyed_names.specs.KeyedLists.{names_left};
+    ghost use Rattle.icu_keyed_names.specs.KeyedLists.{names_to_come};
 
     type Item = &'i [u8];
 
-    ghost next_gives = { YieldsFirstRef names_left };
+    ghost next_gives = { YieldsFirstRef names_to_come };
 
-    ghost remaining = { item_count names_left };
+    ghost remaining = { item_count names_to_come };
 
     fn next(&mut self) -> Option<&'i [u8]> {
         'passing: while self.entries.is_empty() {
@@ -75,7 +75,7 @@ pub(crate) fn names_between<'i>(
     requires first { from.index ≤ length (leaf_at leaves.now from.leaf) }
     requires last { to.index ≤ length (leaf_at leaves.now to.leaf) }
     requires there { to.leaf ≤ length leaves.now }
-    ensures { names_left result ≡ map (name_in bytes.now)
+    ensures { names_to_come result ≡ map (name_in bytes.now)
         (entries_between leaves.now from.leaf from.index to.leaf to.index) }
 {
     let first = leaf_at(leaves, from.leaf);

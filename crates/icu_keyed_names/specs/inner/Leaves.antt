@@ -6,7 +6,7 @@ use Rattle.std.specs.List.{AllByRecursion, AllByRecursion-prop, flat_map}
 use Rattle.std.specs.Global.{Vec}
 use Rattle.icu_levels.specs.ListOrder.{list_order}
 use Rattle.std.specs.Ordering.{is_gt}
-use Rattle.icu_keyed_names.specs.declared.entries.Entry.{Entry}
+use Rattle.icu_keyed_names.specs.declared.name_entries.Entry.{Entry}
 
 -- the entries of all leaves in turn
 abbrev pub entries_of : List (Vec Entry) → List Entry
@@ -31,6 +31,7 @@ abbrev pub Rise : List (List ℕ) → Type 0
 Rise [] = Unit {0}
 Rise (k ∷ ks) = AllByRecursion (λ l. is_gt (list_order k l) ≡ false) ks × Rise ks
 
+-- keys rise in one way
 pub Rise-prop : (ks : List (List ℕ)) → IsProp (Rise ks)
 Rise-prop [] = Unit-prop
 Rise-prop (k ∷ ks) = ×_prop (AllByRecursion-prop (λ l. is_gt (list_order k l) ≡ false) (λ l. Bool-set _ _) ks) (Rise-prop ks)
@@ -41,10 +42,11 @@ leaf_at [] i = []
 leaf_at (l ∷ ls) zero = l.items
 leaf_at (l ∷ ls) (suc i) = leaf_at ls i
 
--- the entries before a place, and those behind it
+-- the entries before a place
 abbrev pub before : List (Vec Entry) → ℕ → ℕ → List Entry
 before leaves leaf place = entries_of (take leaf leaves) ++ take place (leaf_at leaves leaf)
 
+-- the entries behind a place
 abbrev pub behind : List (Vec Entry) → ℕ → ℕ → List Entry
 behind leaves leaf place = drop place (leaf_at leaves leaf) ++ entries_of (drop (suc leaf) leaves)
 

@@ -1,4 +1,4 @@
-use Rattle.icu_keyed_names.proofs.PrefixLemmas.{prefix_is}
+use Rattle.icu_keyed_names.proofs.KeyPrefixLemmas.{prefix_is}
 use Rattle.icu_keyed_names.proofs.bytes.prefix.Goals as goal
 
 pub returns : goal.returns

@@ -1,6 +1,6 @@
 use Rattle.std.proofs.Common.{◌≡◌, ◌<◌, ◌≤◌, ◌∷◌, ◌++◌, arith, ap, length, subst, sym, drop, take}
 use Rattle.icu_keyed_names.proofs.AddLemmas.{put_in_place, put_last, put_failed, place_inside}
-use Rattle.icu_keyed_names.specs.inner.Entries.{entry_before}
+use Rattle.icu_keyed_names.specs.inner.NameEntries.{entry_before}
 use Rattle.icu_keyed_names.specs.inner.Leaves.{AreFilled, IsParted, entries_of}
 use Rattle.std.proofs.lemmas.Result.{on_err_weaker, on_ok_weaker}
 use Rattle.icu_keyed_names.proofs.leaves.add.Goals as goal

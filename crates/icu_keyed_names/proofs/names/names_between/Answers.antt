@@ -1,6 +1,6 @@
 use Rattle.std.proofs.Common.{ap, map}
-use Rattle.icu_keyed_names.proofs.BetweenLemmas.{later_read}
-use Rattle.icu_keyed_names.specs.inner.Entries.{name_in}
+use Rattle.icu_keyed_names.proofs.BorderRangeLemmas.{later_read}
+use Rattle.icu_keyed_names.specs.inner.NameEntries.{name_in}
 use Rattle.icu_keyed_names.proofs.names.names_between.Goals as goal
 
 pub returns-then-from-to : goal.returns-then-from-to

@@ -1,7 +1,7 @@
 use Rattle.std.proofs.Common.{◌≡◌, ◌+◌, ◌++◌, ◌∙◌, sym, ap, add-one, map, rules, suc, subst}
 use Rattle.icu_keyed_names.proofs.PlacedLemmas.{keyed_placed, length_after, parted_in, rise_after, sound_placed}
 use Rattle.icu_keyed_names.specs.KeyedLists.{Keyed, placed}
-use Rattle.icu_keyed_names.specs.inner.Entries.{AreEntriesIn, IsEntryOf, keyed_in}
+use Rattle.icu_keyed_names.specs.inner.NameEntries.{AreEntriesIn, IsEntryOf, keyed_in}
 use Rattle.icu_keyed_names.specs.inner.Leaves.{Rise, entries_of}
 use Rattle.icu_keyed_names.proofs.keyed_names.KeyedNames.insert.Goals as goal
 

@@ -11,8 +11,8 @@ use Rattle.icu_levels.specs.ListOrder.{list_order}
 use Rattle.icu_keyed_names.specs.Borders.{border_key, lies_before, stands_before}
 use Rattle.icu_keyed_names.specs.declared.borders.Border.{Border}
 use Rattle.icu_keyed_names.specs.declared.borders.Border.TheVariants.{Before, Behind}
-use Rattle.icu_keyed_names.specs.declared.entries.Entry.{Entry}
-use Rattle.icu_keyed_names.specs.inner.Entries.{AreBytes, entry_before, gathered, key_in, prefix_of}
+use Rattle.icu_keyed_names.specs.declared.name_entries.Entry.{Entry}
+use Rattle.icu_keyed_names.specs.inner.NameEntries.{AreBytes, entry_before, gathered, key_in, prefix_of}
 
 -- ---- what is worked out
 

@@ -1,10 +1,10 @@
 use Rattle.std.proofs.Common.{subst, ◌≤◌, length, sym}
 use Rattle.std.specs.List.Sorted.{IsPartitionPoint}
 use Rattle.std.proofs.Common.{true, false, ◌≡◌}
-use Rattle.icu_keyed_names.proofs.PlaceLemmas.{parts_at, leaves_parted, leaf_parted}
-use Rattle.icu_keyed_names.specs.inner.Entries.{entry_before}
+use Rattle.icu_keyed_names.proofs.LeafPlaceLemmas.{parts_at, leaves_parted, leaf_parted}
+use Rattle.icu_keyed_names.specs.inner.NameEntries.{entry_before}
 use Rattle.icu_keyed_names.specs.inner.Leaves.{IsParted}
-use Rattle.icu_keyed_names.proofs.places.find_place.Goals as goal
+use Rattle.icu_keyed_names.proofs.leaf_places.find_place.Goals as goal
 
 pub returns-clause-parts : goal.returns-clause-parts
 returns-clause-parts c = λ filled parted.

@@ -2,10 +2,10 @@
 
 ghost use Rattle.std.specs.Prelude.{◌≡◌, ◌≤◌, true, false, length};
 ghost use Rattle.std.specs.List.Sorted.{IsPartitionPoint};
-ghost use Rattle.icu_keyed_names.specs.inner.Entries.{entry_before};
+ghost use Rattle.icu_keyed_names.specs.inner.NameEntries.{entry_before};
 ghost use Rattle.icu_keyed_names.specs.inner.Leaves.{AreFilled, IsParted, Parts, entries_of, leaf_at, leaf_before};
 
-use crate::entries::{Entry, Sought};
+use crate::name_entries::{Entry, Sought};
 
 /// A place among the entries: a leaf, and how many of its entries stand before the place.
 #[derive(Clone, Copy)]
@@ -29,8 +29,8 @@ fn leaves_before(bytes: &[u8], leaves: &[Vec<Entry>], sought: &Sought<'_>) -> us
     ensures bound { result ≤ length leaves.now }
     ensures point { let test = entry_before bytes.now sought.now.border in
         IsParted (λ l. leaf_before test l.items) leaves.now
-        → IsPartitionPoint (λ l. leaf_before test l.items ≡ true) (λ l. leaf_before test l.items ≡ false)
-        leaves.now result }
+        → IsPartitionPoint (λ l. leaf_before test l.items ≡ true)
+        (λ l. leaf_before test l.items ≡ false) leaves.now result }
 {
     leaves.partition_point(
         |leaf| -> bool

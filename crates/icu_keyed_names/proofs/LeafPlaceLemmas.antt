@@ -6,7 +6,7 @@ use Rattle.std.specs.Global.{Vec}
 use Rattle.std.specs.List.{AllByRecursion, AllWithin}
 use Rattle.std.specs.List.Sorted.{IsPartitionedBy, IsPartitionPoint}
 use Rattle.icu_collation_data.proofs.ListLemmas.{all_first, all_second}
-use Rattle.icu_keyed_names.specs.declared.entries.Entry.{Entry}
+use Rattle.icu_keyed_names.specs.declared.name_entries.Entry.{Entry}
 use Rattle.icu_keyed_names.specs.inner.Leaves.{AreFilled, IsParted, Parts, entries_of, leaf_at, leaf_before}
 
 -- ---- a list that a test parts

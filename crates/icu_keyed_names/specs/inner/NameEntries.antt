@@ -3,11 +3,11 @@ use Rattle.std.specs.Prelude.{◌≡◌, ℕ, zero, suc, ◌+◌, ◌*◌, ◌<�
 use Rattle.std.specs.List.{AllByRecursion}
 use Rattle.icu_keyed_names.specs.Borders.{border_key, lies_before}
 use Rattle.icu_keyed_names.specs.declared.borders.Border.{Border}
-use Rattle.icu_keyed_names.specs.declared.entries.Entry.{Entry}
+use Rattle.icu_keyed_names.specs.declared.name_entries.Entry.{Entry}
 
 -- the bytes from a start up to an end, none where there are no such bytes
-abbrev pub part : List ℕ → ℕ → ℕ → List ℕ
-part bytes start end = if nat_le start end && nat_le end (length bytes) then slice_range bytes start end else []
+abbrev pub buffer_part : List ℕ → ℕ → ℕ → List ℕ
+buffer_part bytes start end = if nat_le start end && nat_le end (length bytes) then slice_range bytes start end else []
 
 -- a number of 256 as base, with so many digits more behind it, and zeros where there are no more
 abbrev pub gathered : ℕ → ℕ → List ℕ → ℕ
@@ -25,11 +25,11 @@ AreBytes xs = AllByRecursion (λ b. b < 256) xs
 
 -- the key of an entry
 abbrev pub key_in : List ℕ → Entry → List ℕ
-key_in bytes e = part bytes e.start e.middle
+key_in bytes e = buffer_part bytes e.start e.middle
 
 -- the name of an entry
 abbrev pub name_in : List ℕ → Entry → List ℕ
-name_in bytes e = part bytes e.middle e.end
+name_in bytes e = buffer_part bytes e.middle e.end
 
 -- both
 abbrev pub keyed_in : List ℕ → Entry → List ℕ × List ℕ

@@ -1,6 +1,6 @@
 use Rattle.std.proofs.Common.{◌∙◌, sym, ap}
-use Rattle.icu_keyed_names.proofs.PlaceLemmas.{leaf_got, leaf_none}
-use Rattle.icu_keyed_names.proofs.places.leaf_at.Goals as goal
+use Rattle.icu_keyed_names.proofs.LeafPlaceLemmas.{leaf_got, leaf_none}
+use Rattle.icu_keyed_names.proofs.leaf_places.leaf_at.Goals as goal
 
 pub returns-then-index-leaves : goal.returns-then-index-leaves
 returns-then-index-leaves c =

@@ -8,8 +8,8 @@ use Rattle.std.specs.Global.{Vec}
 use Rattle.std.specs.List.{AllByRecursion, slice_range}
 use Rattle.icu_collation_data.proofs.ListLemmas.{all_first}
 use Rattle.icu_keyed_names.proofs.LeafLemmas.{entries_whole}
-use Rattle.icu_keyed_names.proofs.PlaceLemmas.{all_pass, none_pass}
-use Rattle.icu_keyed_names.specs.declared.entries.Entry.{Entry}
+use Rattle.icu_keyed_names.proofs.LeafPlaceLemmas.{all_pass, none_pass}
+use Rattle.icu_keyed_names.specs.declared.name_entries.Entry.{Entry}
 use Rattle.icu_keyed_names.specs.inner.Leaves.{Parts, before, behind, entries_between, entries_of, leaf_at}
 
 -- ---- which places

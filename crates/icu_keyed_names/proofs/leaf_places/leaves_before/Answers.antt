@@ -1,11 +1,11 @@
 use Rattle.std.proofs.Common.{rules}
 use Rattle.std.specs.Global.{Vec}
 use Rattle.std.proofs.lemmas.List.Sorted.{IsPartitionPoint-from_clause}
-use Rattle.icu_keyed_names.proofs.PlaceLemmas.{parted_by}
-use Rattle.icu_keyed_names.specs.declared.entries.Entry.{Entry}
-use Rattle.icu_keyed_names.specs.inner.Entries.{entry_before}
+use Rattle.icu_keyed_names.proofs.LeafPlaceLemmas.{parted_by}
+use Rattle.icu_keyed_names.specs.declared.name_entries.Entry.{Entry}
+use Rattle.icu_keyed_names.specs.inner.NameEntries.{entry_before}
 use Rattle.icu_keyed_names.specs.inner.Leaves.{leaf_before}
-use Rattle.icu_keyed_names.proofs.places.leaves_before.Goals as goal
+use Rattle.icu_keyed_names.proofs.leaf_places.leaves_before.Goals as goal
 
 pub returns-clause-point : goal.returns-clause-point
 returns-clause-point c = λ parted.
