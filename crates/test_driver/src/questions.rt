@@ -24,7 +24,7 @@ use icu_numbers::digit_run_weights;
 use std::alloc::Global;
 
 /// The questions on texts by a collator.
-const BY_COLLATOR: [&str; 8] = [
+const BY_COLLATOR: [&str; 9] = [
     "compare", "key", "slice", "list", "limited", "names", "equals", "between", "resolved",
 ];
 
