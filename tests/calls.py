@@ -27,7 +27,7 @@ VALUES = {"CollatorBorrowed": "as_borrowed"}
 # Programs, and crates of tests: what the driver asks about are libraries.
 OTHERS = {"collate", "collate_cldr", "collate_commands", "sort_names", "test_contracts", DRIVER, "test_readers", "test_rule_steps",
           "test_types"}
-KEY, CHECK, FILE, READ, LINE = "`key`", "`check`", "`root`", "`next` and `whole`", "`line`"
+KEY, CHECK, FILE, READ, LINE, INDEX = "`key`", "`check`", "`root`", "`next` and `whole`", "`line`", "`names`"
 # Calls to which no question comes: each request of this program, or of this crate, is refused or tested by itself; some are run by
 # the tests of their own crates alone, without a refusal.
 PROGRAM, TYPES, TESTS = "the program `collate-cldr`", "`test_types`", "the crate's own tests, where no allocation is refused"
@@ -112,6 +112,7 @@ LEFT_OUT = {
     ("icu_keys", "push_secondary"): KEY,
     ("icu_keys", "push_tertiary"): KEY,
     ("icu_keys", "push_two"): KEY,
+    ("icu_keyed_names", "KeyedNames::insert"): INDEX,
     ("icu_text_keys", "KeyWriter::close"): KEY,
     ("icu_text_keys", "KeyWriter::push"): KEY,
     ("icu_text_keys", "KeyWriter::push_shifted"): KEY,

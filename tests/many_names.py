@@ -32,6 +32,12 @@ def equal_to(name, names):
     return Case(MADE, [asked], [listing([it for it in names if spelt(it) == spelt(name)])])
 
 
+def between(low, high, names):
+    """The names of an index from one name on, and before another."""
+    asked = f"between {' , '.join(text('8', list(it)) for it in [low, high, *names])}"
+    return Case(MADE, [asked], [listing(sorted((it for it in names if spelt(low) <= spelt(it) < spelt(high)), key=spelt))])
+
+
 def unlike(count):
     """So many different names, in no order."""
     dice, found = random.Random(count), set()
@@ -73,7 +79,7 @@ def long_key():
 def cases():
     """The cases, by what they are about."""
     long = [b"a" * 1_999 + b"b", b"a" * 2_000, b"b", b"a" * 1_999, b"a" * 2_000]
-    some, torn = unlike(200), damaged(30)
+    some, torn, more = unlike(200), damaged(30), unlike(5_000)
     return {
         "200 different names": listed(some),
         "200 different names, ascending": listed(sorted(some)),
@@ -86,6 +92,11 @@ def cases():
         "a name of 2,000 bytes that no name equals": equal_to(b"a" * 1_998 + b"b", long),
         "30 damaged names": listed(torn),
         "the damaged names that a damaged one equals": equal_to(torn[0], torn),
+        "5,000 different names": listed(more),
+        "5,000 different names, ascending": listed(sorted(more)),
+        "the names between two of 5,000": between(sorted(more)[700], sorted(more)[4_100], more),
+        "the names between two near ones of 5,000": between(sorted(more)[2_000], sorted(more)[2_003], more),
+        "the names between two of 5,000 that are turned": between(sorted(more)[4_100], sorted(more)[700], more),
         "10,000 names": listed(of_two_letters(10_000)),
         "the 1,111 names that a name equals": equal_to(b"ab", of_two_letters(10_000)),
         "40,000 equal names": equivalent(40_000),
@@ -123,6 +134,8 @@ PLANTED = [
     ("long names called equal", "a name of 2,000 bytes that no name equals", "equals", lambda it: "1 : 61*7CF"),
     ("damaged names put first", "30 damaged names", "names", turned),
     ("a damaged name mended", "30 damaged names", "names", lambda it: it.replace("FF", "EF BF BD")),
+    ("the last name of a range lost", "the names between two of 5,000", "between", without_one),
+    ("a name lost of more than 1,000", "5,000 different names", "names", more_than(1_000, without_one)),
     ("equal names turned", "40,000 equal names", "names", turned),
     ("a name lost of more than 20,000", "40,000 equal names", "names", more_than(20_000, without_one)),
     ("a deque that turns round", "a key of 70,000 bytes in lists", "list deque",

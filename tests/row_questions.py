@@ -334,13 +334,16 @@ def listing(names):
 
 
 def names(every, row):
-    """The listing of an index, or the names in it that are equal to one."""
+    """The listing of an index, or the names in it that are equal to one, or from one on and before another."""
     tables, named, question, inserted, wanted = bars(row, 5)
     texts = [text("8", characters(it)) for it in inserted.split()]
     right = listing([units_of("8", characters(it)) for it in wanted.split()])
     setup = made_by(every, tables, named)
     if question == "listed":
         return Case(setup, [f"names {' , '.join(texts)}"], [right])
+    if question.startswith("from "):
+        bounds = [text("8", characters(it)) for it in question[len("from ") :].split(" to ")]
+        return Case(setup, [f"between {' , '.join([*bounds, *texts])}"], [right])
     name = text("8", characters(question[len("equal to ") :]))
     return Case(setup, [f"equals {' , '.join([name, *texts])}"], [right])
 

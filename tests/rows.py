@@ -41,7 +41,7 @@ FILES = {
     "matches.txt": (15, row_questions.elements),
     "taken.txt": (9, row_questions.taken),
     "sinks.txt": (14, row_questions.sinks),
-    "names.txt": (22, row_questions.names),
+    "names.txt": (32, row_questions.names),
     "requests.txt": (49, row_questions.requests),
     "resolved.txt": (5, row_questions.resolved),
     "kept.txt": (17, row_questions.kept),

@@ -1,4 +1,2 @@
-pub mod GroupLemmas
-pub mod GroupEntryLemmas
 pub mod NameLemmas
 pub mod InsertionLemmas

@@ -1,6 +1,9 @@
 -- The order of names is that of their keys.
-use Rattle.std.proofs.Common.{◌≡◌, ℕ, suc, List, [], ◌∷◌, length, sym, ap, ◌∙◌, subst}
+use Rattle.std.proofs.Common.{◌≡◌, ℕ, ◌&&◌, Bool, true, false, not, List, [], ◌∷◌, filter, Result, Ok, Err, OnOk, OnErr, if◌then◌else◌, refl, sym, ap, ◌∙◌, subst}
+use Rattle.std.specs.List.{AllByRecursion}
+use Rattle.std.specs.Ordering.{is_eq, is_gt, is_le, is_lt}
 use Rattle.std.specs.declared.cmp.Ordering.{Ordering}
+use Rattle.std.specs.declared.cmp.Ordering.TheVariants.{Less, Equal, Greater}
 use Rattle.icu_collator.specs.declared.collator.CollatorBorrowed.{CollatorBorrowed}
 use Rattle.icu_collator.specs.Collators.{tables_borrowed, collation_borrowed}
 use Rattle.icu_checks.specs.WellFormedTables.{IsWellFormedTables}
@@ -8,9 +11,13 @@ use Rattle.icu_encodings.proofs.Utf8Lemmas.{utf8_scalars}
 use Rattle.icu_encodings.specs.DecodedTexts.{utf8_text}
 use Rattle.icu_levels.specs.ListOrder.{list_order}
 use Rattle.icu_text_order.proofs.TextOrders.{keys_keep}
-use Rattle.icu_index.specs.Listings.{name_order, inserted, equal_names}
-use Rattle.icu_index.specs.inner.NameGroups.{Group, key_of, added, names_in, IsKeyed}
-use Rattle.icu_index.proofs.GroupLemmas.{Ascend, found_at, added_is_inserted, added_keyed, found_are_equal, length_inserted}
+use Rattle.icu_keyed_names.specs.Borders.{lies_before}
+use Rattle.icu_keyed_names.specs.KeyedLists.{Keyed, between, names_in, placed}
+use Rattle.icu_keyed_names.specs.declared.borders.Border.{Border}
+use Rattle.icu_keyed_names.specs.declared.borders.Border.TheVariants.{Before, Behind}
+use Rattle.icu_index.specs.Listings.{name_order, inserted, equal_names, names_between}
+use Rattle.icu_index.specs.inner.NameKeys.{AreKeyed, key_of}
+use Rattle.std.specs.Borrow.{Bor}
 
 pub names_keep : (c : CollatorBorrowed) → IsWellFormedTables (tables_borrowed c) → (x y : List ℕ)
     → name_order (collation_borrowed c) x y
@@ -18,29 +25,63 @@ pub names_keep : (c : CollatorBorrowed) → IsWellFormedTables (tables_borrowed 
 names_keep c well_formed x y =
     sym (keys_keep (collation_borrowed c) well_formed (utf8_text x) (utf8_text y) (utf8_scalars x) (utf8_scalars y))
 
-module _ (c : CollatorBorrowed) (well_formed : IsWellFormedTables (tables_borrowed c)) where
-  abbrev order : List ℕ → List ℕ → Ordering
-  order x y = name_order (collation_borrowed c) x y
+-- ---- by an order that keys keep
 
-  abbrev key : List ℕ → List ℕ
-  key x = key_of (collation_borrowed c) x
+module _ (order : List ℕ → List ℕ → Ordering) (key : List ℕ → List ℕ) (keep : (x y : List ℕ) → order x y ≡ list_order (key x) (key y)) where
+  by_key : (x : Keyed) (name k : List ℕ) → x.0 ≡ key x.1 → k ≡ key name → order x.1 name ≡ list_order x.0 k
+  by_key x name k is at = keep x.1 name ∙ (ap (λ l. list_order l (key name)) (sym is) ∙ ap (list_order x.0) (sym at))
 
-  -- groups with one more name
-  module _ (name copy k : List ℕ) (is : copy ≡ name) (keys : k ≡ key name) (old new : List Group) (up : Ascend old) (keyed : IsKeyed key old)
-      (more : new ≡ added k (copy ∷ []) old) where
-    by_name : new ≡ added (key name) (name ∷ []) old
-    by_name = more ∙ (ap (λ x. added k (x ∷ []) old) is ∙ ap (λ l. added l (name ∷ []) old) keys)
+  placed_here : (b : Bool) (name k : List ℕ) (x : Keyed) (xs : List Keyed) (ys : List (List ℕ)) → names_in (placed (k, name) xs) ≡ ys
+      → names_in (if b then (k, name) ∷ x ∷ xs else x ∷ placed (k, name) xs) ≡ (if b then name ∷ x.1 ∷ names_in xs else x.1 ∷ ys)
+  placed_here true name k x xs ys h = refl
+  placed_here false name k x xs ys h = ap (λ zs. x.1 ∷ zs) h
 
-    pub lists_one_more : names_in new ≡ inserted order name (names_in old)
-    lists_one_more = ap names_in by_name ∙ added_is_inserted order name key (names_keep c well_formed) old up keyed
+  pub placed_is_inserted : (name k : List ℕ) → k ≡ key name → (xs : List Keyed) → AreKeyed key xs → names_in (placed (k, name) xs) ≡ inserted order name (names_in xs)
+  placed_is_inserted name k is [] keyed = refl
+  placed_is_inserted name k is (x ∷ xs) keyed =
+      placed_here (is_gt (list_order x.0 k)) name k x xs (inserted order name (names_in xs)) (placed_is_inserted name k is xs keyed.1)
+      ∙ ap (λ o. if is_gt o then name ∷ x.1 ∷ names_in xs else x.1 ∷ inserted order name (names_in xs)) (sym (by_key x name k keyed.0 is))
 
-    pub still_keyed : IsKeyed key new
-    still_keyed = subst (IsKeyed key) (sym by_name) (added_keyed key name old keyed)
+  kept_here : (a b : Bool) (x : Keyed) (xs : List Keyed) (ys : List (List ℕ)) → a ≡ b → names_in xs ≡ ys
+      → names_in (if a then x ∷ xs else xs) ≡ (if b then x.1 ∷ ys else ys)
+  kept_here true b x xs ys e h = subst (λ c. x.1 ∷ names_in xs ≡ (if c then x.1 ∷ ys else ys)) e (ap (λ zs. x.1 ∷ zs) h)
+  kept_here false b x xs ys e h = subst (λ c. names_in xs ≡ (if c then x.1 ∷ ys else ys)) e h
 
-    pub one_more : length (names_in new) ≡ suc (length (names_in old))
-    one_more = ap length lists_one_more ∙ length_inserted order name (names_in old)
+  is_between : (o : Ordering) → (not (is_lt o) && is_le o) ≡ is_eq o
+  is_between Less = refl
+  is_between Equal = refl
+  is_between Greater = refl
 
-  -- the names of a group
-  pub lists_equal : (name k : List ℕ) → k ≡ key name → (gs : List Group) → Ascend gs → IsKeyed key gs
-      → found_at k gs ≡ equal_names order name (names_in gs)
-  lists_equal name k keys gs up keyed = ap (λ l. found_at l gs) keys ∙ found_are_equal order name key (names_keep c well_formed) gs up keyed
+  pub equal_between : (name : List ℕ) (k l : Bor (List ℕ)) → k.now ≡ key name → l.now ≡ key name → (xs : List Keyed) → AreKeyed key xs
+      → names_in (between (Before k) (Behind l) xs) ≡ equal_names order name (names_in xs)
+  equal_between name k l is at [] keyed = refl
+  equal_between name k l is at (x ∷ xs) keyed =
+      kept_here (not (is_lt (list_order x.0 k.now)) && is_le (list_order x.0 l.now)) (is_eq (order x.1 name)) x (between (Before k) (Behind l) xs) (equal_names order name (names_in xs))
+      (ap (λ o. not (is_lt o) && is_le (list_order x.0 l.now)) (sym (by_key x name k.now keyed.0 is))
+      ∙ (ap (λ o. not (is_lt (order x.1 name)) && is_le o) (sym (by_key x name l.now keyed.0 at)) ∙ is_between (order x.1 name)))
+      (equal_between name k l is at xs keyed.1)
+
+  pub names_from_to : (from to : List ℕ) (k l : Bor (List ℕ)) → k.now ≡ key from → l.now ≡ key to → (xs : List Keyed) → AreKeyed key xs
+      → names_in (between (Before k) (Before l) xs) ≡ names_between order from to (names_in xs)
+  names_from_to from to k l is at [] keyed = refl
+  names_from_to from to k l is at (x ∷ xs) keyed =
+      kept_here (not (is_lt (list_order x.0 k.now)) && is_lt (list_order x.0 l.now)) (not (is_lt (order x.1 from)) && is_lt (order x.1 to)) x
+      (between (Before k) (Before l) xs) (names_between order from to (names_in xs))
+      (ap (λ o. not (is_lt o) && is_lt (list_order x.0 l.now)) (sym (by_key x from k.now keyed.0 is))
+      ∙ ap (λ o. not (is_lt (order x.1 from)) && is_lt o) (sym (by_key x to l.now keyed.0 at)))
+      (names_from_to from to k l is at xs keyed.1)
+
+  keyed_here : (b : Bool) (name k : List ℕ) (x : Keyed) (xs : List Keyed) → k ≡ key name → AreKeyed key (x ∷ xs) → AreKeyed key (placed (k, name) xs)
+      → AreKeyed key (if b then (k, name) ∷ x ∷ xs else x ∷ placed (k, name) xs)
+  keyed_here true name k x xs is keyed more = (is, keyed)
+  keyed_here false name k x xs is keyed more = (keyed.0, more)
+
+  pub still_keyed : (name k : List ℕ) → k ≡ key name → (xs : List Keyed) → AreKeyed key xs → AreKeyed key (placed (k, name) xs)
+  still_keyed name k is [] keyed = (is, tt)
+  still_keyed name k is (x ∷ xs) keyed = keyed_here (is_gt (list_order x.0 k)) name k x xs is keyed (still_keyed name k is xs keyed.1)
+
+  -- whether or not the name was put in
+  pub keyed_after : {X E : Type 0} (r : Result X E) (name k : List ℕ) → k ≡ key name → (old new : List Keyed) → AreKeyed key old
+      → OnOk r (new ≡ placed (k, name) old) → OnErr r (new ≡ old) → AreKeyed key new
+  keyed_after (Ok x) name k is old new keyed ok err = subst (AreKeyed key) (sym ok) (still_keyed name k is old keyed)
+  keyed_after (Err e) name k is old new keyed ok err = subst (AreKeyed key) (sym err) keyed

@@ -1,8 +1,8 @@
 -- The listing of names, by the order of texts and the order of insertion (UTS #10, "Multi-Level Comparison" and
 -- "Compare Sort Keys").
-use Rattle.std.specs.Prelude.{ℕ, List, [], ◌∷◌, filter, fold, if◌then◌else◌}
+use Rattle.std.specs.Prelude.{ℕ, ◌&&◌, not, List, [], ◌∷◌, filter, fold, if◌then◌else◌}
 use Rattle.std.specs.List.Sorted.{IsPermutation, IsSorted, IsStable}
-use Rattle.std.specs.Ordering.{is_eq, is_gt}
+use Rattle.std.specs.Ordering.{is_eq, is_gt, is_lt}
 use Rattle.std.specs.declared.cmp.Ordering.{Ordering}
 use Rattle.icu_checks.specs.WellFormedTables.{IsWellFormedTables}
 use Rattle.icu_encodings.specs.DecodedTexts.{utf8_text}
@@ -21,6 +21,10 @@ inserted order name (x ∷ xs) = if is_gt (order x name) then name ∷ x ∷ xs 
 -- the names of a listing that compare Equal to a name
 abbrev pub equal_names : (List ℕ → List ℕ → Ordering) → List ℕ → List (List ℕ) → List (List ℕ)
 equal_names order name names = filter (λ x. is_eq (order x name)) names
+
+-- the names of a listing that don't compare Less to one name, and compare Less to another
+abbrev pub names_between : (List ℕ → List ℕ → Ordering) → List ℕ → List ℕ → List (List ℕ) → List (List ℕ)
+names_between order from to names = filter (λ x. not (is_lt (order x from)) && is_lt (order x to)) names
 
 -- the listing of names that were inserted one after another, the first into a listing of none
 abbrev pub listing_of : (List ℕ → List ℕ → Ordering) → List (List ℕ) → List (List ℕ)

@@ -1,13 +1,12 @@
 -- What an index of names holds, and what its iterator has left.
-use Rattle.std.specs.Prelude.{ℕ, List, ◌++◌}
-use Rattle.std.specs.List.{flat_map}
+use Rattle.std.specs.Prelude.{ℕ, List}
 use Rattle.std.specs.declared.cmp.Ordering.{Ordering}
 use Rattle.icu_text_order.specs.Collations.{Collation}
 use Rattle.icu_collator.specs.Collators.{collation_borrowed}
 use Rattle.icu_index.specs.declared.index.NameIndex.{NameIndex}
 use Rattle.icu_index.specs.declared.names.NameIter.{NameIter}
 use Rattle.icu_index.specs.Listings.{name_order}
-use Rattle.icu_index.specs.inner.NameGroups.{names_of, names_in, groups_of}
+use Rattle.icu_keyed_names.specs.KeyedLists.{keyed_names, names_in, names_to_come}
 
 -- the collation that names are ordered by
 abbrev pub index_collation : NameIndex → Collation
@@ -19,8 +18,8 @@ index_order i = name_order (index_collation i)
 
 -- the names of an index, in order
 abbrev pub listing : NameIndex → List (List ℕ)
-listing i = names_in (groups_of i.groups.entries)
+listing i = names_in (keyed_names i.names)
 
 -- the names that an iterator has left
 abbrev pub names_left : NameIter → List (List ℕ)
-names_left it = names_of it.names.now ++ flat_map (λ g. names_of g.items) it.groups
+names_left it = names_to_come it.names

@@ -1,17 +1,31 @@
 //! The index of names.
 
-ghost use Rattle.std.specs.Prelude.{◌≡◌, [], length, map, IfOk, IsErr, IsTrue, OnOk, OnErr, ◌↔◌};
+ghost use Rattle.std.specs.Prelude.{◌≡◌, [], ◌++◌, length, IfOk, IsErr, IsTrue, OnOk, OnErr, ◌↔◌};
 ghost use Rattle.std.proofs.Props.{props};
-ghost use Rattle.std.specs.BTreeMap.{IsOrdered};
 ghost use Rattle.icu_collator.specs.Collators.{collation_borrowed, collation_kept};
-ghost use Rattle.icu_index.specs.Listings.{equal_names, inserted};
-ghost use Rattle.icu_index.specs.inner.NameGroups.{groups_of, key_of, key_order, names_in, IsKeyed};
+ghost use Rattle.icu_keyed_names.specs.KeyedLists.{keyed_names};
+ghost use Rattle.icu_index.specs.Listings.{equal_names, inserted, names_between};
+ghost use Rattle.icu_index.specs.inner.NameKeys.{key_of, AreKeyed};
 
-use crate::groups::{Groups, add_name};
 use crate::names::NameIter;
 use icu_collator::{Collator, CollatorBorrowed};
+use icu_keyed_names::{Border, KeyedNames};
 use std::alloc::{AllocError, Global};
-use std::collections::BTreeMap;
+
+/// Writes the sort key of a name behind other bytes.
+fn write_key(
+    collator: &CollatorBorrowed<'_>,
+    name: &[u8],
+    key: &mut Vec<u8>,
+) -> Result<(), AllocError>
+    ensures { OnOk result (key.new.items
+        ≡ key.old.items ++ key_of (collation_borrowed collator.now) name.now) }
+{
+    match collator.write_sort_key_utf8_to(name, key) {
+        Ok(()) => Ok(()),
+        Err(_) => Err(AllocError),
+    }
+}
 
 /// The sort key of a name.
 fn name_key(
@@ -22,10 +36,8 @@ fn name_key(
     ensures { IfOk result (λ key. key.items ≡ key_of (collation_borrowed collator.now) name.now) }
 {
     let mut key = Vec::new(alloc);
-    match collator.write_sort_key_utf8_to(name, &mut key) {
-        Ok(()) => Ok(key),
-        Err(_) => Err(AllocError),
-    }
+    write_key(collator, name, &mut key)?;
+    Ok(key)
 }
 
 /// Names in the order of a collator (UTS #10), those that compare equal in the order of insertion. A name is bytes in
@@ -35,11 +47,10 @@ fn name_key(
 pub struct NameIndex<'a> {
     alloc: Global,
     collator: CollatorBorrowed<'a>,
-    groups: Groups,
-    len: usize,
-    ghost keyed: { IsKeyed (key_of (collation_borrowed collator)) (groups_of groups.entries) } by { Prim.hlevel props },
-    ghost ascending: { IsOrdered key_order groups } by { Prim.hlevel props },
-    ghost counted: { len ≡ length (names_in (groups_of groups.entries)) },
+    /// Where the key of a name that comes in is written; its room is kept from one name to the next.
+    key: Vec<u8>,
+    names: KeyedNames,
+    ghost keyed: { AreKeyed (key_of (collation_borrowed collator)) (keyed_names names) } by { Prim.hlevel props },
 }
 
 impl<'a> NameIndex<'a> {
@@ -53,8 +64,8 @@ impl<'a> NameIndex<'a> {
         NameIndex {
             alloc,
             collator: collator.as_borrowed(),
-            groups: BTreeMap::new(alloc),
-            len: 0,
+            key: Vec::new(alloc),
+            names: KeyedNames::new(alloc),
         }
     }
 
@@ -75,26 +86,23 @@ impl<'a> NameIndex<'a> {
         ensures collation { index_collation self.new ≡ index_collation self.old }
     {
         self.collator.has_well_formed_tables();
-        let len = self.len.checked_add(1).ok_or(AllocError)?;
-        let key = name_key(self.alloc, &self.collator, name)?;
-        let name = name.to_vec(self.alloc)?;
-        add_name(self.alloc, &mut self.groups, key, name)?;
-        self.len = len;
-        Ok(())
+        self.key.clear();
+        write_key(&self.collator, name, &mut self.key)?;
+        self.names.insert(self.key.as_slice(), name)
     }
 
     /// How many names there are.
     pub fn len(&self) -> usize
         ensures { result ≡ length (listing self.now) }
     {
-        self.len
+        self.names.len()
     }
 
     /// Whether there is no name.
     pub fn is_empty(&self) -> bool
         ensures { IsTrue result ↔ (listing self.now ≡ []) }
     {
-        self.len == 0
+        self.names.len() == 0
     }
 
     /// All names, in order. Does not allocate.
@@ -102,22 +110,38 @@ impl<'a> NameIndex<'a> {
         ensures { names_left result ≡ listing self.now }
     {
         NameIter {
-            names: &[],
-            groups: self.groups.values(),
+            names: self.names.iter(),
         }
     }
 
     /// The names that compare Equal to a name, in the order of insertion. The name need not be one of the index. Fails
     /// only where an allocation does.
-    pub fn equal_to(&self, name: &[u8]) -> Result<&[Vec<u8>], AllocError>
-        ensures { IfOk result (λ names. map (λ n. n.items) names.now
+    pub fn equal_to(&self, name: &[u8]) -> Result<NameIter<'_>, AllocError>
+        ensures { IfOk result (λ names. names_left names
             ≡ equal_names (index_order self.now) name.now (listing self.now)) }
     {
         self.collator.has_well_formed_tables();
         let key = name_key(self.alloc, &self.collator, name)?;
-        match self.groups.get(&key) {
-            Some(names) => Ok(names.as_slice()),
-            None => Ok(&[]),
-        }
+        let names = self.names.between(
+            Border::Before(key.as_slice()),
+            Border::Behind(key.as_slice()),
+        );
+        Ok(NameIter { names })
+    }
+
+    /// The names that don't compare Less to one name, and compare Less to another, in order. Neither need be one of the
+    /// index. Fails only where an allocation does.
+    pub fn between(&self, from: &[u8], to: &[u8]) -> Result<NameIter<'_>, AllocError>
+        ensures { IfOk result (λ names. names_left names
+            ≡ names_between (index_order self.now) from.now to.now (listing self.now)) }
+    {
+        self.collator.has_well_formed_tables();
+        let from = name_key(self.alloc, &self.collator, from)?;
+        let to = name_key(self.alloc, &self.collator, to)?;
+        let names = self.names.between(
+            Border::Before(from.as_slice()),
+            Border::Before(to.as_slice()),
+        );
+        Ok(NameIter { names })
     }
 }

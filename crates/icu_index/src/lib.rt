@@ -2,7 +2,6 @@
 //! given one are taken.
 #![tactic(auto)]
 
-mod groups;
 pub mod index;
 pub mod laws;
 pub mod names;

@@ -3,7 +3,7 @@ use crate::driver_error::DriverError;
 use crate::numbers::written;
 use crate::texts::{WrittenText, bytes_of, several};
 use icu_collator::Collator;
-use icu_index::NameIndex;
+use icu_index::{NameIndex, NameIter};
 use std::alloc::{AllocError, Global};
 
 /// Appends a name to a listing, whose first one has no comma before it.
@@ -98,16 +98,15 @@ pub(crate) fn names(
     Ok(format!(in alloc; "{:X} : {listing}", index.len())?)
 }
 
-/// The names of an index that are equal to a name.
-fn equal_names(alloc: Global, index: &NameIndex<'_>, name: &[u8]) -> Result<String, AllocError> {
+/// How many names an iterator gives, and these.
+fn given(alloc: Global, names: NameIter<'_>) -> Result<String, AllocError> {
     let mut text = String::new(alloc);
-    let names = index.equal_to(name)?;
-    let mut is_first = true;
+    let mut count = 0usize;
     for name in names {
-        push_name(alloc, &mut text, is_first, name.as_slice())?;
-        is_first = false;
+        push_name(alloc, &mut text, count == 0, name)?;
+        count = count.saturating_add(1);
     }
-    format!(in alloc; "{:X} : {text}", names.len())
+    format!(in alloc; "{count:X} : {text}")
 }
 
 /// The names that are equal to the first one, of an index of the others.
@@ -119,7 +118,25 @@ pub(crate) fn equals(
     let names = several(alloc, names)?;
     let (name, names) = names.as_slice().split_first().ok_or(DriverError::Unread)?;
     match index(alloc, collator, names)? {
-        Some(index) => Ok(equal_names(alloc, &index, bytes_of(name)?)?),
+        Some(index) => Ok(given(alloc, index.equal_to(bytes_of(name)?)?)?),
+        None => lost(alloc),
+    }
+}
+
+/// The names from the first one on and before the second, of an index of the others.
+pub(crate) fn between(
+    alloc: Global,
+    collator: &Collator,
+    names: &str,
+) -> Result<String, DriverError> {
+    let names = several(alloc, names)?;
+    let (from, names) = names.as_slice().split_first().ok_or(DriverError::Unread)?;
+    let (to, names) = names.split_first().ok_or(DriverError::Unread)?;
+    match index(alloc, collator, names)? {
+        Some(index) => {
+            let found = index.between(bytes_of(from)?, bytes_of(to)?)?;
+            Ok(given(alloc, found)?)
+        }
         None => lost(alloc),
     }
 }

@@ -9,7 +9,7 @@ use crate::keys::{key, slice};
 use crate::letters::letter;
 use crate::limited::into_limited;
 use crate::lines::line as line_of;
-use crate::names::{equals, names};
+use crate::names::{between, equals, names};
 use crate::numbers::{list, number, numbers, written};
 use crate::readers::Reader;
 use crate::requests::request;
@@ -24,8 +24,8 @@ use icu_numbers::digit_run_weights;
 use std::alloc::Global;
 
 /// The questions on texts by a collator.
-const BY_COLLATOR: [&str; 8] = [
-    "compare", "key", "slice", "list", "limited", "names", "equals", "resolved",
+const BY_COLLATOR: [&str; 9] = [
+    "compare", "key", "slice", "list", "limited", "names", "equals", "between", "resolved",
 ];
 
 /// The questions on the elements of texts.
@@ -97,6 +97,7 @@ fn by_collator(
         "limited" => into_limited(alloc, collator, rest),
         "names" => names(alloc, collator, rest),
         "equals" => equals(alloc, collator, rest),
+        "between" => between(alloc, collator, rest),
         "resolved" => Ok(indexes(alloc, collator.as_borrowed().resolved_options())?),
         _ => Err(DriverError::Unread),
     }

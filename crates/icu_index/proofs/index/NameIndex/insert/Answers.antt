@@ -1,29 +1,30 @@
-use Rattle.std.proofs.Common.{◌≡◌, ◌+◌, ◌∙◌, sym, ap, add-one, rules, suc}
-use Rattle.icu_index.proofs.GroupEntryLemmas.{groups_ascend}
-use Rattle.icu_index.proofs.NameLemmas.{lists_one_more, one_more, still_keyed}
-use Rattle.icu_index.specs.inner.NameGroups.{groups_of}
+use Rattle.std.proofs.Common.{◌≡◌, ◌∙◌, ◌++◌, ap, sym}
+use Rattle.std.proofs.lemmas.Result.{on_ok_weaker}
+use Rattle.icu_collator.specs.Collators.{collation_borrowed}
+use Rattle.icu_keyed_names.specs.KeyedLists.{keyed_names, names_in, placed}
+use Rattle.icu_index.proofs.NameLemmas.{keyed_after, names_keep, placed_is_inserted}
+use Rattle.icu_index.specs.Listings.{name_order}
+use Rattle.icu_index.specs.inner.NameKeys.{key_of}
 use Rattle.icu_index.proofs.index.NameIndex.insert.Goals as goal
 
 pub invariant_of-self-2 : goal.invariant_of-self-2
 invariant_of-self-2 c =
-    let old = c.args.self.now.groups.entries in
-    let copied : c.in_ok-name.name.items ≡ c.args.name.now = search rules in
-    let more : c.in_ok-len.len ≡ c.args.self.now.len + 1 = search rules in
+    let self = c.args.self.now in
+    let collation = collation_borrowed self.collator in
+    let is = c.as_slice.ensures.value ∙ (c.in_ok-write_key.ensures ∙ ap (λ bs. bs ++ key_of collation c.args.name.now) c.clear.ensures.items) in
     record {
-      keyed = still_keyed c.args.self.now.collator c.has_well_formed_tables.ensures c.args.name.now c.in_ok-name.name.items c.in_ok-key.key.items copied c.in_ok-key.ensures
-          (groups_of old) (groups_of c.add_name.new.groups.entries) (groups_ascend old c.args.self.now.ascending) c.args.self.now.keyed
-          c.in_ok-add_name.ensures.ok;
-      ascending = c.add_name.ensures.ascending;
-      counted = more ∙ (add-one c.args.self.now.len ∙ (ap suc c.args.self.now.counted
-          ∙ sym (one_more c.args.self.now.collator c.has_well_formed_tables.ensures c.args.name.now c.in_ok-name.name.items c.in_ok-key.key.items copied c.in_ok-key.ensures
-          (groups_of old) (groups_of c.add_name.new.groups.entries) (groups_ascend old c.args.self.now.ascending) c.args.self.now.keyed
-          c.in_ok-add_name.ensures.ok)));
+      keyed = keyed_after (name_order collation) (key_of collation) (names_keep self.collator c.has_well_formed_tables.ensures) c.insert.result
+          c.args.name.now c.as_slice.result.now is (keyed_names self.names) (keyed_names c.insert.new.self) self.keyed c.insert.ensures.ok c.insert.ensures.err;
     }
 
 pub returns-clause-ok : goal.returns-clause-ok
 returns-clause-ok c =
-    let old = c.args.self.now.groups.entries in
-    let copied : c.in_ok-name.name.items ≡ c.args.name.now = search rules in
-    lists_one_more c.args.self.now.collator c.has_well_formed_tables.ensures c.args.name.now c.in_ok-name.name.items c.in_ok-key.key.items copied c.in_ok-key.ensures
-    (groups_of old) (groups_of c.add_name.new.groups.entries) (groups_ascend old c.args.self.now.ascending) c.args.self.now.keyed
-    c.in_ok-add_name.ensures.ok
+    let self = c.args.self.now in
+    let collation = collation_borrowed self.collator in
+    let is = c.as_slice.ensures.value ∙ (c.in_ok-write_key.ensures ∙ ap (λ bs. bs ++ key_of collation c.args.name.now) c.clear.ensures.items) in
+    on_ok_weaker c.insert.result
+    (λ (h : keyed_names c.insert.new.self ≡ placed (c.as_slice.result.now, c.args.name.now) (keyed_names self.names)).
+        ap names_in h
+        ∙ placed_is_inserted (name_order collation) (key_of collation) (names_keep self.collator c.has_well_formed_tables.ensures)
+        c.args.name.now c.as_slice.result.now is (keyed_names self.names) self.keyed)
+    c.insert.ensures.ok

@@ -1,0 +1,15 @@
+-- The sort keys of names.
+use Rattle.std.specs.Prelude.{◌≡◌, ℕ, List}
+use Rattle.std.specs.List.{AllByRecursion}
+use Rattle.icu_encodings.specs.DecodedTexts.{utf8_text}
+use Rattle.icu_keyed_names.specs.KeyedLists.{Keyed}
+use Rattle.icu_text_order.specs.Collations.{Collation}
+use Rattle.icu_text_order.specs.TextOrder.{text_key}
+
+-- the sort key of a name
+abbrev pub key_of : Collation → List ℕ → List ℕ
+key_of c name = text_key c (utf8_text name)
+
+-- each name has its key
+abbrev pub AreKeyed : (List ℕ → List ℕ) → List Keyed → Type 0
+AreKeyed key names = AllByRecursion (λ x. x.0 ≡ key x.1) names

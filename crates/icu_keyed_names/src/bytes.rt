@@ -1,0 +1,56 @@
+//! Parts of a buffer, and the numbers that keys begin with.
+
+ghost use Rattle.std.specs.Prelude.{◌≡◌, slice_index};
+ghost use Rattle.icu_keyed_names.specs.inner.NameEntries.{AreBytes, buffer_part, prefix_of};
+
+/// The bytes of a buffer from a start up to an end, none where there are no such bytes.
+pub(crate) fn part(bytes: &[u8], start: usize, end: usize) -> &[u8]
+    ensures { result.now ≡ buffer_part bytes.now start end }
+{
+    if start <= end && end <= bytes.len() {
+        &bytes[start..end]
+    } else {
+        &[]
+    }
+}
+
+/// The bytes of a buffer.
+pub(crate) fn all(bytes: &Vec<u8>) -> &[u8]
+    ensures value { result.now ≡ bytes.now.items }
+    ensures bytes { AreBytes result.now }
+{
+    let read = bytes.as_slice();
+    read
+}
+
+/// Says of bytes that they are below 256. Does nothing.
+pub(crate) fn are_bytes(bytes: &[u8])
+    ensures { AreBytes bytes.now }
+{}
+
+/// The byte at an index, or zero behind the last.
+fn byte_at(key: &[u8], index: usize) -> u8
+    ensures { result ≡ slice_index key.now index }
+{
+    match key.get(index) {
+        Some(byte) => *byte,
+        None => 0,
+    }
+}
+
+/// The first eight bytes of a key as a number, the first one highest; a key that is shorter is filled up with zeros.
+pub(crate) fn prefix(key: &[u8]) -> u64
+    ensures { result ≡ prefix_of key.now }
+{
+    let high = [
+        byte_at(key, 0),
+        byte_at(key, 1),
+        byte_at(key, 2),
+        byte_at(key, 3),
+        byte_at(key, 4),
+        byte_at(key, 5),
+        byte_at(key, 6),
+        byte_at(key, 7),
+    ];
+    u64::from_be_bytes(high)
+}

@@ -1,0 +1,143 @@
+//! Names under their keys.
+
+ghost use Rattle.std.specs.Prelude.{◌≡◌, [], ◌↔◌, ◌++◌, length, map, IfOk, IsErr, IsTrue, OnErr, OnOk};
+ghost use Rattle.std.proofs.Props.{props};
+ghost use Rattle.icu_keyed_names.specs.inner.NameEntries.{keyed_in, AreEntriesIn, IsEntryOf};
+ghost use Rattle.icu_keyed_names.specs.inner.Leaves.{entries_of, AreFilled, Rise, Rise-prop};
+
+use crate::borders::Border;
+use crate::bytes::{all, prefix};
+use crate::leaf_places::find_place;
+use crate::leaves::add;
+use crate::name_entries::{Entry, Sought};
+use crate::names::{Names, names_between};
+use std::alloc::{AllocError, Global};
+
+/// Makes room for more bytes, an eighth of those that there are or more.
+fn reserve(bytes: &mut Vec<u8>, more: usize) -> Result<(), AllocError>
+    ensures { bytes.new.items ≡ bytes.old.items }
+{
+    let spare = bytes.capacity().saturating_sub(bytes.len());
+    if more <= spare {
+        return Ok(());
+    }
+    let step = bytes.len() / 8;
+    bytes.reserve_exact(if more < step { step } else { more })
+}
+
+/// Puts a key and a name behind the bytes of a buffer, and returns their entry. An error leaves the bytes as they were.
+fn append(bytes: &mut Vec<u8>, key: &[u8], name: &[u8]) -> Result<Entry, AllocError>
+    ensures ok { OnOk result (bytes.new.items ≡ bytes.old.items ++ (key.now ++ name.now)) }
+    ensures err { OnErr result (bytes.new.items ≡ bytes.old.items) }
+    ensures entry { IfOk result (λ e. IsEntryOf bytes.new.items key.now name.now e) }
+{
+    let start = bytes.len();
+    reserve(bytes, key.len().saturating_add(name.len()))?;
+    bytes.extend_from_slice(key)?;
+    let middle = bytes.len();
+    if let Err(error) = bytes.extend_from_slice(name) {
+        bytes.truncate(start);
+        return Err(error);
+    }
+    Ok(Entry {
+        prefix: prefix(key),
+        start,
+        middle,
+        end: bytes.len(),
+    })
+}
+
+/// Names with keys, in the order of the keys, those of equal keys in the order of insertion. Keys are bytes, compared
+/// byte by byte, as sort keys are (UTS #10, "Compare Sort Keys").
+#[derive(Drop)]
+pub struct KeyedNames {
+    alloc: Global,
+    /// The keys and names, each name behind its key.
+    bytes: Vec<u8>,
+    /// The entries in the order of the keys.
+    leaves: Vec<Vec<Entry>>,
+    len: usize,
+    ghost sound: { AreEntriesIn bytes.items (entries_of leaves.items) } by { Prim.hlevel props },
+    ghost filled: { AreFilled leaves.items } by { Prim.hlevel props },
+    ghost rise: { Rise (map (λ x. x.0) (map (keyed_in bytes.items) (entries_of leaves.items))) } by { Rise-prop _ },
+    ghost counted: { len ≡ length (entries_of leaves.items) },
+}
+
+impl KeyedNames {
+    ghost use Rattle.icu_keyed_names.specs.KeyedLists.{between, keyed_names, names_in, names_to_come, placed};
+
+    /// No names. Does not allocate.
+    pub fn new(alloc: Global) -> KeyedNames
+        ensures { keyed_names result ≡ [] }
+    {
+        KeyedNames {
+            alloc,
+            bytes: Vec::new(alloc),
+            leaves: Vec::new(alloc),
+            len: 0,
+        }
+    }
+
+    /// Puts copies of a key and of its name in their place: before the first name whose key is greater, or last. So it
+    /// stands behind those of an equal key.
+    ///
+    /// # Errors
+    ///
+    /// Fails where an allocation does, or where there are as many names as a `usize` counts, and leaves all as it was.
+    pub fn insert(&mut self, key: &[u8], name: &[u8]) -> Result<(), AllocError>
+        ensures ok { OnOk result
+            (keyed_names self.new ≡ placed (key.now, name.now) (keyed_names self.old)) }
+        ensures err { OnErr result (keyed_names self.new ≡ keyed_names self.old) }
+        ensures full { length (keyed_names self.old) ≡ usize.MAX → IsErr result }
+    {
+        let len = self.len.checked_add(1).ok_or(AllocError)?;
+        let start = self.bytes.len();
+        let entry = append(&mut self.bytes, key, name)?;
+        let sought = Sought::new(Border::Behind(key));
+        let bytes = all(&self.bytes);
+        if let Err(error) = add(self.alloc, bytes, &mut self.leaves, &sought, entry) {
+            self.bytes.truncate(start);
+            return Err(error);
+        }
+        self.len = len;
+        Ok(())
+    }
+
+    /// How many names there are.
+    pub fn len(&self) -> usize
+        ensures { result ≡ length (keyed_names self.now) }
+    {
+        self.len
+    }
+
+    /// Whether there is no name.
+    pub fn is_empty(&self) -> bool
+        ensures { IsTrue result ↔ (keyed_names self.now ≡ []) }
+    {
+        self.len == 0
+    }
+
+    /// All names, in order. Does not allocate.
+    pub fn iter(&self) -> Names<'_>
+        ensures { names_to_come result ≡ names_in (keyed_names self.now) }
+    {
+        Names {
+            bytes: self.bytes.as_slice(),
+            entries: &[],
+            leaves: self.leaves.as_slice(),
+            last: &[],
+        }
+    }
+
+    /// The names whose keys stand behind one border and before another, in order. Does not allocate.
+    pub fn between(&self, from: Border<'_>, to: Border<'_>) -> Names<'_>
+        ensures { names_to_come result
+            ≡ names_in (between from.entry to.entry (keyed_names self.now)) }
+    {
+        let bytes = all(&self.bytes);
+        let leaves = self.leaves.as_slice();
+        let first = find_place(bytes, leaves, &Sought::new(from));
+        let end = find_place(bytes, leaves, &Sought::new(to));
+        names_between(bytes, leaves, first, end)
+    }
+}

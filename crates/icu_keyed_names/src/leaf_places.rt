@@ -1,0 +1,78 @@
+//! Where a border stands among the entries of leaves.
+
+ghost use Rattle.std.specs.Prelude.{◌≡◌, ◌≤◌, true, false, length};
+ghost use Rattle.std.specs.List.Sorted.{IsPartitionPoint};
+ghost use Rattle.icu_keyed_names.specs.inner.NameEntries.{entry_before};
+ghost use Rattle.icu_keyed_names.specs.inner.Leaves.{AreFilled, IsParted, Parts, entries_of, leaf_at, leaf_before};
+
+use crate::name_entries::{Entry, Sought};
+
+/// A place among the entries: a leaf, and how many of its entries stand before the place.
+#[derive(Clone, Copy)]
+pub(crate) struct Place {
+    pub(crate) leaf: usize,
+    pub(crate) index: usize,
+}
+
+/// Whether the first entry of a leaf stands before a border.
+fn begins_before(bytes: &[u8], leaf: &[Entry], sought: &Sought<'_>) -> bool
+    ensures { result ≡ leaf_before (entry_before bytes.now sought.now.border) leaf.now }
+{
+    match leaf.first() {
+        Some(entry) => entry.is_before(bytes, sought),
+        None => true,
+    }
+}
+
+/// How many of the leaves begin before a border.
+fn leaves_before(bytes: &[u8], leaves: &[Vec<Entry>], sought: &Sought<'_>) -> usize
+    ensures bound { result ≤ length leaves.now }
+    ensures point { let test = entry_before bytes.now sought.now.border in
+        IsParted (λ l. leaf_before test l.items) leaves.now
+        → IsPartitionPoint (λ l. leaf_before test l.items ≡ true)
+        (λ l. leaf_before test l.items ≡ false) leaves.now result }
+{
+    leaves.partition_point(
+        |leaf| -> bool
+            ensures { result ≡ leaf_before (entry_before bytes.entry.now sought.entry.now.border)
+                leaf.now.items }
+        { begins_before(bytes, leaf.as_slice(), sought) },
+    )
+}
+
+/// How many entries of a leaf stand before a border.
+fn entries_before(bytes: &[u8], leaf: &[Entry], sought: &Sought<'_>) -> usize
+    ensures bound { result ≤ length leaf.now }
+    ensures point { let test = entry_before bytes.now sought.now.border in IsParted test leaf.now
+        → IsPartitionPoint (λ e. test e ≡ true) (λ e. test e ≡ false) leaf.now result }
+{
+    leaf.partition_point(
+        |entry| -> bool
+            ensures { result ≡ entry_before bytes.entry.now sought.entry.now.border entry.now }
+        { entry.is_before(bytes, sought) },
+    )
+}
+
+/// The entries of a leaf, none where there is no such leaf.
+pub(crate) fn leaf_at(leaves: &[Vec<Entry>], index: usize) -> &[Entry]
+    ensures { result.now ≡ leaf_at leaves.now index }
+{
+    if index < leaves.len() {
+        leaves[index].as_slice()
+    } else {
+        &[]
+    }
+}
+
+/// The place of a border: in the last leaf that begins before it, or in the first one.
+pub(crate) fn find_place(bytes: &[u8], leaves: &[Vec<Entry>], sought: &Sought<'_>) -> Place
+    ensures there { result.leaf ≤ length leaves.now }
+    ensures within { result.index ≤ length (leaf_at leaves.now result.leaf) }
+    ensures parts { let test = entry_before bytes.now sought.now.border in
+        AreFilled leaves.now → IsParted test (entries_of leaves.now)
+        → Parts test leaves.now result.leaf result.index }
+{
+    let leaf = leaves_before(bytes, leaves, sought).saturating_sub(1);
+    let index = entries_before(bytes, leaf_at(leaves, leaf), sought);
+    Place { leaf, index }
+}
