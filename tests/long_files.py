@@ -1,7 +1,7 @@
 """Files of the form of FractionalUCA.txt with more than 10,000 lines: each line of them counts, also the last ones. What the lines
 come to is written beside them, in the form of tests/rows/cldr/entries.txt.
 """
-from cldr_questions import DATA, FIRST_LINES, entry_printed
+from cldr_questions import DATA, FIRST_LINES, LAST_LINE, entry_printed
 from driver import numbers, text
 from row_questions import Case
 
@@ -30,7 +30,7 @@ def lines_of(at):
 
 
 def file_of(lines):
-    return "root " + text("8", FIRST_LINES + "".join(f"{it}\n" for it in lines))
+    return "root " + text("8", FIRST_LINES + "".join(f"{it}\n" for it in lines) + LAST_LINE)
 
 
 def cases():
