@@ -137,6 +137,8 @@ def unwritten():
         "an empty file": Case([], [f"root {text('8', [])}"], ["the file is empty"]),
         "a file that is cut off": cut_off(),
         "texts behind prefixes": behind_prefixes(),
+        "many ranges of ideographs": Case([], [f"root {text('8', ranges(count))}" for count in (256, 257)],
+                                          [CUT_OFF, "line 1: expected at most 256 ranges of ideographs"]),
         "bytes that are no UTF-8": Case([], [f"root {text('8', list(DAMAGED))}"], ["line 2: expected UTF-8"]),
         "a file by its name": named_file(),
         "bytes written one by one": Case([], lists, len(lists) * [written([row_questions.HELD, 0x61, 0x10, *40 * [5]])]),
@@ -148,6 +150,11 @@ def unwritten():
 
 
 CUT_OFF = "at the end: the file is cut off: expected its last line, [fixed first ignorable tertiary byte 3C]"
+
+
+def ranges(count):
+    """A line of so many ranges of ideographs."""
+    return f"[Unified_Ideograph{count * ' 4E00'}]\n"
 
 
 def cut_off():
