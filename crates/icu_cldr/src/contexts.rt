@@ -123,9 +123,13 @@ fn spend(left: &mut u64, steps: u64) -> Result<(), UnnumberedError> {
     }
 }
 
-/// How many steps it takes to see whether some of these entries begin characters.
+/// How many steps it takes to copy an entry, beside those for its characters.
+const COPY_STEPS: u64 = 64;
+
+/// How many steps it takes to see whether some of these entries begin characters, and to copy the entry before them.
 fn steps_for(entries: &Suffixes, chars: &[char]) -> u64 {
-    (entries.len() as u64).saturating_mul((chars.len() as u64).saturating_add(1))
+    let compared = (entries.len() as u64).saturating_mul((chars.len() as u64).saturating_add(1));
+    compared.saturating_add(COPY_STEPS)
 }
 
 /// The entries of a longer prefix, and those of a shorter one that none of them begins.
