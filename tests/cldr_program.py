@@ -225,6 +225,37 @@ def wrong_cuts(program, room, cuts):
     return [it for it in found if it]
 
 
+# ---- the file cut off at each place
+
+CUT_OFF = "at the end: the file is cut off: expected its last line, [fixed first ignorable tertiary byte 3C]"
+
+
+def wrong_ends(program, room, step=1):
+    """The places, of each so many bytes, where the small file may end and isn't refused: behind a line as one that is cut off, and
+    within a line also by that line. Without a byte it is empty, and it is whole without its last line feed."""
+    with open(LETTERS, "rb") as it:
+        whole = it.read()
+
+    def wrong(end):
+        path, begun = os.path.join(room, f"ends-{end}"), whole[:end]
+        with open(path, "wb") as it:
+            it.write(begun)
+        ran = run(program, [path, "compare", "3", "a", "b"], b"")
+        os.remove(path)
+        said = CUT_OFF if begun else "the file is empty"
+        if ran.status == 0 and end == len(whole) - 1:
+            return None
+        if not begun.endswith(b"\n") and ran.faults.startswith(f"{path}: line {begun.count(10) + 1}: expected ".encode()):
+            return None
+        right = ran.came_to() == (1, b"", f"{path}: {said}\n".encode())
+        return None if right else f"cut off behind {end} bytes: {ran}"
+
+    ends = range(0, len(whole), step)
+    with concurrent.futures.ThreadPoolExecutor(os.cpu_count() or 1) as pool:
+        found = [*pool.map(wrong, ends)]
+    return [it for it in found if it]
+
+
 # ---- each request refused
 
 is_right = says_refusals("collate-cldr", f"{LETTERS}: read failed\n".encode(), b"collate-cldr: read failed\n")
@@ -284,6 +315,11 @@ def check_collate_cldr(report, room, shim):
     check_refused(report, program, shim)
     cuts = cut_lines(letter_lines())
     report.say("collate-cldr: each line of a file cut at each place", wrong_cuts(program, room, cuts), len(cuts))
+    ends = os.path.getsize(LETTERS)
+    report.say("collate-cldr: a file cut off at each place", wrong_ends(program, room), ends)
+    accepting = wrapped(room, "accepting_reader", program, 'printf "[fixed first ignorable tertiary byte 3C]" >>"$1"; "$COLLATE" "$@"')
+    missed = [] if wrong_ends(accepting, room, 100) else ["not found: a file that is cut off and read"]
+    report.say("collate-cldr: a program that reads a file which is cut off is found", missed, ends // 100)
     some = cuts[len(cuts) // 2 :: 100]
     careless = wrapped(room, "careless_reader", program, '"$COLLATE" "$@" 2>/dev/null || echo')
     missed = [] if wrong_cuts(careless, room, some) else ["not found: a file that isn't read taken for an empty one"]

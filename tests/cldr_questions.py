@@ -15,6 +15,8 @@ FDD1 20AC; [0D 89 02, 05, 05]
 FDD1 0034; [0E 02 02, 05, 05]
 FDD0 0034; [0F, 05, 05]
 """ + "".join(f"{0x300 + at:04X}; [, {0x46 + at:02X}, 05]\n" for at in range(79))
+# What each file ends with: without this line it is cut off.
+LAST_LINE = "[fixed first ignorable tertiary byte 3C]\n"
 DATA = ["ces", "ce32s", "contexts", "mappings", "chars"]
 Lists = collections.namedtuple("Lists", DATA)
 
@@ -37,8 +39,8 @@ def is_beginning_of_line(found, whole):
 
 
 def file_of(lines):
-    """What reads a file: the first lines, and those of a row, between which a row writes `\\n`."""
-    content = FIRST_LINES + lines.replace("\\n", "\n") + "\n"
+    """What reads a file: the first lines, those of a row, between which a row writes `\\n`, and the last."""
+    content = FIRST_LINES + lines.replace("\\n", "\n") + "\n" + LAST_LINE
     return f"root {text('8', content)}"
 
 

@@ -1,7 +1,7 @@
 """Files of the form of FractionalUCA.txt with more than 10,000 lines: each line of them counts, also the last ones. What the lines
 come to is written beside them, in the form of tests/rows/cldr/entries.txt.
 """
-from cldr_questions import DATA, FIRST_LINES, entry_printed
+from cldr_questions import DATA, FIRST_LINES, LAST_LINE, entry_printed
 from driver import numbers, text
 from row_questions import Case
 
@@ -30,7 +30,15 @@ def lines_of(at):
 
 
 def file_of(lines):
-    return "root " + text("8", FIRST_LINES + "".join(f"{it}\n" for it in lines))
+    return "root " + text("8", FIRST_LINES + "".join(f"{it}\n" for it in lines) + LAST_LINE)
+
+
+def joined_lines():
+    """Lines of a character with 3,000 prefixes that have a contraction and no mapping of the character alone, and with 6,000
+    contractions without a prefix, which count behind each of them."""
+    element = "[61 10, 05, 05]"
+    behind = [f"{FIRST + at:X} | 0063 0064; {element}" for at in range(3_000)]
+    return [f"0063; {element}", *behind, *(f"0063 {FIRST + at:X}; {element}" for at in range(6_000))]
 
 
 def cases():
@@ -42,6 +50,7 @@ def cases():
     asked = [*(f"entry {FIRST + at:X}" for at in range(COUNT)), *shown]
     return {
         "a file of many lines": Case([file_of(lines)], asked, lambda found: has_entries(found, [entry for _, entry in said])),
+        "mappings of shorter prefixes, too many": Case([], [file_of(joined_lines())], ["at the end: expected fewer contractions and digits"]),
         "the number of a late line": Case([], [
             file_of([*lines, "0061; [61 10, 05, 05"]), file_of([*lines, lines[0]]), file_of([*lines[:-1], lines[0], lines[-1]]),
         ], [

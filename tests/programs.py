@@ -27,6 +27,7 @@ from refusals import check_refusals, driver_is_right, other_answers_missed
 from rows import check_rows
 from settings_pairs import check_settings
 from sweeps import REQUESTS, TESTS, Run, built, faults_of, losses_missed, run, run_on_streams, says_refusals, sweep, wrapped
+from timed_files import check_files
 
 USAGE = b"usage: collate compare STRENGTH A B | collate key STRENGTH TEXT | collate sort STRENGTH\n"
 collate_is_right = says_refusals("collate", b"collate: read failed\n")
@@ -349,6 +350,7 @@ def check_all(report, room):
     report.also("hostile input", check_hostile, drivers()[0])
     report.also("refused memory", check_refusals, shim, drivers()[0])
     report.also("a file of CLDR", check_reads, shim, drivers()[0])
+    report.also("files of CLDR's form that are made to be dear", check_files, drivers()[0])
 
 
 def main():

@@ -34,8 +34,8 @@ FILES = {
     "settings.txt": (37, row_questions.settings),
     "encodings.txt": (478, row_questions.encodings),
     "letters.txt": (34, row_questions.letters),
-    "cldr/lines.txt": (38, cldr_questions.line),
-    "cldr/entries.txt": (54, cldr_questions.entries),
+    "cldr/lines.txt": (58, cldr_questions.line),
+    "cldr/entries.txt": (58, cldr_questions.entries),
     "cldr/tables.txt": (23, cldr_questions.companions),
     "cldr/refused.txt": (10, cldr_questions.refused),
     "matches.txt": (15, row_questions.elements),
@@ -134,7 +134,11 @@ def unwritten():
     lists = [f"bytes {it}" for it in row_questions.LISTS]
     return {
         "a long line": Case([], [f"line {text('c', LONG_LINE)}"], [SAID_BY_IT]),
-        "an empty file": Case([], [f"root {text('8', [])}"], ["collation table Diacritics: Element"]),
+        "an empty file": Case([], [f"root {text('8', [])}"], ["the file is empty"]),
+        "a file that is cut off": cut_off(),
+        "texts behind prefixes": behind_prefixes(),
+        "many ranges of ideographs": Case([], [f"root {text('8', ranges(count))}" for count in (256, 257)],
+                                          [CUT_OFF, "line 1: expected at most 256 ranges of ideographs"]),
         "bytes that are no UTF-8": Case([], [f"root {text('8', list(DAMAGED))}"], ["line 2: expected UTF-8"]),
         "a file by its name": named_file(),
         "bytes written one by one": Case([], lists, len(lists) * [written([row_questions.HELD, 0x61, 0x10, *40 * [5]])]),
@@ -143,6 +147,51 @@ def unwritten():
         **many_names.cases(),
         **long_files.cases(),
     }
+
+
+CUT_OFF = "at the end: the file is cut off: expected its last line, [fixed first ignorable tertiary byte 3C]"
+
+
+def ranges(count):
+    """A line of so many ranges of ideographs."""
+    return f"[Unified_Ideograph{count * ' 4E00'}]\n"
+
+
+def cut_off():
+    """A file that ends behind each of its lines, and within the last one: each is refused. It is read without its last line feed."""
+    lines = [f"{it}\n" for it in (cldr_questions.FIRST_LINES + cldr_questions.LAST_LINE).splitlines()]
+    whole = [f"root {text('8', ''.join(lines[:end]))}" for end in range(1, len(lines))]
+    within = [f"root {text('8', ''.join(lines)[:-end])}" for end in range(1, len(lines[-1]))]
+    in_line = [f"line {len(lines)}: expected `]`"] * (len(within) - 1)
+    return Case([], [*whole, *within], [*[CUT_OFF] * len(whole), "ok", *in_line])
+
+
+# Mappings of "c" and of more around it, and of "q", "r" and "s", which have the elements that "acx", "pch" and "pcde" have by these:
+# a longer prefix counts before a longer suffix, and where none of its suffixes fits, those without it count (as ICU4C 72 has it for
+# the rules `&b<a|c&d<cx`, `&b<ch&d<p|cd` and `&b<cde&d<p|cd`).
+AROUND = """\
+0061; [61 10, 05, 05]
+0063; [61 14, 05, 05]
+0064; [61 18, 05, 05]
+0065; [61 1C, 05, 05]
+0068; [61 20, 05, 05]
+0070; [61 24, 05, 05]
+0078; [61 28, 05, 05]
+0061 | 0063; [62 10, 05, 05]
+0063 0078; [62 14, 05, 05]
+0063 0068; [62 18, 05, 05]
+0063 0064 0065; [62 1C, 05, 05]
+0070 | 0063 0064; [62 20, 05, 05]
+0071; [61 10, 05, 05][62 10, 05, 05][61 28, 05, 05]
+0072; [61 24, 05, 05][62 18, 05, 05]
+0073; [61 24, 05, 05][62 20, 05, 05][61 1C, 05, 05]
+"""
+
+
+def behind_prefixes():
+    made = [cldr_questions.file_of(AROUND), f"make 2 {row_questions.six(row_questions.UNNAMED[1:])}"]
+    same = [("acx", "q"), ("pch", "r"), ("pcde", "s")]
+    return Case(made, [f"compare {text('c', one)} , {text('c', other)}" for one, other in same], len(same) * ["Equal"])
 
 
 def named_file():

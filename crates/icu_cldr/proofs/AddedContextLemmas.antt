@@ -1,10 +1,10 @@
 -- Contexts that are added to a table: what entries then lead to.
-use Rattle.std.proofs.Common.{◌≡◌, ℕ, ◌+◌, ◌<◌, List, [], ◌∷◌, ◌++◌, length, map, Option, Some, None, true, false, refl, sym, ap, subst, ◌∙◌, if◌then◌else◌, arith, inl, inr, zero, suc, add-one, append_assoc, length-append, take}
+use Rattle.std.proofs.Common.{◌≡◌, ℕ, ◌+◌, ◌<◌, List, [], ◌∷◌, ◌++◌, length, map, Option, Some, None, true, false, refl, sym, ap, subst, ◌∙◌, if◌then◌else◌, arith, inl, inr, append_assoc, length-append}
 use Rattle.std.specs.Prelude.{is_some, ◌==◌}
 use Rattle.std.specs.Borrow.{Bor}
 use Rattle.std.proofs.lemmas.Bool.Decides.{nat_tests}
 use Rattle.std.specs.Global.{Vec}
-use Rattle.std.specs.Option.{option_or, unwrap_or, option_and_then}
+use Rattle.std.specs.Option.{unwrap_or, option_and_then}
 use Rattle.std.specs.BTreeMap.{get_by}
 use Rattle.std.specs.Cmp.Lexicographic.{slice_cmp}
 use Rattle.std.specs.Ordering.{nat_cmp}
@@ -19,7 +19,7 @@ use Rattle.icu_collation_data.specs.Data.{Mapping, Context, Data, context_in, ma
 use Rattle.icu_table_builder.specs.Building.{and_context, and_elements, and_entries}
 use Rattle.icu_table_builder.specs.AddedContexts.{given_mapping}
 use Rattle.icu_cldr.specs.Given.{Leads, entry_in}
-use Rattle.icu_cldr.specs.inner.Surroundings.{AddsContext, Extends, HasMoreLists, Suffixes, Surroundings, entry_at, entry_between, mappings_by, nearest_of, value_among}
+use Rattle.icu_cldr.specs.inner.Surroundings.{AddsContext, Extends, HasMoreLists, Suffixes, Surroundings, entry_at, entry_between, mappings_by, value_among}
 use Rattle.icu_cldr.proofs.SurroundingLemmas.{found_among}
 
 -- ---- look-ups
@@ -29,24 +29,6 @@ pub between_from_get : (all : Surroundings) (before : List ℕ) (r : Option Suff
     → (after : List ℕ) → entry_between all before after ≡ option_and_then (λ suffixes. entry_at suffixes after) r
 between_from_get all before r e after =
     ap (option_and_then (λ suffixes. entry_at suffixes after)) (sym (found_among all.entries before) ∙ sym e)
-
--- one character more of the prefix
-pub nearest_more : (all : Surroundings) (own n : ℕ) (before after : List ℕ)
-    → nearest_of all own (n + 1) before after ≡ option_or (entry_between all (take (n + 1) before) after) (nearest_of all own n before after)
-unfolding nearest_of
-nearest_more all own n before after = rw add-one refl
-
--- a character has an entry before nothing
-pub has_nearest : (all : Surroundings) (own n : ℕ) (before : List ℕ) → is_some (nearest_of all own n before []) ≡ true
-unfolding nearest_of
-has_nearest all own zero before = some_or (entry_between all [] []) own where
-  some_or : (o : Option ℕ) (v : ℕ) → is_some (option_or o (Some v)) ≡ true
-  some_or None v = refl
-  some_or (Some w) v = refl
-has_nearest all own (suc n) before = some_or (entry_between all (take (suc n) before) []) (nearest_of all own n before []) (has_nearest all own n before) where
-  some_or : (o p : Option ℕ) → is_some p ≡ true → is_some (option_or o p) ≡ true
-  some_or None p h = h
-  some_or (Some w) p h = refl
 
 -- a value that is there
 pub there : (o : Option ℕ) (d x : ℕ) → is_some o ≡ true → d ≡ unwrap_or o x → o ≡ Some d

@@ -1,11 +1,15 @@
 -- What tables say of the lines of a file.
-use Rattle.std.proofs.Common.{◌≡◌, ℕ, Bool, true, false, List, [], ◌∷◌, Option, Some, None, refl, sym, subst, ◌∙◌, inl, inr, if◌then◌else◌, arith}
-use Rattle.std.specs.Prelude.{◌&&◌, ◌||◌, nat_le, nat_lt, IfSome, length, option_and_then}
+use Rattle.std.proofs.Common.{◌≡◌, ℕ, ◌<◌, Bool, true, false, List, [], ◌∷◌, Option, Some, None, refl, sym, ap, subst, ◌∙◌, inl, inr, if◌then◌else◌, arith}
+use Rattle.std.specs.Prelude.{◌&&◌, ◌||◌, nat_le, nat_lt, IfSome, IfErr, Result, Ok, Err, length, option_and_then}
 use Rattle.std.specs.Char.{IsScalar}
-use Rattle.std.specs.List.{AllByRecursion, AllZip}
+use Rattle.std.specs.List.{AllByRecursion, AllZip, list_any}
 use Rattle.std.proofs.lemmas.Bool.Decides.{nat_tests}
 use Rattle.icu_provider.specs.CollatorTables.{CollatorTables}
 use Rattle.icu_collation_data.specs.Data.{Data}
+use Rattle.icu_cldr.specs.Errors.{IsNumbered, IsOtherError, IsRightlyRefused}
+use Rattle.icu_cldr.specs.FileFacts.{SaysFacts}
+use Rattle.icu_cldr.specs.FileLines.{AreLines}
+use Rattle.icu_cldr.specs.FixedBytes.{fixes_last}
 use Rattle.icu_cldr.specs.FileRoots.{GivesMapping, SaysFile, StandsIn}
 use Rattle.icu_cldr.specs.HexDigits.{number_written, scalar_from}
 use Rattle.icu_cldr.specs.IdeographOrder.{ideograph_weight, ideographs_of}
@@ -17,8 +21,13 @@ use Rattle.icu_cldr.specs.WrittenLines.{LineSays}
 use Rattle.icu_cldr.specs.WrittenMappings.{WriteContext, WritesMapping}
 use Rattle.icu_cldr.specs.inner.SpecialParts.{MakesSpecials}
 use Rattle.icu_cldr.specs.inner.TakenCharacters.{HasUnmapped, LeavesUnmapped}
-use Rattle.icu_cldr.specs.inner.Taken.{HasNothing, HasSaid, KeepsMappings, TakesFile}
+use Rattle.icu_cldr.specs.inner.Taken.{HasNothing, HasSaid, KeepsMappings, TakesFile, TakesLines}
 use Rattle.icu_cldr.specs.declared.collected.Collected.{Collected}
+use Rattle.icu_cldr.specs.declared.error.Missing.TheVariants as missing
+use Rattle.icu_cldr.specs.declared.error.Missing.TheVariants.{End}
+use Rattle.icu_cldr.specs.declared.error.ReadError.{ReadError}
+use Rattle.icu_cldr.specs.declared.error.ReadError.TheVariants as errors
+use Rattle.icu_cldr.specs.declared.file_facts.FileFacts.{FileFacts}
 use Rattle.icu_cldr.specs.declared.line.Line.{Line}
 use Rattle.icu_cldr.specs.declared.line.Line.TheVariants as says
 use Rattle.icu_cldr.specs.declared.mapping.Mapping.{Mapping}
@@ -74,6 +83,9 @@ module _ (c : Collected) (all : CollatorTables) (nothing : HasNothing c) (keeps 
   one_stands line (says.Mapping m) is has =
       given_by (primary_in c.ideographs) of_ideograph all.tables.root m more (keeps nothing m (mapped_scalar (text_of line) m is.0) has)
   one_stands line says.Nothing is has = tt
+  one_stands line (says.Version v) is has = tt
+  one_stands line (says.Fixed f) is has = tt
+  one_stands line (says.Reserved r) is has = tt
   one_stands line (says.Ideographs r) is has = tt
   one_stands line (says.LeadByte l) is has = tt
   one_stands line (says.NumericLead n) is has = tt
@@ -86,10 +98,11 @@ module _ (c : Collected) (all : CollatorTables) (nothing : HasNothing c) (keeps 
   all_stand (l ∷ ls) (x ∷ xs) are has = (one_stands l x are.0 has.0, all_stand ls xs are.1 has.1)
 
 -- all lines of known bytes stand in the tables
-pub file_stands : (c : Collected) (all : CollatorTables) → HasNothing c → KeepsMappings c all → MakesSpecials c.special all.special → HasUnmapped c → LeavesUnmapped c all → (known : Option (List ℕ)) → IfSome known (TakesFile c)
-    → IfSome known (λ bytes. SaysFile bytes all)
-file_stands c all nothing keeps makes has leaves None takes = tt
-file_stands c all nothing keeps makes has leaves (Some bytes) (lines, said, are, takes) = record {
+pub file_stands : (c : Collected) (all : CollatorTables) (facts : FileFacts) → HasNothing c → KeepsMappings c all → MakesSpecials c.special all.special
+    → HasUnmapped c → LeavesUnmapped c all → facts ≡ c.facts → list_any fixes_last c.facts.fixed.items ≡ true
+    → (known : Option (List ℕ)) → IfSome known (TakesFile c) → IfSome known (λ bytes. SaysFile bytes all facts)
+file_stands c all facts nothing keeps makes has leaves same ends None takes = tt
+file_stands c all facts nothing keeps makes has leaves same ends (Some bytes) (lines, said, are, takes) = record {
   lines = lines;
   said = said;
   are_lines = are;
@@ -97,6 +110,67 @@ file_stands c all nothing keeps makes has leaves (Some bytes) (lines, said, are,
   stand = all_stand c all nothing keeps (ideograph_weight (ideographs_of said))
       (λ x p h. sym (weights_are c.ideographs (ideographs_of said) x takes.2) ∙ h) lines said takes.0 takes.1;
   specials = specials_said c.special all.special said takes.3 makes;
+  says_facts = subst (λ f. SaysFacts f said) (sym same) takes.5;
+  ended = subst (λ (f : FileFacts). list_any fixes_last f.fixed.items ≡ true) (sym same) ends;
   unmapped = λ x scalar none. subst (GivesUnmapped all.tables.root x) (weights_are c.ideographs (ideographs_of said) x takes.2)
       (leaves has x scalar (takes.4 x none));
+}
+
+-- ---- refusals
+
+-- what follows from an error's property
+pub err_weaker : {T E : Type 0} (r : Result T E) {P Q : E → Type 0} → ((e : E) → P e → Q e) → IfErr r P → IfErr r Q
+err_weaker (Ok x) f h = tt
+err_weaker (Err e) f h = f e h
+
+-- another error than that a file is empty or cut off
+pub other_numbered : (e : ReadError) → IsOtherError e → IsNumbered e
+other_numbered (errors.Line line kind) h = h
+other_numbered errors.NoMemory h = tt
+other_numbered errors.Empty h = tt
+other_numbered (errors.ReadFailed kind) h = tt
+other_numbered (errors.Missing what) h = tt
+other_numbered errors.FullTables h = tt
+other_numbered (errors.Tables e) h = tt
+
+other_right : (bytes : List ℕ) (e : ReadError) → IsOtherError e → IsRightlyRefused bytes e
+other_right bytes (errors.Line line kind) h = tt
+other_right bytes errors.NoMemory h = tt
+other_right bytes errors.Empty h = absurd h
+other_right bytes (errors.ReadFailed kind) h = tt
+other_right bytes (errors.Missing End) h = absurd h
+other_right bytes (errors.Missing missing.NumericLead) h = tt
+other_right bytes (errors.Missing missing.Punctuation) h = tt
+other_right bytes (errors.Missing missing.Symbols) h = tt
+other_right bytes (errors.Missing missing.Currencies) h = tt
+other_right bytes (errors.Missing missing.Digits) h = tt
+other_right bytes errors.FullTables h = tt
+other_right bytes (errors.Tables e) h = tt
+
+pub other_refused : (known : Option (List ℕ)) (e : ReadError) → IsOtherError e → IfSome known (λ bytes. IsRightlyRefused bytes e)
+other_refused None e h = tt
+other_refused (Some bytes) e h = other_right bytes e h
+
+-- a file without a line has no byte
+pub empty_refused : (known : Option (List ℕ)) (lines : List (List ℕ)) → IfSome known (λ bytes. AreLines bytes lines) → lines ≡ []
+    → IfSome known (λ bytes. IsRightlyRefused bytes errors.Empty)
+unfolding AreLines
+empty_refused None lines are none = tt
+empty_refused (Some bytes) [] are none = are
+empty_refused (Some bytes) (l ∷ ls) are none = cc
+
+-- a file whose lines were taken in without its last one is cut off
+pub cut_refused : (c : Collected) (known : Option (List ℕ)) (lines : List (List ℕ)) (said : List Line) → IfSome known (λ bytes. AreLines bytes lines)
+    → 0 < length lines → TakesLines c lines said → list_any fixes_last c.facts.fixed.items ≡ false
+    → IfSome known (λ bytes. IsRightlyRefused bytes (errors.Missing End))
+unfolding AreLines
+cut_refused c None lines said are some takes none = tt
+cut_refused c (Some bytes) [] said are some takes none = absurd (omega arith)
+cut_refused c (Some bytes) (l ∷ ls) said are some takes none = record {
+  lines = l ∷ ls;
+  said = said;
+  some = are.0;
+  are_lines = are;
+  say = takes.0;
+  unended = sym (ap (list_any fixes_last) takes.5.fixed) ∙ none;
 }

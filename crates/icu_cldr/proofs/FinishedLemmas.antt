@@ -28,6 +28,7 @@ use Rattle.icu_cldr.specs.inner.Taken.{HasMapping, HasNothing}
 use Rattle.icu_cldr.specs.inner.TakenCharacters.{HasNoEntry, HasUnmapped}
 use Rattle.icu_cldr.specs.declared.collected.Collected.{Collected}
 use Rattle.icu_cldr.specs.declared.mapping.Mapping.{Mapping}
+use Rattle.icu_cldr.proofs.NearestLemmas.{nearest_at}
 use Rattle.icu_cldr.proofs.AddedContextLemmas.{lists_further, leads_further}
 use Rattle.icu_cldr.proofs.DigitRangeLemmas.{by_test, digit_further}
 use Rattle.icu_cldr.proofs.IdeographValueLemmas.{unmapped_further}
@@ -39,9 +40,10 @@ on_ok_kept (Ok y) s x h same is = h
 on_ok_kept (Err e) s x h same is = let no : true ≡ false = sym (ap is_ok is) ∙ same in cc
 
 -- what holds of a result by three facts
-pub ok_by_three : {T E : Type 0} (r : Result T E) (P Q S R : T → Type 0) → ((x : T) → P x → Q x → S x → R x) → IfOk r P → IfOk r Q → IfOk r S → IfOk r R
-ok_by_three (Ok x) P Q S R f p q s = f x p q s
-ok_by_three (Err e) P Q S R f p q s = tt
+pub ok_by_four : {T E : Type 0} (r : Result T E) (P Q S U R : T → Type 0) → ((x : T) → P x → Q x → S x → U x → R x)
+    → IfOk r P → IfOk r Q → IfOk r S → IfOk r U → IfOk r R
+ok_by_four (Ok x) P Q S U R f p q s u = f x p q s u
+ok_by_four (Err e) P Q S U R f p q s u = tt
 
 -- the same lists are no fewer
 pub lists_same : (d e : Data) → SameLists d e → HasMoreLists d e
@@ -77,13 +79,10 @@ both_none p s h = (first p s h, second p s h) where
 
 -- an entry that stands between characters is the nearest
 pub nearest_is : (all : Surroundings) (own : ℕ) (before after : List ℕ) (e : ℕ) → entry_between all before after ≡ Some e → nearest all own before after ≡ Some e
-unfolding nearest_of
-nearest_is all own [] after e h = ap (λ o. option_or o (own_entry own after)) h
-nearest_is all own (c ∷ cs) after e h =
-    ap (λ o. option_or o (nearest_of all own (length cs) (c ∷ cs) after)) (ap (λ xs. entry_between all xs after) (whole (c ∷ cs)) ∙ h) where
-      whole : (xs : List ℕ) → take (length xs) xs ≡ xs
-      whole [] = refl
-      whole (x ∷ xs) = ap (λ ys. x ∷ ys) (whole xs)
+nearest_is all own before after e h = nearest_at all own before after (length before) e (whole before) (empty_list before) h where
+  whole : (xs : List ℕ) → take (length xs) xs ≡ xs
+  whole [] = refl
+  whole (x ∷ xs) = ap (λ ys. x ∷ ys) (whole xs)
 
 -- and stands behind characters
 pub is_behind : (all : Surroundings) (before after : List ℕ) (e : ℕ) → entry_between all before after ≡ Some e → IsBehind all before

@@ -1,11 +1,14 @@
 pub mod HexDigitLemmas
 pub mod SurroundingLemmas
 pub mod AddedContextLemmas
+pub mod NearestLemmas
 pub mod PrefixLemmas
 pub mod LineWordLemmas
 pub mod SaidElementLemmas
 pub mod LinePartLemmas
 pub mod SpeltEntryLemmas
+pub mod FixedByteLemmas
+pub mod FileFactLemmas
 pub mod TakenLemmas
 pub mod CompressedLeadLemmas
 pub mod FileLineLemmas

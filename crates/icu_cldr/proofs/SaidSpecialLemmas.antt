@@ -109,6 +109,9 @@ module _ (old new : Special) (said : List Line) (has : HasSpecials old said) whe
         ∙ or_swap (has_lead (lead_words old.compressible) b) (b == 0xFE) (b == l.lead && l.is_compressible) (list_any (says_compressible b) said) (has.compressible b small)
         ∙ sym (ap (λ t. b == 0xFE || t) (list_any-append (says_compressible b) said (says.LeadByte l ∷ [])));
   }
+  specials_more (says.Version v) adds = unchanged (says.Version v) (λ sample. refl) refl (λ b. refl) adds
+  specials_more (says.Fixed f) adds = unchanged (says.Fixed f) (λ sample. refl) refl (λ b. refl) adds
+  specials_more (says.Reserved r) adds = unchanged (says.Reserved r) (λ sample. refl) refl (λ b. refl) adds
   specials_more says.Nothing adds = unchanged says.Nothing (λ sample. refl) refl (λ b. refl) adds
   specials_more (says.Ideographs r) adds = unchanged (says.Ideographs r) (λ sample. refl) refl (λ b. refl) adds
 

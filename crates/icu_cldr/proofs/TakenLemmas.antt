@@ -1,5 +1,5 @@
 -- What was taken in stays.
-use Rattle.std.proofs.Common.{◌≡◌, ℕ, ◌+◌, ◌-◌, ◌≤◌, Bool, true, false, List, [], ◌∷◌, ◌++◌, Option, Some, None, refl, sym, ap, subst, ◌∙◌, inl, inr, length, length-append, map, take, drop, arith, option_map, zero, suc}
+use Rattle.std.proofs.Common.{◌≡◌, ℕ, ◌+◌, ◌-◌, ◌≤◌, ◌<◌, Bool, true, false, List, [], ◌∷◌, ◌++◌, Option, Some, None, refl, sym, ap, subst, ◌∙◌, inl, inr, length, length-append, map, take, drop, arith, option_map, zero, suc}
 use Rattle.std.specs.Prelude.{IfSome, OnOk, Result, Ok, Err, ◌==◌, ◌&&◌, ◌||◌, nat_lt, nat_le, bytes_eq, reverse, if◌then◌else◌}
 use Rattle.std.proofs.lemmas.Bool.Decides.{nat_tests}
 use Rattle.icu_table_builder.specs.Building.{built_data}
@@ -25,7 +25,7 @@ use Rattle.icu_cldr.specs.inner.SpecialParts.{AddsSpecial}
 use Rattle.icu_cldr.specs.inner.Surroundings.{HasMoreLists}
 use Rattle.icu_cldr.specs.inner.TakenCharacters.{HasNoEntry, KeepsOthers, KeepsUnmapped, MapsOnly}
 use Rattle.icu_cldr.specs.inner.WeightedRanges.{AddsIdeographs}
-use Rattle.icu_cldr.specs.inner.Taken.{Grows, HasMapping, HasSaid, TakesFile, TakesLines}
+use Rattle.icu_cldr.specs.inner.Taken.{AddsFacts, CountsSome, Grows, HasMapping, HasSaid, TakesFile, TakesLines}
 use Rattle.icu_cldr.specs.declared.collected.Collected.{Collected}
 use Rattle.icu_cldr.specs.declared.fractional_element.FractionalElement.{FractionalElement}
 use Rattle.icu_cldr.specs.declared.fractional_element.Primary.{Primary}
@@ -34,6 +34,7 @@ use Rattle.icu_cldr.specs.declared.line.Line.{Line}
 use Rattle.icu_cldr.specs.declared.line.Line.TheVariants as says
 use Rattle.icu_cldr.specs.declared.mapping.Mapping.{Mapping}
 use Rattle.icu_cldr.proofs.AddedContextLemmas.{lists_further, lists_itself}
+use Rattle.icu_cldr.proofs.FileFactLemmas.{facts_more}
 use Rattle.icu_cldr.proofs.SaidSpecialLemmas.{specials_more}
 use Rattle.icu_cldr.proofs.WeightedRangeLemmas.{ideographs_more}
 
@@ -128,6 +129,9 @@ mapping_further old new m grows (elements, e, said, spells, has) = (
 said_stays : (old new : Collected) (said : Line) → Grows old new → HasSaid old said → HasSaid new said
 said_stays old new (says.Mapping m) grows has = mapping_further old new m grows has
 said_stays old new says.Nothing grows has = has
+said_stays old new (says.Version v) grows has = has
+said_stays old new (says.Fixed f) grows has = has
+said_stays old new (says.Reserved r) grows has = has
 said_stays old new (says.Ideographs r) grows has = has
 said_stays old new (says.LeadByte l) grows has = has
 said_stays old new (says.NumericLead n) grows has = has
@@ -186,15 +190,30 @@ kept_by_ideographs plain new_plain around new_around said same x none h = record
 -- the lines that were taken in, and one more
 pub lines_stay : (old new : Collected) (lines : List (List ℕ)) (said : List Line) (line : List ℕ) (one : Line) → Grows old new
     → TakesLines old lines said → LineSays line one → HasSaid new one → AddsIdeographs old.ideographs new.ideographs one
-    → AddsSpecial old.special new.special one → KeepsUnmapped old new one
+    → AddsSpecial old.special new.special one → KeepsUnmapped old new one → AddsFacts old.facts new.facts one
     → TakesLines new (lines ++ line ∷ []) (said ++ one ∷ [])
-lines_stay old new lines said line one grows all is has adds specials kept = (
+lines_stay old new lines said line one grows all is has adds specials kept facts = (
   says_more lines said line one all.0 is,
   has_more old new said one grows all.1 has,
   ideographs_more old.ideographs new.ideographs said all.2 one adds,
   specials_more old.special new.special said all.3 one specials,
   maps_more old new said one all.4 kept,
+  facts_more old.facts new.facts said all.5 one facts,
 )
+
+-- one line more was counted
+pub counts_more : (lines : List (List ℕ)) (line : List ℕ) (number : ℕ) → 0 < number → CountsSome number (lines ++ line ∷ [])
+counts_more [] line number some = some
+counts_more (l ∷ ls) line number some = some
+
+-- whether there are lines
+pub counts_none : (lines : List (List ℕ)) (number : ℕ) → CountsSome number lines → number ≡ 0 → lines ≡ []
+counts_none [] number counts none = refl
+counts_none (l ∷ ls) number counts none = absurd (omega arith)
+
+pub counts_lines : (lines : List (List ℕ)) (number : ℕ) → CountsSome number lines → 0 < number → 0 < length lines
+counts_lines [] number counts some = absurd (omega arith)
+counts_lines (l ∷ ls) number counts some = omega arith
 
 -- all lines of known bytes
 pub takes_file : (c : Collected) (known : Option (List ℕ)) (lines : List (List ℕ)) (said : List Line) → IfSome known (λ bytes. AreLines bytes lines)

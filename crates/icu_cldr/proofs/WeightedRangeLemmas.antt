@@ -120,6 +120,9 @@ module _ (old new : IdeographWeights) (said : List Line) (has : HasIdeographs ol
       ranges_more said (says.Ideographs ranges) ∙ ap (λ rs. rs ++ ranges.items) none in
       subst (HasIdeographs new) (sym all) adds.1
   ideographs_more says.Nothing adds = same_ranges says.Nothing refl adds
+  ideographs_more (says.Version v) adds = same_ranges (says.Version v) refl adds
+  ideographs_more (says.Fixed f) adds = same_ranges (says.Fixed f) refl adds
+  ideographs_more (says.Reserved r) adds = same_ranges (says.Reserved r) refl adds
   ideographs_more (says.LeadByte l) adds = same_ranges (says.LeadByte l) refl adds
   ideographs_more (says.NumericLead n) adds = same_ranges (says.NumericLead n) refl adds
   ideographs_more (says.Mapping m) adds = same_ranges (says.Mapping m) refl adds

@@ -1,5 +1,5 @@
 -- What tables say that a file of lines became (UTS #35 part 5, "Root Collation Data Files").
-use Rattle.std.specs.Prelude.{◌≡◌, ℕ, ◌&&◌, false, List, Option, MatchBool, reverse}
+use Rattle.std.specs.Prelude.{◌≡◌, ℕ, ◌&&◌, false, true, List, Option, MatchBool, reverse}
 use Rattle.std.specs.Char.{IsScalar}
 use Rattle.std.specs.List.{AllByRecursion, AllZip, list_any}
 use Rattle.ucd_perl.specs.Perl.{is_digit_char}
@@ -8,7 +8,9 @@ use Rattle.icu_collation_data.specs.Data.{Data}
 use Rattle.icu_provider.specs.CollatorTables.{CollatorTables}
 use Rattle.icu_cldr.specs.CharacterEntries.{IsDigitEntry}
 use Rattle.icu_cldr.specs.DecimalValues.{decimal_value}
+use Rattle.icu_cldr.specs.FileFacts.{SaysFacts}
 use Rattle.icu_cldr.specs.FileLines.{AreLines}
+use Rattle.icu_cldr.specs.FixedBytes.{fixes_last}
 use Rattle.icu_cldr.specs.Given.{Spells, Gives}
 use Rattle.icu_cldr.specs.IdeographOrder.{ideograph_weight, ideographs_of}
 use Rattle.icu_cldr.specs.LineElements.{AreSaid}
@@ -16,6 +18,7 @@ use Rattle.icu_cldr.specs.SaidSpecials.{SaysSpecials}
 use Rattle.icu_cldr.specs.Unmapped.{GivesUnmapped, maps_first}
 use Rattle.icu_cldr.specs.WrittenLines.{LineSays}
 use Rattle.icu_cldr.specs.WrittenMappings.{is_without_context}
+use Rattle.icu_cldr.specs.declared.file_facts.FileFacts.{FileFacts}
 use Rattle.icu_cldr.specs.declared.line.Line.{Line}
 use Rattle.icu_cldr.specs.declared.line.Line.TheVariants as says
 use Rattle.icu_cldr.specs.declared.mapping.Mapping.{Mapping}
@@ -39,13 +42,16 @@ StandsIn of_ideograph all _ = Unit {0}
 
 -- The tables say what each line of a file says, where elements `U+X` have the weights of ideographs by the ranges that
 -- the file's line has, and their special primary weights are those of the lines. A character that no line maps has the
--- weight of an ideograph, or its entry is implicit.
-pub record SaysFile (bytes : List ℕ) (all : CollatorTables) : Type 0 where
+-- weight of an ideograph, or its entry is implicit. What is kept of the file is what its lines say, and one of them is
+-- the last of a file, so that the file isn't cut off.
+pub record SaysFile (bytes : List ℕ) (all : CollatorTables) (facts : FileFacts) : Type 0 where
   pub lines : List (List ℕ)
   pub said : List Line
   pub are_lines : AreLines bytes lines
   pub say : AllZip LineSays lines said
   pub stand : AllByRecursion (StandsIn (ideograph_weight (ideographs_of said)) all) said
   pub specials : SaysSpecials all.special said
+  pub says_facts : SaysFacts facts said
+  pub ended : list_any fixes_last facts.fixed.items ≡ true
   pub unmapped : (c : ℕ) → IsScalar c → list_any (maps_first c) said ≡ false
       → GivesUnmapped all.tables.root c (ideograph_weight (ideographs_of said) c)

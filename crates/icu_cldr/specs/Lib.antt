@@ -4,7 +4,10 @@ pub mod FileLines
 pub mod Words
 pub mod WrittenElements
 pub mod WrittenMappings
+pub mod FixedBytes
+pub mod Reserved
 pub mod WrittenLines
+pub mod FileFacts
 pub mod Ranges
 pub mod Errors
 pub mod Roots

@@ -3,11 +3,16 @@ use Rattle.std.specs.Prelude.{◌≡◌, None, length, IsTrue}
 use Rattle.icu_provider.specs.SpecialPrimaries.{is_compressible}
 use Rattle.icu_provider.specs.CollatorTables.{CollatorTables}
 use Rattle.icu_provider.specs.OwnedTables.{owned_tables}
+use Rattle.icu_cldr.specs.declared.file_facts.FileFacts.{FileFacts}
 use Rattle.icu_cldr.specs.declared.root.CldrRoot.{CldrRoot}
 
 -- the tables
 unfoldable pub root_tables : CldrRoot → CollatorTables
 root_tables r = owned_tables r.tables
+
+-- what the file says of itself
+unfoldable pub root_facts : CldrRoot → FileFacts
+root_facts r = r.facts
 
 -- the tables of a root: their metadata sets the last variable group, punctuation, and nothing else, and they name their
 -- compressible lead bytes, among them that of implicit weights

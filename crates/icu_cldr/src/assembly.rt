@@ -4,10 +4,10 @@ ghost use Rattle.std.specs.BTreeMap.{get};
 ghost use Rattle.std.specs.Ordering.{nat_cmp};
 ghost use Rattle.icu_table_builder.specs.Building.{built_data, SaysOfCharacters};
 ghost use Rattle.icu_table_builder.specs.OwnedData.{owned_data};
-ghost use Rattle.icu_provider.specs.OwnedTables.{owned_tables, owned_jamo, owned_special};
+ghost use Rattle.icu_provider.specs.OwnedTables.{owned_jamo, owned_special};
 ghost use Rattle.icu_cldr.specs.CharacterEntries.{entry_of_char};
-ghost use Rattle.icu_cldr.specs.Errors.{IsNumbered};
-ghost use Rattle.icu_cldr.specs.Roots.{IsRoot};
+ghost use Rattle.icu_cldr.specs.Errors.{IsOtherError};
+ghost use Rattle.icu_cldr.specs.Roots.{IsRoot, root_facts, root_tables};
 ghost use Rattle.icu_cldr.specs.inner.Resolved.{IsResolved};
 ghost use Rattle.icu_cldr.specs.inner.Surroundings.{Extends};
 ghost use Rattle.icu_cldr.specs.inner.RootValues.{SameLists, HasEntries};
@@ -19,6 +19,7 @@ use crate::collected::Collected;
 use crate::contexts::{Contexts, entry_in_contexts};
 use crate::digits::make_digits;
 use crate::error::{ReadError, UnnumberedError, named};
+use crate::root::CldrRoot;
 use icu_entries::{CollationElement32, DataTable};
 use icu_options::MaxVariable;
 use icu_provider::jamo::{JAMO_BASE, JAMO_COUNT};
@@ -60,7 +61,7 @@ fn jamo_entries(
 fn jamo(alloc: Global, entries: &BTreeMap<char, CollationElement32>) -> Result<OwnedJamo, ReadError>
     ensures says { IfOk result (λ o. (k : ℕ) → k < 256
         → slice_index (owned_jamo o) k ≡ entry_of_char entries.now (0x1100 + k)) }
-    ensures numbered { IfErr result IsNumbered }
+    ensures errors { IfErr result IsOtherError }
 {
     let jamo = jamo_entries(alloc, entries)?;
     let jamo = named(DataTable::Jamo, OwnedJamo::new(jamo))?;
@@ -69,11 +70,14 @@ fn jamo(alloc: Global, entries: &BTreeMap<char, CollationElement32>) -> Result<O
 
 /// The secondary weights of diacritics.
 fn diacritics(alloc: Global, secondaries: &[u16]) -> Result<OwnedDiacritics, ReadError>
-    ensures { IfErr result IsNumbered }
+    ensures { IfErr result IsOtherError }
 {
     let secondaries = Vec::from_slice(alloc, secondaries)?;
     named(DataTable::Diacritics, OwnedDiacritics::new(secondaries))
 }
+
+/// How many steps it may take in all to join the mappings of prefixes by those of shorter ones.
+const CONTEXT_STEPS: u64 = 1 << 24;
 
 /// Gives the characters that have contexts their entries.
 fn resolve_contexts(
@@ -87,9 +91,10 @@ fn resolve_contexts(
         (get nat_cmp contexts.now c) (entry_of_char entries.old c) (get nat_cmp entries.old c)
         (get nat_cmp entries.new c)) }
 {
+    let mut left = CONTEXT_STEPS;
     for (c, contexts) in contexts.iter() {
         let own = entry_of_char(entries, *c);
-        let entry = entry_in_contexts(alloc, builder, own, contexts)?;
+        let entry = entry_in_contexts(alloc, &mut left, builder, own, contexts)?;
         entries.insert(*c, entry)?;
     }
     Ok(())
@@ -109,7 +114,7 @@ fn set_all(builder: &mut DataBuilder, entries: &BTreeMap<char, CollationElement3
 /// The root of what was put together.
 fn built_root(builder: DataBuilder) -> Result<OwnedData, ReadError>
     ensures says { IfOk result (λ o. SaysOfCharacters (built_data builder) (owned_data o)) }
-    ensures numbered { IfErr result IsNumbered }
+    ensures errors { IfErr result IsOtherError }
 {
     named(DataTable::Root, OwnedData::new(builder.build()?))
 }
@@ -122,21 +127,22 @@ fn root(
     ensures lists { IfOk result (λ o. SameLists (built_data builder) (owned_data o)) }
     ensures entries { IfOk result (λ o.
         HasEntries entries.now (built_data builder) (owned_data o)) }
-    ensures numbered { IfErr result IsNumbered }
+    ensures errors { IfErr result IsOtherError }
 {
     set_all(&mut builder, entries);
     built_root(builder)
 }
 
 impl Collected {
-    /// The tables.
-    #[tactic(auto, unfolding(icu_provider::specs::OwnedTables::owned_tables))]
-    pub(crate) fn finish(self) -> Result<OwnedTables, ReadError>
-        ensures root { IfOk result (λ o. IsRoot (owned_tables o)) }
-        ensures mappings { IfOk result (λ o. KeepsMappings self (owned_tables o)) }
-        ensures unmapped { IfOk result (λ o. LeavesUnmapped self (owned_tables o)) }
-        ensures specials { IfOk result (λ o. MakesSpecials self.special (owned_tables o).special) }
-        ensures numbered { IfErr result IsNumbered }
+    /// The root.
+    #[tactic(auto, unfolding(icu_provider::specs::OwnedTables::owned_tables, crate::specs::Roots::root_tables, crate::specs::Roots::root_facts))]
+    pub(crate) fn finish(self) -> Result<CldrRoot, ReadError>
+        ensures root { IfOk result (λ r. IsRoot (root_tables r)) }
+        ensures mappings { IfOk result (λ r. KeepsMappings self (root_tables r)) }
+        ensures unmapped { IfOk result (λ r. LeavesUnmapped self (root_tables r)) }
+        ensures specials { IfOk result (λ r. MakesSpecials self.special (root_tables r).special) }
+        ensures facts { IfOk result (λ r. root_facts r ≡ self.facts) }
+        ensures errors { IfErr result IsOtherError }
     {
         let Collected {
             alloc,
@@ -146,12 +152,13 @@ impl Collected {
             diacritics: secondaries,
             special,
             ideographs: _,
+            facts,
         } = self;
         make_digits(alloc, &mut builder, &mut entries).map_err(UnnumberedError::at_end)?;
         resolve_contexts(alloc, &mut builder, &mut entries, &contexts).map_err(
             UnnumberedError::at_end,
         )?;
-        Ok(OwnedTables {
+        let tables = OwnedTables {
             jamo: jamo(alloc, &entries)?,
             diacritics: diacritics(alloc, &secondaries)?,
             special: special.table(alloc)?,
@@ -159,6 +166,7 @@ impl Collected {
             metadata: CollationMetadata::new(MetadataFields::new(MaxVariable::Punctuation)),
             tailoring: None,
             reordering: None,
-        })
+        };
+        Ok(CldrRoot { tables, facts })
     }
 }

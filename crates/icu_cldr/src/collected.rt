@@ -5,6 +5,7 @@ ghost use Rattle.icu_cldr.specs.inner.Diacritics.{SaysOfMark};
 use crate::character_entries::{CharacterContexts, CharacterEntries, add_entry};
 use crate::error::{LineErrorKind, UnnumberedError};
 use crate::expansions::add_elements;
+use crate::file_facts::FileFacts;
 use crate::ideograph_entries::set_ideographs;
 use crate::ideograph_weights::IdeographWeights;
 use crate::line_elements::elements_said;
@@ -32,6 +33,7 @@ pub(crate) struct Collected {
     pub(crate) diacritics: [u16; OPTIMIZED_DIACRITICS_MAX_COUNT],
     pub(crate) special: Special,
     pub(crate) ideographs: IdeographWeights,
+    pub(crate) facts: FileFacts,
 }
 
 /// The index of a combining mark in the table of such marks.
@@ -81,8 +83,9 @@ fn set_diacritic(
 }
 
 impl Collected {
+    ghost use Rattle.icu_cldr.specs.FileFacts.{SaysFacts};
     ghost use Rattle.icu_cldr.specs.Ideographs.{HasNoIdeographs};
-    ghost use Rattle.icu_cldr.specs.inner.Taken.{HasMapping, HasSaid, Grows, IsTaken, HasNothing};
+    ghost use Rattle.icu_cldr.specs.inner.Taken.{AddsFacts, HasMapping, HasSaid, Grows, IsTaken, HasNothing};
     ghost use Rattle.icu_cldr.specs.inner.WeightedRanges.{AddsIdeographs, HasIdeographs};
     ghost use Rattle.icu_cldr.specs.inner.SpecialParts.{AddsSpecial, HasSpecials};
     ghost use Rattle.icu_cldr.specs.inner.TakenCharacters.{HasUnmapped, KeepsOthers, KeepsUnmapped, MapsOnly};
@@ -93,6 +96,7 @@ impl Collected {
         ensures nothing { IfOk result HasNothing }
         ensures none { IfOk result (λ c. HasNoIdeographs c.ideographs) }
         ensures specials { IfOk result (λ c. HasSpecials c.special []) }
+        ensures facts { IfOk result (λ c. SaysFacts c.facts []) }
         ensures no_entry { IfOk result (λ c. MapsOnly c []) }
         ensures unmapped { IfOk result HasUnmapped }
     {
@@ -104,6 +108,7 @@ impl Collected {
             diacritics: [0; OPTIMIZED_DIACRITICS_MAX_COUNT],
             special: Special::new(),
             ideographs: IdeographWeights::new(alloc),
+            facts: FileFacts::new(alloc),
         })
     }
 
@@ -124,6 +129,7 @@ impl Collected {
         ensures ideographs { OnOk result
             (AddsIdeographs self.old.ideographs self.new.ideographs said) }
         ensures special { OnOk result (AddsSpecial self.old.special self.new.special said) }
+        ensures facts { OnOk result (AddsFacts self.old.facts self.new.facts said) }
         ensures others { OnOk result (KeepsUnmapped self.old self.new said) }
         ensures grows { OnOk result (Grows self.old self.new) }
         ensures unmapped { OnOk result (HasUnmapped self.old → HasUnmapped self.new) }
@@ -131,6 +137,18 @@ impl Collected {
         self.special.take_in(&said)?;
         match said {
             Line::Nothing => Ok(()),
+            Line::Version(version) => {
+                self.facts.version = Some(version);
+                Ok(())
+            }
+            Line::Fixed(fixed) => {
+                self.facts.fixed.push(fixed)?;
+                Ok(())
+            }
+            Line::Reserved(range) => {
+                self.facts.reserved.push(range)?;
+                Ok(())
+            }
             Line::LeadByte(_) => Ok(()),
             Line::NumericLead(_) => Ok(()),
             Line::Ideographs(ranges) => self.add_ideographs(ranges.as_slice()),
@@ -143,6 +161,7 @@ impl Collected {
         ensures none { OnOk result (HasNoIdeographs self.old.ideographs) }
         ensures has { OnOk result (HasIdeographs self.new.ideographs ranges.now) }
         ensures special { OnOk result (self.new.special ≡ self.old.special) }
+        ensures facts { OnOk result (self.new.facts ≡ self.old.facts) }
         ensures kept { OnOk result ((self.new.entries ≡ self.old.entries)
             × (self.new.contexts ≡ self.old.contexts)) }
         ensures grows { OnOk result (Grows self.old self.new) }
@@ -162,6 +181,7 @@ impl Collected {
         ensures has { OnOk result (HasMapping self.new mapping) }
         ensures ideographs { OnOk result (self.new.ideographs ≡ self.old.ideographs) }
         ensures special { OnOk result (self.new.special ≡ self.old.special) }
+        ensures facts { OnOk result (self.new.facts ≡ self.old.facts) }
         ensures others { OnOk result (KeepsOthers self.old.entries self.old.contexts
             self.new.entries self.new.contexts mapping.first) }
         ensures grows { OnOk result (Grows self.old self.new) }

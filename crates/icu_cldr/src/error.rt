@@ -1,6 +1,6 @@
 //! Why a file isn't read.
 ghost use Rattle.std.specs.Prelude.{◌≡◌, ◌<◌, IfErr, IfOk, Ok};
-ghost use Rattle.icu_cldr.specs.Errors.{IsNumbered};
+ghost use Rattle.icu_cldr.specs.Errors.{IsOtherError};
 
 use crate::{Expected, LineError};
 use icu_entries::{DataError, DataErrorKind, DataTable};
@@ -26,6 +26,9 @@ pub enum LineErrorKind {
     /// The ideographs don't fit below the implicit weights.
     #[error("expected fewer ideographs")]
     FewerIdeographs,
+    /// There are more than 256 ranges of ideographs.
+    #[error("expected at most 256 ranges of ideographs")]
+    FewerRanges,
     /// A mapping has more than 31 elements.
     #[error("expected at most 31 elements")]
     FewerElements,
@@ -33,9 +36,6 @@ pub enum LineErrorKind {
     /// a context.
     #[error("expected a secondary weight and 05 alone, of a combining mark below U+034F")]
     Diacritic,
-    /// The least primary weight of a group isn't one with bytes.
-    #[error("expected the first primary weight of a group")]
-    FirstPrimary,
     /// There are more lists or contexts than entries can refer to.
     #[error("expected fewer expansions and contractions")]
     FullTables,
@@ -44,6 +44,10 @@ pub enum LineErrorKind {
 /// What a file lacks at its end.
 #[derive(Debug, Clone, Copy, PartialEq, Eq, Error)]
 pub enum Missing {
+    /// The line that fixes the first byte of tertiary weights beside which no other weight stands. It is the last of
+    /// each file, so a file without it is cut off.
+    #[error("the file is cut off: expected its last line, [fixed first ignorable tertiary byte 3C]")]
+    End,
     /// The mapping of U+FDD0 and "4", which has the lead byte of numbers.
     #[error("expected a line with the lead byte of numbers, FDD0 0034")]
     NumericLead,
@@ -67,6 +71,9 @@ pub enum ReadError {
     /// Out of memory.
     #[error("no memory")]
     NoMemory,
+    /// The file has not a byte.
+    #[error("the file is empty")]
+    Empty,
     /// A read failed.
     #[error("read failed")]
     ReadFailed(io::ErrorKind),
@@ -81,7 +88,8 @@ pub enum ReadError {
     /// A line is missing.
     #[error("at the end: {0}")]
     Missing(Missing),
-    /// There are more contexts or digits than entries can refer to.
+    /// There are more contexts or digits than entries can refer to, or too many mappings of shorter prefixes count
+    /// behind longer ones.
     #[error("at the end: expected fewer contractions and digits")]
     FullTables,
     /// A table that the lines make is refused by its own check.
@@ -99,7 +107,7 @@ pub(crate) enum UnnumberedError {
 impl UnnumberedError {
     /// The error, behind the last line.
     pub(crate) fn at_end(self) -> ReadError
-        ensures { IsNumbered result }
+        ensures { IsOtherError result }
     {
         match self {
             UnnumberedError::NoMemory => ReadError::NoMemory,
@@ -110,7 +118,7 @@ impl UnnumberedError {
     /// The error, at this line.
     pub(crate) fn at(self, line: u64) -> ReadError
         requires { 0 < line }
-        ensures { IsNumbered result }
+        ensures { IsOtherError result }
     {
         match self {
             UnnumberedError::NoMemory => ReadError::NoMemory,
@@ -181,7 +189,7 @@ impl From<Missing> for ReadError {
 /// The table, or the error that its own check refuses it.
 pub(crate) fn named<T>(table: DataTable, checked: Result<T, DataErrorKind>) -> Result<T, ReadError>
     ensures kept { IfOk result (λ t. checked ≡ Ok t) }
-    ensures numbered { IfErr result IsNumbered }
+    ensures errors { IfErr result IsOtherError }
 {
     match checked {
         Ok(checked) => Ok(checked),

@@ -31,9 +31,18 @@ pub enum Expected {
     /// A lead byte, in two of the digits 0 to 9 and A to F.
     #[error("expected a lead byte, 00 to FF")]
     LeadByte,
+    /// A byte, in two of the digits 0 to 9 and A to F.
+    #[error("expected a byte, 00 to FF")]
+    Byte,
     /// The lead byte of numbers as the primary weight of one element.
     #[error("expected one element with the lead byte of numbers")]
     NumericLead,
+    /// The first primary weight of a range as that of one element.
+    #[error("expected one element with a primary weight")]
+    FirstPrimary,
+    /// At most two characters before the bar of a mapping.
+    #[error("expected at most two characters before `|`")]
+    ShorterPrefix,
     /// A range whose last character isn't below its first.
     #[error("expected a range that ascends")]
     AscendingRange,

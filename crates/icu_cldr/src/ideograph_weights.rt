@@ -20,6 +20,9 @@ const WEIGHTS_PER_LEAD: u32 = 254 * 254;
 /// How many weights of three bytes an ideograph takes: its own, and one that is left for tailorings.
 pub(crate) const STEP: u32 = 2;
 
+/// How many ranges of ideographs a line may have, since an ideograph is looked for in each.
+const MOST_RANGES: usize = 256;
+
 /// Ideographs that follow one another, and the ordinal of the first one's weight among all weights of three bytes.
 #[derive(Debug, Clone, Copy, PartialEq)]
 pub(crate) struct WeightedRange {
@@ -116,6 +119,9 @@ impl IdeographWeights {
     ) -> Result<IdeographWeights, UnnumberedError>
         ensures { IfOk result (λ w. HasIdeographs w ranges.now) }
     {
+        if ranges.len() > MOST_RANGES {
+            return Err(UnnumberedError::Refused(LineErrorKind::FewerRanges));
+        }
         let Some(mut ordinal) = first_ordinal(ranges) else {
             return Err(UnnumberedError::Refused(LineErrorKind::FewerIdeographs));
         };

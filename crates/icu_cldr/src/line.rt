@@ -1,16 +1,18 @@
 //! Lines.
-ghost use Rattle.std.specs.Prelude.{◌≡◌, ◌≢◌, ◌==◌, ◌++◌, ◌∷◌, [], ℕ, List, Ok, Err, IfOk, IsTrue, MatchOption, codes, bytes_eq};
+ghost use Rattle.std.specs.Prelude.{◌≡◌, ◌≢◌, ◌==◌, ◌++◌, ◌∷◌, [], ℕ, false, List, Ok, Err, IfOk, IsTrue, MatchOption, codes, bytes_eq};
 ghost use Rattle.std.specs.List.{before_first, list_any};
 ghost use Rattle.std.specs.Str.Iter.{split_whitespace_rest};
 ghost use Rattle.icu_cldr.specs.LineParts.{text_of};
-ghost use Rattle.icu_cldr.specs.WrittenLines.{AreLineWords, SaysOfLead, TextSays, HasNumericLead, homeless, is_digit_sample};
+ghost use Rattle.icu_cldr.specs.WrittenLines.{AreLineWords, IsOtherName, SaysOfLead, TextSays, HasNumericLead, homeless, is_digit_sample};
 ghost use Rattle.icu_cldr.specs.WrittenMappings.{WritesMapping};
 
 use crate::expected::{Expected, LineError};
-use crate::fractional_element::Primary;
+use crate::fixed_bytes::FixedByte;
 use crate::hexadecimal::byte;
 use crate::ideographs::CharRange;
 use crate::mapping::Mapping;
+use crate::names::behind_name;
+use crate::reserved::{ReservedPlace, ReservedRange, lone_weight};
 use std::alloc::Global;
 use std::str::SplitWhitespace;
 
@@ -34,12 +36,18 @@ pub struct LeadByte {
 pub enum Line {
     /// Nothing that tables need: the line is empty, a comment, or one of those in brackets that only explain others.
     Nothing,
+    /// The version of the Unicode Collation Algorithm: `[UCA version = 14.0.0]`.
+    Version(String),
+    /// A byte that is the same in each file of a form: `[fixed first implicit byte E0]`.
+    Fixed(FixedByte),
     /// The ideographs, in the order of their weights: `[Unified_Ideograph 4E00..9FFF FA0E..FA0F ..]`.
     Ideographs(Vec<CharRange>),
     /// What is said of a lead byte.
     LeadByte(LeadByte),
     /// The lead byte of the primary weights of numbers: `FDD0 0034; [0F, 05, 05]`.
     NumericLead(u8),
+    /// Where a range of primary weights begins that the root leaves free: `FDD0 FF21; [27 02 02, 05, 05]`.
+    Reserved(ReservedRange),
     /// What a text comes to. Where the first character is U+FDD1, which is of no text, it is the least primary weight
     /// of a script or a group of variable elements.
     Mapping(Mapping),
@@ -104,13 +112,15 @@ fn lead_byte(text: &str) -> Result<LeadByte, Expected>
     }
 }
 
-/// What stands behind a name with which a text begins.
-fn behind_name<'a>(text: &'a str, name: &str) -> Option<&'a str>
-    ensures { MatchOption result
-        ((behind : List ℕ) → text.now ≢ name.now ++ behind)
-        (λ behind. text.now ≡ name.now ++ behind.now) }
+/// A line in brackets that may fix a byte, by what stands between them.
+fn fixed_byte(text: &str) -> Result<Line, LineError>
+    requires { IsOtherName text.now }
+    ensures { IfOk result (TextSays (91 ∷ text.now ++ 93 ∷ [])) }
 {
-    text.strip_prefix(name)
+    match FixedByte::parse(text)? {
+        Some(fixed) => Ok(Line::Fixed(fixed)),
+        None => Ok(Line::Nothing),
+    }
 }
 
 /// A line in brackets, by what stands between them.
@@ -121,8 +131,10 @@ fn bracketed(alloc: Global, text: &str) -> Result<Line, LineError>
         Ok(Line::Ideographs(CharRange::parse_all(alloc, ranges)?))
     } else if let Some(words) = behind_name(text, "top_byte") {
         Ok(Line::LeadByte(lead_byte(words)?))
+    } else if let Some(version) = behind_name(text, "UCA version = ") {
+        Ok(Line::Version(String::from_str(alloc, version)?))
     } else {
-        Ok(Line::Nothing)
+        fixed_byte(text)
     }
 }
 
@@ -139,12 +151,26 @@ fn numeric_lead(mapping: &Mapping) -> Result<u8, LineError>
     requires suffix { IsTrue (is_digit_sample mapping.now) }
     ensures { IfOk result (HasNumericLead mapping.now) }
 {
-    match mapping.elements.as_slice() {
-        [element] => match element.primary {
-            Primary::Weight(weight) => Ok((weight >> 24) as u8),
-            Primary::OfIdeograph(_) => Err(LineError::Expected(Expected::NumericLead)),
-        },
-        _ => Err(LineError::Expected(Expected::NumericLead)),
+    let weight = lone_weight(mapping, Expected::NumericLead)?;
+    Ok((weight >> 24) as u8)
+}
+
+/// What a mapping of the character of no text says where it isn't of the digit 4.
+fn homeless(mapping: Mapping) -> Result<Line, LineError>
+    requires first { mapping.first ≡ homeless }
+    requires suffix { is_digit_sample mapping ≡ false }
+    ensures { IfOk result (λ said. (text : List ℕ) → WritesMapping text mapping
+        → TextSays text said) }
+{
+    match ReservedPlace::of(&mapping) {
+        Some(place) => {
+            let first_primary = lone_weight(&mapping, Expected::FirstPrimary)?;
+            Ok(Line::Reserved(ReservedRange {
+                place,
+                first_primary,
+            }))
+        }
+        None => Ok(Line::Nothing),
     }
 }
 
@@ -159,7 +185,7 @@ fn line_of(mapping: Mapping) -> Result<Line, LineError>
     if is_sample_digit(mapping.suffix.as_slice()) {
         return Ok(Line::NumericLead(numeric_lead(&mapping)?));
     }
-    Ok(Line::Nothing)
+    homeless(mapping)
 }
 
 impl Line {

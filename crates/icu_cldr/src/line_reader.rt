@@ -1,22 +1,20 @@
 //! The lines of a reader.
-ghost use Rattle.std.specs.Prelude.{◌<◌, IfOk, IfErr, IfSome};
-ghost use Rattle.icu_provider.specs.OwnedTables.{owned_tables};
-ghost use Rattle.icu_cldr.specs.Errors.{IsNumbered};
-ghost use Rattle.icu_cldr.specs.FileRoots.{SaysFile};
-ghost use Rattle.icu_cldr.specs.Roots.{IsRoot};
+ghost use Rattle.std.specs.Prelude.{◌≡◌, ◌<◌, true, IfOk, IfErr, IfSome};
+ghost use Rattle.std.specs.List.{list_any};
+ghost use Rattle.icu_cldr.specs.Errors.{IsOtherError, IsNumbered, IsRightlyRefused};
+ghost use Rattle.icu_cldr.specs.FixedBytes.{fixes_last};
 ghost use Rattle.icu_cldr.specs.inner.Taken.{TakesFile, HasNothing};
 ghost use Rattle.icu_cldr.specs.inner.TakenCharacters.{HasUnmapped};
 
 use crate::collected::Collected;
-use crate::error::{LineErrorKind, ReadError, UnnumberedError};
-use icu_provider::OwnedTables;
+use crate::error::{LineErrorKind, Missing, ReadError, UnnumberedError};
 use std::alloc::Global;
 use std::io::{BufRead, ErrorKind};
 
 /// What a read that fails is, at this line.
 fn failed(kind: ErrorKind, line: u64) -> ReadError
     requires { 0 < line }
-    ensures { IsNumbered result }
+    ensures { IsOtherError result }
 {
     match kind {
         ErrorKind::OutOfMemory => ReadError::NoMemory,
@@ -25,12 +23,18 @@ fn failed(kind: ErrorKind, line: u64) -> ReadError
     }
 }
 
-/// What the lines of a reader say.
-fn collect_lines<R: BufRead + Drop>(alloc: Global, reader: R) -> Result<Collected, ReadError>
+/// What the lines of a reader say, if one of them is the last of a file.
+pub(crate) fn collect_lines<R: BufRead + Drop>(
+    alloc: Global,
+    reader: R,
+) -> Result<Collected, ReadError>
     ensures taken { IfOk result (λ c. IfSome (R.remaining reader) (TakesFile c)) }
     ensures nothing { IfOk result HasNothing }
     ensures unmapped { IfOk result HasUnmapped }
+    ensures ended { IfOk result (λ c. list_any fixes_last c.facts.fixed.items ≡ true) }
     ensures numbered { IfErr result IsNumbered }
+    ensures refused { IfErr result (λ e.
+        IfSome (R.remaining reader) (λ bytes. IsRightlyRefused bytes e)) }
 {
     let mut collected = Collected::new(alloc)?;
     let mut number = 0u64;
@@ -44,18 +48,11 @@ fn collect_lines<R: BufRead + Drop>(alloc: Global, reader: R) -> Result<Collecte
             return Err(error.at(number));
         }
     }
+    if number == 0 {
+        return Err(ReadError::Empty);
+    }
+    if !collected.facts.has_end() {
+        return Err(ReadError::Missing(Missing::End));
+    }
     Ok(collected)
-}
-
-/// The tables that the lines of a reader say.
-pub(crate) fn read_tables<R: BufRead + Drop>(
-    alloc: Global,
-    reader: R,
-) -> Result<OwnedTables, ReadError>
-    ensures root { IfOk result (λ o. IsRoot (owned_tables o)) }
-    ensures says { IfOk result (λ o.
-        IfSome (R.remaining reader) (λ bytes. SaysFile bytes (owned_tables o))) }
-    ensures numbered { IfErr result IsNumbered }
-{
-    collect_lines(alloc, reader)?.finish()
 }

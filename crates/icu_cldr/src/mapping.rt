@@ -1,5 +1,5 @@
 //! Mappings.
-ghost use Rattle.std.specs.Prelude.{◌≡◌, ◌<◌, ◌∷◌, Err, IfOk, length};
+ghost use Rattle.std.specs.Prelude.{◌≡◌, ◌<◌, ◌≤◌, ◌∷◌, Err, IfOk, length};
 ghost use Rattle.std.specs.Str.Iter.{split_whitespace_rest};
 ghost use Rattle.icu_cldr.specs.LineParts.{Lacks};
 ghost use Rattle.icu_cldr.specs.Words.{WriteCharacters};
@@ -15,7 +15,7 @@ use std::str::SplitWhitespace;
 /// those before the bar, if there are any, stand before them.
 #[derive(Debug, Drop)]
 pub struct Mapping {
-    /// The characters before, in the order of the text. Mostly there are none.
+    /// The characters before, in the order of the text. Mostly there are none; a line may have two.
     pub prefix: Vec<char>,
     /// The first of the mapped characters.
     pub first: char,
@@ -47,14 +47,21 @@ fn characters(alloc: Global, words: SplitWhitespace<'_>) -> Result<Vec<char>, Li
     Ok(characters)
 }
 
-/// The characters before a bar: there is at least one.
+/// How many characters may stand before a bar. Tables look back no further.
+const MOST_BEFORE: usize = 2;
+
+/// The characters before a bar: there is at least one, and there are no more than tables look back at.
 fn prefix(alloc: Global, text: &str) -> Result<Vec<char>, LineError>
     ensures some { IfOk result (λ v. 0 < length v.items) }
+    ensures few { IfOk result (λ v. length v.items ≤ 2) }
     ensures writes { IfOk result (λ v. WriteCharacters text.now v.items) }
 {
     let prefix = characters(alloc, text.split_whitespace())?;
     if prefix.is_empty() {
         return Err(LineError::Expected(Expected::Character));
+    }
+    if prefix.len() > MOST_BEFORE {
+        return Err(LineError::Expected(Expected::ShorterPrefix));
     }
     Ok(prefix)
 }
@@ -76,7 +83,9 @@ fn mapped(alloc: Global, text: &str) -> Result<(char, Vec<char>), LineError>
 
 /// The characters of a mapping.
 fn context_of(alloc: Global, text: &str) -> Result<MappedCharacters, LineError>
-    ensures { IfOk result (λ r. WriteContext text.now r.prefix.items (r.first ∷ r.suffix.items)) }
+    ensures writes { IfOk result (λ r.
+        WriteContext text.now r.prefix.items (r.first ∷ r.suffix.items)) }
+    ensures few { IfOk result (λ r. length r.prefix.items ≤ 2) }
 {
     let (prefix, behind) = match text.split_once('|') {
         Some((before, behind)) => (prefix(alloc, before)?, behind),
@@ -93,11 +102,13 @@ fn context_of(alloc: Global, text: &str) -> Result<MappedCharacters, LineError>
 impl Mapping {
     ghost use Rattle.icu_cldr.specs.WrittenMappings.{WritesMapping};
 
-    /// Reads a line of a mapping, without its comment. One without `;` is refused.
+    /// Reads a line of a mapping, without its comment. One without `;` is refused, and so is one with more than two
+    /// characters before the bar.
     pub fn parse(alloc: Global, text: &str) -> Result<Mapping, LineError>
         ensures semicolon { Lacks 59 text.now
             → result ≡ Err (LineError.Expected Expected.Semicolon) }
         ensures says { IfOk result (WritesMapping text.now) }
+        ensures few { IfOk result (λ m. length m.prefix.items ≤ 2) }
     {
         let Some((left, elements)) = text.split_once(';') else {
             return Err(LineError::Expected(Expected::Semicolon));

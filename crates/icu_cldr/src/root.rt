@@ -1,12 +1,13 @@
 //! The root collation as a provider.
-ghost use Rattle.std.specs.Prelude.{◌≡◌, IfOk, IfErr, IfSome};
+ghost use Rattle.std.specs.Prelude.{◌≡◌, IfOk, IfErr, IfSome, MatchOption, None, Some, option_map, string_bytes};
 ghost use Rattle.icu_provider.specs.OwnedTables.{owned_tables};
-ghost use Rattle.icu_cldr.specs.Errors.{IsNumbered};
+ghost use Rattle.icu_cldr.specs.Errors.{IsNumbered, IsRightlyRefused};
 ghost use Rattle.icu_cldr.specs.FileRoots.{SaysFile};
-ghost use Rattle.icu_cldr.specs.Roots.{IsRoot, root_tables};
+ghost use Rattle.icu_cldr.specs.Roots.{IsRoot, root_facts, root_tables};
 
 use crate::error::ReadError;
-use crate::line_reader::read_tables;
+use crate::file_facts::FileFacts;
+use crate::line_reader::collect_lines;
 use icu_provider::{FixedLoads, FixedProvider, OwnedTables};
 use std::alloc::Global;
 use std::io::BufRead;
@@ -14,21 +15,22 @@ use std::io::BufRead;
 /// The root collation of CLDR, for every locale and type: without a tailoring and without a reordering.
 #[derive(Debug, Drop)]
 pub struct CldrRoot {
-    tables: OwnedTables,
+    pub(crate) tables: OwnedTables,
+    pub(crate) facts: FileFacts,
 }
 
 /// Reads the root collation from the lines of FractionalUCA.txt. The tables have each passed their own checks; what
-/// they show together is checked where a collator is made of them.
-#[tactic(auto, unfolding(crate::specs::Roots::root_tables))]
+/// they show together is checked where a collator is made of them. A file without the line that is the last of each
+/// file is cut off, and refused as such (`Missing::End`), and one without a byte as empty (`ReadError::Empty`).
 pub fn read_root<R: BufRead + Drop>(alloc: Global, reader: R) -> Result<CldrRoot, ReadError>
     ensures root { IfOk result (λ r. IsRoot (root_tables r)) }
     ensures says { IfOk result (λ r.
-        IfSome (R.remaining reader) (λ bytes. SaysFile bytes (root_tables r))) }
+        IfSome (R.remaining reader) (λ bytes. SaysFile bytes (root_tables r) (root_facts r))) }
     ensures numbered { IfErr result IsNumbered }
+    ensures refused { IfErr result (λ e.
+        IfSome (R.remaining reader) (λ bytes. IsRightlyRefused bytes e)) }
 {
-    Ok(CldrRoot {
-        tables: read_tables(alloc, reader)?,
-    })
+    collect_lines(alloc, reader)?.finish()
 }
 
 impl CldrRoot {
@@ -38,6 +40,27 @@ impl CldrRoot {
         ensures { owned_tables result ≡ root_tables self }
     {
         self.tables
+    }
+
+    /// What the file says of itself.
+    #[tactic(auto, unfolding(crate::specs::Roots::root_facts))]
+    pub fn facts(&self) -> &FileFacts
+        ensures { result.now ≡ root_facts self.now }
+    {
+        &self.facts
+    }
+
+    /// The version of the Unicode Collation Algorithm that the file is of, which is one of Unicode, as `14.0.0`, if the
+    /// file says it.
+    #[tactic(auto, unfolding(crate::specs::Roots::root_facts))]
+    pub fn version(&self) -> Option<&str>
+        ensures { MatchOption result ((root_facts self.now).version ≡ None)
+            (λ version. option_map string_bytes (root_facts self.now).version ≡ Some version.now) }
+    {
+        match &self.facts.version {
+            Some(version) => Some(version.as_str()),
+            None => None,
+        }
     }
 }
 

@@ -3,7 +3,7 @@ ghost use Rattle.std.specs.Prelude.{◌≡◌, ◌==◌, ◌&&◌, ◌∷◌, []
 ghost use Rattle.icu_entries.specs.Entries.{has_bit};
 ghost use Rattle.icu_provider.specs.SpecialPrimaries.{is_compressible};
 ghost use Rattle.icu_provider.specs.OwnedTables.{owned_special};
-ghost use Rattle.icu_cldr.specs.Errors.{IsNumbered};
+ghost use Rattle.icu_cldr.specs.Errors.{IsOtherError};
 ghost use Rattle.icu_cldr.specs.SaidSpecials.{group_end, group_end_in, end_by_elements};
 
 use crate::compressible_leads::CompressibleLeads;
@@ -147,7 +147,11 @@ impl Special {
                 self.compressible.take_in(*lead);
                 Ok(())
             }
-            Line::Nothing | Line::Ideographs(_) => Ok(()),
+            Line::Nothing
+            | Line::Version(_)
+            | Line::Fixed(_)
+            | Line::Reserved(_)
+            | Line::Ideographs(_) => Ok(()),
         }
     }
 
@@ -156,7 +160,7 @@ impl Special {
         ensures count { IfOk result (λ v. length v.items ≡ 20) }
         ensures implicit { IfOk result (λ v. has_bit 14 (slice_index v.items 19) ≡ true) }
         ensures numbers { IfOk result (λ v. HasNumbers self.now v.items) }
-        ensures numbered { IfErr result IsNumbered }
+        ensures errors { IfErr result IsOtherError }
     {
         let ends = [
             self.ends.space.ok_or(Missing::Punctuation)?,
@@ -175,7 +179,7 @@ impl Special {
         ensures count { IfOk result (λ o. length (owned_special o).last ≡ 20) }
         ensures implicit { IfOk result (λ o. IsTrue (is_compressible (owned_special o) 0xFE)) }
         ensures made { IfOk result (λ o. MakesSpecials self.now (owned_special o)) }
-        ensures numbered { IfErr result IsNumbered }
+        ensures errors { IfErr result IsOtherError }
     {
         let numbers = self.last_primaries(alloc)?;
         let lead = self.numeric_lead.ok_or(Missing::NumericLead)?;

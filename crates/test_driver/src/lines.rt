@@ -19,6 +19,13 @@ fn said(alloc: Global, line: &str) -> Result<String, LineError> {
     let mut text = String::new(alloc);
     match Line::parse(alloc, line)? {
         Line::Nothing => text.push_str("nothing")?,
+        Line::Version(version) => write!(text, "version {version}")?,
+        Line::Fixed(fixed) => write!(text, "fixed {:?} {:02X}", fixed.name, fixed.byte)?,
+        Line::Reserved(range) => write!(
+            text,
+            "free {:?} {:08X}",
+            range.place, range.first_primary
+        )?,
         Line::Mapping(mapping) => push_mapping(&mut text, &mapping)?,
         Line::NumericLead(lead) => write!(text, "numbers {lead:02X}")?,
         Line::LeadByte(byte) => write!(text, "lead {:02X} {}", byte.lead, byte.is_compressible)?,

@@ -1,6 +1,7 @@
 -- The entries of a character by what stands around it.
-use Rattle.std.specs.Prelude.{◌≡◌, ℕ, zero, suc, ◌<◌, List, [], ◌∷◌, ◌++◌, Bool, true, false, ◌||◌, ◌&&◌, Option, Some, None, ◌⊎◌, is_some, option_and_then, if◌then◌else◌, take, length, bytes_eq}
+use Rattle.std.specs.Prelude.{◌≡◌, ℕ, zero, suc, ◌<◌, List, [], ◌∷◌, ◌++◌, Bool, true, false, ◌||◌, ◌&&◌, Option, Some, None, ◌⊎◌, is_some, option_and_then, if◌then◌else◌, take, length, nat_eq, bytes_eq}
 use Rattle.std.specs.BTreeMap.{BTreeMap}
+use Rattle.std.specs.List.{starts_with}
 use Rattle.std.specs.Option.{option_or}
 use Rattle.std.specs.Global.{Vec}
 use Rattle.icu_entries.specs.Elements.{Element}
@@ -49,12 +50,24 @@ abbrev pub own_entry : ℕ → List ℕ → Option ℕ
 own_entry own [] = Some own
 own_entry own (c ∷ cs) = None
 
--- The entry before these characters by the longest prefix that has one, of no more characters than n: a mapping with a
--- longer prefix counts before one with a shorter (UTS #35 part 5, "Context-Sensitive Mappings").
+-- one of these entries is before characters with which others begin
+unfoldable pub begins_after : List (Vec ℕ × ℕ) → List ℕ → Bool
+begins_after [] after = false
+begins_after (e ∷ es) after = starts_with nat_eq after e.0.items || begins_after es after
+
+-- the entry before these characters where a longer prefix has entries: one of these, unless none of them begins the
+-- characters, and then that of the shorter prefix
+abbrev pub behind_longer : Option Suffixes → List ℕ → Option ℕ → Option ℕ
+behind_longer None after shorter = shorter
+behind_longer (Some longer) after shorter = if begins_after longer.entries after then entry_at longer after else shorter
+
+-- The entry before these characters by the longest prefix that has mappings, of no more characters than n. Where none
+-- of these mappings is of the character alone, those of the next shorter prefix count too, but for what one of them
+-- begins (UTS #35 part 5, "Context-Sensitive Mappings").
 unfoldable pub nearest_of : Surroundings → ℕ → ℕ → List ℕ → List ℕ → Option ℕ
 nearest_of all own zero before after = option_or (entry_between all [] after) (own_entry own after)
 nearest_of all own (suc n) before after =
-    option_or (entry_between all (take (suc n) before) after) (nearest_of all own n before after)
+    behind_longer (value_among all.entries (take (suc n) before)) after (nearest_of all own n before after)
 
 -- the entry behind these characters, the nearest first, and before those
 abbrev pub nearest : Surroundings → ℕ → List ℕ → List ℕ → Option ℕ

@@ -1,5 +1,5 @@
 -- What was taken in of the lines so far.
-use Rattle.std.specs.Prelude.{◌≡◌, ℕ, List, [], Some, None}
+use Rattle.std.specs.Prelude.{◌≡◌, ℕ, ◌<◌, List, [], ◌∷◌, ◌++◌, Some, None}
 use Rattle.icu_entries.specs.Elements.{Element}
 use Rattle.icu_table_builder.specs.Building.{built_data}
 use Rattle.icu_cldr.specs.Given.{Spells}
@@ -9,6 +9,7 @@ use Rattle.icu_cldr.specs.LineElements.{AreSaid}
 use Rattle.std.specs.Char.{IsScalar}
 use Rattle.std.specs.List.{AllByRecursion, AllZip}
 use Rattle.icu_provider.specs.CollatorTables.{CollatorTables}
+use Rattle.icu_cldr.specs.FileFacts.{SaysFacts}
 use Rattle.icu_cldr.specs.FileRoots.{GivesMapping}
 use Rattle.icu_cldr.specs.FileLines.{AreLines}
 use Rattle.icu_cldr.specs.WrittenLines.{LineSays}
@@ -18,6 +19,7 @@ use Rattle.icu_cldr.specs.inner.Surroundings.{HasMoreLists}
 use Rattle.icu_cldr.specs.inner.TakenCharacters.{KeepsUnmapped, MapsOnly}
 use Rattle.icu_cldr.specs.inner.WeightedRanges.{AddsIdeographs, HasIdeographs}
 use Rattle.icu_cldr.specs.declared.collected.Collected.{Collected}
+use Rattle.icu_cldr.specs.declared.file_facts.FileFacts.{FileFacts}
 use Rattle.icu_cldr.specs.declared.line.Line.{Line}
 use Rattle.icu_cldr.specs.declared.line.Line.TheVariants as says
 use Rattle.icu_cldr.specs.declared.mapping.Mapping.{Mapping}
@@ -33,10 +35,20 @@ abbrev pub HasSaid : Collected → Line → Type 0
 HasSaid c (says.Mapping m) = HasMapping c m
 HasSaid c _ = Unit {0}
 
+-- what a line says of its file was added
+abbrev pub AddsFacts : FileFacts → FileFacts → Line → Type 0
+AddsFacts old new (says.Version version) =
+    (new.version ≡ Some version) × (new.fixed.items ≡ old.fixed.items) × (new.reserved.items ≡ old.reserved.items)
+AddsFacts old new (says.Fixed f) =
+    (new.version ≡ old.version) × (new.fixed.items ≡ old.fixed.items ++ f ∷ []) × (new.reserved.items ≡ old.reserved.items)
+AddsFacts old new (says.Reserved r) =
+    (new.version ≡ old.version) × (new.fixed.items ≡ old.fixed.items) × (new.reserved.items ≡ old.reserved.items ++ r ∷ [])
+AddsFacts old new _ = new ≡ old
+
 -- a line was taken in: what it says
 abbrev pub IsTaken : Collected → Collected → List ℕ → Type 0
 IsTaken old new line = (said : Line) × LineSays line said × HasSaid new said × AddsIdeographs old.ideographs new.ideographs said
-    × AddsSpecial old.special new.special said × KeepsUnmapped old new said
+    × AddsSpecial old.special new.special said × KeepsUnmapped old new said × AddsFacts old.facts new.facts said
 
 -- what was taken in stays
 pub record Grows (old new : Collected) : Type 0 where
@@ -52,7 +64,7 @@ HasNothing c = (x : ℕ) → entry_around c.contexts x [] [] ≡ None
 abbrev pub TakesLines : Collected → List (List ℕ) → List Line → Type 0
 TakesLines c lines said =
     AllZip LineSays lines said × AllByRecursion (HasSaid c) said × HasIdeographs c.ideographs (ideographs_of said)
-    × HasSpecials c.special said × MapsOnly c said
+    × HasSpecials c.special said × MapsOnly c said × SaysFacts c.facts said
 
 -- what each line of a file says was taken in
 abbrev pub TakesFile : Collected → List ℕ → Type 0
@@ -62,3 +74,8 @@ TakesFile c bytes = (lines : List (List ℕ)) × (said : List Line) × AreLines 
 abbrev pub KeepsMappings : Collected → CollatorTables → Type 0
 KeepsMappings c all = HasNothing c → (m : Mapping) → IsScalar m.first → HasMapping c m
     → GivesMapping (primary_in c.ideographs) all.tables.root m
+
+-- a number is 0 where there are no lines, and only there
+abbrev pub CountsSome : ℕ → List (List ℕ) → Type 0
+CountsSome number [] = number ≡ 0
+CountsSome number (line ∷ lines) = 0 < number

@@ -3,7 +3,8 @@ use Rattle.std.specs.Prelude.{is_some}
 use Rattle.icu_entries.specs.declared.entry.EntryKind.TheVariants.{Contraction}
 use Rattle.icu_table_builder.specs.Building.{built_data}
 use Rattle.icu_cldr.specs.inner.Surroundings.{AddsContext, entry_at}
-use Rattle.icu_cldr.proofs.AddedContextLemmas.{has_nearest, leads_by, leads_to_default, there}
+use Rattle.icu_cldr.proofs.AddedContextLemmas.{leads_by, leads_to_default, there}
+use Rattle.icu_cldr.proofs.NearestLemmas.{has_nearest}
 use Rattle.icu_cldr.proofs.contexts.contraction.Goals as goal
 
 pub add_context-requires : goal.add_context-requires

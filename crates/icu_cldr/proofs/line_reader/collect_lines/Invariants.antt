@@ -2,7 +2,7 @@ use Rattle.std.proofs.Common.{ℕ, List}
 use Rattle.std.specs.Io.Iter.{lines_known_bytes}
 use Rattle.icu_cldr.specs.FileLines.{LinesRead}
 use Rattle.icu_cldr.specs.declared.line.Line.{Line}
-use Rattle.icu_cldr.specs.inner.Taken.{HasNothing, TakesLines}
+use Rattle.icu_cldr.specs.inner.Taken.{CountsSome, HasNothing, TakesLines}
 use Rattle.icu_cldr.specs.inner.TakenCharacters.{HasUnmapped}
 use Rattle.icu_cldr.proofs.line_reader.collect_lines.Given as goal
 
@@ -11,7 +11,7 @@ abbrev pub invariant-loop-line : goal.invariant-loop-line
 invariant-loop-line g l = record {
   nothing : HasNothing l.collected;
   unmapped : HasUnmapped l.collected;
-  taken : (lines : List (List ℕ)) × (said : List Line)
+  taken : (lines : List (List ℕ)) × (said : List Line) × CountsSome l.number lines
       × LinesRead (g.R.Read.remaining l.fn.reader) lines (lines_known_bytes g.R.Read.remaining l.line-iterator)
       × TakesLines l.collected lines said;
 }

@@ -6,6 +6,7 @@ use Rattle.icu_table_builder.specs.Building.{built_data}
 use Rattle.icu_table_builder.specs.OwnedData.{owned_data}
 use Rattle.icu_provider.specs.OwnedTables.{owned_tables}
 use Rattle.icu_cldr.specs.CharacterEntries.{entry_of_char}
+use Rattle.icu_cldr.specs.Roots.{root_tables}
 use Rattle.icu_cldr.specs.inner.Digits.{MakesAllDigits}
 use Rattle.icu_cldr.specs.inner.LineEntries.{Plain}
 use Rattle.icu_cldr.specs.inner.Resolved.{IsResolved}
@@ -14,7 +15,7 @@ use Rattle.icu_cldr.proofs.FinishedLemmas.{mapping_given, on_ok_kept, unmapped_l
 use Rattle.icu_cldr.proofs.collected.Collected.finish.Goals as goal
 
 pub returns-clause-mappings : goal.returns-clause-mappings
-unfolding owned_tables
+unfolding owned_tables root_tables owned_data
 returns-clause-mappings c = λ nothing m scalar has.
     let from = c.args.self in
     let d0 : Data = built_data from.builder in
@@ -35,7 +36,7 @@ returns-clause-mappings c = λ nothing m scalar has.
     c.in_ok-root.ensures.lists c.in_ok-root.ensures.entries nothing m scalar has
 
 pub returns-clause-unmapped : goal.returns-clause-unmapped
-unfolding owned_tables
+unfolding owned_tables root_tables owned_data
 returns-clause-unmapped c = λ has x scalar none.
     let from = c.args.self in
     let d0 : Data = built_data from.builder in

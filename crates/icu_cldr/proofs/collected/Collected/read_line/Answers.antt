@@ -8,4 +8,5 @@ returns-clause-taken c = (
   c.in_ok-take_in.ensures.ideographs,
   c.in_ok-take_in.ensures.special,
   c.in_ok-take_in.ensures.others,
+  c.in_ok-take_in.ensures.facts,
 )

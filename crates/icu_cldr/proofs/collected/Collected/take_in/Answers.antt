@@ -29,3 +29,24 @@ returns-in-Ideographs-clause-others c = on_ok_weaker c.add_ideographs.result (λ
 
 pub returns-in-Mapping-clause-others : goal.returns-in-Mapping-clause-others
 returns-in-Mapping-clause-others c = on_ok_weaker c.add_mapping.result (λ others. kept_by_mapping _ _ _ _ c.in-Mapping.mapping c.args.said c.in-Mapping.is others) c.add_mapping.ensures.others
+
+pub returns-in-Version-clause-grows : goal.returns-in-Version-clause-grows
+returns-in-Version-clause-grows c = record {
+  builder = lists_itself _;
+  entries = record { alone = λ x e h. h; between = λ x b a e h. h; no_empty = λ x h. h };
+  ideographs = λ x p h. h;
+}
+
+pub returns-in_ok-push-in-Fixed-clause-grows : goal.returns-in_ok-push-in-Fixed-clause-grows
+returns-in_ok-push-in-Fixed-clause-grows c = record {
+  builder = lists_itself _;
+  entries = record { alone = λ x e h. h; between = λ x b a e h. h; no_empty = λ x h. h };
+  ideographs = λ x p h. h;
+}
+
+pub returns-in_ok-push-in-Reserved-clause-grows : goal.returns-in_ok-push-in-Reserved-clause-grows
+returns-in_ok-push-in-Reserved-clause-grows c = record {
+  builder = lists_itself _;
+  entries = record { alone = λ x e h. h; between = λ x b a e h. h; no_empty = λ x h. h };
+  ideographs = λ x p h. h;
+}
