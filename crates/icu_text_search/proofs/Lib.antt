@@ -1,6 +1,7 @@
-pub mod ByteOffsetLemmas
 pub mod ShortestLemmas
 pub mod PrimaryCountLemmas
 pub mod LongerPartLemmas
 pub mod PartWalks
 pub mod SureLemmas
+pub mod OverlappingLemmas
+pub mod AllowedLemmas

@@ -2,7 +2,7 @@
 use Rattle.std.proofs.Common.{◌≡◌, ℕ, ◌+◌, ◌-◌, ◌<◌, ◌≤◌, Bool, true, false, ◌&&◌, nat_le, List, [], ◌∷◌, ◌++◌, Option, Some, None, length, take, drop, refl, sym, ap, ◌∙◌, arith, inl, inr, append_assoc, length-append}
 use Rattle.std.specs.Prelude.{slice_range}
 use Rattle.std.specs.Option.{option_map}
-use Rattle.std.proofs.lemmas.Bool.{cases_Bool, cases_lt, and_from, le-leb}
+use Rattle.std.proofs.lemmas.Bool.{cases_Bool, cases_lt, and_from, and_parts, le-leb}
 use Rattle.std.proofs.lemmas.List.{length-drop, take_at, append-nil}
 use Rattle.unicode_normalization.specs.Forms.{nfd}
 use Rattle.icu_elements.specs.TextElements.{Reading, elements_of}
@@ -13,11 +13,11 @@ use Rattle.icu_search.specs.SearchPlaces.{is_place}
 use Rattle.icu_search.specs.Searches.{Search, is_match}
 use Rattle.icu_searcher.specs.declared.place_reader.PlaceReader.{PlaceReader}
 use Rattle.icu_searcher.specs.PlaceReaders.{HasPassed, PassesChar, chars_left, elements_read, places_reading}
-use Rattle.icu_text_search.specs.inner.PartOutcomes.{equals_pattern, HasMorePrimaries}
+use Rattle.icu_text_search.specs.inner.PartOutcomes.{equals_pattern, ends_match, HasMorePrimaries}
 use Rattle.icu_text_search.proofs.ShortestLemmas.{NoneTo, none_found, one_found, none_more, none_at_start}
 use Rattle.icu_text_search.proofs.LongerPartLemmas.{too_many}
 
--- ---- the test of a match, where any place is allowed
+-- ---- the test of a match
 
 never : (a e : Bool) → (a && false && e) ≡ false
 never true e = refl
@@ -27,13 +27,28 @@ never_first : (a p e : Bool) → (a && false && p && e) ≡ false
 never_first true p e = refl
 never_first false p e = refl
 
-never_last : (a : Bool) → (a && false) ≡ false
+pub never_last : (a : Bool) → (a && false) ≡ false
 never_last true = refl
 never_last false = refl
 
-module _ (c : Collation) (pattern text : List ℕ) (start : ℕ) where
-  abbrev s : Search
-  s = record { collation = c; pattern = pattern; allowed = λ _. true }
+none_allowed : (b o p q e : Bool) → (false && b && o && p && q && e) ≡ false
+none_allowed b o p q e = refl
+
+-- of the end, or of the part
+ends_not : (a o p q b e : Bool) → (b && e) ≡ false → (a && b && o && p && q && e) ≡ false
+ends_not false o p q b e h = refl
+ends_not true o p q false e h = refl
+ends_not true o p q true e h = ap (λ (x : Bool). o && p && q && x) h ∙ never_last (o && p && q)
+
+both_hold : (a b : Bool) → (a && b) ≡ true → (a ≡ true) × (b ≡ true)
+both_hold a b h = and_parts a b h
+
+module _ (s : Search) (text : List ℕ) (start : ℕ) where
+  abbrev c : Collation
+  c = s.collation
+
+  abbrev pattern : List ℕ
+  pattern = s.pattern
 
   abbrev rest : List ℕ
   rest = drop start text
@@ -43,18 +58,19 @@ module _ (c : Collation) (pattern text : List ℕ) (start : ℕ) where
 
   no_place : (stop : ℕ) → is_place (reading_by c) rest (stop - start) ≡ false → matches start stop ≡ false
   no_place stop not =
-      ap (λ b. nat_le start stop && is_place (reading_by c) text start && b && equals_pattern s (slice_range text start stop)) not
-      ∙ never (nat_le start stop && is_place (reading_by c) text start) (equals_pattern s (slice_range text start stop))
+      ap (λ b. s.allowed start && s.allowed stop && nat_le start stop && is_place (reading_by c) text start && b && equals_pattern s (slice_range text start stop)) not
+      ∙ never (s.allowed start && s.allowed stop && nat_le start stop && is_place (reading_by c) text start) (equals_pattern s (slice_range text start stop))
 
-  pub not_equal : (stop : ℕ) → equals_pattern s (slice_range text start stop) ≡ false → matches start stop ≡ false
-  not_equal stop not =
-      ap (λ b. nat_le start stop && is_place (reading_by c) text start && is_place (reading_by c) rest (stop - start) && b) not
-      ∙ never_last (nat_le start stop && is_place (reading_by c) text start && is_place (reading_by c) rest (stop - start))
+  -- no match ends there
+  pub not_ended : (stop : ℕ) → ends_match s (slice_range text start stop) stop ≡ false → matches start stop ≡ false
+  not_ended stop not =
+      ends_not (s.allowed start) (nat_le start stop) (is_place (reading_by c) text start) (is_place (reading_by c) rest (stop - start)) (s.allowed stop) (equals_pattern s (slice_range text start stop)) not
 
-  matches_there : (stop : ℕ) → start ≤ stop → is_place (reading_by c) text start ≡ true → is_place (reading_by c) rest (stop - start) ≡ true
-      → equals_pattern s (slice_range text start stop) ≡ true → matches start stop ≡ true
-  matches_there stop ordered first last equal =
-      and_from _ _ (and_from _ _ (and_from _ _ (le-leb start stop ordered) first) last) equal
+  matches_there : (stop : ℕ) → start ≤ stop → s.allowed start ≡ true → is_place (reading_by c) text start ≡ true → is_place (reading_by c) rest (stop - start) ≡ true
+      → ends_match s (slice_range text start stop) stop ≡ true → matches start stop ≡ true
+  matches_there stop ordered allowed first last ends =
+      let both = both_hold (s.allowed stop) (equals_pattern s (slice_range text start stop)) ends in
+      and_from _ _ (and_from _ _ (and_from _ _ (and_from _ _ (and_from _ _ allowed both.0) (le-leb start stop ordered)) first) last) both.1
 
   -- where no place is no match begins
   pub no_start : is_place (reading_by c) text start ≡ false → start ≤ length text → option_map (span start) None ≡ shortest_from matches start start (length text - start)
@@ -62,17 +78,34 @@ module _ (c : Collation) (pattern text : List ℕ) (start : ℕ) where
     where
       begins_not : (t : ℕ) → matches start t ≡ false
       begins_not t =
-          ap (λ b. nat_le start t && b && is_place (reading_by c) rest (t - start) && equals_pattern s (slice_range text start t)) not
-          ∙ never_first (nat_le start t) (is_place (reading_by c) rest (t - start)) (equals_pattern s (slice_range text start t))
+          ap (λ b. s.allowed start && s.allowed t && nat_le start t && b && is_place (reading_by c) rest (t - start) && equals_pattern s (slice_range text start t)) not
+          ∙ never_first (s.allowed start && s.allowed t && nat_le start t) (is_place (reading_by c) rest (t - start)) (equals_pattern s (slice_range text start t))
+
+  -- nor where none may
+  pub not_allowed : s.allowed start ≡ false → start ≤ length text → option_map (span start) None ≡ shortest_from matches start start (length text - start)
+  not_allowed not ordered = sym (none_found matches start (length text) ordered (λ t from to. begins_not t))
+    where
+      begins_not : (t : ℕ) → matches start t ≡ false
+      begins_not t =
+          ap (λ b. b && s.allowed t && nat_le start t && is_place (reading_by c) text start && is_place (reading_by c) rest (t - start) && equals_pattern s (slice_range text start t)) not
 
   -- the empty part is the shortest one
   empty_place : is_place (reading_by c) rest (start - start) ≡ true
   empty_place = let none : start - start ≡ 0 = omega arith in ap (is_place (reading_by c) rest) none
 
-  pub empty_matches : is_place (reading_by c) text start ≡ true → equals_pattern s (slice_range text start start) ≡ true → start ≤ length text
+  empty_part : slice_range text start start ≡ []
+  empty_part = let none : start - start ≡ 0 = omega arith in ap (λ n. take n rest) none
+
+  pub empty_matches : is_place (reading_by c) text start ≡ true → s.allowed start ≡ true → equals_pattern s [] ≡ true → start ≤ length text
       → option_map (span start) (Some start) ≡ shortest_from matches start start (length text - start)
-  empty_matches first equal ordered =
-      sym (one_found matches start (length text) start (omega arith) ordered (matches_there start (omega arith) first empty_place equal) (λ t from before. absurd (omega (arith, from, before))))
+  empty_matches first allowed equal ordered =
+      let ends : ends_match s (slice_range text start start) start ≡ true = and_from _ _ allowed (ap (equals_pattern s) empty_part ∙ equal) in
+      sym (one_found matches start (length text) start (omega arith) ordered (matches_there start (omega arith) allowed first empty_place ends) (λ t from before. absurd (omega (arith, from, before))))
+
+  -- where the empty text isn't equal to the pattern it doesn't match
+  pub empty_matches_not : equals_pattern s [] ≡ false → matches start start ≡ false
+  empty_matches_not not =
+      not_ended start (ap (λ b. s.allowed start && b) (ap (equals_pattern s) empty_part ∙ not) ∙ never_last (s.allowed start))
 
   -- ---- the walk
 
@@ -119,14 +152,14 @@ module _ (c : Collation) (pattern text : List ℕ) (start : ℕ) where
           let size = ap length now_whole in
           omega (arith, size, length-append passed_now (chars_left new), length-append w.front (p.char ∷ []), length-drop start text, w.stop_is)
 
-      not_here : (here ≡ true → equals_pattern s (slice_range text start (stop + 1)) ≡ false) → matches start (stop + 1) ≡ false
+      not_here : (here ≡ true → ends_match s (slice_range text start (stop + 1)) (stop + 1) ≡ false) → matches start (stop + 1) ≡ false
       not_here told =
           elim (cases_Bool here) [
-            | inl is ↦ not_equal (stop + 1) (told is)
+            | inl is ↦ not_ended (stop + 1) (told is)
             | inr not ↦ no_place (stop + 1) (sym place_is ∙ not)
           ]
 
-      pub walk_on : (here ≡ true → equals_pattern s (slice_range text start (stop + 1)) ≡ false) → WalkedTo new (stop + 1)
+      pub walk_on : (here ≡ true → ends_match s (slice_range text start (stop + 1)) (stop + 1) ≡ false) → WalkedTo new (stop + 1)
       walk_on told = record {
         front = passed_now;
         passed = p.passed;
@@ -135,11 +168,11 @@ module _ (c : Collation) (pattern text : List ℕ) (start : ℕ) where
         none = none_more matches start stop w.none (not_here told);
       }
 
-      pub walk_matches : is_place (reading_by c) text start ≡ true → here ≡ true → equals_pattern s (slice_range text start (stop + 1)) ≡ true
+      pub walk_matches : is_place (reading_by c) text start ≡ true → s.allowed start ≡ true → here ≡ true → ends_match s (slice_range text start (stop + 1)) (stop + 1) ≡ true
           → option_map (span start) (Some (stop + 1)) ≡ shortest_from matches start start (length text - start)
-      walk_matches first is equal =
+      walk_matches first allowed is equal =
           let after : start ≤ stop + 1 = omega (arith, w.stop_is) in
-          sym (one_found matches start (length text) (stop + 1) after within (matches_there (stop + 1) after first (sym place_is ∙ is) equal)
+          sym (one_found matches start (length text) (stop + 1) after within (matches_there (stop + 1) after allowed first (sym place_is ∙ is) equal)
           (λ t from before. w.none t from (omega (arith, before))))
 
       -- the elements of the part
@@ -155,11 +188,11 @@ module _ (c : Collation) (pattern text : List ℕ) (start : ℕ) where
           let some : 0 < i = omega (arith, w.stop_is) in
           let room : j ≤ length rest = omega (arith, before, length-drop start text) in
           elim (cases_Bool (is_place (reading_by c) rest j)) [
-            | inl there ↦ not_equal t (too_many c rest pattern i j some rises room (sym place_is ∙ is) there many)
+            | inl there ↦ not_ended t (ap (λ b. s.allowed t && b) (too_many c rest pattern i j some rises room (sym place_is ∙ is) there many) ∙ never_last (s.allowed t))
             | inr not ↦ no_place t not
           ]
 
-      pub walk_too_long : here ≡ true → equals_pattern s (slice_range text start (stop + 1)) ≡ false
+      pub walk_too_long : here ≡ true → ends_match s (slice_range text start (stop + 1)) (stop + 1) ≡ false
           → (elements_read new ≡ elements_of (reading_by c) (nfd (slice_range text start (stop + 1))) → HasMorePrimaries s (slice_range text start (stop + 1)))
           → option_map (span start) None ≡ shortest_from matches start start (length text - start)
       walk_too_long is not more =

@@ -11,19 +11,20 @@ use std::alloc::AllocError;
 /// The matches that are found in a text, one by one, from left to right: of the parts that are equal to the pattern
 /// the least ones that stand apart (UTS #10, "Searching and Matching").
 #[derive(Drop)]
-pub struct FoundMatches<'f, 's, 'c, 't> {
-    text: &'f SearchedText<'s, 'c, 't>,
-    spans: FoundSpans<'f, SearchedText<'s, 'c, 't>>,
+pub struct FoundMatches<'f, 's, 'c> {
+    text: &'f SearchedText<'s, 'c>,
+    spans: FoundSpans<'f, SearchedText<'s, 'c>>,
 }
 
-impl<'f, 's, 'c, 't> FoundMatches<'f, 's, 'c, 't> {
+impl<'f, 's, 'c> FoundMatches<'f, 's, 'c> {
     ghost use Rattle.icu_text_search.specs.MatchesLeft.{matches_left};
-    ghost use Rattle.icu_text_search.specs.SearchedTexts.{match_in_bytes, searched_in, text_searched};
+    ghost use Rattle.icu_text_search.specs.SearchedTexts.{offsets_searched, searched_in, text_searched};
+    ghost use Rattle.icu_text_search.specs.TextOffsets.{match_in_units};
 
     /// All that are found in the text.
-    pub(crate) fn new(text: &'f SearchedText<'s, 'c, 't>) -> FoundMatches<'f, 's, 'c, 't>
+    pub(crate) fn new(text: &'f SearchedText<'s, 'c>) -> FoundMatches<'f, 's, 'c>
         ensures { let t = text.entry.now in matches_left result
-            ≡ map (match_in_bytes (text_searched t)) (found (searched_in t) (text_searched t)) }
+            ≡ map (match_in_units (offsets_searched t)) (found (searched_in t) (text_searched t)) }
     {
         FoundMatches {
             text,
@@ -39,7 +40,7 @@ impl<'f, 's, 'c, 't> FoundMatches<'f, 's, 'c, 't> {
         ensures same { OnErr result (matches_left self.new ≡ matches_left self.old) }
     {
         match self.spans.next()? {
-            Some(m) => Ok(Some(self.text.in_bytes(m))),
+            Some(m) => Ok(Some(self.text.in_units(m))),
             None => Ok(None),
         }
     }

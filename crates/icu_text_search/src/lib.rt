@@ -2,12 +2,14 @@
 //! collator.
 //!
 //! A `Searcher` keeps a pattern. `find` gives the first match of a text. `read` reads a text once, and `find_iter`
-//! gives all that are found in it, one by one.
+//! gives all that are found in it, one by one. Patterns and texts may be in UTF-8, UTF-16 or Latin-1, damaged ones too.
 #![tactic(auto)]
 
-mod byte_offsets;
+mod allowed_offsets;
+mod boundary;
+mod encoded_searches;
 mod found_matches;
-mod indexed_text;
+mod overlapping_matches;
 mod part_match;
 mod part_outcome;
 mod part_walk;
@@ -17,7 +19,9 @@ mod searcher;
 #[cfg(test)]
 mod tests;
 
+pub use boundary::Boundary;
 pub use found_matches::FoundMatches;
+pub use overlapping_matches::OverlappingMatches;
 pub use part_match::Match;
 pub use searched_text::SearchedText;
 pub use searcher::Searcher;

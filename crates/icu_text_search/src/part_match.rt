@@ -4,7 +4,8 @@ ghost use Rattle.std.specs.Prelude.{◌≡◌};
 
 use std::marker::Model;
 
-/// A part of a text in UTF-8 that is equal to the pattern: from this byte on, before that one.
+/// A part of a text that is equal to the pattern: from this unit on, before that one. Units are those of the text's
+/// encoding: bytes, or units of 16 bits.
 #[derive(Clone, Copy, Debug, PartialEq, Eq)]
 pub struct Match {
     start: usize,
@@ -24,21 +25,21 @@ impl Model for Match {
 impl Match {
     ghost use Rattle.icu_search.specs.LeastMatches.{span};
 
-    /// The part between two bytes.
+    /// The part between two units.
     pub(crate) fn new(start: usize, end: usize) -> Match
         ensures { result ≡ span start end }
     {
         Match { start, end }
     }
 
-    /// At which byte it begins.
+    /// At which unit it begins.
     pub fn start(self) -> usize
         ensures { result ≡ self.start }
     {
         self.start
     }
 
-    /// At which byte it ends.
+    /// At which unit it ends.
     pub fn end(self) -> usize
         ensures { result ≡ self.stop }
     {

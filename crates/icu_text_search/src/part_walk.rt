@@ -2,11 +2,10 @@
 
 ghost use Rattle.std.specs.Prelude.{◌≡◌, ◌+◌, ◌-◌, ◌≤◌, [], false, true, drop, slice_range, IfOk};
 ghost use Rattle.std.specs.Option.{option_map};
-ghost use Rattle.std.specs.Ordering.{is_eq};
 ghost use Rattle.icu_search.specs.LeastMatches.{shortest_from, span};
 ghost use Rattle.icu_search.specs.SearchPlaces.{is_place};
 ghost use Rattle.icu_searcher.specs.PlaceReaders.{CanPass, HasPassed, chars_left, places_reading};
-ghost use Rattle.icu_text_order.specs.TextOrder.{reading_by, text_order};
+ghost use Rattle.icu_text_order.specs.TextOrder.{reading_by};
 
 use crate::part_outcome::PartOutcome;
 use crate::searched_text::SearchedText;
@@ -14,18 +13,19 @@ use icu_elements::CollationElement;
 use icu_searcher::PlaceReader;
 use std::alloc::AllocError;
 
-impl<'s, 'c, 't> SearchedText<'s, 'c, 't> {
+impl<'s, 'c> SearchedText<'s, 'c> {
     ghost use Rattle.icu_text_search.specs.SearchedTexts.{char_len_in, matches_in, searched_in, text_searched};
-    ghost use Rattle.icu_text_search.specs.inner.PartOutcomes.{TellsOfPart};
+    ghost use Rattle.icu_text_search.specs.inner.PartOutcomes.{TellsOfPart, equals_pattern};
 
     /// Whether the part between two offsets is equal to the pattern.
-    fn part_equals(&self, start: usize, stop: usize) -> bool
+    fn part_equals(&self, start: usize, stop: usize) -> Result<bool, AllocError>
         requires ordered { start ≤ stop }
         requires within { stop ≤ char_len_in self.now }
-        ensures { let s = searched_in self.now in result ≡ is_eq (text_order s.collation
-            (slice_range (text_searched self.now) start stop) s.pattern) }
+        ensures { IfOk result (λ b. b ≡ equals_pattern (searched_in self.now)
+            (slice_range (text_searched self.now) start stop)) }
     {
-        self.searcher.equals(self.text.part(start, stop))
+        let part = self.text.part(self.searcher.allocator(), start, stop)?;
+        Ok(self.searcher.equals(part.as_str()))
     }
 
     /// What is told of the part between two offsets, whose elements are these if a place is at its end.
@@ -35,25 +35,25 @@ impl<'s, 'c, 't> SearchedText<'s, 'c, 't> {
         start: usize,
         stop: usize,
         elements: &[CollationElement],
-    ) -> PartOutcome
+    ) -> Result<PartOutcome, AllocError>
         requires ordered { start ≤ stop }
         requires within { stop ≤ char_len_in self.now }
-        ensures { TellsOfPart (searched_in self.now)
-            (slice_range (text_searched self.now) start stop) here elements.now result }
+        ensures { IfOk result (λ told. TellsOfPart (searched_in self.now)
+            (slice_range (text_searched self.now) start stop) stop here elements.now told) }
     {
         if !here {
-            return PartOutcome::GoesOn;
+            return Ok(PartOutcome::GoesOn);
         }
         if self.searcher.is_too_short(elements) {
-            return PartOutcome::GoesOn;
+            return Ok(PartOutcome::GoesOn);
         }
-        if self.part_equals(start, stop) {
-            return PartOutcome::Matches;
+        if self.is_allowed(stop) && self.part_equals(start, stop)? {
+            return Ok(PartOutcome::Matches);
         }
         if self.searcher.is_too_long(elements) {
-            return PartOutcome::TooLong;
+            return Ok(PartOutcome::TooLong);
         }
-        PartOutcome::GoesOn
+        Ok(PartOutcome::GoesOn)
     }
 
     /// Where the first match behind an offset ends that begins there, where the empty part doesn't match. A place is
@@ -70,14 +70,15 @@ impl<'s, 'c, 't> SearchedText<'s, 'c, 't> {
         ensures { let s = searched_in self.now in let text = text_searched self.now in
             HasPassed I.next_gives places.entry []
             → is_place (reading_by s.collation) text start ≡ true
-            → matches_in self.now start start ≡ false
+            → s.allowed start ≡ true → matches_in self.now start start ≡ false
             → IfOk result (λ stop. option_map (span start) stop
             ≡ shortest_from (matches_in self.now) start start (char_len_in self.now - start)) }
     {
         let mut stop = start;
         'places: while let Some(here) = places.next()? {
             stop += 1;
-            match self.outcome(here, start, stop, places.elements()) {
+            let told = self.outcome(here, start, stop, places.elements())?;
+            match told {
                 PartOutcome::Matches => return Ok(Some(stop)),
                 PartOutcome::TooLong => return Ok(None),
                 PartOutcome::GoesOn => {}
@@ -93,7 +94,7 @@ impl<'s, 'c, 't> SearchedText<'s, 'c, 't> {
         requires rest { rest.now ≡ drop start (text_searched self.now) }
         ensures { let s = searched_in self.now in
             is_place (reading_by s.collation) (text_searched self.now) start ≡ true
-            → matches_in self.now start start ≡ false
+            → s.allowed start ≡ true → matches_in self.now start start ≡ false
             → IfOk result (λ stop. option_map (span start) stop
             ≡ shortest_from (matches_in self.now) start start (char_len_in self.now - start)) }
     {
@@ -110,7 +111,10 @@ impl<'s, 'c, 't> SearchedText<'s, 'c, 't> {
         if !self.starts[start] {
             return Ok(None);
         }
-        if self.part_equals(start, start) {
+        if !self.is_allowed(start) {
+            return Ok(None);
+        }
+        if self.searcher.equals_empty() {
             return Ok(Some(start));
         }
         self.walk_along(start, &self.text.characters()[start..])

@@ -1,97 +1,192 @@
 //! Texts that are searched.
 
-ghost use Rattle.std.specs.Prelude.{◌≡◌, ◌-◌, IfOk, chars, length, map};
-ghost use Rattle.std.specs.Option.{option_map};
+ghost use Rattle.std.specs.Prelude.{◌≡◌, ◌-◌, ◌<◌, ◌≤◌, IfOk, length, map, slice_index};
+ghost use Rattle.std.specs.Option.{ForSome, option_map};
+ghost use Rattle.icu_indexed_text.specs.IndexedTexts.{indexed_chars, indexed_offsets};
+ghost use Rattle.icu_indexed_text.specs.OffsetSets.{has_offset};
 ghost use Rattle.icu_search.specs.LeastMatches.{shortest_from};
-ghost use Rattle.icu_search.specs.Searches.{found, is_match};
-ghost use Rattle.icu_search.specs.Selections.{first_span};
+ghost use Rattle.icu_search.specs.Searches.{found, is_match, least};
+ghost use Rattle.icu_search.specs.Selections.{first_span, found_from};
 ghost use Rattle.icu_searcher.specs.PlaceMarks.{MarksPlaces};
 ghost use Rattle.icu_text_order.specs.TextOrder.{reading_by};
-ghost use Rattle.icu_text_search.specs.Searchers.{search_of};
-ghost use Rattle.icu_text_search.specs.inner.IndexedTexts.{indexed_chars};
+ghost use Rattle.icu_text_search.specs.Searchers.{search_of, search_within};
+ghost use Rattle.icu_text_search.specs.TextOffsets.{begin_before};
 
+use crate::allowed_offsets::AllowedOffsets;
 use crate::found_matches::FoundMatches;
-use crate::indexed_text::IndexedText;
+use crate::overlapping_matches::OverlappingMatches;
 use crate::part_match::Match;
 use crate::searcher::Searcher;
+use icu_indexed_text::{IndexedText, offset_marks};
 use icu_search::{CharSpan, MatchEnds, first_least};
 use icu_searcher::place_marks;
 use std::alloc::AllocError;
 
 /// A text that is searched for a pattern. It is read once.
 #[derive(Debug, Drop)]
-pub struct SearchedText<'s, 'c, 't> {
+pub struct SearchedText<'s, 'c> {
     pub(crate) searcher: &'s Searcher<'c>,
-    pub(crate) text: IndexedText<'t>,
+    pub(crate) text: IndexedText,
+    pub(crate) allowed: Option<AllowedOffsets>,
     pub(crate) starts: Vec<bool>,
     ghost marked: { MarksPlaces (reading_by (search_of searcher.now).collation)
         (indexed_chars text) starts.items },
+    ghost fits: { ForSome allowed (λ a. a.marks.items
+        ≡ map (has_offset a.set.items) (indexed_offsets text)) },
 }
 
-impl<'s, 'c, 't> SearchedText<'s, 'c, 't> {
-    ghost use Rattle.icu_text_search.specs.MatchesLeft.{matches_left};
-    ghost use Rattle.icu_text_search.specs.SearchedTexts.{char_len_in, match_in_bytes, matches_in, searched_in, text_searched};
+/// How many of these offsets are below another.
+fn count_below(offsets: &[usize], offset: usize) -> usize
+    ensures { result ≡ begin_before offsets.now offset }
+{
+    offsets.iter().filter(|o| **o < offset).count()
+}
 
-    /// Reads a text, and finds where its parts may begin.
+/// The mark of one of some offsets.
+fn mark_of(allowed: &AllowedOffsets, offsets: &[usize], index: usize) -> bool
+    requires fits { allowed.now.marks.items
+        ≡ map (has_offset allowed.now.set.items) offsets.now }
+    requires within { index < length offsets.now }
+    ensures { result ≡ has_offset allowed.now.set.items (slice_index offsets.now index) }
+{
+    allowed.marks[index]
+}
+
+impl<'s, 'c> SearchedText<'s, 'c> {
+    ghost use Rattle.icu_text_search.specs.MatchesLeft.{matches_left, overlapping_left};
+    ghost use Rattle.icu_text_search.specs.SearchedTexts.{char_len_in, matches_in, offsets_searched, searched_in, text_searched};
+    ghost use Rattle.icu_text_search.specs.TextOffsets.{match_in_units};
+
+    /// Finds where the parts of a text may begin.
     pub(crate) fn new(
         searcher: &'s Searcher<'c>,
-        text: &'t str,
-    ) -> Result<SearchedText<'s, 'c, 't>, AllocError>
+        text: IndexedText,
+    ) -> Result<SearchedText<'s, 'c>, AllocError>
         ensures search { IfOk result (λ t. searched_in t ≡ search_of searcher.entry.now) }
-        ensures text { IfOk result (λ t. text_searched t ≡ chars text.entry.now) }
+        ensures text { IfOk result (λ t. text_searched t ≡ indexed_chars text) }
+        ensures offsets { IfOk result (λ t. offsets_searched t ≡ indexed_offsets text) }
     {
-        let text = IndexedText::new(searcher.allocator(), text)?;
         let starts = place_marks(searcher.reading(), text.characters())?;
         Ok(SearchedText {
             searcher,
             text,
+            allowed: None,
+            starts,
+        })
+    }
+
+    /// The same text, where matches begin and end at these units alone, as boundaries of grapheme clusters or of words.
+    /// They may come in any order; a unit at which no character begins, and the text doesn't end, allows nothing.
+    /// Fails only where an allocation does.
+    pub fn within(self, offsets: &[usize]) -> Result<SearchedText<'s, 'c>, AllocError>
+        ensures search { IfOk result (λ t. searched_in t ≡ search_within (searched_in self.entry)
+            (offsets_searched self.entry) offsets.now) }
+        ensures text { IfOk result (λ t. text_searched t ≡ text_searched self.entry) }
+        ensures offsets { IfOk result (λ t. offsets_searched t ≡ offsets_searched self.entry) }
+    {
+        let alloc = self.searcher.allocator();
+        let marks = offset_marks(alloc, self.text.offsets(), offsets)?;
+        let set = Vec::from_slice(alloc, offsets)?;
+        let SearchedText {
+            searcher,
+            text,
+            starts,
+            ..
+        } = self;
+        Ok(SearchedText {
+            searcher,
+            text,
+            allowed: Some(AllowedOffsets { set, marks }),
             starts,
         })
     }
 
     /// The first match that is found in it, if there is one. Fails only where an allocation does.
     pub fn find(&self) -> Result<Option<Match>, AllocError>
-        ensures { let s = searched_in self.now in let t = text_searched self.now in IfOk result
-            (λ m. m ≡ option_map (match_in_bytes t) (first_span (found s t))) }
+        ensures { let t = self.now in IfOk result
+            (λ m. m ≡ option_map (match_in_units (offsets_searched t))
+            (first_span (found (searched_in t) (text_searched t)))) }
     {
         match first_least(self, 0)? {
-            Some(m) => Ok(Some(self.in_bytes(m))),
+            Some(m) => Ok(Some(self.in_units(m))),
+            None => Ok(None),
+        }
+    }
+
+    /// The first least match that begins at a unit or after it, if there is one. Fails only where an allocation does.
+    pub fn find_at(&self, start: usize) -> Result<Option<Match>, AllocError>
+        ensures { let t = self.now in IfOk result
+            (λ m. m ≡ option_map (match_in_units (offsets_searched t))
+            (first_span (found_from (matches_in t) (char_len_in t)
+            (begin_before (offsets_searched t) start)))) }
+    {
+        let index = count_below(self.text.offsets(), start);
+        match first_least(self, index)? {
+            Some(m) => Ok(Some(self.in_units(m))),
             None => Ok(None),
         }
     }
 
     /// All that are found in it, one by one.
-    pub fn find_iter(&self) -> FoundMatches<'_, 's, 'c, 't>
+    pub fn find_iter(&self) -> FoundMatches<'_, 's, 'c>
         ensures { let t = self.entry.now in matches_left result
-            ≡ map (match_in_bytes (text_searched t)) (found (searched_in t) (text_searched t)) }
+            ≡ map (match_in_units (offsets_searched t)) (found (searched_in t) (text_searched t)) }
     {
         FoundMatches::new(self)
     }
 
+    /// All least matches, one by one, overlapping ones included.
+    pub fn find_overlapping_iter(&self) -> OverlappingMatches<'_, 's, 'c>
+        ensures { let t = self.entry.now in overlapping_left result
+            ≡ map (match_in_units (offsets_searched t)) (least (searched_in t) (text_searched t)) }
+    {
+        OverlappingMatches::new(self)
+    }
+
     /// The shortest match with which it begins, if it begins with one. Fails only where an allocation does.
     pub fn prefix_match(&self) -> Result<Option<Match>, AllocError>
-        ensures { let s = searched_in self.now in let t = text_searched self.now in IfOk result
-            (λ m. m ≡ option_map (match_in_bytes t)
-            (shortest_from (is_match s t) 0 0 (length t))) }
+        ensures { let t = self.now in IfOk result
+            (λ m. m ≡ option_map (match_in_units (offsets_searched t))
+            (shortest_from (matches_in t) 0 0 (char_len_in t))) }
     {
         match self.shortest_stop(0)? {
-            Some(stop) => Ok(Some(self.in_bytes(CharSpan::new(0, stop)))),
+            Some(stop) => Ok(Some(self.in_units(CharSpan::new(0, stop)))),
             None => Ok(None),
         }
     }
 
-    /// A part of the text, by the bytes at which it begins and ends.
-    pub(crate) fn in_bytes(&self, m: CharSpan) -> Match
-        ensures { result ≡ match_in_bytes (text_searched self.now) m }
+    /// At which unit a character begins, or where the text ends.
+    fn unit(&self, index: usize) -> usize
+        ensures { result ≡ slice_index (offsets_searched self.now) index }
     {
-        Match::new(
-            self.text.byte_offset(m.start()),
-            self.text.byte_offset(m.stop()),
-        )
+        let offsets = self.text.offsets();
+        if index < offsets.len() {
+            offsets[index]
+        } else {
+            0
+        }
+    }
+
+    /// A part of the text, by the units at which it begins and ends.
+    pub(crate) fn in_units(&self, m: CharSpan) -> Match
+        ensures { result ≡ match_in_units (offsets_searched self.now) m }
+    {
+        Match::new(self.unit(m.start()), self.unit(m.stop()))
+    }
+
+    /// Whether a match may begin or end at the unit of a character, or at the text's end.
+    pub(crate) fn is_allowed(&self, index: usize) -> bool
+        requires { index ≤ char_len_in self.now }
+        ensures { result ≡ (searched_in self.now).allowed index }
+    {
+        match &self.allowed {
+            None => true,
+            Some(allowed) => mark_of(allowed, self.text.offsets(), index),
+        }
     }
 }
 
-impl<'s, 'c, 't> MatchEnds for SearchedText<'s, 'c, 't> {
+impl<'s, 'c> MatchEnds for SearchedText<'s, 'c> {
     ghost use Rattle.icu_text_search.specs.SearchedTexts.{char_len_in, matches_in};
 
     ghost matches = { matches_in };

@@ -3,7 +3,7 @@
 ghost use Rattle.std.specs.Prelude.{◌≡◌, ◌<◌, ◌≤◌, ℕ, List, [], true, chars, length, string_bytes, IfOk, IfSome};
 ghost use Rattle.std.specs.Option.{ForSome};
 ghost use Rattle.std.specs.Ordering.{is_eq};
-ghost use Rattle.icu_encodings.specs.DecodedTexts.{utf8_text};
+ghost use Rattle.icu_encodings.specs.DecodedTexts.{latin1_text, utf16_text, utf8_text};
 ghost use Rattle.icu_collator.specs.Collators.{collation_borrowed, collation_kept};
 ghost use Rattle.icu_elements.specs.Reading.{reading_of};
 ghost use Rattle.icu_elements.specs.TextElements.{elements_of};
@@ -12,12 +12,15 @@ ghost use Rattle.icu_text_order.specs.Forms.{last_variable_by};
 ghost use Rattle.icu_search.specs.Searches.{found};
 ghost use Rattle.unicode_normalization.specs.Forms.{nfd};
 ghost use Rattle.icu_text_search.specs.inner.OnePrimaries.{HasOnePrimary};
+ghost use Rattle.icu_text_search.specs.inner.PartOutcomes.{equals_pattern};
 ghost use Rattle.icu_text_search.specs.inner.PrimaryCounts.{primaries_from};
 
 use icu_collator::options::AlternateHandling;
 use icu_collator::{Collator, CollatorBorrowed};
 use icu_elements::{CollationElement, TextReading, all_elements};
+use icu_encodings::{Latin1Text, Utf8Text, Utf16Text};
 use icu_entries::element::MERGE_SEPARATOR_PRIMARY;
+use icu_indexed_text::utf8_copy;
 use std::alloc::{AllocError, Global};
 use std::cmp::Ordering;
 
@@ -124,11 +127,22 @@ pub struct Searcher<'c> {
     fewest: usize,
     /// So many of them count at most.
     most: usize,
+    /// The empty text is equal to the pattern.
+    equals_empty: bool,
     ghost sure_is: { ForSome sure (λ p. last_variable_by (collation_borrowed collator) < p) },
     ghost fewest_is: { fewest ≤ length (lists_by (collation_borrowed collator)
         (nfd (chars (string_bytes pattern)))).primaries },
     ghost most_is: { length (lists_by (collation_borrowed collator)
         (nfd (chars (string_bytes pattern)))).primaries ≤ most },
+    ghost equals_empty_is: { equals_empty ≡ is_eq (text_order (collation_borrowed collator) []
+        (chars (string_bytes pattern))) },
+}
+
+/// Whether the empty text is equal to another.
+fn is_empty_text(collator: &CollatorBorrowed<'_>, text: &str) -> bool
+    ensures { result ≡ is_eq (text_order (collation_borrowed collator.now) [] (chars text.now)) }
+{
+    collator.order("", text).is_eq()
 }
 
 impl<'c> Searcher<'c> {
@@ -144,10 +158,69 @@ impl<'c> Searcher<'c> {
         ensures { IfOk result (λ s. search_of s
             ≡ search_for (collation_kept collator.entry.now) (chars pattern.now)) }
     {
-        let most = most_primaries(&collator.as_borrowed(), pattern)?;
-        let sure = first_sure(&collator.as_borrowed())?;
-        let fewest = fewest_primaries(&collator.as_borrowed(), pattern, sure)?;
         let pattern = String::from_str(alloc, pattern)?;
+        let searcher = Searcher::of_pattern(alloc, collator, pattern)?;
+        Ok(searcher)
+    }
+
+    /// Reads a pattern in UTF-8 that may be damaged: each maximal ill-formed part is one U+FFFD (Unicode Standard,
+    /// "Unicode Encoding Forms"). Fails only where an allocation does.
+    pub fn new_utf8(
+        alloc: Global,
+        collator: &'c Collator,
+        pattern: &[u8],
+    ) -> Result<Searcher<'c>, AllocError>
+        ensures { IfOk result (λ s. search_of s
+            ≡ search_for (collation_kept collator.entry.now) (utf8_text pattern.now)) }
+    {
+        let pattern = utf8_copy(alloc, Utf8Text(pattern))?;
+        let searcher = Searcher::of_pattern(alloc, collator, pattern)?;
+        Ok(searcher)
+    }
+
+    /// Reads a pattern in UTF-16: each unpaired surrogate is U+FFFD (Unicode Standard, "Unicode Encoding Forms"). Fails
+    /// only where an allocation does.
+    pub fn new_utf16(
+        alloc: Global,
+        collator: &'c Collator,
+        pattern: &[u16],
+    ) -> Result<Searcher<'c>, AllocError>
+        ensures { IfOk result (λ s. search_of s
+            ≡ search_for (collation_kept collator.entry.now) (utf16_text pattern.now)) }
+    {
+        let pattern = utf8_copy(alloc, Utf16Text(pattern))?;
+        let searcher = Searcher::of_pattern(alloc, collator, pattern)?;
+        Ok(searcher)
+    }
+
+    /// Reads a pattern in Latin-1: each byte is the character of its number (Unicode Standard, "Latin"). Fails only
+    /// where an allocation does.
+    pub fn new_latin1(
+        alloc: Global,
+        collator: &'c Collator,
+        pattern: &[u8],
+    ) -> Result<Searcher<'c>, AllocError>
+        ensures { IfOk result (λ s. search_of s
+            ≡ search_for (collation_kept collator.entry.now) (latin1_text pattern.now)) }
+    {
+        let pattern = utf8_copy(alloc, Latin1Text(pattern))?;
+        let searcher = Searcher::of_pattern(alloc, collator, pattern)?;
+        Ok(searcher)
+    }
+
+    /// Reads a pattern.
+    fn of_pattern(
+        alloc: Global,
+        collator: &'c Collator,
+        pattern: String,
+    ) -> Result<Searcher<'c>, AllocError>
+        ensures { IfOk result (λ s. search_of s
+            ≡ search_for (collation_kept collator.entry.now) (chars (string_bytes pattern))) }
+    {
+        let most = most_primaries(&collator.as_borrowed(), pattern.as_str())?;
+        let sure = first_sure(&collator.as_borrowed())?;
+        let fewest = fewest_primaries(&collator.as_borrowed(), pattern.as_str(), sure)?;
+        let equals_empty = is_empty_text(&collator.as_borrowed(), pattern.as_str());
         Ok(Searcher {
             alloc,
             collator: collator.as_borrowed(),
@@ -155,6 +228,7 @@ impl<'c> Searcher<'c> {
             sure,
             fewest,
             most,
+            equals_empty,
         })
     }
 
@@ -179,12 +253,17 @@ impl<'c> Searcher<'c> {
     }
 
     /// Whether a part of a text is equal to the pattern.
-    pub(crate) fn equals(&self, part: &[u8]) -> bool
-        ensures { let s = search_of self.now in
-            result ≡ is_eq (text_order s.collation (utf8_text part.now) s.pattern) }
+    pub(crate) fn equals(&self, part: &str) -> bool
+        ensures { result ≡ equals_pattern (search_of self.now) (chars part.now) }
     {
-        let pattern = self.pattern.as_bytes();
-        self.collator.order_utf8(part, pattern).is_eq()
+        self.collator.order(part, self.pattern.as_str()).is_eq()
+    }
+
+    /// Whether the empty part is.
+    pub(crate) fn equals_empty(&self) -> bool
+        ensures { result ≡ equals_pattern (search_of self.now) [] }
+    {
+        self.equals_empty
     }
 
     /// Whether a part of a text with these elements has fewer primary weights than the pattern. It may have fewer where

@@ -15,24 +15,25 @@ places-init g c =
       ordered = omega arith;
       within = omega (arith, left, c.requires.within);
       reading = c.requires.reading;
-      walked = λ h not. walk_begins s.collation s.pattern text c.args.start g.I.Iterator.next_gives c.args.places h c.requires.left not;
+      walked = λ h not. walk_begins s text c.args.start g.I.Iterator.next_gives c.args.places h c.requires.left not;
     }
 
 pub returns-in-Matches : goal.returns-in-Matches
-returns-in-Matches g c = λ h first not.
+returns-in-Matches g c = λ h first allowed not.
     let s = searched_in c.args.self.now in
+    let told = rw c.in-Matches.is at c.in_ok-told.ensures in
     let w = c.places.invariant.walked h not in
     let passed = rw c.in-Some.is at (c.in_ok-here.ensures.step w.front w.passed) in
-    walk_matches s.collation s.pattern (text_searched c.args.self.now) c.args.start g.I.Iterator.next_gives c.places.places c.next.new.self c.places.stop c.in-Some.here w c.places.invariant.reading passed
-    first c.in-Matches.ensures.0 c.in-Matches.ensures.1
+    walk_matches s (text_searched c.args.self.now) c.args.start g.I.Iterator.next_gives c.places.places c.next.new.self c.places.stop c.in-Some.here w c.places.invariant.reading passed
+    first allowed told.0 told.1
 
 pub returns-in-TooLong : goal.returns-in-TooLong
-returns-in-TooLong g c = λ h first not.
+returns-in-TooLong g c = λ h first allowed not.
     let s = searched_in c.args.self.now in
     let w = c.places.invariant.walked h not in
     let passed = rw c.in-Some.is at (c.in_ok-here.ensures.step w.front w.passed) in
-    let told = c.in-TooLong.ensures in
-    walk_too_long s.collation s.pattern (text_searched c.args.self.now) c.args.start g.I.Iterator.next_gives c.places.places c.next.new.self c.places.stop c.in-Some.here w c.places.invariant.reading passed
+    let told = rw c.in-TooLong.is at c.in_ok-told.ensures in
+    walk_too_long s (text_searched c.args.self.now) c.args.start g.I.Iterator.next_gives c.places.places c.next.new.self c.places.stop c.in-Some.here w c.places.invariant.reading passed
     told.0 told.1 (λ e. told.2 (told.0, c.elements.ensures ∙ e))
 
 pub places-preserved : goal.places-preserved
@@ -47,13 +48,13 @@ places-preserved g c =
       walked = λ h not.
           let w = c.places.invariant.walked h not in
           let passed = rw c.in-Some.is at (c.in_ok-here.ensures.step w.front w.passed) in
-          walk_on s.collation s.pattern (text_searched c.args.self.now) c.args.start g.I.Iterator.next_gives c.places.places c.next.new.self c.places.stop c.in-Some.here w c.places.invariant.reading passed
-          (λ is. c.in-GoesOn.ensures (is, c.elements.ensures ∙ part_elements s.collation s.pattern (text_searched c.args.self.now) c.args.start g.I.Iterator.next_gives c.places.places c.next.new.self c.places.stop c.in-Some.here w c.places.invariant.reading passed is));
+          walk_on s (text_searched c.args.self.now) c.args.start g.I.Iterator.next_gives c.places.places c.next.new.self c.places.stop c.in-Some.here w c.places.invariant.reading passed
+          (λ is. (rw c.in-GoesOn.is at c.in_ok-told.ensures) (is, c.elements.ensures ∙ part_elements s (text_searched c.args.self.now) c.args.start g.I.Iterator.next_gives c.places.places c.next.new.self c.places.stop c.in-Some.here w c.places.invariant.reading passed is));
     }
 
 pub returns : goal.returns
-returns g c = λ h first not.
+returns g c = λ h first allowed not.
     let s = searched_in c.args.self.now in
     let w = c.places.invariant.walked h not in
-    walk_ends s.collation s.pattern (text_searched c.args.self.now) c.args.start g.I.Iterator.next_gives c.places.places c.places.stop w c.requires.within
+    walk_ends s (text_searched c.args.self.now) c.args.start g.I.Iterator.next_gives c.places.places c.places.stop w c.requires.within
     (rw c.in_default.is at (c.in_ok-here.ensures.step w.front w.passed))

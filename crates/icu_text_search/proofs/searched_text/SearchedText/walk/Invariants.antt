@@ -13,7 +13,7 @@ invariant-places g l = record {
   within : l.stop + length (chars_left l.places) ≤ char_len_in l.self;
   reading : places_reading l.places ≡ reading_by (searched_in l.self).collation;
   walked : HasPassed g.I.Iterator.next_gives l.fn.places [] → matches_in l.self l.start l.start ≡ false
-      → WalkedTo (searched_in l.self).collation (searched_in l.self).pattern (text_searched l.self) l.start g.I.Iterator.next_gives l.places l.stop;
+      → WalkedTo (searched_in l.self) (text_searched l.self) l.start g.I.Iterator.next_gives l.places l.stop;
 }
 
 abbrev pub decreases-places : goal.decreases-places

@@ -1,0 +1,3 @@
+pub mod SizeLemmas
+pub mod UnitOffsetLemmas
+pub mod CopyLemmas

@@ -1,0 +1,3 @@
+pub mod UnitOffsets
+pub mod IndexedTexts
+pub mod OffsetSets
