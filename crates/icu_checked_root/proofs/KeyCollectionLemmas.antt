@@ -21,7 +21,7 @@ use Rattle.icu_provider.specs.Diacritics.{is_replaced_index}
 use Rattle.icu_provider.specs.Tables.{Tables, is_jamo, jamo_base}
 use Rattle.icu_checks.specs.ReachableElements.{IsOfReachableDiacritic}
 use Rattle.icu_checked_root.specs.RootElements.{IsStatedBy, IsStatedInRoot, IsStatedByJamo, IsRootElement}
-use Rattle.icu_checked_root.specs.inner.KeyWindows.{key_of}
+use Rattle.icu_checked_root.specs.inner.KeyWindows.{element_key}
 use Rattle.icu_checked_root.specs.inner.KeyCollections.{stated_elements, with_key, with_keys, IsKeyOf, IsRootKey, IsStatedAtJamo, IsDiacriticAt, HoldsBelow, IsJamoKey, IsDiacriticKey}
 
 -- ---- the elements of an entry
@@ -56,7 +56,7 @@ nothing_stated home c e is = none_of (is_stated home c e) (final_elements (homed
 
 -- an entry for an implicit weight adds no key
 pub implicit_adds_nothing : (keys : List ℕ) (home : Data) (c e : ℕ) → kind_of e ≡ Implicit → with_keys keys home c e ≡ keys
-implicit_adds_nothing keys home c e is = ap (λ xs. keys ++ map key_of xs) (nothing_stated home c e is) ∙ append-nil keys
+implicit_adds_nothing keys home c e is = ap (λ xs. keys ++ map element_key xs) (nothing_stated home c e is) ∙ append-nil keys
 
 same_given : (home : Data) (c e : ℕ) → stated_elements home c e ≡ given_elements home c e
 unfolding stated_elements given_elements
@@ -65,9 +65,9 @@ same_given home c e = refl
 stated_alike : (home : Data) (c d e f : ℕ) → AreAlike e f → stated_elements home c e ≡ stated_elements home d f
 stated_alike home c d e f alike = same_given home c e ∙ gives_alike home c d e f alike ∙ sym (same_given home d f)
 
-pub keys_pushed : (keys : List ℕ) (xs : List Element) → fold with_key keys xs ≡ keys ++ map key_of xs
+pub keys_pushed : (keys : List ℕ) (xs : List Element) → fold with_key keys xs ≡ keys ++ map element_key xs
 keys_pushed keys [] = sym (append-nil keys)
-keys_pushed keys (x ∷ xs) = keys_pushed (keys ++ key_of x ∷ []) xs ∙ append_assoc keys (key_of x ∷ []) (map key_of xs)
+keys_pushed keys (x ∷ xs) = keys_pushed (keys ++ element_key x ∷ []) xs ∙ append_assoc keys (element_key x ∷ []) (map element_key xs)
 
 stated_all : (b : Bool) (xs : List Element) → b ≡ true → xs ≡ (if b then xs else [])
 stated_all true xs h = refl
@@ -77,23 +77,23 @@ stated_all false xs h = cc
 pub keys_stated : (keys : List ℕ) (home : Data) (c e : ℕ) → is_stated home c e ≡ true → fold with_key keys (final_elements (homed home e) c) ≡ with_keys keys home c e
 unfolding stated_elements
 keys_stated keys home c e is =
-    keys_pushed keys (final_elements (homed home e) c) ∙ ap (λ xs. keys ++ map key_of xs) (stated_all (is_stated home c e) (final_elements (homed home e) c) is)
+    keys_pushed keys (final_elements (homed home e) c) ∙ ap (λ xs. keys ++ map element_key xs) (stated_all (is_stated home c e) (final_elements (homed home e) c) is)
 
 -- ---- which element a key is of
 
 pub weaker_key : (P Q : Element → Type 0) → ((x : Element) → P x → Q x) → (k : ℕ) → IsKeyOf P k → IsKeyOf Q k
 weaker_key P Q f k h = record { element = h.element; holds = f h.element h.holds; is = h.is }
 
-key_in : (xs : List Element) (k : ℕ) → Contains (map key_of xs) k → IsKeyOf (Contains xs) k
+key_in : (xs : List Element) (k : ℕ) → Contains (map element_key xs) k → IsKeyOf (Contains xs) k
 key_in [] k has = absurd (nothing_in k has)
 key_in (x ∷ xs) k has =
-    elim (in_first (key_of x) k (map key_of xs) has) [
+    elim (in_first (element_key x) k (map element_key xs) has) [
       | inl same ↦ record { element = x; holds = at_first x xs; is = same }
       | inr rest ↦ weaker_key (Contains xs) (Contains (x ∷ xs)) (λ y. at_rest x y xs) k (key_in xs k rest)
     ]
 
-in_keys : (xs : List Element) (x : Element) (k : ℕ) → Contains xs x → key_of x ≡ k → Contains (map key_of xs) k
-in_keys xs x k has is = subst (Contains (map key_of xs)) is (in_map key_of xs x has)
+in_keys : (xs : List Element) (x : Element) (k : ℕ) → Contains xs x → element_key x ≡ k → Contains (map element_key xs) k
+in_keys xs x k has is = subst (Contains (map element_key xs)) is (in_map element_key xs x has)
 
 -- ---- entries one after another
 
@@ -101,27 +101,27 @@ module _ (home : Data) (k : ℕ) where
   abbrev Of : ℕ → List ℕ → Type 0
   Of c es = IsKeyOf (IsStatedBy home c es) k
 
-  stated_key : (c e : ℕ) (es : List ℕ) → Contains es e → Contains (map key_of (stated_elements home c e)) k → Of c es
+  stated_key : (c e : ℕ) (es : List ℕ) → Contains es e → Contains (map element_key (stated_elements home c e)) k → Of c es
   stated_key c e es reachable has =
       weaker_key (Contains (stated_elements home c e)) (IsStatedBy home c es)
       (λ x given. let is = stated_is home c e x given in record { entry = e; reachable = reachable; stated = is.0; given = is.1 }) k (key_in (stated_elements home c e) k has)
 
   -- what a key that is there leads to, one that was there before or is added leads to
   abbrev Leads : Type 0 → ℕ → ℕ → Type 0
-  Leads G c e = Contains (map key_of (stated_elements home c e)) k → G
+  Leads G c e = Contains (map element_key (stated_elements home c e)) k → G
 
   keeps_at : (G : Type 0) (c : ℕ) (es : List ℕ) → (Of c es → G) → AllByRecursion (λ e. (s : List ℕ) → (Contains s k → G) → Contains (with_keys s home c e) k → G) es
   keeps_at G c es into =
       all_where (λ e. (s : List ℕ) → (Contains s k → G) → Contains (with_keys s home c e) k → G) es
-      (λ e reachable s old has. elim (Contains-append_cases s (map key_of (stated_elements home c e)) k has) [
+      (λ e reachable s old has. elim (Contains-append_cases s (map element_key (stated_elements home c e)) k has) [
         | inl before ↦ old before
         | inr added ↦ into (stated_key c e es reachable added)
       ])
 
   back_at : (G : Type 0) (c e : ℕ) (s : List ℕ) → (Contains (with_keys s home c e) k → G) → (Contains s k → G) × Leads G c e
   back_at G c e s later = (
-    λ has. later (Contains-append_left s (map key_of (stated_elements home c e)) k has),
-    λ has. later (Contains-append_right s (map key_of (stated_elements home c e)) k has),
+    λ has. later (Contains-append_left s (map element_key (stated_elements home c e)) k has),
+    λ has. later (Contains-append_right s (map element_key (stated_elements home c e)) k has),
   )
 
   leads_of : (G : Type 0) (c : ℕ) (es : List ℕ) → AllByRecursion (Leads G c) es → Of c es → G
@@ -130,7 +130,7 @@ module _ (home : Data) (k : ℕ) where
       (in_keys (stated_elements home c h.holds.entry) h.element k (is_stated-from home c h.holds.entry h.element h.holds.stated h.holds.given) h.is)
 
   leads_alike : (G : Type 0) (c d e f : ℕ) → AreAlike f e → Leads G d f → Leads G c e
-  leads_alike G c d e f alike = subst (λ xs. Contains (map key_of xs) k → G) (stated_alike home d c f e alike)
+  leads_alike G c d e f alike = subst (λ xs. Contains (map element_key xs) k → G) (stated_alike home d c f e alike)
 
 pub entries_add : (home : Data) (c : ℕ) (es : List ℕ) (old : List ℕ) → Adds (IsKeyOf (IsStatedBy home c es)) old (after_all with_keys old home c es)
 entries_add home c es old k =
@@ -209,13 +209,13 @@ diacritic_skipped secondaries place keys replaced k = (
 pub diacritic_added : (secondaries : List ℕ) (place : ℕ) (keys : List ℕ) (x : Element) → is_replaced_index place ≡ false → x ≡ of_secondary (slice_index secondaries place)
     → Adds (IsDiacriticKey secondaries place) keys (with_key keys x)
 diacritic_added secondaries place keys x kept is k = (
-  λ has. elim (Contains-push_cases keys (key_of x) k has) [
+  λ has. elim (Contains-push_cases keys (element_key x) k has) [
     | inl before ↦ inl before
     | inr same ↦ inr (record { element = x; holds = record { kept = kept; is = is }; is = same })
   ],
   λ h. elim h as (λ _. Contains (with_key keys x) k) [
-    | inl before ↦ Contains-append_left keys (key_of x ∷ []) k before
-    | inr added ↦ subst (Contains (with_key keys x)) (ap key_of (is ∙ sym added.holds.is) ∙ added.is) (Contains-push keys (key_of x))
+    | inl before ↦ Contains-append_left keys (element_key x ∷ []) k before
+    | inr added ↦ subst (Contains (with_key keys x)) (ap element_key (is ∙ sym added.holds.is) ∙ added.is) (Contains-push keys (element_key x))
   ],
 )
 

@@ -13,7 +13,7 @@ use Rattle.icu_tailoring.specs.RootPositions.{first_number, last_number}
 use Rattle.icu_checked_root.specs.declared.key_window.KeyLevel.{KeyLevel}
 use Rattle.icu_checked_root.specs.declared.key_window.KeyLevel.TheVariants.{Primary, Secondary, Tertiary}
 use Rattle.icu_checked_root.specs.declared.key_window.KeyWindow.{KeyWindow}
-use Rattle.icu_checked_root.specs.inner.KeyWindows.{key_to, weight_in, begins_with_number, with_front, weights_in_window}
+use Rattle.icu_checked_root.specs.inner.KeyWindows.{key_to, window_weight, begins_with_number, with_front, weights_in_window}
 use Rattle.icu_checked_root.specs.inner.KeyPlaces.{IsWindow, IsKeyCount}
 
 -- ---- ascending keys
@@ -103,27 +103,27 @@ module _ (window : KeyWindow) where
   abbrev pub to : ℕ → ℕ
   to = key_to window.level
 
-  pub weight_inside : (k : ℕ) → window.low < to k → to k ≤ window.last → weight_in window k ≡ Some (to k - window.base)
+  pub weight_inside : (k : ℕ) → window.low < to k → to k ≤ window.last → window_weight window k ≡ Some (to k - window.base)
   weight_inside k above below = in_window window.low (to k) window.last window.base above below
 
-  pub weight_below : (k : ℕ) → to k ≤ window.low → weight_in window k ≡ None
+  pub weight_below : (k : ℕ) → to k ≤ window.low → window_weight window k ≡ None
   weight_below k below = below_window window.low (to k) window.last window.base below
 
-  pub weight_above : (k : ℕ) → window.last < to k → weight_in window k ≡ None
+  pub weight_above : (k : ℕ) → window.last < to k → window_weight window k ≡ None
   weight_above k above = above_window window.low (to k) window.last window.base above
 
   -- a key lies in the window, or has no weight there
   pub record IsInside (k : ℕ) : Type 0 where
     pub low : window.low < to k
     pub last : to k ≤ window.last
-    pub is : weight_in window k ≡ Some (to k - window.base)
+    pub is : window_weight window k ≡ Some (to k - window.base)
 
-  below_or_inside : (k : ℕ) → (window.low < to k) ⊎ (to k ≤ window.low) → (window.last < to k) ⊎ (to k ≤ window.last) → IsInside k ⊎ (weight_in window k ≡ None)
+  below_or_inside : (k : ℕ) → (window.low < to k) ⊎ (to k ≤ window.low) → (window.last < to k) ⊎ (to k ≤ window.last) → IsInside k ⊎ (window_weight window k ≡ None)
   below_or_inside k (inr below) h = inr (weight_below k below)
   below_or_inside k (inl above) (inr within) = inl (record { low = above; last = within; is = weight_inside k above within })
   below_or_inside k (inl above) (inl past) = inr (weight_above k past)
 
-  pub weight_cases : (k : ℕ) → IsInside k ⊎ (weight_in window k ≡ None)
+  pub weight_cases : (k : ℕ) → IsInside k ⊎ (window_weight window k ≡ None)
   weight_cases k = below_or_inside k (cases_lt window.low (to k)) (cases_lt window.last (to k))
 
 -- ---- looking for a weight among others
@@ -211,14 +211,14 @@ module _ (window : KeyWindow) (is : IsWindow window) where
   unfolding weights_in_window
   weights_none = refl
 
-  pub weights_front : (k : ℕ) (keys : List ℕ) → weights (k ∷ keys) ≡ with_front (weight_in window k) (weights keys)
+  pub weights_front : (k : ℕ) (keys : List ℕ) → weights (k ∷ keys) ≡ with_front (window_weight window k) (weights keys)
   unfolding weights_in_window
   weights_front k keys = refl
 
   pub with_inside : (k : ℕ) (keys : List ℕ) → In k → weights (k ∷ keys) ≡ with_front (Some (to window k - window.base)) (weights keys)
   with_inside k keys h = weights_front k keys ∙ ap (λ o. with_front o (weights keys)) h.is
 
-  pub with_none : (k : ℕ) (keys : List ℕ) → weight_in window k ≡ None → weights (k ∷ keys) ≡ weights keys
+  pub with_none : (k : ℕ) (keys : List ℕ) → window_weight window k ≡ None → weights (k ∷ keys) ≡ weights keys
   with_none k keys h = weights_front k keys ∙ ap (λ o. with_front o (weights keys)) h
 
   nothing_above : (keys : List ℕ) → AllByRecursion (λ j. window.last < to window j) keys → weights keys ≡ []
@@ -238,7 +238,7 @@ module _ (window : KeyWindow) (is : IsWindow window) where
 
   abbrev pub found_at : List ℕ → ℕ → Option ℕ
   found_at [] i = None
-  found_at (k ∷ keys) zero = weight_in window k
+  found_at (k ∷ keys) zero = window_weight window k
   found_at (k ∷ keys) (suc i) = found_at keys i
 
   pub found_none : (keys : List ℕ) (i : ℕ) → length keys ≤ i → found_at keys i ≡ None
@@ -246,7 +246,7 @@ module _ (window : KeyWindow) (is : IsWindow window) where
   found_none (k ∷ keys) zero h = absurd (omega (arith, h))
   found_none (k ∷ keys) (suc i) h = found_none keys i (omega (arith, h))
 
-  pub found_is : (keys : List ℕ) (i d : ℕ) → i < length keys → found_at keys i ≡ weight_in window (get_or keys i d)
+  pub found_is : (keys : List ℕ) (i d : ℕ) → i < length keys → found_at keys i ≡ window_weight window (get_or keys i d)
   found_is [] i d h = absurd (omega (arith, h))
   found_is (k ∷ keys) zero d h = refl
   found_is (k ∷ keys) (suc i) d h = found_is keys i d (omega (arith, h))
@@ -254,7 +254,7 @@ module _ (window : KeyWindow) (is : IsWindow window) where
   -- ---- the least that is greater
 
   module _ (m w : ℕ) (low : window.low ≤ m) (base : window.base + w ≤ m) (above : (v : ℕ) → window.low < v → v ≤ m → v ≤ window.base + w) where
-    least_behind : (k : ℕ) (keys : List ℕ) → m < to window k → AllByRecursion (λ j. to window k ≤ to window j) keys → first_above (weights (k ∷ keys)) w ≡ weight_in window k
+    least_behind : (k : ℕ) (keys : List ℕ) → m < to window k → AllByRecursion (λ j. to window k ≤ to window j) keys → first_above (weights (k ∷ keys)) w ≡ window_weight window k
     least_behind k keys more rest =
         elim (cases_lt window.last (to window k)) [
           | inl past ↦
@@ -291,7 +291,7 @@ module _ (window : KeyWindow) (is : IsWindow window) where
   abbrev latest : Option ℕ → List ℕ → ℕ → Option ℕ
   latest found [] i = found
   latest found (k ∷ keys) zero = found
-  latest found (k ∷ keys) (suc i) = latest (or_found (weight_in window k) found) keys i
+  latest found (k ∷ keys) (suc i) = latest (or_found (window_weight window k) found) keys i
 
   pub latest_zero : (found : Option ℕ) (keys : List ℕ) → latest found keys zero ≡ found
   latest_zero found [] = refl
@@ -330,7 +330,7 @@ module _ (window : KeyWindow) (is : IsWindow window) where
     latest_behind : (x : ℕ) (keys : List ℕ) (i : ℕ) → AllByRecursion (λ j. window.low < to window j) keys → Parts window.level m keys (suc i) → latest (Some x) keys (suc i) ≡ found_at keys i
     latest_behind x [] i low at = absurd at
     latest_behind x (k ∷ keys) zero low at =
-        latest_zero (or_found (weight_in window k) (Some x)) keys
+        latest_zero (or_found (window_weight window k) (Some x)) keys
         ∙ (let inside = weight_inside window k low.0 (omega (arith, at.0, last)) in ap (λ o. or_found o (Some x)) inside ∙ sym inside)
     latest_behind x (k ∷ keys) (suc i) low at =
         ap (λ o. latest (or_found o (Some x)) keys (suc i)) (weight_inside window k low.0 (omega (arith, at.0, last)))
@@ -338,7 +338,7 @@ module _ (window : KeyWindow) (is : IsWindow window) where
 
     pub latest_found : (keys : List ℕ) (i : ℕ) → Steps window.level keys → Parts window.level m keys (suc i) → latest None keys (suc i) ≡ found_at keys i
     latest_found [] i up at = absurd at
-    latest_found (k ∷ keys) zero up at = latest_zero (or_found (weight_in window k) None) keys ∙ or_none (weight_in window k)
+    latest_found (k ∷ keys) zero up at = latest_zero (or_found (window_weight window k) None) keys ∙ or_none (window_weight window k)
     latest_found (k ∷ keys) (suc i) up at =
         elim (weight_cases window k) [
           | inl here ↦
@@ -389,8 +389,8 @@ module _ (window : KeyWindow) (is : IsWindow window) (keys : List ℕ) (up : IsS
       (steps window.level keys up) (parts window.level (max window.low (window.base + w)) keys place at)
 
   pub least_found : IsKeyCount window.level keys (max window.low (window.base + w)) place → (key : ℕ) → place < length keys → key ≡ get_or keys place key
-      → weight_in window key ≡ first_above (weights_in_window window keys) w
-  least_found at key inside same = ap (weight_in window) same ∙ sym (least_at at ∙ found_is window is keys place key inside)
+      → window_weight window key ≡ first_above (weights_in_window window keys) w
+  least_found at key inside same = ap (window_weight window) same ∙ sym (least_at at ∙ found_is window is keys place key inside)
 
   pub least_none : IsKeyCount window.level keys (max window.low (window.base + w)) place → length keys ≤ place → None ≡ first_above (weights_in_window window keys) w
   least_none at past = sym (least_at at ∙ found_none window is keys place past)
@@ -409,7 +409,7 @@ module _ (window : KeyWindow) (is : IsWindow window) (keys : List ℕ) (up : IsS
   up_to_none at none = sym (greatest_at at ∙ ap (latest window is None keys) none ∙ latest_zero window is None keys)
 
   pub up_to_found : IsKeyCount window.level keys up_to_most place → 0 < place → (d : ℕ)
-      → weight_in window (get_or keys (place - 1) d) ≡ last_below None (weights_in_window window keys) (w + 1)
+      → window_weight window (get_or keys (place - 1) d) ≡ last_below None (weights_in_window window keys) (w + 1)
   up_to_found at some d =
       let base = is.base in
       let low = is.low in

@@ -1,5 +1,5 @@
 -- The weights that keys have in a window ascend, and are those of the root's elements.
-use Rattle.std.proofs.Common.{◌≡◌, ◌≢◌, ℕ, zero, suc, ◌+◌, ◌-◌, ◌*◌, ◌/◌, ◌^◌, ◌<◌, ◌≤◌, inl, inr, Bool, true, false, ◌&&◌, ◌==◌, nat_lt, List, [], ◌∷◌, slice_index, Option, Some, None, if◌then◌else◌, refl, sym, ap, subst, arith, IsTrue, ◌↔◌}
+use Rattle.std.proofs.Common.{◌≡◌, ◌≢◌, ℕ, zero, suc, ◌+◌, ◌-◌, ◌*◌, ◌/◌, ◌^◌, ◌<◌, ◌≤◌, inl, inr, Bool, true, false, ◌&&◌, ◌==◌, nat_lt, List, [], ◌∷◌, slice_index, Option, Some, None, if◌then◌else◌, refl, sym, ap, subst, arith, IsTrue, ◌↔◌, not, filter, map, ◌%◌}
 use Rattle.std.proofs.lemmas.Bool.{and_parts, lt-ltb, cases_lt, le-ltb}
 use Rattle.std.proofs.lemmas.Bool.Decides.{nat_tests}
 use Rattle.std.proofs.lemmas.Nat.{and_le_r}
@@ -14,12 +14,14 @@ use Rattle.icu_checks.specs.declared.condition.Condition.TheVariants as conditio
 use Rattle.icu_checks.specs.declared.condition.ReachableElementCondition.TheVariants.{Width}
 use Rattle.icu_checks.specs.WellFormedTables.{IsWellFormedTables}
 use Rattle.icu_tailoring.specs.SymbolicElements.{tertiary_of}
-use Rattle.icu_checked_root.specs.declared.key_window.KeyLevel.TheVariants.{Primary}
+use Rattle.icu_tailoring.specs.TailoredRoots as roots
+use Rattle.icu_checked_root.specs.declared.key_window.KeyLevel.TheVariants.{Primary, Secondary, Tertiary}
 use Rattle.icu_checked_root.specs.declared.key_window.KeyWindow.{KeyWindow}
+use Rattle.icu_checked_root.specs.CheckedRoots.{IsSecondaryOfRoot, IsTertiaryOfRoot}
 use Rattle.icu_checked_root.specs.RootElements.{IsRootElement, IsRootWeight, first_implicit_lead}
 use Rattle.icu_checked_root.specs.inner.KeyCollections.{IsRootKey}
 use Rattle.icu_checked_root.specs.inner.KeyPlaces.{IsWindow}
-use Rattle.icu_checked_root.specs.inner.KeyWindows.{key_of, key_to, with_front, weight_in, tertiary_window, secondary_window, weights_by_keys, weights_in_window, window_below}
+use Rattle.icu_checked_root.specs.inner.KeyWindows.{element_key, key_to, low_part, low_parts, with_front, window_weight, tertiary_window, secondary_window, weights_by_keys, weights_in_window, window_below}
 use Rattle.icu_checked_root.proofs.KeyPlaceLemmas.{ClimbFrom, Steps, steps, after_next, same_number, IsInside, weight_inside, weight_cases, all_weights, weights_none, weights_front, with_inside, with_none}
 
 -- ---- a weight before others
@@ -99,7 +101,7 @@ module _ (window : KeyWindow) (is : IsWindow window) where
             (subst (λ i. Contains (with_front (Some (to i - window.base)) (ws keys)) (to k - window.base)) (sym same) (front_has (to k - window.base) (ws keys)))
         | inr rest ↦
             subst (λ xs. Contains xs (to k - window.base)) (sym (weights_front window is j keys))
-            (front_keeps (weight_in window j) (to k - window.base) (ws keys) (has_weight keys k rest here))
+            (front_keeps (window_weight window j) (to k - window.base) (ws keys) (has_weight keys k rest here))
       ]
 
   rises : (keys : List ℕ) → Steps window.level keys → Rises (ws keys)
@@ -216,8 +218,8 @@ tertiary_is p s t k q r w small less two is low last gives = (
 -- ---- the weights below others are those of the root's elements
 
 module _ (all : CollatorTables) (well_formed : IsWellFormedTables all) (keys : List ℕ) (members : (k : ℕ) → Contains keys k ↔ IsRootKey all.tables k) where
-  key_at : (x : Element) → IsRootElement all.tables x → Contains keys (key_of x)
-  key_at x h = (members (key_of x)).1 (record { element = x; holds = h; is = refl })
+  key_at : (x : Element) → IsRootElement all.tables x → Contains keys (element_key x)
+  key_at x h = (members (element_key x)).1 (record { element = x; holds = h; is = refl })
 
   in_primaries : (w : ℕ) → IsKeyWith (record { level = Primary; base = 0; low = separator_primary; last = first_implicit_lead - 1 }) primary_window keys w → IsRootWeight all.tables [] w
   in_primaries w h =
@@ -262,11 +264,11 @@ module _ (all : CollatorTables) (well_formed : IsWellFormedTables all) (keys : L
       ]
   stands (p ∷ s ∷ t ∷ above) w has = absurd (nothing_in w (subst (λ xs. Contains xs w) (by_none keys (p ∷ s ∷ t ∷ above) (three_window p s t above)) has))
 
-  of_window : (window : KeyWindow) (is : IsWindow window) (x : Element) (w : ℕ) → IsRootElement all.tables x → window.low < key_to window.level (key_of x) → key_to window.level (key_of x) ≤ window.last
-      → key_to window.level (key_of x) - window.base ≡ w → Contains (weights_in_window window keys) w
+  of_window : (window : KeyWindow) (is : IsWindow window) (x : Element) (w : ℕ) → IsRootElement all.tables x → window.low < key_to window.level (element_key x) → key_to window.level (element_key x) ≤ window.last
+      → key_to window.level (element_key x) - window.base ≡ w → Contains (weights_in_window window keys) w
   of_window window is x w root low last gives =
       subst (Contains (weights_in_window window keys)) gives
-      (has_weight window is keys (key_of x) (key_at x root) (record { low = low; last = last; is = weight_inside window (key_of x) low last }))
+      (has_weight window is keys (element_key x) (key_at x root) (record { low = low; last = last; is = weight_inside window (element_key x) low last }))
 
   held : (above : List ℕ) (w : ℕ) → IsRootWeight all.tables above w → Contains (weights_by_keys keys above) w
   held [] w h =
@@ -304,3 +306,124 @@ module _ (all : CollatorTables) (well_formed : IsWellFormedTables all) (keys : L
 
   pub root_weights : (above : List ℕ) (w : ℕ) → Contains (weights_by_keys keys above) w ↔ IsRootWeight all.tables above w
   root_weights above w = (stands above w, held above w)
+
+-- ---- all weights of a level
+
+record IsPartOf (f : ℕ → ℕ) (keys : List ℕ) (w : ℕ) : Type 0 where
+  key : ℕ
+  among : Contains keys key
+  is : f key ≡ w
+  some : 0 < w
+
+more_part : (f : ℕ → ℕ) (k : ℕ) (keys : List ℕ) (w : ℕ) → IsPartOf f keys w → IsPartOf f (k ∷ keys) w
+more_part f k keys w h = record { key = h.key; among = at_rest k h.key keys h.among; is = h.is; some = h.some }
+
+not_zero : (w : ℕ) → not (w == 0) ≡ true → 0 < w
+not_zero w h = grind (arith, nat_tests)
+
+passes : (w : ℕ) → 0 < w → not (w == 0) ≡ true
+passes w h = grind (arith, nat_tests)
+
+abbrev kept_parts : (ℕ → ℕ) → List ℕ → List ℕ
+kept_parts f keys = filter (λ w. not (w == 0)) (map f keys)
+
+part_by : (f : ℕ → ℕ) (k : ℕ) (keys : List ℕ) (w : ℕ) (b : Bool) → not (f k == 0) ≡ b → (Contains (kept_parts f keys) w → IsPartOf f keys w)
+    → Contains (if b then f k ∷ kept_parts f keys else kept_parts f keys) w → IsPartOf f (k ∷ keys) w
+part_by f k keys w true nonzero further has =
+    elim (in_first (f k) w (kept_parts f keys) has) [
+      | inl same ↦ record { key = k; among = at_first k keys; is = same; some = subst (λ v. 0 < v) same (not_zero (f k) nonzero) }
+      | inr rest ↦ more_part f k keys w (further rest)
+    ]
+part_by f k keys w false none further has = more_part f k keys w (further has)
+
+part_of : (f : ℕ → ℕ) (keys : List ℕ) (w : ℕ) → Contains (kept_parts f keys) w → IsPartOf f keys w
+part_of f [] w has = absurd (nothing_in w has)
+part_of f (k ∷ keys) w has = part_by f k keys w (not (f k == 0)) refl (part_of f keys w) has
+
+kept_by : (w : ℕ) (ws : List ℕ) (b : Bool) → b ≡ true → Contains (if b then w ∷ ws else ws) w
+kept_by w ws true h = at_first w ws
+kept_by w ws false h = cc
+
+rest_by : (v w : ℕ) (ws : List ℕ) (b : Bool) → Contains ws w → Contains (if b then v ∷ ws else ws) w
+rest_by v w ws true has = at_rest v w ws has
+rest_by v w ws false has = has
+
+has_part : (f : ℕ → ℕ) (keys : List ℕ) (k : ℕ) → Contains keys k → 0 < f k → Contains (kept_parts f keys) (f k)
+has_part f [] k has some = absurd (nothing_in k has)
+has_part f (j ∷ keys) k has some =
+    elim (in_first j k keys has) [
+      | inl same ↦ subst (λ i. Contains (kept_parts f (j ∷ keys)) (f i)) same (kept_by (f j) (kept_parts f keys) (not (f j == 0)) (passes (f j) (subst (λ i. 0 < f i) (sym same) some)))
+      | inr rest ↦ rest_by (f j) (f k) (kept_parts f keys) (not (f j == 0)) (has_part f keys k rest some)
+    ]
+
+module _ (keys : List ℕ) (root : roots.Root) (same : root.weights ≡ weights_by_keys keys) where
+  at_weights : (above : List ℕ) (w : ℕ) → Contains (weights_by_keys keys above) w → Contains (root.weights above) w
+  at_weights above w = subst (λ (weights : List ℕ → List ℕ). Contains (weights above) w) (sym same)
+
+  from_weights : (above : List ℕ) (w : ℕ) → Contains (root.weights above) w → Contains (weights_by_keys keys above) w
+  from_weights above w = subst (λ (weights : List ℕ → List ℕ). Contains (weights above) w) same
+
+  secondary_stands : (w : ℕ) → IsPartOf (low_part Secondary) keys w → IsSecondaryOfRoot root w
+  secondary_stands w h =
+      let p : ℕ = h.key / 2 ^ 32 in
+      let is = h.is in
+      let some = h.some in
+      let inside : IsInside (secondary_window (h.key / 2 ^ 32)) h.key = record {
+        low = omega (arith, is, some);
+        last = omega arith;
+        is = weight_inside (secondary_window (h.key / 2 ^ 32)) h.key (omega (arith, is, some)) (omega arith);
+      } in
+      record {
+        primary = p;
+        stands = at_weights (p ∷ []) w (subst (λ xs. Contains xs w) (sym (by_some keys (p ∷ []) _ (one_window p)))
+            (subst (Contains (weights_in_window (secondary_window p) keys)) (omega (arith, is)) (has_weight (secondary_window p) (is_secondary_window p) keys h.key h.among inside)));
+      }
+
+  secondary_part : (w : ℕ) → IsSecondaryOfRoot root w → Contains (kept_parts (low_part Secondary) keys) w
+  secondary_part w h =
+      let p = h.primary in
+      let with = key_with (secondary_window p) (is_secondary_window p) keys w (subst (λ xs. Contains xs w) (by_some keys (p ∷ []) _ (one_window p)) (from_weights (p ∷ []) w h.stands)) in
+      let low = with.inside.low in
+      let last = with.inside.last in
+      let gives = with.gives in
+      subst (Contains (kept_parts (low_part Secondary) keys)) (omega (arith, low, last, gives)) (has_part (low_part Secondary) keys with.key with.among (omega (arith, low, last)))
+
+  pub secondaries_are : (w : ℕ) → Contains (low_parts Secondary keys) w ↔ IsSecondaryOfRoot root w
+  secondaries_are w = (λ has. secondary_stands w (part_of (low_part Secondary) keys w has), secondary_part w)
+
+  tertiary_stands : (w : ℕ) → IsPartOf (low_part Tertiary) keys w → IsTertiaryOfRoot root w
+  tertiary_stands w h =
+      let p : ℕ = h.key / 2 ^ 32 in
+      let s : ℕ = h.key / 2 ^ 16 % 2 ^ 16 in
+      let two : s < 2 ^ 16 = omega arith in
+      let is = h.is in
+      let some = h.some in
+      let inside : IsInside (tertiary_window (h.key / 2 ^ 32) (h.key / 2 ^ 16 % 2 ^ 16)) h.key = record {
+        low = omega (arith, is, some);
+        last = omega arith;
+        is = weight_inside (tertiary_window (h.key / 2 ^ 32) (h.key / 2 ^ 16 % 2 ^ 16)) h.key (omega (arith, is, some)) (omega arith);
+      } in
+      record {
+        primary = p;
+        secondary = s;
+        stands = at_weights (p ∷ s ∷ []) w (subst (λ xs. Contains xs w) (sym (by_some keys (p ∷ s ∷ []) _ (two_bytes s two p)))
+            (subst (Contains (weights_in_window (tertiary_window p s) keys)) (omega (arith, is)) (has_weight (tertiary_window p s) (is_tertiary_window p s) keys h.key h.among inside)));
+      }
+
+  tertiary_part_by : (p s w : ℕ) → Contains (weights_by_keys keys (p ∷ s ∷ [])) w → Contains (kept_parts (low_part Tertiary) keys) w
+  tertiary_part_by p s w has =
+      elim (cases_lt s (2 ^ 16)) [
+        | inl less ↦
+            let with = key_with (tertiary_window p s) (is_tertiary_window p s) keys w (subst (λ xs. Contains xs w) (by_some keys (p ∷ s ∷ []) _ (two_bytes s less p)) has) in
+            let low = with.inside.low in
+            let last = with.inside.last in
+            let gives = with.gives in
+            subst (Contains (kept_parts (low_part Tertiary) keys)) (omega (arith, low, last, gives)) (has_part (low_part Tertiary) keys with.key with.among (omega (arith, low, last)))
+        | inr most ↦ absurd (nothing_in w (subst (λ xs. Contains xs w) (by_none keys (p ∷ s ∷ []) (more_bytes s most p)) has))
+      ]
+
+  pub tertiaries_are : (w : ℕ) → Contains (low_parts Tertiary keys) w ↔ IsTertiaryOfRoot root w
+  tertiaries_are w = (
+    λ has. tertiary_stands w (part_of (low_part Tertiary) keys w has),
+    λ h. tertiary_part_by h.primary h.secondary w (from_weights (h.primary ∷ h.secondary ∷ []) w h.stands),
+  )

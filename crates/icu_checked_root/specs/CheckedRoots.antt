@@ -48,7 +48,8 @@ abbrev pub last_regular_of : (ℕ → List RootMapping) → List ℕ → ℕ
 last_regular_of mappings weights =
     leading_or (below_or_zero weights (first_implicit_of mappings)) (elements_of_suffix (0x5B57 ∷ []) (mappings 0xFDD1))
 
--- This is the root of the tables. The weights below others are those that its elements have there, ascending, each once.
+-- This is the root of the tables. The weights below others are those that its elements have there, ascending, each
+-- once.
 pub record IsRootOf (all : CollatorTables) (root : Root) : Type 0 where
   pub mappings : root.mappings ≡ root_mappings_of all.tables
   pub ascending : (above : List ℕ) → IsStrictlyIncreasing (root.weights above)
@@ -56,3 +57,14 @@ pub record IsRootOf (all : CollatorTables) (root : Root) : Type 0 where
   pub last_variable : root.last_variable ≡ last_variable_of all (root.weights [])
   pub last_regular : root.last_regular ≡ last_regular_of root.mappings (root.weights [])
   pub first_implicit : root.first_implicit ≡ first_implicit_of root.mappings
+
+-- a secondary weight of the root, below some primary weight
+pub record IsSecondaryOfRoot (root : Root) (w : ℕ) : Type 0 where
+  pub primary : ℕ
+  pub stands : Contains (root.weights (primary ∷ [])) w
+
+-- a tertiary weight of the root, below some primary and secondary weight
+pub record IsTertiaryOfRoot (root : Root) (w : ℕ) : Type 0 where
+  pub primary : ℕ
+  pub secondary : ℕ
+  pub stands : Contains (root.weights (primary ∷ secondary ∷ [])) w

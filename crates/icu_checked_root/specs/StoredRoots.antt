@@ -1,5 +1,6 @@
 -- The root that checked tables have, as it is stored.
 use Rattle.icu_checks.specs.Checked.{checked_tables}
+use Rattle.icu_checks.specs.declared.checked.CheckedTables.{CheckedTables}
 use Rattle.icu_tailoring.specs.TailoredRoots.{Root}
 use Rattle.icu_checked_root.specs.RootEntries.{root_mappings_of}
 use Rattle.icu_checked_root.specs.inner.KeyWindows.{weights_by_keys}
@@ -14,3 +15,7 @@ stored_root r = record {
   last_regular = r.last_regular;
   first_implicit = r.first_implicit;
 }
+
+-- the tables
+abbrev pub tables_beside : CheckedRoot → CheckedTables
+tables_beside r = r.tables.now

@@ -14,9 +14,10 @@ ghost use Rattle.icu_checked_root.specs.inner.KeyWindows.{lesser_by_keys, weight
 use crate::entry_mappings::RootMapping;
 use crate::key_collector::collect_keys;
 use crate::key_window::{
-    PRIMARIES, greatest_below, greatest_up_to, last_in_window, least_above, symbolic_window,
-    window_below,
+    KeyLevel, PRIMARIES, greatest_below, greatest_up_to, last_in_window, least_above,
+    symbolic_window, window_below,
 };
+use crate::level_weights::level_weights;
 use crate::root_mappings::root_mappings;
 use icu_checks::CheckedTables;
 use icu_entries::CollationElement;
@@ -188,8 +189,10 @@ fn last_variable(tables: &CheckedTables, keys: &[u64]) -> u32
 }
 
 impl<'t> CheckedRoot<'t> {
-    ghost use Rattle.icu_checked_root.specs.CheckedRoots.{IsRootOf};
-    ghost use Rattle.icu_checked_root.specs.StoredRoots.{stored_root};
+    ghost use Rattle.std.specs.Prelude.{◌↔◌, ℕ};
+    ghost use Rattle.std.specs.List.{Contains};
+    ghost use Rattle.icu_checked_root.specs.CheckedRoots.{IsRootOf, IsSecondaryOfRoot, IsTertiaryOfRoot};
+    ghost use Rattle.icu_checked_root.specs.StoredRoots.{stored_root, tables_beside};
 
     /// The root of checked tables. Allocates its weights, 8 bytes for each element that the tables state at most, and
     /// twice as much while they are collected.
@@ -209,6 +212,31 @@ impl<'t> CheckedRoot<'t> {
             last_regular,
             first_implicit,
         })
+    }
+
+    /// The tables.
+    pub fn tables(&self) -> &'t CheckedTables
+        ensures { result.now ≡ tables_beside self.now }
+    {
+        self.tables
+    }
+
+    /// All secondary weights, ascending, each once.
+    pub fn secondaries(&self, alloc: Global) -> Result<Vec<u16>, AllocError>
+        ensures ascending { IfOk result (λ ws. IsStrictlyIncreasing ws.items) }
+        ensures members { IfOk result (λ ws. (w : ℕ)
+            → Contains ws.items w ↔ IsSecondaryOfRoot (stored_root self.now) w) }
+    {
+        level_weights(alloc, KeyLevel::Secondary, self.keys.as_slice())
+    }
+
+    /// All tertiary weights, without case, ascending, each once.
+    pub fn tertiaries(&self, alloc: Global) -> Result<Vec<u16>, AllocError>
+        ensures ascending { IfOk result (λ ws. IsStrictlyIncreasing ws.items) }
+        ensures members { IfOk result (λ ws. (w : ℕ)
+            → Contains ws.items w ↔ IsTertiaryOfRoot (stored_root self.now) w) }
+    {
+        level_weights(alloc, KeyLevel::Tertiary, self.keys.as_slice())
     }
 }
 

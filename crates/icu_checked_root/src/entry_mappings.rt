@@ -8,7 +8,7 @@ ghost use Rattle.icu_symbolic_mappings.specs.StoredMappings.{root_mapping};
 ghost use Rattle.icu_checked_root.specs.RootEntries.{entry_mapping, entry_mappings, mappings_of_prefixes, prefixed_mappings, suffix_mappings};
 ghost use Rattle.icu_checked_root.specs.inner.LedEntries.{AreWellFormedMatches, AreWellFormedContractions, IsWellFormedContraction};
 
-use crate::element_list::entry_elements;
+use crate::entry_elements::entry_elements;
 use icu_collation_data::{CollationData, FoundContext};
 use icu_entries::{CollationElement, CollationElement32, EntryKind};
 use icu_symbolic_mappings::CharacterMapping;

@@ -11,7 +11,7 @@ ghost use Rattle.icu_checks.specs.Checked.{checked_tables};
 ghost use Rattle.icu_checked_root.specs.RootElements.{IsStatedInRoot};
 ghost use Rattle.icu_checked_root.specs.inner.KeyCollections.{HoldsBelow, IsDiacriticKey, IsJamoKey, IsKeyOf, IsRootKey, with_key, with_keys};
 
-use crate::key_window::key_of;
+use crate::key_window::element_key;
 use icu_checks::CheckedTables;
 use icu_collation_data::CollationData;
 use icu_collation_data::block_walk::visit_chars;
@@ -50,7 +50,7 @@ impl VisitElement for KeyCollector {
     ghost after = { with_key };
 
     fn visit(&mut self, element: CollationElement) -> Result<(), AllocError> {
-        self.keys.push(key_of(element))?;
+        self.keys.push(element_key(element))?;
         Ok(())
     }
 }

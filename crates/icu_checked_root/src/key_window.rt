@@ -4,7 +4,7 @@ ghost use Rattle.std.specs.Prelude.{◌≡◌, ◌+◌, ◌∷◌, [], None, IfS
 ghost use Rattle.std.specs.List.Sorted.{IsStrictlyIncreasing};
 ghost use Rattle.icu_tailoring.specs.TailoredRoots.{first_above, last_below};
 ghost use Rattle.icu_tailoring.specs.RootPositions.{last_number};
-ghost use Rattle.icu_checked_root.specs.inner.KeyWindows.{key_of, key_to, secondary_window, tertiary_window, tertiary_window_below, symbolic_window, weight_in, weights_in_window, window_below};
+ghost use Rattle.icu_checked_root.specs.inner.KeyWindows.{element_key, key_to, secondary_window, tertiary_window, tertiary_window_below, symbolic_window, window_weight, weights_in_window, window_below};
 ghost use Rattle.icu_checked_root.specs.inner.KeyPlaces.{IsKeyCount, IsWindow};
 
 use icu_entries::CollationElement;
@@ -43,15 +43,15 @@ pub(crate) const PRIMARIES: KeyWindow = KeyWindow {
 };
 
 /// The key of an element.
-pub(crate) fn key_of(element: CollationElement) -> u64
-    ensures { result ≡ key_of element }
+pub(crate) fn element_key(element: CollationElement) -> u64
+    ensures { result ≡ element_key element }
 {
     let above = (u64::from(element.primary()) << 32) + (u64::from(element.secondary()) << 16);
     above + u64::from(element.non_primary().tertiary())
 }
 
 /// A key without the weights below a level.
-fn key_to(level: KeyLevel, key: u64) -> u64
+pub(crate) fn key_to(level: KeyLevel, key: u64) -> u64
     ensures { result ≡ key_to level key }
 {
     match level {
@@ -165,9 +165,9 @@ fn count_up_to(keys: &[u64], level: KeyLevel, most: u64) -> usize
 }
 
 /// The weight of a key in a window, if it lies there.
-fn weight_in(window: KeyWindow, key: u64) -> Option<u32>
+fn window_weight(window: KeyWindow, key: u64) -> Option<u32>
     requires { IsWindow window }
-    ensures { result ≡ weight_in window key }
+    ensures { result ≡ window_weight window key }
 {
     let v = key_to(window.level, key);
     if window.low < v && v <= window.last {
@@ -189,7 +189,7 @@ pub(crate) fn least_above(keys: &[u64], window: KeyWindow, w: u32) -> Option<u32
     let most = window.low.max(window.base + u64::from(w));
     let place = count_up_to(keys, window.level, most);
     match keys.get(place) {
-        Some(key) => weight_in(window, *key),
+        Some(key) => window_weight(window, *key),
         None => None,
     }
 }
@@ -205,7 +205,7 @@ pub(crate) fn greatest_up_to(keys: &[u64], window: KeyWindow, w: u32) -> Option<
     if place == 0 {
         return None;
     }
-    weight_in(window, keys[place - 1])
+    window_weight(window, keys[place - 1])
 }
 
 /// The greatest weight of a window that is less.

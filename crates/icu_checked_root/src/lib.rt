@@ -3,10 +3,11 @@
 #![tactic(auto)]
 
 pub mod checked_root;
-mod element_list;
+mod entry_elements;
 mod entry_mappings;
 mod key_collector;
 mod key_window;
+mod level_weights;
 mod root_mappings;
 
 pub use checked_root::CheckedRoot;

@@ -8,7 +8,7 @@ use Rattle.icu_collation_data.specs.Reachable.{reachable_from}
 use Rattle.icu_provider.specs.Tables.{Tables, jamo_base}
 use Rattle.icu_provider.specs.Diacritics.{is_replaced_index}
 use Rattle.icu_checked_root.specs.RootElements.{IsRootElement, IsStatedBy}
-use Rattle.icu_checked_root.specs.inner.KeyWindows.{key_of}
+use Rattle.icu_checked_root.specs.inner.KeyWindows.{element_key}
 
 -- the elements that an entry states with a character
 unfoldable pub stated_elements : Data → ℕ → ℕ → List Element
@@ -16,17 +16,17 @@ stated_elements home c e = if is_stated home c e then final_elements (homed home
 
 -- keys, and that of one more element
 abbrev pub with_key : List ℕ → Element → List ℕ
-with_key keys x = keys ++ key_of x ∷ []
+with_key keys x = keys ++ element_key x ∷ []
 
 -- keys, and those of the elements that an entry states with a character
 abbrev pub with_keys : List ℕ → Data → ℕ → ℕ → List ℕ
-with_keys keys home c e = keys ++ map key_of (stated_elements home c e)
+with_keys keys home c e = keys ++ map element_key (stated_elements home c e)
 
 -- the key of an element of which something holds
 pub record IsKeyOf (P : Element → Type 0) (k : ℕ) : Type 0 where
   pub element : Element
   pub holds : P element
-  pub is : key_of element ≡ k
+  pub is : element_key element ≡ k
 
 -- a key of an element of the root
 abbrev pub IsRootKey : Tables → ℕ → Type 0

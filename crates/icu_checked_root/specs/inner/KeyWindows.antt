@@ -1,6 +1,6 @@
 -- Keys: numbers that stand for the first three weights of elements, in their order; and which keys have their weight of
 -- a level below others.
-use Rattle.std.specs.Prelude.{ℕ, ◌+◌, ◌-◌, ◌*◌, ◌/◌, ◌^◌, Bool, false, ◌&&◌, ◌==◌, nat_lt, nat_le, if◌then◌else◌, List, [], ◌∷◌, Option, Some, None}
+use Rattle.std.specs.Prelude.{ℕ, ◌+◌, ◌-◌, ◌*◌, ◌/◌, ◌%◌, ◌^◌, Bool, false, not, ◌&&◌, ◌==◌, nat_lt, nat_le, if◌then◌else◌, List, [], ◌∷◌, map, filter, Option, Some, None}
 use Rattle.icu_entries.specs.Elements.{Element}
 use Rattle.icu_entries.specs.ElementConditions.{separator_primary}
 use Rattle.icu_tailoring.specs.SymbolicElements.{tertiary_of}
@@ -12,8 +12,8 @@ use Rattle.icu_checked_root.specs.declared.key_window.KeyLevel.TheVariants.{Prim
 use Rattle.icu_checked_root.specs.declared.key_window.KeyWindow.{KeyWindow}
 
 -- the key of an element
-abbrev pub key_of : Element → ℕ
-key_of x = x.primary * 2 ^ 32 + x.secondary * 2 ^ 16 + tertiary_of x
+abbrev pub element_key : Element → ℕ
+element_key x = x.primary * 2 ^ 32 + x.secondary * 2 ^ 16 + tertiary_of x
 
 -- a key without the weights below a level
 abbrev pub key_to : KeyLevel → ℕ → ℕ
@@ -48,8 +48,8 @@ unfoldable pub symbolic_window : List SymbolicWeight → Option KeyWindow
 symbolic_window above = elim (numbers_of above) [ None ↦ None | Some numbers ↦ window_below numbers ]
 
 -- the weight of a key in a window, if it lies there
-abbrev pub weight_in : KeyWindow → ℕ → Option ℕ
-weight_in window k =
+abbrev pub window_weight : KeyWindow → ℕ → Option ℕ
+window_weight window k =
     let v : ℕ = key_to window.level k in
     if nat_lt window.low v && nat_le v window.last then Some (v - window.base) else None
 
@@ -66,7 +66,7 @@ with_front (Some w) ws = if begins_with_number w ws then ws else w ∷ ws
 -- the weights that ascending keys have in a window, each once
 unfoldable pub weights_in_window : KeyWindow → List ℕ → List ℕ
 weights_in_window window [] = []
-weights_in_window window (k ∷ keys) = with_front (weight_in window k) (weights_in_window window keys)
+weights_in_window window (k ∷ keys) = with_front (window_weight window k) (weights_in_window window keys)
 
 -- the weights below others, by ascending keys
 unfoldable pub weights_by_keys : List ℕ → List ℕ → List ℕ
@@ -76,3 +76,11 @@ weights_by_keys keys above = elim (window_below above) [ None ↦ [] | Some wind
 abbrev pub lesser_by_keys : List ℕ → List SymbolicWeight → ℕ → Option ℕ
 lesser_by_keys keys above w =
     elim (symbolic_window above) [ None ↦ None | Some window ↦ last_below None (weights_in_window window keys) w ]
+
+-- the weight of a level in a key, of two bytes
+abbrev pub low_part : KeyLevel → ℕ → ℕ
+low_part level k = key_to level k % 2 ^ 16
+
+-- the weights of a level in keys, without zeros
+abbrev pub low_parts : KeyLevel → List ℕ → List ℕ
+low_parts level keys = filter (λ w. not (w == 0)) (map (low_part level) keys)

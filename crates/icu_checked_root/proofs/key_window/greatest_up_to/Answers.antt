@@ -12,7 +12,7 @@ returns-then-place-eq0 c =
 
 pub returns : goal.returns
 returns c =
-    c.weight_in.ensures
+    c.window_weight.ensures
     ∙ up_to_found c.args.window c.requires.window c.args.keys.now c.requires.ascending c.args.w c.count_up_to-place.result
     (subst (λ m. IsKeyCount c.args.window.level c.args.keys.now (c.args.window.base + m) c.count_up_to-place.result)
     (c.min.ensures ∙ ap (λ n. min n (c.args.window.last - c.args.window.base)) c.from.ensures) c.count_up_to-place.ensures) (omega (arith, c.if-place-eq0.false)) 0

@@ -14,7 +14,7 @@ returns-in-Some c =
     let place = c.count_up_to-place.result in
     let inside : place < length keys = search rules in
     let at : c.in-Some.key.now ≡ get_or keys place c.in-Some.key.now = search rules in
-    c.weight_in.ensures
+    c.window_weight.ensures
     ∙ least_found c.args.window c.requires.window keys c.requires.ascending c.args.w place (subst (λ m. IsKeyCount c.args.window.level keys m place)
     (c.max-most.ensures ∙ ap (λ n. max c.args.window.low (c.args.window.base + n)) c.from-2.ensures) c.count_up_to-place.ensures) c.in-Some.key.now inside at
 

@@ -3,7 +3,7 @@ use Rattle.std.proofs.Common.{◌<◌, length, slice_index, IsTrue, sym, ap, ◌
 use Rattle.icu_collation_data.specs.DataConditions.{is_readable}
 use Rattle.icu_collation_data.specs.StoredData.{data_of}
 use Rattle.icu_checked_root.proofs.RootEntryLemmas.{match_readable, plain_readable, plain_inside}
-use Rattle.icu_checked_root.proofs.element_list.entry_elements.Goals as goal
+use Rattle.icu_checked_root.proofs.entry_elements.entry_elements.Goals as goal
 
 pub get_ce32-requires : goal.get_ce32-requires
 get_ce32-requires c =

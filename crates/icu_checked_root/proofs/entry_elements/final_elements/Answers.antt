@@ -6,7 +6,7 @@ use Rattle.icu_collation_data.specs.Data.{homed}
 use Rattle.icu_collation_data.specs.Final.{final_elements}
 use Rattle.icu_collation_data.specs.StoredData.{data_of}
 use Rattle.icu_checked_root.proofs.RootEntryLemmas.{fold_pushed}
-use Rattle.icu_checked_root.proofs.element_list.final_elements.Goals as goal
+use Rattle.icu_checked_root.proofs.entry_elements.final_elements.Goals as goal
 
 pub returns : goal.returns
 returns c =

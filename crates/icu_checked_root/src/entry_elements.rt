@@ -18,11 +18,11 @@ use std::alloc::{AllocError, Global};
 
 /// The elements that were visited so far.
 #[derive(Drop)]
-struct ElementList {
+struct EntryElements {
     elements: Vec<CollationElement>,
 }
 
-impl VisitElement for ElementList {
+impl VisitElement for EntryElements {
     type Error = AllocError;
 
     ghost Seen = { List Element };
@@ -48,7 +48,7 @@ fn final_elements(
     ensures { IfOk result (λ es.
         es.items ≡ final_elements (homed (data_of home.entry) entry) c) }
 {
-    let mut list = ElementList {
+    let mut list = EntryElements {
         elements: Vec::new(alloc),
     };
     visit_elements(&mut list, home, c, entry)?;
