@@ -228,11 +228,8 @@ fn refused_over_mini(rt: HostRuntime) -> Result<(), Fail> {
     for (text, wanted) in [
         ("&[first implicit]<x", Some(TailoringErrorKind::NoWeight)),
         ("&\\u4E00<x", Some(TailoringErrorKind::NoWeight)),
-        (
-            "&[before 1]\\u0020<x",
-            Some(TailoringErrorKind::BeforeFirst),
-        ),
-        ("&[before 1]-<x", None),
+        ("&[before 1]' '<x", Some(TailoringErrorKind::BeforeFirst)),
+        ("&[before 1]'-'<x", None),
     ] {
         let found = refusal(rt.alloc(), &root, text)?;
         assert!(rt; found == wanted, "{text}: {found:?}");
