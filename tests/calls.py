@@ -25,13 +25,14 @@ METHOD = re.compile(r"(?:<[^(]*>)?\(\s*(?:&(?:'\w+ )?)?(?:mut )?self\b")
 # How the driver comes to a value of a type that it doesn't name.
 VALUES = {"CollatorBorrowed": "as_borrowed"}
 # Programs, and crates of tests: what the driver asks about are libraries.
-OTHERS = {"collate", "collate_cldr", "collate_commands", "sort_names", "test_contracts", DRIVER, "test_readers", "test_rule_steps",
-          "test_types"}
+OTHERS = {"collate", "collate_cldr", "collate_commands", "sort_names", "test_checked_root", "test_contracts", "test_readers",
+          "test_rule_steps", "test_types", DRIVER}
 KEY, CHECK, FILE, READ, LINE, INDEX = "`key`", "`check`", "`root`", "`next` and `whole`", "`line`", "`names`"
 # Calls to which no question comes: each request of this program, or of this crate, is refused or tested by itself; some are run by
 # the tests of their own crates alone, without a refusal.
 PROGRAM, TYPES, TESTS = "the program `collate-cldr`", "`test_types`", "the crate's own tests, where no allocation is refused"
 READERS, RULES = "`test_readers`, where no allocation is refused", "`test_rule_steps`, where no allocation is refused"
+ROOTS = "`test_checked_root`, where no allocation is refused"
 NAMES = "the program `sort_names`, each of whose requests is refused"
 SEARCHES = "the tests of `icu_text_search`, where no allocation is refused"
 # Calls that nothing makes: those on which no program stands yet (searching, the reader of steps), and one that hands tables
@@ -42,6 +43,9 @@ NOTHING = "nothing"
 LEFT_OUT = {
     ("icu_collation_data", "collect_weights"): CHECK,
     ("icu_collation_data", "collect_weights_from"): CHECK,
+    ("icu_checked_root", "CheckedRoot::new"): ROOTS,
+    ("icu_checked_root", "CheckedRoot::secondaries"): ROOTS,
+    ("icu_checked_root", "CheckedRoot::tertiaries"): ROOTS,
     ("icu_checks", "CheckedTables::from_owned"): PROGRAM,
     ("icu_checks", "CheckedTables::new"): NOTHING,
     ("icu_collator", "Collator::from_checked_tables"): TYPES,

@@ -1,0 +1,5 @@
+mod KeyPlaceLemmas
+mod WindowLemmas
+mod KeyCollectionLemmas
+mod RootEntryLemmas
+mod RootWeightLemmas

@@ -1,0 +1,5 @@
+pub mod RootEntries
+pub mod RootElements
+pub mod CheckedRoots
+pub mod StoredRoots
+pub mod inner

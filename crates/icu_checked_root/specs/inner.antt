@@ -1,0 +1,5 @@
+-- Words of private contracts and proofs only: no public contract names them.
+pub mod LedEntries
+pub mod KeyWindows
+pub mod KeyPlaces
+pub mod KeyCollections
