@@ -20,6 +20,9 @@ PROGRAM = os.path.join(TOP, "crates", "test_driver", "out", "test_driver")
 # all are measured at most.
 SIZE, FASTER, DEARER, ALLOWED, ATTEMPTS = 200_000, 2, 4, 0.02, 3
 MEGABYTES = (1, 2, 4, 10)
+# Files of which the mappings of shorter prefixes are copied to longer ones, which takes a fixed number of steps at most: so many times
+# as long as the greatest plain file.
+JOINED, JOINING = "prefixes of contractions alone, and contractions", 15
 # A character of which most mappings are, and the first of those that stand around it.
 OF, OTHERS = 0x63, 0x30000
 
@@ -78,7 +81,7 @@ KINDS = {
     "prefixes": lambda size: with_own(lines_in(size, prefixed)),
     "contractions": lambda size: with_own(lines_in(size, contracted)),
     "prefixes and contractions": lambda size: with_own(lines_in(size, prefixed, contracted)),
-    "prefixes of contractions alone, and contractions": lambda size: with_own(lines_in(size, prefixed_contraction, contracted)),
+    JOINED: lambda size: with_own(lines_in(size, prefixed_contraction, contracted)),
     "contractions that begin alike": lambda size: with_own(lines_in(size, begun_alike)),
     "ideographs that elements name": of_ideographs,
     "bytes that are fixed": lambda size: lines_in(size, lambda _: "[fixed first implicit byte E0]"),
@@ -123,7 +126,8 @@ def dear_files(files, plain_ones):
     least, greatest = files[0], files[-1]
     allowed = FASTER * least.seconds * greatest.size / least.size + ALLOWED
     found = [f"grows too fast: {least}; {greatest}"] * (greatest.seconds > allowed)
-    dear = [(it, other) for it, other in zip(files, plain_ones) if it.seconds > DEARER * other.seconds + ALLOWED]
+    more = ALLOWED + (JOINING * plain_ones[-1].seconds if least.kind == JOINED else 0)
+    dear = [(it, other) for it, other in zip(files, plain_ones) if it.seconds > DEARER * other.seconds + more]
     return found + [f"{it}; {other}" for it, other in dear]
 
 
