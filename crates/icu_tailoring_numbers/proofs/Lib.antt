@@ -1,0 +1,4 @@
+mod AscendingLemmas
+mod NumberingLemmas
+mod ElementBits
+mod NumberedElementLemmas
