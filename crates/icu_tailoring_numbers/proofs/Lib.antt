@@ -1,4 +1,4 @@
-mod AscendingLemmas
+mod AscendingNumberLemmas
 mod NumberingLemmas
 mod ElementBits
 mod NumberedElementLemmas

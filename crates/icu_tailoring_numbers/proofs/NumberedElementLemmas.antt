@@ -13,7 +13,7 @@ use Rattle.icu_tailoring.specs.SymbolicElements.{weights_of}
 use Rattle.icu_tailoring.specs.SymbolicOrders.{weights_in, level_numbers}
 use Rattle.icu_tailoring_numbers.specs.declared.tailoring_numbers.TailoringNumbers.{TailoringNumbers}
 use Rattle.icu_tailoring_numbers.specs.Numberings.{number_of, numbering_of}
-use Rattle.icu_tailoring_numbers.specs.NumberedElements.{number_at, lower_of, numbered_element, fits_lower, fits_element, FitsAll, level_weights, NumberedElementsKeepOrder, RootElementsStay}
+use Rattle.icu_tailoring_numbers.specs.NumberedElements.{number_at, lower_of, numbered_element, fits_lower, fits_element, FitsAll, element_numbers, NumberedElementsKeepOrder, RootElementsStay}
 use Rattle.icu_tailoring_numbers.proofs.ElementBits.{whole_half, tertiary_of_half, quaternary_of_half}
 
 -- what an element has at a level

@@ -34,13 +34,13 @@ abbrev pub FitsAll : TailoringNumbers → List SymbolicElement → Type 0
 FitsAll t es = All (λ (e : SymbolicElement). (length e.weights ≡ 4) × (fits_element t e ≡ true)) es
 
 -- the weights of elements at a level, without zeros (UTS #10, "Form Sort Keys")
-abbrev pub level_weights : ℕ → List Element → List ℕ
-level_weights level es = filter (λ w. not (w == 0)) (map (λ x. slice_index_or (weights_of x) (level - 1) 0) es)
+abbrev pub element_numbers : ℕ → List Element → List ℕ
+element_numbers level es = filter (λ w. not (w == 0)) (map (λ x. slice_index_or (weights_of x) (level - 1) 0) es)
 
 -- elements with numbers have at each of the four levels the numbers of the symbolic ones
 abbrev pub NumberedElementsKeepOrder : Type 0
 NumberedElementsKeepOrder = (t : TailoringNumbers) (es : List SymbolicElement) (level : ℕ) → 1 ≤ level → level ≤ 4
-    → FitsAll t es → level_weights level (map (numbered_element t) es) ≡ level_numbers (numbering_of t) level es
+    → FitsAll t es → element_numbers level (map (numbered_element t) es) ≡ level_numbers (numbering_of t) level es
 
 -- elements of the root are the same with numbers
 abbrev pub RootElementsStay : Type 0

@@ -5,7 +5,7 @@ mod ascending;
 pub mod error;
 mod level_runs;
 pub mod numbered_elements;
-mod quaternaries;
+mod quaternary_numbers;
 pub mod root_levels;
 pub mod tailoring_numbers;
 mod tree_numbers;

@@ -17,7 +17,9 @@ impl TailoringNumbers {
     /// Numbers for so many tailored weights, none of which has one yet.
     pub(crate) fn unset(alloc: Global, made: usize) -> Result<TailoringNumbers, AllocError> {
         let mut numbers = Vec::new(alloc);
-        numbers.resize(made, 0)?;
+        for _ in 0..made {
+            numbers.push(0)?;
+        }
         Ok(TailoringNumbers { numbers })
     }
 

@@ -8,7 +8,7 @@ ghost use Rattle.icu_tailoring_numbers.specs.Numberings.{numbering_of};
 use crate::ascending::ascend_below;
 use crate::error::NumberingError;
 use crate::level_runs::level_runs;
-use crate::quaternaries::number_quaternaries;
+use crate::quaternary_numbers::number_quaternaries;
 use crate::root_levels::RootLevels;
 use crate::tailoring_numbers::TailoringNumbers;
 use icu_tailoring::SymbolicWeight;

@@ -5,4 +5,4 @@ mod TreeLoopLemmas
 mod CountingLemmas
 mod RuleStateLemmas
 mod PositionLemmas
-mod BegunLemmas
+mod BegunParentLemmas

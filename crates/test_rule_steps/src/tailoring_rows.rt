@@ -7,84 +7,84 @@ use std::test::Fail;
 
 /// Rules, weights of the levels before, and the weights below them, ascending.
 const ORDERS: [(&str, &[SymbolicWeight], &[SymbolicWeight]); 28] = [
-    ("&a<b", &[], &[Rooted(0x61), Tailored(0)]),
-    ("&a<b", &[Rooted(0x61)], &[Rooted(0x500)]),
-    ("&a<x&a<y", &[], &[Rooted(0x61), Tailored(1), Tailored(0)]),
+    ("&a<b", &[], &[Rooted(0x61C2_0000), Tailored(0)]),
+    ("&a<b", &[Rooted(0x61C2_0000)], &[Rooted(0x500)]),
+    ("&a<x&a<y", &[], &[Rooted(0x61C2_0000), Tailored(1), Tailored(0)]),
     (
         "&a<x<y&x<z",
         &[],
-        &[Rooted(0x61), Tailored(0), Tailored(2), Tailored(1)],
+        &[Rooted(0x61C2_0000), Tailored(0), Tailored(2), Tailored(1)],
     ),
     (
         "&b<x&a<y",
         &[],
-        &[Rooted(0x61), Tailored(1), Rooted(0x62), Tailored(0)],
+        &[Rooted(0x61C2_0000), Tailored(1), Rooted(0x61C4_0000), Tailored(0)],
     ),
-    ("&a<<b<<<c", &[Rooted(0x61)], &[Rooted(0x500), Tailored(0)]),
+    ("&a<<b<<<c", &[Rooted(0x61C2_0000)], &[Rooted(0x500), Tailored(0)]),
     (
         "&a<<b<<<c",
-        &[Rooted(0x61), Tailored(0)],
+        &[Rooted(0x61C2_0000), Tailored(0)],
         &[Rooted(0x500), Tailored(1)],
     ),
     (
         "&a<<<<b",
-        &[Rooted(0x61), Rooted(0x500), Rooted(0x500)],
+        &[Rooted(0x61C2_0000), Rooted(0x500), Rooted(0x500)],
         &[Rooted(0), Tailored(0)],
     ),
     (
         "&A<<<b",
-        &[Rooted(0x61), Rooted(0x500)],
+        &[Rooted(0x61C2_0000), Rooted(0x500)],
         &[Rooted(0x500), Rooted(0x1C00), Tailored(0)],
     ),
     ("&a=b", &[], &[]),
     (
         "&[before 1]b<x",
         &[],
-        &[Rooted(0x61), Tailored(0), Rooted(0x62)],
+        &[Rooted(0x61C2_0000), Tailored(0), Rooted(0x61C4_0000)],
     ),
     (
         "&[before 2]a<<b",
-        &[Rooted(0x61)],
+        &[Rooted(0x61C2_0000)],
         &[Rooted(0x100), Tailored(0), Rooted(0x500)],
     ),
     (
         "&[before 3]A<<<b",
-        &[Rooted(0x61), Rooted(0x500)],
+        &[Rooted(0x61C2_0000), Rooted(0x500)],
         &[Rooted(0x500), Tailored(0), Rooted(0x1C00)],
     ),
     (
         "&a<x&[before 1]x<y",
         &[],
-        &[Rooted(0x61), Tailored(1), Tailored(0)],
+        &[Rooted(0x61C2_0000), Tailored(1), Tailored(0)],
     ),
     (
         "&[before 2]\\u0301<<x",
         &[Rooted(0)],
-        &[Rooted(0), Rooted(0x8300), Tailored(0), Rooted(0x8301)],
+        &[Rooted(0), Rooted(0x8300), Tailored(0), Rooted(0x8500)],
     ),
     (
         "&[last regular]<x<y",
         &[],
-        &[Rooted(0x4DFF), Tailored(0), Tailored(1)],
+        &[Rooted(0x7E02_0200), Tailored(0), Tailored(1)],
     ),
     (
         "&[last regular]<x&[last regular]<y",
         &[],
-        &[Rooted(0x4DFF), Tailored(0), Tailored(1)],
+        &[Rooted(0x7E02_0200), Tailored(0), Tailored(1)],
     ),
-    ("&[first regular]<x", &[], &[Rooted(0x31), Tailored(0)]),
-    ("&[last variable]<x", &[], &[Rooted(0x2D), Tailored(0)]),
-    ("&[first variable]<x", &[], &[Rooted(0x2D), Tailored(0)]),
+    ("&[first regular]<x", &[], &[Rooted(0x4062_0000), Tailored(0)]),
+    ("&[last variable]<x", &[], &[Rooted(0x055A_0000), Tailored(0)]),
+    ("&[first variable]<x", &[], &[Rooted(0x055A_0000), Tailored(0)]),
     (
         "&[before 1][first variable]<x",
         &[],
-        &[Rooted(0x2C), Tailored(0), Rooted(0x2D)],
+        &[Rooted(0x0558_0000), Tailored(0), Rooted(0x055A_0000)],
     ),
-    ("&[first implicit]<x", &[], &[Rooted(0x4E00), Tailored(0)]),
+    ("&[first implicit]<x", &[], &[Rooted(0xF004_0200), Tailored(0)]),
     (
         "&[last primary ignorable]<<x",
         &[Rooted(0)],
-        &[Rooted(0), Rooted(0x8301), Tailored(0)],
+        &[Rooted(0), Rooted(0x8500), Tailored(0)],
     ),
     (
         "&[first primary ignorable]<<x",
@@ -104,12 +104,12 @@ const ORDERS: [(&str, &[SymbolicWeight], &[SymbolicWeight]); 28] = [
     (
         "&a<*x-z",
         &[],
-        &[Rooted(0x61), Tailored(0), Tailored(1), Tailored(2)],
+        &[Rooted(0x61C2_0000), Tailored(0), Tailored(1), Tailored(2)],
     ),
     (
         "&a<*\\uD7FF-\\uE001",
         &[],
-        &[Rooted(0x61), Tailored(0), Tailored(1), Tailored(2)],
+        &[Rooted(0x61C2_0000), Tailored(0), Tailored(1), Tailored(2)],
     ),
 ];
 
@@ -123,22 +123,22 @@ const ELEMENTS: [(&str, &[char], &[[SymbolicWeight; 4]]); 17] = [
     (
         "&a<b",
         &['a'],
-        &[[Rooted(0x61), Rooted(0x500), Rooted(0x500), Rooted(0)]],
+        &[[Rooted(0x61C2_0000), Rooted(0x500), Rooted(0x500), Rooted(0)]],
     ),
     (
         "&a<<b<<<c",
         &['b'],
-        &[[Rooted(0x61), Tailored(0), Rooted(0x500), Rooted(0)]],
+        &[[Rooted(0x61C2_0000), Tailored(0), Rooted(0x500), Rooted(0)]],
     ),
     (
         "&a<<b<<<c",
         &['c'],
-        &[[Rooted(0x61), Tailored(0), Tailored(1), Rooted(0)]],
+        &[[Rooted(0x61C2_0000), Tailored(0), Tailored(1), Rooted(0)]],
     ),
     (
         "&a=b",
         &['b'],
-        &[[Rooted(0x61), Rooted(0x500), Rooted(0x500), Rooted(0)]],
+        &[[Rooted(0x61C2_0000), Rooted(0x500), Rooted(0x500), Rooted(0)]],
     ),
     (
         "&a<b&b=c",
@@ -154,15 +154,15 @@ const ELEMENTS: [(&str, &[char], &[[SymbolicWeight; 4]]); 17] = [
         "&c<ch",
         &['c', 'x'],
         &[
-            [Rooted(0x63), Rooted(0x500), Rooted(0x500), Rooted(0)],
-            [Rooted(0x78), Rooted(0x500), Rooted(0x500), Rooted(0)],
+            [Rooted(0x61C6_0000), Rooted(0x500), Rooted(0x500), Rooted(0)],
+            [Rooted(0x61F0_0000), Rooted(0x500), Rooted(0x500), Rooted(0)],
         ],
     ),
     (
         "&b<a|c",
         &['a', 'c'],
         &[
-            [Rooted(0x61), Rooted(0x500), Rooted(0x500), Rooted(0)],
+            [Rooted(0x61C2_0000), Rooted(0x500), Rooted(0x500), Rooted(0)],
             [Tailored(0), Rooted(0x500), Rooted(0x500), Rooted(0)],
         ],
     ),
@@ -170,16 +170,16 @@ const ELEMENTS: [(&str, &[char], &[[SymbolicWeight; 4]]); 17] = [
         "&b<a|c",
         &['b', 'c'],
         &[
-            [Rooted(0x62), Rooted(0x500), Rooted(0x500), Rooted(0)],
-            [Rooted(0x63), Rooted(0x500), Rooted(0x500), Rooted(0)],
+            [Rooted(0x61C4_0000), Rooted(0x500), Rooted(0x500), Rooted(0)],
+            [Rooted(0x61C6_0000), Rooted(0x500), Rooted(0x500), Rooted(0)],
         ],
     ),
     (
         "&ae<<x",
         &['x'],
         &[
-            [Rooted(0x61), Rooted(0x500), Rooted(0x500), Rooted(0)],
-            [Rooted(0x65), Tailored(0), Rooted(0x500), Rooted(0)],
+            [Rooted(0x61C2_0000), Rooted(0x500), Rooted(0x500), Rooted(0)],
+            [Rooted(0x61CA_0000), Tailored(0), Rooted(0x500), Rooted(0)],
         ],
     ),
     (
@@ -187,7 +187,7 @@ const ELEMENTS: [(&str, &[char], &[[SymbolicWeight; 4]]); 17] = [
         &['x'],
         &[
             [Tailored(0), Rooted(0x500), Rooted(0x500), Rooted(0)],
-            [Rooted(0x79), Rooted(0x500), Rooted(0x500), Rooted(0)],
+            [Rooted(0x61F2_0000), Rooted(0x500), Rooted(0x500), Rooted(0)],
         ],
     ),
     (
@@ -206,13 +206,13 @@ const ELEMENTS: [(&str, &[char], &[[SymbolicWeight; 4]]); 17] = [
     (
         "&a<b",
         &['\u{438}', '\u{306}'],
-        &[[Rooted(0x439), Rooted(0x500), Rooted(0x500), Rooted(0)]],
+        &[[Rooted(0x6212_0000), Rooted(0x500), Rooted(0x500), Rooted(0)]],
     ),
     (
         "[suppressContractions [\u{438}]]",
         &['\u{438}', '\u{306}'],
         &[
-            [Rooted(0x438), Rooted(0x500), Rooted(0x500), Rooted(0)],
+            [Rooted(0x6210_0000), Rooted(0x500), Rooted(0x500), Rooted(0)],
             [Rooted(0), Rooted(0), Rooted(0), Rooted(0)],
         ],
     ),

@@ -5,6 +5,6 @@ use Rattle.icu_tailoring_numbers.specs.declared.tailoring_numbers.TailoringNumbe
 use Rattle.icu_tailoring_numbers.specs.Numberings.{number_of}
 
 -- numbers ascend among siblings behind a number
-unfoldable pub ascend_from : TailoringNumbers → ℕ → List SymbolicWeight → Bool
-ascend_from t last [] = true
-ascend_from t last (w ∷ siblings) = nat_lt last (number_of t w) && ascend_from t (number_of t w) siblings
+unfoldable pub ascend_above : TailoringNumbers → ℕ → List SymbolicWeight → Bool
+ascend_above t last [] = true
+ascend_above t last (w ∷ siblings) = nat_lt last (number_of t w) && ascend_above t (number_of t w) siblings

@@ -5,7 +5,7 @@ use Rattle.icu_weight_tree.specs.declared.parents.Parents.{Parents}
 use Rattle.icu_weight_tree.specs.declared.parents.Parents.TheVariants.{Nothing}
 use Rattle.icu_weight_tree.specs.TreeBuilders.{tree_of}
 use Rattle.icu_tailoring_numbers.specs.Numberings.{AscendAmong, AscendBelow}
-use Rattle.icu_tailoring_numbers.proofs.AscendingLemmas.{below_more}
+use Rattle.icu_tailoring_numbers.proofs.AscendingNumberLemmas.{below_more}
 use Rattle.icu_tailoring_numbers.proofs.ascending.ascend_below.Goals as goal
 
 pub loop-parents-preserved : goal.loop-parents-preserved

@@ -1,7 +1,7 @@
 -- All keys are listed.
 use Rattle.std.proofs.Common.{sym, subst}
 use Rattle.icu_weight_tree.specs.BuiltTrees.{tree_in, AreBegun}
-use Rattle.icu_weight_tree.proofs.BegunLemmas.{are_begun}
+use Rattle.icu_weight_tree.proofs.BegunParentLemmas.{are_begun}
 use Rattle.icu_weight_tree.proofs.lists.begun_in.Goals as goal
 
 pub returns : goal.returns

@@ -10,22 +10,22 @@ use Rattle.icu_weight_tree.specs.declared.parents.Parents.{Parents}
 use Rattle.icu_weight_tree.specs.BuiltTrees.{parent_weights}
 use Rattle.icu_tailoring_numbers.specs.declared.tailoring_numbers.TailoringNumbers.{TailoringNumbers}
 use Rattle.icu_tailoring_numbers.specs.Numberings.{number_of, AscendAmong, AscendBelow}
-use Rattle.icu_tailoring_numbers.specs.inner.AscendingTests.{ascend_from}
+use Rattle.icu_tailoring_numbers.specs.inner.AscendingTests.{ascend_above}
 
 -- ---- turns of the loop
 
 pub ascend_more : (t : TailoringNumbers) (last : ℕ) (w : SymbolicWeight) (ws : List SymbolicWeight) → last < number_of t w
-    → ascend_from t (number_of t w) ws ≡ ascend_from t last (w ∷ ws)
-unfolding ascend_from
+    → ascend_above t (number_of t w) ws ≡ ascend_above t last (w ∷ ws)
+unfolding ascend_above
 ascend_more t last w ws less = rw (lt-ltb last (number_of t w) less) refl
 
 pub ascend_ended : (t : TailoringNumbers) (last : ℕ) (w : SymbolicWeight) (ws : List SymbolicWeight) → number_of t w ≤ last
-    → false ≡ ascend_from t last (w ∷ ws)
-unfolding ascend_from
+    → false ≡ ascend_above t last (w ∷ ws)
+unfolding ascend_above
 ascend_ended t last w ws most = rw (le-ltb last (number_of t w) most) refl
 
-pub ascend_none : (t : TailoringNumbers) (last : ℕ) → true ≡ ascend_from t last []
-unfolding ascend_from
+pub ascend_none : (t : TailoringNumbers) (last : ℕ) → true ≡ ascend_above t last []
+unfolding ascend_above
 ascend_none t last = refl
 
 -- ---- what they say
@@ -37,14 +37,14 @@ both false b e = cc
 less_from : (n u : ℕ) → nat_lt n u ≡ true → n < u
 less_from n u e = grind (arith, nat_tests)
 
-parts : (t : TailoringNumbers) (last : ℕ) (w : SymbolicWeight) (ws : List SymbolicWeight) → ascend_from t last (w ∷ ws) ≡ true
-    → (last < number_of t w) × (ascend_from t (number_of t w) ws ≡ true)
-unfolding ascend_from
+parts : (t : TailoringNumbers) (last : ℕ) (w : SymbolicWeight) (ws : List SymbolicWeight) → ascend_above t last (w ∷ ws) ≡ true
+    → (last < number_of t w) × (ascend_above t (number_of t w) ws ≡ true)
+unfolding ascend_above
 parts t last w ws e =
-    let (first, rest) = both (nat_lt last (number_of t w)) (ascend_from t (number_of t w) ws) e in
+    let (first, rest) = both (nat_lt last (number_of t w)) (ascend_above t (number_of t w) ws) e in
     (less_from last (number_of t w) first, rest)
 
-above_last : (t : TailoringNumbers) (last : ℕ) (ws : List SymbolicWeight) → ascend_from t last ws ≡ true
+above_last : (t : TailoringNumbers) (last : ℕ) (ws : List SymbolicWeight) → ascend_above t last ws ≡ true
     → (v : SymbolicWeight) → IsAmongWeights v ws → last < number_of t v
 above_last t last [] e v among = absurd among
 above_last t last (w ∷ ws) e v (inl is) = subst (λ x. last < number_of t x) is (parts t last w ws e).0
@@ -53,7 +53,7 @@ above_last t last (w ∷ ws) e v (inr among) =
     let further : number_of t w < number_of t v = above_last t (number_of t w) ws rest v among in
     omega (arith, first, further)
 
-pub ascend_behind : (t : TailoringNumbers) (w : SymbolicWeight) (ws : List SymbolicWeight) → ascend_from t (number_of t w) ws ≡ true
+pub ascend_behind : (t : TailoringNumbers) (w : SymbolicWeight) (ws : List SymbolicWeight) → ascend_above t (number_of t w) ws ≡ true
     → AscendAmong t (w ∷ ws)
 ascend_behind t w [] e x v (inl (is, among)) = absurd among
 ascend_behind t w [] e x v (inr before) = absurd before
@@ -62,9 +62,9 @@ ascend_behind t w (u ∷ ws) e x v (inl (is, among)) =
 ascend_behind t w (u ∷ ws) e x v (inr before) = ascend_behind t u ws (parts t (number_of t w) u ws e).1 x v before
 
 pub among_if : (t : TailoringNumbers) (w : SymbolicWeight) (ws ss : List SymbolicWeight) (n : ℕ) (b : Bool) → n ≡ number_of t w
-    → b ≡ ascend_from t n ws → ss ≡ w ∷ ws → OnTrue b (AscendAmong t ss)
+    → b ≡ ascend_above t n ws → ss ≡ w ∷ ws → OnTrue b (AscendAmong t ss)
 among_if t w ws ss n true is found split =
-    subst (AscendAmong t) (sym split) (ascend_behind t w ws (sym (found ∙ ap (λ m. ascend_from t m ws) is)))
+    subst (AscendAmong t) (sym split) (ascend_behind t w ws (sym (found ∙ ap (λ m. ascend_above t m ws) is)))
 among_if t w ws ss n false is found split = tt
 
 pub none_ascend : (t : TailoringNumbers) → AscendAmong t []

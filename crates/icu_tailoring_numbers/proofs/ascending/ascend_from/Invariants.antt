@@ -1,6 +1,0 @@
-use Rattle.std.proofs.Common.{◌≡◌, drop}
-use Rattle.icu_tailoring_numbers.specs.inner.AscendingTests.{ascend_from}
-use Rattle.icu_tailoring_numbers.proofs.ascending.ascend_from.Given as goal
-
-abbrev pub invariant-loop-w : goal.invariant-loop-w
-invariant-loop-w l = ascend_from l.numbers l.before (drop l.w-index l.siblings) ≡ ascend_from l.numbers l.last l.siblings
