@@ -1,4 +1,5 @@
 mod AscendingNumberLemmas
 mod NumberingLemmas
+mod KeptNeighbourLemmas
 mod ElementBits
 mod NumberedElementLemmas

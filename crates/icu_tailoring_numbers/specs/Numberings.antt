@@ -2,10 +2,7 @@
 use Rattle.std.specs.Prelude.{ℕ, ◌<◌, List, [], ◌∷◌, slice_index_or}
 use Rattle.icu_tailoring.specs.declared.symbolic.SymbolicWeight.{SymbolicWeight}
 use Rattle.icu_tailoring.specs.declared.symbolic.SymbolicWeight.TheVariants.{Rooted, Tailored}
-use Rattle.icu_tailoring.specs.WeightTrees.{WeightTree}
 use Rattle.icu_tailoring.specs.SymbolicOrders.{Numbering, IsOrderedBefore}
-use Rattle.icu_weight_tree.specs.declared.parents.Parents.{Parents}
-use Rattle.icu_weight_tree.specs.BuiltTrees.{parent_weights}
 use Rattle.icu_tailoring_numbers.specs.declared.tailoring_numbers.TailoringNumbers.{TailoringNumbers}
 
 -- the number of a weight: of one of the root its own, and 0 of one that has none
@@ -23,8 +20,3 @@ numbering_of t (v ∷ w ∷ ws) = numbering_of t (w ∷ ws)
 -- numbers ascend among siblings
 abbrev pub AscendAmong : TailoringNumbers → List SymbolicWeight → Type 0
 AscendAmong t siblings = (v w : SymbolicWeight) → IsOrderedBefore v w siblings → number_of t v < number_of t w
-
--- numbers ascend below parents
-abbrev pub AscendBelow : TailoringNumbers → WeightTree → List Parents → Type 0
-AscendBelow t tree [] = Unit {0}
-AscendBelow t tree (parents ∷ others) = AscendAmong t (tree (parent_weights parents)) × AscendBelow t tree others

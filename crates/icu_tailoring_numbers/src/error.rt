@@ -16,7 +16,8 @@ pub enum NumberingError {
         /// The weight that was made last of those that are tailored there, by how many were made before it.
         weight: usize,
     },
-    /// Numbers don't ascend below some weights. A tailored weight stands twice in the tree, or before all of the root.
+    /// Numbers don't ascend below some weights, or pass a weight of the root. A tailored weight stands twice in the
+    /// tree, or before all weights of the root.
     #[error("tailored weights stand in no order")]
     Unordered,
 }

@@ -33,7 +33,7 @@ fn are_alone(parents: Parents) -> bool
 }
 
 /// The next greater weight of the root below parents, which are of the root, if there is one.
-fn next_of_root<R: RootWeights>(root: &R, parents: Parents, w: u32) -> Option<u32>
+pub(crate) fn next_of_root<R: RootWeights>(root: &R, parents: Parents, w: u32) -> Option<u32>
     ensures { result ≡ next_of_root (R.root root.now) (parent_weights parents) w }
 {
     match parents {

@@ -1,7 +1,6 @@
 //! Numbers of quaternary weights, of which there are three.
 ghost use Rattle.std.specs.Prelude.{◌≡◌};
 
-
 use icu_weight_numbers::{GapNumbers, SiblingRun};
 use std::alloc::{AllocError, Global};
 
@@ -9,10 +8,7 @@ use std::alloc::{AllocError, Global};
 const GREATEST: u32 = 3;
 
 /// The numbers of the tailored weights of a run, if there is room: those that follow the weight of the root.
-fn quaternary_numbers(
-    alloc: Global,
-    run: SiblingRun<'_>,
-) -> Result<Option<Vec<u32>>, AllocError> {
+fn quaternary_numbers(alloc: Global, run: SiblingRun<'_>) -> Result<Option<Vec<u32>>, AllocError> {
     let high = run.next.unwrap_or(GREATEST + 1).min(GREATEST + 1);
     let mut numbers = Vec::new(alloc);
     let mut last = run.rooted;

@@ -4,6 +4,7 @@ ghost use Rattle.icu_tailoring.specs.SymbolicOrders.{NumbersTree};
 ghost use Rattle.icu_weight_tree.specs.BuiltTrees.{AreBegun};
 ghost use Rattle.icu_weight_tree.specs.TreeBuilders.{tree_of};
 ghost use Rattle.icu_tailoring_numbers.specs.Numberings.{numbering_of};
+ghost use Rattle.icu_tailoring_numbers.specs.RootNeighbours.{KeepsNeighbours};
 
 use crate::ascending::ascend_below;
 use crate::error::NumberingError;
@@ -80,7 +81,12 @@ impl TailoringNumbers {
         tree: &WeightTreeBuilder,
     ) -> Result<TailoringNumbers, NumberingError>
         // The number of a weight of the root is its own, and numbers ascend among all siblings.
-        ensures { IfOk result (λ t. NumbersTree (tree_of tree.now) (numbering_of t)) }
+        ensures numbers { IfOk result (λ t. NumbersTree (tree_of tree.now) (numbering_of t)) }
+
+        // So they do if any weight of the root is put into its place: tailored weights stand between the same
+        // neighbours in the root as in the tree.
+        ensures between { IfOk result (λ t.
+            KeepsNeighbours (R.root root.now) (tree_of tree.now) (numbering_of t)) }
     {
         let begun = tree.begun_parents(alloc)?;
         let mut numbers = TailoringNumbers::unset(alloc, tree.made())?;
@@ -88,20 +94,23 @@ impl TailoringNumbers {
             let runs = level_runs(alloc, root, tree, begun.as_slice(), level)?;
             numbers.number_level(alloc, levels, level, runs.as_slice())?;
         }
-        numbers.if_ascending(tree, begun.as_slice())
+        numbers.if_ascending(root, tree, begun.as_slice())
     }
 
     /// These numbers, if they ascend below the parents that rules put weights below.
     #[tactic(auto, using(crate::proofs::NumberingLemmas::numbers_tree))]
-    fn if_ascending(
+    fn if_ascending<R: RootWeights>(
         self,
+        root: &R,
         tree: &WeightTreeBuilder,
         begun: &[Parents],
     ) -> Result<TailoringNumbers, NumberingError>
         requires { AreBegun (tree_of tree.now) begun.now }
-        ensures { IfOk result (λ t. NumbersTree (tree_of tree.now) (numbering_of t)) }
+        ensures numbers { IfOk result (λ t. NumbersTree (tree_of tree.now) (numbering_of t)) }
+        ensures between { IfOk result (λ t.
+            KeepsNeighbours (R.root root.now) (tree_of tree.now) (numbering_of t)) }
     {
-        if ascend_below(&self, tree, begun) {
+        if ascend_below(root, &self, tree, begun) {
             Ok(self)
         } else {
             Err(NumberingError::Unordered)
