@@ -127,10 +127,7 @@ impl<'r, R: RootMappings> Mappings<'r, R> {
     }
 
     /// The characters that relations touched, ascending, each with its mappings.
-    pub fn touched_characters(
-        &self,
-        alloc: Global,
-    ) -> Result<Vec<TouchedCharacter<'_>>, AllocError>
+    pub fn touched_characters(&self, alloc: Global) -> Result<Vec<TouchedCharacter<'_>>, AllocError>
         ensures { IfOk result (λ found. All (λ t. mappings_in R.mappings_of self.now t.character
             ≡ symbolic_mappings t.mappings.now) found.items) }
     {
@@ -144,8 +141,7 @@ impl<'r, R: RootMappings> Mappings<'r, R> {
     }
 
     /// Whether a relation touched the character.
-    pub fn is_touched(&self, c: char) -> bool
-    {
+    pub fn is_touched(&self, c: char) -> bool {
         self.touched.contains_key(&c)
     }
 

@@ -24,10 +24,7 @@ pub(crate) struct EntrySources<'n> {
 }
 
 /// The rows of a context.
-fn rows_of(
-    alloc: Global,
-    rows: &Rows,
-) -> Result<Vec<(&[char], CollationElement32)>, AllocError> {
+fn rows_of(alloc: Global, rows: &Rows) -> Result<Vec<(&[char], CollationElement32)>, AllocError> {
     let mut list = Vec::new(alloc);
     for (chars, entry) in rows.iter() {
         list.extend_from_slice(&[(chars.as_slice(), *entry)])?;
@@ -98,8 +95,12 @@ fn entry_behind(
         if mapping.suffix.is_empty() {
             default = entry_alone(alloc, builder, sources, c, before, mapping)?;
         } else {
-            let entry =
-                entry_of_elements(alloc, builder, sources.numbers, mapping.elements.as_slice())?;
+            let entry = entry_of_elements(
+                alloc,
+                builder,
+                sources.numbers,
+                mapping.elements.as_slice(),
+            )?;
             rows.insert(Vec::from_slice(alloc, mapping.suffix.as_slice())?, entry)?;
         }
     }

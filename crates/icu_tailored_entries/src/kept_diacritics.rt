@@ -35,10 +35,7 @@ fn stands_before(touched: &[TouchedCharacter<'_>], c: char) -> bool {
 }
 
 /// The mappings of a character among those that relations touched.
-fn own_mappings<'m>(
-    touched: &[TouchedCharacter<'m>],
-    c: char,
-) -> Option<&'m [SymbolicMapping]> {
+fn own_mappings<'m>(touched: &[TouchedCharacter<'m>], c: char) -> Option<&'m [SymbolicMapping]> {
     for other in touched {
         if other.character == c {
             return Some(other.mappings);
