@@ -1,6 +1,6 @@
 //! A small root: letters and digits of ASCII, marks, two letters of Cyrillic, an ideograph and a character without a
 //! weight of its own.
-ghost use Rattle.std.specs.Prelude.{◌≡◌, ◌==◌, ◌∷◌, [], None, map, if◌then◌else◌, IfOk};
+ghost use Rattle.std.specs.Prelude.{◌≡◌, ◌≤◌, ◌+◌, ◌==◌, ◌∷◌, [], None, map, if◌then◌else◌, IfOk};
 ghost use Rattle.icu_tailoring.specs.declared.symbolic.SymbolicWeight.TheVariants.{Rooted};
 ghost use Rattle.icu_tailoring.specs.SymbolicElements.{ends_with_zero, is_same_weight};
 ghost use Rattle.icu_tailoring.specs.TailoredRoots.{first_above, last_below, lowest_below};
@@ -19,7 +19,50 @@ use std::alloc::{AllocError, Global};
 pub struct LetterRoot;
 
 /// The primary weights, with those that begin groups, which are of no text.
-const PRIMARIES: [u32; 42] = [0x0558_0000, 0x055A_0000, 0x4060_0000, 0x4062_0000, 0x4064_0000, 0x4066_0000, 0x4068_0000, 0x406A_0000, 0x406C_0000, 0x406E_0000, 0x4070_0000, 0x4072_0000, 0x61C2_0000, 0x61C4_0000, 0x61C6_0000, 0x61C8_0000, 0x61CA_0000, 0x61CC_0000, 0x61CE_0000, 0x61D0_0000, 0x61D2_0000, 0x61D4_0000, 0x61D6_0000, 0x61D8_0000, 0x61DA_0000, 0x61DC_0000, 0x61DE_0000, 0x61E0_0000, 0x61E2_0000, 0x61E4_0000, 0x61E6_0000, 0x61E8_0000, 0x61EA_0000, 0x61EC_0000, 0x61EE_0000, 0x61F0_0000, 0x61F2_0000, 0x61F4_0000, 0x6210_0000, 0x6212_0000, 0x7E02_0200, 0xF004_0200];
+const PRIMARIES: [u32; 42] = [
+    0x0558_0000,
+    0x055A_0000,
+    0x4060_0000,
+    0x4062_0000,
+    0x4064_0000,
+    0x4066_0000,
+    0x4068_0000,
+    0x406A_0000,
+    0x406C_0000,
+    0x406E_0000,
+    0x4070_0000,
+    0x4072_0000,
+    0x61C2_0000,
+    0x61C4_0000,
+    0x61C6_0000,
+    0x61C8_0000,
+    0x61CA_0000,
+    0x61CC_0000,
+    0x61CE_0000,
+    0x61D0_0000,
+    0x61D2_0000,
+    0x61D4_0000,
+    0x61D6_0000,
+    0x61D8_0000,
+    0x61DA_0000,
+    0x61DC_0000,
+    0x61DE_0000,
+    0x61E0_0000,
+    0x61E2_0000,
+    0x61E4_0000,
+    0x61E6_0000,
+    0x61E8_0000,
+    0x61EA_0000,
+    0x61EC_0000,
+    0x61EE_0000,
+    0x61F0_0000,
+    0x61F2_0000,
+    0x61F4_0000,
+    0x6210_0000,
+    0x6212_0000,
+    0x7E02_0200,
+    0xF004_0200,
+];
 
 /// The secondary weights of what has no primary one.
 const MARKS: [u32; 2] = [0x8300, 0x8500];

@@ -9,7 +9,11 @@ use std::test::Fail;
 const ORDERS: [(&str, &[SymbolicWeight], &[SymbolicWeight]); 28] = [
     ("&a<b", &[], &[Rooted(0x61C2_0000), Tailored(0)]),
     ("&a<b", &[Rooted(0x61C2_0000)], &[Rooted(0x500)]),
-    ("&a<x&a<y", &[], &[Rooted(0x61C2_0000), Tailored(1), Tailored(0)]),
+    (
+        "&a<x&a<y",
+        &[],
+        &[Rooted(0x61C2_0000), Tailored(1), Tailored(0)],
+    ),
     (
         "&a<x<y&x<z",
         &[],
@@ -18,9 +22,18 @@ const ORDERS: [(&str, &[SymbolicWeight], &[SymbolicWeight]); 28] = [
     (
         "&b<x&a<y",
         &[],
-        &[Rooted(0x61C2_0000), Tailored(1), Rooted(0x61C4_0000), Tailored(0)],
+        &[
+            Rooted(0x61C2_0000),
+            Tailored(1),
+            Rooted(0x61C4_0000),
+            Tailored(0),
+        ],
     ),
-    ("&a<<b<<<c", &[Rooted(0x61C2_0000)], &[Rooted(0x500), Tailored(0)]),
+    (
+        "&a<<b<<<c",
+        &[Rooted(0x61C2_0000)],
+        &[Rooted(0x500), Tailored(0)],
+    ),
     (
         "&a<<b<<<c",
         &[Rooted(0x61C2_0000), Tailored(0)],
@@ -72,15 +85,31 @@ const ORDERS: [(&str, &[SymbolicWeight], &[SymbolicWeight]); 28] = [
         &[],
         &[Rooted(0x7E02_0200), Tailored(0), Tailored(1)],
     ),
-    ("&[first regular]<x", &[], &[Rooted(0x4062_0000), Tailored(0)]),
-    ("&[last variable]<x", &[], &[Rooted(0x055A_0000), Tailored(0)]),
-    ("&[first variable]<x", &[], &[Rooted(0x055A_0000), Tailored(0)]),
+    (
+        "&[first regular]<x",
+        &[],
+        &[Rooted(0x4062_0000), Tailored(0)],
+    ),
+    (
+        "&[last variable]<x",
+        &[],
+        &[Rooted(0x055A_0000), Tailored(0)],
+    ),
+    (
+        "&[first variable]<x",
+        &[],
+        &[Rooted(0x055A_0000), Tailored(0)],
+    ),
     (
         "&[before 1][first variable]<x",
         &[],
         &[Rooted(0x0558_0000), Tailored(0), Rooted(0x055A_0000)],
     ),
-    ("&[first implicit]<x", &[], &[Rooted(0xF004_0200), Tailored(0)]),
+    (
+        "&[first implicit]<x",
+        &[],
+        &[Rooted(0xF004_0200), Tailored(0)],
+    ),
     (
         "&[last primary ignorable]<<x",
         &[Rooted(0)],

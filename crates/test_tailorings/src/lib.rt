@@ -2,8 +2,8 @@
 #![tactic(auto)]
 
 #[cfg(test)]
-mod tree_number_rows;
-#[cfg(test)]
 mod order_rows;
 #[cfg(test)]
 mod small_tables;
+#[cfg(test)]
+mod tree_number_rows;

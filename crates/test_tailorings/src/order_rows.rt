@@ -42,7 +42,10 @@ const MORE_RESETS: [(&str, &str); 15] = [
     ("&[before 3]B<<<x", "b <<< x <<< B"),
     ("&a<x&[before 1]x<y", "a < y < x < b"),
     ("&a<<x&[before 2]x<<y", "a << y << x < b"),
-    ("&[before 2]\\u0301<<x", "a << a\u{300} << ax << a\u{301} < b"),
+    (
+        "&[before 2]\\u0301<<x",
+        "a << a\u{300} << ax << a\u{301} < b",
+    ),
 ];
 
 /// Rules, and texts in their order, between each two how they differ: positions.
@@ -53,9 +56,18 @@ const POSITIONS: [(&str, &str); 11] = [
     ("&[last regular]<x", "a < z < x < \u{4E00}"),
     ("&[first regular]<x", "- < 1 < x < 2 < a"),
     ("&[last primary ignorable]<<x", "a << a\u{301} << ax < b"),
-    ("&[first primary ignorable]<<x", "a << a\u{300} << ax << a\u{301} < b"),
-    ("&[last tertiary ignorable]<<<x", "a <<< ax <<< A << a\u{301} < b"),
-    ("&[last secondary ignorable]<<<x", "a <<< ax <<< A << a\u{301} < b"),
+    (
+        "&[first primary ignorable]<<x",
+        "a << a\u{300} << ax << a\u{301} < b",
+    ),
+    (
+        "&[last tertiary ignorable]<<<x",
+        "a <<< ax <<< A << a\u{301} < b",
+    ),
+    (
+        "&[last secondary ignorable]<<<x",
+        "a <<< ax <<< A << a\u{301} < b",
+    ),
     ("&[first implicit]<x", "a < \u{4E00} < x"),
     ("&\\u0301<<x", "a << a\u{301} << ax < b"),
 ];
@@ -81,10 +93,16 @@ const CONTEXTS: [(&str, &str); 17] = [
     ("&a<<\\u0301", "a << \u{301} < b"),
     ("&\\u0301<<\\u0300", "a << a\u{301} << a\u{300} < b"),
     ("&b<a\\u0300|x", "a\u{300}b < a\u{300}x < a\u{300}c"),
-    ("&z<a\u{301}", "a <<< A << a\u{300} < z < a\u{301} << a\u{301}\u{300}"),
+    (
+        "&z<a\u{301}",
+        "a <<< A << a\u{300} < z < a\u{301} << a\u{301}\u{300}",
+    ),
     ("&a<\u{438}", "a < \u{438} < b < \u{438}\u{306}"),
     ("&a<\u{438}\u{306}", "a < \u{438}\u{306} < b < \u{438}"),
-    ("[suppressContractions[\u{438}]]", "\u{438} = \u{438}\u{306} < \u{438}a"),
+    (
+        "[suppressContractions[\u{438}]]",
+        "\u{438} = \u{438}\u{306} < \u{438}a",
+    ),
     ("&a<1x", "1 < 12 < 2 < a < 1x < b"),
     ("&a<1", "2 < a < 1 < 12 < b"),
     ("&a<'-'", "a < - < b"),
@@ -127,17 +145,19 @@ const LEVEL_STRENGTHS: [Strength; 4] = [
 ];
 
 /// How a text differs from one behind it. `None` where it isn't less.
-fn found_difference(collator: &CollatorBorrowed<'_>, left: &str, right: &str) -> Option<Difference> {
-    let mut level = 0;
-    for strength in LEVEL_STRENGTHS {
-        level += 1;
+fn found_difference(
+    collator: &CollatorBorrowed<'_>,
+    left: &str,
+    right: &str,
+) -> Option<Difference> {
+    for (i, strength) in LEVEL_STRENGTHS.iter().enumerate() {
         let options = CollatorOptions {
-            strength: Some(strength),
+            strength: Some(*strength),
             ..CollatorOptions::default()
         };
         let by = collator.with_options(CollatorPreferences::default(), options)?;
         match by.order(left, right) {
-            Ordering::Less => return Some(Difference::At(level)),
+            Ordering::Less => return Some(Difference::At(i + 1)),
             Ordering::Greater => return None,
             Ordering::Equal => {}
         }
@@ -150,7 +170,8 @@ fn check_row(
     rt: &impl Abort,
     alloc: Global,
     root: &OwnedData,
-    rules: &str, row: &str,
+    rules: &str,
+    row: &str,
 ) -> Result<(), Fail> {
     let collator = collator_by(alloc, root, rules)?;
     let borrowed = collator.as_borrowed();

@@ -1,7 +1,7 @@
 //! The tables of a small root, and collators by rules over it.
 use icu_checks::CheckedTables;
-use icu_collator::options::{CollatorOptions, CollatorPreferences};
 use icu_collator::Collator;
+use icu_collator::options::{CollatorOptions, CollatorPreferences};
 use icu_entries::CollationElement32;
 use icu_provider::{
     CollationDiacritics, CollationJamo, CollationMetadata, CollationSpecialPrimaries, TableSet,
@@ -68,7 +68,10 @@ pub(crate) fn small_root(alloc: Global) -> Result<OwnedData, Fail> {
         }
     }
     let joined = CollationElement32::common(0x6212);
-    let index = builder.add_context(CollationElement32::common(0x6210), &[(&['\u{306}'], joined)])?;
+    let index = builder.add_context(
+        CollationElement32::common(0x6210),
+        &[(&['\u{306}'], joined)],
+    )?;
     if index == 0 {
         builder.set_entry('\u{438}', CollationElement32::contraction(0));
     }

@@ -28,16 +28,25 @@ const NUMBERED: [(&str, &[u32]); 12] = [
 const FULL: [(&str, u8, usize); 3] = [
     ("&a<<<<b<<<<c<<<<d<<<<e", 4, 3),
     ("&z<x&a<<<<b<<<<c&a<<<<d&a<<<<e", 4, 4),
-    ("&[last secondary ignorable]<<<a<<<b<<<c<<<d<<<*e-z<<<*A-Z<<<*1-9<<<*\\u5000-\\u50FF", 3, 316),
+    (
+        "&[last secondary ignorable]<<<a<<<b<<<c<<<d<<<*e-z<<<*A-Z<<<*1-9<<<*\\u5000-\\u50FF",
+        3,
+        316,
+    ),
 ];
 
 /// The numbers of the tailored weights of rules.
-fn numbers_of(alloc: Global, text: &str) -> Result<Result<(TailoringNumbers, usize), NumberingError>, Fail> {
+fn numbers_of(
+    alloc: Global,
+    text: &str,
+) -> Result<Result<(TailoringNumbers, usize), NumberingError>, Fail> {
     let root = LetterRoot;
     let rules = Rules::parse(alloc, text)?;
     let said = SymbolicTailoring::of_rules(alloc, &root, &rules)?;
     let made = said.tree().made();
-    Ok(TailoringNumbers::of_tree(alloc, &root, small_levels()?, said.tree()).map(|numbers| (numbers, made)))
+    Ok(TailoringNumbers::of_tree(alloc, &root, small_levels()?, said.tree()).map(|numbers| (
+        numbers, made,
+    )))
 }
 
 #[test]
@@ -56,7 +65,11 @@ fn numbers_of_rules(rt: HostRuntime) -> Result<(), Fail> {
 fn rules_without_room(rt: HostRuntime) -> Result<(), Fail> {
     for (text, level, weight) in FULL {
         let error = numbers_of(rt.alloc(), text)?.err();
-        assert_eq!(rt; error, Some(NumberingError::NoRoom { level, weight }), "{text}");
+        assert_eq!(rt;
+            error,
+            Some(NumberingError::NoRoom { level, weight }),
+            "{text}"
+        );
     }
     Ok(())
 }
