@@ -11,7 +11,7 @@ import crates
 
 DRIVER = "test_driver"
 # What says that a call may fail so, in the type that it returns.
-FAILURES = {"AllocError", "DataError", "LdmlError", "LineError", "ReadError", "RulesError", "SortKeyError", "TagError", "TailoringError",
+FAILURES = {"AllocError", "DataError", "LdmlError", "LineError", "ReadError", "RulesError", "SortKeyError", "TagError", "NumberingError", "TailoredEntriesError", "TailoringError",
             "XmlError"}
 # Errors that say so within another one, and such as no public call returns.
 WITHIN = {"DataErrorKind", "RuleStepError", "UnplacedError"}
@@ -26,13 +26,14 @@ METHOD = re.compile(r"(?:<[^(]*>)?\(\s*(?:&(?:'\w+ )?)?(?:mut )?self\b")
 VALUES = {"CollatorBorrowed": "as_borrowed"}
 # Programs, and crates of tests: what the driver asks about are libraries.
 OTHERS = {"collate", "collate_cldr", "collate_commands", "sort_names", "test_checked_root", "test_contracts", "test_readers",
-          "test_rule_steps", "test_types", DRIVER}
+          "test_rule_steps", "test_tailorings", "test_types", DRIVER}
 KEY, CHECK, FILE, READ, LINE, INDEX = "`key`", "`check`", "`root`", "`next` and `whole`", "`line`", "`names`"
 # Calls to which no question comes: each request of this program, or of this crate, is refused or tested by itself; some are run by
 # the tests of their own crates alone, without a refusal.
 PROGRAM, TYPES, TESTS = "the program `collate-cldr`", "`test_types`", "the crate's own tests, where no allocation is refused"
 READERS, RULES = "`test_readers`, where no allocation is refused", "`test_rule_steps`, where no allocation is refused"
 ROOTS = "`test_checked_root`, where no allocation is refused"
+TAILORINGS = "`test_tailorings`, where no allocation is refused"
 NAMES = "the program `sort_names`, each of whose requests is refused"
 SEARCHES = "the tests of `icu_text_search`, where no allocation is refused"
 # Calls that nothing makes: those on which no program stands yet (searching, the reader of steps), and one that hands tables
@@ -75,7 +76,13 @@ LEFT_OUT = {
     ("icu_symbolic_mappings", "Mappings::mapping_step"): RULES,
     ("icu_symbolic_mappings", "Mappings::suppression_step"): RULES,
     ("icu_symbolic_mappings", "Mappings::symbolic_elements"): RULES,
+    ("icu_symbolic_mappings", "Mappings::touched_characters"): TAILORINGS,
+    ("icu_symbolic_mappings", "Mappings::untouched"): TAILORINGS,
     ("icu_symbolic_mappings", "cased_elements"): RULES,
+    ("icu_symbolic_mappings", "mappings_behind"): TAILORINGS,
+    ("icu_tailored_entries", "tailored_data"): TAILORINGS,
+    ("icu_tailored_entries", "tailored_diacritics"): TAILORINGS,
+    ("icu_tailoring_numbers", "TailoringNumbers::of_tree"): TAILORINGS,
     ("icu_text_search", "FoundMatches::next"): TESTS,
     ("icu_text_search", "OverlappingMatches::next"): TESTS,
     ("icu_text_search", "SearchedText::find"): TESTS,
@@ -113,6 +120,7 @@ LEFT_OUT = {
     ("icu_weight_tree", "RuleElements::differ_by"): RULES,
     ("icu_weight_tree", "RuleElements::go_before_at"): RULES,
     ("icu_weight_tree", "RuleElements::go_before_by"): RULES,
+    ("icu_weight_tree", "WeightTreeBuilder::begun_parents"): TAILORINGS,
     ("icu_weight_tree", "WeightTreeBuilder::put_before"): RULES,
     ("icu_weight_tree", "WeightTreeBuilder::put_new_weight"): RULES,
     ("icu_weight_tree", "WeightTreeBuilder::put_weights"): RULES,

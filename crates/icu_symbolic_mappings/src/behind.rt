@@ -1,6 +1,6 @@
 //! Which mappings of a character count behind a context.
 
-ghost use Rattle.std.specs.Prelude.{◌≡◌, ◌∷◌, ◌++◌, [], bytes_eq, filter, if◌then◌else◌, IfOk, OnOk, not};
+ghost use Rattle.std.specs.Prelude.{◌≡◌, ◌∷◌, ◌++◌, [], bytes_eq, filter, if◌then◌else◌, IfOk, OnOk, map, not};
 ghost use Rattle.std.specs.List.{list_any};
 ghost use Rattle.icu_tailoring.specs.TailoredMappings.{beginnings, begin_suffix, mappings_behind, stands_after_prefix};
 ghost use Rattle.icu_symbolic_mappings.specs.StoredMappings.{symbolic_mapping, symbolic_mappings};
@@ -106,13 +106,15 @@ fn with_tier<'m>(
     Ok(own)
 }
 
-/// The mappings that count behind a context, nearest character first.
-pub(crate) fn mappings_behind<'m>(
+/// The mappings of a character that count behind a context, nearest character first: those of the longest prefix that
+/// begins it and has any. Where none of them is without a suffix, those of shorter prefixes count too, but for suffixes
+/// that begin with one of theirs (UTS #35 part 5, "Context-Sensitive Mappings").
+pub fn mappings_behind<'m>(
     alloc: Global,
     mappings: &'m [SymbolicMapping],
     before: &[char],
 ) -> Result<Vec<&'m SymbolicMapping>, AllocError>
-    ensures { IfOk result (λ found. lent_mappings found.items
+    ensures { IfOk result (λ found. map (λ m. symbolic_mapping m.now) found.items
         ≡ mappings_behind (symbolic_mappings mappings.now) (beginnings before.now)) }
 {
     let mut found = with_tier(alloc, mappings, &[], &[])?;

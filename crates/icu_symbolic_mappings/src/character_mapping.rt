@@ -15,3 +15,12 @@ pub struct CharacterMapping<E> {
 
 /// A mapping while rules are read.
 pub type SymbolicMapping = CharacterMapping<SymbolicElement>;
+
+/// A character that rules touched, with its mappings.
+#[derive(Debug, Clone, Copy)]
+pub struct TouchedCharacter<'m> {
+    /// The character.
+    pub character: char,
+    /// All its mappings.
+    pub mappings: &'m [SymbolicMapping],
+}

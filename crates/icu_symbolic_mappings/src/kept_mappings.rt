@@ -1,6 +1,6 @@
 //! The mappings of characters as they are while rules are read.
 
-ghost use Rattle.std.specs.Prelude.{◌≡◌, IfOk, OnOk, filter, true};
+ghost use Rattle.std.specs.Prelude.{◌≡◌, All, IfOk, IfSome, OnOk, filter, true};
 ghost use Rattle.icu_tailoring.specs.Rules.{have_character};
 ghost use Rattle.icu_tailoring.specs.Steps.{mapping_step, suppression_step};
 ghost use Rattle.icu_tailoring.specs.TailoredMappings.{has_no_context, is_mapping_of, with_mapping};
@@ -8,7 +8,7 @@ ghost use Rattle.icu_matches.specs.Texts.{unread};
 ghost use Rattle.icu_symbolic_mappings.specs.StoredMappings.{mapping_between, suppressed_at, symbolic_mapping, symbolic_mappings};
 ghost use Rattle.icu_symbolic_mappings.specs.inner.ReadByMappings.{ReadsCharacter};
 
-use crate::character_mapping::{CharacterMapping, SymbolicMapping};
+use crate::character_mapping::{CharacterMapping, SymbolicMapping, TouchedCharacter};
 use crate::reading::read_character;
 use crate::roots::{RootMappings, mappings_of_root};
 use icu_matches::Text;
@@ -112,8 +112,47 @@ impl<'r, R: RootMappings> Mappings<'r, R> {
         }
     }
 
-    /// The mappings of a character that no relation touched.
-    fn untouched(&self, alloc: Global, c: char) -> Result<Vec<SymbolicMapping>, AllocError>
+    /// A character with its mappings, if a relation touched it.
+    fn touched_character(&self, c: char) -> Option<TouchedCharacter<'_>>
+        ensures { IfSome result (λ t. mappings_in R.mappings_of self.now t.character
+            ≡ symbolic_mappings t.mappings.now) }
+    {
+        match self.touched.get(&c) {
+            Some(own) => Some(TouchedCharacter {
+                character: c,
+                mappings: own.as_slice(),
+            }),
+            None => None,
+        }
+    }
+
+    /// The characters that relations touched, ascending, each with its mappings.
+    pub fn touched_characters(&self, alloc: Global) -> Result<Vec<TouchedCharacter<'_>>, AllocError>
+        ensures { IfOk result (λ found. All (λ t. mappings_in R.mappings_of self.now t.character
+            ≡ symbolic_mappings t.mappings.now) found.items) }
+    {
+        let mut found = Vec::new(alloc);
+        for c in self.touched.keys() {
+            if let Some(touched) = self.touched_character(*c) {
+                found.push(touched)?;
+            }
+        }
+        Ok(found)
+    }
+
+    /// Whether a relation touched the character.
+    pub fn is_touched(&self, c: char) -> bool {
+        self.touched.contains_key(&c)
+    }
+
+    /// The ranges of characters that were to keep their mappings without a context alone.
+    pub fn suppressed(&self) -> &[CharacterRange] {
+        self.suppressed.as_slice()
+    }
+
+    /// The mappings of a character that no relation touched: those of the root, without those that have a context where
+    /// these were suppressed.
+    pub fn untouched(&self, alloc: Global, c: char) -> Result<Vec<SymbolicMapping>, AllocError>
         ensures { IfOk result (λ found.
             symbolic_mappings found.items ≡ untouched_mappings R.mappings_of self.now c) }
     {

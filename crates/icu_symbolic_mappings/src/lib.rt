@@ -2,7 +2,7 @@
 //! (UTS #35 part 5, "Collation Tailorings").
 #![tactic(auto)]
 
-mod behind;
+pub mod behind;
 pub mod character_mapping;
 pub mod kept_mappings;
 mod mark_joining;
@@ -11,7 +11,8 @@ mod reading;
 pub mod roots;
 pub mod string_cases;
 
-pub use character_mapping::{CharacterMapping, SymbolicMapping};
+pub use behind::mappings_behind;
+pub use character_mapping::{CharacterMapping, SymbolicMapping, TouchedCharacter};
 pub use kept_mappings::Mappings;
 pub use roots::{RootMappings, of_root};
 pub use string_cases::cased_elements;

@@ -5,3 +5,4 @@ mod TreeLoopLemmas
 mod CountingLemmas
 mod RuleStateLemmas
 mod PositionLemmas
+mod BegunParentLemmas

@@ -1,5 +1,5 @@
 -- The tree of weights, as lists of siblings that were begun.
-use Rattle.std.specs.Prelude.{Bool, List, [], ◌∷◌, Option, Some, None}
+use Rattle.std.specs.Prelude.{◌≡◌, ◌⊎◌, Bool, List, [], ◌∷◌, Option, Some, None}
 use Rattle.std.specs.Map.{lookup}
 use Rattle.icu_tailoring.specs.declared.symbolic.SymbolicWeight.{SymbolicWeight}
 use Rattle.icu_tailoring.specs.SymbolicElements.{are_same_weights}
@@ -27,3 +27,12 @@ begun_siblings above (Some siblings) = siblings.weights.items
 -- the tree that lists of siblings are of
 abbrev pub tree_in : List (Parents × Siblings) → WeightTree
 tree_in lists above = begun_siblings above (lookup (are_parents above) lists)
+
+-- these weights are among parents
+abbrev pub IsAmongParents : List SymbolicWeight → List Parents → Type 0
+IsAmongParents above [] = ⊥
+IsAmongParents above (parents ∷ others) = (parent_weights parents ≡ above) ⊎ IsAmongParents above others
+
+-- below all weights but these parents a tree has what it has before any rule
+abbrev pub AreBegun : WeightTree → List Parents → Type 0
+AreBegun tree begun = (above : List SymbolicWeight) → IsAmongParents above begun ⊎ (tree above ≡ first_tree above)

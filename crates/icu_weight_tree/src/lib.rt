@@ -4,7 +4,7 @@
 mod change;
 pub mod counting_elements;
 mod lists;
-mod parents;
+pub mod parents;
 pub mod positions;
 pub mod root_weights;
 pub mod rule_elements;
@@ -13,6 +13,7 @@ mod tailored_siblings;
 pub mod tree;
 
 pub use counting_elements::{counting_at, last_or_ignorable};
+pub use parents::Parents;
 pub use positions::position_element;
 pub use root_weights::RootWeights;
 pub use rule_elements::RuleElements;

@@ -1,8 +1,9 @@
 //! Lists of siblings by the weights below which they stand.
 ghost use Rattle.std.specs.Prelude.{◌≡◌, ◌≤◌, [], length, OnOk, IfOk};
+ghost use Rattle.std.specs.BTreeMap.{keys};
 ghost use Rattle.icu_tailoring.specs.SymbolicElements.{common_below};
 ghost use Rattle.icu_tailoring.specs.WeightTrees.{first_tree, with_siblings, directly_before};
-ghost use Rattle.icu_weight_tree.specs.BuiltTrees.{tree_in};
+ghost use Rattle.icu_weight_tree.specs.BuiltTrees.{tree_in, AreBegun};
 ghost use Rattle.icu_weight_tree.specs.inner.SiblingChanges.{changed};
 
 use crate::change::Change;
@@ -106,4 +107,19 @@ pub(crate) fn siblings_in<'a>(lists: &'a Lists, above: &[SymbolicWeight]) -> &'a
         Some(siblings) => siblings.as_slice(),
         None => first_list(above),
     }
+}
+
+/// The parents of the lists, ascending.
+fn parents_in(alloc: Global, lists: &Lists) -> Result<Vec<Parents>, AllocError>
+    ensures { IfOk result (λ begun. begun.items ≡ keys lists.now) }
+{
+    lists.keys().copied().collect(alloc)
+}
+
+/// The parents of the lists that were begun, ascending.
+pub(crate) fn begun_in(alloc: Global, lists: &Lists) -> Result<Vec<Parents>, AllocError>
+    ensures { IfOk result (λ begun. AreBegun (tree_in lists.now.entries) begun.items) }
+{
+    let begun = parents_in(alloc, lists)?;
+    Ok(begun)
 }

@@ -4,9 +4,10 @@ ghost use Rattle.icu_weight_tree.specs.BuiltTrees.{parent_weights};
 
 use icu_tailoring::SymbolicWeight;
 
-/// The weights of the levels before a level, of which there are three at most.
+/// The weights of the levels before a level, of which there are three at most. Those of a level ascend together, the
+/// primary level first.
 #[derive(Clone, Copy, Debug, PartialEq, Eq, PartialOrd, Ord)]
-pub(crate) enum Parents {
+pub enum Parents {
     /// None: primary weights stand below it.
     Nothing,
     /// A primary weight, below which secondary ones stand.

@@ -1,6 +1,7 @@
 //! The tree of weights while rules are read.
 use crate::change::Change;
-use crate::lists::{Lists, before_in, change_list, siblings_in};
+use crate::lists::{Lists, before_in, begun_in, change_list, siblings_in};
+use crate::parents::Parents;
 use crate::root_weights::RootWeights;
 use icu_tailoring::SymbolicWeight;
 use std::alloc::{AllocError, Global};
@@ -19,6 +20,7 @@ impl WeightTreeBuilder {
     ghost use Rattle.std.specs.Prelude.{◌≡◌, ◌≤◌, suc, [], length, OnOk, IfOk};
     ghost use Rattle.icu_tailoring.specs.WeightTrees.{first_tree, directly_before, with_weight, with_weights, with_new_weight};
     ghost use Rattle.icu_tailoring.specs.Steps.{with_lesser};
+    ghost use Rattle.icu_weight_tree.specs.BuiltTrees.{parent_weights, AreBegun};
     ghost use Rattle.icu_weight_tree.specs.TreeBuilders.{tree_of, made_of, tree_before, weight_in_front};
 
     /// The tree before any rule.
@@ -46,6 +48,25 @@ impl WeightTreeBuilder {
         ensures { result.now ≡ tree_of self.now above.now }
     {
         siblings_in(&self.lists, above)
+    }
+
+    /// The weights below parents, ascending.
+    pub fn siblings_below(&self, parents: Parents) -> &[SymbolicWeight]
+        ensures { result.now ≡ tree_of self.now (parent_weights parents) }
+    {
+        match parents {
+            Parents::Nothing => self.siblings(&[]),
+            Parents::Primary(p) => self.siblings(&[p]),
+            Parents::Secondary(p, s) => self.siblings(&[p, s]),
+            Parents::Tertiary(p, s, t) => self.siblings(&[p, s, t]),
+        }
+    }
+
+    /// The parents below which rules put weights, ascending. Below all others stands what stands there before any rule.
+    pub fn begun_parents(&self, alloc: Global) -> Result<Vec<Parents>, AllocError>
+        ensures { IfOk result (λ begun. AreBegun (tree_of self.now) begun.items) }
+    {
+        begun_in(alloc, &self.lists)
     }
 
     /// The weight directly before another one, below the weights of the levels before.

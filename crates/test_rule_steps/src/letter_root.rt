@@ -1,12 +1,12 @@
 //! A small root: letters and digits of ASCII, marks, two letters of Cyrillic, an ideograph and a character without a
 //! weight of its own.
-ghost use Rattle.std.specs.Prelude.{◌≡◌, ◌==◌, ◌∷◌, [], None, map, if◌then◌else◌, IfOk};
+ghost use Rattle.std.specs.Prelude.{◌≡◌, ◌≤◌, ◌+◌, ◌==◌, ◌∷◌, [], None, map, if◌then◌else◌, IfOk};
 ghost use Rattle.icu_tailoring.specs.declared.symbolic.SymbolicWeight.TheVariants.{Rooted};
 ghost use Rattle.icu_tailoring.specs.SymbolicElements.{ends_with_zero, is_same_weight};
 ghost use Rattle.icu_tailoring.specs.TailoredRoots.{first_above, last_below, lowest_below};
 ghost use Rattle.icu_tailoring.specs.RootPositions.{last_number};
 ghost use Rattle.icu_symbolic_mappings.specs.StoredMappings.{root_mapping};
-ghost use Rattle.test_rule_steps.specs.LetterRoots.{is_own_primary, letter_below, letter_element, letter_mapping, letter_weights};
+ghost use Rattle.test_rule_steps.specs.LetterRoots.{has_own_primary, letter_below, letter_element, letter_mapping, letter_primary, letter_weights};
 
 use icu_entries::CollationElement;
 use icu_symbolic_mappings::{CharacterMapping, RootMappings};
@@ -20,17 +20,56 @@ pub struct LetterRoot;
 
 /// The primary weights, with those that begin groups, which are of no text.
 const PRIMARIES: [u32; 42] = [
-    0x2C, 0x2D, 0x30, 0x31, 0x32, 0x33, 0x34, 0x35, 0x36, 0x37, 0x38, 0x39, 0x61, 0x62, 0x63, 0x64,
-    0x65, 0x66, 0x67, 0x68, 0x69, 0x6A, 0x6B, 0x6C, 0x6D, 0x6E, 0x6F, 0x70, 0x71, 0x72, 0x73, 0x74,
-    0x75, 0x76, 0x77, 0x78, 0x79, 0x7A, 0x438, 0x439, 0x4DFF, 0x4E00,
+    0x0558_0000,
+    0x055A_0000,
+    0x4060_0000,
+    0x4062_0000,
+    0x4064_0000,
+    0x4066_0000,
+    0x4068_0000,
+    0x406A_0000,
+    0x406C_0000,
+    0x406E_0000,
+    0x4070_0000,
+    0x4072_0000,
+    0x61C2_0000,
+    0x61C4_0000,
+    0x61C6_0000,
+    0x61C8_0000,
+    0x61CA_0000,
+    0x61CC_0000,
+    0x61CE_0000,
+    0x61D0_0000,
+    0x61D2_0000,
+    0x61D4_0000,
+    0x61D6_0000,
+    0x61D8_0000,
+    0x61DA_0000,
+    0x61DC_0000,
+    0x61DE_0000,
+    0x61E0_0000,
+    0x61E2_0000,
+    0x61E4_0000,
+    0x61E6_0000,
+    0x61E8_0000,
+    0x61EA_0000,
+    0x61EC_0000,
+    0x61EE_0000,
+    0x61F0_0000,
+    0x61F2_0000,
+    0x61F4_0000,
+    0x6210_0000,
+    0x6212_0000,
+    0x7E02_0200,
+    0xF004_0200,
 ];
 
 /// The secondary weights of what has no primary one.
-const MARKS: [u32; 2] = [0x8300, 0x8301];
+const MARKS: [u32; 2] = [0x8300, 0x8500];
 
 /// The weights below a primary one.
 fn below_primary(p: u32) -> &'static [u32]
-    ensures { result.now ≡ (if p == 0 then 0x8300 ∷ 0x8301 ∷ [] else 0x500 ∷ []) }
+    ensures { result.now ≡ (if p == 0 then 0x8300 ∷ 0x8500 ∷ [] else 0x500 ∷ []) }
 {
     if p == 0 { &MARKS } else { &[0x500] }
 }
@@ -172,25 +211,45 @@ impl RootWeights for LetterRoot {
 
     #[tactic(auto, unfolding(crate::specs::LetterRoots::letter_weights))]
     fn first_primary(&self) -> u32 {
-        0x2C
+        0x0558_0000
     }
 
     fn last_variable(&self) -> u32 {
-        0x2D
+        0x055A_0000
     }
 
     fn last_regular(&self) -> u32 {
-        0x4DFF
+        0x7E02_0200
     }
 
     fn first_implicit(&self) -> u32 {
-        0x4E00
+        0xF004_0200
     }
 }
 
-/// Whether a character is its own primary weight.
-fn is_own_primary(c: char) -> bool
-    ensures { result ≡ is_own_primary c }
+/// The primary weight of a character that has one.
+fn primary_of(c: char) -> u32
+    ensures { result ≡ letter_primary c }
+{
+    let code = c as u32;
+    if code < 0x30 {
+        0x0500_0000 + code * 0x2_0000
+    } else if code < 0x40 {
+        0x4000_0000 + code * 0x2_0000
+    } else if code < 0x80 {
+        0x6100_0000 + code * 0x2_0000
+    } else if code == 0x438 {
+        0x6210_0000
+    } else if code == 0x439 {
+        0x6212_0000
+    } else {
+        0xF004_0200
+    }
+}
+
+/// Whether a character has a primary weight, and is no capital.
+fn has_own_primary(c: char) -> bool
+    ensures { result ≡ has_own_primary c }
 {
     c == '-'
         || ('1' <= c && c <= '9')
@@ -199,19 +258,28 @@ fn is_own_primary(c: char) -> bool
         || c == '\u{4E00}'
 }
 
+/// The primary weight of a capital: that of its small letter.
+fn capital_primary(c: char) -> u32
+    requires small { c ≤ 0x5A }
+    requires great { 0x41 ≤ c }
+    ensures { result ≡ letter_primary (c + 32) }
+{
+    0x6100_0000 + (c as u32 + 32) * 0x2_0000
+}
+
 /// The element of a character alone.
 #[tactic(auto, unfolding(crate::specs::LetterRoots::letter_element))]
 fn element_of(c: char) -> CollationElement
     ensures { result ≡ letter_element c }
 {
-    if is_own_primary(c) {
-        CollationElement::new_from_primary(c as u32)
+    if has_own_primary(c) {
+        CollationElement::new_from_primary(primary_of(c))
     } else if 'A' <= c && c <= 'Z' {
-        CollationElement::from_weights(c as u32 + 32, 0x500, 0x9C00)
+        CollationElement::from_weights(capital_primary(c), 0x500, 0x9C00)
     } else if c == '\u{300}' {
         CollationElement::new_from_secondary(0x8300)
     } else if c == '\u{301}' {
-        CollationElement::new_from_secondary(0x8301)
+        CollationElement::new_from_secondary(0x8500)
     } else if c == '\u{378}' {
         CollationElement::new_from_primary(0xFE00_0378)
     } else {
@@ -259,7 +327,7 @@ impl RootMappings for LetterRoot {
     ) -> Result<Vec<CharacterMapping<CollationElement>>, AllocError> {
         let mut found = lone_mapping(alloc, c)?;
         if c == '\u{438}' {
-            let joined = CollationElement::new_from_primary(0x439);
+            let joined = CollationElement::new_from_primary(primary_of('\u{439}'));
             found.insert(0, mapping(alloc, &['\u{306}'], joined)?)?;
             return Ok(found);
         }

@@ -1,0 +1,106 @@
+//! The secondary weights of diacritics under a tailoring.
+
+use crate::error::TailoredEntriesError;
+use icu_entries::CollationElement;
+use icu_symbolic_mappings::{Mappings, RootMappings, SymbolicMapping, TouchedCharacter};
+use icu_tailoring_numbers::TailoringNumbers;
+use std::alloc::Global;
+
+/// The first character of the table of diacritics.
+const FIRST: u32 = 0x300;
+
+/// The common weights below a secondary one.
+const COMMON: u16 = 0x0500;
+
+/// Whether the character stands in the prefix of one of these mappings.
+fn stands_in_prefix(mappings: &[SymbolicMapping], c: char) -> bool {
+    for mapping in mappings {
+        for other in &mapping.prefix {
+            if *other == c {
+                return true;
+            }
+        }
+    }
+    false
+}
+
+/// Whether the character stands in the prefix of a mapping of one of these characters.
+fn stands_before(touched: &[TouchedCharacter<'_>], c: char) -> bool {
+    for other in touched {
+        if stands_in_prefix(other.mappings, c) {
+            return true;
+        }
+    }
+    false
+}
+
+/// The mappings of a character among those that relations touched.
+fn own_mappings<'m>(touched: &[TouchedCharacter<'m>], c: char) -> Option<&'m [SymbolicMapping]> {
+    for other in touched {
+        if other.character == c {
+            return Some(other.mappings);
+        }
+    }
+    None
+}
+
+/// The secondary weight of an element that has nothing else of its own.
+fn lone_secondary(element: CollationElement) -> Option<u16> {
+    if element.primary() == 0 && element.secondary() != 0 && element.lower() == COMMON {
+        Some(element.secondary())
+    } else {
+        None
+    }
+}
+
+/// The secondary weight of a character that has nothing else by these mappings.
+fn secondary_by(numbers: &TailoringNumbers, own: &[SymbolicMapping]) -> Option<u16> {
+    match own {
+        [mapping] => match mapping.elements.as_slice() {
+            [element] => lone_secondary(numbers.element(*element)?),
+            _ => None,
+        },
+        _ => None,
+    }
+}
+
+/// The secondary weight of a diacritic: the root's, or that of its own mapping. `None` where it needs more than that.
+fn tailored_secondary(
+    touched: &[TouchedCharacter<'_>],
+    numbers: &TailoringNumbers,
+    c: char,
+    secondary: u16,
+) -> Option<u16> {
+    if stands_before(touched, c) {
+        return None;
+    }
+    match own_mappings(touched, c) {
+        Some(own) => secondary_by(numbers, own),
+        None => Some(secondary),
+    }
+}
+
+/// The secondary weights of diacritics from U+0300 on, where the root's table has these: up to the first that has
+/// something else than a secondary weight by the rules, or that stands in a prefix. Those behind it are looked up as
+/// other characters are.
+pub fn tailored_diacritics<R: RootMappings>(
+    alloc: Global,
+    root: &[u16],
+    numbers: &TailoringNumbers,
+    mappings: &Mappings<'_, R>,
+) -> Result<Vec<u16>, TailoredEntriesError> {
+    let touched = mappings.touched_characters(alloc)?;
+    let mut found = Vec::new(alloc);
+    let mut code = FIRST;
+    for secondary in root {
+        let Some(c) = char::from_u32(code) else {
+            return Ok(found);
+        };
+        code = code.saturating_add(1);
+        match tailored_secondary(touched.as_slice(), numbers, c, *secondary) {
+            Some(own) => found.push(own)?,
+            None => return Ok(found),
+        }
+    }
+    Ok(found)
+}

@@ -1,0 +1,13 @@
+//! The entries of a tailoring, from the mappings of characters and the numbers of tailored weights.
+#![tactic(auto)]
+
+mod contexts;
+mod decimal_digits;
+mod elements;
+pub mod error;
+pub mod kept_diacritics;
+pub mod tailored_lists;
+
+pub use error::TailoredEntriesError;
+pub use kept_diacritics::tailored_diacritics;
+pub use tailored_lists::tailored_data;

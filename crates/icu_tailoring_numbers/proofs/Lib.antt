@@ -1,0 +1,5 @@
+mod AscendingNumberLemmas
+mod NumberingLemmas
+mod KeptNeighbourLemmas
+mod ElementBits
+mod NumberedElementLemmas

@@ -1,0 +1,4 @@
+pub mod Numberings
+pub mod RootNeighbours
+pub mod inner
+pub mod NumberedElements
