@@ -24,7 +24,7 @@ returns-clause-ok c =
     let is = c.as_slice.ensures.value ∙ (c.in_ok-write_key.ensures ∙ ap (λ bs. bs ++ key_of collation c.args.name.now) c.clear.ensures.items) in
     on_ok_weaker c.insert.result
     (λ (h : keyed_names c.insert.new.self ≡ placed (c.as_slice.result.now, c.args.name.now) (keyed_names self.names)).
-        ap names_in h
-        ∙ placed_is_inserted (name_order collation) (key_of collation) (names_keep self.collator c.has_well_formed_tables.ensures)
-        c.args.name.now c.as_slice.result.now is (keyed_names self.names) self.keyed)
+    ap names_in h
+    ∙ placed_is_inserted (name_order collation) (key_of collation) (names_keep self.collator c.has_well_formed_tables.ensures)
+    c.args.name.now c.as_slice.result.now is (keyed_names self.names) self.keyed)
     c.insert.ensures.ok
