@@ -136,13 +136,22 @@ fn difference_of(word: &str) -> Option<Difference> {
     }
 }
 
-/// The strengths of the four levels.
-const LEVEL_STRENGTHS: [Strength; 4] = [
-    Strength::Primary,
-    Strength::Secondary,
-    Strength::Tertiary,
-    Strength::Quaternary,
-];
+/// The order of two texts at a strength, by what else the collator has. `None` where there is no such collator.
+fn order_at(
+    collator: &CollatorBorrowed<'_>,
+    strength: Strength,
+    left: &str,
+    right: &str,
+) -> Option<Ordering> {
+    let options = CollatorOptions {
+        strength: Some(strength),
+        ..CollatorOptions::default()
+    };
+    match collator.with_options(CollatorPreferences::default(), options) {
+        Some(by) => Some(by.order(left, right)),
+        None => None,
+    }
+}
 
 /// How a text differs from one behind it. `None` where it isn't less.
 fn found_difference(
@@ -150,14 +159,14 @@ fn found_difference(
     left: &str,
     right: &str,
 ) -> Option<Difference> {
-    for (i, strength) in LEVEL_STRENGTHS.iter().enumerate() {
-        let options = CollatorOptions {
-            strength: Some(*strength),
-            ..CollatorOptions::default()
-        };
-        let by = collator.with_options(CollatorPreferences::default(), options)?;
-        match by.order(left, right) {
-            Ordering::Less => return Some(Difference::At(i + 1)),
+    for (level, strength) in [
+        (1, Strength::Primary),
+        (2, Strength::Secondary),
+        (3, Strength::Tertiary),
+        (4, Strength::Quaternary),
+    ] {
+        match order_at(collator, strength, left, right)? {
+            Ordering::Less => return Some(Difference::At(level)),
             Ordering::Greater => return None,
             Ordering::Equal => {}
         }
