@@ -54,12 +54,8 @@ impl NumberDigits {
         if len == 0 && digit == 0 {
             return;
         }
-        let mut digits = self.digits;
-        digits[len] = digit;
-        *self = NumberDigits {
-            digits,
-            len: len + 1,
-        };
+        self.digits[len] = digit;
+        self.len = len + 1;
     }
 
     /// All digits.

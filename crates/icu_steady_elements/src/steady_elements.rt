@@ -3,7 +3,8 @@
 ghost use Rattle.std.specs.Prelude.{◌≡◌, ◌<◌, ◌++◌, [], None, false, IfSome, length, option_to_list, MatchBool};
 ghost use Rattle.unicode_normalization.specs.Forms.{nfd};
 ghost use Rattle.icu_elements.specs.Reading.{reading_of};
-ghost use Rattle.icu_elements.specs.TextElements.{elements_of};
+ghost use Rattle.icu_elements.specs.LastChars.{recent_chars};
+ghost use Rattle.icu_elements.specs.TextElements.{elements_after, elements_of};
 
 use crate::final_elements::FinalElements;
 use crate::run_digits::{read_number, take_digit};
@@ -32,10 +33,18 @@ impl<'d, T: CountedText> SteadyElements<'d, T> {
         ensures { elements_left T.EncodedText.text result
             ≡ elements_of (reading_of reading.entry) (nfd (T.EncodedText.text text)) }
     {
+        SteadyElements::after(RecentChars::new(), text, reading)
+    }
+
+    /// All elements of a text that stands after these characters, which prefixes look back at.
+    pub fn after(recent: RecentChars, text: T, reading: TextReading<'d>) -> SteadyElements<'d, T>
+        ensures { elements_left T.EncodedText.text result ≡ elements_after
+            (reading_of reading.entry) (recent_chars recent) (nfd (T.EncodedText.text text)) }
+    {
         SteadyElements {
             reading,
             place: SteadyPlace {
-                recent: RecentChars::new(),
+                recent,
                 text: MatchableText::new(text),
             },
             given: StepElements::Final(FinalElements::Ended),

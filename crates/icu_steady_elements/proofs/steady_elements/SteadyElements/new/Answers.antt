@@ -1,9 +1,9 @@
-use Rattle.std.proofs.Common.{ap₂}
+use Rattle.std.proofs.Common.{ap, ◌∙◌}
+use Rattle.unicode_normalization.specs.Forms.{nfd}
 use Rattle.icu_elements.specs.Reading.{reading_of}
 use Rattle.icu_elements.specs.TextElements.{elements_after}
-use Rattle.icu_steady_elements.specs.SteadyElements.{elements_left}
 use Rattle.icu_steady_elements.proofs.steady_elements.SteadyElements.new.Goals as goal
 
 pub returns : goal.returns
-unfolding elements_left
-returns g c = ap₂ (elements_after (reading_of c.args.reading)) c.new.ensures c.new-2.ensures.unread
+returns g c =
+    c.after.ensures ∙ ap (λ before. elements_after (reading_of c.args.reading) before (nfd (g.T.EncodedText.text c.args.text))) c.new.ensures
