@@ -113,34 +113,41 @@ NOTHING_FOR = [
         ("slice 2000 c AC01*3E8", "ok "),
     ]),
 ]
-# A text that is read with what follows it: to hold that, something is allocated.
-PIECES = ("pieces", TERTIARY, [("compare c 62 E1 323 , c 62 1EA1", "Greater")])
-# How many letters stand in two texts behind what is read together, by which the allocations must not grow.
-FEW, MANY = 10, 1_000
+# How many marks stand in one run of a text, and how many letters behind it.
+MANY = 1_000
 
 
-def behind_a_piece(count):
-    """Calls on texts with pieces that are read together and end before so many letters."""
-    letters = f"61*{count:X}"
+def of_pieces():
+    """Calls on texts of which characters are read together: in few and in many, before few and many others."""
+    letters, marks = f"61*{MANY:X}", f"301*{MANY:X}"
     return [
+        ("compare c 62 E1 323 , c 62 1EA1", "Greater"),
         (f"compare c 62 E1 323 {letters} , c 62 1EA1 {letters} 62", "Less"),
         (f"compare 16 62 E1 323 {letters} 62 , 16 62 1EA1 {letters} 63", "Less"),
         (f"compare 8 62 C3 A1 CC A3 {letters} 62 , 8 62 E1 BA A1 {letters} 63", "Less"),
         (f"compare c E1 323 {letters} E1 323 , c 1EA1 {letters} 1EA1", "Greater"),
-        (f"slice 2000 c E1 323 {letters}", "ok "),
+        (f"compare c 61 {marks} 323 62 , c 61 323 {marks} 63", "Less"),
     ]
 
 
-def one_piece(count):
-    """A call on texts that are one piece, of a letter and so many marks: what is allocated for it grows."""
-    return [(f"compare c 61 301*{count:X} 323 62 , c 61 323 301*{count:X} 63", "Less")]
+def of_rows():
+    """For each collator of the rows on comparisons without memory: the base, what makes it, and the questions with their answers."""
+    found = []
+    for question, wanted in questions_of("without_memory"):
+        if question.startswith("base "):
+            found.append([question, "", []])
+        elif question.startswith("make "):
+            found[-1][1] = question
+        else:
+            found[-1][2].append((question, wanted))
+    return found
 
 
-def allocated(shim, program, made, calls):
+def allocated(shim, program, made, calls, base="base Mini"):
     """How much more is allocated where each call is made `MORE` times in place of once, and what is wrong with the answers."""
     counts, faults = [], []
     for times in (ONCE, MORE):
-        asked = ["base Mini", made, f"times {times}", *(question for question, _ in calls)]
+        asked = [base, made, f"times {times}", *(question for question, _ in calls)]
         ran = run(program, [], given_by(asked), shim=shim)
         answers = ran.output.decode().split("\n")[3:-1]
         right = len(answers) == len(calls) and all(it.startswith(wanted) for it, (_, wanted) in zip(answers, calls))
@@ -150,22 +157,17 @@ def allocated(shim, program, made, calls):
 
 
 def faults_of_allocations(shim, program):
-    """What is wrong with how much is allocated: nothing is, but for pieces."""
+    """What is wrong with how much is allocated: no comparison allocates, and no key of these."""
     found = []
-    for what, made, calls in NOTHING_FOR:
-        more, faults = allocated(shim, program, made, calls)
+    of_all = [*NOTHING_FOR, ("pieces", TERTIARY, of_pieces())]
+    asked = [(what, "base Mini", made, calls) for what, made, calls in of_all]
+    asked += [(f"rows of {base}, {made}", base, made, calls) for base, made, calls in of_rows()]
+    for what, base, made, calls in asked:
+        more, faults = allocated(shim, program, made, calls, base)
         found += faults + [f"{what}: {more} allocations in {MORE - ONCE} rounds of calls"] * (more != 0)
-    more, faults = allocated(shim, program, *PIECES[1:])
-    found += faults + ["no allocation is seen for pieces"] * (more <= 0)
-    return found + faults_of_growth(shim, program)
-
-
-def faults_of_growth(shim, program):
-    """What is wrong with how much more is allocated for a longer text: nothing more where its pieces are bounded."""
-    (few, faults), (many, others) = (allocated(shim, program, TERTIARY, behind_a_piece(it)) for it in (FEW, MANY))
-    found = faults + others + [f"pieces: {few} allocations with {FEW} letters, {many} with {MANY}"] * (few != many or few <= 0)
-    (few, faults), (many, others) = (allocated(shim, program, TERTIARY, one_piece(it)) for it in (FEW, MANY))
-    return found + faults + others + ["no growth is seen for a piece that grows"] * (many <= few)
+    # a key of four levels is held: what is counted here is seen
+    more, faults = allocated(shim, program, TERTIARY, [(f"slice 2000 c E1*{MANY:X}", "ok ")])
+    return found + faults + ["no allocation is seen for a long key"] * (more <= 0)
 
 
 # ---- the checks, and a fault that is planted
@@ -195,7 +197,6 @@ def check_refusals(report, shim, program):
             named = named_tables(outcomes)
             faults = [] if named == NAMED_TABLES else [f"{named}; wanted: {NAMED_TABLES}"]
             report.say("refused memory: the tables that refusals name", faults, len(outcomes))
-    runs = 2 * len([*NOTHING_FOR, PIECES]) + 8
-    report.say("refused memory: nothing is allocated for texts that are the same, beginnings, ends, names and syllables",
-               faults_of_allocations(shim, program), runs)
+    runs = 2 * (len(NOTHING_FOR) + len(of_rows()) + 2)
+    report.say("refused memory: no comparison allocates, and no key of names and syllables", faults_of_allocations(shim, program), runs)
     report.say("refused memory: another answer after a refusal is found", other_answers_missed(shim, program), 1)

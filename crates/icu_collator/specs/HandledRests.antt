@@ -1,13 +1,14 @@
 -- What is left of elements that variable weighting handles one by one.
 use Rattle.std.specs.Prelude.{ℕ, List, map}
 use Rattle.icu_encodings.specs.declared.encoded_text.EncodedText.{Ghosts}
+use Rattle.icu_cursor.specs.declared.first_chars.FirstChars.{FirstChars}
 use Rattle.icu_cursor.specs.Cursors.{cursor_gives}
 use Rattle.icu_weighting.specs.Handled.{HandledElement, stayed}
 use Rattle.icu_collator.specs.declared.handled.HandledElements.{HandledElements}
 use Rattle.icu_collator.specs.declared.handled.HandledText.{HandledText}
 use Rattle.icu_collator.specs.declared.handled.PlainText.{PlainText}
 use Rattle.icu_collator.specs.declared.steady_text.SteadyText.{SteadyText}
-use Rattle.icu_steady_elements.specs.SteadyElements.{elements_left}
+use Rattle.icu_cursor.specs.SteadyCursors.{steady_gives}
 use Rattle.icu_weighting.specs.VariableWeightings.{handled_after}
 
 -- the handled elements that are still to come
@@ -22,6 +23,6 @@ handled_to_come text h = handled_after h.weighting (cursor_gives text h.elements
 abbrev pub plain_to_come : {T : Type 0} → (T → List ℕ) → PlainText T → List HandledElement
 plain_to_come text p = map stayed (cursor_gives text p.elements)
 
--- the handled elements that are still to come of a text that is read without memory
-abbrev pub steady_to_come : {T : Type 0} {encoded : Ghosts T} → (T → List ℕ) → SteadyText T encoded → List HandledElement
-steady_to_come text s = handled_after s.weighting (elements_left text s.elements)
+-- the handled elements that are still to come of a text, where a cursor gives its elements that never stops
+abbrev pub steady_to_come : {T : Type 0} {encoded : Ghosts (FirstChars T)} → (T → List ℕ) → SteadyText T encoded → List HandledElement
+steady_to_come text s = handled_after s.weighting (steady_gives text s.elements)

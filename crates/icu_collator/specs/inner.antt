@@ -5,3 +5,4 @@ pub mod ElementOrders
 pub mod FirstPrimaries
 pub mod InStep
 pub mod FactsInStep
+pub mod KeyElements

@@ -22,7 +22,8 @@ ghost use Rattle.icu_facts.specs.FactsTables.{AreFacts};
 ghost use Rattle.icu_facts.specs.BoundaryTables.{boundary_reading};
 ghost use Rattle.unicode_normalization.specs.Forms.{nfd};
 
-use crate::handled::{HandledElements, HandledText, PlainText};
+use crate::handled::{HandledText, PlainText};
+use crate::key_text::{HandledKeyText, PlainKeyText};
 use crate::steady_text::SteadyText;
 use icu_checks::CheckedTables;
 use icu_cursor::{
@@ -270,7 +271,8 @@ pub struct CollatorBorrowed<'a> {
 
 impl<'a> CollatorBorrowed<'a> {
     ghost use Rattle.icu_collator.specs.Collators.{collation_borrowed, settings_borrowed, tables_borrowed};
-    ghost use Rattle.icu_collator.specs.HandledRests.{handled_rest, handled_to_come, plain_to_come, steady_to_come};
+    ghost use Rattle.icu_collator.specs.HandledRests.{handled_to_come, plain_to_come, steady_to_come};
+    ghost use Rattle.icu_collator.specs.inner.KeyElements.{handled_for_key, plain_for_key};
 
     /// The settings that the collator works by.
     pub fn resolved_options(&self) -> ResolvedCollatorOptions
@@ -333,15 +335,6 @@ impl<'a> CollatorBorrowed<'a> {
         self.form
     }
 
-    /// The elements of a text as the collation handles variable ones (UTS #10, "Variable Weighting").
-    pub(crate) fn handled<'e>(&self, elements: &'e [CollationElement]) -> HandledElements<'e>
-        ensures { handled_rest result
-            ≡ handled_elements (collation_borrowed self.now) false elements.entry.now }
-    {
-        let handling = self.settings.alternate_handling();
-        HandledElements::new(elements, handling, self.last_variable())
-    }
-
     /// The last primary weight of the groups that are variable, or 0 where none is.
     pub(crate) fn last_variable(&self) -> u32
         ensures { result ≡ last_variable_by (collation_borrowed self.now) }
@@ -379,20 +372,6 @@ impl<'a> CollatorBorrowed<'a> {
         self.kept_facts.work_out(&places, c)
     }
 
-    /// The elements of a text.
-    pub(crate) fn elements<T: EncodedText>(
-        &self,
-        text: T,
-    ) -> Result<Vec<CollationElement>, AllocError>
-        ensures { let reading = reading_by (collation_borrowed self.now) in
-            IfOk result (λ es. es.items ≡ elements_of reading (nfd (T.text text))) }
-    {
-        all_elements(
-            text_reading(self.tables, self.settings),
-            Characters::new(text),
-        )
-    }
-
     /// What texts are read by: an `ElementCursor` over these tables gives the collation elements of a text, one by one,
     /// as the comparison reads them, by what is kept of each character (UTS #10, "Produce Collation Element Arrays").
     /// Make them once for many texts.
@@ -408,7 +387,7 @@ impl<'a> CollatorBorrowed<'a> {
 
     /// Reads the elements of a text, as the collation handles variable ones.
     #[inline(always)]
-    pub(crate) fn handled_text<'c, T: EncodedText>(
+    pub(crate) fn handled_text<'c, T: CountedText>(
         &self,
         tables: &'c CursorTables<'a>,
         text: T,
@@ -427,7 +406,7 @@ impl<'a> CollatorBorrowed<'a> {
 
     /// Reads the elements of a text, where none is variable.
     #[inline(always)]
-    pub(crate) fn plain_text<'c, T: EncodedText>(
+    pub(crate) fn plain_text<'c, T: CountedText>(
         &self,
         tables: &'c CursorTables<'a>,
         text: T,
@@ -440,13 +419,56 @@ impl<'a> CollatorBorrowed<'a> {
         PlainText::new(ElementCursor::new(tables, text))
     }
 
-    /// Reads the elements of a text without memory, as the collation handles variable ones.
-    pub(crate) fn steady_text<T: CountedText>(&self, text: T) -> SteadyText<'a, T>
-        ensures { steady_to_come T.EncodedText.text result
-            ≡ handled_by (collation_borrowed self.now) (nfd (T.EncodedText.text text)) }
+    /// Reads the elements of a text, whatever pieces it has, as the collation handles variable ones.
+    pub(crate) fn steady_text<'c, T: CountedText>(
+        &self,
+        tables: &'c CursorTables<'a>,
+        text: T,
+    ) -> SteadyText<'c, 'a, T>
+        requires { cursor_reading tables.now ≡ reading_by (collation_borrowed self.now) }
+        ensures { steady_to_come T.text result
+            ≡ handled_by (collation_borrowed self.now) (nfd (T.text text)) }
     {
-        let reading = text_reading(self.tables, self.settings);
         let handling = self.settings.alternate_handling();
-        SteadyText::new(text, reading, handling, self.last_variable())
+        SteadyText::new(
+            ElementCursor::new(tables, text),
+            handling,
+            self.last_variable(),
+        )
+    }
+
+    /// Reads the elements of a text for its key, as the collation handles variable ones.
+    #[inline(always)]
+    pub(crate) fn handled_key_text<'c, T: CountedText>(
+        &self,
+        tables: &'c CursorTables<'a>,
+        text: T,
+    ) -> HandledKeyText<'c, 'a, T>
+        requires { cursor_reading tables.now ≡ reading_by (collation_borrowed self.now) }
+        ensures { handled_for_key T.text result
+            ≡ handled_by (collation_borrowed self.now) (nfd (T.text text)) }
+    {
+        let handling = self.settings.alternate_handling();
+        HandledKeyText::new(
+            self.tables.allocator(),
+            ElementCursor::new(tables, text),
+            handling,
+            self.last_variable(),
+        )
+    }
+
+    /// Reads the elements of a text for its key, where none is variable.
+    #[inline(always)]
+    pub(crate) fn plain_key_text<'c, T: CountedText>(
+        &self,
+        tables: &'c CursorTables<'a>,
+        text: T,
+    ) -> PlainKeyText<'c, 'a, T>
+        requires reading { cursor_reading tables.now ≡ reading_by (collation_borrowed self.now) }
+        requires plain { last_variable_by (collation_borrowed self.now) ≡ 0 }
+        ensures { plain_for_key T.text result
+            ≡ handled_by (collation_borrowed self.now) (nfd (T.text text)) }
+    {
+        PlainKeyText::new(self.tables.allocator(), ElementCursor::new(tables, text))
     }
 }

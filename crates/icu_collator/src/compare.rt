@@ -1,4 +1,4 @@
-//! The order of texts. No call fails: where an allocation does, `steady_order` goes on without memory.
+//! The order of texts. No call fails, and none allocates.
 
 ghost use Rattle.std.specs.Prelude.{◌≡◌, chars};
 ghost use Rattle.icu_encodings.specs.DecodedTexts.{latin1_text, utf16_text, utf8_text};
@@ -24,7 +24,7 @@ impl<'a> CollatorBorrowed<'a> {
     /// tertiary weights, quaternary weights, and the characters of the decomposed texts, as far as the settings name
     /// these levels. It is the dictionary order of the two texts' sort keys.
     ///
-    /// The call never fails. Where an allocation does, the rest of the texts' order is found without memory, slower.
+    /// The call never fails, and allocates nothing.
     pub fn order(&self, left: &str, right: &str) -> Ordering
         ensures order { result ≡ text_order (collation_borrowed self.now)
             (chars left.now) (chars right.now) }

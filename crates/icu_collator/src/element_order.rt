@@ -11,13 +11,11 @@ ghost use Rattle.unicode_normalization.specs.Forms.{nfd};
 
 use crate::collator::CollatorBorrowed;
 use crate::forward_levels::Level;
+use crate::handled::ComparedSource;
 use crate::in_step::{compare_from_difference, compare_in_step};
-use crate::segments::{TwoReaders, compare_segments};
+use icu_cursor::LongPiece;
 use icu_decomposed_text::CountedText;
-use icu_encodings::EncodedText;
 use icu_levels::forms::{SecondaryForm, TertiaryForm};
-use icu_weighting::HandledSource;
-use std::alloc::AllocError;
 use std::cmp::Ordering;
 
 impl<'a> CollatorBorrowed<'a> {
@@ -42,7 +40,7 @@ impl<'a> CollatorBorrowed<'a> {
         let mut other = self.handled_text(&tables, right);
         match level.compare(&mut one, &mut other) {
             Ok(order) => order,
-            Err(AllocError) => self.compare_steady_level(level, left, right),
+            Err(LongPiece) => self.compare_steady_level(level, left, right),
         }
     }
 
@@ -59,44 +57,8 @@ impl<'a> CollatorBorrowed<'a> {
                 left,
                 right,
             ),
-            Some(SecondaryForm::Backward) => self.compare_backward_secondaries(left, right),
+            Some(SecondaryForm::Backward) => self.compare_steady_segments(left, right),
         }
-    }
-
-    /// The order of the secondary weights, backward.
-    fn compare_backward_secondaries<L: CountedText, R: CountedText>(
-        &self,
-        left: L,
-        right: R,
-    ) -> Ordering
-        ensures { let collation = collation_borrowed self.now in
-            result ≡ segments_order (lists_by collation (nfd (L.text left))).segments
-            (lists_by collation (nfd (R.text right))).segments }
-    {
-        match self.compare_listed_secondaries(left, right) {
-            Ok(order) => order,
-            Err(AllocError) => self.compare_steady_segments(left, right),
-        }
-    }
-
-    /// The order of the secondary weights, backward. The elements are read into lists, since they are gone through
-    /// twice. Fails only where an allocation does.
-    fn compare_listed_secondaries<L: EncodedText, R: EncodedText>(
-        &self,
-        left: L,
-        right: R,
-    ) -> Result<Ordering, AllocError>
-        ensures { let collation = collation_borrowed self.now in
-            IfOk result (λ o. o ≡ segments_order (lists_by collation (nfd (L.text left))).segments
-            (lists_by collation (nfd (R.text right))).segments) }
-    {
-        let left = self.elements(left)?;
-        let right = self.elements(right)?;
-        let left = self.handled(left.as_slice());
-        let right = self.handled(right.as_slice());
-        let left = TwoReaders::new(left, left);
-        let right = TwoReaders::new(right, right);
-        Ok(compare_segments(left, right))
     }
 
     /// The order of the cases, where they count by themselves.
@@ -157,19 +119,19 @@ impl<'a> CollatorBorrowed<'a> {
         match self.compare_in_one_pass(left, right) {
             Ok(Some(order)) => order,
             Ok(None) => self.compare_later_levels(left, right),
-            Err(AllocError) => self.compare_steady_elements(left, right),
+            Err(LongPiece) => self.compare_steady_elements(left, right),
         }
     }
 
     /// The order of the elements of two texts, where one pass over both shows it. It goes past the elements that both
     /// have, and compares primary weights from the first on that differ; where only secondary and tertiary weights
     /// count after them, it compares these as well, as far as elements are in step. None where the primary weights tie,
-    /// and no more is known. Fails only where an allocation does.
-    fn compare_in_one_pass<L: EncodedText, R: EncodedText>(
+    /// and no more is known. Stops where a source does.
+    fn compare_in_one_pass<L: CountedText, R: CountedText>(
         &self,
         left: L,
         right: R,
-    ) -> Result<Option<Ordering>, AllocError>
+    ) -> Result<Option<Ordering>, LongPiece>
         ensures { let collation = collation_borrowed self.now in
             IfOk result (λ found. MatchOption found
             (leading_order collation (nfd (L.text left)) (nfd (R.text right)) ≡ Equal)
@@ -188,14 +150,14 @@ impl<'a> CollatorBorrowed<'a> {
 
     /// The order of two texts by the elements that two sources give, in one pass over these. `None` where all of them
     /// are equal, so that the texts tie on each level of elements.
-    fn compare_sources<L: HandledSource, R: HandledSource>(
+    fn compare_sources<L: ComparedSource, R: ComparedSource>(
         &self,
         left: &mut L,
         right: &mut R,
-    ) -> Result<Option<Ordering>, AllocError>
+    ) -> Result<Option<Ordering>, LongPiece>
         ensures { let collation = collation_borrowed self.now in (t u : List ℕ)
-            → L.handled_left left.old ≡ handled_by collation t
-            → R.handled_left right.old ≡ handled_by collation u
+            → L.compared_left left.old ≡ handled_by collation t
+            → R.compared_left right.old ≡ handled_by collation u
             → IfOk result (λ found. MatchOption found (leading_order collation t u ≡ Equal)
             (λ o. o ≡ elements_order collation t u)) }
     {

@@ -1,9 +1,9 @@
 //! The elements of a text as variable weighting leaves them (UTS #10, "Variable Weighting").
 
-ghost use Rattle.std.specs.Prelude.{◌≡◌, false, ◌≤◌, ◌++◌, ◌+◌, [], length, map, option_map, option_to_list, IfSome, IfOk, None};
+ghost use Rattle.std.specs.Prelude.{◌≡◌, false, ◌≤◌, ◌++◌, ◌+◌, [], List, length, map, option_map, option_to_list, IfSome, IfOk, None};
 
-use icu_cursor::ElementCursor;
-use icu_encodings::EncodedText;
+use icu_cursor::{ElementCursor, LongPiece};
+use icu_decomposed_text::CountedText;
 use icu_entries::CollationElement;
 use icu_options::AlternateHandling;
 use icu_weighting::{Handled, HandledSource, SteadySource, VariableWeighting};
@@ -87,6 +87,22 @@ impl<'a> SteadySource for HandledElements<'a> {
     }
 }
 
+/// What gives the elements of a text one at a time, as variable weighting leaves them, and needs no memory: it may stop
+/// at characters that give many elements together.
+pub(crate) trait ComparedSource {
+    ghost use Rattle.icu_weighting.specs.Handled.{HandledElement};
+    ghost use Rattle.icu_weighting.specs.HandledSources.{GivesNext};
+
+    /// The elements that are still to come.
+    ghost compared_left: { Self → List HandledElement };
+
+    /// The next element, or `None` after the last one. `LongPiece` says nothing more: the text is read by another
+    /// source then.
+    fn next_compared(&mut self) -> Result<Option<Handled>, LongPiece>
+        ensures { IfOk result
+            (λ next. GivesNext (compared_left self.old) next (compared_left self.new)) };
+}
+
 /// The elements of an encoded text, handled the same way as they are read: no list of elements is
 /// made.
 #[derive(Drop)]
@@ -95,7 +111,7 @@ pub(crate) struct HandledText<'c, 'd, T> {
     weighting: VariableWeighting,
 }
 
-impl<'c, 'd, T: EncodedText> HandledText<'c, 'd, T> {
+impl<'c, 'd, T: CountedText> HandledText<'c, 'd, T> {
     ghost use Rattle.icu_collator.specs.HandledRests.{handled_to_come};
     ghost use Rattle.icu_cursor.specs.Cursors.{cursor_gives};
     ghost use Rattle.icu_weighting.specs.Handled.{handled};
@@ -118,13 +134,13 @@ impl<'c, 'd, T: EncodedText> HandledText<'c, 'd, T> {
     }
 }
 
-impl<'c, 'd, T: EncodedText> HandledSource for HandledText<'c, 'd, T> {
+impl<'c, 'd, T: CountedText> ComparedSource for HandledText<'c, 'd, T> {
     ghost use Rattle.icu_collator.specs.HandledRests.{handled_to_come};
 
-    ghost handled_left = { handled_to_come T.text };
+    ghost compared_left = { handled_to_come T.text };
 
     #[inline(always)]
-    fn next_handled(&mut self) -> Result<Option<Handled>, AllocError> {
+    fn next_compared(&mut self) -> Result<Option<Handled>, LongPiece> {
         'passing: while let Some(element) = self.elements.next()? {
             let next = self.weighting.handle(element);
             if next.is_some() {
@@ -141,7 +157,7 @@ pub(crate) struct PlainText<'c, 'd, T> {
     elements: ElementCursor<'c, 'd, T>,
 }
 
-impl<'c, 'd, T: EncodedText> PlainText<'c, 'd, T> {
+impl<'c, 'd, T: CountedText> PlainText<'c, 'd, T> {
     ghost use Rattle.icu_collator.specs.HandledRests.{plain_to_come};
     ghost use Rattle.icu_cursor.specs.Cursors.{cursor_gives};
     ghost use Rattle.icu_weighting.specs.Handled.{stayed};
@@ -155,13 +171,13 @@ impl<'c, 'd, T: EncodedText> PlainText<'c, 'd, T> {
     }
 }
 
-impl<'c, 'd, T: EncodedText> HandledSource for PlainText<'c, 'd, T> {
+impl<'c, 'd, T: CountedText> ComparedSource for PlainText<'c, 'd, T> {
     ghost use Rattle.icu_collator.specs.HandledRests.{plain_to_come};
 
-    ghost handled_left = { plain_to_come T.text };
+    ghost compared_left = { plain_to_come T.text };
 
     #[inline(always)]
-    fn next_handled(&mut self) -> Result<Option<Handled>, AllocError> {
+    fn next_compared(&mut self) -> Result<Option<Handled>, LongPiece> {
         match self.elements.next()? {
             Some(element) => Ok(Some(Handled::Stayed(element))),
             None => Ok(None),

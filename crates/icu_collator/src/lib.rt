@@ -17,6 +17,7 @@ mod forward_levels;
 pub mod handled;
 mod identical_level;
 mod in_step;
+mod key_text;
 mod rests;
 mod segments;
 pub mod sort_key;
@@ -37,7 +38,8 @@ pub mod comparison {
     pub use crate::collator::{Collator, CollatorBorrowed};
     pub use crate::handled::HandledElements;
     pub use crate::texts::str_text;
-    pub use icu_cursor::{CursorTables, ElementCursor};
+    pub use icu_cursor::{CursorTables, ElementCursor, LongPiece, SteadyCursor};
+    pub use icu_decomposed_text::CountedText;
     pub use icu_encodings::{
         EncodedText, Latin1Chars, Latin1Iter, Latin1Text, Utf8Text, Utf16Text,
     };

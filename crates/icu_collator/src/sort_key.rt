@@ -14,6 +14,7 @@ ghost use Rattle.unicode_normalization.specs.Forms.{nfd};
 
 use crate::collator::CollatorBorrowed;
 use crate::texts::{decomposed, str_text};
+use icu_decomposed_text::CountedText;
 use icu_encodings::{EncodedText, Utf8Text, Utf16Text};
 use icu_keys::{CollationKeySink, SortKeyError};
 use icu_text_keys::laws::texts_have_case;
@@ -88,7 +89,7 @@ impl<'a> CollatorBorrowed<'a> {
     }
 
     /// Writes the key of a text, whatever its encoding.
-    fn write_encoded_key<T: EncodedText, S: CollationKeySink>(
+    fn write_encoded_key<T: CountedText, S: CollationKeySink>(
         &self,
         text: T,
         sink: &mut S,
@@ -107,7 +108,7 @@ impl<'a> CollatorBorrowed<'a> {
 
     /// Writes the key of a text, with these characters at the identical level. Its elements are written as they are
     /// read: no list of them is made.
-    fn write_key_with_characters<T: EncodedText, S: CollationKeySink>(
+    fn write_key_with_characters<T: CountedText, S: CollationKeySink>(
         &self,
         text: T,
         characters: &[char],
@@ -131,7 +132,7 @@ impl<'a> CollatorBorrowed<'a> {
     /// Writes the key of a text by settings under which no element is variable. Not inlined: inlined, each key call
     /// would clear its locals too.
     #[inline(never)]
-    fn write_plain_key<T: EncodedText, S: CollationKeySink>(
+    fn write_plain_key<T: CountedText, S: CollationKeySink>(
         &self,
         text: T,
         characters: &[char],
@@ -148,7 +149,7 @@ impl<'a> CollatorBorrowed<'a> {
     {
         let compression = TableCompression::new(self.tables);
         let tables = self.cursor_tables();
-        let mut plain = self.plain_text(&tables, text);
+        let mut plain = self.plain_key_text(&tables, text);
         let alloc = self.tables.allocator();
         write_key(
             alloc,
@@ -162,7 +163,7 @@ impl<'a> CollatorBorrowed<'a> {
 
     /// Writes the key of a text where elements may be variable.
     #[inline(never)]
-    fn write_variable_key<T: EncodedText, S: CollationKeySink>(
+    fn write_variable_key<T: CountedText, S: CollationKeySink>(
         &self,
         text: T,
         characters: &[char],
@@ -178,7 +179,7 @@ impl<'a> CollatorBorrowed<'a> {
     {
         let compression = TableCompression::new(self.tables);
         let tables = self.cursor_tables();
-        let mut handled = self.handled_text(&tables, text);
+        let mut handled = self.handled_key_text(&tables, text);
         let alloc = self.tables.allocator();
         write_key(
             alloc,

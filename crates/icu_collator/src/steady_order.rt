@@ -1,4 +1,6 @@
-//! The order of two texts where an allocation failed: their elements are read without memory, level by level.
+//! The order of two texts, level by level, by cursors that read every piece: where a smaller one stopped at a long one,
+//! and where secondary weights are read backward. Out of line: a function clears its large locals each time that it is
+//! called.
 
 ghost use Rattle.std.specs.Prelude.{◌≡◌};
 ghost use Rattle.icu_levels.specs.ListOrder.{list_order, segments_order};
@@ -16,8 +18,7 @@ impl<'a> CollatorBorrowed<'a> {
     ghost use Rattle.icu_collator.specs.Collators.{collation_borrowed};
     ghost use Rattle.icu_collator.specs.inner.ElementOrders.{elements_order};
 
-    /// The order of two texts by their elements: all levels but the identical one. The primary weights are read without
-    /// memory.
+    /// The order of two texts by their elements: all levels but the identical one.
     #[cold]
     #[inline(never)]
     pub(crate) fn compare_steady_elements<L: CountedText, R: CountedText>(
@@ -35,7 +36,7 @@ impl<'a> CollatorBorrowed<'a> {
         self.compare_later_levels(left, right)
     }
 
-    /// The order of two texts on a level that is compared forward, read without memory.
+    /// The order of two texts on a level that is compared forward.
     #[cold]
     #[inline(never)]
     pub(crate) fn compare_steady_level<L: CountedText, R: CountedText>(
@@ -48,13 +49,13 @@ impl<'a> CollatorBorrowed<'a> {
             (level_weights level.entry (handled_by collation (nfd (L.text left))))
             (level_weights level.entry (handled_by collation (nfd (R.text right)))) }
     {
-        let mut left = self.steady_text(left);
-        let mut right = self.steady_text(right);
+        let tables = self.cursor_tables();
+        let mut left = self.steady_text(&tables, left);
+        let mut right = self.steady_text(&tables, right);
         level.order(&mut left, &mut right)
     }
 
-    /// The order of the secondary weights, backward, read without memory: each text by two readers.
-    #[cold]
+    /// The order of the secondary weights, backward: each text by two readers.
     #[inline(never)]
     pub(crate) fn compare_steady_segments<L: CountedText, R: CountedText>(
         &self,
@@ -65,8 +66,15 @@ impl<'a> CollatorBorrowed<'a> {
             result ≡ segments_order (lists_by collation (nfd (L.text left))).segments
             (lists_by collation (nfd (R.text right))).segments }
     {
-        let left = TwoReaders::new(self.steady_text(left), self.steady_text(left));
-        let right = TwoReaders::new(self.steady_text(right), self.steady_text(right));
+        let tables = self.cursor_tables();
+        let left = TwoReaders::new(
+            self.steady_text(&tables, left),
+            self.steady_text(&tables, left),
+        );
+        let right = TwoReaders::new(
+            self.steady_text(&tables, right),
+            self.steady_text(&tables, right),
+        );
         compare_segments(left, right)
     }
 }

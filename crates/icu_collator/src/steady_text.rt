@@ -1,46 +1,45 @@
-//! The elements of a text as variable weighting leaves them, read without memory (UTS #10, "Variable Weighting").
+//! The elements of a text as variable weighting leaves them, whatever its pieces (UTS #10, "Variable Weighting").
 
 ghost use Rattle.std.specs.Prelude.{◌≡◌, false};
-ghost use Rattle.icu_elements.specs.Reading.{reading_of};
-ghost use Rattle.icu_elements.specs.TextElements.{elements_of};
-ghost use Rattle.unicode_normalization.specs.Forms.{nfd};
 
+use icu_cursor::{ElementCursor, FirstChars, SteadyCursor};
 use icu_decomposed_text::CountedText;
-use icu_elements::TextReading;
 use icu_options::AlternateHandling;
-use icu_steady_elements::SteadyElements;
 use icu_weighting::{Handled, SteadySource, VariableWeighting};
 
-/// The elements of an encoded text, handled as they are read: nothing is allocated.
+/// The elements of an encoded text, handled as they are read: nothing is allocated, and long pieces don't stop it.
 #[derive(Drop)]
-pub(crate) struct SteadyText<'d, T: CountedText> {
-    elements: SteadyElements<'d, T>,
+pub(crate) struct SteadyText<'c, 'd, T: Copy>
+where
+    FirstChars<T>: CountedText,
+{
+    elements: SteadyCursor<'c, 'd, T>,
     weighting: VariableWeighting,
 }
 
-impl<'d, T: CountedText> SteadyText<'d, T> {
+impl<'c, 'd, T: CountedText> SteadyText<'c, 'd, T> {
     ghost use Rattle.icu_collator.specs.HandledRests.{steady_to_come};
+    ghost use Rattle.icu_cursor.specs.Cursors.{cursor_gives};
     ghost use Rattle.icu_weighting.specs.Handled.{handled};
 
-    /// All elements of a text. Variable are those with a primary weight above the merge separator's
-    /// and up to `last_variable`: none, where that is 0.
+    /// All elements that a cursor still gives. Variable are those with a primary weight above the merge separator's and
+    /// up to `last_variable`: none, where that is 0.
     pub(crate) fn new(
-        text: T,
-        reading: TextReading<'d>,
+        cursor: ElementCursor<'c, 'd, T>,
         handling: AlternateHandling,
         last_variable: u32,
-    ) -> SteadyText<'d, T>
-        ensures { steady_to_come T.EncodedText.text result ≡ handled handling last_variable false
-            (elements_of (reading_of reading.entry) (nfd (T.EncodedText.text text))) }
+    ) -> SteadyText<'c, 'd, T>
+        ensures { steady_to_come T.text result
+            ≡ handled handling last_variable false (cursor_gives T.text cursor.entry) }
     {
         SteadyText {
-            elements: SteadyElements::new(text, reading),
+            elements: SteadyCursor::new(&cursor),
             weighting: VariableWeighting::new(handling, last_variable),
         }
     }
 }
 
-impl<'d, T: CountedText> SteadySource for SteadyText<'d, T> {
+impl<'c, 'd, T: CountedText> SteadySource for SteadyText<'c, 'd, T> {
     ghost use Rattle.icu_collator.specs.HandledRests.{steady_to_come};
 
     ghost steady_left = { steady_to_come T.EncodedText.text };

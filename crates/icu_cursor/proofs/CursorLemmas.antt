@@ -1,5 +1,5 @@
 -- What a cursor still gives, as it goes on.
-use Rattle.std.proofs.Common.{◌≡◌, ℕ, ◌≤◌, arith, List, [], ◌∷◌, ◌++◌, length, take, get_or, Option, Some, None, IfSome, refl, sym, ap, ap₂, ◌∙◌, append_assoc}
+use Rattle.std.proofs.Common.{◌≡◌, ℕ, ◌≤◌, arith, List, [], ◌∷◌, ◌++◌, length, take, get_or, Option, Some, None, IfSome, refl, sym, ap, ◌∙◌, append_assoc}
 use Rattle.std.specs.Prelude.{option_to_list}
 use Rattle.ucd_normal.specs.declared.forms.Form.TheVariants.{Nfd}
 use Rattle.unicode_normalization.specs.Decompose.{decompose}
@@ -11,24 +11,18 @@ use Rattle.icu_facts.specs.declared.char_facts.CharFacts.{CharFacts}
 use Rattle.icu_facts.specs.KeptFacts.{IsPair, char_elements}
 use Rattle.icu_cursor.specs.declared.facts_cursor.FactsCursor.{FactsCursor}
 use Rattle.icu_cursor.specs.FactsCursors.{facts_give, GivesNextOrEnds, GoesOn}
+use Rattle.icu_cursor.specs.inner.NumberElements.{IsNumberPiece}
 use Rattle.icu_cursor.specs.inner.Pieces.{IsPiece}
 use Rattle.icu_cursor.specs.inner.Standing.{StandsBefore}
 use Rattle.icu_cursor.proofs.PieceLemmas.{nothing, pieces_part}
 
--- where neither a character nor a piece has elements left
-pub nothing_ready : (ready piece rest : List Element) → ready ≡ [] → piece ≡ [] → ready ++ (piece ++ rest) ≡ rest
-nothing_ready ready piece rest none no_piece = ap₂ (λ (es fs : List Element). es ++ (fs ++ rest)) none no_piece
+-- where no element stands ready
+pub nothing_ready : (ready rest : List Element) → ready ≡ [] → ready ++ rest ≡ rest
+nothing_ready ready rest none = ap (λ (es : List Element). es ++ rest) none
 
 -- the first of those that stand ready
 pub ready_taken : (first before after rest : List Element) → before ≡ first ++ after → before ++ rest ≡ first ++ (after ++ rest)
 ready_taken first before after rest is = ap (λ (es : List Element). es ++ rest) is ∙ append_assoc first after rest
-
--- the first of a piece, where none stands ready
-pub piece_taken : (ready first before after rest : List Element) → ready ≡ [] → before ≡ first ++ after → ready ++ (before ++ rest) ≡ first ++ (ready ++ (after ++ rest))
-piece_taken ready first before after rest none is =
-    ap (λ (es : List Element). es ++ (before ++ rest)) none
-    ∙ ready_taken first before after rest is
-    ∙ ap (λ (es : List Element). first ++ (es ++ (after ++ rest))) (sym none)
 
 first_alone : (xs : List Element) (e d : Element) → 1 ≤ length xs → e ≡ get_or xs 0 d → take 1 xs ≡ e ∷ []
 first_alone [] e d some is = absurd (omega arith)
@@ -38,66 +32,84 @@ first_alone (x ∷ xs) e d some is = ap (λ y. y ∷ []) (sym is)
 pub one_taken : (l : CharFacts) (e d : Element) → l.count ≡ 1 → 1 ≤ length l.elements → e ≡ get_or l.elements 0 d → char_elements l ≡ e ∷ []
 one_taken l e d one some is = ap (λ n. take n l.elements) one ∙ first_alone l.elements e d some is
 
-module _ (reading : Reading) (ready piece : List Element) (before : List ℕ) (none : ready ≡ []) (piece_ended : piece ≡ []) where
+module _ (reading : Reading) (ready : List Element) (before : List ℕ) (none : ready ≡ []) where
   -- a text that ended gives nothing
-  pub all_read : (text : List ℕ) → text ≡ [] → ready ++ (piece ++ elements_after reading before (nfd text)) ≡ []
+  pub all_read : (text : List ℕ) → text ≡ [] → ready ++ elements_after reading before (nfd text) ≡ []
   all_read text ends =
-      nothing_ready ready piece _ none piece_ended ∙ ap (λ t. elements_after reading before (nfd t)) ends ∙ nothing reading before
+      nothing_ready ready _ none ∙ ap (λ t. elements_after reading before (nfd t)) ends ∙ nothing reading before
 
   -- a character is read by itself
   pub char_read : (c : ℕ) (own : List Element) (all text after : List ℕ) (es : List Element) → all ≡ c ∷ text → StandsBefore reading c own text → es ≡ own → after ≡ context_after before (decompose Nfd c)
-      → es ++ (piece ++ elements_after reading after (nfd text)) ≡ ready ++ (piece ++ elements_after reading before (nfd all))
+      → es ++ elements_after reading after (nfd text) ≡ ready ++ elements_after reading before (nfd all)
   char_read c own all text after es is stands given remembered =
-      ap₂ (λ (fs gs : List Element). fs ++ (gs ++ elements_after reading after (nfd text))) given piece_ended
+      ap (λ (fs : List Element). fs ++ elements_after reading after (nfd text)) given
       ∙ ap (λ b. own ++ elements_after reading b (nfd text)) remembered
       ∙ sym (stands before)
       ∙ ap (λ t. elements_after reading before (nfd t)) (sym is)
-      ∙ sym (nothing_ready ready piece _ none piece_ended)
+      ∙ sym (nothing_ready ready _ none)
 
   -- its first element is given, and the others are kept
   pub facts_begun : (c : ℕ) (own : List Element) (all text after : List ℕ) (first others : List Element) → all ≡ c ∷ text → StandsBefore reading c own text → own ≡ first ++ others
       → after ≡ context_after before (decompose Nfd c)
-      → ready ++ (piece ++ elements_after reading before (nfd all)) ≡ first ++ (others ++ (piece ++ elements_after reading after (nfd text)))
+      → ready ++ elements_after reading before (nfd all) ≡ first ++ (others ++ elements_after reading after (nfd text))
   facts_begun c own all text after first others is stands given remembered =
       sym (char_read c own all text after own is stands refl remembered) ∙ ready_taken first own others _ given
 
   -- two characters that are joined are read together
   pub pair_begun : (c x : ℕ) (own : List Element) (all more text mid after : List ℕ) (first others : List Element) → all ≡ c ∷ more → more ≡ x ∷ text → IsPair reading c x own → own ≡ first ++ others
       → mid ≡ context_after before (decompose Nfd c) → after ≡ context_after mid (decompose Nfd x)
-      → ready ++ (piece ++ elements_after reading before (nfd all)) ≡ first ++ (others ++ (piece ++ elements_after reading after (nfd text)))
+      → ready ++ elements_after reading before (nfd all) ≡ first ++ (others ++ elements_after reading after (nfd text))
   pair_begun c x own all more text mid after first others is goes pair given near far =
-      nothing_ready ready piece _ none piece_ended
+      nothing_ready ready _ none
       ∙ ap (λ t. elements_after reading before (nfd t)) (is ∙ ap (λ (t : List ℕ). c ∷ t) goes)
       ∙ pair.stands before text
       ∙ ap (λ b. own ++ elements_after reading (context_after b (decompose Nfd x)) (nfd text)) (sym near)
       ∙ ap (λ b. own ++ elements_after reading b (nfd text)) (sym far)
       ∙ ap (λ (es : List Element). es ++ elements_after reading after (nfd text)) given
       ∙ append_assoc first others _
-      ∙ ap (λ (es : List Element). first ++ (others ++ (es ++ elements_after reading after (nfd text)))) (sym piece_ended)
 
   -- so is one of one element, which is given at once
   pub one_read : (c : ℕ) (own : List Element) (all text after : List ℕ) (e : Element) → all ≡ c ∷ text → StandsBefore reading c own text → after ≡ context_after before (decompose Nfd c)
-      → own ≡ e ∷ [] → ready ++ (piece ++ elements_after reading before (nfd all)) ≡ e ∷ (ready ++ (piece ++ elements_after reading after (nfd text)))
+      → own ≡ e ∷ [] → ready ++ elements_after reading before (nfd all) ≡ e ∷ (ready ++ elements_after reading after (nfd text))
   one_read c own all text after e is stands remembered one =
       sym (char_read c own all text after own is stands refl remembered)
-      ∙ ap (λ (es : List Element). es ++ (piece ++ elements_after reading after (nfd text))) one
-      ∙ ap (λ (es : List Element). e ∷ (es ++ (piece ++ elements_after reading after (nfd text)))) (sym none)
+      ∙ ap (λ (es : List Element). es ++ elements_after reading after (nfd text)) one
+      ∙ ap (λ (es : List Element). e ∷ (es ++ elements_after reading after (nfd text))) (sym none)
 
   -- as where facts are kept of it
   pub lone_read : (c : ℕ) (l : CharFacts) (all text after : List ℕ) (e d : Element) → all ≡ c ∷ text → StandsBefore reading c (char_elements l) text → after ≡ context_after before (decompose Nfd c)
       → l.count ≡ 1 → 1 ≤ length l.elements → e ≡ get_or l.elements 0 d
-      → ready ++ (piece ++ elements_after reading before (nfd all)) ≡ e ∷ (ready ++ (piece ++ elements_after reading after (nfd text)))
+      → ready ++ elements_after reading before (nfd all) ≡ e ∷ (ready ++ elements_after reading after (nfd text))
   lone_read c l all text after e d is stands remembered one some first =
       one_read c (char_elements l) all text after e is stands remembered (one_taken l e d one some first)
 
   -- a piece is begun
-  pub piece_begun : (all whole part rest : List ℕ) (es : List Element) → all ≡ whole → IsPiece reading whole part rest → es ≡ elements_after reading before (nfd part)
-      → ready ++ (es ++ elements_after reading before (nfd rest)) ≡ ready ++ (piece ++ elements_after reading before (nfd all))
-  piece_begun all whole part rest es is h given =
-      ap₂ (λ (fs gs : List Element). fs ++ (gs ++ elements_after reading before (nfd rest))) none given
-      ∙ sym (pieces_part reading before before whole part rest h)
-      ∙ ap (λ t. elements_after reading before (nfd t)) (sym is)
-      ∙ sym (nothing_ready ready piece _ none piece_ended)
+  pub piece_begun : (all part rest : List ℕ) (es : List Element) → IsPiece reading all part rest → es ≡ elements_after reading before (nfd part)
+      → es ++ elements_after reading before (nfd rest) ≡ ready ++ elements_after reading before (nfd all)
+  piece_begun all part rest es h given =
+      ap (λ (fs : List Element). fs ++ elements_after reading before (nfd rest)) given
+      ∙ sym (pieces_part reading before before all part rest h)
+      ∙ sym (nothing_ready ready _ none)
+
+  -- a piece is begun where another one ended
+  pub next_piece_begun : (all part rest : List ℕ) (old es : List Element) → old ≡ [] → IsPiece reading all part rest → es ≡ elements_after reading before (nfd part)
+      → es ++ (ready ++ elements_after reading before (nfd rest)) ≡ old ++ (ready ++ elements_after reading before (nfd all))
+  next_piece_begun all part rest old es ended h given =
+      ap (λ (fs : List Element). es ++ (fs ++ elements_after reading before (nfd rest))) none
+      ∙ piece_begun all part rest es h given
+      ∙ ap (λ (fs : List Element). fs ++ (ready ++ elements_after reading before (nfd all))) (sym ended)
+
+  -- a piece is read: its first element is given, and the others are kept
+  pub piece_read : (all part rest : List ℕ) (es first others : List Element) → IsPiece reading all part rest → es ≡ elements_after reading before (nfd part) → es ≡ first ++ others
+      → ready ++ elements_after reading before (nfd all) ≡ first ++ (others ++ elements_after reading before (nfd rest))
+  piece_read all part rest es first others h given is =
+      sym (piece_begun all part rest es h given) ∙ ready_taken first es others _ is
+
+  -- so is a number
+  pub number_read : (all whole rest : List ℕ) (es first others : List Element) → all ≡ whole → IsNumberPiece reading whole rest es → es ≡ first ++ others
+      → ready ++ elements_after reading before (nfd all) ≡ first ++ (others ++ elements_after reading before (nfd rest))
+  number_read all whole rest es first others is h given =
+      piece_read all h.piece rest es first others (record { parts = is ∙ h.parts; boundary = h.boundary }) (h.elements before) given
 
 -- ---- characters alone
 

@@ -1,13 +1,15 @@
 -- Runs of digits that are read as numbers.
-use Rattle.std.proofs.Common.{nat_lt, ◌≡◌, ℕ, ◌<◌, ◌≤◌, ◌+◌, true, false, not, List, [], ◌∷◌, ◌++◌, length, drop, get_or, map, Some, refl, sym, ap, ap₂, ◌∙◌, append-nil, append_assoc, arith, zero-le}
+use Rattle.std.proofs.Common.{nat_lt, ◌≡◌, ℕ, zero, suc, ◌<◌, ◌≤◌, true, false, not, List, [], ◌∷◌, ◌++◌, length, take, drop, map, Some, refl, sym, ap, ap₂, ◌∙◌, append-nil, append_assoc, arith, zero-le}
 use Rattle.std.specs.List.{list_all}
 use Rattle.std.proofs.lemmas.Bool.{and_parts, and_from, ltb-true, lt-ltb}
-use Rattle.std.proofs.lemmas.List.{drop_more, map-append}
+use Rattle.std.proofs.lemmas.List.{take_all, map-append}
 use Rattle.std.proofs.Math.ListN.{drop_of_length-le}
 use Rattle.std.proofs.lemmas.List.Folds.{list_all-append}
 use Rattle.unicode_normalization.specs.Forms.{nfd}
 use Rattle.unicode_normalization.proofs.TableFacts.{class_of_latin}
 use Rattle.icu_entries.specs.Elements.{Element, of_primary}
+use Rattle.icu_levels.specs.Numbers.{number_weights, value_of, without_first_zeros, longest_number, run_weights}
+use Rattle.icu_numbers.proofs.DigitRunLemmas.{run_turn}
 use Rattle.icu_elements.specs.TextElements.{Reading, continues_number, digit_of_char, begins_with_mark, number_elements, last_two, elements_after}
 use Rattle.icu_elements.proofs.StepLemmas.{elements_after_nil}
 use Rattle.icu_boundaries.proofs.NumberRunLemmas.{elements_after-digits}
@@ -74,13 +76,27 @@ number_piece reading lead c d text rest digits es numeric is run boundary given 
       ∙ sym (digits_alone reading lead c run.chars before numeric (and_from _ _ (lt-ltb c 0xC0 is.low) run.low) (and_from _ _ is.continues run.continues));
 }
 
--- ---- their elements, one by one
+-- ---- short ones
 
-pub weight_taken : (ws : List ℕ) (next w : ℕ) (e : Element) → next < length ws → w ≡ get_or ws next w → e ≡ of_primary w
-    → map of_primary (drop next ws) ≡ e ∷ map of_primary (drop (next + 1) ws)
-weight_taken ws next w e inside is made =
-    ap (map of_primary) (drop_more ws next w inside ∙ ap (λ x. x ∷ drop (next + 1) ws) (sym is))
-    ∙ ap (λ (f : Element). f ∷ map of_primary (drop (next + 1) ws)) (sym made)
+-- digits that begin with none that is 0, as many as one number has at most
+one_number : (lead : ℕ) (kept : List ℕ) → length kept ≤ longest_number
+    → number_weights lead (value_of (take longest_number kept)) ++ run_weights lead (drop longest_number kept) ≡ number_weights lead (value_of kept)
+one_number lead kept fits =
+    ap₂ (λ (ds es : List ℕ). number_weights lead (value_of ds) ++ run_weights lead es) (take_all longest_number kept fits) (drop_of_length-le kept fits)
+    ∙ append-nil (number_weights lead (value_of kept))
 
-pub no_weight : (ws : List ℕ) (next : ℕ) → length ws ≤ next → map of_primary (drop next ws) ≡ []
-no_weight ws next past = ap (map of_primary) (drop_of_length-le ws past)
+pub short_number : (lead : ℕ) (digits kept : List ℕ) → 0 < length digits → kept ≡ without_first_zeros digits → length kept ≤ longest_number
+    → map of_primary (number_weights lead (value_of kept)) ≡ number_elements lead digits
+short_number lead digits kept some is fits =
+    ap (map of_primary)
+    (sym (one_number lead kept fits)
+    ∙ ap (λ (ds : List ℕ). number_weights lead (value_of (take longest_number ds)) ++ run_weights lead (drop longest_number ds)) is
+    ∙ sym (run_turn lead digits some))
+
+pub kept_first : (digits kept : List ℕ) → kept ≡ without_first_zeros digits → without_first_zeros kept ≡ kept
+kept_first digits kept is = ap without_first_zeros is ∙ no_zeros_twice digits ∙ sym is
+  where
+    no_zeros_twice : (ds : List ℕ) → without_first_zeros (without_first_zeros ds) ≡ without_first_zeros ds
+    no_zeros_twice [] = refl
+    no_zeros_twice (zero ∷ ds) = no_zeros_twice ds
+    no_zeros_twice (suc d ∷ ds) = refl

@@ -1,5 +1,6 @@
 -- Texts that are read piece by piece.
-use Rattle.std.proofs.Common.{◌≡◌, ℕ, List, [], ◌∷◌, ◌++◌, sym, ap, ◌∙◌, append-nil}
+use Rattle.std.proofs.Common.{◌≡◌, ℕ, ◌+◌, List, [], ◌∷◌, ◌++◌, drop, sym, ap, ◌∙◌, append-nil}
+use Rattle.std.proofs.lemmas.List.{drop-drop}
 use Rattle.unicode_normalization.specs.Forms.{nfd}
 use Rattle.icu_entries.specs.Elements.{Element}
 use Rattle.icu_elements.specs.TextElements.{Reading, elements_after}
@@ -9,6 +10,13 @@ use Rattle.icu_boundaries.proofs.NfdLemmas.{nfd-nil}
 use Rattle.icu_facts.specs.BoundaryTables.{HasBoundaryBefore}
 use Rattle.icu_cursor.specs.inner.Places.{MayBeCut, BeginsAtBoundary}
 use Rattle.icu_cursor.specs.inner.Pieces.{IsPiece}
+
+-- the characters behind the first of those that are left
+pub next_dropped : (xs left after : List ℕ) (i c : ℕ) → left ≡ drop i xs → left ≡ c ∷ after → after ≡ drop (i + 1) xs
+next_dropped xs left after i c is next = ap (drop 1) (sym next ∙ is) ∙ drop-drop 1 i xs
+
+pub rest_dropped : (xs left after : List ℕ) (i : ℕ) → left ≡ drop i xs → after ≡ drop 1 left → after ≡ drop (i + 1) xs
+rest_dropped xs left after i is next = next ∙ ap (drop 1) is ∙ drop-drop 1 i xs
 
 pub nothing : (reading : Reading) (before : List ℕ) → elements_after reading before (nfd []) ≡ []
 nothing reading before = ap (elements_after reading before) nfd-nil ∙ elements_after_nil reading before

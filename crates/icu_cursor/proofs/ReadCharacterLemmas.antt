@@ -1,5 +1,5 @@
 -- The characters that stand before the text that isn't read.
-use Rattle.std.proofs.Common.{◌≡◌, ℕ, ◌≤◌, List, [], ◌∷◌, ◌++◌, length, take, reverse, flat_map, Option, Some, None, refl, sym, ap, ◌∙◌, append-nil, append_assoc, length-append, length-take, take_all, arith}
+use Rattle.std.proofs.Common.{◌≡◌, ℕ, ◌≤◌, true, is_some, option_to_list, List, [], ◌∷◌, ◌++◌, length, take, reverse, flat_map, Option, Some, None, refl, sym, ap, ◌∙◌, append-nil, append_assoc, length-append, length-take, take_all, arith}
 use Rattle.std.proofs.lemmas.List.{reverse-append, take-append-le, length-reverse}
 use Rattle.ucd_normal.specs.declared.forms.Form.TheVariants.{Nfd}
 use Rattle.unicode_normalization.specs.Decompose.{decompose}
@@ -59,3 +59,22 @@ more (Some a) (Some b) c =
 pub context_more : (r s : LastCharacters) (c : ℕ) → s.older ≡ r.last → s.last ≡ Some c → context_read s ≡ context_after (context_read r) (decompose Nfd c)
 unfolding context_read
 context_more r s c older last = rw (older, last) (more r.older r.last c)
+
+-- ---- what a prefix looks back at
+
+read_in_turn : (older last : Option ℕ) → is_some last ≡ true
+    → last_two (last_two [] (flat_map (decompose Nfd) (option_to_list older))) (flat_map (decompose Nfd) (option_to_list last)) ≡ last_two [] (flat_map (decompose Nfd) (facts_read older last))
+read_in_turn older None some = absurd (cc)
+read_in_turn None (Some c) some = last_two-append [] [] (decompose Nfd c ++ [])
+read_in_turn (Some b) (Some c) some =
+    last_two-append [] (decompose Nfd b ++ []) (decompose Nfd c ++ [])
+    ∙ ap (λ l. last_two [] (l ++ (decompose Nfd c ++ []))) (append-nil (decompose Nfd b))
+
+-- the older character and the last one, each decomposed
+pub recent_read : (r : LastCharacters) (none one both : List ℕ) → is_some r.last ≡ true → none ≡ [] → one ≡ last_two none (flat_map (decompose Nfd) (option_to_list r.older))
+    → both ≡ last_two one (flat_map (decompose Nfd) (option_to_list r.last)) → both ≡ context_read r
+unfolding context_read
+recent_read r none one both some begun first second =
+    second
+    ∙ ap (λ l. last_two l (flat_map (decompose Nfd) (option_to_list r.last))) (first ∙ ap (λ l. last_two l (flat_map (decompose Nfd) (option_to_list r.older))) begun)
+    ∙ read_in_turn r.older r.last some

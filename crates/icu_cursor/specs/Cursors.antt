@@ -7,8 +7,7 @@ use Rattle.icu_elements.specs.TextElements.{Reading, elements_after}
 use Rattle.icu_cursor.specs.declared.cursor.ElementCursor.{ElementCursor}
 use Rattle.icu_cursor.specs.declared.cursor_tables.CursorTables.{CursorTables}
 use Rattle.icu_cursor.specs.inner.ReadCharacters.{context_read}
-use Rattle.icu_cursor.specs.inner.Pieces.{piece_gives}
-use Rattle.icu_cursor.specs.inner.Ready.{elements_ready}
+use Rattle.icu_cursor.specs.inner.AllReady.{all_ready}
 
 -- how texts are read
 unfoldable pub cursor_reading : CursorTables → Reading
@@ -18,7 +17,6 @@ cursor_reading t = boundary_reading t.places
 abbrev pub elements_unread : {T : Type 0} → (T → List ℕ) → ElementCursor T → List Element
 elements_unread text c = elements_after (cursor_reading c.tables.now) (context_read c.recent) (nfd (text c.text))
 
--- the elements that it still gives, unless an allocation fails: those that stand ready, those of a piece, and those of
--- the text that isn't read
+-- the elements that it still gives: those that stand ready, and those of the text that isn't read
 unfoldable pub cursor_gives : {T : Type 0} → (T → List ℕ) → ElementCursor T → List Element
-cursor_gives text c = elements_ready c.ready ++ (piece_gives c.piece ++ elements_unread text c)
+cursor_gives text c = all_ready c.ready ++ elements_unread text c

@@ -1,3 +1,4 @@
 pub mod Cursors
 pub mod FactsCursors
+pub mod SteadyCursors
 pub mod inner

@@ -1,7 +1,9 @@
 -- Words of private contracts and proofs only: no public contract names them.
 pub mod ReadCharacters
 pub mod Ready
+pub mod AllReady
 pub mod Places
+pub mod FirstChars
 pub mod NumberElements
 pub mod Pieces
 pub mod MarkRuns

@@ -1,45 +1,45 @@
 //! The elements of an encoded text, one by one.
 
-ghost use Rattle.std.specs.Prelude.{◌≡◌, ◌≤◌, [], ◌∷◌, ◌++◌, None, IsTrue, length, option_to_list, IfOk, OnOk};
+ghost use Rattle.std.specs.Prelude.{◌≡◌, ◌≤◌, [], ◌∷◌, ◌++◌, None, IsTrue, length, option_to_list, IfOk, IfErr, OnOk, OnErr};
 ghost use Rattle.unicode_normalization.specs.Forms.{nfd};
 ghost use Rattle.icu_elements.specs.TextElements.{elements_of};
 ghost use Rattle.icu_facts.specs.FewElements.{few_elements};
-ghost use Rattle.icu_cursor.specs.inner.Ready.{elements_ready, HasNothingLeft};
 
-use crate::char_elements::CharElements;
 use crate::cursor_tables::CursorTables;
 use crate::digit_run::read_number;
 use crate::last_characters::LastCharacters;
-use crate::piece::{Piece, next_of_piece, read_piece, split_piece};
+use crate::piece::{few_of_piece, split_piece};
+use crate::ready_elements::ReadyElements;
 use crate::stands::stands_before;
 use crate::{CharFacts, FactsKind, Kept};
-use icu_encodings::EncodedText;
+use icu_decomposed_text::CountedText;
 use icu_entries::CollationElement;
 use icu_facts::FewElements;
-use std::alloc::AllocError;
+
+/// The characters that come next are read together, and give more elements than an `ElementCursor` keeps. Nothing is
+/// read of them: a `SteadyCursor` goes on from there.
+#[derive(Debug, Clone, Copy)]
+pub struct LongPiece;
 
 /// Reads an encoded text and gives its collation elements, one by one (UTS #10, "Produce Collation Element Arrays"). A
 /// character that gives the same elements wherever it stands is read from what is kept of it; any other with what
-/// follows it up to the next character before which the text may be cut.
-#[derive(Drop)]
+/// follows it up to the next character before which the text may be cut. It never allocates, and is small: where such a
+/// piece gives more elements than three, it stops.
+#[derive(Debug, Clone, Copy)]
 pub struct ElementCursor<'c, 'd, T> {
-    tables: &'c CursorTables<'d>,
-    text: T,
-    recent: LastCharacters,
-    ready: CharElements,
-    piece: Option<Piece<'d>>,
-    /// Whether all that was read was given. One flag, since it is asked before each element.
-    at_text: bool,
-    ghost all_given: { IsTrue at_text → HasNothingLeft ready piece },
+    pub(crate) tables: &'c CursorTables<'d>,
+    pub(crate) text: T,
+    pub(crate) recent: LastCharacters,
+    pub(crate) ready: ReadyElements,
 }
 
-impl<'c, 'd, T: EncodedText> ElementCursor<'c, 'd, T> {
+impl<'c, 'd, T: CountedText> ElementCursor<'c, 'd, T> {
     ghost use Rattle.icu_cursor.specs.Cursors.{cursor_reading, cursor_gives};
     ghost use Rattle.icu_facts.specs.KeptFacts.{IsNumberDigit, char_elements};
     ghost use Rattle.icu_cursor.specs.inner.Unread.{HasNothingReady};
     ghost use Rattle.icu_cursor.specs.inner.Standing.{Serves, StandsAnywhere, StandsBefore};
 
-    /// Reads a text, by these tables. Does not allocate.
+    /// Reads a text, by these tables.
     #[inline(always)]
     pub fn new(tables: &'c CursorTables<'d>, text: T) -> ElementCursor<'c, 'd, T>
         ensures { cursor_gives T.text result
@@ -49,21 +49,21 @@ impl<'c, 'd, T: EncodedText> ElementCursor<'c, 'd, T> {
             tables,
             text,
             recent: LastCharacters::new(),
-            ready: CharElements::none(),
-            piece: None,
-            at_text: true,
+            ready: ReadyElements::none(),
         }
     }
 
-    /// The next element, or `None` after the last one. Allocates only where a character has to be read with what stands
-    /// around it. Fails only where an allocation does; discard the cursor then.
+    /// The next element, or `None` after the last one. `LongPiece` where the characters that come next have to be read
+    /// together and give more than three elements: the elements to come stay the same then.
     #[inline]
-    pub fn next(&mut self) -> Result<Option<CollationElement>, AllocError>
+    pub fn next(&mut self) -> Result<Option<CollationElement>, LongPiece>
         ensures next { IfOk result (λ next. cursor_gives T.text self.old
             ≡ option_to_list next ++ cursor_gives T.text self.new) }
         ensures end { IfOk result (λ next. next ≡ None → cursor_gives T.text self.old ≡ []) }
+        ensures stays { OnErr result (cursor_gives T.text self.new
+            ≡ cursor_gives T.text self.old) }
     {
-        let first = if self.at_text {
+        let first = if self.ready.is_empty() {
             self.take_lone()
         } else {
             self.take_ready()
@@ -80,11 +80,9 @@ impl<'c, 'd, T: EncodedText> ElementCursor<'c, 'd, T> {
         ensures next { cursor_gives T.text self.old
             ≡ option_to_list result ++ cursor_gives T.text self.new }
         ensures text { self.new.text ≡ self.old.text }
-        ensures end { result ≡ None → elements_ready self.new.ready ≡ [] }
+        ensures end { result ≡ None → HasNothingReady self.new }
     {
-        let element = self.ready.take_first();
-        self.at_text = self.ready.is_empty() && self.piece.is_none();
-        element
+        self.ready.take_first()
     }
 
     /// The first element of the next character, where it is read by itself, and all that was read was given. `None`
@@ -185,9 +183,7 @@ impl<'c, 'd, T: EncodedText> ElementCursor<'c, 'd, T> {
         self.text = after;
         self.recent.push(c);
         self.recent.push(x);
-        let first = self.ready.begin_few(&few);
-        self.at_text = self.ready.is_empty();
-        first
+        self.ready.begin_few(&few)
     }
 
     /// The first element of a Hangul syllable, by its jamo. The others are kept.
@@ -204,13 +200,18 @@ impl<'c, 'd, T: EncodedText> ElementCursor<'c, 'd, T> {
 
     /// The next element, or `None` after the last one, of a text whose next character isn't read at once.
     #[inline(never)]
-    fn read_next(&mut self) -> Result<Option<CollationElement>, AllocError>
+    pub(crate) fn read_next(&mut self) -> Result<Option<CollationElement>, LongPiece>
         ensures next { IfOk result (λ next. cursor_gives T.text self.old
             ≡ option_to_list next ++ cursor_gives T.text self.new) }
         ensures end { IfOk result (λ next. next ≡ None → cursor_gives T.text self.old ≡ []) }
+        ensures stays { OnErr result (cursor_gives T.text self.new
+            ≡ cursor_gives T.text self.old) }
+        ensures nothing { OnErr result (HasNothingReady self.new) }
+        ensures shorter { OnErr result
+            (length (T.text self.new.text) ≤ length (T.text self.old.text)) }
     {
         'turns: loop {
-            if let Some(element) = self.take_read()? {
+            if let Some(element) = self.take_ready() {
                 return Ok(Some(element));
             }
             let Some((c, rest)) = self.text.split_first_char() else {
@@ -222,47 +223,16 @@ impl<'c, 'd, T: EncodedText> ElementCursor<'c, 'd, T> {
         }
     }
 
-    /// The next element of what was read: of a character's that stand ready, or of a piece's.
+    /// Reads a character by itself, or else the piece that it begins, and gives the first element. The others are kept.
+    /// `rest` is what follows the character.
     #[inline(always)]
-    fn take_read(&mut self) -> Result<Option<CollationElement>, AllocError>
-        ensures next { IfOk result (λ next. cursor_gives T.text self.old
-            ≡ option_to_list next ++ cursor_gives T.text self.new) }
-        ensures text { OnOk result (self.new.text ≡ self.old.text) }
-        ensures end { IfOk result (λ next. next ≡ None → HasNothingReady self.new) }
-    {
-        if self.at_text {
-            return Ok(None);
-        }
-        if let Some(element) = self.take_ready() {
-            return Ok(Some(element));
-        }
-        self.take_of_piece()
-    }
-
-    /// The next of the elements of a piece, where a character has none left.
-    #[inline(always)]
-    fn take_of_piece(&mut self) -> Result<Option<CollationElement>, AllocError>
-        requires { elements_ready self.old.ready ≡ [] }
-        ensures next { IfOk result (λ next. cursor_gives T.text self.old
-            ≡ option_to_list next ++ cursor_gives T.text self.new) }
-        ensures text { OnOk result (self.new.text ≡ self.old.text) }
-        ensures end { IfOk result (λ next. next ≡ None → HasNothingReady self.new) }
-    {
-        self.at_text = false;
-        let next = next_of_piece(&mut self.piece)?;
-        self.at_text = next.is_none();
-        Ok(next)
-    }
-
-    /// Reads a character by itself and gives its first element, or else begins the piece that it begins. `rest` is what
-    /// follows the character.
-    #[inline(always)]
-    fn read_from(&mut self, c: char, rest: T) -> Result<Option<CollationElement>, AllocError>
+    fn read_from(&mut self, c: char, rest: T) -> Result<Option<CollationElement>, LongPiece>
         requires nothing { HasNothingReady self.old }
         requires text { T.text self.old.text ≡ c ∷ T.text rest }
         ensures next { IfOk result (λ first. cursor_gives T.text self.old
             ≡ option_to_list first ++ cursor_gives T.text self.new) }
         ensures shorter { OnOk result (length (T.text self.new.text) ≤ length (T.text rest)) }
+        ensures stays { OnErr result (self.new ≡ self.old) }
     {
         let tables = self.tables;
         match tables.kept(c) {
@@ -274,13 +244,14 @@ impl<'c, 'd, T: EncodedText> ElementCursor<'c, 'd, T> {
 
     /// Reads a character that gives the elements of its entry wherever it stands.
     #[inline(always)]
-    fn read_own(&mut self, c: char, rest: T) -> Result<Option<CollationElement>, AllocError>
+    fn read_own(&mut self, c: char, rest: T) -> Result<Option<CollationElement>, LongPiece>
         requires nothing { HasNothingReady self.old }
         requires text { T.text self.old.text ≡ c ∷ T.text rest }
         requires own { StandsAnywhere (cursor_reading self.old.tables.now) c }
         ensures next { IfOk result (λ first. cursor_gives T.text self.old
             ≡ option_to_list first ++ cursor_gives T.text self.new) }
         ensures shorter { OnOk result (length (T.text self.new.text) ≤ length (T.text rest)) }
+        ensures stays { OnErr result (self.new ≡ self.old) }
     {
         match self.tables.own_element(c) {
             Some(element) => {
@@ -294,23 +265,19 @@ impl<'c, 'd, T: EncodedText> ElementCursor<'c, 'd, T> {
 
     /// Reads such a character where its entry gives more elements than one, or none.
     #[inline(never)]
-    fn read_own_elements(
-        &mut self,
-        c: char,
-        rest: T,
-    ) -> Result<Option<CollationElement>, AllocError>
+    fn read_own_elements(&mut self, c: char, rest: T) -> Result<Option<CollationElement>, LongPiece>
         requires nothing { HasNothingReady self.old }
         requires text { T.text self.old.text ≡ c ∷ T.text rest }
         requires own { StandsAnywhere (cursor_reading self.old.tables.now) c }
         ensures next { IfOk result (λ first. cursor_gives T.text self.old
             ≡ option_to_list first ++ cursor_gives T.text self.new) }
         ensures shorter { OnOk result (length (T.text self.new.text) ≤ length (T.text rest)) }
+        ensures stays { OnErr result (self.new ≡ self.old) }
     {
-        let Some(few) = self.tables.own_elements(c) else {
-            self.begin_piece(c, rest)?;
-            return Ok(None);
-        };
-        Ok(self.read_few(c, &few, rest))
+        match self.tables.own_elements(c) {
+            Some(few) => Ok(self.read_few(c, &few, rest)),
+            None => self.read_piece(c, rest),
+        }
     }
 
     /// Reads a character that gives these elements. The first is given, and the others are kept.
@@ -326,20 +293,19 @@ impl<'c, 'd, T: EncodedText> ElementCursor<'c, 'd, T> {
     {
         self.text = rest;
         self.recent.push(c);
-        let first = self.ready.begin_few(few);
-        self.at_text = self.ready.is_empty();
-        first
+        self.ready.begin_few(few)
     }
 
     /// Reads a character of which nothing is kept: a Hangul syllable by its jamo, and any other by what is worked out
     /// of it.
     #[inline(never)]
-    fn read_other(&mut self, c: char, rest: T) -> Result<Option<CollationElement>, AllocError>
+    fn read_other(&mut self, c: char, rest: T) -> Result<Option<CollationElement>, LongPiece>
         requires nothing { HasNothingReady self.old }
         requires text { T.text self.old.text ≡ c ∷ T.text rest }
         ensures next { IfOk result (λ first. cursor_gives T.text self.old
             ≡ option_to_list first ++ cursor_gives T.text self.new) }
         ensures shorter { OnOk result (length (T.text self.new.text) ≤ length (T.text rest)) }
+        ensures stays { OnErr result (self.new ≡ self.old) }
     {
         match self.tables.syllable_elements(c) {
             Some(few) => Ok(self.read_few(c, &few, rest)),
@@ -350,12 +316,13 @@ impl<'c, 'd, T: EncodedText> ElementCursor<'c, 'd, T> {
     /// Reads a character of which all has to be worked out. Out of line: a function clears its locals each time that it
     /// is called, and what is known of such a character is one.
     #[inline(never)]
-    fn read_rare(&mut self, c: char, rest: T) -> Result<Option<CollationElement>, AllocError>
+    fn read_rare(&mut self, c: char, rest: T) -> Result<Option<CollationElement>, LongPiece>
         requires nothing { HasNothingReady self.old }
         requires text { T.text self.old.text ≡ c ∷ T.text rest }
         ensures next { IfOk result (λ first. cursor_gives T.text self.old
             ≡ option_to_list first ++ cursor_gives T.text self.new) }
         ensures shorter { OnOk result (length (T.text self.new.text) ≤ length (T.text rest)) }
+        ensures stays { OnErr result (self.new ≡ self.old) }
     {
         let facts = self.tables.other_facts(c);
         self.read_char(c, &facts, rest)
@@ -368,22 +335,22 @@ impl<'c, 'd, T: EncodedText> ElementCursor<'c, 'd, T> {
         c: char,
         facts: &CharFacts,
         rest: T,
-    ) -> Result<Option<CollationElement>, AllocError>
+    ) -> Result<Option<CollationElement>, LongPiece>
         requires nothing { HasNothingReady self.old }
         requires text { T.text self.old.text ≡ c ∷ T.text rest }
         requires facts { Serves (cursor_reading self.old.tables.now) c facts.now }
         ensures next { IfOk result (λ first. cursor_gives T.text self.old
             ≡ option_to_list first ++ cursor_gives T.text self.new) }
         ensures shorter { OnOk result (length (T.text self.new.text) ≤ length (T.text rest)) }
+        ensures stays { OnErr result (self.new ≡ self.old) }
     {
         if stands_before(self.tables, facts, rest) {
             return Ok(self.read_facts(c, facts, rest));
         }
         match facts.digit {
-            Some(digit) => self.begin_number(c, digit, rest)?,
-            None => self.begin_piece(c, rest)?,
+            Some(digit) => self.read_digits(c, digit, rest),
+            None => self.read_piece(c, rest),
         }
-        Ok(None)
     }
 
     /// Reads a character that gives the elements of these facts. The first is given, and the others are kept.
@@ -399,49 +366,54 @@ impl<'c, 'd, T: EncodedText> ElementCursor<'c, 'd, T> {
     {
         self.text = rest;
         self.recent.push(c);
-        let first = self.ready.begin(facts);
-        self.at_text = self.ready.is_empty();
-        first
+        self.ready.begin(facts)
     }
 
-    /// Reads the number that a digit begins, where digits are read as numbers and one may be cut after it, or else the
-    /// piece.
+    /// Reads the number that a digit begins, where digits are read as numbers and the text may be cut after it, or else
+    /// the piece.
     #[inline(never)]
-    fn begin_number(&mut self, c: char, digit: u8, rest: T) -> Result<(), AllocError>
+    fn read_digits(
+        &mut self,
+        c: char,
+        digit: u8,
+        rest: T,
+    ) -> Result<Option<CollationElement>, LongPiece>
         requires nothing { HasNothingReady self.old }
         requires text { T.text self.old.text ≡ c ∷ T.text rest }
         requires digit { IsNumberDigit (cursor_reading self.old.tables.now) c digit }
-        ensures same { OnOk result (cursor_gives T.text self.new ≡ cursor_gives T.text self.old) }
+        ensures next { IfOk result (λ first. cursor_gives T.text self.old
+            ≡ option_to_list first ++ cursor_gives T.text self.new) }
         ensures shorter { OnOk result (length (T.text self.new.text) ≤ length (T.text rest)) }
+        ensures stays { OnErr result (self.new ≡ self.old) }
     {
         let Some(lead) = self.tables.reading().numeric_primary else {
-            return self.begin_piece(c, rest);
+            return self.read_piece(c, rest);
         };
-        match read_number(self.tables, lead, c, digit, rest)? {
-            Some((number, left)) => {
-                self.at_text = false;
-                self.piece = Some(Piece::Number(number));
-                self.text = left;
-                Ok(())
-            }
-            None => self.begin_piece(c, rest),
-        }
+        let Some(read) = read_number(self.tables, lead, c, digit, rest) else {
+            return self.read_piece(c, rest);
+        };
+        self.text = read.1;
+        Ok(self.ready.begin_number(&read.0))
     }
 
-    /// Reads the piece that a character begins. Out of line: a function clears its large locals each time that it is
-    /// called, and a piece's reader is large.
+    /// Reads the piece that a character begins, where it gives three elements at most. Out of line: a function clears
+    /// its large locals each time that it is called, and a piece's reader is large.
     #[inline(never)]
-    fn begin_piece(&mut self, c: char, rest: T) -> Result<(), AllocError>
+    fn read_piece(&mut self, c: char, rest: T) -> Result<Option<CollationElement>, LongPiece>
         requires nothing { HasNothingReady self.old }
         requires text { T.text self.old.text ≡ c ∷ T.text rest }
-        ensures same { OnOk result (cursor_gives T.text self.new ≡ cursor_gives T.text self.old) }
+        ensures next { IfOk result (λ first. cursor_gives T.text self.old
+            ≡ option_to_list first ++ cursor_gives T.text self.new) }
         ensures shorter { OnOk result (length (T.text self.new.text) ≤ length (T.text rest)) }
+        ensures stays { OnErr result (self.new ≡ self.old) }
     {
-        let (piece, left) = split_piece(self.tables, c, rest)?;
-        let begun = read_piece(self.tables, self.recent, piece.as_slice())?;
-        self.at_text = false;
-        self.piece = Some(begun);
+        let Some((piece, left)) = split_piece(self.tables, self.text) else {
+            return Err(LongPiece);
+        };
+        let Some(few) = few_of_piece(self.tables, self.recent, piece) else {
+            return Err(LongPiece);
+        };
         self.text = left;
-        Ok(())
+        Ok(self.ready.begin_few(&few))
     }
 }

@@ -1,12 +1,13 @@
 //! The characters of a text that were read last.
 
-ghost use Rattle.std.specs.Prelude.{◌≡◌, [], ◌++◌, OnOk, IfOk, flat_map, option_to_list};
+ghost use Rattle.std.specs.Prelude.{◌≡◌, [], flat_map, option_to_list};
 ghost use Rattle.ucd_normal.specs.declared.forms.Form.TheVariants.{Nfd};
 ghost use Rattle.unicode_normalization.specs.Decompose.{decompose};
+ghost use Rattle.icu_elements.specs.LastChars.{recent_chars};
 ghost use Rattle.icu_elements.specs.TextElements.{last_two};
 ghost use Rattle.icu_boundaries.specs.Alone.{context_after};
 
-use std::alloc::{AllocError, Global};
+use icu_elements::RecentChars;
 use unicode_normalization::Form;
 use unicode_normalization::char::decomposition;
 
@@ -19,7 +20,7 @@ pub(crate) struct LastCharacters {
 }
 
 impl LastCharacters {
-    ghost use Rattle.icu_cursor.specs.inner.ReadCharacters.{facts_read, context_read};
+    ghost use Rattle.icu_cursor.specs.inner.ReadCharacters.{context_read};
 
     /// None was read yet.
     #[tactic(auto, unfolding(crate::specs::inner::ReadCharacters::context_read))]
@@ -42,27 +43,31 @@ impl LastCharacters {
         self.last = Some(c);
     }
 
-    /// What they decompose to.
+    /// The last two that they decompose to.
     #[tactic(auto, unfolding(crate::specs::inner::ReadCharacters::context_read))]
-    pub(crate) fn decomposed(self, alloc: Global) -> Result<Vec<char>, AllocError>
-        ensures { IfOk result (λ cs. cs.items
-            ≡ flat_map (decompose Nfd) (facts_read self.older self.last)) }
+    pub(crate) fn recent(self) -> RecentChars
+        ensures { recent_chars result ≡ context_read self }
     {
-        let mut chars = Vec::new(alloc);
-        if let Some(last) = self.last {
-            if let Some(older) = self.older {
-                push_decomposed(&mut chars, older)?;
-            }
-            push_decomposed(&mut chars, last)?;
+        let mut recent = RecentChars::new();
+        if self.last.is_none() {
+            return recent;
         }
-        Ok(chars)
+        push_decomposed(&mut recent, self.older);
+        push_decomposed(&mut recent, self.last);
+        recent
     }
 }
 
-/// Appends what a character decomposes to.
-fn push_decomposed(chars: &mut Vec<char>, c: char) -> Result<(), AllocError>
-    ensures { OnOk result (chars.new.items ≡ chars.old.items ++ decompose Nfd c) }
+/// The characters that a character decomposes to were consumed, where there is one.
+fn push_decomposed(recent: &mut RecentChars, c: Option<char>)
+    ensures { recent_chars recent.new
+        ≡ last_two (recent_chars recent.old) (flat_map (decompose Nfd) (option_to_list c)) }
 {
-    let mut room = [c; 3];
-    chars.extend_from_slice(decomposition(c, Form::Nfd, &mut room))
+    match c {
+        Some(c) => {
+            let mut room = [c; 3];
+            recent.push_all(decomposition(c, Form::Nfd, &mut room));
+        }
+        None => recent.push_all(&[]),
+    }
 }

@@ -1,103 +1,80 @@
 //! A piece of a text, up to the next boundary.
 
-ghost use Rattle.std.specs.Prelude.{◌≡◌, ◌≤◌, ◌∷◌, [], ◌++◌, None, length, IfOk, option_to_list};
+ghost use Rattle.std.specs.Prelude.{◌≡◌, ◌<◌, ◌+◌, [], None, IfSome, drop, length};
 ghost use Rattle.unicode_normalization.specs.Forms.{nfd};
-ghost use Rattle.icu_elements.specs.ElementReaders.{elements_to_come};
 ghost use Rattle.icu_elements.specs.TextElements.{elements_after};
+ghost use Rattle.icu_facts.specs.FewElements.{few_elements};
+ghost use Rattle.icu_steady_elements.specs.SteadyElements.{elements_left};
 ghost use Rattle.icu_cursor.specs.Cursors.{cursor_reading};
+ghost use Rattle.icu_cursor.specs.inner.FirstChars.{first_chars};
+ghost use Rattle.icu_cursor.specs.inner.Pieces.{IsPiece};
+ghost use Rattle.icu_cursor.specs.inner.Places.{BeginsAtBoundary};
 ghost use Rattle.icu_cursor.specs.inner.ReadCharacters.{context_read};
-ghost use Rattle.icu_cursor.specs.inner.Pieces.{IsPiece, begun_gives, piece_gives};
 
 use crate::cursor_tables::CursorTables;
-use crate::digit_run::NumberElements;
+use crate::few_given::few_of;
+use crate::first_chars::FirstChars;
 use crate::last_characters::LastCharacters;
-use icu_elements::ElementReader;
-use icu_encodings::EncodedText;
-use icu_entries::CollationElement;
-use std::alloc::AllocError;
-use unicode_normalization::slice::extend_nfd;
+use icu_decomposed_text::CountedText;
+use icu_facts::FewElements;
+use icu_steady_elements::SteadyElements;
 
-/// A piece of which not all elements were given.
-#[derive(Drop)]
-pub(crate) enum Piece<'d> {
-    /// A text, which is read. The reader is large, so it stands apart.
-    Text(Box<ElementReader<'d>>),
-    /// A number.
-    Number(NumberElements),
+/// The text behind the first character of what is left, where the text may not be cut before that.
+fn next_inside<T: CountedText>(tables: &CursorTables<'_>, left: T) -> Option<T>
+    ensures after { IfSome result (λ after. T.text after ≡ drop 1 (T.text left)) }
+    ensures shorter { IfSome result (λ after.
+        length (T.text after) + 1 ≡ length (T.text left)) }
+    ensures none { result ≡ None → BeginsAtBoundary (cursor_reading tables.now) (T.text left) }
+{
+    let (c, after) = left.split_first_char()?;
+    if tables.has_boundary_before(c) {
+        return None;
+    }
+    Some(after)
 }
 
-/// The piece that begins with a character, and ends before the next character of the text before which it may be cut;
-/// and the text from there on.
-pub(crate) fn split_piece<T: EncodedText>(
+/// The piece that a text begins with, which ends before the next character before which the text may be cut; and the
+/// text from there on. `None` where the text is empty.
+pub(crate) fn split_piece<T: CountedText>(
     tables: &CursorTables<'_>,
-    first: char,
     text: T,
-) -> Result<(Vec<char>, T), AllocError>
-    ensures piece { IfOk result (λ p. IsPiece (cursor_reading tables.now) (first ∷ T.text text)
-        p.0.items (T.text p.1)) }
-    ensures rest { IfOk result (λ p. length (T.text p.1) ≤ length (T.text text)) }
+) -> Option<(FirstChars<T>, T)>
+    ensures piece { IfSome result (λ p. IsPiece (cursor_reading tables.now) (T.text text)
+        (first_chars T.text p.0) (T.text p.1)) }
+    ensures rest { IfSome result (λ p. length (T.text p.1) < length (T.text text)) }
+    ensures none { result ≡ None → T.text text ≡ [] }
 {
-    let mut piece = Vec::new(tables.allocator());
-    piece.push(first)?;
-    let mut rest = text;
-    'chars: while let Some((c, after)) = rest.split_first_char() {
-        if tables.has_boundary_before(c) {
-            return Ok((piece, rest));
-        }
-        piece.push(c)?;
+    text.has_countable_length();
+    let (_, mut rest) = text.split_first_char()?;
+    let mut count = 1usize;
+    'chars: while let Some(after) = next_inside(tables, rest) {
+        count += 1;
         rest = after;
     }
-    Ok((piece, rest))
+    Some((FirstChars::new(text, count), rest))
 }
 
 /// Reads the elements of a piece that comes after these characters.
-pub(crate) fn read_piece<'d>(
+pub(crate) fn read_piece<'d, T: CountedText>(
     tables: &CursorTables<'d>,
     before: LastCharacters,
-    piece: &[char],
-) -> Result<Piece<'d>, AllocError>
-    ensures { IfOk result (λ p. begun_gives p
-        ≡ elements_after (cursor_reading tables.now) (context_read before) (nfd piece.now)) }
+    piece: FirstChars<T>,
+) -> SteadyElements<'d, FirstChars<T>>
+    ensures { elements_left (first_chars T.text) result ≡ elements_after
+        (cursor_reading tables.now) (context_read before) (nfd (first_chars T.text piece)) }
 {
-    let alloc = tables.allocator();
-    let before = before.decomposed(alloc)?;
-    let mut text = Vec::new(alloc);
-    extend_nfd(&mut text, piece)?;
-    let reader = ElementReader::after(before.as_slice(), text, tables.reading());
-    Ok(Piece::Text(Box::new(alloc, reader)?))
+    SteadyElements::after(before.recent(), piece, tables.reading())
 }
 
-impl Piece<'_> {
-    /// Its next element, or `None` after the last one.
-    fn next(&mut self) -> Result<Option<CollationElement>, AllocError>
-        ensures next { IfOk result (λ next.
-            begun_gives self.old ≡ option_to_list next ++ begun_gives self.new) }
-        ensures end { IfOk result (λ next. next ≡ None → begun_gives self.old ≡ []) }
-    {
-        match self {
-            Piece::Text(reader) => {
-                let next = reader.next()?;
-                Ok(next)
-            }
-            Piece::Number(number) => Ok(number.take_first()),
-        }
-    }
-}
-
-/// The next element of a piece. After its last one there is no piece any more.
-pub(crate) fn next_of_piece(
-    piece: &mut Option<Piece<'_>>,
-) -> Result<Option<CollationElement>, AllocError>
-    ensures next { IfOk result (λ next.
-        piece_gives piece.old ≡ option_to_list next ++ piece_gives piece.new) }
-    ensures end { IfOk result (λ next. next ≡ None → piece_gives piece.new ≡ []) }
+/// The elements of a piece that comes after these characters, or `None` where they are more than three.
+#[inline(never)]
+pub(crate) fn few_of_piece<T: CountedText>(
+    tables: &CursorTables<'_>,
+    before: LastCharacters,
+    piece: FirstChars<T>,
+) -> Option<FewElements>
+    ensures { IfSome result (λ few. few_elements few ≡ elements_after
+        (cursor_reading tables.now) (context_read before) (nfd (first_chars T.text piece))) }
 {
-    if let Some(begun) = piece {
-        let given = begun.next()?;
-        if given.is_some() {
-            return Ok(given);
-        }
-    }
-    *piece = None;
-    Ok(None)
+    few_of(&mut read_piece(tables, before, piece))
 }

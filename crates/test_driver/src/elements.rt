@@ -5,9 +5,10 @@ use crate::driver_error::DriverError;
 use crate::numbers::{Item, size, written};
 use crate::readers::Reader;
 use crate::texts::{WrittenText, characters_of, several};
-use icu_cursor::ElementCursor;
+use icu_cursor::{ElementCursor, LongPiece, SteadyCursor};
+use icu_decomposed_text::CountedText;
 use icu_elements::{CollationElements, all_elements};
-use icu_encodings::{EncodedText, Latin1Text, Utf8Text, Utf16Text};
+use icu_encodings::{Latin1Text, Utf8Text, Utf16Text};
 use icu_entries::CollationElement;
 use std::alloc::{AllocError, Global};
 use std::cell::Cell;
@@ -63,8 +64,22 @@ fn one_by_one(
     Ok(read)
 }
 
-/// The elements of an encoded text, by a cursor.
-fn by_cursor<T: EncodedText>(
+/// Appends the elements of a cursor up to its end or to a long piece.
+fn read_cursor<T: CountedText>(
+    cursor: &mut ElementCursor<'_, '_, T>,
+    read: &mut Vec<CollationElement>,
+) -> Result<(), AllocError> {
+    for _ in 0..u64::MAX {
+        match cursor.next() {
+            Ok(Some(element)) => read.push(element)?,
+            Ok(None) | Err(LongPiece) => return Ok(()),
+        }
+    }
+    Ok(())
+}
+
+/// The elements of an encoded text, by a cursor, and from a long piece on by one that reads every piece.
+fn by_cursor<T: CountedText>(
     alloc: Global,
     reader: &Reader,
     text: T,
@@ -72,8 +87,10 @@ fn by_cursor<T: EncodedText>(
     let tables = reader.cursor_tables();
     let mut cursor = ElementCursor::new(&tables, text);
     let mut read = Vec::new(alloc);
+    read_cursor(&mut cursor, &mut read)?;
+    let mut rest = SteadyCursor::new(&cursor);
     for _ in 0..u64::MAX {
-        match cursor.next()? {
+        match rest.next() {
             Some(element) => read.push(element)?,
             None => break,
         }

@@ -1,11 +1,11 @@
 //! The elements of texts, read by what a collator keeps of characters.
 use crate::other_settings::small_collator;
 use icu_collator::CollatorBorrowed;
-use icu_collator::comparison::{ElementCursor, EncodedText, Latin1Text, Utf16Text, str_text};
+use icu_collator::comparison::{CountedText, ElementCursor, Latin1Text, Utf16Text, str_text};
 use std::process::Abort;
 
 /// Whether the elements of a text have these primary weights.
-fn has_primaries<T: EncodedText>(
+fn has_primaries<T: CountedText>(
     collator: &CollatorBorrowed<'_>,
     text: T,
     primaries: &[u32],
@@ -18,7 +18,7 @@ fn has_primaries<T: EncodedText>(
             _ => return false,
         }
     }
-    elements.next() == Ok(None)
+    matches!(elements.next(), Ok(None))
 }
 
 /// Whether texts in three encodings have their elements: of a letter, of another, and of the first with a mark.

@@ -1,16 +1,16 @@
 -- Runs of digits that are read as numbers.
-use Rattle.std.specs.Prelude.{◌≡◌, ℕ, true, nat_lt, List, ◌∷◌, ◌++◌, drop, map}
+use Rattle.std.specs.Prelude.{◌≡◌, ℕ, true, nat_lt, List, ◌∷◌, ◌++◌, take, map}
 use Rattle.std.specs.List.{list_all}
 use Rattle.unicode_normalization.specs.Forms.{nfd}
-use Rattle.icu_entries.specs.Elements.{Element, of_primary}
+use Rattle.icu_entries.specs.Elements.{Element}
 use Rattle.icu_elements.specs.TextElements.{Reading, continues_number, digit_of_char, elements_after}
 use Rattle.icu_facts.specs.KeptFacts.{IsNumberDigit}
-use Rattle.icu_cursor.specs.declared.digit_run.NumberElements.{NumberElements}
+use Rattle.icu_cursor.specs.declared.few_digits.FewDigits.{FewDigits}
 use Rattle.icu_cursor.specs.inner.Places.{BeginsAtBoundary}
 
--- the elements of a number that were not given yet
-unfoldable pub number_left : NumberElements → List Element
-number_left n = map of_primary (drop n.next n.weights.items)
+-- the digits that are kept
+unfoldable pub few_digits : FewDigits → List ℕ
+few_digits d = take d.len d.digits
 
 -- a digit of this value was taken off a text
 pub record BeginsWithDigit (reading : Reading) (text rest : List ℕ) (digit : ℕ) : Type 0 where

@@ -1,5 +1,5 @@
 -- The surplus that was passed over counts only where the rest ties.
-use Rattle.std.proofs.Common.{◌≡◌, ◌-◌, ◌∙◌, ap, sym, length, drop, reverse}
+use Rattle.std.proofs.Common.{◌-◌, ◌∙◌, ap, sym, length, drop, reverse}
 use Rattle.std.specs.Ordering.{ordering_then}
 use Rattle.icu_levels.specs.ListOrder.{list_order}
 use Rattle.icu_collator.specs.inner.SegmentsLeft.{this_segment}

@@ -1,11 +1,12 @@
-use Rattle.std.proofs.Common.{◌≡◌, ◌≤◌, ◌∷◌, ◌++◌, length}
+use Rattle.std.proofs.Common.{◌≡◌, ◌+◌, ◌≤◌, drop, length}
 use Rattle.icu_cursor.proofs.piece.split_piece.Given as goal
 
--- the piece and what is left are the text
+-- so many characters stand before what is left
 abbrev pub invariant-chars : goal.invariant-chars
 invariant-chars g l = record {
-  parts : l.fn.first ∷ g.T.EncodedText.text l.fn.text ≡ l.piece.items ++ g.T.EncodedText.text l.rest;
-  fits : length (g.T.EncodedText.text l.rest) ≤ length (g.T.EncodedText.text l.fn.text);
+  left : g.T.EncodedText.text l.rest ≡ drop l.count (g.T.EncodedText.text l.fn.text);
+  fits : l.count + length (g.T.EncodedText.text l.rest) ≤ length (g.T.EncodedText.text l.fn.text);
+  some : 1 ≤ l.count;
 }
 
 abbrev pub decreases-chars : goal.decreases-chars

@@ -1,5 +1,5 @@
 -- Primaries that differ decide, and those that tie leave it to the levels after them.
-use Rattle.std.proofs.Common.{◌≡◌, ◌∙◌, Ordering}
+use Rattle.std.proofs.Common.{◌≡◌, ◌∙◌}
 use Rattle.unicode_normalization.specs.Forms.{nfd}
 use Rattle.icu_collator.specs.Collators.{collation_borrowed}
 use Rattle.icu_collator.specs.inner.ElementOrders.{before_characters, elements_order, leading_order, later_levels_order}

@@ -1,5 +1,5 @@
 -- The readers give the elements of the texts.
-use Rattle.std.proofs.Common.{◌≡◌, ◌∙◌, ap}
+use Rattle.std.proofs.Common.{◌∙◌, ap}
 use Rattle.unicode_normalization.specs.Forms.{nfd}
 use Rattle.icu_levels.specs.ListOrder.{segments_order}
 use Rattle.icu_weighting.specs.Handled.{stayed_elements}

@@ -1,4 +1,4 @@
-use Rattle.std.proofs.Common.{◌≡◌, ◌+◌, ℕ, length, drop}
+use Rattle.std.proofs.Common.{◌≡◌, length, drop}
 use Rattle.icu_collator.specs.inner.SegmentsLeft.{this_segment, next_segments}
 use Rattle.icu_collator.proofs.segments.TwoReaders.pass_rest.Given as goal
 

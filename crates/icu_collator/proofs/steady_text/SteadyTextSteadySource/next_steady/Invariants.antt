@@ -1,10 +1,10 @@
 use Rattle.std.proofs.Common.{◌≡◌, length}
 use Rattle.icu_collator.specs.HandledRests.{steady_to_come}
-use Rattle.icu_steady_elements.specs.SteadyElements.{elements_left}
+use Rattle.icu_cursor.specs.SteadyCursors.{steady_gives}
 use Rattle.icu_collator.proofs.steady_text.SteadyTextSteadySource.next_steady.Given as goal
 
 abbrev pub invariant-passing : goal.invariant-passing
 invariant-passing g l = steady_to_come g.T.EncodedText.text l.fn.self ≡ steady_to_come g.T.EncodedText.text l.self
 
 abbrev pub decreases-passing : goal.decreases-passing
-decreases-passing g l = length (elements_left g.T.EncodedText.text l.self.elements)
+decreases-passing g l = length (steady_gives g.T.EncodedText.text l.self.elements)

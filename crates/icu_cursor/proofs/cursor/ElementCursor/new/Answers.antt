@@ -1,4 +1,4 @@
-use Rattle.std.proofs.Common.{[], refl, ap, ◌∙◌}
+use Rattle.std.proofs.Common.{ap, ◌∙◌}
 use Rattle.unicode_normalization.specs.Forms.{nfd}
 use Rattle.icu_elements.specs.TextElements.{elements_after}
 use Rattle.icu_cursor.specs.Cursors.{cursor_reading, cursor_gives}
@@ -8,5 +8,5 @@ use Rattle.icu_cursor.proofs.cursor.ElementCursor.new.Goals as goal
 pub returns : goal.returns
 unfolding cursor_gives
 returns g c =
-    nothing_ready _ [] _ c.none.ensures refl
+    nothing_ready _ _ c.none.ensures
     ∙ ap (λ b. elements_after (cursor_reading c.args.tables.now) b (nfd (g.T.EncodedText.text c.args.text))) c.new.ensures

@@ -7,5 +7,5 @@ use Rattle.icu_cursor.proofs.cursor.ElementCursor.read_facts.Goals as goal
 pub returns-clause-next : goal.returns-clause-next
 unfolding cursor_gives
 returns-clause-next g c =
-    facts_begun (cursor_reading c.args.self.now.tables.now) _ _ _ c.requires.nothing.facts c.requires.nothing.piece c.args.c (char_elements c.args.facts.now) _
-    (g.T.EncodedText.text c.args.rest) _ (option_to_list c.begin-first.result) _ c.requires.text c.requires.stands c.begin-first.ensures c.push.ensures
+    facts_begun (cursor_reading c.args.self.now.tables.now) _ _ c.requires.nothing c.args.c (char_elements c.args.facts.now) _
+    (g.T.EncodedText.text c.args.rest) _ (option_to_list c.begin.result) _ c.requires.text c.requires.stands c.begin.ensures c.push.ensures

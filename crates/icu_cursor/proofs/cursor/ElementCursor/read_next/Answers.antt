@@ -6,8 +6,7 @@ use Rattle.icu_cursor.proofs.cursor.ElementCursor.read_next.Goals as goal
 pub returns-in_default-split_first_char-clause-end : goal.returns-in_default-split_first_char-clause-end
 unfolding cursor_gives
 returns-in_default-split_first_char-clause-end g c =
-    let gives = cursor_gives g.T.EncodedText.text c.take_read.new.self in
-    let nothing = c.in_ok-element.ensures.end c.in_default.is in
+    let gives = cursor_gives g.T.EncodedText.text c.take_ready.new.self in
     λ _.
-    sym c.turns.invariant ∙ c.in_ok-element.ensures.next ∙ ap (λ o. option_to_list o ++ gives) c.in_default.is
-    ∙ all_read _ _ _ _ nothing.facts nothing.piece _ c.in_default-split_first_char.ensures
+    sym c.turns.invariant.gives ∙ c.take_ready.ensures.next ∙ ap (λ o. option_to_list o ++ gives) c.in_default.is
+    ∙ all_read _ _ _ (c.take_ready.ensures.end c.in_default.is) _ c.in_default-split_first_char.ensures

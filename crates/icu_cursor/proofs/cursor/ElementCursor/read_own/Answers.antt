@@ -6,5 +6,5 @@ pub returns-in-Some-clause-next : goal.returns-in-Some-clause-next
 unfolding cursor_gives
 returns-in-Some-clause-next g c =
     let rest = g.T.EncodedText.text c.args.rest in
-    one_read (cursor_reading c.args.self.now.tables.now) _ _ _ c.requires.nothing.facts c.requires.nothing.piece c.args.c _ _ rest _ c.in-Some.element
+    one_read (cursor_reading c.args.self.now.tables.now) _ _ c.requires.nothing c.args.c _ _ rest _ c.in-Some.element
     c.requires.text (c.requires.own.stands rest) c.push.ensures c.in-Some.ensures

@@ -6,6 +6,6 @@ pub returns : goal.returns
 unfolding cursor_gives
 returns g c =
     let rest = g.T.EncodedText.text c.args.rest in record {
-      next = one_read (cursor_reading c.args.self.now.tables.now) _ _ _ c.requires.nothing.facts c.requires.nothing.piece c.args.c _ _ rest _ c.in_ok-element.element
+      next = one_read (cursor_reading c.args.self.now.tables.now) _ _ c.requires.nothing c.args.c _ _ rest _ c.in_ok-element.element
           c.requires.text (c.requires.own.stands rest) c.push.ensures c.in_ok-element.ensures;
     }

@@ -5,4 +5,4 @@ use Rattle.icu_cursor.proofs.cursor.ElementCursor.take_ready.Goals as goal
 
 pub returns-clause-next : goal.returns-clause-next
 unfolding cursor_gives
-returns-clause-next g c = ready_taken (option_to_list c.take_first-element.result) _ _ _ c.take_first-element.ensures.next
+returns-clause-next g c = ready_taken (option_to_list c.take_first.result) _ _ _ c.take_first.ensures.next

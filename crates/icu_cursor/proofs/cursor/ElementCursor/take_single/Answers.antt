@@ -9,6 +9,6 @@ returns-in-Starters g c =
     let rest = g.T.EncodedText.text c.args.rest in
     let l = c.in_ok-facts.facts.now in
     let stands = c.in_ok-facts.ensures.starters c.in-Starters.is rest in record {
-      next = lone_read (cursor_reading c.args.self.now.tables.now) _ _ _ c.requires.nothing.facts c.requires.nothing.piece
+      next = lone_read (cursor_reading c.args.self.now.tables.now) _ _ c.requires.nothing
           c.args.c l _ rest _ _ _ c.requires.text stands c.push.ensures c.if-facts-eq1.true (search rules) c.index-elements-0.is;
     }

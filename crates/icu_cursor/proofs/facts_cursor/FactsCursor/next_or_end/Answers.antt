@@ -5,7 +5,6 @@ use Rattle.icu_elements.specs.TextElements.{elements_after}
 use Rattle.icu_cursor.specs.inner.Ready.{elements_ready}
 use Rattle.icu_cursor.specs.Cursors.{cursor_reading}
 use Rattle.icu_cursor.specs.FactsCursors.{facts_give}
-use Rattle.icu_cursor.specs.declared.facts_cursor.FactsCursor.{FactsCursor}
 use Rattle.icu_cursor.proofs.CursorLemmas.{ready_goes_on, nothing_goes_on, given_same}
 use Rattle.icu_cursor.proofs.facts_cursor.FactsCursor.next_or_end.Goals as goal
 

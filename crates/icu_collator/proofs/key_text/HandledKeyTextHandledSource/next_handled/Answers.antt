@@ -1,0 +1,7 @@
+-- Where no element comes, none is handled.
+use Rattle.std.proofs.Common.{◌∙◌}
+use Rattle.icu_collator.proofs.OrdersInTurn.{none_handled}
+use Rattle.icu_collator.proofs.key_text.HandledKeyTextHandledSource.next_handled.Goals as goal
+
+pub returns : goal.returns
+returns g c = c.passing.invariant ∙ none_handled c.passing.self.weighting _ (c.in_ok-element.ensures.end c.in_default.is)

@@ -1,0 +1,24 @@
+-- The elements of a text that are still to come for its key.
+use Rattle.std.specs.Prelude.{ℕ, List, Some, None, map}
+use Rattle.icu_encodings.specs.declared.encoded_text.EncodedText.{Ghosts}
+use Rattle.icu_entries.specs.Elements.{Element}
+use Rattle.icu_cursor.specs.declared.first_chars.FirstChars.{FirstChars}
+use Rattle.icu_cursor.specs.Cursors.{cursor_gives}
+use Rattle.icu_cursor.specs.SteadyCursors.{steady_gives}
+use Rattle.icu_weighting.specs.Handled.{HandledElement, stayed}
+use Rattle.icu_weighting.specs.VariableWeightings.{handled_after}
+use Rattle.icu_collator.specs.declared.key_text.KeyElements.{KeyElements}
+use Rattle.icu_collator.specs.declared.key_text.HandledKeyText.{HandledKeyText}
+use Rattle.icu_collator.specs.declared.key_text.PlainKeyText.{PlainKeyText}
+
+-- the elements that are still to come: those of the cursor that never stops, once there is one
+abbrev pub key_elements_left : {T : Type 0} {encoded : Ghosts (FirstChars T)} → (T → List ℕ) → KeyElements T encoded → List Element
+key_elements_left text k = elim k.steady [ None ↦ cursor_gives text k.cursor | Some s ↦ steady_gives text s.value ]
+
+-- as variable weighting leaves them
+abbrev pub handled_for_key : {T : Type 0} {encoded : Ghosts (FirstChars T)} → (T → List ℕ) → HandledKeyText T encoded → List HandledElement
+handled_for_key text k = handled_after k.weighting (key_elements_left text k.elements)
+
+-- where none is variable
+abbrev pub plain_for_key : {T : Type 0} {encoded : Ghosts (FirstChars T)} → (T → List ℕ) → PlainKeyText T encoded → List HandledElement
+plain_for_key text k = map stayed (key_elements_left text k.elements)

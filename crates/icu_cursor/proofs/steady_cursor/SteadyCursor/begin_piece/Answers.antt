@@ -1,0 +1,22 @@
+use Rattle.std.proofs.Common.{◌++◌, List, refl, ap₂}
+use Rattle.icu_entries.specs.Elements.{Element}
+use Rattle.icu_cursor.specs.Cursors.{cursor_reading, cursor_gives}
+use Rattle.icu_cursor.specs.inner.FirstChars.{first_chars}
+use Rattle.icu_cursor.specs.inner.ReadCharacters.{context_read}
+use Rattle.icu_cursor.proofs.CursorLemmas.{all_read, next_piece_begun}
+use Rattle.icu_cursor.proofs.steady_cursor.SteadyCursor.begin_piece.Goals as goal
+
+pub returns-in_default-clause-shorter : goal.returns-in_default-clause-shorter
+unfolding cursor_gives
+returns-in_default-clause-shorter g c =
+    let plain = c.args.self.now.plain in
+    ap₂ (λ (es fs : List Element). es ++ fs) c.requires.piece
+    (all_read (cursor_reading plain.tables.now) _ (context_read plain.recent) c.requires.nothing _ (c.in_default.ensures.none refl))
+
+pub returns-clause-same : goal.returns-clause-same
+unfolding cursor_gives
+returns-clause-same g c =
+    let text = g.T.EncodedText.text in
+    let plain = c.args.self.now.plain in
+    next_piece_begun (cursor_reading plain.tables.now) _ (context_read plain.recent) c.requires.nothing (text plain.text) (first_chars text c.in-Some.piece) (text c.in-Some.left) _ _
+    c.requires.piece c.in-Some.ensures.piece c.read_piece.ensures
