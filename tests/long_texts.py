@@ -15,6 +15,7 @@ TIMES, LONGER, SLOWER, ATTEMPTS = 2, 4, 8, 5
 IDENTICAL, PRIMARY = "4 0 3 0 0 0", "0 0 3 0 0 0"
 NUMERIC = "4 0 3 0 0 1", "0 0 3 0 0 1"
 A, B, C, CAPITAL, ZERO, ONE, ACUTE, RING, DOT = 0x61, 0x62, 0x63, 0x41, 0x30, 0x31, 0x301, 0x30A, 0x323
+SIGN_AA, SIGN_I = 0xF71, 0xF72
 
 
 class LongTexts:
@@ -53,6 +54,14 @@ def with_beginnings():
     return ["base Mini", *builder.questions("tailoring."), "set metadata 9"]
 
 
+def with_begun_marks():
+    """Mini with a tailoring in which a mark is an "a", and begins a contraction with a mark of the next class."""
+    builder = Builder(0xC0)
+    builder.set_entry(SIGN_AA, 0xC9)
+    builder.add_context(0x6110_0505, [([SIGN_I], 0x6210_0505)])
+    return ["base Mini", *builder.questions("tailoring."), "set metadata 9"]
+
+
 MINI, RINGED = ["base Mini"], ["base a ring"]
 # No size is small: what fits into a processor's own cache takes less time for a character.
 LONG_TEXTS = [
@@ -80,6 +89,14 @@ LONG_TEXTS = [
     LongTexts("unended", 100_000, RINGED, (IDENTICAL, PRIMARY),
               lambda n: ([([A, DOT], n // 2)], [([A, DOT], n // 2), ([RING], 1)]),
               lambda n: ("Less", n // 2 + 1)),
+    # Marks each of which begins a contraction, and stands before marks of its own class; one behind them all joins the first.
+    LongTexts("begun", 100_000, with_begun_marks(), ("4 FF FF FF FF FF", "0 FF FF FF FF FF"),
+              lambda n: ([([SIGN_AA], n)], [([SIGN_AA], n), ([SIGN_I], 1)]),
+              lambda n: ("Less", n + 1)),
+    # Such marks with marks of a higher class in turn, which don't stand in order, and the same marks by class.
+    LongTexts("disordered", 100_000, with_begun_marks(), ("4 FF FF FF FF FF", "0 FF FF FF FF FF"),
+              lambda n: ([([SIGN_AA, DOT], n // 2)], [([SIGN_AA], n // 2), ([DOT], n // 2)]),
+              lambda n: ("Equal", n // 2 + 1)),
 ]
 
 
